@@ -1,0 +1,104 @@
+//! The instructions.
+
+use crate::condition::Condition;
+use crate::operation::{Operand, Operation};
+use crate::pair::{IndexPair, Pair, StackPair};
+use crate::register::Register;
+use crate::restart::Restart;
+use crate::rotation::Rotation;
+
+/// One of the 244 instructions of the Intel 8080, with its operands.
+///
+/// A byte operand is the byte after the opcode; a word operand is the two bytes after it, low byte first. There is no
+/// value for a move from memory to memory: that opcode is HLT.
+#[derive(Clone, Copy, Debug, PartialEq, Eq)]
+pub enum Instr {
+    /// MOV r,s: to the first register from the second.
+    Mov(Register, Register),
+    /// MOV r,M: to the register from the byte that HL points to.
+    Load(Register),
+    /// MOV M,r: from the register to the byte that HL points to.
+    Store(Register),
+    /// MVI r,b.
+    Mvi(Register, u8),
+    /// MVI M,b: to the byte that HL points to.
+    MviMemory(u8),
+    /// LXI r,w.
+    Lxi(Pair, u16),
+    /// DAD r: add the pair to HL.
+    Dad(Pair),
+    /// INX r.
+    Inx(Pair),
+    /// DCX r.
+    Dcx(Pair),
+    /// INR r.
+    Inr(Register),
+    /// INR M: the byte that HL points to.
+    InrMemory,
+    /// DCR r.
+    Dcr(Register),
+    /// DCR M: the byte that HL points to.
+    DcrMemory,
+    /// ADD r, ADD M, ADI b and the other seven operations on the accumulator.
+    Operate(Operation, Operand),
+    /// JMP w.
+    Jmp(u16),
+    /// JNZ w and the other conditional jumps.
+    JumpIf(Condition, u16),
+    /// CALL w.
+    Call(u16),
+    /// CNZ w and the other conditional calls.
+    CallIf(Condition, u16),
+    /// RET.
+    Ret,
+    /// RNZ and the other conditional returns.
+    ReturnIf(Condition),
+    /// RST n.
+    Rst(Restart),
+    /// PUSH r.
+    Push(StackPair),
+    /// POP r.
+    Pop(StackPair),
+    /// STAX r: from A to the byte that the pair points to.
+    Stax(IndexPair),
+    /// LDAX r: to A from the byte that the pair points to.
+    Ldax(IndexPair),
+    /// SHLD w: from HL to the two bytes at the address.
+    Shld(u16),
+    /// LHLD w: to HL from the two bytes at the address.
+    Lhld(u16),
+    /// STA w: from A to the byte at the address.
+    Sta(u16),
+    /// LDA w: to A from the byte at the address.
+    Lda(u16),
+    /// RLC, RRC, RAL, RAR.
+    Rotate(Rotation),
+    /// DAA: decimal adjust A.
+    Daa,
+    /// CMA: turn over the bits of A.
+    Cma,
+    /// STC: set the carry.
+    Stc,
+    /// CMC: turn over the carry.
+    Cmc,
+    /// XTHL: exchange HL with the word on top of the stack.
+    Xthl,
+    /// PCHL: jump to the address in HL.
+    Pchl,
+    /// XCHG: exchange DE and HL.
+    Xchg,
+    /// SPHL: set the stack pointer to HL.
+    Sphl,
+    /// IN b: to A from the port.
+    In(u8),
+    /// OUT b: from A to the port.
+    Out(u8),
+    /// EI: enable interrupts.
+    Ei,
+    /// DI: disable interrupts.
+    Di,
+    /// NOP.
+    Nop,
+    /// HLT.
+    Hlt,
+}

@@ -1,0 +1,24 @@
+//! The instructions of the Intel 8080: the opcode table, both ways.
+//!
+//! | Item | What it is |
+//! |---|---|
+//! | [`Instr`] | one of the 244 instructions, with its operands |
+//! | [`Register`], [`Pair`], [`StackPair`], [`IndexPair`] | the registers and register pairs that an operand names |
+//! | [`Condition`], [`Operation`], [`Operand`], [`Rotation`], [`Restart`] | what else an instruction names |
+#![tactic(auto)]
+
+mod condition;
+mod instr;
+mod operation;
+mod pair;
+mod register;
+mod restart;
+mod rotation;
+
+pub use condition::Condition;
+pub use instr::Instr;
+pub use operation::{Operand, Operation};
+pub use pair::{IndexPair, Pair, StackPair};
+pub use register::Register;
+pub use restart::Restart;
+pub use rotation::Rotation;
