@@ -1,0 +1,4 @@
+pub mod Range
+pub mod Regions
+pub mod Image
+pub mod Memory
