@@ -1,0 +1,21 @@
+-- The numbers of the refusals.
+use Rattle.std.specs.Prelude.{ℕ}
+use Rattle.omf_core.specs.declared.fault.RecordFault.{RecordFault}
+use Rattle.omf_core.specs.declared.fault.RecordFault.TheVariants.{Truncated, BadSum, ZeroLength}
+use Rattle.omf_core.specs.declared.fault.PutFault.{PutFault}
+use Rattle.omf_core.specs.declared.fault.PutFault.TheVariants.{TooLong, Memory}
+use Rattle.omf_core.specs.declared.fault.NameFault.{NameFault}
+use Rattle.omf_core.specs.declared.fault.NameFault.TheVariants.{BadName, Memory as NameMemory}
+
+abbrev pub record_fault_code : RecordFault → ℕ
+record_fault_code (Truncated at) = 1
+record_fault_code (BadSum at) = 2
+record_fault_code (ZeroLength at) = 3
+
+abbrev pub put_fault_code : PutFault → ℕ
+put_fault_code TooLong = 1
+put_fault_code Memory = 2
+
+abbrev pub name_fault_code : NameFault → ℕ
+name_fault_code BadName = 1
+name_fault_code NameMemory = 2

@@ -1,0 +1,4 @@
+pub mod Fault
+pub mod Kind
+pub mod Name
+pub mod Record

@@ -1,0 +1,79 @@
+//! The refusals of this crate. Each prints as its name, then its values with one space before each.
+
+ghost use Rattle.std.specs.Prelude.{◌≡◌};
+ghost use Rattle.omf_core.specs.Fault.{record_fault_code, put_fault_code, name_fault_code};
+
+use thiserror::Error;
+
+/// Why no record is read at a place, which is the place asked for, in bytes from the start of the file.
+#[derive(Clone, Copy, PartialEq, Eq, Debug, Error)]
+pub enum RecordFault {
+    /// The bytes end before the record does.
+    #[error("Truncated {0}")]
+    Truncated(usize),
+    /// The bytes of the record don't sum to 0 modulo 256.
+    #[error("BadSum {0}")]
+    BadSum(usize),
+    /// The length word is 0, so that it leaves no room for the checksum.
+    #[error("ZeroLength {0}")]
+    ZeroLength(usize),
+}
+
+impl RecordFault {
+    /// The fault's number: 1 `Truncated`, 2 `BadSum`, 3 `ZeroLength`.
+    pub fn code(&self) -> u8
+        ensures { result ≡ record_fault_code self.now }
+    {
+        match self {
+            RecordFault::Truncated(_) => 1,
+            RecordFault::BadSum(_) => 2,
+            RecordFault::ZeroLength(_) => 3,
+        }
+    }
+}
+
+/// Why a record isn't written.
+#[derive(Clone, Copy, PartialEq, Eq, Debug, Error)]
+pub enum PutFault {
+    /// The body has more bytes than one record carries, which is 65534.
+    #[error("TooLong")]
+    TooLong,
+    /// There is no memory for the record.
+    #[error("Memory")]
+    Memory,
+}
+
+impl PutFault {
+    /// The fault's number: 1 `TooLong`, 2 `Memory`.
+    pub fn code(&self) -> u8
+        ensures { result ≡ put_fault_code self.now }
+    {
+        match self {
+            PutFault::TooLong => 1,
+            PutFault::Memory => 2,
+        }
+    }
+}
+
+/// Why bytes aren't taken as a name.
+#[derive(Clone, Copy, PartialEq, Eq, Debug, Error)]
+pub enum NameFault {
+    /// They are none or more than 255, or one of them is outside 21h to 7Eh.
+    #[error("BadName")]
+    BadName,
+    /// There is no memory for the name.
+    #[error("Memory")]
+    Memory,
+}
+
+impl NameFault {
+    /// The fault's number: 1 `BadName`, 2 `Memory`.
+    pub fn code(&self) -> u8
+        ensures { result ≡ name_fault_code self.now }
+    {
+        match self {
+            NameFault::BadName => 1,
+            NameFault::Memory => 2,
+        }
+    }
+}

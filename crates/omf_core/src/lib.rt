@@ -1,0 +1,22 @@
+//! Records and names of Intel's 8080 object files (OMF-80): the lowest layer of the object-file side.
+//!
+//! - [`next_record`] reads the record that begins at a place, [`put_record`] appends one, [`sum_of`] is the sum that both use;
+//! - [`RecordKind`] names the kinds of the standard;
+//! - [`split_name`] reads a name out of a record's body, and a [`Name`] is a name that is kept;
+//! - [`RecordFault`], [`PutFault`] and [`NameFault`] are the refusals, each with its `code`.
+
+#![tactic(auto)]
+
+mod fault;
+mod kind;
+mod name;
+mod put;
+mod record;
+mod sum;
+
+pub use fault::{NameFault, PutFault, RecordFault};
+pub use kind::RecordKind;
+pub use name::{Name, split_name};
+pub use put::put_record;
+pub use record::{Record, next_record};
+pub use sum::sum_of;

@@ -1,0 +1,41 @@
+ghost use Rattle.std.specs.Prelude.{◌≡◌, ◌<◌, ◌↔◌, ◌++◌, length, vec_len, OnOk, OnErr, IsErrOf};
+ghost use Rattle.omf_core.specs.Record.{SpellsRecord, spelling, checksum};
+
+use crate::{PutFault, sum_of};
+use std::alloc::Global;
+
+/// The most bytes that a record's body has: its length word counts them and the checksum.
+const LONGEST_BODY: usize = 65534;
+
+/// Appends the record of this kind and body to `out`: the kind, the length word, the body and the checksum.
+///
+/// # Errors
+/// `TooLong` exactly where the body has more than 65534 bytes, which is tested first;
+/// `Memory` only where `out` can't grow. After either, `out` holds the bytes that it held.
+pub fn put_record(_alloc: Global, kind: u8, body: &[u8], out: &mut Vec<u8>) -> Result<(), PutFault>
+    ensures appended { OnOk result (out.new.items ≡ out.old.items ++ spelling kind body.now) }
+    ensures spells { OnOk result (SpellsRecord out.new.items (vec_len out.old) (vec_len out.new) kind body.now) }
+    ensures too_long { IsErrOf result PutFault.TooLong ↔ (65534 < length body.now) }
+    ensures refused { OnErr result (out.new.items ≡ out.old.items) }
+{
+    if body.len() > LONGEST_BODY {
+        return Err(PutFault::TooLong);
+    }
+    let counted = body.len() + 1;
+    let head = [kind, (counted % 256) as u8, (counted / 256) as u8];
+    let last = checksum_of(&head, body);
+    out.reserve(head.len() + counted)
+        .map_err(|_| PutFault::Memory)?;
+    // There is room for all of it now.
+    out.extend_from_slice(&head).unwrap();
+    out.extend_from_slice(body).unwrap();
+    out.push(last).unwrap();
+    Ok(())
+}
+
+/// The byte that brings the sum of both parts to 0 modulo 256.
+fn checksum_of(head: &[u8], body: &[u8]) -> u8
+    ensures { result ≡ checksum (head.now ++ body.now) }
+{
+    sum_of(head).wrapping_add(sum_of(body)).wrapping_neg()
+}

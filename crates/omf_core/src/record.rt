@@ -1,0 +1,52 @@
+ghost use Rattle.std.specs.Prelude.{◌≡◌, ℕ, List, drop, IfOk, IsOk};
+ghost use Rattle.std.specs.Result.{result_err};
+ghost use Rattle.omf_core.specs.Record.{SpellsRecord, fault_at};
+
+use crate::{RecordFault, sum_of};
+
+/// A record as it lies in a file: its type byte and its body, without length word and checksum.
+/// A body has at most 65534 bytes. (8080 Object Module Formats, record layout.)
+#[derive(Clone, Copy, Debug)]
+pub struct Record<'a> {
+    /// The type byte; [`RecordKind`](crate::RecordKind) names those of the standard.
+    pub kind: u8,
+    /// The bytes between the length word and the checksum.
+    pub body: &'a [u8],
+}
+
+/// Reads the record of any kind that begins at place `at`, and gives it with the place after its checksum.
+///
+/// # Errors
+/// The first of these that holds, each with the place `at`:
+/// `Truncated` where fewer than 3 bytes stand from `at` on, also where `at` is past the end;
+/// `ZeroLength` where the length word is 0; `Truncated` where fewer bytes follow than the length word counts;
+/// `BadSum` where the record's bytes don't sum to 0 modulo 256.
+///
+/// It takes no memory: the body borrows from `bytes`.
+pub fn next_record<'a>(bytes: &'a [u8], at: usize) -> Result<(Record<'a>, usize), RecordFault>
+    ensures read { IfOk result (λ r. SpellsRecord bytes.now at r.1 r.0.kind r.0.body.now) }
+    ensures every_record { (kind : ℕ) (body : List ℕ) (after : ℕ) → SpellsRecord bytes.now at after kind body → IsOk result }
+    ensures fault { result_err result ≡ fault_at (drop at bytes.now) at }
+{
+    let Some(rest) = bytes.get(at..) else {
+        return Err(RecordFault::Truncated(at));
+    };
+    if rest.len() < 3 {
+        return Err(RecordFault::Truncated(at));
+    }
+    let counted = rest[1] as usize + 256 * rest[2] as usize;
+    if counted == 0 {
+        return Err(RecordFault::ZeroLength(at));
+    }
+    if rest.len() - 3 < counted {
+        return Err(RecordFault::Truncated(at));
+    }
+    if sum_of(&rest[..3 + counted]) != 0 {
+        return Err(RecordFault::BadSum(at));
+    }
+    let record = Record {
+        kind: rest[0],
+        body: &rest[3..2 + counted],
+    };
+    Ok((record, at + 3 + counted))
+}
