@@ -2,3 +2,4 @@ pub mod Range
 pub mod Regions
 pub mod Image
 pub mod Memory
+pub mod Lines

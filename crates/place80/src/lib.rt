@@ -6,10 +6,12 @@
 //! | [`Range`] | consecutive addresses |
 //! | [`Regions`] | the ranges of code and of data, and the one range of the stack |
 //! | [`Chunk`], [`Image`] | bytes at an address; a located program |
+//! | [`lines`] | texts over whole lines |
 #![tactic(auto)]
 
 mod chunk;
 mod image;
+pub mod lines;
 mod range;
 mod regions;
 
