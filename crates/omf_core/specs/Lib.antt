@@ -1,4 +1,5 @@
 pub mod Fault
 pub mod Kind
+pub mod Laws
 pub mod Name
 pub mod Record

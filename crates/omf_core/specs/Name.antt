@@ -1,6 +1,6 @@
 -- Names, and how bytes spell one.
 -- (8080 Object Module Formats: a name is a length byte and that many characters.)
-use Rattle.std.specs.Prelude.{◌≡◌, ℕ, ◌+◌, ◌≤◌, nat_lt, nat_le, Bool, ◌&&◌, IsTrue, List, length, take, drop, slice_index, slice_range}
+use Rattle.std.specs.Prelude.{◌≡◌, ℕ, ◌+◌, ◌≤◌, nat_lt, nat_le, Bool, ◌&&◌, IsTrue, List, ◌∷◌, length, take, drop, slice_index, slice_range}
 use Rattle.std.specs.List.{list_all}
 
 -- a printed character of ASCII, no blank
@@ -30,3 +30,7 @@ holds_counted rest = nat_lt (slice_index rest 0) (length rest)
 -- the bytes begin with a name
 abbrev pub holds_name : List ℕ → Bool
 holds_name rest = holds_counted rest && is_name (counted_bytes rest)
+
+-- the bytes that are written for a name
+abbrev pub name_spelling : List ℕ → List ℕ
+name_spelling name = length name ∷ name

@@ -28,6 +28,13 @@ pub record SpellsRecord (bytes : List ℕ) (from to kind : ℕ) (body : List ℕ
 abbrev pub record_size : List ℕ → ℕ
 record_size rest = 3 + word_at rest 1
 
+-- the kind and the body of that record
+abbrev pub head_kind : List ℕ → ℕ
+head_kind rest = slice_index rest 0
+
+abbrev pub head_body : List ℕ → List ℕ
+head_body rest = slice_range rest 3 (record_size rest - 1)
+
 -- the bytes end before the record does: there are fewer than 3, or fewer than its length word asks for
 abbrev pub is_truncated : List ℕ → Bool
 is_truncated rest = nat_lt (length rest) (record_size rest)

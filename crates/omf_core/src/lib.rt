@@ -9,6 +9,7 @@
 
 mod fault;
 mod kind;
+pub mod laws;
 mod name;
 mod put;
 mod record;

@@ -1,6 +1,6 @@
 ghost use Rattle.std.specs.Prelude.{◌≡◌, ℕ, ◌↔◌, List, drop, false, IsTrue, IsSome, IfSome, IfOk, OnOk, IsErrOf};
 ghost use Rattle.std.specs.List.{list_all};
-ghost use Rattle.omf_core.specs.Name.{SpellsName, is_name, is_name_byte, holds_name};
+ghost use Rattle.omf_core.specs.Name.{SpellsName, is_name, is_name_byte, counted_bytes, holds_name};
 
 use crate::NameFault;
 use std::alloc::Global;
@@ -58,6 +58,7 @@ impl Name {
 /// It takes no memory: the name borrows from `body`.
 pub fn split_name(body: &[u8], at: usize) -> Option<(&[u8], usize)>
     ensures split { IfSome result (λ r. SpellsName body.now at r.1 r.0.now) }
+    ensures counted { IfSome result (λ r. r.0.now ≡ counted_bytes (drop at body.now)) }
     ensures every_name { (name : List ℕ) (after : ℕ) → SpellsName body.now at after name → IsSome result }
     ensures exactly { IsSome result ↔ IsTrue (holds_name (drop at body.now)) }
 {

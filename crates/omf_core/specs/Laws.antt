@@ -1,0 +1,70 @@
+-- What holds of all spellings.
+use Rattle.std.specs.Prelude.{◌≡◌, ℕ, ◌+◌, ◌↔◌, List, [], ◌++◌, length, drop, Some, None, IsTrue}
+use Rattle.omf_core.specs.declared.fault.RecordFault.TheVariants.{BadSum, ZeroLength}
+use Rattle.omf_core.specs.Name.{SpellsName, is_name, holds_name, name_spelling}
+use Rattle.omf_core.specs.Record.{SpellsRecord, fault_at, spelling}
+
+-- At a place no two records are spelled.
+abbrev pub OneRecordAtEachPlace : Type 0
+OneRecordAtEachPlace =
+    (bytes : List ℕ) (from to to' kind kind' : ℕ) (body body' : List ℕ)
+    → SpellsRecord bytes from to kind body
+    → SpellsRecord bytes from to' kind' body'
+    → (kind ≡ kind') × (body ≡ body') × (to ≡ to')
+
+-- No spelling begins another: a spelling with more bytes after it is no spelling.
+abbrev pub NoSpellingBeginsAnother : Type 0
+NoSpellingBeginsAnother =
+    (spelled more : List ℕ) (kind kind' : ℕ) (body body' : List ℕ)
+    → SpellsRecord spelled 0 (length spelled) kind body
+    → SpellsRecord (spelled ++ more) 0 (length (spelled ++ more)) kind' body'
+    → more ≡ []
+
+-- No fault is told of a place exactly where a record is spelled there.
+abbrev pub NoFaultExactlyAtRecords : Type 0
+NoFaultExactlyAtRecords =
+    (bytes : List ℕ) (from : ℕ)
+    → (fault_at (drop from bytes) from ≡ None)
+    ↔ ((to : ℕ) × (kind : ℕ) × (body : List ℕ) × SpellsRecord bytes from to kind body)
+
+-- What is spelled is spelled whatever bytes follow.
+abbrev pub RecordsStay : Type 0
+RecordsStay =
+    (bytes more : List ℕ) (from to kind : ℕ) (body : List ℕ)
+    → SpellsRecord bytes from to kind body
+    → SpellsRecord (bytes ++ more) from to kind body
+
+-- A wrong sum and a zero length are told whatever bytes follow.
+abbrev pub FaultsStay : Type 0
+FaultsStay =
+    (rest more : List ℕ) (at : ℕ)
+    → (fault_at rest at ≡ Some (BadSum at) → fault_at (rest ++ more) at ≡ Some (BadSum at))
+    × (fault_at rest at ≡ Some (ZeroLength at) → fault_at (rest ++ more) at ≡ Some (ZeroLength at))
+
+-- What is written for a record spells it, wherever it stands.
+abbrev pub WrittenIsSpelled : Type 0
+WrittenIsSpelled =
+    (before after : List ℕ) (kind : ℕ) (body : List ℕ)
+    → SpellsRecord (before ++ spelling kind body ++ after) (length before) (length before + 4 + length body) kind body
+
+-- At a place no two names are spelled.
+abbrev pub OneNameAtEachPlace : Type 0
+OneNameAtEachPlace =
+    (bytes : List ℕ) (from to to' : ℕ) (name name' : List ℕ)
+    → SpellsName bytes from to name
+    → SpellsName bytes from to' name'
+    → (name ≡ name') × (to ≡ to')
+
+-- A name is spelled at a place exactly where the bytes from there on begin with one.
+abbrev pub NamesExactlyWhereHeld : Type 0
+NamesExactlyWhereHeld =
+    (bytes : List ℕ) (from : ℕ)
+    → IsTrue (holds_name (drop from bytes))
+    ↔ ((to : ℕ) × (name : List ℕ) × SpellsName bytes from to name)
+
+-- A length byte and the bytes that it counts spell the name, wherever they stand.
+abbrev pub WrittenNameIsSpelled : Type 0
+WrittenNameIsSpelled =
+    (before after name : List ℕ)
+    → IsTrue (is_name name)
+    → SpellsName (before ++ name_spelling name ++ after) (length before) (length before + 1 + length name) name

@@ -1,0 +1,57 @@
+//! What holds of all spellings, whatever calls are made. Each law is what a function ensures that does nothing,
+//! so that a layer above has it by a call.
+
+ghost use Rattle.omf_core.specs.Laws.{OneRecordAtEachPlace, NoSpellingBeginsAnother, NoFaultExactlyAtRecords, RecordsStay, FaultsStay, WrittenIsSpelled, OneNameAtEachPlace, NamesExactlyWhereHeld, WrittenNameIsSpelled};
+
+/// At a place no two records are spelled.
+#[tactic(auto, using(crate::proofs::Spelled::one_record))]
+pub fn one_record_at_each_place()
+    ensures { OneRecordAtEachPlace }
+{}
+
+/// No spelling of a record begins another one.
+#[tactic(auto, using(crate::proofs::Spelled::no_spelling_begins_another))]
+pub fn no_spelling_begins_another()
+    ensures { NoSpellingBeginsAnother }
+{}
+
+/// No fault is told of a place exactly where a record is spelled there.
+#[tactic(auto, using(crate::proofs::Spelled::no_fault_exactly_at_records))]
+pub fn no_fault_exactly_at_records()
+    ensures { NoFaultExactlyAtRecords }
+{}
+
+/// What is spelled is spelled whatever bytes follow.
+#[tactic(auto, using(crate::proofs::Spelled::records_stay))]
+pub fn records_stay()
+    ensures { RecordsStay }
+{}
+
+/// `BadSum` and `ZeroLength` are told whatever bytes follow.
+#[tactic(auto, using(crate::proofs::Spelled::faults_stay))]
+pub fn faults_stay()
+    ensures { FaultsStay }
+{}
+
+/// What is written for a record spells it, wherever it stands.
+pub fn written_is_spelled()
+    ensures { WrittenIsSpelled }
+{}
+
+/// At a place no two names are spelled.
+#[tactic(auto, using(crate::proofs::SpelledNames::one_name))]
+pub fn one_name_at_each_place()
+    ensures { OneNameAtEachPlace }
+{}
+
+/// A name is spelled at a place exactly where the bytes from there on begin with one.
+#[tactic(auto, using(crate::proofs::SpelledNames::names_exactly_where_held))]
+pub fn names_exactly_where_held()
+    ensures { NamesExactlyWhereHeld }
+{}
+
+/// A length byte and the bytes that it counts spell the name, wherever they stand.
+#[tactic(auto, using(crate::proofs::SpelledNames::written_name_is_spelled))]
+pub fn written_name_is_spelled()
+    ensures { WrittenNameIsSpelled }
+{}
