@@ -2,20 +2,25 @@
 //!
 //! | Item | What it is |
 //! |---|---|
+//! | [`decode`] | the instruction that bytes begin with, and its length |
+//! | [`length_of`] | the length of the instructions with a first byte |
 //! | [`Instr`] | one of the 244 instructions, with its operands |
 //! | [`Register`], [`Pair`], [`StackPair`], [`IndexPair`] | the registers and register pairs that an operand names |
 //! | [`Condition`], [`Operation`], [`Operand`], [`Rotation`], [`Restart`] | what else an instruction names |
 #![tactic(auto)]
 
 mod condition;
+mod decoding;
 mod instr;
 mod operation;
 mod pair;
 mod register;
 mod restart;
 mod rotation;
+mod table;
 
 pub use condition::Condition;
+pub use decoding::{decode, length_of};
 pub use instr::Instr;
 pub use operation::{Operand, Operation};
 pub use pair::{IndexPair, Pair, StackPair};

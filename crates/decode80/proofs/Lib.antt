@@ -1,0 +1,6 @@
+pub mod Rows
+pub mod Cases
+pub mod Opcodes
+pub mod Operands
+pub mod Decoded
+pub mod Unused
