@@ -24,7 +24,7 @@ unfolding row
 opcode-row first i found = eqb-true (opcode i) first (find_passes (λ j. opcode j == first) instructions i found)
 
 -- bytes that begin with a spelling have its first byte
-first_byte : (a : ℕ) (more : List ℕ) (i : Instr) → BeginsWith (a ∷ more) i → a ≡ opcode i
+pub first_byte : (a : ℕ) (more : List ℕ) (i : Instr) → BeginsWith (a ∷ more) i → a ≡ opcode i
 first_byte a more i begins =
     let parts : spelling i ≡ opcode i ∷ drop 1 (spelling i) = spelling-cons i in
     let same : a ∷ more ≡ spelling i ++ begins.0 = begins.1 in

@@ -20,3 +20,25 @@ pub enum Condition {
     /// M: the sign flag is 1.
     Minus,
 }
+
+impl Condition {
+    ghost use Rattle.std.specs.Prelude.{◌≡◌, ◌<◌};
+    ghost use Rattle.decode80.specs.Condition.{condition_code};
+
+    /// The field that names the condition in an opcode.
+    pub(crate) fn code(self) -> u8
+        ensures value { result ≡ condition_code self }
+        ensures small { result < 8 }
+    {
+        match self {
+            Condition::NonZero => 0,
+            Condition::Zero => 1,
+            Condition::NoCarry => 2,
+            Condition::Carry => 3,
+            Condition::ParityOdd => 4,
+            Condition::ParityEven => 5,
+            Condition::Plus => 6,
+            Condition::Minus => 7,
+        }
+    }
+}

@@ -4,6 +4,8 @@
 //! |---|---|
 //! | [`decode`] | the instruction that bytes begin with, and its length |
 //! | [`length_of`] | the length of the instructions with a first byte |
+//! | [`encode`] | the bytes of an instruction, and its length |
+//! | [`spelling_laws`] | what holds of all spellings, as a contract |
 //! | [`Instr`] | one of the 244 instructions, with its operands |
 //! | [`Register`], [`Pair`], [`StackPair`], [`IndexPair`] | the registers and register pairs that an operand names |
 //! | [`Condition`], [`Operation`], [`Operand`], [`Rotation`], [`Restart`] | what else an instruction names |
@@ -11,7 +13,9 @@
 
 mod condition;
 mod decoding;
+mod encoding;
 mod instr;
+mod laws;
 mod operation;
 mod pair;
 mod register;
@@ -21,7 +25,9 @@ mod table;
 
 pub use condition::Condition;
 pub use decoding::{decode, length_of};
+pub use encoding::encode;
 pub use instr::Instr;
+pub use laws::spelling_laws;
 pub use operation::{Operand, Operation};
 pub use pair::{IndexPair, Pair, StackPair};
 pub use register::Register;

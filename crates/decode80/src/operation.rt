@@ -23,6 +23,28 @@ pub enum Operation {
     Compare,
 }
 
+impl Operation {
+    ghost use Rattle.std.specs.Prelude.{◌≡◌, ◌<◌};
+    ghost use Rattle.decode80.specs.Operation.{operation_code};
+
+    /// The field that names the operation in an opcode.
+    pub(crate) fn code(self) -> u8
+        ensures value { result ≡ operation_code self }
+        ensures small { result < 8 }
+    {
+        match self {
+            Operation::Add => 0,
+            Operation::AddCarry => 1,
+            Operation::Subtract => 2,
+            Operation::SubtractBorrow => 3,
+            Operation::And => 4,
+            Operation::ExclusiveOr => 5,
+            Operation::Or => 6,
+            Operation::Compare => 7,
+        }
+    }
+}
+
 /// Where an operation takes its second value from.
 #[derive(Clone, Copy, Debug, PartialEq, Eq)]
 pub enum Operand {

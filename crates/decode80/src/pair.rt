@@ -13,6 +13,24 @@ pub enum Pair {
     Sp,
 }
 
+impl Pair {
+    ghost use Rattle.std.specs.Prelude.{◌≡◌, ◌<◌};
+    ghost use Rattle.decode80.specs.Pair.{pair_code};
+
+    /// The field that names the pair in an opcode.
+    pub(crate) fn code(self) -> u8
+        ensures value { result ≡ pair_code self }
+        ensures small { result < 4 }
+    {
+        match self {
+            Pair::Bc => 0,
+            Pair::De => 1,
+            Pair::Hl => 2,
+            Pair::Sp => 3,
+        }
+    }
+}
+
 /// A register pair of PUSH and POP: a field of two bits, 0 to 3 in this order.
 #[derive(Clone, Copy, Debug, PartialEq, Eq)]
 pub enum StackPair {
@@ -26,6 +44,24 @@ pub enum StackPair {
     Psw,
 }
 
+impl StackPair {
+    ghost use Rattle.std.specs.Prelude.{◌≡◌, ◌<◌};
+    ghost use Rattle.decode80.specs.Pair.{stack_pair_code};
+
+    /// The field that names the pair in an opcode.
+    pub(crate) fn code(self) -> u8
+        ensures value { result ≡ stack_pair_code self }
+        ensures small { result < 4 }
+    {
+        match self {
+            StackPair::Bc => 0,
+            StackPair::De => 1,
+            StackPair::Hl => 2,
+            StackPair::Psw => 3,
+        }
+    }
+}
+
 /// The register pair that STAX and LDAX take an address from: 0 or 1 in the opcode, in this order.
 #[derive(Clone, Copy, Debug, PartialEq, Eq)]
 pub enum IndexPair {
@@ -33,4 +69,20 @@ pub enum IndexPair {
     Bc,
     /// D (high) and E (low).
     De,
+}
+
+impl IndexPair {
+    ghost use Rattle.std.specs.Prelude.{◌≡◌, ◌<◌};
+    ghost use Rattle.decode80.specs.Pair.{index_pair_code};
+
+    /// The field that names the pair in an opcode.
+    pub(crate) fn code(self) -> u8
+        ensures value { result ≡ index_pair_code self }
+        ensures small { result < 2 }
+    {
+        match self {
+            IndexPair::Bc => 0,
+            IndexPair::De => 1,
+        }
+    }
 }

@@ -15,3 +15,24 @@ pub enum Register {
     L,
     A,
 }
+
+impl Register {
+    ghost use Rattle.std.specs.Prelude.{◌≡◌, ◌<◌};
+    ghost use Rattle.decode80.specs.Register.{register_code};
+
+    /// The field that names the register in an opcode.
+    pub(crate) fn code(self) -> u8
+        ensures value { result ≡ register_code self }
+        ensures small { result < 8 }
+    {
+        match self {
+            Register::B => 0,
+            Register::C => 1,
+            Register::D => 2,
+            Register::E => 3,
+            Register::H => 4,
+            Register::L => 5,
+            Register::A => 7,
+        }
+    }
+}

@@ -22,3 +22,25 @@ pub enum Restart {
     /// RST 7 calls 0038.
     Vector7,
 }
+
+impl Restart {
+    ghost use Rattle.std.specs.Prelude.{◌≡◌, ◌<◌};
+    ghost use Rattle.decode80.specs.Restart.{restart_number};
+
+    /// The n of RST n: the field that names the restart in an opcode.
+    pub(crate) fn code(self) -> u8
+        ensures value { result ≡ restart_number self }
+        ensures small { result < 8 }
+    {
+        match self {
+            Restart::Vector0 => 0,
+            Restart::Vector1 => 1,
+            Restart::Vector2 => 2,
+            Restart::Vector3 => 3,
+            Restart::Vector4 => 4,
+            Restart::Vector5 => 5,
+            Restart::Vector6 => 6,
+            Restart::Vector7 => 7,
+        }
+    }
+}

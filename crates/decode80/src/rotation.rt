@@ -12,3 +12,21 @@ pub enum Rotation {
     /// RAR: bit 0 goes into the carry, and the old carry into bit 7.
     RightThroughCarry,
 }
+
+impl Rotation {
+    ghost use Rattle.std.specs.Prelude.{◌≡◌, ◌<◌};
+    ghost use Rattle.decode80.specs.Rotation.{rotation_code};
+
+    /// The field that names the rotation in an opcode.
+    pub(crate) fn code(self) -> u8
+        ensures value { result ≡ rotation_code self }
+        ensures small { result < 4 }
+    {
+        match self {
+            Rotation::Left => 0,
+            Rotation::Right => 1,
+            Rotation::LeftThroughCarry => 2,
+            Rotation::RightThroughCarry => 3,
+        }
+    }
+}
