@@ -1,2 +1,3 @@
+pub mod NameText
 pub mod Spelled
 pub mod SpelledNames

@@ -13,11 +13,16 @@ pub mod laws;
 mod name;
 mod put;
 mod record;
+mod split;
 mod sum;
 
 pub use fault::{NameFault, PutFault, RecordFault};
 pub use kind::RecordKind;
-pub use name::{Name, split_name};
+pub use name::Name;
 pub use put::put_record;
 pub use record::{Record, next_record};
+pub use split::split_name;
 pub use sum::sum_of;
+
+#[cfg(test)]
+mod tests;

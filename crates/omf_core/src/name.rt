@@ -1,10 +1,17 @@
-ghost use Rattle.std.specs.Prelude.{◌≡◌, ℕ, ◌↔◌, List, drop, false, IsTrue, IsSome, IfSome, IfOk, OnOk, IsErrOf};
+ghost use Rattle.std.specs.Prelude.{◌≡◌, ◌↔◌, List, ℕ, Some, nat_eq, false, IsTrue, IfOk, OnOk, IsErrOf};
+ghost use Rattle.std.specs.Cmp.{partial_equiv_from_equiv};
+ghost use Rattle.std.specs.Cmp.Lexicographic.{pointwise, nat_list_eq_equiv};
+ghost use Rattle.std.specs.Cmp.Rules.{hashing};
+ghost use Rattle.std.specs.Hash as fed;
 ghost use Rattle.std.specs.List.{list_all};
-ghost use Rattle.omf_core.specs.Name.{SpellsName, is_name, is_name_byte, counted_bytes, holds_name};
+ghost use Rattle.std.proofs.Common.{rules};
+ghost use Rattle.omf_core.specs.Name.{is_name, is_name_byte};
 
 use crate::NameFault;
-use std::alloc::Global;
+use std::alloc::{AllocError, Global};
+use std::hash::{Hash, Hasher};
 use std::marker::Model;
+use std::{fmt, str};
 
 /// The most bytes that a name has: its length byte counts them.
 const LONGEST_NAME: usize = 255;
@@ -42,6 +49,17 @@ impl Name {
         Ok(Name { bytes })
     }
 
+    /// The same name once more.
+    ///
+    /// # Errors
+    /// `AllocError` only where there is no memory for it.
+    pub fn copy(&self, alloc: Global) -> Result<Name, AllocError>
+        ensures { IfOk result (λ name. name ≡ self.now) }
+    {
+        let bytes = Vec::from_slice(alloc, self.bytes())?;
+        Ok(Name { bytes })
+    }
+
     /// The name's bytes. It takes no memory.
     pub fn bytes(&self) -> &[u8]
         ensures value { result.now ≡ self.now }
@@ -51,28 +69,43 @@ impl Name {
     }
 }
 
-/// Splits off the name that stands in a record's body at place `at`: the name's bytes, and the place after them.
-/// `None` where no name stands there: `at` is past the end, the body ends before the name does,
-/// the length byte is 0, or one of the bytes is outside 21h to 7Eh.
-///
-/// It takes no memory: the name borrows from `body`.
-pub fn split_name(body: &[u8], at: usize) -> Option<(&[u8], usize)>
-    ensures split { IfSome result (λ r. SpellsName body.now at r.1 r.0.now) }
-    ensures counted { IfSome result (λ r. r.0.now ≡ counted_bytes (drop at body.now)) }
-    ensures every_name { (name : List ℕ) (after : ℕ) → SpellsName body.now at after name → IsSome result }
-    ensures exactly { IsSome result ↔ IsTrue (holds_name (drop at body.now)) }
-{
-    let length = *body.get(at)? as usize;
-    let after = at + 1 + length;
-    let name = body.get(at + 1..after)?;
-    if is_name(name) {
-        Some((name, after))
-    } else {
-        None
+impl PartialEq for Name {
+    ghost eq = { pointwise nat_eq };
+
+    ghost laws = { partial_equiv_from_equiv nat_list_eq_equiv };
+
+    fn eq(&self, other: &Name) -> bool {
+        self.bytes() == other.bytes()
     }
 }
 
-fn is_name(bytes: &[u8]) -> bool
+impl Eq for Name {
+    ghost laws = { nat_list_eq_equiv };
+}
+
+impl Hash for Name {
+    ghost hash_input = { fed.slice fed.u8 };
+
+    ghost respects_eq = { Prim.search (hashing, rules) };
+
+    fn hash<H: Hasher>(&self, state: &mut H) {
+        self.bytes().hash(state);
+    }
+}
+
+impl fmt::Display for Name {
+    ghost output = { λ name. Some name };
+
+    fn fmt<W: fmt::Write>(&self, f: &mut fmt::Formatter<W>) -> fmt::Result {
+        match str::from_utf8(self.bytes()) {
+            Ok(text) => f.write_str(text),
+            Err(_) => unreachable!(),
+        }
+    }
+}
+
+/// Whether the bytes are those of a name.
+pub(crate) fn is_name(bytes: &[u8]) -> bool
     ensures { result ≡ is_name bytes.now }
 {
     1 <= bytes.len() && bytes.len() <= LONGEST_NAME && are_name_bytes(bytes)

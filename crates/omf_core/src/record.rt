@@ -6,7 +6,7 @@ use crate::{RecordFault, sum_of};
 
 /// A record as it lies in a file: its type byte and its body, without length word and checksum.
 /// A body has at most 65534 bytes. (8080 Object Module Formats, record layout.)
-#[derive(Clone, Copy, Debug)]
+#[derive(Clone, Copy, PartialEq, Eq, Debug)]
 pub struct Record<'a> {
     /// The type byte; [`RecordKind`](crate::RecordKind) names those of the standard.
     pub kind: u8,
