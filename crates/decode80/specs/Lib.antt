@@ -6,3 +6,4 @@ pub mod Rotation
 pub mod Restart
 pub mod Spelling
 pub mod Decoded
+pub mod Text

@@ -22,8 +22,9 @@ pub enum Condition {
 }
 
 impl Condition {
-    ghost use Rattle.std.specs.Prelude.{◌≡◌, ◌<◌};
+    ghost use Rattle.std.specs.Prelude.{◌≡◌, ◌<◌, ◌++◌, codes};
     ghost use Rattle.decode80.specs.Condition.{condition_code};
+    ghost use Rattle.decode80.specs.Text.{condition_text};
 
     /// The field that names the condition in an opcode.
     pub(crate) fn code(self) -> u8
@@ -39,6 +40,54 @@ impl Condition {
             Condition::ParityEven => 5,
             Condition::Plus => 6,
             Condition::Minus => 7,
+        }
+    }
+
+    /// The mnemonic of the jump on the condition.
+    pub(crate) fn jump_text(self) -> &'static [u8]
+        ensures { result.now ≡ codes "J" ++ condition_text self }
+    {
+        match self {
+            Condition::NonZero => b"JNZ",
+            Condition::Zero => b"JZ",
+            Condition::NoCarry => b"JNC",
+            Condition::Carry => b"JC",
+            Condition::ParityOdd => b"JPO",
+            Condition::ParityEven => b"JPE",
+            Condition::Plus => b"JP",
+            Condition::Minus => b"JM",
+        }
+    }
+
+    /// The mnemonic of the call on the condition.
+    pub(crate) fn call_text(self) -> &'static [u8]
+        ensures { result.now ≡ codes "C" ++ condition_text self }
+    {
+        match self {
+            Condition::NonZero => b"CNZ",
+            Condition::Zero => b"CZ",
+            Condition::NoCarry => b"CNC",
+            Condition::Carry => b"CC",
+            Condition::ParityOdd => b"CPO",
+            Condition::ParityEven => b"CPE",
+            Condition::Plus => b"CP",
+            Condition::Minus => b"CM",
+        }
+    }
+
+    /// The mnemonic of the return on the condition.
+    pub(crate) fn return_text(self) -> &'static [u8]
+        ensures { result.now ≡ codes "R" ++ condition_text self }
+    {
+        match self {
+            Condition::NonZero => b"RNZ",
+            Condition::Zero => b"RZ",
+            Condition::NoCarry => b"RNC",
+            Condition::Carry => b"RC",
+            Condition::ParityOdd => b"RPO",
+            Condition::ParityEven => b"RPE",
+            Condition::Plus => b"RP",
+            Condition::Minus => b"RM",
         }
     }
 }

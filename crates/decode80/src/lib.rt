@@ -5,6 +5,7 @@
 //! | [`decode`] | the instruction that bytes begin with, and its length |
 //! | [`length_of`] | the length of the instructions with a first byte |
 //! | [`encode`] | the bytes of an instruction, and its length |
+//! | [`write_text`] | the text of an instruction, as `MOV A,M` |
 //! | [`spelling_laws`] | what holds of all spellings, as a contract |
 //! | [`Instr`] | one of the 244 instructions, with its operands |
 //! | [`Register`], [`Pair`], [`StackPair`], [`IndexPair`] | the registers and register pairs that an operand names |
@@ -13,15 +14,18 @@
 
 mod condition;
 mod decoding;
+mod digits;
 mod encoding;
 mod instr;
 mod laws;
+mod mnemonics;
 mod operation;
 mod pair;
 mod register;
 mod restart;
 mod rotation;
 mod table;
+mod text;
 
 pub use condition::Condition;
 pub use decoding::{decode, length_of};
@@ -33,3 +37,4 @@ pub use pair::{IndexPair, Pair, StackPair};
 pub use register::Register;
 pub use restart::Restart;
 pub use rotation::Rotation;
+pub use text::write_text;

@@ -26,6 +26,7 @@ pub enum Operation {
 impl Operation {
     ghost use Rattle.std.specs.Prelude.{◌≡◌, ◌<◌};
     ghost use Rattle.decode80.specs.Operation.{operation_code};
+    ghost use Rattle.decode80.specs.Text.{immediate_text, operation_text};
 
     /// The field that names the operation in an opcode.
     pub(crate) fn code(self) -> u8
@@ -41,6 +42,38 @@ impl Operation {
             Operation::ExclusiveOr => 5,
             Operation::Or => 6,
             Operation::Compare => 7,
+        }
+    }
+
+    /// The mnemonic of the operation on a register or M.
+    pub(crate) fn text(self) -> &'static [u8]
+        ensures { result.now ≡ operation_text self }
+    {
+        match self {
+            Operation::Add => b"ADD",
+            Operation::AddCarry => b"ADC",
+            Operation::Subtract => b"SUB",
+            Operation::SubtractBorrow => b"SBB",
+            Operation::And => b"ANA",
+            Operation::ExclusiveOr => b"XRA",
+            Operation::Or => b"ORA",
+            Operation::Compare => b"CMP",
+        }
+    }
+
+    /// The mnemonic of the operation on a byte.
+    pub(crate) fn immediate_text(self) -> &'static [u8]
+        ensures { result.now ≡ immediate_text self }
+    {
+        match self {
+            Operation::Add => b"ADI",
+            Operation::AddCarry => b"ACI",
+            Operation::Subtract => b"SUI",
+            Operation::SubtractBorrow => b"SBI",
+            Operation::And => b"ANI",
+            Operation::ExclusiveOr => b"XRI",
+            Operation::Or => b"ORI",
+            Operation::Compare => b"CPI",
         }
     }
 }

@@ -16,6 +16,7 @@ pub enum Pair {
 impl Pair {
     ghost use Rattle.std.specs.Prelude.{◌≡◌, ◌<◌};
     ghost use Rattle.decode80.specs.Pair.{pair_code};
+    ghost use Rattle.decode80.specs.Text.{pair_text};
 
     /// The field that names the pair in an opcode.
     pub(crate) fn code(self) -> u8
@@ -27,6 +28,18 @@ impl Pair {
             Pair::De => 1,
             Pair::Hl => 2,
             Pair::Sp => 3,
+        }
+    }
+
+    /// How the pair is written.
+    pub(crate) fn text(self) -> &'static [u8]
+        ensures { result.now ≡ pair_text self }
+    {
+        match self {
+            Pair::Bc => b"B",
+            Pair::De => b"D",
+            Pair::Hl => b"H",
+            Pair::Sp => b"SP",
         }
     }
 }
@@ -47,6 +60,7 @@ pub enum StackPair {
 impl StackPair {
     ghost use Rattle.std.specs.Prelude.{◌≡◌, ◌<◌};
     ghost use Rattle.decode80.specs.Pair.{stack_pair_code};
+    ghost use Rattle.decode80.specs.Text.{stack_pair_text};
 
     /// The field that names the pair in an opcode.
     pub(crate) fn code(self) -> u8
@@ -58,6 +72,18 @@ impl StackPair {
             StackPair::De => 1,
             StackPair::Hl => 2,
             StackPair::Psw => 3,
+        }
+    }
+
+    /// How the pair is written.
+    pub(crate) fn text(self) -> &'static [u8]
+        ensures { result.now ≡ stack_pair_text self }
+    {
+        match self {
+            StackPair::Bc => b"B",
+            StackPair::De => b"D",
+            StackPair::Hl => b"H",
+            StackPair::Psw => b"PSW",
         }
     }
 }
@@ -74,6 +100,7 @@ pub enum IndexPair {
 impl IndexPair {
     ghost use Rattle.std.specs.Prelude.{◌≡◌, ◌<◌};
     ghost use Rattle.decode80.specs.Pair.{index_pair_code};
+    ghost use Rattle.decode80.specs.Text.{index_pair_text};
 
     /// The field that names the pair in an opcode.
     pub(crate) fn code(self) -> u8
@@ -83,6 +110,16 @@ impl IndexPair {
         match self {
             IndexPair::Bc => 0,
             IndexPair::De => 1,
+        }
+    }
+
+    /// How the pair is written.
+    pub(crate) fn text(self) -> &'static [u8]
+        ensures { result.now ≡ index_pair_text self }
+    {
+        match self {
+            IndexPair::Bc => b"B",
+            IndexPair::De => b"D",
         }
     }
 }

@@ -19,6 +19,7 @@ pub enum Register {
 impl Register {
     ghost use Rattle.std.specs.Prelude.{◌≡◌, ◌<◌};
     ghost use Rattle.decode80.specs.Register.{register_code};
+    ghost use Rattle.decode80.specs.Text.{register_text};
 
     /// The field that names the register in an opcode.
     pub(crate) fn code(self) -> u8
@@ -33,6 +34,21 @@ impl Register {
             Register::H => 4,
             Register::L => 5,
             Register::A => 7,
+        }
+    }
+
+    /// The letter of the register.
+    pub(crate) fn text(self) -> &'static [u8]
+        ensures { result.now ≡ register_text self }
+    {
+        match self {
+            Register::B => b"B",
+            Register::C => b"C",
+            Register::D => b"D",
+            Register::E => b"E",
+            Register::H => b"H",
+            Register::L => b"L",
+            Register::A => b"A",
         }
     }
 }

@@ -16,6 +16,7 @@ pub enum Rotation {
 impl Rotation {
     ghost use Rattle.std.specs.Prelude.{◌≡◌, ◌<◌};
     ghost use Rattle.decode80.specs.Rotation.{rotation_code};
+    ghost use Rattle.decode80.specs.Text.{rotation_text};
 
     /// The field that names the rotation in an opcode.
     pub(crate) fn code(self) -> u8
@@ -27,6 +28,18 @@ impl Rotation {
             Rotation::Right => 1,
             Rotation::LeftThroughCarry => 2,
             Rotation::RightThroughCarry => 3,
+        }
+    }
+
+    /// The mnemonic of the rotation.
+    pub(crate) fn text(self) -> &'static [u8]
+        ensures { result.now ≡ rotation_text self }
+    {
+        match self {
+            Rotation::Left => b"RLC",
+            Rotation::Right => b"RRC",
+            Rotation::LeftThroughCarry => b"RAL",
+            Rotation::RightThroughCarry => b"RAR",
         }
     }
 }

@@ -1,0 +1,98 @@
+//! From an instruction to its text.
+
+ghost use Rattle.std.specs.Prelude.{◌≡◌, ◌++◌, OnOk, OnErr, codes, take, vec_len};
+ghost use Rattle.decode80.specs.Text.{joined, mnemonic, operand_texts, text};
+
+use crate::digits::{byte_digits, digit, word_digits};
+use crate::instr::Instr;
+use crate::mnemonics::mnemonic_of;
+use crate::operation::Operand;
+use std::alloc::{AllocError, Global};
+
+/// Appends the text of an instruction: the mnemonic, and where it has operands a space and the operands joined by commas,
+/// as `MOV A,M`, `LXI SP,3200`, `IN 01`, `RST 7`, `RNZ`.
+///
+/// Pairs are written B D H SP PSW, bytes with two and words with four upper case hexadecimal digits, the number of RST with
+/// one digit (Intel 8080 Assembly Language Programming Manual). No memory is taken but what `out` grows by.
+///
+/// # Errors
+///
+/// `AllocError` where a growth of `out` was refused; `out` then has the bytes that it had.
+pub fn write_text(_alloc: Global, instr: Instr, out: &mut Vec<u8>) -> Result<(), AllocError>
+    ensures ok { OnOk result (out.new.items ≡ out.old.items ++ text instr) }
+    ensures err { OnErr result (out.new.items ≡ out.old.items) }
+{
+    let before = out.len();
+    match append_text(instr, out) {
+        Ok(()) => Ok(()),
+        Err(refused) => {
+            out.truncate(before);
+            Err(refused)
+        }
+    }
+}
+
+// Appends the text; where a growth is refused, a part of it may have been appended.
+fn append_text(instr: Instr, out: &mut Vec<u8>) -> Result<(), AllocError>
+    ensures ok { OnOk result (out.new.items ≡ out.old.items ++ text instr) }
+    ensures err { OnErr result (take (vec_len out.old) out.new.items ≡ out.old.items) }
+{
+    append(mnemonic_of(instr), out)?;
+    append_operands(instr, out)
+}
+
+fn append_operands(instr: Instr, out: &mut Vec<u8>) -> Result<(), AllocError>
+    ensures ok { OnOk result (out.new.items ≡ out.old.items ++ joined (operand_texts instr)) }
+    ensures err { OnErr result (take (vec_len out.old) out.new.items ≡ out.old.items) }
+{
+    match instr {
+        Instr::Mov(to, from) => append_two(to.text(), from.text(), out),
+        Instr::Load(to) => append_two(to.text(), b"M", out),
+        Instr::Store(from) => append_two(b"M", from.text(), out),
+        Instr::Mvi(to, byte) => append_two(to.text(), &byte_digits(byte), out),
+        Instr::MviMemory(byte) => append_two(b"M", &byte_digits(byte), out),
+        Instr::Lxi(pair, word) => append_two(pair.text(), &word_digits(word), out),
+        Instr::Dad(pair) | Instr::Inx(pair) | Instr::Dcx(pair) => append_one(pair.text(), out),
+        Instr::Inr(register) | Instr::Dcr(register) => append_one(register.text(), out),
+        Instr::InrMemory | Instr::DcrMemory => append_one(b"M", out),
+        Instr::Operate(_, Operand::Register(from)) => append_one(from.text(), out),
+        Instr::Operate(_, Operand::Memory) => append_one(b"M", out),
+        Instr::Operate(_, Operand::Immediate(byte)) => append_one(&byte_digits(byte), out),
+        Instr::Jmp(word) | Instr::JumpIf(_, word) => append_one(&word_digits(word), out),
+        Instr::Call(word) | Instr::CallIf(_, word) => append_one(&word_digits(word), out),
+        Instr::Rst(number) => append_one(&digit(number.code()), out),
+        Instr::Push(pair) | Instr::Pop(pair) => append_one(pair.text(), out),
+        Instr::Stax(pair) | Instr::Ldax(pair) => append_one(pair.text(), out),
+        Instr::Shld(word) | Instr::Lhld(word) => append_one(&word_digits(word), out),
+        Instr::Sta(word) | Instr::Lda(word) => append_one(&word_digits(word), out),
+        Instr::In(port) | Instr::Out(port) => append_one(&byte_digits(port), out),
+        _ => Ok(()),
+    }
+}
+
+// Appends a space and an operand.
+fn append_one(operand: &[u8], out: &mut Vec<u8>) -> Result<(), AllocError>
+    ensures ok { OnOk result (out.new.items ≡ out.old.items ++ (codes " " ++ operand.now)) }
+    ensures err { OnErr result (take (vec_len out.old) out.new.items ≡ out.old.items) }
+{
+    append(b" ", out)?;
+    append(operand, out)
+}
+
+// Appends a space and two operands, with a comma between them.
+fn append_two(first: &[u8], second: &[u8], out: &mut Vec<u8>) -> Result<(), AllocError>
+    ensures ok { OnOk result (out.new.items ≡ out.old.items ++ (codes " " ++ first.now ++ (codes "," ++ second.now))) }
+    ensures err { OnErr result (take (vec_len out.old) out.new.items ≡ out.old.items) }
+{
+    append_one(first, out)?;
+    append(b",", out)?;
+    append(second, out)
+}
+
+// Appends bytes, or leaves `out` as it is.
+fn append(bytes: &[u8], out: &mut Vec<u8>) -> Result<(), AllocError>
+    ensures ok { OnOk result (out.new.items ≡ out.old.items ++ bytes.now) }
+    ensures err { OnErr result (take (vec_len out.old) out.new.items ≡ out.old.items) }
+{
+    out.extend_from_slice(bytes)
+}
