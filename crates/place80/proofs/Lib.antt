@@ -1,1 +1,5 @@
 pub mod LineLemmas
+pub mod DigitLemmas
+pub mod DisjointLemmas
+pub mod RegionsLemmas
+pub mod TextLemmas

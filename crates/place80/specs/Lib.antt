@@ -3,3 +3,6 @@ pub mod Regions
 pub mod Image
 pub mod Memory
 pub mod Lines
+pub mod Digits
+pub mod RegionsFault
+pub mod RegionsText

@@ -1,5 +1,5 @@
 -- The regions of a program: its code, its data and its stack.
-use Rattle.std.specs.Prelude.{ℕ, ◌+◌, ◌%◌, ◌≤◌, ◌<◌, Bool, List, ◌∷◌, ◌++◌, All, AllPairs, count_by}
+use Rattle.std.specs.Prelude.{ℕ, ◌+◌, ◌%◌, ◌≤◌, ◌<◌, Bool, List, ◌∷◌, ◌++◌, All, AllPairs, IsPermutation, count_by, ◌≡◌}
 use Rattle.place80.specs.declared.range.Range.{Range}
 use Rattle.place80.specs.Range.{in_range, in_ranges, IsInMemory}
 
@@ -42,3 +42,10 @@ pub record AreRegions (areas : Areas) : Type 0 where
   pub data_filled : All (λ range. 0 < range.length) areas.data_ranges
   pub in_memory : All IsInMemory (all_ranges areas)
   pub disjoint : AreDisjoint (all_ranges areas)
+
+-- the regions have these ranges, put by address
+pub record Arranges (code : List Range) (stack : Range) (data_ranges : List Range) (areas : Areas) : Type 0 where
+  pub same_code : IsPermutation code areas.code
+  pub same_stack : areas.stack ≡ stack
+  pub same_data : IsPermutation data_ranges areas.data_ranges
+  pub rules : AreRegions areas

@@ -6,16 +6,24 @@
 //! | [`Range`] | consecutive addresses |
 //! | [`Regions`] | the ranges of code and of data, and the one range of the stack |
 //! | [`Chunk`], [`Image`] | bytes at an address; a located program |
+//! | [`RegionsFault`] | why bytes are no regions text |
 //! | [`lines`] | texts over whole lines |
 #![tactic(auto)]
 
 mod chunk;
+mod digits;
+mod entry;
+mod fault;
 mod image;
 pub mod lines;
+mod ordered;
 mod range;
+mod read;
 mod regions;
 
 pub use chunk::Chunk;
+pub use fault::RegionsFault;
 pub use image::Image;
 pub use range::Range;
+pub use read::read_regions;
 pub use regions::Regions;

@@ -1,6 +1,8 @@
 ghost use Rattle.std.specs.Prelude.{◌≡◌};
 
+use crate::ordered::{are_disjoint, sort};
 use crate::range::{Range, in_ranges};
+use std::alloc::{AllocError, Global};
 use std::marker::Model;
 
 /// The addresses that a program may use: the set CODE that it is fetched from, the set data that
@@ -26,7 +28,37 @@ impl Model for Regions {
 }
 
 impl Regions {
-    ghost use Rattle.place80.specs.Regions.{AreRegions, in_code, in_data, top_of};
+    ghost use Rattle.std.specs.Prelude.{◌<◌, ◌∷◌, ◌++◌, All, IfOk, IfSome, IfNone};
+    ghost use Rattle.place80.specs.Range.{IsInMemory};
+    ghost use Rattle.place80.specs.Regions.{AreDisjoint, AreRegions, Arranges, in_code, in_data, top_of};
+
+    /// The regions of these ranges, which may come in any order; `None` where an address lies in
+    /// two of them.
+    pub(crate) fn from_ranges(
+        alloc: Global,
+        mut code: Vec<Range>,
+        stack: Range,
+        mut data_ranges: Vec<Range>,
+    ) -> Result<Option<Self>, AllocError>
+        requires code_filled { All (λ range. 0 < range.length) code.items }
+        requires data_filled { All (λ range. 0 < range.length) data_ranges.items }
+        requires code_in_memory { All IsInMemory code.items }
+        requires stack_in_memory { IsInMemory stack }
+        requires data_in_memory { All IsInMemory data_ranges.items }
+        ensures ranges { IfOk result (λ made. IfSome made (Arranges code.items stack data_ranges.items)) }
+        ensures overlap { IfOk result (λ made. IfNone made (¬ (AreDisjoint (code.items ++ stack ∷ data_ranges.items)))) }
+    {
+        if !are_disjoint(alloc, &code, stack, &data_ranges)? {
+            return Ok(None);
+        }
+        sort(&mut code);
+        sort(&mut data_ranges);
+        Ok(Some(Regions {
+            code,
+            stack,
+            data_ranges,
+        }))
+    }
 
     /// The ranges of code, by address.
     pub fn code(&self) -> &[Range]

@@ -1,0 +1,12 @@
+-- The faults of a regions text by their numbers.
+use Rattle.std.specs.Prelude.{ℕ}
+use Rattle.place80.specs.declared.fault.RegionsFault.{RegionsFault}
+use Rattle.place80.specs.declared.fault.RegionsFault.TheVariants.{BadLine, BadVersion, RegionsOverlap, NoStack, Memory}
+
+-- the number of a fault
+abbrev pub code_of : RegionsFault → ℕ
+code_of (BadLine line) = 1
+code_of BadVersion = 2
+code_of RegionsOverlap = 3
+code_of NoStack = 4
+code_of Memory = 5
