@@ -1,3 +1,5 @@
 pub mod NameText
 pub mod Spelled
 pub mod SpelledNames
+pub mod SpelledRecords
+pub mod SpelledWritten

@@ -1,7 +1,8 @@
 -- What holds of all spellings.
-use Rattle.std.specs.Prelude.{◌≡◌, ℕ, ◌+◌, ◌↔◌, List, [], ◌++◌, length, drop, Some, None, IsTrue}
+use Rattle.std.specs.Prelude.{◌≡◌, ℕ, ◌+◌, ◌↔◌, ◌⊎◌, List, [], ◌++◌, length, drop, All, Some, None, IsTrue, slice_range, ◌<◌}
 use Rattle.omf_core.specs.declared.fault.RecordFault.TheVariants.{BadSum, ZeroLength}
 use Rattle.omf_core.specs.Name.{SpellsName, is_name, holds_name, name_spelling}
+use Rattle.omf_core.specs.Records.{RecordValue, SpellsRecords, spellings}
 use Rattle.omf_core.specs.Record.{SpellsRecord, fault_at, spelling}
 
 -- At a place no two records are spelled.
@@ -46,6 +47,51 @@ abbrev pub WrittenIsSpelled : Type 0
 WrittenIsSpelled =
     (before after : List ℕ) (kind : ℕ) (body : List ℕ)
     → SpellsRecord (before ++ spelling kind body ++ after) (length before) (length before + 4 + length body) kind body
+
+-- Of bytes, only what is written for a record spells it.
+abbrev pub SpelledIsWritten : Type 0
+SpelledIsWritten =
+    (bytes : List ℕ) (from to kind : ℕ) (body : List ℕ)
+    → All (λ byte. byte < 256) bytes
+    → SpellsRecord bytes from to kind body
+    → slice_range bytes from to ≡ spelling kind body
+
+-- Of two lists of records that are spelled from one place on, one begins the other.
+abbrev pub OneListBeginsTheOther : Type 0
+OneListBeginsTheOther =
+    (bytes : List ℕ) (from to to' : ℕ) (records records' : List RecordValue)
+    → SpellsRecords bytes from to records
+    → SpellsRecords bytes from to' records'
+    → ((more : List RecordValue) × (records' ≡ records ++ more)) ⊎ ((more : List RecordValue) × (records ≡ records' ++ more))
+
+-- A stretch of bytes spells one list of records at most.
+abbrev pub OneListAtEachStretch : Type 0
+OneListAtEachStretch =
+    (bytes : List ℕ) (from to : ℕ) (records records' : List RecordValue)
+    → SpellsRecords bytes from to records
+    → SpellsRecords bytes from to records'
+    → records ≡ records'
+
+-- Two stretches that meet spell their records together.
+abbrev pub ListsJoin : Type 0
+ListsJoin =
+    (bytes : List ℕ) (from middle to : ℕ) (records records' : List RecordValue)
+    → SpellsRecords bytes from middle records
+    → SpellsRecords bytes middle to records'
+    → SpellsRecords bytes from to (records ++ records')
+
+-- A list that is spelled is spelled whatever bytes follow.
+abbrev pub ListsStay : Type 0
+ListsStay =
+    (bytes more : List ℕ) (from to : ℕ) (records : List RecordValue)
+    → SpellsRecords bytes from to records
+    → SpellsRecords (bytes ++ more) from to records
+
+-- What is written for records, one after another, spells them, wherever it stands.
+abbrev pub WrittenListIsSpelled : Type 0
+WrittenListIsSpelled =
+    (before after : List ℕ) (records : List RecordValue)
+    → SpellsRecords (before ++ spellings records ++ after) (length before) (length before + length (spellings records)) records
 
 -- At a place no two names are spelled.
 abbrev pub OneNameAtEachPlace : Type 0

@@ -3,3 +3,4 @@ pub mod Kind
 pub mod Laws
 pub mod Name
 pub mod Record
+pub mod Records

@@ -1,7 +1,7 @@
 //! What holds of all spellings, whatever calls are made. Each law is what a function ensures that does nothing,
 //! so that a layer above has it by a call.
 
-ghost use Rattle.omf_core.specs.Laws.{OneRecordAtEachPlace, NoSpellingBeginsAnother, NoFaultExactlyAtRecords, RecordsStay, FaultsStay, WrittenIsSpelled, OneNameAtEachPlace, NamesExactlyWhereHeld, WrittenNameIsSpelled};
+ghost use Rattle.omf_core.specs.Laws.{OneRecordAtEachPlace, NoSpellingBeginsAnother, NoFaultExactlyAtRecords, RecordsStay, FaultsStay, WrittenIsSpelled, SpelledIsWritten, OneListBeginsTheOther, OneListAtEachStretch, ListsJoin, ListsStay, WrittenListIsSpelled, OneNameAtEachPlace, NamesExactlyWhereHeld, WrittenNameIsSpelled};
 
 /// At a place no two records are spelled.
 #[tactic(auto, using(crate::proofs::Spelled::one_record))]
@@ -36,6 +36,42 @@ pub fn faults_stay()
 /// What is written for a record spells it, wherever it stands.
 pub fn written_is_spelled()
     ensures { WrittenIsSpelled }
+{}
+
+/// Of bytes, only what is written for a record spells it.
+#[tactic(auto, using(crate::proofs::SpelledWritten::spelled_is_written))]
+pub fn spelled_is_written()
+    ensures { SpelledIsWritten }
+{}
+
+/// Of two lists of records that are spelled from one place on, one begins the other.
+#[tactic(auto, using(crate::proofs::SpelledRecords::one_list_begins_the_other))]
+pub fn one_list_begins_the_other()
+    ensures { OneListBeginsTheOther }
+{}
+
+/// A stretch of bytes spells one list of records at most.
+#[tactic(auto, using(crate::proofs::SpelledRecords::one_list_at_each_stretch))]
+pub fn one_list_at_each_stretch()
+    ensures { OneListAtEachStretch }
+{}
+
+/// Two stretches that meet spell their records together.
+#[tactic(auto, using(crate::proofs::SpelledRecords::lists_join))]
+pub fn lists_join()
+    ensures { ListsJoin }
+{}
+
+/// A list that is spelled is spelled whatever bytes follow.
+#[tactic(auto, using(crate::proofs::SpelledRecords::lists_stay))]
+pub fn lists_stay()
+    ensures { ListsStay }
+{}
+
+/// What is written for records, one after another, spells them, wherever it stands.
+#[tactic(auto, using(crate::proofs::SpelledRecords::written_list_is_spelled))]
+pub fn written_list_is_spelled()
+    ensures { WrittenListIsSpelled }
 {}
 
 /// At a place no two names are spelled.
