@@ -1,4 +1,3 @@
-pub mod Rows
 pub mod Cases
 pub mod Opcodes
 pub mod Operands

@@ -21,7 +21,7 @@ pub(crate) static ROWS: [Option<Instr>; 256] = [
     Some(Dcr(B)),
     Some(Mvi(B, 0)),
     Some(Rotate(Rotation::Left)),
-    None,
+    None, // 08
     Some(Dad(Pair::Bc)),
     Some(Ldax(IndexPair::Bc)),
     Some(Dcx(Pair::Bc)),
@@ -30,7 +30,7 @@ pub(crate) static ROWS: [Option<Instr>; 256] = [
     Some(Mvi(C, 0)),
     Some(Rotate(Rotation::Right)),
     // 10 to 1F
-    None,
+    None, // 10
     Some(Lxi(Pair::De, 0)),
     Some(Stax(IndexPair::De)),
     Some(Inx(Pair::De)),
@@ -38,7 +38,7 @@ pub(crate) static ROWS: [Option<Instr>; 256] = [
     Some(Dcr(D)),
     Some(Mvi(D, 0)),
     Some(Rotate(Rotation::LeftThroughCarry)),
-    None,
+    None, // 18
     Some(Dad(Pair::De)),
     Some(Ldax(IndexPair::De)),
     Some(Dcx(Pair::De)),
@@ -47,7 +47,7 @@ pub(crate) static ROWS: [Option<Instr>; 256] = [
     Some(Mvi(E, 0)),
     Some(Rotate(Rotation::RightThroughCarry)),
     // 20 to 2F
-    None,
+    None, // 20
     Some(Lxi(Pair::Hl, 0)),
     Some(Shld(0)),
     Some(Inx(Pair::Hl)),
@@ -55,7 +55,7 @@ pub(crate) static ROWS: [Option<Instr>; 256] = [
     Some(Dcr(H)),
     Some(Mvi(H, 0)),
     Some(Daa),
-    None,
+    None, // 28
     Some(Dad(Pair::Hl)),
     Some(Lhld(0)),
     Some(Dcx(Pair::Hl)),
@@ -64,7 +64,7 @@ pub(crate) static ROWS: [Option<Instr>; 256] = [
     Some(Mvi(L, 0)),
     Some(Cma),
     // 30 to 3F
-    None,
+    None, // 30
     Some(Lxi(Pair::Sp, 0)),
     Some(Sta(0)),
     Some(Inx(Pair::Sp)),
@@ -72,7 +72,7 @@ pub(crate) static ROWS: [Option<Instr>; 256] = [
     Some(DcrMemory),
     Some(MviMemory(0)),
     Some(Stc),
-    None,
+    None, // 38
     Some(Dad(Pair::Sp)),
     Some(Lda(0)),
     Some(Dcx(Pair::Sp)),
@@ -228,7 +228,7 @@ pub(crate) static ROWS: [Option<Instr>; 256] = [
     Some(ReturnIf(Condition::Zero)),
     Some(Ret),
     Some(JumpIf(Condition::Zero, 0)),
-    None,
+    None, // CB
     Some(CallIf(Condition::Zero, 0)),
     Some(Call(0)),
     Some(Operate(AddCarry, Operand::Immediate(0))),
@@ -243,11 +243,11 @@ pub(crate) static ROWS: [Option<Instr>; 256] = [
     Some(Operate(Subtract, Operand::Immediate(0))),
     Some(Rst(Restart::Vector2)),
     Some(ReturnIf(Condition::Carry)),
-    None,
+    None, // D9
     Some(JumpIf(Condition::Carry, 0)),
     Some(In(0)),
     Some(CallIf(Condition::Carry, 0)),
-    None,
+    None, // DD
     Some(Operate(SubtractBorrow, Operand::Immediate(0))),
     Some(Rst(Restart::Vector3)),
     // E0 to EF
@@ -264,7 +264,7 @@ pub(crate) static ROWS: [Option<Instr>; 256] = [
     Some(JumpIf(Condition::ParityEven, 0)),
     Some(Xchg),
     Some(CallIf(Condition::ParityEven, 0)),
-    None,
+    None, // ED
     Some(Operate(ExclusiveOr, Operand::Immediate(0))),
     Some(Rst(Restart::Vector5)),
     // F0 to FF
@@ -281,7 +281,7 @@ pub(crate) static ROWS: [Option<Instr>; 256] = [
     Some(JumpIf(Condition::Minus, 0)),
     Some(Ei),
     Some(CallIf(Condition::Minus, 0)),
-    None,
+    None, // FD
     Some(Operate(Compare, Operand::Immediate(0))),
     Some(Rst(Restart::Vector7)),
 ];
