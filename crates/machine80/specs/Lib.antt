@@ -1,0 +1,12 @@
+pub mod Ports
+pub mod ListPorts
+pub mod FlatBus
+pub mod Flags
+pub mod Arithmetic
+pub mod ArithmeticLaws
+pub mod End
+pub mod Cpu
+pub mod Effects
+pub mod Step
+pub mod World
+pub mod Run

@@ -1,0 +1,183 @@
+//! The arithmetic of the 8080: what each arithmetic, logical and rotating instruction answers.
+
+ghost use Rattle.std.specs.Prelude.{◌≡◌};
+ghost use Rattle.machine80.specs.Flags.{bit_of};
+ghost use Rattle.machine80.specs.Arithmetic.{sum_answer, difference_answer, byte_answer, operation_answer, increment_answer, decrement_answer, decimal_answer, rotation_answer, pair_sum, pair_sum_flags, complement_of, carry_set, carry_turned};
+
+use crate::flags::Flags;
+use decode80::{Operation, Rotation};
+
+#[cfg(test)]
+mod tests;
+#[cfg(test)]
+mod vectors;
+
+/// A byte that was computed, and the flags after it.
+#[derive(Clone, Copy, PartialEq, Eq, Debug)]
+pub struct Answer {
+    /// The byte.
+    pub value: u8,
+    /// All five flags.
+    pub flags: Flags,
+}
+
+impl Answer {
+    /// A byte with flags of its own: S, Z and P by the byte, AC and CY as given.
+    #[inline]
+    #[tactic(auto, unfolding(crate::specs::Arithmetic::byte_answer))]
+    fn of_byte(value: u8, auxiliary: bool, carry: bool) -> Answer
+        ensures { result ≡ byte_answer value auxiliary carry }
+    {
+        Answer {
+            value,
+            flags: Flags::of_result(value, auxiliary, carry),
+        }
+    }
+}
+
+/// The operation on the accumulator `a` and the byte `value`. A comparison gives `a` back.
+///
+/// Of `flags` only CY is read, by ADC and SBB; all five flags of the answer are new.
+#[inline]
+#[tactic(auto, unfolding(crate::specs::Arithmetic::operation_answer, crate::specs::Flags::bit_of, crate::specs::Flags::has_bit))]
+pub fn operate(operation: Operation, a: u8, value: u8, flags: Flags) -> Answer
+    ensures { result ≡ operation_answer operation a value flags }
+{
+    match operation {
+        Operation::Add => sum(a, value, false),
+        Operation::AddCarry => sum(a, value, flags.carry),
+        Operation::Subtract => difference(a, value, false),
+        Operation::SubtractBorrow => difference(a, value, flags.carry),
+        Operation::And => Answer::of_byte(a & value, (a | value) >> 3 & 1 == 1, false),
+        Operation::ExclusiveOr => Answer::of_byte(a ^ value, false, false),
+        Operation::Or => Answer::of_byte(a | value, false, false),
+        Operation::Compare => Answer {
+            value: a,
+            flags: difference(a, value, false).flags,
+        },
+    }
+}
+
+/// The adder: `a`, `value` and a carry.
+#[inline]
+#[tactic(auto, unfolding(crate::specs::Arithmetic::sum_answer, crate::specs::Flags::bit_of))]
+fn sum(a: u8, value: u8, carry: bool) -> Answer
+    ensures { result ≡ sum_answer a value (bit_of carry) }
+{
+    let carry = u8::from(carry);
+    let sum = u16::from(a) + u16::from(value) + u16::from(carry);
+    let nibbles = a % 16 + value % 16 + carry;
+    Answer::of_byte((sum % 256) as u8, nibbles > 15, sum > 255)
+}
+
+/// A subtraction by the adder: `a`, the complement of `value` and the borrow turned over; the carry that comes out
+/// is turned over too.
+#[inline]
+#[tactic(auto, using(crate::proofs::ArithmeticLemmas::difference_by_adder), unfolding(crate::specs::ArithmeticLaws::with_carry_turned))]
+fn difference(a: u8, value: u8, borrow: bool) -> Answer
+    ensures { result ≡ difference_answer a value (bit_of borrow) }
+{
+    let Answer { value, flags } = sum(a, !value, !borrow);
+    Answer {
+        value,
+        flags: complement_carry(flags),
+    }
+}
+
+/// INR of a register or the byte in memory: `value` plus 1 modulo 256. CY stays.
+#[inline]
+#[tactic(auto, unfolding(crate::specs::Arithmetic::increment_answer))]
+pub fn increment(value: u8, flags: Flags) -> Answer
+    ensures { result ≡ increment_answer value flags }
+{
+    let more = value.wrapping_add(1);
+    Answer::of_byte(more, more % 16 == 0, flags.carry)
+}
+
+/// DCR of a register or the byte in memory: `value` minus 1 modulo 256. CY stays.
+#[inline]
+#[tactic(auto, unfolding(crate::specs::Arithmetic::decrement_answer))]
+pub fn decrement(value: u8, flags: Flags) -> Answer
+    ensures { result ≡ decrement_answer value flags }
+{
+    let less = value.wrapping_sub(1);
+    Answer::of_byte(less, less % 16 != 15, flags.carry)
+}
+
+/// DAA: the accumulator `a` after an addition of packed decimal bytes, made packed decimal again.
+#[inline]
+#[tactic(auto, unfolding(crate::specs::Arithmetic::decimal_answer))]
+pub fn decimal_adjust(a: u8, flags: Flags) -> Answer
+    ensures { result ≡ decimal_answer a flags }
+{
+    let low = a % 16 > 9;
+    let first = u16::from(a) + if low || flags.auxiliary { 6 } else { 0 };
+    let high = first / 16 > 9 || flags.carry;
+    let second = first + if high { 0x60 } else { 0 };
+    Answer::of_byte((second % 256) as u8, low, high)
+}
+
+/// RLC, RRC, RAL and RAR: the accumulator `a` turned by one bit. Of the flags only CY changes.
+#[inline]
+#[tactic(auto, using(crate::proofs::ArithmeticLemmas::or_after_turn), unfolding(crate::specs::Arithmetic::rotation_answer, crate::specs::Flags::bit_of, crate::specs::Flags::has_bit))]
+pub fn rotate(rotation: Rotation, a: u8, flags: Flags) -> Answer
+    ensures { result ≡ rotation_answer rotation a flags }
+{
+    let old = u8::from(flags.carry);
+    match rotation {
+        Rotation::Left => Answer {
+            value: a << 1 | a >> 7,
+            flags: flags.with_carry(a >> 7 == 1),
+        },
+        Rotation::Right => Answer {
+            value: a >> 1 | (a & 1) << 7,
+            flags: flags.with_carry(a & 1 == 1),
+        },
+        Rotation::LeftThroughCarry => Answer {
+            value: a << 1 | old,
+            flags: flags.with_carry(a >> 7 == 1),
+        },
+        Rotation::RightThroughCarry => Answer {
+            value: a >> 1 | old << 7,
+            flags: flags.with_carry(a & 1 == 1),
+        },
+    }
+}
+
+/// DAD: the sum of HL and a pair modulo 65536, and the flags, of which only CY changes.
+#[inline]
+#[tactic(auto, unfolding(crate::specs::Arithmetic::pair_sum, crate::specs::Arithmetic::pair_sum_flags))]
+pub fn add_pairs(hl: u16, pair: u16, flags: Flags) -> (u16, Flags)
+    ensures value { result.0 ≡ pair_sum hl pair }
+    ensures flags { result.1 ≡ pair_sum_flags hl pair flags }
+{
+    let sum = u32::from(hl) + u32::from(pair);
+    ((sum % 65536) as u16, flags.with_carry(sum > 65535))
+}
+
+/// CMA: every bit of the accumulator turned over. No flag changes.
+#[inline]
+#[tactic(auto, unfolding(crate::specs::Arithmetic::complement_of))]
+pub fn complement(a: u8) -> u8
+    ensures { result ≡ complement_of a }
+{
+    !a
+}
+
+/// STC: CY is set, the other flags stay.
+#[inline]
+#[tactic(auto, unfolding(crate::specs::Arithmetic::carry_set))]
+pub fn set_carry(flags: Flags) -> Flags
+    ensures { result ≡ carry_set flags }
+{
+    flags.with_carry(true)
+}
+
+/// CMC: CY is turned over, the other flags stay.
+#[inline]
+#[tactic(auto, unfolding(crate::specs::Arithmetic::carry_turned))]
+pub fn complement_carry(flags: Flags) -> Flags
+    ensures { result ≡ carry_turned flags }
+{
+    flags.with_carry(!flags.carry)
+}

@@ -1,0 +1,133 @@
+//! The processor.
+
+ghost use Rattle.std.specs.Prelude.{◌≡◌, ◌/◌, ◌%◌};
+ghost use Rattle.machine80.specs.Cpu.{hl_of, pair_of, with_pair, register_of, started};
+ghost use Rattle.machine80.specs.Effects.{with_answer, with_register_answer, with_sum};
+ghost use Rattle.machine80.specs.Flags.{flags_byte};
+
+use crate::alu::{Answer, add_pairs};
+use crate::flags::Flags;
+use crate::registers::Registers;
+use decode80::{Pair, Register};
+use place80::Regions;
+
+/// The registers, the stack pointer and the program counter.
+#[derive(Clone, Copy, Debug, PartialEq, Eq)]
+pub struct Cpu {
+    pub registers: Registers,
+    pub sp: u16,
+    pub pc: u16,
+}
+
+impl Cpu {
+    /// The processor before the first step: all registers 0, all flags clear, the stack pointer at the stack's top.
+    pub fn start(start: u16, regions: &Regions) -> Cpu
+        ensures { result ≡ started start regions.now }
+    {
+        let flags = Flags {
+            sign: false,
+            zero: false,
+            auxiliary: false,
+            parity: false,
+            carry: false,
+        };
+        let registers = Registers {
+            a: 0,
+            b: 0,
+            c: 0,
+            d: 0,
+            e: 0,
+            h: 0,
+            l: 0,
+            flags,
+        };
+        Cpu {
+            registers,
+            sp: regions.top(),
+            pc: start,
+        }
+    }
+
+    /// The byte in a register.
+    pub fn register(&self, register: Register) -> u8
+        ensures { result ≡ register_of self.now.registers register }
+    {
+        self.registers.value(register)
+    }
+
+    /// The flags byte: S Z 0 AC 0 P 1 CY from bit 7.
+    pub fn flags_byte(&self) -> u8
+        ensures { result ≡ flags_byte self.now.registers.flags }
+    {
+        self.registers.flags.byte()
+    }
+
+    /// The stack pointer.
+    pub fn sp(&self) -> u16
+        ensures { result ≡ self.now.sp }
+    {
+        self.sp
+    }
+
+    /// The program counter.
+    pub fn pc(&self) -> u16
+        ensures { result ≡ self.now.pc }
+    {
+        self.pc
+    }
+
+    /// The word in a pair.
+    #[inline]
+    pub fn pair(&self, pair: Pair) -> u16
+        ensures { result ≡ pair_of self.now pair }
+    {
+        match pair {
+            Pair::Bc => u16::from_be_bytes([self.registers.b, self.registers.c]),
+            Pair::De => u16::from_be_bytes([self.registers.d, self.registers.e]),
+            Pair::Hl => u16::from_be_bytes([self.registers.h, self.registers.l]),
+            Pair::Sp => self.sp,
+        }
+    }
+
+    /// Puts a word into a pair.
+    #[inline]
+    pub fn assign_pair(&mut self, pair: Pair, word: u16)
+        ensures { self.new ≡ with_pair self.old pair word }
+    {
+        let [high, low] = word.to_be_bytes();
+        match pair {
+            Pair::Bc => (self.registers.b, self.registers.c) = (high, low),
+            Pair::De => (self.registers.d, self.registers.e) = (high, low),
+            Pair::Hl => (self.registers.h, self.registers.l) = (high, low),
+            Pair::Sp => self.sp = word,
+        }
+    }
+
+    /// Puts an answer into the accumulator and the flags.
+    #[inline]
+    pub(crate) fn put(&mut self, answer: Answer)
+        ensures { self.new ≡ with_answer self.old answer }
+    {
+        self.registers.a = answer.value;
+        self.registers.flags = answer.flags;
+    }
+
+    /// Puts an answer into a register and the flags.
+    #[inline]
+    pub(crate) fn put_in(&mut self, register: Register, answer: Answer)
+        ensures { self.new ≡ with_register_answer self.old register answer }
+    {
+        self.registers.assign(register, answer.value);
+        self.registers.flags = answer.flags;
+    }
+
+    /// Adds a word to HL.
+    #[inline]
+    pub(crate) fn add(&mut self, word: u16)
+        ensures { self.new ≡ with_sum self.old (hl_of self.old.registers) word }
+    {
+        let (sum, flags) = add_pairs(self.registers.hl(), word, self.registers.flags);
+        self.assign_pair(Pair::Hl, sum);
+        self.registers.flags = flags;
+    }
+}

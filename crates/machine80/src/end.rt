@@ -1,0 +1,40 @@
+//! How a run ends.
+
+ghost use Rattle.std.specs.Prelude.{◌≡◌};
+ghost use Rattle.machine80.specs.End.{code_of};
+
+/// How a run ends. The last three are wrong; a vouched image meets none of them.
+#[derive(Clone, Copy, Debug, PartialEq, Eq)]
+pub enum End {
+    /// HLT.
+    Halt,
+    /// IN at a port where no byte waits.
+    InputEnd(u8),
+    /// OUT at a port that refuses the byte.
+    OutputRefused(u8),
+    /// A store through a register pair to this address, which is no data.
+    StoreOutside(u16),
+    /// The instruction at this address has a byte outside code or past FFFF, or its first byte is unused.
+    Fetch(u16),
+    /// A push or a pop touches this address, which is no byte of the stack.
+    Stack(u16),
+    /// STA or SHLD stores to this address, which is no data.
+    Direct(u16),
+}
+
+impl End {
+    /// The number of this end.
+    pub fn code(&self) -> u8
+        ensures { result ≡ code_of self.now }
+    {
+        match self {
+            End::Halt => 1,
+            End::InputEnd(_) => 2,
+            End::OutputRefused(_) => 3,
+            End::StoreOutside(_) => 4,
+            End::Fetch(_) => 5,
+            End::Stack(_) => 6,
+            End::Direct(_) => 7,
+        }
+    }
+}

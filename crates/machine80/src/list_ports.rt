@@ -1,0 +1,117 @@
+ghost use Rattle.std.specs.Prelude.{◌≡◌, ℕ, ◌+◌, ◌-◌, ◌<◌, ◌≤◌, ◌^◌, List, [], ◌∷◌, ◌++◌, Option, Some, length, drop, slice_index, slice_get, OnOk, OnErr, replicate};
+ghost use Rattle.machine80.specs.ListPorts.{FirstOf};
+ghost use Rattle.machine80.specs.Ports.{bytes_of, lists_of, next_input, without_next, has_room, Lists};
+
+use crate::inputs::Inputs;
+use crate::ports::{PortRefused, Ports};
+use std::alloc::Global;
+use std::marker::Model;
+
+/// Ports whose inputs are a list that is given once, and whose outputs are kept in a list up to a limit.
+///
+/// However many bytes wait on other ports, each of them is passed over once at most for each port.
+#[derive(Drop)]
+pub struct ListPorts {
+    /// Port and byte, in order.
+    pairs: Vec<(u8, u8)>,
+    /// For each port, the place in `pairs` from which on none of its bytes has been taken.
+    places: [usize; 256],
+    outputs: Vec<(u8, u8)>,
+    limit: usize,
+    refused: u64,
+}
+
+impl Model for ListPorts {
+    ghost use Rattle.std.specs.Prelude.{ℕ, ◌≤◌, ◌<◌, length, All};
+    ghost use Rattle.machine80.specs.Ports.{Lists};
+    ghost use Rattle.machine80.specs.ListPorts.{queues};
+
+    ghost Value = { Lists };
+
+    ghost view = { λ p. record { inputs = queues p.places p.pairs.items; outputs = p.outputs.items; refused = p.refused; limit = p.limit } };
+
+    ghost invariant = { λ p. All (λ place. place ≤ length p.pairs.items) p.places };
+}
+
+impl ListPorts {
+    /// Ports at which these inputs wait, that keep as many outputs as `limit` says and refuse each further one.
+    /// An output is also refused where there is no memory to keep it.
+    pub fn new(alloc: Global, inputs: Inputs, limit: usize) -> Self
+        ensures inputs { result.inputs ≡ lists_of inputs.pairs.items }
+        ensures outputs { result.outputs ≡ [] }
+        ensures refused { result.refused ≡ 0 }
+        ensures limit { result.limit ≡ limit }
+    {
+        ListPorts {
+            pairs: inputs.pairs,
+            places: first_places(),
+            outputs: Vec::new(alloc),
+            limit,
+            refused: 0,
+        }
+    }
+
+    /// Port and byte of each output, in order.
+    pub fn outputs(&self) -> &[(u8, u8)]
+        ensures { result.now ≡ self.now.outputs }
+    {
+        self.outputs.as_slice()
+    }
+}
+
+/// The first place, for each port.
+fn first_places() -> [usize; 256]
+    ensures { result ≡ replicate 256 0 }
+{
+    [0; 256]
+}
+
+/// The first byte of a port from a place on, with its place.
+fn first_of(pairs: &[(u8, u8)], from: usize, port: u8) -> Option<(usize, u8)>
+    ensures { FirstOf pairs.now from port result }
+{
+    let mut at = from;
+    while at < pairs.len() {
+        let (owner, byte) = pairs[at];
+        if owner == port {
+            return Some((at, byte));
+        }
+        at += 1;
+    }
+    None
+}
+
+impl Ports for ListPorts {
+    ghost inputs = { λ p. p.inputs };
+
+    ghost outputs = { λ p. p.outputs };
+
+    ghost refused = { λ p. p.refused };
+
+    ghost limit = { λ p. Some p.limit };
+
+    fn take(&mut self, port: u8) -> Option<u8> {
+        match first_of(self.pairs.as_slice(), self.places[port as usize], port) {
+            Some((at, byte)) => {
+                self.places[port as usize] = at + 1;
+                Some(byte)
+            }
+            None => {
+                self.places[port as usize] = self.pairs.len();
+                None
+            }
+        }
+    }
+
+    fn give(&mut self, port: u8, byte: u8) -> Result<(), PortRefused> {
+        if self.outputs.len() < self.limit && self.outputs.push((port, byte)).is_ok() {
+            return Ok(());
+        }
+        self.refused += 1;
+        Err(PortRefused)
+    }
+
+    fn refusals(&self) -> u64 {
+        self.refused
+    }
+}
