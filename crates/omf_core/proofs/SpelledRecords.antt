@@ -3,7 +3,7 @@ use Rattle.std.proofs.Common.{◌≡◌, ℕ, ◌+◌, ◌≤◌, inl, inr, List
 use Rattle.std.proofs.lemmas.List.{length-append}
 use Rattle.omf_core.specs.Record.{SpellsRecord, spelling}
 use Rattle.omf_core.specs.Records.{RecordValue, SpellsRecords, spellings}
-use Rattle.omf_core.specs.Laws.{OneListBeginsTheOther, OneListAtEachStretch, ListsJoin, ListsStay, WrittenListIsSpelled}
+use Rattle.omf_core.specs.Laws.{OneListBeginsTheOther, OneListAtEachStretch, ListsJoin, ListGrows, ListsStay, WrittenListIsSpelled}
 use Rattle.omf_core.proofs.Spelled.{one_record, records_stay, written_is_spelled, length-spelling}
 
 abbrev value_of : ℕ → List ℕ → RecordValue
@@ -53,6 +53,13 @@ one_list_at_each_stretch bytes from to (r ∷ rs) (s ∷ ss) a b =
 pub lists_join : ListsJoin
 lists_join bytes from middle to [] records' a b = subst (λ place. SpellsRecords bytes place to records') (sym a) b
 lists_join bytes from middle to (r ∷ rs) records' a b = (a.0, lists_join bytes (from + 4 + length r.body) middle to rs records' a.1 b)
+
+pub list_grows : ListGrows
+list_grows bytes from middle to records next a b =
+    let here : middle + 4 + length next.body ≡ to = sym b.all_counted in
+    let first : SpellsRecord bytes middle (middle + 4 + length next.body) next.kind next.body =
+    subst (λ place. SpellsRecord bytes middle place next.kind next.body) b.all_counted b in
+    lists_join bytes from middle to records (next ∷ []) a (first, here)
 
 pub lists_stay : ListsStay
 lists_stay bytes more from to [] a = a

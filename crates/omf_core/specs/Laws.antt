@@ -1,5 +1,5 @@
 -- What holds of all spellings.
-use Rattle.std.specs.Prelude.{◌≡◌, ℕ, ◌+◌, ◌↔◌, ◌⊎◌, List, [], ◌++◌, length, drop, All, Some, None, IsTrue, slice_range, ◌<◌}
+use Rattle.std.specs.Prelude.{◌≡◌, ℕ, ◌+◌, ◌↔◌, ◌⊎◌, List, [], ◌∷◌, ◌++◌, length, drop, All, Some, None, IsTrue, slice_range, ◌<◌}
 use Rattle.omf_core.specs.declared.fault.RecordFault.TheVariants.{BadSum, ZeroLength}
 use Rattle.omf_core.specs.Name.{SpellsName, is_name, holds_name, name_spelling}
 use Rattle.omf_core.specs.Records.{RecordValue, SpellsRecords, spellings}
@@ -79,6 +79,14 @@ ListsJoin =
     → SpellsRecords bytes from middle records
     → SpellsRecords bytes middle to records'
     → SpellsRecords bytes from to (records ++ records')
+
+-- A record that follows a list makes it longer by one.
+abbrev pub ListGrows : Type 0
+ListGrows =
+    (bytes : List ℕ) (from middle to : ℕ) (records : List RecordValue) (next : RecordValue)
+    → SpellsRecords bytes from middle records
+    → SpellsRecord bytes middle to next.kind next.body
+    → SpellsRecords bytes from to (records ++ next ∷ [])
 
 -- A list that is spelled is spelled whatever bytes follow.
 abbrev pub ListsStay : Type 0

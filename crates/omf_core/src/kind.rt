@@ -33,7 +33,7 @@ impl RecordKind {
     }
 
     /// The kind whose type byte this is, or `None` where the standard has none.
-    pub fn of(byte: u8) -> Option<RecordKind>
+    pub fn from_byte(byte: u8) -> Option<RecordKind>
         ensures kind { IfSome result (λ kind. kind_byte kind ≡ byte) }
         ensures unknown { IfNone result ((kind : RecordKind) → kind_byte kind ≢ byte) }
     {

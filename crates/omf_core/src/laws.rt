@@ -1,7 +1,7 @@
 //! What holds of all spellings, whatever calls are made. Each law is what a function ensures that does nothing,
 //! so that a layer above has it by a call.
 
-ghost use Rattle.omf_core.specs.Laws.{OneRecordAtEachPlace, NoSpellingBeginsAnother, NoFaultExactlyAtRecords, RecordsStay, FaultsStay, WrittenIsSpelled, SpelledIsWritten, OneListBeginsTheOther, OneListAtEachStretch, ListsJoin, ListsStay, WrittenListIsSpelled, OneNameAtEachPlace, NamesExactlyWhereHeld, WrittenNameIsSpelled};
+ghost use Rattle.omf_core.specs.Laws.{OneRecordAtEachPlace, NoSpellingBeginsAnother, NoFaultExactlyAtRecords, RecordsStay, FaultsStay, WrittenIsSpelled, SpelledIsWritten, OneListBeginsTheOther, OneListAtEachStretch, ListsJoin, ListGrows, ListsStay, WrittenListIsSpelled, OneNameAtEachPlace, NamesExactlyWhereHeld, WrittenNameIsSpelled};
 
 /// At a place no two records are spelled.
 #[tactic(auto, using(crate::proofs::Spelled::one_record))]
@@ -60,6 +60,12 @@ pub fn one_list_at_each_stretch()
 #[tactic(auto, using(crate::proofs::SpelledRecords::lists_join))]
 pub fn lists_join()
     ensures { ListsJoin }
+{}
+
+/// A record that follows a list makes it longer by one.
+#[tactic(auto, using(crate::proofs::SpelledRecords::list_grows))]
+pub fn list_grows()
+    ensures { ListGrows }
 {}
 
 /// A list that is spelled is spelled whatever bytes follow.

@@ -8,6 +8,7 @@ use std::alloc::Global;
 const LONGEST_BODY: usize = 65534;
 
 /// Appends the record of this kind and body to `out`: the kind, the length word, the body and the checksum.
+/// `out` grows by its own allocator.
 ///
 /// # Errors
 /// `TooLong` exactly where the body has more than 65534 bytes, which is tested first;

@@ -1,4 +1,4 @@
-ghost use Rattle.std.specs.Prelude.{◌≡◌, ◌+◌, ℕ, List, drop, IfOk, IsOk};
+ghost use Rattle.std.specs.Prelude.{◌≡◌, ◌+◌, ◌≤◌, ℕ, List, length, drop, IfOk, IsOk};
 ghost use Rattle.std.specs.Result.{result_err};
 ghost use Rattle.omf_core.specs.Record.{SpellsRecord, fault_at, head_kind, head_body, record_size};
 
@@ -26,6 +26,7 @@ pub struct Record<'a> {
 pub fn next_record<'a>(bytes: &'a [u8], at: usize) -> Result<(Record<'a>, usize), RecordFault>
     ensures read { IfOk result (λ r. SpellsRecord bytes.now at r.1 r.0.kind r.0.body.now) }
     ensures head { IfOk result (λ r. let rest = drop at bytes.now in (r.0.kind ≡ head_kind rest) × (r.0.body.now ≡ head_body rest) × (r.1 ≡ at + record_size rest)) }
+    ensures longest { IfOk result (λ r. length r.0.body.now ≤ 65534) }
     ensures every_record { (kind : ℕ) (body : List ℕ) (after : ℕ) → SpellsRecord bytes.now at after kind body → IsOk result }
     ensures fault { result_err result ≡ fault_at (drop at bytes.now) at }
 {

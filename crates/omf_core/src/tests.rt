@@ -17,7 +17,10 @@ fn an_end_of_file_record(rt: HostRuntime) -> Result<(), Fail> {
     put_record(rt.alloc(), RecordKind::EndOfFile.byte(), &[], &mut out)?;
     assert_eq!(rt; out.as_slice(), [0x0E, 0x01, 0x00, 0xF1].as_slice());
     let (record, after) = next_record(out.as_slice(), 0)?;
-    assert_eq!(rt; RecordKind::of(record.kind), Some(RecordKind::EndOfFile));
+    assert_eq!(rt;
+        RecordKind::from_byte(record.kind),
+        Some(RecordKind::EndOfFile)
+    );
     assert_eq!(rt; record.body.len(), 0);
     assert_eq!(rt; after, 4);
     Ok(())
