@@ -3,3 +3,5 @@ pub mod DigitLemmas
 pub mod DisjointLemmas
 pub mod RegionsLemmas
 pub mod TextLemmas
+pub mod WriteLemmas
+pub mod ReadingLemmas

@@ -38,7 +38,7 @@ back_disjoint xs ys disjoint address =
     omega arith
 
 -- the ranges of two lists, put in other orders, hold each address as often
-held_moved : (code code' : List Range) (stack : Range) (data' data'' : List Range) → IsPermutation code code' → IsPermutation data' data'' → (address : ℕ) →
+pub held_moved : (code code' : List Range) (stack : Range) (data' data'' : List Range) → IsPermutation code code' → IsPermutation data' data'' → (address : ℕ) →
     held address (code' ++ stack ∷ data'') ≡ held address (code ++ stack ∷ data')
 held_moved code code' stack data' data'' code_moved data_moved address =
     let left : held address (code ++ stack ∷ data') ≡ held address code + held address (stack ∷ data') = held-append address code (stack ∷ data') in

@@ -8,7 +8,7 @@ use Rattle.place80.specs.declared.entry.Entry.TheVariants.{Code, Stack, Data}
 use Rattle.place80.specs.declared.fault.RegionsFault.{RegionsFault}
 use Rattle.place80.specs.declared.fault.RegionsFault.TheVariants.{BadLine, BadVersion, RegionsOverlap, NoStack, Memory}
 use Rattle.place80.specs.Digits.{word_digits}
-use Rattle.place80.specs.Lines.{parts}
+use Rattle.place80.specs.Lines.{parts, text_of}
 use Rattle.place80.specs.Range.{IsInMemory}
 use Rattle.place80.specs.Regions.{Areas, AreRegions, AreDisjoint}
 
@@ -121,3 +121,11 @@ Refuses text BadVersion = (others : List (List ℕ)) → ¬ (parts text ≡ head
 Refuses text RegionsOverlap = Overlaps text
 Refuses text NoStack = LacksStack text
 Refuses text Memory = Unit {0}
+
+-- the lines of regions in the order in which they are written: code by address, the stack, data by address
+abbrev pub entries_of : Areas → List Entry
+entries_of areas = map Code areas.code ++ Stack areas.stack ∷ map Data areas.data_ranges
+
+-- the text that is written for regions
+abbrev pub regions_text : Areas → List ℕ
+regions_text areas = text_of (heading ∷ map entry_text (entries_of areas))

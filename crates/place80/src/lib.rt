@@ -15,11 +15,13 @@ mod digits;
 mod entry;
 mod fault;
 mod image;
+pub mod laws;
 pub mod lines;
 mod ordered;
 mod range;
 mod read;
 mod regions;
+mod write;
 
 pub use chunk::Chunk;
 pub use fault::RegionsFault;
@@ -27,3 +29,4 @@ pub use image::Image;
 pub use range::Range;
 pub use read::read_regions;
 pub use regions::Regions;
+pub use write::write_regions;

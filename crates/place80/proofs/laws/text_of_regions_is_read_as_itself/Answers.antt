@@ -1,0 +1,12 @@
+use Rattle.place80.proofs.ReadingLemmas.{one_reading, not_refused}
+use Rattle.place80.proofs.WriteLemmas.{written_spells}
+use Rattle.place80.proofs.laws.text_of_regions_is_read_as_itself.Goals as goal
+
+pub returns-clause-written : goal.returns-clause-written
+returns-clause-written c = written_spells
+
+pub returns-clause-one_reading : goal.returns-clause-one_reading
+returns-clause-one_reading c = one_reading
+
+pub returns-clause-not_refused : goal.returns-clause-not_refused
+returns-clause-not_refused c = not_refused

@@ -1,0 +1,8 @@
+use Rattle.std.proofs.Common.{◌≡◌, ◌++◌, ◌∷◌, [], take}
+use Rattle.std.specs.List.{flat_map}
+use Rattle.place80.specs.RegionsText.{range_text}
+use Rattle.place80.proofs.write.put_lines.Given as goal
+
+abbrev pub invariant-loop-range : goal.invariant-loop-range
+invariant-loop-range l =
+    l.text.items ≡ l.initial.text.items ++ flat_map (λ range. (l.keyword ++ range_text range) ++ 10 ∷ []) (take l.range-index l.ranges)
