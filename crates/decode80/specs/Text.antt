@@ -195,20 +195,3 @@ joined (x ∷ xs) = codes " " ++ x ++ flat_map (λ y. codes "," ++ y) xs
 
 abbrev pub text : Instr → List ℕ
 text i = mnemonic i ++ joined (operand_texts i)
-
--- the instructions that have no operand, condition or rotation to tell apart: their text is one word
-abbrev pub HasOneText : Instr → Type 0
-HasOneText Ret = Unit {0}
-HasOneText Daa = Unit {0}
-HasOneText Cma = Unit {0}
-HasOneText Stc = Unit {0}
-HasOneText Cmc = Unit {0}
-HasOneText Xthl = Unit {0}
-HasOneText Pchl = Unit {0}
-HasOneText Xchg = Unit {0}
-HasOneText Sphl = Unit {0}
-HasOneText Ei = Unit {0}
-HasOneText Di = Unit {0}
-HasOneText Nop = Unit {0}
-HasOneText Hlt = Unit {0}
-HasOneText i = ⊥

@@ -1,7 +1,7 @@
 //! The mnemonics of instructions.
 
 ghost use Rattle.std.specs.Prelude.{◌≡◌, []};
-ghost use Rattle.decode80.specs.Text.{mnemonic, HasOneText};
+ghost use Rattle.decode80.specs.Text.{mnemonic, operand_texts};
 
 use crate::instr::Instr;
 use crate::operation::Operand;
@@ -25,7 +25,6 @@ pub(crate) fn mnemonic_of(instr: Instr) -> &'static [u8]
         Instr::JumpIf(condition, _) => condition.jump_text(),
         Instr::Call(_) => b"CALL",
         Instr::CallIf(condition, _) => condition.call_text(),
-        Instr::ReturnIf(condition) => condition.return_text(),
         Instr::Rst(_) => b"RST",
         Instr::Push(_) => b"PUSH",
         Instr::Pop(_) => b"POP",
@@ -35,20 +34,21 @@ pub(crate) fn mnemonic_of(instr: Instr) -> &'static [u8]
         Instr::Lhld(_) => b"LHLD",
         Instr::Sta(_) => b"STA",
         Instr::Lda(_) => b"LDA",
-        Instr::Rotate(rotation) => rotation.text(),
         Instr::In(_) => b"IN",
         Instr::Out(_) => b"OUT",
         alone => mnemonic_alone(alone),
     }
 }
 
-// The mnemonic of an instruction that has one text, and no operand.
+// The mnemonic of an instruction that has no operand.
 fn mnemonic_alone(instr: Instr) -> &'static [u8]
-    requires { HasOneText instr }
+    requires { operand_texts instr ≡ [] }
     ensures { result.now ≡ mnemonic instr }
 {
     match instr {
         Instr::Ret => b"RET",
+        Instr::ReturnIf(condition) => condition.return_text(),
+        Instr::Rotate(rotation) => rotation.text(),
         Instr::Daa => b"DAA",
         Instr::Cma => b"CMA",
         Instr::Stc => b"STC",
