@@ -24,7 +24,7 @@ pub enum Restart {
 }
 
 impl Restart {
-    ghost use Rattle.std.specs.Prelude.{◌≡◌, ◌<◌};
+    ghost use Rattle.std.specs.Prelude.{◌≡◌, ◌*◌, ◌<◌};
     ghost use Rattle.decode80.specs.Restart.{restart_number};
 
     /// The n of RST n: the field that names the restart in an opcode.
@@ -42,5 +42,12 @@ impl Restart {
             Restart::Vector6 => 6,
             Restart::Vector7 => 7,
         }
+    }
+
+    /// The address that RST n calls, 8 times n.
+    pub fn address(self) -> u16
+        ensures { result ≡ 8 * restart_number self }
+    {
+        8 * u16::from(self.code())
     }
 }
