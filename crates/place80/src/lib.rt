@@ -30,3 +30,6 @@ pub use range::Range;
 pub use read::read_regions;
 pub use regions::Regions;
 pub use write::write_regions;
+
+#[cfg(test)]
+mod tests;
