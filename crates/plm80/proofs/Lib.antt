@@ -1,0 +1,4 @@
+mod StreamLemmas
+mod InputsLemmas
+mod BundleLemmas
+mod ImageLemmas

@@ -1,0 +1,7 @@
+pub mod Failures
+pub mod WholeText
+pub mod HexText
+pub mod InputsText
+pub mod BundleText
+pub mod ImageText
+pub mod TranscriptText
