@@ -36,6 +36,7 @@ abbrev pub head_body : List ℕ → List ℕ
 head_body rest = slice_range rest 3 (record_size rest - 1)
 
 -- the bytes end before the record does: there are fewer than 3, or fewer than its length word asks for
+-- (a byte of the length word that isn't there counts as 0)
 abbrev pub is_truncated : List ℕ → Bool
 is_truncated rest = nat_lt (length rest) (record_size rest)
 

@@ -1,5 +1,5 @@
-//! What holds of all spellings, whatever calls are made. Each law is what a function ensures that does nothing,
-//! so that a layer above has it by a call.
+//! What holds of all spellings, whatever calls are made. Each law is ensured by a function that does nothing:
+//! a layer above that calls it has the law in its proof.
 
 ghost use Rattle.omf_core.specs.Laws.{OneRecordAtEachPlace, NoSpellingBeginsAnother, NoFaultExactlyAtRecords, RecordsStay, FaultsStay, WrittenIsSpelled, SpelledIsWritten, OneListBeginsTheOther, OneListAtEachStretch, ListsJoin, ListGrows, ListsStay, WrittenListIsSpelled, OneNameAtEachPlace, NamesExactlyWhereHeld, WrittenNameIsSpelled};
 

@@ -1,9 +1,11 @@
 //! Records and names of Intel's 8080 object files (OMF-80): the lowest layer of the object-file side.
 //!
-//! - [`next_record`] reads the record that begins at a place, [`put_record`] appends one, [`sum_of`] is the sum that both use;
+//! - [`next_record`] reads the record that begins at a place, [`put_record`] appends one, and [`sum_of`] is the sum
+//!   that both use;
 //! - [`RecordKind`] names the kinds of the standard;
 //! - [`split_name`] reads a name out of a record's body, and a [`Name`] is a name that is kept;
-//! - [`RecordFault`], [`PutFault`] and [`NameFault`] are the refusals, each with its `code`.
+//! - [`RecordFault`], [`PutFault`] and [`NameFault`] are the refusals, each with its `code`;
+//! - [`laws`] says what holds of all spellings, as that none begins another.
 
 #![tactic(auto)]
 

@@ -24,10 +24,19 @@ pub struct Record<'a> {
 ///
 /// It takes no memory: the body borrows from `bytes`.
 pub fn next_record<'a>(bytes: &'a [u8], at: usize) -> Result<(Record<'a>, usize), RecordFault>
+    // What is read is what the bytes from `at` on spell, and nothing that they spell is refused.
     ensures read { IfOk result (λ r. SpellsRecord bytes.now at r.1 r.0.kind r.0.body.now) }
-    ensures head { IfOk result (λ r. let rest = drop at bytes.now in (r.0.kind ≡ head_kind rest) × (r.0.body.now ≡ head_body rest) × (r.1 ≡ at + record_size rest)) }
+    ensures every_record { (kind : ℕ) (body : List ℕ) (after : ℕ)
+        → SpellsRecord bytes.now at after kind body
+        → IsOk result }
+
+    // The same, computed from the bytes that stand from `at` on.
+    ensures kind { IfOk result (λ r. r.0.kind ≡ head_kind (drop at bytes.now)) }
+    ensures body { IfOk result (λ r. r.0.body.now ≡ head_body (drop at bytes.now)) }
+    ensures after { IfOk result (λ r. r.1 ≡ at + record_size (drop at bytes.now)) }
     ensures longest { IfOk result (λ r. length r.0.body.now ≤ 65534) }
-    ensures every_record { (kind : ℕ) (body : List ℕ) (after : ℕ) → SpellsRecord bytes.now at after kind body → IsOk result }
+
+    // Each refusal has its cause.
     ensures fault { result_err result ≡ fault_at (drop at bytes.now) at }
 {
     let Some(rest) = bytes.get(at..) else {

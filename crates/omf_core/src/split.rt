@@ -9,10 +9,15 @@ use crate::name::is_name;
 ///
 /// It takes no memory: the name borrows from `body`.
 pub fn split_name(body: &[u8], at: usize) -> Option<(&[u8], usize)>
+    // What is split off is what the bytes from `at` on spell, and no name that they spell is refused.
     ensures split { IfSome result (λ r. SpellsName body.now at r.1 r.0.now) }
-    ensures counted { IfSome result (λ r. r.0.now ≡ counted_bytes (drop at body.now)) }
-    ensures every_name { (name : List ℕ) (after : ℕ) → SpellsName body.now at after name → IsSome result }
+    ensures every_name { (name : List ℕ) (after : ℕ)
+        → SpellsName body.now at after name
+        → IsSome result }
+
+    // The same, computed from the bytes that stand from `at` on.
     ensures exactly { IsSome result ↔ IsTrue (holds_name (drop at body.now)) }
+    ensures counted { IfSome result (λ r. r.0.now ≡ counted_bytes (drop at body.now)) }
 {
     let length = *body.get(at)? as usize;
     let after = at + 1 + length;
