@@ -5,3 +5,4 @@ pub mod RegionsLemmas
 pub mod TextLemmas
 pub mod WriteLemmas
 pub mod ReadingLemmas
+pub mod FaultLemmas

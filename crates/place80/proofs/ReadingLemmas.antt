@@ -43,7 +43,7 @@ range_is_same r s first many =
     ap (λ f. make f r.length) first ∙ ap (λ l. make s.first l) many
 
 -- entries in memory with the same text are one
-entry_same : (e f : Entry) → IsInMemory (range_of e) → IsInMemory (range_of f) → entry_text e ≡ entry_text f → e ≡ f
+pub entry_same : (e f : Entry) → IsInMemory (range_of e) → IsInMemory (range_of f) → entry_text e ≡ entry_text f → e ≡ f
 entry_same (Code r) (Code s) r_in s_in same = let both = range_same r s r_in s_in (cc) in ap Code (range_is_same r s both.0 both.1)
 entry_same (Stack r) (Stack s) r_in s_in same = let both = range_same r s r_in s_in (cc) in ap Stack (range_is_same r s both.0 both.1)
 entry_same (Data r) (Data s) r_in s_in same = let both = range_same r s r_in s_in (cc) in ap Data (range_is_same r s both.0 both.1)
@@ -61,7 +61,7 @@ entry_text_some (Stack r) empty = cc
 entry_text_some (Data r) empty = cc
 
 -- the same first part before the same others
-tail_same : (xs ys : List (List ℕ)) → heading ∷ xs ≡ heading ∷ ys → xs ≡ ys
+pub tail_same : (xs ys : List (List ℕ)) → heading ∷ xs ≡ heading ∷ ys → xs ≡ ys
 tail_same xs ys same = ap (λ ls. drop 1 ls) same
 
 -- only no entries leave the one empty part
@@ -85,7 +85,7 @@ starts (e ∷ es) (f ∷ fs) others es_in fs_in same =
     record { rest = later.rest; joined = ap (λ x. x ∷ es) here ∙ ap (λ xs. f ∷ xs) later.joined; left = later.left }
 
 -- a text has one list of entries
-same_entries : (text : List ℕ) (es fs : List Entry) → GoodText text es → GoodText text fs → es ≡ fs
+pub same_entries : (text : List ℕ) (es fs : List Entry) → GoodText text es → GoodText text fs → es ≡ fs
 same_entries text es fs es_good fs_good =
     let start : IsStart es fs ([] ∷ []) = starts es fs ([] ∷ []) es_good.in_memory fs_good.in_memory (tail_same _ _ (sym es_good.lines ∙ fs_good.lines)) in
     start.joined ∙ ap (λ rest. fs ++ rest) (none_left start.rest start.left) ∙ append-nil fs
@@ -181,7 +181,7 @@ All-back : {X : Type 0} (P : X → Type 0) (xs ys : List X) → All P (xs ++ ys)
 All-back P [] ys all = all
 All-back P (x ∷ xs) ys all = All-back P xs ys (All-tail P x (xs ++ ys) all)
 
-no_bad_line : (text : List ℕ) (es : List Entry) (number : ℕ) → GoodText text es → IsFirstBadLine text number → ⊥
+pub no_bad_line : (text : List ℕ) (es : List Entry) (number : ℕ) → GoodText text es → IsFirstBadLine text number → ⊥
 no_bad_line text es number good (in_heading counted alone) = not_nil es (tail_same _ _ (sym good.lines ∙ alone))
 no_bad_line text es number good (after fs line others start bad counted) =
     let begun : IsStart es fs (line ∷ others) = starts es fs (line ∷ others) good.in_memory start.in_memory (tail_same _ _ (sym good.lines ∙ start.lines)) in

@@ -25,7 +25,7 @@ impl Chunk {
     ghost use Rattle.place80.specs.Image.{covers, byte_of};
 
     /// The chunk's byte at the address, `None` where the chunk does not cover it.
-    pub fn byte(&self, address: u16) -> Option<u8>
+    pub(crate) fn byte(&self, address: u16) -> Option<u8>
         ensures value { IfSome result (λ byte. byte ≡ byte_of self.now address) }
         ensures covered { is_some result ≡ covers self.now address }
     {

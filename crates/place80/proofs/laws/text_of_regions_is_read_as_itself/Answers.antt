@@ -1,3 +1,4 @@
+use Rattle.place80.proofs.FaultLemmas.{one_fault}
 use Rattle.place80.proofs.ReadingLemmas.{one_reading, not_refused}
 use Rattle.place80.proofs.WriteLemmas.{written_spells}
 use Rattle.place80.proofs.laws.text_of_regions_is_read_as_itself.Goals as goal
@@ -10,3 +11,6 @@ returns-clause-one_reading c = one_reading
 
 pub returns-clause-not_refused : goal.returns-clause-not_refused
 returns-clause-not_refused c = not_refused
+
+pub returns-clause-one_fault : goal.returns-clause-one_fault
+returns-clause-one_fault c = one_fault
