@@ -12,7 +12,7 @@ use crate::table::ROWS;
 /// The instruction that the bytes begin with, and its length, 1 to 3.
 ///
 /// `None` exactly where the first byte is one of the twelve unused ones, 08 10 18 20 28 30 38 CB D9 DD ED FD: these begin no
-/// instruction (Intel 8080 Assembly Language Programming Manual). Bytes past the length are not looked at.
+/// instruction (Intel 8080 Assembly Language Programming Manual). The bytes past the length have no part in the answer.
 #[inline]
 pub fn decode(bytes: [u8; 3]) -> Option<(Instr, usize)>
     // The answer as a value that computes.
