@@ -1,3 +1,4 @@
+pub mod Completed
 pub mod NameText
 pub mod Spelled
 pub mod SpelledNames

@@ -1,6 +1,6 @@
 -- What holds of all spellings.
 use Rattle.std.specs.Prelude.{◌≡◌, ℕ, ◌+◌, ◌↔◌, ◌⊎◌, List, [], ◌∷◌, ◌++◌, length, drop, All, Some, None, IsTrue, slice_range, ◌<◌}
-use Rattle.omf_core.specs.declared.fault.RecordFault.TheVariants.{BadSum, ZeroLength}
+use Rattle.omf_core.specs.declared.fault.RecordFault.TheVariants.{Truncated, BadSum, ZeroLength}
 use Rattle.omf_core.specs.Name.{SpellsName, is_name, holds_name, name_spelling}
 use Rattle.omf_core.specs.Records.{RecordValue, SpellsRecords, spellings}
 use Rattle.omf_core.specs.Record.{SpellsRecord, fault_at, spelling}
@@ -41,6 +41,14 @@ FaultsStay =
     (rest more : List ℕ) (at : ℕ)
     → (fault_at rest at ≡ Some (BadSum at) → fault_at (rest ++ more) at ≡ Some (BadSum at))
     × (fault_at rest at ≡ Some (ZeroLength at) → fault_at (rest ++ more) at ≡ Some (ZeroLength at))
+
+-- A record that is cut off can be completed: some bytes that follow make it whole.
+abbrev pub TruncatedCanBeCompleted : Type 0
+TruncatedCanBeCompleted =
+    (rest : List ℕ) (at : ℕ)
+    → All (λ byte. byte < 256) rest
+    → fault_at rest at ≡ Some (Truncated at)
+    → (more : List ℕ) × All (λ byte. byte < 256) more × (fault_at (rest ++ more) at ≡ None)
 
 -- What is written for a record spells it, wherever it stands.
 abbrev pub WrittenIsSpelled : Type 0

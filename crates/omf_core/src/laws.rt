@@ -1,7 +1,7 @@
 //! What holds of all spellings, whatever calls are made. Each law is ensured by a function that does nothing:
 //! a layer above that calls it has the law in its proof.
 
-ghost use Rattle.omf_core.specs.Laws.{OneRecordAtEachPlace, NoSpellingBeginsAnother, NoFaultExactlyAtRecords, RecordsStay, FaultsStay, WrittenIsSpelled, SpelledIsWritten, OneListBeginsTheOther, OneListAtEachStretch, ListsJoin, ListGrows, ListsStay, WrittenListIsSpelled, OneNameAtEachPlace, NamesExactlyWhereHeld, WrittenNameIsSpelled};
+ghost use Rattle.omf_core.specs.Laws.{OneRecordAtEachPlace, NoSpellingBeginsAnother, NoFaultExactlyAtRecords, RecordsStay, FaultsStay, TruncatedCanBeCompleted, WrittenIsSpelled, SpelledIsWritten, OneListBeginsTheOther, OneListAtEachStretch, ListsJoin, ListGrows, ListsStay, WrittenListIsSpelled, OneNameAtEachPlace, NamesExactlyWhereHeld, WrittenNameIsSpelled};
 
 /// At a place no two records are spelled.
 #[tactic(auto, using(crate::proofs::Spelled::one_record))]
@@ -31,6 +31,12 @@ pub fn records_stay()
 #[tactic(auto, using(crate::proofs::Spelled::faults_stay))]
 pub fn faults_stay()
     ensures { FaultsStay }
+{}
+
+/// `Truncated` isn't told whatever bytes follow: some bytes complete the record.
+#[tactic(auto, using(crate::proofs::Completed::truncated_can_be_completed))]
+pub fn truncated_can_be_completed()
+    ensures { TruncatedCanBeCompleted }
 {}
 
 /// What is written for a record spells it, wherever it stands.
