@@ -11,8 +11,9 @@ use crate::table::ROWS;
 
 /// The instruction that the bytes begin with, and its length, 1 to 3.
 ///
-/// `None` exactly where the first byte is one of the twelve unused ones, 08 10 18 20 28 30 38 CB D9 DD ED FD: these begin no
-/// instruction (Intel 8080 Assembly Language Programming Manual). The bytes past the length have no part in the answer.
+/// `None` exactly where the first byte is one of the twelve unused ones, 0x08 0x10 0x18 0x20 0x28 0x30 0x38 0xCB 0xD9 0xDD
+/// 0xED 0xFD: these begin no instruction (Intel 8080 Assembly Language Programming Manual). The bytes past the length have
+/// no part in the answer.
 #[inline]
 pub fn decode(bytes: [u8; 3]) -> Option<(Instr, usize)>
     // The answer as a value that computes.
@@ -29,7 +30,8 @@ pub fn decode(bytes: [u8; 3]) -> Option<(Instr, usize)>
 
 /// The length, 1 to 3, of every instruction with this first byte.
 ///
-/// `None` exactly where it is one of the twelve unused bytes, 08 10 18 20 28 30 38 CB D9 DD ED FD.
+/// `None` exactly where it is one of the twelve unused bytes, 0x08 0x10 0x18 0x20 0x28 0x30 0x38 0xCB 0xD9 0xDD 0xED 0xFD
+/// (Intel 8080 Assembly Language Programming Manual).
 #[inline]
 pub fn length_of(first: u8) -> Option<usize>
     // The answer as a value that computes.

@@ -12,7 +12,7 @@ use crate::rotation::Rotation;
 
 /// The instruction with each first byte, a byte or a word in it being 0; none for the twelve unused bytes.
 pub(crate) static ROWS: [Option<Instr>; 256] = [
-    // 00 to 0F
+    // 0x00 to 0x0F
     Some(Nop),
     Some(Lxi(Pair::Bc, 0)),
     Some(Stax(IndexPair::Bc)),
@@ -21,7 +21,7 @@ pub(crate) static ROWS: [Option<Instr>; 256] = [
     Some(Dcr(B)),
     Some(Mvi(B, 0)),
     Some(Rotate(Rotation::Left)),
-    None, // 08
+    None, // 0x08
     Some(Dad(Pair::Bc)),
     Some(Ldax(IndexPair::Bc)),
     Some(Dcx(Pair::Bc)),
@@ -29,8 +29,8 @@ pub(crate) static ROWS: [Option<Instr>; 256] = [
     Some(Dcr(C)),
     Some(Mvi(C, 0)),
     Some(Rotate(Rotation::Right)),
-    // 10 to 1F
-    None, // 10
+    // 0x10 to 0x1F
+    None, // 0x10
     Some(Lxi(Pair::De, 0)),
     Some(Stax(IndexPair::De)),
     Some(Inx(Pair::De)),
@@ -38,7 +38,7 @@ pub(crate) static ROWS: [Option<Instr>; 256] = [
     Some(Dcr(D)),
     Some(Mvi(D, 0)),
     Some(Rotate(Rotation::LeftThroughCarry)),
-    None, // 18
+    None, // 0x18
     Some(Dad(Pair::De)),
     Some(Ldax(IndexPair::De)),
     Some(Dcx(Pair::De)),
@@ -46,8 +46,8 @@ pub(crate) static ROWS: [Option<Instr>; 256] = [
     Some(Dcr(E)),
     Some(Mvi(E, 0)),
     Some(Rotate(Rotation::RightThroughCarry)),
-    // 20 to 2F
-    None, // 20
+    // 0x20 to 0x2F
+    None, // 0x20
     Some(Lxi(Pair::Hl, 0)),
     Some(Shld(0)),
     Some(Inx(Pair::Hl)),
@@ -55,7 +55,7 @@ pub(crate) static ROWS: [Option<Instr>; 256] = [
     Some(Dcr(H)),
     Some(Mvi(H, 0)),
     Some(Daa),
-    None, // 28
+    None, // 0x28
     Some(Dad(Pair::Hl)),
     Some(Lhld(0)),
     Some(Dcx(Pair::Hl)),
@@ -63,8 +63,8 @@ pub(crate) static ROWS: [Option<Instr>; 256] = [
     Some(Dcr(L)),
     Some(Mvi(L, 0)),
     Some(Cma),
-    // 30 to 3F
-    None, // 30
+    // 0x30 to 0x3F
+    None, // 0x30
     Some(Lxi(Pair::Sp, 0)),
     Some(Sta(0)),
     Some(Inx(Pair::Sp)),
@@ -72,7 +72,7 @@ pub(crate) static ROWS: [Option<Instr>; 256] = [
     Some(DcrMemory),
     Some(MviMemory(0)),
     Some(Stc),
-    None, // 38
+    None, // 0x38
     Some(Dad(Pair::Sp)),
     Some(Lda(0)),
     Some(Dcx(Pair::Sp)),
@@ -80,7 +80,7 @@ pub(crate) static ROWS: [Option<Instr>; 256] = [
     Some(Dcr(A)),
     Some(Mvi(A, 0)),
     Some(Cmc),
-    // 40 to 4F
+    // 0x40 to 0x4F
     Some(Mov(B, B)),
     Some(Mov(B, C)),
     Some(Mov(B, D)),
@@ -97,7 +97,7 @@ pub(crate) static ROWS: [Option<Instr>; 256] = [
     Some(Mov(C, L)),
     Some(Load(C)),
     Some(Mov(C, A)),
-    // 50 to 5F
+    // 0x50 to 0x5F
     Some(Mov(D, B)),
     Some(Mov(D, C)),
     Some(Mov(D, D)),
@@ -114,7 +114,7 @@ pub(crate) static ROWS: [Option<Instr>; 256] = [
     Some(Mov(E, L)),
     Some(Load(E)),
     Some(Mov(E, A)),
-    // 60 to 6F
+    // 0x60 to 0x6F
     Some(Mov(H, B)),
     Some(Mov(H, C)),
     Some(Mov(H, D)),
@@ -131,7 +131,7 @@ pub(crate) static ROWS: [Option<Instr>; 256] = [
     Some(Mov(L, L)),
     Some(Load(L)),
     Some(Mov(L, A)),
-    // 70 to 7F
+    // 0x70 to 0x7F
     Some(Store(B)),
     Some(Store(C)),
     Some(Store(D)),
@@ -148,7 +148,7 @@ pub(crate) static ROWS: [Option<Instr>; 256] = [
     Some(Mov(A, L)),
     Some(Load(A)),
     Some(Mov(A, A)),
-    // 80 to 8F
+    // 0x80 to 0x8F
     Some(Operate(Add, Operand::Register(B))),
     Some(Operate(Add, Operand::Register(C))),
     Some(Operate(Add, Operand::Register(D))),
@@ -165,7 +165,7 @@ pub(crate) static ROWS: [Option<Instr>; 256] = [
     Some(Operate(AddCarry, Operand::Register(L))),
     Some(Operate(AddCarry, Operand::Memory)),
     Some(Operate(AddCarry, Operand::Register(A))),
-    // 90 to 9F
+    // 0x90 to 0x9F
     Some(Operate(Subtract, Operand::Register(B))),
     Some(Operate(Subtract, Operand::Register(C))),
     Some(Operate(Subtract, Operand::Register(D))),
@@ -182,7 +182,7 @@ pub(crate) static ROWS: [Option<Instr>; 256] = [
     Some(Operate(SubtractBorrow, Operand::Register(L))),
     Some(Operate(SubtractBorrow, Operand::Memory)),
     Some(Operate(SubtractBorrow, Operand::Register(A))),
-    // A0 to AF
+    // 0xA0 to 0xAF
     Some(Operate(And, Operand::Register(B))),
     Some(Operate(And, Operand::Register(C))),
     Some(Operate(And, Operand::Register(D))),
@@ -199,7 +199,7 @@ pub(crate) static ROWS: [Option<Instr>; 256] = [
     Some(Operate(ExclusiveOr, Operand::Register(L))),
     Some(Operate(ExclusiveOr, Operand::Memory)),
     Some(Operate(ExclusiveOr, Operand::Register(A))),
-    // B0 to BF
+    // 0xB0 to 0xBF
     Some(Operate(Or, Operand::Register(B))),
     Some(Operate(Or, Operand::Register(C))),
     Some(Operate(Or, Operand::Register(D))),
@@ -216,7 +216,7 @@ pub(crate) static ROWS: [Option<Instr>; 256] = [
     Some(Operate(Compare, Operand::Register(L))),
     Some(Operate(Compare, Operand::Memory)),
     Some(Operate(Compare, Operand::Register(A))),
-    // C0 to CF
+    // 0xC0 to 0xCF
     Some(ReturnIf(Condition::NonZero)),
     Some(Pop(StackPair::Bc)),
     Some(JumpIf(Condition::NonZero, 0)),
@@ -228,12 +228,12 @@ pub(crate) static ROWS: [Option<Instr>; 256] = [
     Some(ReturnIf(Condition::Zero)),
     Some(Ret),
     Some(JumpIf(Condition::Zero, 0)),
-    None, // CB
+    None, // 0xCB
     Some(CallIf(Condition::Zero, 0)),
     Some(Call(0)),
     Some(Operate(AddCarry, Operand::Immediate(0))),
     Some(Rst(Restart::Vector1)),
-    // D0 to DF
+    // 0xD0 to 0xDF
     Some(ReturnIf(Condition::NoCarry)),
     Some(Pop(StackPair::De)),
     Some(JumpIf(Condition::NoCarry, 0)),
@@ -243,14 +243,14 @@ pub(crate) static ROWS: [Option<Instr>; 256] = [
     Some(Operate(Subtract, Operand::Immediate(0))),
     Some(Rst(Restart::Vector2)),
     Some(ReturnIf(Condition::Carry)),
-    None, // D9
+    None, // 0xD9
     Some(JumpIf(Condition::Carry, 0)),
     Some(In(0)),
     Some(CallIf(Condition::Carry, 0)),
-    None, // DD
+    None, // 0xDD
     Some(Operate(SubtractBorrow, Operand::Immediate(0))),
     Some(Rst(Restart::Vector3)),
-    // E0 to EF
+    // 0xE0 to 0xEF
     Some(ReturnIf(Condition::ParityOdd)),
     Some(Pop(StackPair::Hl)),
     Some(JumpIf(Condition::ParityOdd, 0)),
@@ -264,10 +264,10 @@ pub(crate) static ROWS: [Option<Instr>; 256] = [
     Some(JumpIf(Condition::ParityEven, 0)),
     Some(Xchg),
     Some(CallIf(Condition::ParityEven, 0)),
-    None, // ED
+    None, // 0xED
     Some(Operate(ExclusiveOr, Operand::Immediate(0))),
     Some(Rst(Restart::Vector5)),
-    // F0 to FF
+    // 0xF0 to 0xFF
     Some(ReturnIf(Condition::Plus)),
     Some(Pop(StackPair::Psw)),
     Some(JumpIf(Condition::Plus, 0)),
@@ -281,7 +281,7 @@ pub(crate) static ROWS: [Option<Instr>; 256] = [
     Some(JumpIf(Condition::Minus, 0)),
     Some(Ei),
     Some(CallIf(Condition::Minus, 0)),
-    None, // FD
+    None, // 0xFD
     Some(Operate(Compare, Operand::Immediate(0))),
     Some(Rst(Restart::Vector7)),
 ];
