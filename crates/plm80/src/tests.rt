@@ -143,7 +143,7 @@ fn the_first_bad_line_of_inputs_is_told(rt: HostRuntime) {
     assert_eq!(rt; InputsFault::Memory.code(), 2);
 }
 
-// The image of `DB 02 D3 01 76` at 3000, in digits.
+// An image at 3000, in digits: a byte is taken from port 02 and given to port 01, and then the program halts.
 const IMAGE: &[u8] = b"02050001410000B7060900000030DB02D301769A04050001000030C60E0100F1";
 
 #[test]
