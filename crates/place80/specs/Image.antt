@@ -9,12 +9,14 @@ pub record PlacedBytes : Type 0 where
   pub address : ℕ
   pub bytes : List ℕ
 
--- the rule of a chunk: no more bytes than one content record carries, and none past the end of memory
+-- the rule of a chunk: no more bytes than one content record carries (65534 bytes of body, of which
+-- three are the segment and the offset), and none past the end of memory
 pub record IsChunk (chunk : PlacedBytes) : Type 0 where
   pub in_record : length chunk.bytes ≤ 65531
   pub in_memory : chunk.address + length chunk.bytes ≤ 65536
 
--- a located program: its chunks in the order of their records, its regions, and the address where it starts
+-- a located program: its chunks in the order of their records, its regions, and the address
+-- where it starts
 pub record Located : Type 0 where
   pub chunks : List PlacedBytes
   pub regions : Areas

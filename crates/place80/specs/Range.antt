@@ -11,7 +11,8 @@ in_range range address = nat_le range.first address && nat_lt address (range.fir
 abbrev pub in_ranges : List Range → ℕ → Bool
 in_ranges ranges address = list_any (λ range. in_range range address) ranges
 
--- a range that lies in memory: its first address and its length are words, and it ends at or below 65536
+-- a range that lies in memory: its first address and its length are words, and it ends at or
+-- below 65536
 pub record IsInMemory (range : Range) : Type 0 where
   pub first : range.first < 65536
   pub length : range.length < 65536

@@ -93,7 +93,8 @@ IsBadLine entries line [] = ¬ (line ≡ [])
 IsBadLine entries line (other ∷ others) =
     (entry : Entry) → IsInMemory (range_of entry) → line ≡ entry_text entry → 1 < length (stack_ranges (entries ++ entry ∷ []))
 
--- the first bad line, counted from 1: the text ends within its first line, or a bad line follows good ones
+-- the first bad line, counted from 1: the text ends within its first line, or a bad line follows
+-- good ones
 pub data IsFirstBadLine (text : List ℕ) (number : ℕ) : Type 0 where
   in_heading : number ≡ 1 → parts text ≡ heading ∷ [] → IsFirstBadLine text number
   after : (entries : List Entry) (line : List ℕ) (others : List (List ℕ)) →
@@ -122,7 +123,8 @@ Refuses text RegionsOverlap = Overlaps text
 Refuses text NoStack = LacksStack text
 Refuses text Memory = Unit {0}
 
--- the lines of regions in the order in which they are written: code by address, the stack, data by address
+-- the lines of regions in the order in which they are written: code by address, the stack, data
+-- by address
 abbrev pub entries_of : Areas → List Entry
 entries_of areas = map Code areas.code ++ Stack areas.stack ∷ map Data areas.data_ranges
 

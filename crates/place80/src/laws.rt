@@ -10,7 +10,10 @@ ghost use Rattle.place80.specs.declared.fault.RegionsFault.{RegionsFault};
 /// them. So what is written is read as itself.
 pub fn text_of_regions_is_read_as_itself()
     ensures written { (areas : Areas) → AreRegions areas → Spells (regions_text areas) areas }
-    ensures one_reading { (text : List ℕ) (areas others : Areas) → Spells text areas → Spells text others → areas ≡ others }
-    ensures not_refused { (text : List ℕ) (areas : Areas) (fault : RegionsFault) → Spells text areas → Refuses text fault → fault ≡ RegionsFault.Memory }
-    ensures one_fault { (text : List ℕ) (fault other : RegionsFault) → Refuses text fault → Refuses text other → fault ≢ RegionsFault.Memory → other ≢ RegionsFault.Memory → fault ≡ other }
+    ensures one_reading { (text : List ℕ) (areas others : Areas) →
+        Spells text areas → Spells text others → areas ≡ others }
+    ensures not_refused { (text : List ℕ) (areas : Areas) (fault : RegionsFault) →
+        Spells text areas → Refuses text fault → fault ≡ RegionsFault.Memory }
+    ensures one_fault { (text : List ℕ) (fault other : RegionsFault) → Refuses text fault → Refuses text other →
+        fault ≢ RegionsFault.Memory → other ≢ RegionsFault.Memory → fault ≡ other }
 {}

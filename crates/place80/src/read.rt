@@ -1,8 +1,7 @@
 //! The reader of regions texts.
 
-ghost use Rattle.std.specs.Prelude.{◌≡◌, ◌+◌, ◌<◌, ◌≤◌, [], ◌∷◌, All, IsTrue, IsNone, IfOk, IfErr, IfSome, IfNone, slice_get};
+ghost use Rattle.std.specs.Prelude.{◌≡◌, IsTrue, IsNone, IfOk, IfErr, IfSome, IfNone, slice_get};
 ghost use Rattle.place80.specs.Range.{IsInMemory};
-ghost use Rattle.place80.specs.Regions.{Areas};
 ghost use Rattle.place80.specs.RegionsText.{code_ranges, data_ranges, stack_range, stack_ranges, range_of, entry_text, GoodText, IsNoEntry, Spells, Refuses};
 
 use crate::entry::{Entry, read_entry};

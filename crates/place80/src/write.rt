@@ -32,7 +32,8 @@ fn spelled(alloc: Global, regions: &Regions) -> Result<Vec<u8>, AllocError>
 
 /// Appends a line for each range.
 fn put_lines(text: &mut Vec<u8>, keyword: &[u8], ranges: &[Range]) -> Result<(), AllocError>
-    ensures { OnOk result (text.new.items ≡ text.old.items ++ flat_map (λ range. (keyword.now ++ range_text range) ++ 10 ∷ []) ranges.now) }
+    ensures { OnOk result (text.new.items ≡ text.old.items
+        ++ flat_map (λ range. (keyword.now ++ range_text range) ++ 10 ∷ []) ranges.now) }
 {
     for range in ranges {
         put_line(text, keyword, *range)?;
@@ -42,7 +43,8 @@ fn put_lines(text: &mut Vec<u8>, keyword: &[u8], ranges: &[Range]) -> Result<(),
 
 /// Appends the keyword, the range's first address and its length, and a line feed.
 fn put_line(text: &mut Vec<u8>, keyword: &[u8], range: Range) -> Result<(), AllocError>
-    ensures { OnOk result (text.new.items ≡ text.old.items ++ ((keyword.now ++ range_text range) ++ 10 ∷ [])) }
+    ensures { OnOk result (text.new.items ≡ text.old.items
+        ++ ((keyword.now ++ range_text range) ++ 10 ∷ [])) }
 {
     text.extend_from_slice(keyword)?;
     text.extend_from_slice(&digits_of(range.first))?;
