@@ -1,8 +1,11 @@
-pub mod Queues
-pub mod Placing
 pub mod ArithmeticLemmas
+pub mod ByteLemmas
+pub mod DecimalLemmas
 pub mod FlagsLemmas
-pub mod Tables
-pub mod Spans
+pub mod Placing
 pub mod PortsLemmas
+pub mod Queues
+pub mod RotationLemmas
 pub mod Running
+pub mod Spans
+pub mod Tables

@@ -1,4 +1,5 @@
-//! The arithmetic of the 8080: what each arithmetic, logical and rotating instruction answers.
+//! The arithmetic of the 8080: what each arithmetic, logical and rotating instruction answers, as in the Intel 8080
+//! Microcomputer Systems User's Manual, chapter 4. No call takes memory or fails.
 
 ghost use Rattle.std.specs.Prelude.{◌≡◌};
 ghost use Rattle.machine80.specs.Flags.{bit_of};
@@ -35,9 +36,12 @@ impl Answer {
     }
 }
 
-/// The operation on the accumulator `a` and the byte `value`. A comparison gives `a` back.
+/// ADD, ADC, SUB, SBB, ANA, XRA, ORA and CMP, and the same with an immediate byte: the operation on the accumulator `a`
+/// and the byte `value`. A comparison gives `a` back.
 ///
-/// Of `flags` only CY is read, by ADC and SBB; all five flags of the answer are new.
+/// Of `flags` only CY is read, by ADC and SBB; all five flags of the answer are new. CY after a subtraction is the
+/// borrow; AC is the carry out of bit 3 of the addition of the complement, so it is set where the low nibble does not
+/// borrow. After ANA, AC is bit 3 of the two operands joined by or.
 #[inline]
 #[tactic(auto, unfolding(crate::specs::Arithmetic::operation_answer, crate::specs::Flags::bit_of, crate::specs::Flags::has_bit))]
 pub fn operate(operation: Operation, a: u8, value: u8, flags: Flags) -> Answer
@@ -105,6 +109,9 @@ pub fn decrement(value: u8, flags: Flags) -> Answer
 }
 
 /// DAA: the accumulator `a` after an addition of packed decimal bytes, made packed decimal again.
+///
+/// AC and CY of `flags` are read. CY is set where there is a third digit, and stays where it was set; AC is the carry
+/// out of bit 3 of the correction.
 #[inline]
 #[tactic(auto, unfolding(crate::specs::Arithmetic::decimal_answer))]
 pub fn decimal_adjust(a: u8, flags: Flags) -> Answer

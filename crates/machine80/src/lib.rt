@@ -12,6 +12,7 @@ mod flags;
 mod flat_bus;
 mod guard;
 mod inputs;
+pub mod laws;
 mod list_ports;
 mod ports;
 mod registers;
