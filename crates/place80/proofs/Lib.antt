@@ -6,3 +6,4 @@ pub mod TextLemmas
 pub mod WriteLemmas
 pub mod ReadingLemmas
 pub mod FaultLemmas
+pub mod ApartLemmas

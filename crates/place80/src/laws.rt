@@ -1,7 +1,8 @@
-//! The laws of the text of regions, over the definitions alone.
+//! The laws of regions and of their text, over the definitions alone.
 
-ghost use Rattle.std.specs.Prelude.{◌≡◌, ◌≢◌, ℕ, List};
-ghost use Rattle.place80.specs.Regions.{Areas, AreRegions};
+ghost use Rattle.std.specs.Prelude.{◌≡◌, ◌≢◌, ℕ, List, true, false};
+ghost use Rattle.place80.specs.Range.{in_range};
+ghost use Rattle.place80.specs.Regions.{Areas, AreRegions, in_code, in_data};
 ghost use Rattle.place80.specs.RegionsText.{regions_text, Spells, Refuses};
 ghost use Rattle.place80.specs.declared.fault.RegionsFault.{RegionsFault};
 
@@ -16,4 +17,14 @@ pub fn text_of_regions_is_read_as_itself()
         Spells text areas → Refuses text fault → fault ≡ RegionsFault.Memory }
     ensures one_fault { (text : List ℕ) (fault other : RegionsFault) → Refuses text fault → Refuses text other →
         fault ≢ RegionsFault.Memory → other ≢ RegionsFault.Memory → fault ≡ other }
+{}
+
+/// An address lies in one at most of code, data and stack.
+pub fn code_data_and_stack_are_apart()
+    ensures code_or_data { (areas : Areas) (address : ℕ) → AreRegions areas →
+        in_code areas address ≡ true → in_data areas address ≡ false }
+    ensures code_or_stack { (areas : Areas) (address : ℕ) → AreRegions areas →
+        in_code areas address ≡ true → in_range areas.stack address ≡ false }
+    ensures data_or_stack { (areas : Areas) (address : ℕ) → AreRegions areas →
+        in_data areas address ≡ true → in_range areas.stack address ≡ false }
 {}
