@@ -1,6 +1,7 @@
-//! The laws of regions and of their text, over the definitions alone.
+//! The laws of memory, of regions and of their text, over the definitions alone.
 
-ghost use Rattle.std.specs.Prelude.{◌≡◌, ◌≢◌, ℕ, List, true, false};
+ghost use Rattle.std.specs.Prelude.{◌≡◌, ◌≢◌, ℕ, ◌<◌, List, [], ◌∷◌, ◌++◌, length, slice_index, true, false, if◌then◌else◌};
+ghost use Rattle.place80.specs.Image.{PlacedBytes, covers, byte_of, byte_at, memory_of};
 ghost use Rattle.place80.specs.Range.{in_range};
 ghost use Rattle.place80.specs.Regions.{Areas, AreRegions, in_code, in_data};
 ghost use Rattle.place80.specs.RegionsText.{regions_text, Spells, Refuses};
@@ -27,4 +28,16 @@ pub fn code_data_and_stack_are_apart()
         in_code areas address ≡ true → in_range areas.stack address ≡ false }
     ensures data_or_stack { (areas : Areas) (address : ℕ) → AreRegions areas →
         in_data areas address ≡ true → in_range areas.stack address ≡ false }
+{}
+
+/// A memory has 65536 bytes, each that of the last chunk over its address: a later chunk hides what
+/// lies under it.
+pub fn memory_has_the_byte_of_the_last_chunk()
+    ensures whole { (chunks : List PlacedBytes) → length (memory_of chunks) ≡ 65536 }
+    ensures at_address { (chunks : List PlacedBytes) (address : ℕ) → address < 65536 →
+        slice_index (memory_of chunks) address ≡ byte_at chunks address }
+    ensures none { (address : ℕ) → byte_at [] address ≡ 0 }
+    ensures later_hides { (chunks : List PlacedBytes) (chunk : PlacedBytes) (address : ℕ) →
+        byte_at (chunks ++ chunk ∷ []) address
+        ≡ (if covers chunk address then byte_of chunk address else byte_at chunks address) }
 {}
