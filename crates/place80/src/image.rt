@@ -30,9 +30,7 @@ impl Image {
     {
         let mut byte = 0;
         for chunk in &self.chunks {
-            if let Some(later) = chunk.byte(address) {
-                byte = later;
-            }
+            byte = chunk.byte(address).unwrap_or(byte);
         }
         byte
     }

@@ -1,11 +1,11 @@
 use Rattle.std.proofs.Common.{◌≡◌, ℕ, ◌+◌, ◌<◌, List, [], ◌∷◌, ◌++◌, length, take, get_or, cond, sym, arith, ap, ◌∙◌}
-use Rattle.std.proofs.lemmas.List.{take_more}
 use Rattle.std.proofs.lemmas.Grind.{common_steps}
+use Rattle.std.proofs.lemmas.List.{take_more}
 use Rattle.place80.specs.Image.{PlacedBytes, covers, byte_of, byte_at}
 use Rattle.place80.specs.Memory.{byte_at-snoc}
 use Rattle.place80.proofs.image.Image.byte.Goals as goal
-use Rattle.place80.proofs.image.Image.byte.Goals.{in-Some, in_default}
 
+-- one more chunk
 step : (chunks : List PlacedBytes) (i : ℕ) (chunk : PlacedBytes) (address : ℕ) → i < length chunks → chunk ≡ get_or chunks i chunk →
     byte_at (take (i + 1) chunks) address ≡ cond (covers chunk address) (byte_of chunk address) (byte_at (take i chunks) address)
 step chunks i chunk address below is =
@@ -15,4 +15,4 @@ step chunks i chunk address below is =
 pub loop-chunk-preserved : goal.loop-chunk-preserved
 loop-chunk-preserved c =
     let next = step c.deref-chunk-items.result.now c.loop-chunk.chunk-index c.chunk-item.result c.args.address c.loop-chunk-test.true c.chunk-item.is in
-    elim c.match-byte.branch [ in-Some w ↦ grind (arith, common_steps, next) | in_default w ↦ grind (arith, common_steps, next) ]
+    grind (arith, common_steps, next)
