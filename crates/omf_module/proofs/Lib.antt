@@ -1,0 +1,4 @@
+pub mod ListingLemmas
+pub mod MarkLemmas
+pub mod OneForm
+pub mod WritingLemmas

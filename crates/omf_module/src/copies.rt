@@ -1,0 +1,82 @@
+//! A module once more.
+
+ghost use Rattle.std.specs.Prelude.{◌≡◌, IfOk};
+
+use crate::content::Content;
+use crate::symbols::{Common, Public};
+use omf_core::Name;
+use std::alloc::{AllocError, Global};
+
+pub(crate) fn copy_names(alloc: Global, names: &[Name]) -> Result<Vec<Name>, AllocError>
+    ensures { IfOk result (λ copies. copies.items ≡ names.now) }
+{
+    let mut copies = Vec::new(alloc);
+    for name in names {
+        copies.push(name.copy(alloc)?)?;
+    }
+    Ok(copies)
+}
+
+fn copy_common(alloc: Global, common: &Common) -> Result<Common, AllocError>
+    ensures { IfOk result (λ copied. copied ≡ common.now) }
+{
+    let name = common.name.copy(alloc)?;
+    Ok(Common {
+        id: common.id,
+        name,
+    })
+}
+
+pub(crate) fn copy_commons(alloc: Global, commons: &[Common]) -> Result<Vec<Common>, AllocError>
+    ensures { IfOk result (λ copies. copies.items ≡ commons.now) }
+{
+    let mut copies = Vec::new(alloc);
+    for common in commons {
+        copies.push(copy_common(alloc, common)?)?;
+    }
+    Ok(copies)
+}
+
+fn copy_public(alloc: Global, public: &Public) -> Result<Public, AllocError>
+    ensures { IfOk result (λ copied. copied ≡ public.now) }
+{
+    let name = public.name.copy(alloc)?;
+    Ok(Public {
+        name,
+        segment: public.segment,
+        offset: public.offset,
+    })
+}
+
+pub(crate) fn copy_publics(alloc: Global, publics: &[Public]) -> Result<Vec<Public>, AllocError>
+    ensures { IfOk result (λ copies. copies.items ≡ publics.now) }
+{
+    let mut copies = Vec::new(alloc);
+    for public in publics {
+        copies.push(copy_public(alloc, public)?)?;
+    }
+    Ok(copies)
+}
+
+fn copy_content(alloc: Global, content: &Content) -> Result<Content, AllocError>
+    ensures { IfOk result (λ copied. copied ≡ content.now) }
+{
+    let bytes = Vec::from_slice(alloc, &content.bytes)?;
+    let fixups = Vec::from_slice(alloc, &content.fixups)?;
+    Ok(Content {
+        segment: content.segment,
+        offset: content.offset,
+        bytes,
+        fixups,
+    })
+}
+
+pub(crate) fn copy_contents(alloc: Global, contents: &[Content]) -> Result<Vec<Content>, AllocError>
+    ensures { IfOk result (λ copies. copies.items ≡ contents.now) }
+{
+    let mut copies = Vec::new(alloc);
+    for content in contents {
+        copies.push(copy_content(alloc, content)?)?;
+    }
+    Ok(copies)
+}

@@ -1,0 +1,63 @@
+//! Nothing is listed twice.
+
+ghost use Rattle.std.specs.Prelude.{◌≡◌, ◌==◌, nat_eq, []};
+ghost use Rattle.std.specs.List.{list_any};
+ghost use Rattle.std.specs.Cmp.Lexicographic.{pointwise};
+ghost use Rattle.omf_module.specs.Segments.{has_segment};
+ghost use Rattle.omf_module.specs.Rules.{each_after, is_new_entry, is_new_common};
+
+use crate::rules::{has_segment, names_common};
+use crate::segment::Segment;
+use crate::symbols::Common;
+use omf_core::Name;
+
+fn lists_id(entries: &[(u8, Segment)], id: u8) -> bool
+    ensures { result ≡ list_any (λ d. d.0 == id) entries.now }
+{
+    entries.iter().any(|d| d.0 == id)
+}
+
+fn names_name(commons: &[Common], name: &Name) -> bool
+    ensures { result ≡ list_any (λ d. pointwise nat_eq d.name name.now) commons.now }
+{
+    commons.iter().any(|d| d.name == *name)
+}
+
+fn is_new_entry(commons: &[Common], before: &[(u8, Segment)], id: u8, segment: Segment) -> bool
+    ensures { result ≡ is_new_entry commons.now before.now (id, segment) }
+{
+    has_segment(commons, id) && !lists_id(before, id)
+}
+
+/// Whether each entry is of a segment that the module has, and no id is listed twice.
+pub(crate) fn are_entries(commons: &[Common], entries: &[(u8, Segment)]) -> bool
+    ensures { result ≡ each_after (is_new_entry commons.now) [] entries.now }
+{
+    for (place, entry) in entries.iter().enumerate() {
+        if !is_new_entry(commons, &entries[..place], entry.0, entry.1) {
+            return false;
+        }
+    }
+    true
+}
+
+/// Whether the common's id is one for commons, and neither its id nor its name stands before.
+pub(crate) fn is_new_common(before: &[Common], common: &Common) -> bool
+    ensures { result ≡ is_new_common before.now common.now }
+{
+    (6 <= common.id && common.id <= 254)
+        && !names_common(before, common.id)
+        && !names_name(before, &common.name)
+}
+
+/// Whether no id and no name stands twice, and each id is one for commons.
+pub(crate) fn are_commons(commons: &[Common]) -> bool
+    ensures { result ≡ each_after is_new_common [] commons.now }
+{
+    for (place, common) in commons.iter().enumerate() {
+        if !is_new_common(&commons[..place], common) {
+            return false;
+        }
+    }
+    true
+}

@@ -1,0 +1,23 @@
+/// The bytes of a reference: the low byte of a word, its high byte, or both.
+#[derive(Clone, Copy, PartialEq, Eq, Debug)]
+pub enum Field {
+    Low,
+    High,
+    Both,
+}
+
+/// What a reference is to: a segment of the module by its id, or one of its externals by its index from 0.
+#[derive(Clone, Copy, PartialEq, Eq, Debug)]
+pub enum Target {
+    Segment(u8),
+    External(u16),
+}
+
+/// A reference in a content record: the offset of its first byte in the record's segment, its bytes and its target.
+/// (8080 Object Module Formats: relocation, intersegment reference and external reference records.)
+#[derive(Clone, Copy, PartialEq, Eq, Debug)]
+pub struct Fixup {
+    pub offset: u16,
+    pub field: Field,
+    pub target: Target,
+}
