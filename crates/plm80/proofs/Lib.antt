@@ -2,3 +2,11 @@ mod StreamLemmas
 mod InputsLemmas
 mod BundleLemmas
 mod ImageLemmas
+pub mod WalkLemmas
+pub mod CheckLemmas
+pub mod Fetching
+pub mod Storing
+pub mod Headline
+pub mod RunLemmas
+pub mod TranscriptLemmas
+pub mod SendsLemmas

@@ -5,3 +5,11 @@ pub mod InputsText
 pub mod BundleText
 pub mod ImageText
 pub mod TranscriptText
+pub mod Refusal
+pub mod Check
+pub mod Walk
+pub mod Vouched
+pub mod Fault
+pub mod Session
+pub mod Sends
+pub mod Bundle

@@ -6,7 +6,7 @@ use Rattle.machine80.specs.declared.end.End.{End}
 use Rattle.machine80.specs.declared.end.End.TheVariants.{Halt, InputEnd, OutputRefused, StoreOutside, Fetch, Stack, Direct}
 use Rattle.plm80.specs.HexText.{byte_digits, word_digits}
 use Rattle.plm80.specs.declared.refusal.Refusal.{Refusal}
-use Rattle.plm80.specs.declared.refusal.Refusal.TheVariants.{NotYet, FetchOutside, DirectStore, Memory}
+use Rattle.plm80.specs.declared.refusal.Refusal.TheVariants.{NotYet, FetchOutside, UnusedOpcode, EnablesInterrupts, Sphl, Pchl, StackByByte, DirectStore, Memory}
 
 -- the bytes of stack that the program is known to need at most
 abbrev pub stack_line : ℕ → List ℕ
@@ -35,16 +35,17 @@ end_line (Some (Direct address)) at steps = []
 abbrev pub transcript : ℕ → List (ℕ × ℕ) → Option End → ℕ → ℕ → List ℕ
 transcript stack_bytes outputs «end» at steps = stack_line stack_bytes ++ flat_map output_line outputs ++ end_line «end» at steps
 
--- the line for an image that is refused
-abbrev pub refusal_line : Refusal → List ℕ
-refusal_line (NotYet at) = codes "REFUSED 0 NotYet AT " ++ word_digits at ++ 10 ∷ []
-refusal_line (FetchOutside at) = codes "REFUSED 1 FetchOutside AT " ++ word_digits at ++ 10 ∷ []
-refusal_line (DirectStore at) = codes "REFUSED 8 DirectStore AT " ++ word_digits at ++ 10 ∷ []
-refusal_line Memory = codes "REFUSED 18 Memory" ++ 10 ∷ []
+-- the line for an image that is refused: the refusal's number and name, and the address
+abbrev pub refused_at : List ℕ → ℕ → List ℕ
+refused_at name at = codes "REFUSED " ++ (name ++ (codes " AT " ++ (word_digits at ++ 10 ∷ [])))
 
--- the numbers of the refusals
-abbrev pub refusal_code : Refusal → ℕ
-refusal_code (NotYet at) = 0
-refusal_code (FetchOutside at) = 1
-refusal_code (DirectStore at) = 8
-refusal_code Memory = 18
+abbrev pub refusal_line : Refusal → List ℕ
+refusal_line (NotYet at) = refused_at (codes "0 NotYet") at
+refusal_line (FetchOutside at) = refused_at (codes "1 FetchOutside") at
+refusal_line (UnusedOpcode at) = refused_at (codes "2 UnusedOpcode") at
+refusal_line (EnablesInterrupts at) = refused_at (codes "3 EnablesInterrupts") at
+refusal_line (Sphl at) = refused_at (codes "4 Sphl") at
+refusal_line (Pchl at) = refused_at (codes "5 Pchl") at
+refusal_line (StackByByte at) = refused_at (codes "6 StackByByte") at
+refusal_line (DirectStore at) = refused_at (codes "8 DirectStore") at
+refusal_line Memory = codes "REFUSED 18 Memory" ++ 10 ∷ []

@@ -1,6 +1,6 @@
 //! What is printed of a run, and of an image that is refused.
 ghost use Rattle.std.specs.Prelude.{◌≡◌, ◌++◌, IfOk, OnOk, string_bytes};
-ghost use Rattle.plm80.specs.TranscriptText.{end_line, output_line, refusal_line, transcript};
+ghost use Rattle.plm80.specs.TranscriptText.{end_line, output_line, refusal_line, refused_at, transcript};
 
 use crate::digits::{ByteDigits, WordDigits};
 use crate::refusal::Refusal;
@@ -63,15 +63,21 @@ pub fn refusal_text(alloc: Global, refusal: Refusal) -> Result<String, AllocErro
     ensures { IfOk result (λ text. string_bytes text ≡ refusal_line refusal) }
 {
     match refusal {
-        Refusal::NotYet(at) => format!(in alloc; "REFUSED 0 NotYet AT {}\n", WordDigits(at)),
-        Refusal::FetchOutside(at) => format!(in alloc;
-            "REFUSED 1 FetchOutside AT {}\n",
-            WordDigits(at)
-        ),
-        Refusal::DirectStore(at) => format!(in alloc;
-            "REFUSED 8 DirectStore AT {}\n",
-            WordDigits(at)
-        ),
+        Refusal::NotYet(at) => refused_text(alloc, "0 NotYet", at),
+        Refusal::FetchOutside(at) => refused_text(alloc, "1 FetchOutside", at),
+        Refusal::UnusedOpcode(at) => refused_text(alloc, "2 UnusedOpcode", at),
+        Refusal::EnablesInterrupts(at) => refused_text(alloc, "3 EnablesInterrupts", at),
+        Refusal::Sphl(at) => refused_text(alloc, "4 Sphl", at),
+        Refusal::Pchl(at) => refused_text(alloc, "5 Pchl", at),
+        Refusal::StackByByte(at) => refused_text(alloc, "6 StackByByte", at),
+        Refusal::DirectStore(at) => refused_text(alloc, "8 DirectStore", at),
         Refusal::Memory => String::from_str(alloc, "REFUSED 18 Memory\n"),
     }
+}
+
+// The line of a refusal that names an address.
+fn refused_text(alloc: Global, name: &str, at: u16) -> Result<String, AllocError>
+    ensures { IfOk result (λ text. string_bytes text ≡ refused_at name.now at) }
+{
+    format!(in alloc; "REFUSED {name} AT {}\n", WordDigits(at))
 }

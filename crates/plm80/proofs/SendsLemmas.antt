@@ -1,0 +1,87 @@
+-- What is answered for three texts is sent.
+use Rattle.std.specs.Prelude.{◌≡◌, ℕ, ◌≤◌, List, Option, Some, Result, Ok, Err, IfSome, length, take}
+use Rattle.std.specs.Io.KnownBytes.{Appends}
+use Rattle.std.proofs.Common.{◌∙◌, sym, subst}
+use Rattle.plm80.specs.declared.replying.Outcome.{Outcome}
+use Rattle.plm80.specs.declared.fault.SessionFault.{SessionFault}
+use Rattle.plm80.specs.declared.fault.SessionFault.TheVariants.{Read, Write, Memory, TooLong}
+use Rattle.plm80.specs.BundleText.{Texts}
+use Rattle.plm80.specs.Session.{Says}
+use Rattle.plm80.specs.declared.fault.BundleFault.{BundleFault}
+use Rattle.plm80.specs.declared.fault.BundleFault.TheVariants.{Session}
+use Rattle.plm80.specs.Bundle.{BundleSends, of_session}
+use Rattle.plm80.specs.Sends.{AreWithin, Answers, Sends, SendsPrefix, text_limit}
+
+-- a text that is told and read
+pub told_text : (left : Option (List ℕ)) (bytes text : List ℕ) → IfSome left (λ told. bytes ≡ told) → left ≡ Some text → bytes ≡ text
+told_text left bytes text whole told = subst (λ (o : Option (List ℕ)). IfSome o (λ x. bytes ≡ x)) told whole
+
+-- the texts as they were read
+pub record Read3 (i r n : List ℕ) (t : Texts) : Type 0 where
+  pub image : i ≡ t.image
+  pub regions : r ≡ t.regions
+  pub inputs : n ≡ t.inputs
+
+says_at : (limit steps : ℕ) (i r n : List ℕ) (t : Texts) (answer : Result Outcome SessionFault) (text : List ℕ) → Read3 i r n t → Says limit steps (record { image = i; regions = r; inputs = n }) answer text → Says limit steps t answer text
+says_at limit steps i r n t answer text same says =
+    subst (λ (x : List ℕ). Says limit steps (record { image = t.image; regions = t.regions; inputs = x }) answer text) same.inputs
+    (subst (λ (x : List ℕ). Says limit steps (record { image = t.image; regions = x; inputs = n }) answer text) same.regions
+    (subst (λ (x : List ℕ). Says limit steps (record { image = x; regions = r; inputs = n }) answer text) same.image says))
+
+within_at : (i r n : List ℕ) (t : Texts) → Read3 i r n t → AreWithin (record { image = i; regions = r; inputs = n }) → AreWithin t
+within_at i r n t same within = record {
+  image = subst (λ (l : List ℕ). length l ≤ text_limit) same.image within.image;
+  regions = subst (λ (l : List ℕ). length l ≤ text_limit) same.regions within.regions;
+  inputs = subst (λ (l : List ℕ). length l ≤ text_limit) same.inputs within.inputs;
+}
+
+-- what is said of texts within the limit is an answer
+answers_of : (limit steps : ℕ) (t : Texts) (answer : Result Outcome SessionFault) (text : List ℕ) → AreWithin t → Says limit steps t answer text → Answers limit steps t answer text
+answers_of limit steps t (Err (Read k)) text within says = absurd says
+answers_of limit steps t (Err (TooLong k)) text within says = absurd says
+answers_of limit steps t (Err Write) text within says = absurd says
+answers_of limit steps t (Err Memory) text within says = says
+answers_of limit steps t answer text within says = (within, says)
+
+-- an answer whose text was written whole
+sends_of : (limit steps : ℕ) (t : Texts) (answer : Result Outcome SessionFault) (text : List ℕ) (old new : Option (List ℕ)) → Says limit steps t answer text → Answers limit steps t answer text → Appends old new text → Sends limit steps t answer old new
+sends_of limit steps t (Err Write) text old new says answers appended = absurd says
+sends_of limit steps t answer text old new says answers appended = record { text = text; answers = answers; appended = appended }
+
+pub sends_all : (limit steps : ℕ) (i r n : List ℕ) (t : Texts) (answer : Result Outcome SessionFault) (text : List ℕ) (old new : Option (List ℕ)) → Read3 i r n t → AreWithin t → Says limit steps (record { image = i; regions = r; inputs = n }) answer text → Appends old new text → Sends limit steps t answer old new
+sends_all limit steps i r n t answer text old new same within says appended =
+    let said : Says limit steps t answer text = says_at limit steps i r n t answer text same says in
+    sends_of limit steps t answer text old new said (answers_of limit steps t answer text within said) appended
+
+pub sends_prefix : (limit steps : ℕ) (i r n : List ℕ) (t : Texts) (answer : Result Outcome SessionFault) (text : List ℕ) (count : ℕ) (old new : Option (List ℕ)) → Read3 i r n t → AreWithin t → Says limit steps (record { image = i; regions = r; inputs = n }) answer text → Appends old new (take count text) → SendsPrefix limit steps t old new
+sends_prefix limit steps i r n t answer text count old new same within says appended = record {
+  answer = answer;
+  text = text;
+  answers = answers_of limit steps t answer text within (says_at limit steps i r n t answer text same says);
+  count = count;
+  appended = appended;
+}
+
+-- the parts of a bundle
+pub parts_of : (parted bundle : Option Texts) (t : Texts) → parted ≡ bundle → parted ≡ Some t → bundle ≡ Some t
+parts_of parted bundle t same some = sym same ∙ some
+
+-- a bundle of these parts whose answer's text was written whole
+bundled : (limit steps : ℕ) (t : Texts) (answer : Result Outcome SessionFault) (text : List ℕ) (old new : Option (List ℕ)) → Says limit steps t answer text → Sends limit steps t answer old new → BundleSends limit steps (Some t) (of_session answer) old new
+bundled limit steps t (Ok o) text old new says sends = sends
+bundled limit steps t (Err (Read k)) text old new says sends = absurd says
+bundled limit steps t (Err fault) text old new says sends = sends
+
+pub bundle_sends : (limit steps : ℕ) (parted : Option Texts) (i r n : List ℕ) (t : Texts) (answer : Result Outcome SessionFault) (result : Result Outcome BundleFault) (text : List ℕ) (old new : Option (List ℕ)) → parted ≡ Some t → result ≡ of_session answer → Read3 i r n t →
+    AreWithin (record { image = i; regions = r; inputs = n }) → Says limit steps (record { image = i; regions = r; inputs = n }) answer text → Appends old new text → BundleSends limit steps parted result old new
+bundle_sends limit steps parted i r n t answer result text old new some is same within says appended =
+    let said : Says limit steps t answer text = says_at limit steps i r n t answer text same says in
+    let sends : Sends limit steps t answer old new = sends_of limit steps t answer text old new said (answers_of limit steps t answer text (within_at i r n t same within) said) appended in
+    subst (λ (p : Option Texts). BundleSends limit steps p result old new) (sym some)
+    (subst (λ (x : Result Outcome BundleFault). BundleSends limit steps (Some t) x old new) (sym is) (bundled limit steps t answer text old new said sends))
+
+pub bundle_sends_prefix : (limit steps : ℕ) (parted : Option Texts) (i r n : List ℕ) (t : Texts) (answer : Result Outcome SessionFault) (text : List ℕ) (count : ℕ) (old new : Option (List ℕ)) → parted ≡ Some t → Read3 i r n t →
+    AreWithin (record { image = i; regions = r; inputs = n }) → Says limit steps (record { image = i; regions = r; inputs = n }) answer text → Appends old new (take count text) → BundleSends limit steps parted (Err (Session Write)) old new
+bundle_sends_prefix limit steps parted i r n t answer text count old new some same within says appended =
+    subst (λ (p : Option Texts). BundleSends limit steps p (Err (Session Write)) old new) (sym some)
+    (sends_prefix limit steps i r n t answer text count old new same (within_at i r n t same within) says appended)
