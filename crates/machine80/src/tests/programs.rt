@@ -1,0 +1,130 @@
+//! Programs from their start to their end.
+
+use super::{Board, PLAIN};
+use crate::{End, Inputs, ListPorts};
+use std::process::Abort;
+use std::test::Fail;
+
+/// Runs to an end at this address, the ending step being of this number.
+fn ends(rt: &impl Abort, board: &mut Board, end: End, pc: u16, steps: u64) {
+    let advanced = board.advance(rt);
+    assert_eq!(rt; advanced.end, Some(end));
+    assert_eq!(rt; board.cpu.pc(), pc);
+    assert_eq!(rt; advanced.steps, steps);
+}
+
+#[test]
+fn an_input_is_put_out(rt: HostRuntime) -> Result<(), Fail> {
+    let mut board = Board::new(rt.alloc(), PLAIN, 0x3000, &[0xDB, 0x02, 0xD3, 0x01, 0x76])?;
+    let mut pairs = Vec::new(rt.alloc());
+    pairs.push((0x02, 0x41))?;
+    board.ports = ListPorts::new(rt.alloc(), Inputs { pairs }, 8);
+    ends(&rt, &mut board, End::Halt, 0x3004, 3);
+    assert_eq!(rt; board.ports.outputs(), [(0x01, 0x41)].as_slice());
+    Ok(())
+}
+
+/// A procedure that takes its one argument from the stack, and puts it out.
+#[test]
+fn an_argument_is_put_out(rt: HostRuntime) -> Result<(), Fail> {
+    let program = [
+        0x31, 0x00, 0x32, 0x21, 0x05, 0x00, 0xE5, 0xCD, 0x0B, 0x30, 0x76, 0xD1, 0xC1, 0xD5, 0x79,
+        0xD3, 0x01, 0xC9,
+    ];
+    let mut board = Board::new(rt.alloc(), PLAIN, 0x3000, &program)?;
+    ends(&rt, &mut board, End::Halt, 0x300A, 11);
+    assert_eq!(rt; board.ports.outputs(), [(0x01, 0x05)].as_slice());
+    assert_eq!(rt; board.cpu.sp(), 0x3200);
+    Ok(())
+}
+
+/// SUI 01 and DAA, with what they answer put out; in the first program the flags byte goes over the stack.
+#[test]
+fn flags_and_digits_are_put_out(rt: HostRuntime) -> Result<(), Fail> {
+    let program = [0x3E, 0x10, 0xD6, 0x01, 0xF5, 0xC1, 0x79, 0xD3, 0x01, 0x76];
+    let mut board = Board::new(rt.alloc(), PLAIN, 0x3000, &program)?;
+    ends(&rt, &mut board, End::Halt, 0x3009, 7);
+    assert_eq!(rt; board.ports.outputs(), [(0x01, 0x06)].as_slice());
+    let program = [0x3E, 0x9A, 0x27, 0xD3, 0x01, 0x76];
+    let mut board = Board::new(rt.alloc(), PLAIN, 0x3000, &program)?;
+    ends(&rt, &mut board, End::Halt, 0x3005, 4);
+    assert_eq!(rt; board.ports.outputs(), [(0x01, 0x00)].as_slice());
+    Ok(())
+}
+
+#[test]
+fn calls_come_back(rt: HostRuntime) -> Result<(), Fail> {
+    // The place is popped and pushed back.
+    let program = [0xCD, 0x04, 0x30, 0x76, 0xD1, 0xD5, 0xC9];
+    ends(
+        &rt,
+        &mut Board::new(rt.alloc(), PLAIN, 0x3000, &program)?,
+        End::Halt,
+        0x3003,
+        5,
+    );
+    // RZ goes on where Z is 0.
+    let program = [0xCD, 0x04, 0x30, 0x76, 0xC8, 0xC9];
+    ends(
+        &rt,
+        &mut Board::new(rt.alloc(), PLAIN, 0x3000, &program)?,
+        End::Halt,
+        0x3003,
+        4,
+    );
+    // RST 1 from 0009 to the RET at 0008.
+    let regions = b"REGIONS 1\nCODE 0000 000B\nSTACK 0100 0010\n";
+    let program = [
+        0xC3, 0x09, 0x00, 0x00, 0x00, 0x00, 0x00, 0x00, 0xC9, 0xCF, 0x76,
+    ];
+    ends(
+        &rt,
+        &mut Board::new(rt.alloc(), regions, 0, &program)?,
+        End::Halt,
+        0x000A,
+        4,
+    );
+    Ok(())
+}
+
+#[test]
+fn jumps_go_where_they_say(rt: HostRuntime) -> Result<(), Fail> {
+    // Into an instruction's own operand, where a HLT stands.
+    let program = [0x06, 0x76, 0xC3, 0x01, 0x30];
+    ends(
+        &rt,
+        &mut Board::new(rt.alloc(), PLAIN, 0x3000, &program)?,
+        End::Halt,
+        0x3001,
+        3,
+    );
+    // By PCHL.
+    let program = [0x21, 0x05, 0x30, 0xE9, 0x76, 0x76];
+    ends(
+        &rt,
+        &mut Board::new(rt.alloc(), PLAIN, 0x3000, &program)?,
+        End::Halt,
+        0x3005,
+        3,
+    );
+    // EI does nothing.
+    ends(
+        &rt,
+        &mut Board::new(rt.alloc(), PLAIN, 0x3000, &[0xFB, 0x76])?,
+        End::Halt,
+        0x3001,
+        2,
+    );
+    Ok(())
+}
+
+#[test]
+fn a_loop_uses_up_its_steps(rt: HostRuntime) -> Result<(), Fail> {
+    let program = [0xCD, 0x04, 0x30, 0x76, 0xC3, 0x04, 0x30];
+    let mut board = Board::new(rt.alloc(), PLAIN, 0x3000, &program)?;
+    let advanced = board.advance(&rt);
+    assert_eq!(rt; advanced.end, None);
+    assert_eq!(rt; advanced.steps, 100);
+    assert_eq!(rt; board.cpu.pc(), 0x3004);
+    Ok(())
+}
