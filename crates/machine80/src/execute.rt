@@ -1,79 +1,23 @@
 //! What an instruction does to the processor and its memory.
 
-ghost use Rattle.std.specs.Prelude.{◌≡◌, ◌*◌, ◌/◌, ◌%◌};
-ghost use Rattle.machine80.specs.Effects.{target, word_in, changed, computed, operand_of, stores, stored, push_bytes};
-ghost use Rattle.decode80.specs.Restart.{restart_number};
-ghost use Rattle.machine80.specs.Cpu.{ahead};
+ghost use Rattle.std.specs.Prelude.{◌≡◌, None, OnSome, IfNone};
+ghost use Rattle.machine80.specs.Effects.{target, changed, computed, operand_of, stores, stored};
+ghost use Rattle.machine80.specs.Kinds.{IsPlain};
+ghost use Rattle.machine80.specs.Step.{guard};
 
 use crate::alu;
+use crate::alu::Answer;
 use crate::bus::Bus;
 use crate::cpu::Cpu;
+use crate::end::End;
 use crate::fetching::Fetched;
 use crate::flags::condition_holds;
 use crate::registers::Registers;
-use decode80::{Instr, Operand, Restart, StackPair};
-
-/// The address so many bytes after another one, modulo 65536.
-#[inline]
-#[tactic(auto, unfolding(crate::specs::Cpu::ahead))]
-pub(crate) fn ahead(address: u16, bytes: u16) -> u16
-    ensures { result ≡ ahead address bytes }
-{
-    address.wrapping_add(bytes)
-}
-
-/// The word at an address and the one after it, low byte first.
-#[inline]
-fn load_word<B: Bus>(bus: &B, address: u16) -> u16
-    ensures { result ≡ word_in (B.memory bus.now) address }
-{
-    u16::from_be_bytes([bus.load(ahead(address, 1)), bus.load(address)])
-}
-
-/// The address of the next instruction, `next` being the one after this.
-#[inline]
-fn target<B: Bus>(instr: Instr, next: u16, cpu: &Cpu, bus: &B) -> u16
-    ensures { result ≡ target instr next (B.memory bus.now) cpu.now }
-{
-    match instr {
-        Instr::Jmp(address) | Instr::Call(address) => address,
-        Instr::JumpIf(condition, address) | Instr::CallIf(condition, address) => {
-            if condition_holds(condition, cpu.registers.flags) {
-                address
-            } else {
-                next
-            }
-        }
-        Instr::Rst(number) => restart_address(number),
-        Instr::Ret => load_word(bus, cpu.sp),
-        Instr::ReturnIf(condition) => {
-            if condition_holds(condition, cpu.registers.flags) {
-                load_word(bus, cpu.sp)
-            } else {
-                next
-            }
-        }
-        Instr::Pchl => cpu.registers.hl(),
-        _ => next,
-    }
-}
-
-/// The address that a restart calls: 8 times its number.
-#[inline]
-fn restart_address(number: Restart) -> u16
-    ensures { result ≡ 8 * restart_number number }
-{
-    match number {
-        Restart::Vector0 => 0,
-        Restart::Vector1 => 8,
-        Restart::Vector2 => 16,
-        Restart::Vector3 => 24,
-        Restart::Vector4 => 32,
-        Restart::Vector5 => 40,
-        Restart::Vector6 => 48,
-        Restart::Vector7 => 56,
-    }
-}
+use crate::stack::{call, come_back, exchange, pop_pair, push_pair};
+use crate::stores::{store_accumulator, store_through, store_word};
+use crate::words::ahead;
+use decode80::{Instr, Operand, StackPair};
+use place80::Regions;
 
 /// The byte that an operation on the accumulator takes.
 #[inline]
@@ -90,6 +34,7 @@ fn operand<B: Bus>(operand: Operand, registers: &Registers, bus: &B) -> u8
 /// The registers and the flags after an instruction that computes; after any other they stay.
 #[inline]
 fn compute<B: Bus>(instr: Instr, cpu: &mut Cpu, bus: &B)
+    requires { IsPlain instr }
     ensures { cpu.new ≡ computed instr (B.memory bus.now) cpu.old }
 {
     let r = cpu.registers;
@@ -99,8 +44,6 @@ fn compute<B: Bus>(instr: Instr, cpu: &mut Cpu, bus: &B)
         }
         Instr::Inr(register) => cpu.put_in(register, alu::increment(r.value(register), r.flags)),
         Instr::Dcr(register) => cpu.put_in(register, alu::decrement(r.value(register), r.flags)),
-        Instr::InrMemory => cpu.registers.flags = alu::increment(bus.load(r.hl()), r.flags).flags,
-        Instr::DcrMemory => cpu.registers.flags = alu::decrement(bus.load(r.hl()), r.flags).flags,
         Instr::Dad(pair) => cpu.add(cpu.pair(pair)),
         Instr::Rotate(rotation) => cpu.put(alu::rotate(rotation, r.a, r.flags)),
         Instr::Daa => cpu.put(alu::decimal_adjust(r.a, r.flags)),
@@ -114,6 +57,7 @@ fn compute<B: Bus>(instr: Instr, cpu: &mut Cpu, bus: &B)
 /// The registers and the stack pointer after an instruction; the program counter stays.
 #[inline]
 fn change<B: Bus>(instr: Instr, cpu: &mut Cpu, bus: &B)
+    requires { IsPlain instr }
     ensures { cpu.new ≡ changed instr (B.memory bus.now) cpu.old }
 {
     let r = cpu.registers;
@@ -136,91 +80,97 @@ fn change<B: Bus>(instr: Instr, cpu: &mut Cpu, bus: &B)
             cpu.registers.assign_stack_pair(StackPair::Hl, r.d, r.e);
         }
         Instr::Sphl => cpu.sp = r.hl(),
-        Instr::Push(_) | Instr::Call(_) | Instr::Rst(_) => cpu.sp = ahead(cpu.sp, 65534),
-        Instr::CallIf(condition, _) => {
-            if condition_holds(condition, r.flags) {
-                cpu.sp = ahead(cpu.sp, 65534);
-            }
-        }
-        Instr::Pop(pair) => {
-            cpu.registers
-                .assign_stack_pair(pair, bus.load(ahead(cpu.sp, 1)), bus.load(cpu.sp));
-            cpu.sp = ahead(cpu.sp, 2);
-        }
-        Instr::Ret => cpu.sp = ahead(cpu.sp, 2),
-        Instr::ReturnIf(condition) => {
-            if condition_holds(condition, r.flags) {
-                cpu.sp = ahead(cpu.sp, 2);
-            }
-        }
-        Instr::Xthl => cpu.registers.assign_stack_pair(
-            StackPair::Hl,
-            bus.load(ahead(cpu.sp, 1)),
-            bus.load(cpu.sp),
-        ),
         _ => compute(instr, cpu, bus),
     }
 }
 
-/// Stores what an instruction stores: `before` is the processor before it, `next` the address after it.
+/// Executes an instruction that is neither a port's nor a halt, unless a byte that it touches is outside: then nothing
+/// changes.
 #[inline]
-fn store<B: Bus>(instr: Instr, next: u16, before: &Cpu, bus: &mut B)
-    ensures { B.memory bus.new ≡ stored (B.memory bus.old) (stores instr next (B.memory bus.old) before.now) }
+pub(crate) fn proceed<B: Bus>(
+    found: Fetched,
+    cpu: &mut Cpu,
+    bus: &mut B,
+    regions: &Regions,
+) -> Option<End>
+    ensures end { result ≡ guard regions.now found.instr cpu.old }
+    ensures kept { OnSome result ((cpu.new ≡ cpu.old) × (B.memory bus.new ≡ B.memory bus.old)) }
+    ensures cpu { IfNone result (cpu.new ≡ record (changed found.instr (B.memory bus.old) cpu.old) { pc = target found.instr found.next (B.memory bus.old) cpu.old }) }
+    ensures memory { IfNone result (B.memory bus.new ≡ stored (B.memory bus.old) (stores found.instr found.next (B.memory bus.old) cpu.old)) }
 {
-    let r = before.registers;
-    match instr {
-        Instr::Store(from) => bus.store(r.hl(), r.value(from)),
-        Instr::MviMemory(byte) => bus.store(r.hl(), byte),
-        Instr::InrMemory => bus.store(r.hl(), alu::increment(bus.load(r.hl()), r.flags).value),
-        Instr::DcrMemory => bus.store(r.hl(), alu::decrement(bus.load(r.hl()), r.flags).value),
-        Instr::Stax(pair) => bus.store(r.index_pair(pair), r.a),
-        Instr::Sta(address) => bus.store(address, r.a),
-        Instr::Shld(address) => {
-            bus.store(address, r.l);
-            bus.store(ahead(address, 1), r.h);
+    let r = cpu.registers;
+    let next = found.next;
+    match found.instr {
+        Instr::Jmp(address) => jump(address, cpu),
+        Instr::JumpIf(condition, address) => {
+            let taken = condition_holds(condition, r.flags);
+            jump(if taken { address } else { next }, cpu)
         }
-        Instr::Push(pair) => push(bus, before.sp, r.high(pair), r.low(pair)),
-        Instr::Call(_) | Instr::Rst(_) => push_word(bus, before.sp, next),
-        Instr::CallIf(condition, _) => {
+        Instr::Pchl => jump(r.hl(), cpu),
+        Instr::Call(address) => call(address, next, cpu, bus, regions),
+        Instr::CallIf(condition, address) => {
             if condition_holds(condition, r.flags) {
-                push_word(bus, before.sp, next);
+                call(address, next, cpu, bus, regions)
+            } else {
+                jump(next, cpu)
             }
         }
-        Instr::Xthl => {
-            bus.store(before.sp, r.l);
-            bus.store(ahead(before.sp, 1), r.h);
+        Instr::Rst(number) => call(number.address(), next, cpu, bus, regions),
+        Instr::Ret => come_back(cpu, bus, regions),
+        Instr::ReturnIf(condition) => {
+            if condition_holds(condition, r.flags) {
+                come_back(cpu, bus, regions)
+            } else {
+                jump(next, cpu)
+            }
         }
-        _ => {}
+        Instr::Push(pair) => push_pair(pair, next, cpu, bus, regions),
+        Instr::Pop(pair) => pop_pair(pair, next, cpu, bus, regions),
+        Instr::Xthl => exchange(next, cpu, bus, regions),
+        Instr::Sta(address) => store_accumulator(address, next, cpu, bus, regions),
+        Instr::Shld(address) => store_word(address, next, cpu, bus, regions),
+        Instr::Store(from) => {
+            let same = Answer {
+                value: r.value(from),
+                flags: r.flags,
+            };
+            store_through(r.hl(), same, next, cpu, bus, regions)
+        }
+        Instr::MviMemory(byte) => {
+            let same = Answer {
+                value: byte,
+                flags: r.flags,
+            };
+            store_through(r.hl(), same, next, cpu, bus, regions)
+        }
+        Instr::Stax(pair) => {
+            let same = Answer {
+                value: r.a,
+                flags: r.flags,
+            };
+            store_through(r.index_pair(pair), same, next, cpu, bus, regions)
+        }
+        Instr::InrMemory => {
+            let more = alu::increment(bus.load(r.hl()), r.flags);
+            store_through(r.hl(), more, next, cpu, bus, regions)
+        }
+        Instr::DcrMemory => {
+            let less = alu::decrement(bus.load(r.hl()), r.flags);
+            store_through(r.hl(), less, next, cpu, bus, regions)
+        }
+        plain => {
+            change(plain, cpu, bus);
+            jump(next, cpu)
+        }
     }
 }
 
-/// Writes a high and a low byte below the stack pointer.
+/// The run goes on at an address.
 #[inline]
-fn push<B: Bus>(bus: &mut B, sp: u16, high: u8, low: u8)
-    ensures { B.memory bus.new ≡ stored (B.memory bus.old) (push_bytes sp high low) }
+fn jump(address: u16, cpu: &mut Cpu) -> Option<End>
+    ensures end { result ≡ None }
+    ensures cpu { cpu.new ≡ record cpu.old { pc = address } }
 {
-    bus.store(ahead(sp, 65535), high);
-    bus.store(ahead(sp, 65534), low);
-}
-
-/// Writes a word below the stack pointer, the high byte first.
-#[inline]
-fn push_word<B: Bus>(bus: &mut B, sp: u16, word: u16)
-    ensures { B.memory bus.new ≡ stored (B.memory bus.old) (push_bytes sp (word / 256) (word % 256)) }
-{
-    let [high, low] = word.to_be_bytes();
-    push(bus, sp, high, low);
-}
-
-/// Executes an instruction that is neither a port's nor a halt.
-#[inline]
-pub(crate) fn proceed<B: Bus>(found: Fetched, cpu: &mut Cpu, bus: &mut B)
-    ensures cpu { cpu.new ≡ record (changed found.instr (B.memory bus.old) cpu.old) { pc = target found.instr found.next (B.memory bus.old) cpu.old } }
-    ensures memory { B.memory bus.new ≡ stored (B.memory bus.old) (stores found.instr found.next (B.memory bus.old) cpu.old) }
-{
-    let before = *cpu;
-    let pc = target(found.instr, found.next, &before, bus);
-    change(found.instr, cpu, bus);
-    cpu.pc = pc;
-    store(found.instr, found.next, &before, bus);
+    cpu.pc = address;
+    None
 }

@@ -6,7 +6,7 @@ ghost use Rattle.place80.specs.Regions.{in_code};
 ghost use Rattle.machine80.specs.Step.{fetch, all_code};
 
 use crate::bus::Bus;
-use crate::execute::ahead;
+use crate::words::ahead;
 use decode80::{Instr, decode};
 use place80::{Range, Regions};
 

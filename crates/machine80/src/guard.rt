@@ -1,47 +1,19 @@
-//! Before an instruction is executed: the bytes that it may not touch.
+//! The bytes that an instruction may not touch.
 
 ghost use Rattle.std.specs.Prelude.{◌≡◌, [], ◌∷◌, None};
 ghost use Rattle.place80.specs.Range.{in_range};
 ghost use Rattle.place80.specs.Regions.{in_data};
 ghost use Rattle.machine80.specs.Effects.{pushed_bytes, popped_bytes};
-ghost use Rattle.machine80.specs.Step.{guard, first_outside, ends_at};
+ghost use Rattle.machine80.specs.Step.{first_outside, ends_at};
 ghost use Rattle.machine80.specs.declared.end.End.TheVariants.{Stack, Direct, StoreOutside};
 
-use crate::cpu::Cpu;
 use crate::end::End;
-use crate::execute::ahead;
-use crate::flags::condition_holds;
-use decode80::Instr;
+use crate::words::ahead;
 use place80::Regions;
-
-/// Why an instruction may not be executed: the first byte that it pushes or pops outside the stack, or stores outside
-/// data.
-#[inline]
-pub(crate) fn guard(instr: Instr, cpu: &Cpu, regions: &Regions) -> Option<End>
-    ensures { result ≡ guard regions.now instr cpu.now }
-{
-    match instr {
-        Instr::Push(_) | Instr::Call(_) | Instr::Rst(_) => push_outside(cpu.sp, regions),
-        Instr::CallIf(condition, _) if condition_holds(condition, cpu.registers.flags) =>
-            push_outside(cpu.sp, regions),
-        Instr::Pop(_) | Instr::Ret | Instr::Xthl => pop_outside(cpu.sp, regions),
-        Instr::ReturnIf(condition) if condition_holds(condition, cpu.registers.flags) =>
-            pop_outside(cpu.sp, regions),
-        Instr::Sta(address) => direct_outside(address, regions),
-        Instr::Shld(address) => direct_outside(address, regions).or_else(|| direct_outside(
-            ahead(address, 1),
-            regions,
-        )),
-        Instr::Store(_) | Instr::MviMemory(_) | Instr::InrMemory | Instr::DcrMemory =>
-            store_outside(cpu.registers.hl(), regions),
-        Instr::Stax(pair) => store_outside(cpu.registers.index_pair(pair), regions),
-        _ => None,
-    }
-}
 
 /// The end at the first of the two bytes below the stack pointer that is no byte of the stack.
 #[inline]
-fn push_outside(sp: u16, regions: &Regions) -> Option<End>
+pub(crate) fn push_outside(sp: u16, regions: &Regions) -> Option<End>
     ensures { result ≡ ends_at (first_outside (in_range regions.now.stack) (pushed_bytes sp)) Stack None }
 {
     let (high, low) = (ahead(sp, 65535), ahead(sp, 65534));
@@ -50,7 +22,7 @@ fn push_outside(sp: u16, regions: &Regions) -> Option<End>
 
 /// The end at the first of the two bytes at the stack pointer that is no byte of the stack.
 #[inline]
-fn pop_outside(sp: u16, regions: &Regions) -> Option<End>
+pub(crate) fn pop_outside(sp: u16, regions: &Regions) -> Option<End>
     ensures { result ≡ ends_at (first_outside (in_range regions.now.stack) (popped_bytes sp)) Stack None }
 {
     stack_outside(sp, regions).or(stack_outside(ahead(sp, 1), regions))
@@ -70,7 +42,7 @@ fn stack_outside(address: u16, regions: &Regions) -> Option<End>
 
 /// The end at a byte stored directly that is no data.
 #[inline]
-fn direct_outside(address: u16, regions: &Regions) -> Option<End>
+pub(crate) fn direct_outside(address: u16, regions: &Regions) -> Option<End>
     ensures { result ≡ ends_at (first_outside (in_data regions.now) (address ∷ [])) Direct None }
 {
     if regions.in_data(address) {
@@ -82,7 +54,7 @@ fn direct_outside(address: u16, regions: &Regions) -> Option<End>
 
 /// The end at a byte stored through a pair that is no data.
 #[inline]
-fn store_outside(address: u16, regions: &Regions) -> Option<End>
+pub(crate) fn store_outside(address: u16, regions: &Regions) -> Option<End>
     ensures { result ≡ ends_at (first_outside (in_data regions.now) (address ∷ [])) StoreOutside None }
 {
     if regions.in_data(address) {

@@ -16,7 +16,10 @@ pub mod laws;
 mod list_ports;
 mod ports;
 mod registers;
+mod stack;
 mod stepping;
+mod stores;
+mod words;
 
 pub use advancing::{Advanced, advance};
 pub use alu::{

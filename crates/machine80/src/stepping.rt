@@ -2,14 +2,13 @@
 
 ghost use Rattle.std.specs.Prelude.{◌≡◌, ◌+◌, ◌-◌, ◌<◌, ◌^◌, OnSome, nat_lt};
 ghost use Rattle.machine80.specs.Ports.{has_room};
-ghost use Rattle.machine80.specs.Step.{machine, execute, step_of, turn_of, refusals_at};
+ghost use Rattle.machine80.specs.Step.{machine, guard, guarded, step_of, turn_of, refusals_at};
 
 use crate::bus::Bus;
 use crate::cpu::Cpu;
 use crate::end::End;
 use crate::execute::proceed;
 use crate::fetching::{Fetched, fetch};
-use crate::guard::guard;
 use crate::ports::Ports;
 use decode80::Instr;
 use place80::Regions;
@@ -36,24 +35,22 @@ pub fn step<B: Bus, P: Ports>(
     let Some(found) = fetch(cpu.pc, bus, regions) else {
         return Some(End::Fetch(cpu.pc));
     };
-    if let Some(end) = guard(found.instr, cpu, regions) {
-        return Some(end);
-    }
-    execute(found, cpu, bus, ports)
+    execute(found, cpu, bus, ports, regions)
 }
 
-/// Executes an instruction that the guard lets pass.
+/// Guards an instruction and executes it.
 #[inline]
 fn execute<B: Bus, P: Ports>(
     found: Fetched,
     cpu: &mut Cpu,
     bus: &mut B,
     ports: &mut P,
+    regions: &Regions,
 ) -> Option<End>
     requires { P.refused ports.old < 2 ^ 64 - 1 }
     ensures turn { let before = machine cpu.old (B.memory bus.old) (P.inputs ports.old) (P.outputs ports.old) in
         let after = machine cpu.new (B.memory bus.new) (P.inputs ports.new) (P.outputs ports.new) in
-        execute (nat_lt (P.refused ports.old) (P.refused ports.new)) found.instr found.next before ≡ turn_of result after }
+        guarded (guard regions.now found.instr cpu.old) (nat_lt (P.refused ports.old) (P.refused ports.new)) found before ≡ turn_of result after }
     ensures kept { OnSome result (machine cpu.new (B.memory bus.new) (P.inputs ports.new) (P.outputs ports.new) ≡ machine cpu.old (B.memory bus.old) (P.inputs ports.old) (P.outputs ports.old)) }
     ensures refusals { P.refused ports.new ≡ P.refused ports.old + refusals_at result }
     ensures limit { P.limit ports.new ≡ P.limit ports.old }
@@ -76,9 +73,6 @@ fn execute<B: Bus, P: Ports>(
             cpu.pc = found.next;
             None
         }
-        _ => {
-            proceed(found, cpu, bus);
-            None
-        }
+        _ => proceed(found, cpu, bus, regions),
     }
 }

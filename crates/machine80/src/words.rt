@@ -1,0 +1,42 @@
+//! Words in memory.
+
+ghost use Rattle.std.specs.Prelude.{◌≡◌, ◌/◌, ◌%◌};
+ghost use Rattle.machine80.specs.Effects.{word_in, stored, push_bytes};
+ghost use Rattle.machine80.specs.Cpu.{ahead};
+
+use crate::bus::Bus;
+
+/// The address so many bytes after another one, modulo 65536.
+#[inline]
+#[tactic(auto, unfolding(crate::specs::Cpu::ahead))]
+pub(crate) fn ahead(address: u16, bytes: u16) -> u16
+    ensures { result ≡ ahead address bytes }
+{
+    address.wrapping_add(bytes)
+}
+
+/// The word at an address and the one after it, low byte first.
+#[inline]
+pub(crate) fn load_word<B: Bus>(bus: &B, address: u16) -> u16
+    ensures { result ≡ word_in (B.memory bus.now) address }
+{
+    u16::from_be_bytes([bus.load(ahead(address, 1)), bus.load(address)])
+}
+
+/// Writes a high and a low byte below the stack pointer.
+#[inline]
+pub(crate) fn push<B: Bus>(bus: &mut B, sp: u16, high: u8, low: u8)
+    ensures { B.memory bus.new ≡ stored (B.memory bus.old) (push_bytes sp high low) }
+{
+    bus.store(ahead(sp, 65535), high);
+    bus.store(ahead(sp, 65534), low);
+}
+
+/// Writes a word below the stack pointer, the high byte first.
+#[inline]
+pub(crate) fn push_word<B: Bus>(bus: &mut B, sp: u16, word: u16)
+    ensures { B.memory bus.new ≡ stored (B.memory bus.old) (push_bytes sp (word / 256) (word % 256)) }
+{
+    let [high, low] = word.to_be_bytes();
+    push(bus, sp, high, low);
+}
