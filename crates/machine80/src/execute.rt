@@ -6,7 +6,6 @@ ghost use Rattle.machine80.specs.Kinds.{IsPlain};
 ghost use Rattle.machine80.specs.Step.{guard};
 
 use crate::alu;
-use crate::alu::Answer;
 use crate::bus::Bus;
 use crate::cpu::Cpu;
 use crate::end::End;
@@ -14,7 +13,7 @@ use crate::fetching::Fetched;
 use crate::flags::condition_holds;
 use crate::registers::Registers;
 use crate::stack::{call, come_back, exchange, pop_pair, push_pair};
-use crate::stores::{store_accumulator, store_through, store_word};
+use crate::stores::{store_accumulator, store_answer, store_byte, store_word};
 use crate::words::ahead;
 use decode80::{Instr, Operand, StackPair};
 use place80::Regions;
@@ -102,61 +101,35 @@ pub(crate) fn proceed<B: Bus>(
     let next = found.next;
     match found.instr {
         Instr::Jmp(address) => jump(address, cpu),
-        Instr::JumpIf(condition, address) => {
-            let taken = condition_holds(condition, r.flags);
-            jump(if taken { address } else { next }, cpu)
+        Instr::JumpIf(condition, address) if condition_holds(condition, r.flags) => {
+            jump(address, cpu)
         }
         Instr::Pchl => jump(r.hl(), cpu),
         Instr::Call(address) => call(address, next, cpu, bus, regions),
-        Instr::CallIf(condition, address) => {
-            if condition_holds(condition, r.flags) {
-                call(address, next, cpu, bus, regions)
-            } else {
-                jump(next, cpu)
-            }
+        Instr::CallIf(condition, address) if condition_holds(condition, r.flags) => {
+            call(address, next, cpu, bus, regions)
         }
         Instr::Rst(number) => call(number.address(), next, cpu, bus, regions),
         Instr::Ret => come_back(cpu, bus, regions),
-        Instr::ReturnIf(condition) => {
-            if condition_holds(condition, r.flags) {
-                come_back(cpu, bus, regions)
-            } else {
-                jump(next, cpu)
-            }
+        Instr::ReturnIf(condition) if condition_holds(condition, r.flags) => {
+            come_back(cpu, bus, regions)
         }
+        Instr::JumpIf(..) | Instr::CallIf(..) | Instr::ReturnIf(_) => jump(next, cpu),
         Instr::Push(pair) => push_pair(pair, next, cpu, bus, regions),
         Instr::Pop(pair) => pop_pair(pair, next, cpu, bus, regions),
         Instr::Xthl => exchange(next, cpu, bus, regions),
         Instr::Sta(address) => store_accumulator(address, next, cpu, bus, regions),
         Instr::Shld(address) => store_word(address, next, cpu, bus, regions),
-        Instr::Store(from) => {
-            let same = Answer {
-                value: r.value(from),
-                flags: r.flags,
-            };
-            store_through(r.hl(), same, next, cpu, bus, regions)
-        }
-        Instr::MviMemory(byte) => {
-            let same = Answer {
-                value: byte,
-                flags: r.flags,
-            };
-            store_through(r.hl(), same, next, cpu, bus, regions)
-        }
-        Instr::Stax(pair) => {
-            let same = Answer {
-                value: r.a,
-                flags: r.flags,
-            };
-            store_through(r.index_pair(pair), same, next, cpu, bus, regions)
-        }
+        Instr::Store(from) => store_byte(r.hl(), r.value(from), next, cpu, bus, regions),
+        Instr::MviMemory(byte) => store_byte(r.hl(), byte, next, cpu, bus, regions),
+        Instr::Stax(pair) => store_byte(r.index_pair(pair), r.a, next, cpu, bus, regions),
         Instr::InrMemory => {
             let more = alu::increment(bus.load(r.hl()), r.flags);
-            store_through(r.hl(), more, next, cpu, bus, regions)
+            store_answer(r.hl(), more, next, cpu, bus, regions)
         }
         Instr::DcrMemory => {
             let less = alu::decrement(bus.load(r.hl()), r.flags);
-            store_through(r.hl(), less, next, cpu, bus, regions)
+            store_answer(r.hl(), less, next, cpu, bus, regions)
         }
         plain => {
             change(plain, cpu, bus);

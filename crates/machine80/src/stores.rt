@@ -64,9 +64,32 @@ pub(crate) fn store_word<B: Bus>(
     None
 }
 
-/// A byte is stored where a pair points to, with the flags after it.
+/// MOV M,r, MVI M and STAX: a byte is stored where a pair points to.
 #[inline]
-pub(crate) fn store_through<B: Bus>(
+pub(crate) fn store_byte<B: Bus>(
+    address: u16,
+    byte: u8,
+    next: u16,
+    cpu: &mut Cpu,
+    bus: &mut B,
+    regions: &Regions,
+) -> Option<End>
+    ensures end { result ≡ ends_at (first_outside (in_data regions.now) (address ∷ [])) StoreOutside None }
+    ensures kept { OnSome result ((cpu.new ≡ cpu.old) × (B.memory bus.new ≡ B.memory bus.old)) }
+    ensures cpu { IfNone result (cpu.new ≡ record cpu.old { pc = next }) }
+    ensures memory { IfNone result (B.memory bus.new ≡ stored (B.memory bus.old) ((address, byte) ∷ [])) }
+{
+    if let Some(end) = store_outside(address, regions) {
+        return Some(end);
+    }
+    bus.store(address, byte);
+    cpu.pc = next;
+    None
+}
+
+/// INR M and DCR M: a byte is stored where HL points to, and the flags are its own.
+#[inline]
+pub(crate) fn store_answer<B: Bus>(
     address: u16,
     answer: Answer,
     next: u16,
