@@ -1,5 +1,5 @@
 -- What is answered for three texts is sent.
-use Rattle.std.specs.Prelude.{◌≡◌, ℕ, ◌≤◌, List, Option, Some, Result, Ok, Err, IfSome, length, take}
+use Rattle.std.specs.Prelude.{◌≡◌, ℕ, ◌<◌, ◌≤◌, List, Option, Some, Result, Ok, Err, IfSome, length, take}
 use Rattle.std.specs.Io.KnownBytes.{Appends}
 use Rattle.std.proofs.Common.{◌∙◌, sym, subst}
 use Rattle.plm80.specs.declared.replying.Outcome.{Outcome}
@@ -53,12 +53,13 @@ sends_all limit steps i r n t answer text old new same within says appended =
     let said : Says limit steps t answer text = says_at limit steps i r n t answer text same says in
     sends_of limit steps t answer text old new said (answers_of limit steps t answer text within said) appended
 
-pub sends_prefix : (limit steps : ℕ) (i r n : List ℕ) (t : Texts) (answer : Result Outcome SessionFault) (text : List ℕ) (count : ℕ) (old new : Option (List ℕ)) → Read3 i r n t → AreWithin t → Says limit steps (record { image = i; regions = r; inputs = n }) answer text → Appends old new (take count text) → SendsPrefix limit steps t old new
-sends_prefix limit steps i r n t answer text count old new same within says appended = record {
+pub sends_prefix : (limit steps : ℕ) (i r n : List ℕ) (t : Texts) (answer : Result Outcome SessionFault) (text : List ℕ) (count : ℕ) (old new : Option (List ℕ)) → Read3 i r n t → AreWithin t → Says limit steps (record { image = i; regions = r; inputs = n }) answer text → count < length text → Appends old new (take count text) → SendsPrefix limit steps t old new
+sends_prefix limit steps i r n t answer text count old new same within says part appended = record {
   answer = answer;
   text = text;
   answers = answers_of limit steps t answer text within (says_at limit steps i r n t answer text same says);
   count = count;
+  part = part;
   appended = appended;
 }
 
@@ -81,7 +82,7 @@ bundle_sends limit steps parted i r n t answer result text old new some is same 
     (subst (λ (x : Result Outcome BundleFault). BundleSends limit steps (Some t) x old new) (sym is) (bundled limit steps t answer text old new said sends))
 
 pub bundle_sends_prefix : (limit steps : ℕ) (parted : Option Texts) (i r n : List ℕ) (t : Texts) (answer : Result Outcome SessionFault) (text : List ℕ) (count : ℕ) (old new : Option (List ℕ)) → parted ≡ Some t → Read3 i r n t →
-    AreWithin (record { image = i; regions = r; inputs = n }) → Says limit steps (record { image = i; regions = r; inputs = n }) answer text → Appends old new (take count text) → BundleSends limit steps parted (Err (Session Write)) old new
-bundle_sends_prefix limit steps parted i r n t answer text count old new some same within says appended =
+    AreWithin (record { image = i; regions = r; inputs = n }) → Says limit steps (record { image = i; regions = r; inputs = n }) answer text → count < length text → Appends old new (take count text) → BundleSends limit steps parted (Err (Session Write)) old new
+bundle_sends_prefix limit steps parted i r n t answer text count old new some same within says part appended =
     subst (λ (p : Option Texts). BundleSends limit steps p (Err (Session Write)) old new) (sym some)
-    (sends_prefix limit steps i r n t answer text count old new same (within_at i r n t same within) says appended)
+    (sends_prefix limit steps i r n t answer text count old new same (within_at i r n t same within) says part appended)

@@ -13,3 +13,4 @@ pub mod Fault
 pub mod Session
 pub mod Sends
 pub mod Bundle
+pub mod Status

@@ -30,14 +30,22 @@ pub data IsTooLong (t : Texts) (number : ℕ) : Type 0 where
   regions : number ≡ 2 → length t.image ≤ text_limit → text_limit < length t.regions → IsTooLong t number
   inputs : number ≡ 3 → length t.image ≤ text_limit → length t.regions ≤ text_limit → text_limit < length t.inputs → IsTooLong t number
 
--- what is answered and written for three texts, readers and limits counted in
+-- the texts before the one of this number, of three, are within the limit
+pub data IsTurnOf (t : Texts) (number : ℕ) : Type 0 where
+  image : number ≡ 1 → IsTurnOf t number
+  regions : number ≡ 2 → length t.image ≤ text_limit → IsTurnOf t number
+  inputs : number ≡ 3 → length t.image ≤ text_limit → length t.regions ≤ text_limit → IsTurnOf t number
+
+-- what is answered and written for three texts, readers and limits counted in: a text is read after those before it were
+-- found to be within the limit
 abbrev pub Answers : (limit steps : ℕ) → Texts → Result Outcome SessionFault → List ℕ → Type 0
-Answers limit steps t (Err (Read k)) text = (1 ≤ k) × (k ≤ 3) × (text ≡ [])
+Answers limit steps t (Err (Read k)) text = IsTurnOf t k × (text ≡ [])
 Answers limit steps t (Err (TooLong k)) text = IsTooLong t k × (text ≡ [])
 Answers limit steps t (Err Memory) text = text ≡ []
 Answers limit steps t answer text = AreWithin t × Says limit steps t answer text
 
--- the writer holds the whole text of the answer; after a failed write it holds a prefix of the text of some answer
+-- the writer holds the whole text of the answer; after a failed write it holds a part from the front of the text of some
+-- answer, and not all of it
 pub record SendsAll (limit steps : ℕ) (t : Texts) (answer : Result Outcome SessionFault) (old new : Option (List ℕ)) : Type 0 where
   pub text : List ℕ
   pub answers : Answers limit steps t answer text
@@ -48,6 +56,7 @@ pub record SendsPrefix (limit steps : ℕ) (t : Texts) (old new : Option (List �
   pub text : List ℕ
   pub answers : Answers limit steps t answer text
   pub count : ℕ
+  pub part : count < length text
   pub appended : Appends old new (take count text)
 
 abbrev pub Sends : (limit steps : ℕ) → Texts → Result Outcome SessionFault → (old new : Option (List ℕ)) → Type 0

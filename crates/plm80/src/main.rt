@@ -11,6 +11,9 @@
 //! | [`Refusal`] | why the check refuses an image |
 #![tactic(auto)]
 
+ghost use Rattle.std.specs.Prelude.{◌≡◌};
+ghost use Rattle.plm80.specs.Status.{run_status};
+
 mod bundle_text;
 mod bundling;
 mod checking;
@@ -88,7 +91,9 @@ fn fail(rt: &HostRuntime, fault: impl Display + Drop) -> ExitCode {
 }
 
 /// The exit status of a run that ended so.
-fn status_of(end: Option<End>) -> u8 {
+fn status_of(end: Option<End>) -> u8
+    ensures { result ≡ run_status «end» }
+{
     match end {
         Some(End::Halt) => 0,
         Some(_) => 3,

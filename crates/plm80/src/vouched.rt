@@ -1,6 +1,7 @@
 //! An image that was checked.
 
 ghost use Rattle.std.specs.Prelude.{◌≡◌, OnOk, IfOk, IfErr};
+ghost use Rattle.machine80.specs.World.{NeverGoesWrong};
 ghost use Rattle.plm80.specs.Check.{IsSound, Holds};
 
 use crate::checking::check;
@@ -90,6 +91,7 @@ impl Vouched {
 pub fn vouch(alloc: Global, image: Image) -> Result<Vouched, (Image, Refusal)>
     ensures image { IfOk result (λ vouched. vouched.image ≡ image) }
     ensures sound { OnOk result (IsSound image) }
+    ensures never_goes_wrong { IfOk result (λ vouched. NeverGoesWrong image vouched.stack_bytes) }
     ensures handed_back { IfErr result (λ refused. refused.0 ≡ image) }
     ensures refused { IfErr result (λ refused. Holds image refused.1) }
 {

@@ -1,5 +1,5 @@
 //! A source read whole, and bytes written whole.
-ghost use Rattle.std.specs.Prelude.{◌≡◌, ℕ, ◌+◌, ◌<◌, ◌≤◌, length, take, IfOk, IfSome, OnOk, vec_len};
+ghost use Rattle.std.specs.Prelude.{◌≡◌, ℕ, ◌+◌, ◌<◌, ◌≤◌, length, take, IfOk, IfSome, OnErr, OnOk, vec_len};
 ghost use Rattle.std.specs.Io.KnownBytes.{Appends, IsAtEnd};
 ghost use Rattle.plm80.specs.Failures.{error_failures};
 ghost use Rattle.plm80.specs.WholeText.{TakesAtMost, read_all_failures};
@@ -70,11 +70,11 @@ pub fn read_all<S: Source>(
     Err(ReadAllFault::TooLong)
 }
 
-/// Writes all of `bytes`. At a failure some of them may have been written, from the front.
+/// Writes all of `bytes`. At a failure some of them may have been written, from the front, but not all.
 pub fn write_all<K: Sink>(sink: &mut K, bytes: &[u8]) -> Result<(), Failed>
     requires { K.failed sink.old < u64.MAX }
     ensures whole { OnOk result (Appends (K.written sink.old) (K.written sink.new) bytes.now) }
-    ensures prefix { (n : ℕ) × Appends (K.written sink.old) (K.written sink.new) (take n bytes.now) }
+    ensures prefix { OnErr result ((n : ℕ) × (n < length bytes.now) × Appends (K.written sink.old) (K.written sink.new) (take n bytes.now)) }
     ensures count { K.failed sink.new ≡ K.failed sink.old + error_failures result }
 {
     let mut at = 0;

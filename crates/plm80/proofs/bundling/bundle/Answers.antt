@@ -1,4 +1,4 @@
-use Rattle.std.proofs.Common.{◌≡◌, ◌∙◌, ℕ, List, ap, sym, subst, refl, take}
+use Rattle.std.proofs.Common.{◌<◌, ◌≡◌, ◌∙◌, ℕ, List, ap, sym, subst, refl, take, length}
 use Rattle.std.specs.Prelude.{Option, Some, string_bytes}
 use Rattle.std.specs.Option.{option_map}
 use Rattle.std.specs.Io.KnownBytes.{Appends}
@@ -26,7 +26,9 @@ returns-clause-sends g c = λ bytes told short.
     let parts : bundle_texts bytes ≡ Some t =
     ap bundle_texts (sym whole) ∙ sym c.in-Ok-part_bundle.ensures ∙ ap (λ (o : Option BundleTexts). option_map (λ (p : BundleTexts). texts_read p.image.items p.regions.now p.inputs.now) o) c.in-Some.is in
     let same : Read3 c.deref-2.result.now c.in-Some.parts.regions.now c.in-Some.parts.inputs.now t = record { image = c.deref-2.ensures.value; regions = refl; inputs = refl } in
-    let count : ℕ = c.write_all.ensures.prefix.0 in
+    let count : ℕ = c.in-Err.ensures.prefix.0 in
+    let part : count < length (string_bytes c.answer_texts-reply.result.text) =
+    subst (λ (l : List ℕ). count < length l) c.as_bytes.ensures.value c.in-Err.ensures.prefix.1 in
     let appended : Appends (g.K.Sink.written c.args.out.now) (g.K.Sink.written c.write_all.new.sink) (take count (string_bytes c.answer_texts-reply.result.text)) =
-    subst (λ (l : List ℕ). Appends (g.K.Sink.written c.args.out.now) (g.K.Sink.written c.write_all.new.sink) (take count l)) c.as_bytes.ensures.value c.write_all.ensures.prefix.1 in
-    bundle_sends_prefix c.args.outputs c.args.steps (bundle_texts bytes) _ _ _ t c.answer_texts-reply.result.answer _ count _ _ parts same c.in_default-first_too_long.ensures.within c.answer_texts-reply.ensures appended
+    subst (λ (l : List ℕ). Appends (g.K.Sink.written c.args.out.now) (g.K.Sink.written c.write_all.new.sink) (take count l)) c.as_bytes.ensures.value c.in-Err.ensures.prefix.2 in
+    bundle_sends_prefix c.args.outputs c.args.steps (bundle_texts bytes) _ _ _ t c.answer_texts-reply.result.answer _ count _ _ parts same c.in_default-first_too_long.ensures.within c.answer_texts-reply.ensures part appended

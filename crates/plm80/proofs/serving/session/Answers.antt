@@ -1,4 +1,4 @@
-use Rattle.std.proofs.Common.{◌∙◌, ℕ, List, ◌≤◌, subst, arith, take, length}
+use Rattle.std.proofs.Common.{◌<◌, ◌∙◌, ℕ, List, ◌≤◌, subst, arith, take, length}
 use Rattle.std.specs.Prelude.{string_bytes}
 use Rattle.std.specs.Io.KnownBytes.{Appends}
 use Rattle.plm80.specs.Sends.{AreWithin, text_limit}
@@ -33,7 +33,9 @@ returns-clause-sends g c = λ t image regions inputs.
       regions = subst (λ (l : List ℕ). length l ≤ text_limit) same.regions (omega (arith, c.deref-2.ensures.len, c.in_ok-regions.ensures.within));
       inputs = subst (λ (l : List ℕ). length l ≤ text_limit) same.inputs (omega (arith, c.deref-3.ensures.len, c.in_ok-inputs.ensures.within));
     } in
-    let count : ℕ = c.write_all.ensures.prefix.0 in
+    let count : ℕ = c.in-Err.ensures.prefix.0 in
+    let part : count < length (string_bytes c.answer_texts-reply.result.text) =
+    subst (λ (l : List ℕ). count < length l) c.as_bytes.ensures.value c.in-Err.ensures.prefix.1 in
     let appended : Appends (g.K.Sink.written c.args.out.now) (g.K.Sink.written c.write_all.new.sink) (take count (string_bytes c.answer_texts-reply.result.text)) =
-    subst (λ (l : List ℕ). Appends (g.K.Sink.written c.args.out.now) (g.K.Sink.written c.write_all.new.sink) (take count l)) c.as_bytes.ensures.value c.write_all.ensures.prefix.1 in
-    sends_prefix c.args.outputs c.args.steps _ _ _ t c.answer_texts-reply.result.answer _ count _ _ same within c.answer_texts-reply.ensures appended
+    subst (λ (l : List ℕ). Appends (g.K.Sink.written c.args.out.now) (g.K.Sink.written c.write_all.new.sink) (take count l)) c.as_bytes.ensures.value c.in-Err.ensures.prefix.2 in
+    sends_prefix c.args.outputs c.args.steps _ _ _ t c.answer_texts-reply.result.answer _ count _ _ same within c.answer_texts-reply.ensures part appended

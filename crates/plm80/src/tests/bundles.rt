@@ -1,0 +1,182 @@
+//! Bundles, from their bytes to the transcript.
+
+use super::{SlowWriter, TRANSCRIPT, failing_at, roomy, slow};
+use crate::bundle_text::part_bundle;
+use crate::{BundleFault, Outcome, Reading, SessionFault, Writing, bundle};
+use machine80::End;
+use place80::RegionsFault;
+use std::alloc::Global;
+use std::io::ErrorKind;
+use std::process::Abort;
+use std::test::Fail;
+
+/// A program that puts out the byte that waits at port 02.
+const BUNDLE: &[u8] =
+    b"02050001410000B7060900000030DB02D301769A04050001000030C60E0100F1\nREGIONS 1\nCODE 3000 0005\nSTACK 3005 0000\nINPUTS\n02 41\n";
+
+/// What it comes to.
+const HALTED: Outcome = Outcome {
+    stack_bytes: 0,
+    end: Some(End::Halt),
+    steps: 3,
+    at: 0x3004,
+};
+
+#[test]
+fn a_bundle_comes_to_its_transcript(rt: HostRuntime) -> Result<(), Fail> {
+    let mut writer = roomy(rt.alloc());
+    let mut input = Reading::new(slow(BUNDLE));
+    let mut out = Writing::new(&mut writer);
+    let answer = bundle(rt.alloc(), &mut input, &mut out, 1_000_000, 65_536);
+    assert_eq!(rt; answer, Ok(HALTED));
+    assert_eq!(rt; writer.taken.as_slice(), TRANSCRIPT.as_bytes());
+    Ok(())
+}
+
+/// A bundle is answered so, and nothing is written.
+fn faults(rt: &impl Abort, alloc: Global, bytes: &[u8], fault: BundleFault) {
+    let mut writer = roomy(alloc);
+    let mut input = Reading::new(bytes);
+    let mut out = Writing::new(&mut writer);
+    let answer = bundle(alloc, &mut input, &mut out, 1_000_000, 65_536);
+    assert_eq!(rt; answer, Err(fault));
+    assert_eq!(rt; writer.taken.len(), 0);
+}
+
+#[test]
+fn what_has_no_three_parts_is_no_bundle(rt: HostRuntime) {
+    let bad = BundleFault::BadBundle;
+    faults(&rt, rt.alloc(), b"", bad);
+    faults(&rt, rt.alloc(), b"0E0100F1", bad);
+    faults(&rt, rt.alloc(), b"0E0100F1\r\nREGIONS 1\r\nINPUTS\r\n", bad);
+    faults(
+        &rt,
+        rt.alloc(),
+        b"0E0100F1\nREGIONS 1\nCODE 3000 0005\n02 41\n",
+        bad,
+    );
+}
+
+#[test]
+fn the_first_bad_line_of_the_inputs_is_told(rt: HostRuntime) {
+    let fault = BundleFault::Session(SessionFault::Inputs(1));
+    faults(
+        &rt,
+        rt.alloc(),
+        b"02050001410000B7060900000030DB02D301769A04050001000030C60E0100F1\nREGIONS 1\nCODE 3000 0005\nSTACK 3005 0000\nINPUTS\n02 4",
+        fault,
+    );
+    faults(
+        &rt,
+        rt.alloc(),
+        b"02050001410000B7060900000030DB02D301769A04050001000030C60E0100F1\nREGIONS 1\nCODE 3000 0005\nSTACK 3005 0000\nINPUTS\nINPUTS\n02 41\n",
+        fault,
+    );
+}
+
+#[test]
+fn the_version_of_the_regions_is_told(rt: HostRuntime) {
+    let fault = BundleFault::Session(SessionFault::Regions(RegionsFault::BadVersion));
+    faults(
+        &rt,
+        rt.alloc(),
+        b"02050001410000B7060900000030DB02D301769A04050001000030C60E0100F1\nREGIONS 9\nCODE 3000 0005\nSTACK 3005 0000\nINPUTS\n02 41\n",
+        fault,
+    );
+}
+
+#[test]
+fn an_image_without_bytes_or_with_a_wrong_sum_is_bad(rt: HostRuntime) {
+    let fault = BundleFault::Session(SessionFault::BadImage);
+    faults(
+        &rt,
+        rt.alloc(),
+        b"\nREGIONS 1\nSTACK 3005 0000\nINPUTS\n",
+        fault,
+    );
+    faults(
+        &rt,
+        rt.alloc(),
+        b"02050001410000B6060900000030DB02D301769A04050001000030C60E0100F1\nREGIONS 1\nCODE 3000 0005\nSTACK 3005 0000\nINPUTS\n02 41\n",
+        fault,
+    );
+}
+
+#[test]
+fn digits_of_image_and_inputs_are_of_either_case(rt: HostRuntime) -> Result<(), Fail> {
+    let bytes =
+        b"02050001410000b7060900000030Db02d301769a04050001000030C60e0100F1\nREGIONS 1\nCODE 3000 0005\nSTACK 3005 0000\nINPUTS\n02 4a\n";
+    let mut writer = roomy(rt.alloc());
+    let mut input = Reading::new(bytes.as_slice());
+    let mut out = Writing::new(&mut writer);
+    let answer = bundle(rt.alloc(), &mut input, &mut out, 1_000_000, 65_536);
+    assert_eq!(rt; answer, Ok(HALTED));
+    let expected = "STACK 0\nOUT 01 4A\nHALT 3004 AFTER 3\n";
+    assert_eq!(rt; writer.taken.as_slice(), expected.as_bytes());
+    Ok(())
+}
+
+#[test]
+fn a_failed_read_of_a_bundle_is_told(rt: HostRuntime) {
+    for place in [0, 10, BUNDLE.len()] {
+        let mut writer = roomy(rt.alloc());
+        let mut input = Reading::new(failing_at(BUNDLE, place));
+        let mut out = Writing::new(&mut writer);
+        let answer = bundle(rt.alloc(), &mut input, &mut out, 1_000_000, 65_536);
+        assert_eq!(rt; answer, Err(BundleFault::Session(SessionFault::Read(1))));
+        assert_eq!(rt; writer.taken.len(), 0);
+    }
+}
+
+#[test]
+fn a_failed_write_of_a_transcript_is_told(rt: HostRuntime) {
+    let text = TRANSCRIPT.as_bytes();
+    for full in 0..text.len() {
+        for kind in [None, Some(ErrorKind::Other)] {
+            let taken = Vec::new(rt.alloc());
+            let mut writer = SlowWriter { taken, full, kind };
+            let mut input = Reading::new(BUNDLE);
+            let mut out = Writing::new(&mut writer);
+            let answer = bundle(rt.alloc(), &mut input, &mut out, 1_000_000, 65_536);
+            assert_eq!(rt; answer, Err(BundleFault::Session(SessionFault::Write)));
+            assert_eq!(rt; writer.taken.as_slice(), &text[..full]);
+        }
+    }
+}
+
+#[test]
+fn a_bundle_without_an_end_is_too_long(rt: HostRuntime) {
+    let mut writer = roomy(rt.alloc());
+    let mut input = Reading::new(std::io::repeat(b'0'));
+    let mut out = Writing::new(&mut writer);
+    let answer = bundle(rt.alloc(), &mut input, &mut out, 1_000_000, 65_536);
+    assert_eq!(rt; answer, Err(BundleFault::Session(SessionFault::TooLong(1))));
+    assert_eq!(rt; writer.taken.len(), 0);
+}
+
+#[test]
+fn a_bundle_is_parted_at_its_first_inputs_line(rt: HostRuntime) -> Result<(), Fail> {
+    let bundle = b"00fF\nREGIONS 1\nINPUTS \nINPUTS\n02 41\nINPUTS\n";
+    let texts = part_bundle(rt.alloc(), bundle)?.ok_or("parted")?;
+    assert_eq!(rt; texts.image.as_slice(), [0, 255].as_slice());
+    assert_eq!(rt; texts.regions, b"REGIONS 1\nINPUTS \n".as_slice());
+    assert_eq!(rt; texts.inputs, b"02 41\nINPUTS\n".as_slice());
+    let empty = part_bundle(rt.alloc(), b"\nINPUTS\n")?.ok_or("parted")?;
+    assert_eq!(rt; empty.image.len(), 0);
+    assert_eq!(rt; empty.regions.len(), 0);
+    assert_eq!(rt; empty.inputs.len(), 0);
+    Ok(())
+}
+
+#[test]
+fn what_is_no_bundle_is_not_parted(rt: HostRuntime) -> Result<(), Fail> {
+    assert!(rt; part_bundle(rt.alloc(), b"")?.is_none());
+    assert!(rt; part_bundle(rt.alloc(), b"00")?.is_none());
+    assert!(rt; part_bundle(rt.alloc(), b"INPUTS\n")?.is_none());
+    assert!(rt; part_bundle(rt.alloc(), b"00\nREGIONS 1\n")?.is_none());
+    assert!(rt; part_bundle(rt.alloc(), b"00\nREGIONS 1\nINPUTS")?.is_none());
+    assert!(rt; part_bundle(rt.alloc(), b"00\nREGIONS 1\nINPUTS\r\n")?.is_none());
+    assert!(rt; part_bundle(rt.alloc(), b"00\r\nINPUTS\n")?.is_none());
+    assert!(rt; part_bundle(rt.alloc(), b"0\nINPUTS\n")?.is_none());
+    Ok(())
+}
