@@ -42,7 +42,7 @@ fn the_ends_of_a_program(rt: HostRuntime) -> Result<(), Fail> {
 #[test]
 fn a_store_outside_data(rt: HostRuntime) -> Result<(), Fail> {
     let program = [0x21, 0x00, 0x30, 0x36, 0x00, 0x76];
-    let mut board = Board::new(rt.alloc(), WITH_DATA, 0x3000, &program)?;
+    let mut board = Board::new(rt.alloc(), PLAIN, 0x3000, &program)?;
     assert_eq!(rt; board.step(&rt), None);
     ends(&rt, &mut board, End::StoreOutside(0x3000), 4);
     assert_eq!(rt; board.bus.load(0x3000), 0x21);
