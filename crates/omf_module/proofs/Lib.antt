@@ -2,3 +2,11 @@ pub mod ListingLemmas
 pub mod MarkLemmas
 pub mod OneForm
 pub mod WritingLemmas
+pub mod EntryLemmas
+pub mod StopLemmas
+pub mod RoundLemmas
+pub mod Kept
+pub mod SecondKeeps
+pub mod FirstKeeps
+pub mod RoundsKeep
+pub mod ModulesLemmas

@@ -2,7 +2,24 @@
 use Rattle.std.specs.Prelude.{ℕ}
 use Rattle.omf_module.specs.declared.fault.PartsFault.{PartsFault}
 use Rattle.omf_module.specs.declared.fault.PartsFault.TheVariants.{Rule, Memory}
+use Rattle.omf_module.specs.declared.fault.Cause.{Cause}
+use Rattle.omf_module.specs.declared.fault.Cause.TheVariants.{Record, NoHeader, UnknownKind, BadBody, BadName, SegmentUnknown, OffsetOutside, FixupBeforeContent, FixupOutside, FixupTwice, IndexUnknown, NoEnd, Memory as CauseMemory}
 
 abbrev pub parts_fault_code : PartsFault → ℕ
 parts_fault_code Rule = 1
 parts_fault_code Memory = 2
+
+abbrev pub cause_code : Cause → ℕ
+cause_code (Record f) = 1
+cause_code NoHeader = 2
+cause_code (UnknownKind kind) = 3
+cause_code (BadBody kind) = 4
+cause_code BadName = 5
+cause_code (SegmentUnknown id) = 6
+cause_code OffsetOutside = 7
+cause_code FixupBeforeContent = 8
+cause_code FixupOutside = 9
+cause_code FixupTwice = 10
+cause_code IndexUnknown = 11
+cause_code NoEnd = 12
+cause_code CauseMemory = 13

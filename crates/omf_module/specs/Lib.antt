@@ -5,3 +5,9 @@ pub mod Modules
 pub mod Rules
 pub mod Segments
 pub mod Writing
+pub mod Fields
+pub mod FirstRound
+pub mod Stop
+pub mod Told
+pub mod SecondRound
+pub mod Reading

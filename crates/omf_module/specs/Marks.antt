@@ -1,6 +1,13 @@
 -- A mark for each byte of a content record, which tells whether a reference has that byte.
 use Rattle.std.specs.Prelude.{◌≡◌, ℕ, ◌+◌, ◌<◌, Bool, false, List, length, slice_index_or}
+use Rattle.omf_module.specs.declared.fixup.Fixup.{Fixup}
+use Rattle.omf_module.specs.Contents.{is_taken}
 
 -- the marks of the bytes from offset `first` on tell which offsets are taken
 pub record AreMarks (marks : List Bool) (first : ℕ) (taken : ℕ → Bool) : Type 0 where
   pub at : (place : ℕ) → place < length marks → slice_index_or marks place false ≡ taken (first + place)
+
+-- the marks are those of a content of `size` bytes with these references
+pub record IsMarked (marks : List Bool) (first size : ℕ) (fixups : List Fixup) : Type 0 where
+  pub told : AreMarks marks first (is_taken fixups)
+  pub as_many : length marks ≡ size

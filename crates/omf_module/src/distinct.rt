@@ -11,13 +11,13 @@ use crate::segment::Segment;
 use crate::symbols::Common;
 use omf_core::Name;
 
-fn lists_id(entries: &[(u8, Segment)], id: u8) -> bool
+pub(crate) fn lists_id(entries: &[(u8, Segment)], id: u8) -> bool
     ensures { result ≡ list_any (λ d. d.0 == id) entries.now }
 {
     entries.iter().any(|d| d.0 == id)
 }
 
-fn names_name(commons: &[Common], name: &Name) -> bool
+pub(crate) fn names_name(commons: &[Common], name: &Name) -> bool
     ensures { result ≡ list_any (λ d. pointwise nat_eq d.name name.now) commons.now }
 {
     commons.iter().any(|d| d.name == *name)

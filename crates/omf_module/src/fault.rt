@@ -1,8 +1,10 @@
 //! The refusals of this crate. Each prints as its name, then its values with one space before each.
 
 ghost use Rattle.std.specs.Prelude.{◌≡◌};
-ghost use Rattle.omf_module.specs.Fault.{parts_fault_code};
+ghost use Rattle.omf_module.specs.Fault.{parts_fault_code, cause_code};
 
+use omf_core::RecordFault;
+use std::{error, fmt};
 use thiserror::Error;
 
 /// Why parts make no module.
@@ -27,3 +29,93 @@ impl PartsFault {
         }
     }
 }
+
+/// What is wrong with a record of a module. (8080 Object Module Formats, and the rules of this project.)
+#[derive(Clone, Copy, PartialEq, Eq, Debug, Error)]
+pub enum Cause {
+    /// The bytes are no record, by the fault that is told.
+    #[error("{0}")]
+    Record(RecordFault),
+    /// No byte stands where a module should start, or a record that isn't a module header.
+    #[error("NoHeader")]
+    NoHeader,
+    /// No record of this type byte may stand in a module.
+    #[error("UnknownKind {0:02X}")]
+    UnknownKind(u8),
+    /// The body of a record of this type byte ends inside a field, a field has no listed value,
+    /// or an id or a name is listed twice.
+    #[error("BadBody {0:02X}")]
+    BadBody(u8),
+    /// A name is empty, or has a byte outside 21h to 7Eh.
+    #[error("BadName")]
+    BadName,
+    /// No segment of the module has this id, or content is said to be in STACK.
+    #[error("SegmentUnknown {0:02X}")]
+    SegmentUnknown(u8),
+    /// Content passes the end of its segment.
+    #[error("OffsetOutside")]
+    OffsetOutside,
+    /// No content stands before a reference.
+    #[error("FixupBeforeContent")]
+    FixupBeforeContent,
+    /// The bytes of a reference aren't all in its content.
+    #[error("FixupOutside")]
+    FixupOutside,
+    /// A reference shares a byte with one before it.
+    #[error("FixupTwice")]
+    FixupTwice,
+    /// No external has the index of a reference.
+    #[error("IndexUnknown")]
+    IndexUnknown,
+    /// No byte stands where a module should go on, or an end-of-file record.
+    #[error("NoEnd")]
+    NoEnd,
+    /// There is no memory for the module.
+    #[error("Memory")]
+    Memory,
+}
+
+/// Why no module is read: what is wrong with the record at place `at`, in bytes from the start of the file.
+/// Want of memory is told with place 0.
+#[derive(Clone, Copy, PartialEq, Eq, Debug)]
+pub struct ModuleFault {
+    pub at: usize,
+    pub cause: Cause,
+}
+
+impl ModuleFault {
+    /// The number of the cause: 1 `Record`, 2 `NoHeader`, 3 `UnknownKind`, 4 `BadBody`, 5 `BadName`, 6 `SegmentUnknown`,
+    /// 7 `OffsetOutside`, 8 `FixupBeforeContent`, 9 `FixupOutside`, 10 `FixupTwice`, 11 `IndexUnknown`, 12 `NoEnd`, 13 `Memory`.
+    pub fn code(&self) -> u8
+        ensures { result ≡ cause_code self.now.cause }
+    {
+        match self.cause {
+            Cause::Record(_) => 1,
+            Cause::NoHeader => 2,
+            Cause::UnknownKind(_) => 3,
+            Cause::BadBody(_) => 4,
+            Cause::BadName => 5,
+            Cause::SegmentUnknown(_) => 6,
+            Cause::OffsetOutside => 7,
+            Cause::FixupBeforeContent => 8,
+            Cause::FixupOutside => 9,
+            Cause::FixupTwice => 10,
+            Cause::IndexUnknown => 11,
+            Cause::NoEnd => 12,
+            Cause::Memory => 13,
+        }
+    }
+}
+
+impl fmt::Display for ModuleFault {
+    fn fmt<W: fmt::Write>(&self, f: &mut fmt::Formatter<W>) -> fmt::Result {
+        let cause = self.cause;
+        let at = self.at;
+        match cause {
+            Cause::Memory => write!(f, "{cause}"),
+            _ => write!(f, "{cause} AT {at}"),
+        }
+    }
+}
+
+impl error::Error for ModuleFault {}

@@ -1,32 +1,46 @@
-//! Relocatable modules of Intel's 8080 object files (OMF-80): what a module holds, and the rules that it keeps.
+//! Relocatable modules of Intel's 8080 object files (OMF-80): what a module holds, the rules that it keeps, and how it
+//! is read and written.
 //!
 //! | Item | What it is |
 //! |---|---|
 //! | [`Module`], [`Parts`] | a module that keeps the rules; the parts that it is made of |
 //! | [`Segment`], [`Common`], [`Public`] | a segment's size and alignment; a named common; a declared name |
 //! | [`Content`], [`Fixup`], [`Field`], [`Target`] | bytes of a segment, and the references that stand in them |
-//! | [`PartsFault`] | why parts make no module |
+//! | [`read_module`], [`read_file`] | the module that begins at a place; the modules of an object file |
+//! | [`write_file`] | modules as an object file |
+//! | [`ModuleFault`], [`Cause`], [`PartsFault`] | why bytes, or parts, make no module |
 #![tactic(auto)]
 
+mod bodies;
 mod content;
 mod copies;
 mod distinct;
+mod entries;
 mod fault;
+mod fields;
+mod first;
 mod fixup;
 mod listing;
 mod marks;
 mod modules;
+mod open;
 mod parts;
+mod reading;
 mod rules;
+mod second;
 mod segment;
+mod step;
+mod stop;
 mod symbols;
+mod told;
 mod writing;
 
 pub use content::Content;
-pub use fault::PartsFault;
+pub use fault::{Cause, ModuleFault, PartsFault};
 pub use fixup::{Field, Fixup, Target};
 pub use modules::Module;
 pub use parts::Parts;
+pub use reading::{read_file, read_module};
 pub use segment::Segment;
 pub use symbols::{Common, Public};
 pub use writing::write_file;

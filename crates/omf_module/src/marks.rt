@@ -1,6 +1,6 @@
 //! The bytes of a content record that a reference has: a mark for each byte, so that a test looks at one mark.
 
-ghost use Rattle.std.specs.Prelude.{◌≡◌, ◌<◌, ◌^◌, true, false, not, List, [], ◌∷◌, ◌++◌, IsTrue, IfOk, slice_index_or, slice_set, vec_len};
+ghost use Rattle.std.specs.Prelude.{◌≡◌, ◌<◌, true, false, not, List, [], ◌∷◌, ◌++◌, length, IsTrue, IfOk, slice_index_or, slice_set, vec_len};
 ghost use Rattle.omf_module.specs.declared.fixup.Fixup.{Fixup};
 ghost use Rattle.omf_module.specs.Contents.{is_taken, is_inside, shares_a_byte};
 ghost use Rattle.omf_module.specs.Marks.{AreMarks};
@@ -22,15 +22,15 @@ fn has_target(commons: &[Common], externals: usize, target: Target) -> bool
 
 /// Whether each byte of the reference is one of the `size` bytes from offset `first` on.
 pub(crate) fn is_inside(first: u16, size: usize, fixup: Fixup) -> bool
-    requires { size < 2 ^ 32 }
     ensures { result ≡ is_inside first size fixup }
 {
-    let first = first as usize;
-    let offset = fixup.offset as usize;
-    let after = first + size;
+    if fixup.offset < first {
+        return false;
+    }
+    let place = (fixup.offset - first) as usize;
     match fixup.field {
-        Field::Low | Field::High => first <= offset && offset < after,
-        Field::Both => first <= offset && offset < after && offset + 1 < after,
+        Field::Low | Field::High => place < size,
+        Field::Both => place < size && place + 1 < size,
     }
 }
 
@@ -43,6 +43,20 @@ fn take_byte(marks: &mut Vec<bool>, place: usize) -> bool
     let was_taken = marks[place];
     marks[place] = true;
     !was_taken
+}
+
+/// Whether none of the bytes of a reference has a mark.
+pub(crate) fn is_free(marks: &[bool], first: u16, fixup: Fixup) -> bool
+    requires { IsTrue (is_inside first (length marks.now) fixup) }
+    ensures { (before : List Fixup)
+        → AreMarks marks.now first (is_taken before)
+        → result ≡ not (shares_a_byte before fixup) }
+{
+    let place = (fixup.offset - first) as usize;
+    match fixup.field {
+        Field::Low | Field::High => !marks[place],
+        Field::Both => !marks[place] && !marks[place + 1],
+    }
 }
 
 /// Marks the bytes of a reference, and tells whether none of them had a mark.
@@ -86,7 +100,6 @@ pub(crate) fn are_fitting(
     size: usize,
     fixups: &[Fixup],
 ) -> Result<bool, AllocError>
-    requires { size < 2 ^ 32 }
     ensures { IfOk result (λ kept. kept ≡ each_after (is_fitting commons.now externals first size) [] fixups.now) }
 {
     let mut marks = no_marks(alloc, first, size)?;

@@ -39,6 +39,7 @@ impl Model for Module {
 impl Module {
     ghost use Rattle.std.specs.Prelude.{◌≡◌, ◌≤◌, length, false, Err, IfOk, IfErr, OnOk, IsTrue};
     ghost use Rattle.omf_module.specs.declared.fault.PartsFault.TheVariants.{Rule};
+    ghost use Rattle.omf_module.specs.Segments.{in_one_form};
     ghost use Rattle.omf_module.specs.Modules.{made_of, segment_of};
     ghost use Rattle.omf_module.specs.Rules.{keeps_rules, IsModule};
 
@@ -67,7 +68,24 @@ impl Module {
             Ok(segments) => segments,
             Err(_) => return Err((parts, PartsFault::Memory)),
         };
-        Ok(Module {
+        Ok(Module::with_segments(parts, segments))
+    }
+
+    /// The module of parts that keep the rules.
+    pub(crate) fn of_rules(alloc: Global, parts: Parts) -> Result<Module, AllocError>
+        requires { IsTrue (keeps_rules parts) }
+        ensures { IfOk result (λ m. m ≡ made_of parts) }
+    {
+        let segments = in_one_form(alloc, &parts.segments, &parts.commons)?;
+        Ok(Module::with_segments(parts, segments))
+    }
+
+    fn with_segments(parts: Parts, segments: Vec<(u8, Segment)>) -> Module
+        requires rules { IsTrue (keeps_rules parts) }
+        requires one_form { segments.items ≡ in_one_form parts.segments parts.commons }
+        ensures { result ≡ made_of parts }
+    {
+        Module {
             name: parts.name,
             segments,
             commons: parts.commons,
@@ -75,7 +93,7 @@ impl Module {
             externals: parts.externals,
             contents: parts.contents,
             start: parts.start,
-        })
+        }
     }
 
     /// The same module once more.

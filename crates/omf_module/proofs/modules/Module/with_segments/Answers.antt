@@ -1,15 +1,15 @@
 -- What is made of parts that keep the rules keeps them.
-use Rattle.std.proofs.Common.{◌≡◌, ℕ, List, subst, sym, ◌∙◌, ap, IsTrue, rules}
+use Rattle.std.proofs.Common.{◌≡◌, ℕ, List, subst, sym, IsTrue}
 use Rattle.omf_module.specs.declared.segment.Segment.{Segment}
 use Rattle.omf_module.specs.Segments.{in_one_form}
 use Rattle.omf_module.specs.Modules.{ModuleValue}
 use Rattle.omf_module.specs.Rules.{keeps_rules, IsModule}
 use Rattle.omf_module.proofs.OneForm.{made_is_module}
-use Rattle.omf_module.proofs.modules.Module.from_parts.Goals as goal
+use Rattle.omf_module.proofs.modules.Module.with_segments.Goals as goal
 
 pub invariant_of-result : goal.invariant_of-result
 invariant_of-result c =
     let p : ModuleValue = record { name = c.parts.inside.name; segments = c.parts.inside.segments.items; commons = c.parts.inside.commons.items; publics = c.parts.inside.publics.items; externals = c.parts.inside.externals.items; contents = c.parts.inside.contents.items; start = c.parts.inside.start } in
-    let kept : IsTrue (keeps_rules p) = subst (λ (v : ModuleValue). IsTrue (keeps_rules v)) (sym c.parts.view_is) (search rules) in
-    let listed : c.in-Ok.segments.items ≡ in_one_form p.segments p.commons = c.in-Ok.ensures ∙ (ap (λ (e : List (ℕ × Segment)). in_one_form e c.deref-2.result.now) c.deref.ensures.value ∙ ap (in_one_form p.segments) c.deref-2.ensures.value) in
+    let kept : IsTrue (keeps_rules p) = subst (λ (v : ModuleValue). IsTrue (keeps_rules v)) (sym c.parts.view_is) c.requires.rules in
+    let listed : c.args.segments.items ≡ in_one_form p.segments p.commons = subst (λ (v : ModuleValue). c.args.segments.items ≡ in_one_form v.segments v.commons) (sym c.parts.view_is) c.requires.one_form in
     subst (λ (s : List (ℕ × Segment)). IsModule (record p { segments = s })) (sym listed) (made_is_module p kept)

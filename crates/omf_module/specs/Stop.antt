@@ -1,0 +1,26 @@
+-- Reading from left to right, with the first fault that is met.
+use Rattle.std.specs.Prelude.{◌≡◌, ℕ, Result, Ok, Err}
+use Rattle.omf_module.specs.declared.fault.Cause.{Cause}
+use Rattle.omf_module.specs.declared.fault.ModuleFault.{ModuleFault}
+use Rattle.omf_module.specs.declared.stop.Stop.{Stop}
+use Rattle.omf_module.specs.declared.stop.Stop.TheVariants.{Memory, Fault}
+
+-- one step of reading after another
+infixl 10 ◌>>=◌
+abbrev pub ◌>>=◌ : {A B F : Type 0} → Result A F → (A → Result B F) → Result B F
+(Ok x) >>= f = f x
+(Err e) >>= f = Err e
+
+-- What a function returned, seen by view, is what reading gives, unless memory ran out.
+abbrev pub Stops : {Y F : Type 0} → Stop F → Result Y F → Type 0
+Stops Memory read = Unit {0}
+Stops (Fault f) read = read ≡ Err f
+
+abbrev pub Gives : {X Y F : Type 0} → (X → Y) → Result X (Stop F) → Result Y F → Type 0
+Gives view (Ok x) read = read ≡ Ok (view x)
+Gives view (Err e) read = Stops e read
+
+-- a fault with the place of its record
+abbrev pub placed : ℕ → Stop Cause → Stop ModuleFault
+placed at Memory = Memory
+placed at (Fault cause) = Fault (record { at = at; cause = cause })
