@@ -10,6 +10,7 @@ mod bundles;
 mod checks;
 mod images;
 mod inputs;
+mod memory;
 mod programs;
 mod refusals;
 mod sessions;

@@ -11,11 +11,11 @@ use std::process::Abort;
 use std::test::Fail;
 
 /// A program that puts out the byte that waits at port 02.
-const BUNDLE: &[u8] =
+pub(super) const BUNDLE: &[u8] =
     b"02050001410000B7060900000030DB02D301769A04050001000030C60E0100F1\nREGIONS 1\nCODE 3000 0005\nSTACK 3005 0000\nINPUTS\n02 41\n";
 
 /// What it comes to.
-const HALTED: Outcome = Outcome {
+pub(super) const HALTED: Outcome = Outcome {
     stack_bytes: 0,
     end: Some(End::Halt),
     steps: 3,
