@@ -10,3 +10,8 @@ pub mod SecondKeeps
 pub mod FirstKeeps
 pub mod RoundsKeep
 pub mod ModulesLemmas
+pub mod WrittenFields
+pub mod WrittenRecords
+pub mod WrittenModule
+pub mod WrittenContents
+pub mod WrittenFile

@@ -11,3 +11,4 @@ pub mod Stop
 pub mod Told
 pub mod SecondRound
 pub mod Reading
+pub mod Laws

@@ -8,6 +8,7 @@
 //! | [`Content`], [`Fixup`], [`Field`], [`Target`] | bytes of a segment, and the references that stand in them |
 //! | [`read_module`], [`read_file`] | the module that begins at a place; the modules of an object file |
 //! | [`write_file`] | modules as an object file |
+//! | [`laws`] | a module that is written is read as itself |
 //! | [`ModuleFault`], [`Cause`], [`PartsFault`] | why bytes, or parts, make no module |
 #![tactic(auto)]
 
@@ -20,6 +21,7 @@ mod fault;
 mod fields;
 mod first;
 mod fixup;
+pub mod laws;
 mod listing;
 mod marks;
 mod modules;

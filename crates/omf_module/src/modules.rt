@@ -116,7 +116,7 @@ impl Module {
             publics,
             externals,
             contents,
-            start: self.start,
+            start: Module::start(self),
         })
     }
 
@@ -144,7 +144,7 @@ impl Module {
         ensures rules { IsModule self.now }
         ensures few { length self.now.segments ≤ 255 }
     {
-        &self.segments
+        self.segments.as_slice()
     }
 
     /// The named commons, in the order in which they were listed.
@@ -152,7 +152,7 @@ impl Module {
         ensures value { result.now ≡ self.now.commons }
         ensures rules { IsModule self.now }
     {
-        &self.commons
+        self.commons.as_slice()
     }
 
     /// The names that the module declares, in order.
@@ -160,7 +160,7 @@ impl Module {
         ensures value { result.now ≡ self.now.publics }
         ensures rules { IsModule self.now }
     {
-        &self.publics
+        self.publics.as_slice()
     }
 
     /// The names of other modules that references are to, by their index.
@@ -168,7 +168,7 @@ impl Module {
         ensures value { result.now ≡ self.now.externals }
         ensures rules { IsModule self.now }
     {
-        &self.externals
+        self.externals.as_slice()
     }
 
     /// The module's bytes and the references in them, in the order of the records.
@@ -176,7 +176,7 @@ impl Module {
         ensures value { result.now ≡ self.now.contents }
         ensures rules { IsModule self.now }
     {
-        &self.contents
+        self.contents.as_slice()
     }
 
     /// The segment and the offset where the program starts, where the module is a main program.

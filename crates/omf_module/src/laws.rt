@@ -1,0 +1,22 @@
+//! What holds of all modules that are written, whatever calls are made. Each law is ensured by a function that does
+//! nothing: a layer above that calls it has the law in its proof.
+
+ghost use Rattle.omf_module.specs.Laws.{WrittenModuleIsRead, WrittenFileIsRead};
+
+use omf_core::laws::{no_fault_exactly_at_records, written_is_spelled};
+
+/// A module that is written is read as the same module, wherever it stands in a file.
+pub fn written_module_is_read()
+    ensures { WrittenModuleIsRead }
+{
+    written_is_spelled();
+    no_fault_exactly_at_records();
+}
+
+/// A file that is written is read as the same modules.
+pub fn written_file_is_read()
+    ensures { WrittenFileIsRead }
+{
+    written_is_spelled();
+    no_fault_exactly_at_records();
+}
