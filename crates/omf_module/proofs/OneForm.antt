@@ -11,7 +11,7 @@ use Rattle.omf_module.specs.declared.symbols.Common.{Common}
 use Rattle.omf_module.specs.Segments.{empty_segment, segment_in, entries_for, listed_ids, in_one_form, names_common, has_segment, is_used, is_common_id, is_fixed_id}
 use Rattle.omf_module.specs.Contents.{ContentValue}
 use Rattle.omf_module.specs.Modules.{ModuleValue, made_of}
-use Rattle.omf_module.specs.Rules.{each_after, is_new_entry, is_new_common, end_of, is_placed, is_content, is_fitting, is_start, is_sound, keeps_rules, IsModule}
+use Rattle.omf_module.specs.Rules.{each_after, is_new_entry, is_new_common, end_of, is_placed, is_content, is_fitting, is_start, is_sound, keeps_rules, has_names, IsModule}
 
 abbrev segment_by : ℕ → Bool → Segment
 segment_by length paged = record { length = length; paged = paged }
@@ -215,8 +215,8 @@ and_join : (a b : Bool) → a ≡ true → b ≡ true → (a && b) ≡ true
 and_join true b e f = f
 and_join false b e f = absurd cc
 
-pub made_is_module : (p : ModuleValue) → IsTrue (keeps_rules p) → IsModule (made_of p)
-made_is_module p kept =
+pub made_is_module : (p : ModuleValue) → IsTrue (keeps_rules p) → IsTrue (has_names p) → IsModule (made_of p)
+made_is_module p kept names =
     let parts = and_parts (each_after (is_new_entry p.commons) [] p.segments) (is_sound p) kept in
     let c = and_parts (each_after is_new_common [] p.commons && list_all (λ q. has_segment p.commons q.segment) p.publics && list_all (is_content p.segments p.commons (length p.externals)) p.contents) (is_start p.commons p.start) parts.1 in
     let b = and_parts (each_after is_new_common [] p.commons && list_all (λ q. has_segment p.commons q.segment) p.publics) (list_all (is_content p.segments p.commons (length p.externals)) p.contents) c.0 in
@@ -228,4 +228,5 @@ made_is_module p kept =
           (contents-one_form p.segments p.commons (length p.externals) p.contents a.0 b.1)) c.1;
       own = listed_exists p.commons p.segments listed_ids (entries_exist p.commons [] p.segments parts.0);
       one_form = one_form_twice p.segments p.commons;
+      names = names;
     }

@@ -5,6 +5,7 @@ use Rattle.std.specs.List.{list_all, flat_map, AllByRecursion}
 use Rattle.std.specs.Option.{option_to_list}
 use Rattle.std.proofs.lemmas.Bool.{and_parts}
 use Rattle.std.proofs.lemmas.List.{length-append, append-nil}
+use Rattle.omf_core.specs.Name.{is_name}
 use Rattle.omf_core.specs.Record.{spelling, checksum, unsummed}
 use Rattle.omf_core.specs.Records.{RecordValue, spellings}
 use Rattle.omf_core.specs.Laws.{WrittenIsSpelled, NoFaultExactlyAtRecords}
@@ -20,19 +21,34 @@ use Rattle.omf_module.specs.declared.fault.ModuleFault.{ModuleFault}
 use Rattle.omf_module.specs.Contents.{ContentValue}
 use Rattle.omf_module.specs.Segments.{has_segment}
 use Rattle.omf_module.specs.Modules.{ModuleValue, made_of}
-use Rattle.omf_module.specs.Rules.{each_after, is_new_common, is_content, is_start}
+use Rattle.omf_module.specs.Rules.{IsModule, each_after, is_new_common, is_content, is_start}
 use Rattle.omf_module.specs.Stop.{◌>>=◌}
 use Rattle.omf_module.specs.FirstRound.{Placed, Draft, First, start_in, start_steps, after_record, after_end, header_in, entry_steps, at_place, framed, records_from}
 use Rattle.omf_module.specs.SecondRound.{Known, Built, built_from, contents_from}
 use Rattle.omf_module.specs.Reading.{begun, known_of, parts_of, header_at, parts_at, module_at, ends_at, next_module, or_more, modules_from, file_of}
 use Rattle.omf_module.specs.Writing.{word_bytes, field_byte, header_record, header_body, common_record, public_record, external_record, fixup_by, fixup_record, content_records, end_body, end_record, records_of, file_records, file_bytes, record_of}
-use Rattle.omf_module.specs.Laws.{IsWritable, WrittenModuleIsRead, WrittenFileIsRead}
+use Rattle.omf_module.specs.Laws.{WrittenModuleIsRead, WrittenFileIsRead}
 use Rattle.omf_module.proofs.Kept.{bind_ok, ok_is}
 use Rattle.omf_module.proofs.WritingLemmas.{spellings_append}
 use Rattle.omf_module.proofs.WrittenFields.{test_off, header_again}
 use Rattle.omf_module.proofs.WrittenRecords.{framed_written, record_longer, are_within, told_over, records_written}
 use Rattle.omf_module.proofs.WrittenModule.{none, uses_pass, draft_by, commons_told, publics_told, externals_told}
 use Rattle.omf_module.proofs.WrittenContents.{after_both, Contents, contents_told}
+
+-- ---- names
+
+record Names (m : ModuleValue) : Type 0 where
+  pub name : is_name m.name ≡ true
+  pub commons : list_all (λ c. is_name c.name) m.commons ≡ true
+  pub publics : list_all (λ p. is_name p.name) m.publics ≡ true
+  pub externals : list_all is_name m.externals ≡ true
+
+names_of : (m : ModuleValue) → IsModule m → Names m
+names_of m w =
+    let c = and_parts (is_name m.name && list_all (λ v. is_name v.name) m.commons && list_all (λ v. is_name v.name) m.publics) (list_all is_name m.externals) w.names in
+    let b = and_parts (is_name m.name && list_all (λ v. is_name v.name) m.commons) (list_all (λ v. is_name v.name) m.publics) c.0 in
+    let a = and_parts (is_name m.name) (list_all (λ v. is_name v.name) m.commons) b.0 in
+    record { name = a.0; commons = a.1; publics = b.1; externals = c.1 }
 
 -- ---- no record within is an end
 
@@ -90,13 +106,13 @@ entries_pass k at (x ∷ xs) b has =
     let p = and_parts (has_segment k.commons x.0) (list_all (λ (y : ℕ × Segment). has_segment k.commons y.0) xs) has in
     ap (λ (t : Bool). at_place at (if t then Ok b else Err (SegmentUnknown x.0)) >>= λ v. built_from k (entry_steps at xs) v) p.0 ∙ entries_pass k at xs b p.1
 
-header_written : WrittenIsSpelled → NoFaultExactlyAtRecords → (before after : List ℕ) (m : ModuleValue) → IsWritable m
+header_written : WrittenIsSpelled → NoFaultExactlyAtRecords → (before after : List ℕ) (m : ModuleValue) → IsModule m
     → header_at (before ++ spelling 0x02 (header_body m.name m.segments) ++ after) (length before) ≡ Ok ((m.name, m.segments), length before + (4 + length (header_body m.name m.segments)))
 unfolding header_at
 header_written written exact before after m w =
     let r : RecordValue = header_record m in
     let again : header_in (header_body m.name m.segments) ≡ Ok (m.name, m.segments) =
-    subst (λ (s : List (ℕ × Segment)). header_in (header_body m.name s) ≡ Ok (m.name, s)) (sym w.rules.one_form) (header_again m.name m.segments m.commons w.name) in
+    subst (λ (s : List (ℕ × Segment)). header_in (header_body m.name s) ≡ Ok (m.name, s)) (sym w.one_form) (header_again m.name m.segments m.commons (names_of m w).name) in
     test_off (nat_le (length (before ++ spelling 0x02 (header_body m.name m.segments) ++ after)) (length before)) (Err (record { at = length before; cause = NoHeader })) (framed (before ++ spelling 0x02 (header_body m.name m.segments) ++ after) (length before) >>= λ x. if x.0.kind == 0x02 then (at_place (length before) (header_in x.0.body) >>= λ h. Ok (h, x.1)) else Err (record { at = length before; cause = NoHeader })) (record_longer before after (header_record m))
     ∙ (ap (λ (f : Result (RecordValue × ℕ) ModuleFault). f >>= λ x. if x.0.kind == 0x02 then (at_place (length before) (header_in x.0.body) >>= λ h. Ok (h, x.1)) else Err (record { at = length before; cause = NoHeader })) (framed_written written exact before after (header_record m))
     ∙ ap (λ (f : Result (List ℕ × List (ℕ × Segment)) Cause). at_place (length before) f >>= λ h. Ok (h, length before + (4 + length (header_body m.name m.segments)))) again)
@@ -132,16 +148,16 @@ abbrev knows : ModuleValue → Known
 knows m = record { segments = m.segments; commons = m.commons; externals = length m.externals }
 
 -- what the middle of a module tells
-middle_told : (m : ModuleValue) (w : IsWritable m) (header at : ℕ) → Contents (knows m) at (begun header m.segments) (middle m) m.commons m.publics m.externals m.contents
+middle_told : (m : ModuleValue) (w : IsModule m) (header at : ℕ) → Contents (knows m) at (begun header m.segments) (middle m) m.commons m.publics m.externals m.contents
 middle_told m w header at =
-    let c3 = and_parts (each_after is_new_common [] m.commons && list_all (λ q. has_segment m.commons q.segment) m.publics && list_all (is_content m.segments m.commons (length m.externals)) m.contents) (is_start m.commons m.start) w.rules.sound in
+    let c3 = and_parts (each_after is_new_common [] m.commons && list_all (λ q. has_segment m.commons q.segment) m.publics && list_all (is_content m.segments m.commons (length m.externals)) m.contents) (is_start m.commons m.start) w.sound in
     let c2 = and_parts (each_after is_new_common [] m.commons && list_all (λ q. has_segment m.commons q.segment) m.publics) (list_all (is_content m.segments m.commons (length m.externals)) m.contents) c3.0 in
     let c1 = and_parts (each_after is_new_common [] m.commons) (list_all (λ q. has_segment m.commons q.segment) m.publics) c2.0 in
     let k = knows m in
-    let a = commons_told (knows m) at 0 (entry_steps header m.segments) [] m.commons [] [] none c1.0 w.commons (entries_pass (knows m) header m.segments none w.rules.own) in
-    let b = publics_told (knows m) a.next a.own a.steps m.commons [] m.publics [] none c1.1 w.publics a.ran in
+    let a = commons_told (knows m) at 0 (entry_steps header m.segments) [] m.commons [] [] none c1.0 (names_of m w).commons (entries_pass (knows m) header m.segments none w.own) in
+    let b = publics_told (knows m) a.next a.own a.steps m.commons [] m.publics [] none c1.1 (names_of m w).publics a.ran in
     let ab = after_both (knows m) at (begun header m.segments) (map common_record m.commons) (map public_record m.publics) m.commons m.commons [] m.publics [] [] none none a b in
-    let c = externals_told (knows m) ab.next ab.own ab.steps m.commons m.publics [] m.externals none w.externals ab.ran in
+    let c = externals_told (knows m) ab.next ab.own ab.steps m.commons m.publics [] m.externals none (names_of m w).externals ab.ran in
     let abc = after_both (knows m) at (begun header m.segments) (map common_record m.commons ++ map public_record m.publics) (map external_record m.externals) m.commons m.commons m.publics m.publics [] m.externals none none ab c in
     let d = contents_told (knows m) abc.next abc.own abc.steps m.commons m.publics m.externals none m.contents c2.1 abc.ran in
     record {
@@ -161,7 +177,7 @@ abbrev both_rounds : List ℕ → (List ℕ × List (ℕ × Segment)) × ℕ →
 both_rounds bytes header at =
     records_from (length bytes) bytes header.1 (begun at header.0.1) >>= λ first. contents_from (known_of header.0.1 first.draft) first.draft.steps >>= λ contents. Ok (parts_of header.0 first contents, first.after)
 
-parts_written : WrittenIsSpelled → NoFaultExactlyAtRecords → (before after : List ℕ) (m : ModuleValue) → IsWritable m
+parts_written : WrittenIsSpelled → NoFaultExactlyAtRecords → (before after : List ℕ) (m : ModuleValue) → IsModule m
     → parts_at (before ++ spelling 0x02 (header_body m.name m.segments) ++ (spellings (middle m) ++ (spelling 0x04 (end_body m.start) ++ after))) (length before)
     ≡ Ok (m, length before + (4 + length (header_body m.name m.segments)) + length (spellings (middle m)) + (4 + length (end_body m.start)))
 unfolding parts_at
@@ -184,7 +200,7 @@ parts_written written exact before after m w =
     ap (λ p. records_from (length bytes) bytes p (begun (length before) m.segments)) (sym place)
     ∙ records_written written exact (length bytes) front after (begun (length before) m.segments) (middle m) (end_body m.start) d a.next (record d { steps = a.steps ++ start_steps a.next m.start }, m.start)
     (middle_within m) enough a.told (end_again a.next d m.start) in
-    let parts = and_parts (each_after is_new_common [] m.commons && list_all (λ q. has_segment m.commons q.segment) m.publics && list_all (is_content m.segments m.commons (length m.externals)) m.contents) (is_start m.commons m.start) w.rules.sound in
+    let parts = and_parts (each_after is_new_common [] m.commons && list_all (λ q. has_segment m.commons q.segment) m.publics && list_all (is_content m.segments m.commons (length m.externals)) m.contents) (is_start m.commons m.start) w.sound in
     let ran : built_from (knows m) (a.steps ++ start_steps a.next m.start) none ≡ Ok c.built = start_pass (knows m) a.steps a.next m.start c.built parts.1 a.ran in
     let contents : contents_from (knows m) (a.steps ++ start_steps a.next m.start) ≡ Ok m.contents =
     ap (λ (r : Result Built ModuleFault). r >>= λ b. Ok (b.done ++ option_to_list b.current)) ran ∙ ap (λ (v : List ContentValue). Ok v) c.whole in
@@ -204,7 +220,7 @@ module_written written exact before after m w =
     let t = spellings (middle m ++ end_record m ∷ []) in
     let split : spellings (middle m ++ end_record m ∷ []) ≡ spellings (middle m) ++ (spelling 0x04 (end_body m.start) ++ []) = spellings_append (middle m) (end_record m ∷ []) in
     let bytes = module_bytes before after s e (middle m) t split in
-    let made : made_of m ≡ m = ap (λ (v : List (ℕ × Segment)). record m { segments = v }) (sym w.rules.one_form) in
+    let made : made_of m ≡ m = ap (λ (v : List (ℕ × Segment)). record m { segments = v }) (sym w.one_form) in
     let place : length before + (4 + length (header_body m.name m.segments)) + length (spellings (middle m)) + (4 + length (end_body m.start)) ≡ length before + length (s ++ t) =
     omega (arith, length-append s t, ap length split, length-append (spellings (middle m)) (e ++ []), length-append e [], length_spelling 0x02 (header_body m.name m.segments), length_spelling 0x04 (end_body m.start)) in
     ap (λ (b : List ℕ). module_at b (length before)) bytes
@@ -245,7 +261,7 @@ goes_on_by written exact before after m =
     ∙ (ap (λ (x : List ℕ). before ++ x) (append_assoc (spelling 0x02 (header_body m.name m.segments)) t.0 after) ∙ sym (append_assoc before (spelling 0x02 (header_body m.name m.segments)) (t.0 ++ after))) in
     ap (λ (b : List ℕ). ends_at b (length before)) bytes ∙ ends_by written exact before (t.0 ++ after) (header_record m)
 
-next_is : WrittenIsSpelled → NoFaultExactlyAtRecords → (before after : List ℕ) (m : ModuleValue) (read : List ModuleValue) → IsWritable m
+next_is : WrittenIsSpelled → NoFaultExactlyAtRecords → (before after : List ℕ) (m : ModuleValue) (read : List ModuleValue) → IsModule m
     → next_module (before ++ (spellings (records_of m) ++ after)) (length before) read ≡ Ok (read ++ m ∷ [], Some (length before + length (spellings (records_of m))))
 unfolding next_module
 next_is written exact before after m read w =
@@ -259,7 +275,7 @@ last_is written exact before read =
     ap (λ (r : Result Bool ModuleFault). r >>= λ ended. if ended then Ok (read, None) else (module_at (before ++ file_tail []) (length before) >>= λ x. Ok (read ++ x.0 ∷ [], Some x.1)))
     (ap (λ (b : List ℕ). ends_at b (length before)) bytes ∙ ends_by written exact before [] end_of_file)
 
-modules_written : WrittenIsSpelled → NoFaultExactlyAtRecords → (n : ℕ) (before : List ℕ) (ms read : List ModuleValue) → length ms < n → AllByRecursion IsWritable ms
+modules_written : WrittenIsSpelled → NoFaultExactlyAtRecords → (n : ℕ) (before : List ℕ) (ms read : List ModuleValue) → length ms < n → AllByRecursion IsModule ms
     → modules_from n (before ++ file_tail ms) (length before) read ≡ Ok (read ++ ms)
 modules_written written exact zero before ms read enough w = absurd (omega (arith, enough))
 modules_written written exact (suc n) before [] read enough w =

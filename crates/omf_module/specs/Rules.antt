@@ -3,6 +3,7 @@
 use Rattle.std.specs.Prelude.{◌≡◌, ℕ, ◌+◌, ◌==◌, nat_eq, Bool, true, ◌&&◌, not, nat_lt, nat_le, if◌then◌else◌, Option, Some, None, List, [], ◌∷◌, ◌++◌, length, IsTrue}
 use Rattle.std.specs.List.{list_all, list_any}
 use Rattle.std.specs.Cmp.Lexicographic.{pointwise}
+use Rattle.omf_core.specs.Name.{is_name}
 use Rattle.omf_module.specs.declared.segment.Segment.{Segment}
 use Rattle.omf_module.specs.declared.symbols.Common.{Common}
 use Rattle.omf_module.specs.declared.fixup.Fixup.{Fixup}
@@ -72,8 +73,17 @@ is_sound m =
 abbrev pub keeps_rules : ModuleValue → Bool
 keeps_rules m = each_after (is_new_entry m.commons) [] m.segments && is_sound m
 
--- a module keeps them, and its segments, all of them its own, have their one form
+-- all names are names, as their type keeps it
+abbrev pub has_names : ModuleValue → Bool
+has_names m =
+    is_name m.name
+    && list_all (λ c. is_name c.name) m.commons
+    && list_all (λ p. is_name p.name) m.publics
+    && list_all is_name m.externals
+
+-- a module keeps them, its names are names, and its segments, all of them its own, have their one form
 pub record IsModule (m : ModuleValue) : Type 0 where
   pub sound : IsTrue (is_sound m)
   pub own : IsTrue (list_all (λ e. has_segment m.commons e.0) m.segments)
   pub one_form : m.segments ≡ in_one_form m.segments m.commons
+  pub names : IsTrue (has_names m)

@@ -25,6 +25,7 @@ pub mod laws;
 mod listing;
 mod marks;
 mod modules;
+mod names;
 mod open;
 mod parts;
 mod reading;

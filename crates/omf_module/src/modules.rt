@@ -2,6 +2,7 @@ use crate::content::Content;
 use crate::copies::{copy_commons, copy_contents, copy_names, copy_publics};
 use crate::fault::PartsFault;
 use crate::listing::in_one_form;
+use crate::names::look_at_names;
 use crate::parts::Parts;
 use crate::rules::{has_segment, keeps_rules, segment_in};
 use crate::segment::Segment;
@@ -41,7 +42,7 @@ impl Module {
     ghost use Rattle.omf_module.specs.declared.fault.PartsFault.TheVariants.{Rule};
     ghost use Rattle.omf_module.specs.Segments.{in_one_form};
     ghost use Rattle.omf_module.specs.Modules.{made_of, segment_of};
-    ghost use Rattle.omf_module.specs.Rules.{keeps_rules, IsModule};
+    ghost use Rattle.omf_module.specs.Rules.{keeps_rules, has_names, IsModule};
 
     /// The module of these parts. The order of `segments` doesn't matter, nor whether a segment without bytes
     /// that isn't paged is among them.
@@ -68,6 +69,7 @@ impl Module {
             Ok(segments) => segments,
             Err(_) => return Err((parts, PartsFault::Memory)),
         };
+        look_at_names(&parts);
         Ok(Module::with_segments(parts, segments))
     }
 
@@ -77,11 +79,13 @@ impl Module {
         ensures { IfOk result (λ m. m ≡ made_of parts) }
     {
         let segments = in_one_form(alloc, &parts.segments, &parts.commons)?;
+        look_at_names(&parts);
         Ok(Module::with_segments(parts, segments))
     }
 
     fn with_segments(parts: Parts, segments: Vec<(u8, Segment)>) -> Module
         requires rules { IsTrue (keeps_rules parts) }
+        requires names { IsTrue (has_names parts) }
         requires one_form { segments.items ≡ in_one_form parts.segments parts.commons }
         ensures { result ≡ made_of parts }
     {
