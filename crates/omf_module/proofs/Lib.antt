@@ -15,3 +15,6 @@ pub mod WrittenRecords
 pub mod WrittenModule
 pub mod WrittenContents
 pub mod WrittenFile
+pub mod PatchLemmas
+pub mod WorkedPlaces
+pub mod PatchingLemmas
