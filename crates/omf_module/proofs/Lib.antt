@@ -15,6 +15,4 @@ pub mod WrittenRecords
 pub mod WrittenModule
 pub mod WrittenContents
 pub mod WrittenFile
-pub mod PatchLemmas
-pub mod WorkedPlaces
-pub mod PatchingLemmas
+pub mod ReadSpelled

@@ -13,6 +13,7 @@ use Rattle.omf_module.specs.declared.fault.ModuleFault.{ModuleFault}
 use Rattle.omf_module.specs.Stop.{◌>>=◌}
 use Rattle.omf_module.proofs.Kept.{bind_ok, ok_is}
 use Rattle.omf_module.proofs.WrittenFields.{test_off}
+use Rattle.omf_module.specs.Spelled.{are_within, told_over}
 use Rattle.omf_module.specs.FirstRound.{Draft, First, after_record, after_end, at_place, framed_by, framed, record_at, or_others, records_from}
 
 -- ---- the frame
@@ -43,15 +44,6 @@ framed_written written exact before after r =
     ∙ ap (λ n. Ok (r, length before + n)) size))
 
 -- ---- records, as the first round takes them
-
--- what records tell, one after another from place `at` on, and the place after them
-abbrev pub told_over : ℕ → Draft → List RecordValue → Result (Draft × ℕ) Cause
-told_over at d [] = Ok (d, at)
-told_over at d (r ∷ rs) = after_record at r.kind r.body d >>= λ d'. told_over (at + (4 + length r.body)) d' rs
-
-abbrev pub are_within : List RecordValue → Type 0
-are_within [] = Unit {0}
-are_within (r ∷ rs) = ((r.kind == 0x04) ≡ false) × are_within rs
 
 abbrev told_pair : Draft → ℕ → Result (Draft × ℕ) Cause
 told_pair d at = Ok (d, at)

@@ -7,12 +7,9 @@ pub mod Segments
 pub mod Writing
 pub mod Fields
 pub mod FirstRound
+pub mod Spelled
 pub mod Stop
 pub mod Told
 pub mod SecondRound
 pub mod Reading
 pub mod Laws
-pub mod Place
-pub mod Patches
-pub mod ImageByte
-pub mod PatchLaws

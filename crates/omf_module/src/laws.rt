@@ -1,7 +1,7 @@
 //! What holds of all modules that are written, whatever calls are made. Each law is ensured by a function that does
 //! nothing: a layer above that calls it has the law in its proof.
 
-ghost use Rattle.omf_module.specs.PatchLaws.{LowTwice, BothTwice, HighTwice};
+ghost use Rattle.omf_module.specs.Spelled.{ReadIsSpelled};
 ghost use Rattle.omf_module.specs.Laws.{WrittenModuleIsRead, WrittenFileIsRead};
 
 use omf_core::laws::{no_fault_exactly_at_records, written_is_spelled};
@@ -22,10 +22,9 @@ pub fn written_file_is_read()
     no_fault_exactly_at_records();
 }
 
-/// Adding a part's start to a reference and then a base is adding their sum: to a low byte, to a word, and to a high byte
-/// where one of the two is a multiple of 256.
-pub fn adding_twice_is_adding_once()
-    ensures low { LowTwice }
-    ensures both { BothTwice }
-    ensures high { HighTwice }
+/// What is read is spelled: the bytes of a module are records, one after another, a header, records none of which is an
+/// end, and an end; and what all of them tell makes the module.
+#[tactic(auto, using(crate::proofs::ReadSpelled::read_is_spelled))]
+pub fn read_is_spelled()
+    ensures { ReadIsSpelled }
 {}

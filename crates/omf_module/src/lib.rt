@@ -9,7 +9,6 @@
 //! | [`read_module`], [`read_file`] | the module that begins at a place; the modules of an object file |
 //! | [`write_file`] | modules as an object file |
 //! | [`laws`] | a module that is written is read as itself |
-//! | [`Patch`], [`apply_patches`] | references of a content, each increased by a displacement |
 //! | [`ModuleFault`], [`Cause`], [`PartsFault`] | why bytes, or parts, make no module |
 #![tactic(auto)]
 
@@ -29,7 +28,6 @@ mod modules;
 mod names;
 mod open;
 mod parts;
-mod patching;
 mod reading;
 mod rules;
 mod second;
@@ -45,7 +43,6 @@ pub use fault::{Cause, ModuleFault, PartsFault};
 pub use fixup::{Field, Fixup, Target};
 pub use modules::Module;
 pub use parts::Parts;
-pub use patching::{Patch, apply_patches};
 pub use reading::{read_file, read_module};
 pub use segment::Segment;
 pub use symbols::{Common, Public};
