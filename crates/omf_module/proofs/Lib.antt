@@ -16,3 +16,4 @@ pub mod WrittenModule
 pub mod WrittenContents
 pub mod WrittenFile
 pub mod ReadSpelled
+pub mod SpelledRead

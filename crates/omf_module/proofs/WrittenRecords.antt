@@ -24,7 +24,7 @@ head_body_of kind body after =
     ap (λ n. take n (body ++ checksum (unsummed kind body) ∷ [] ++ after)) size
     ∙ (ap (take (length body)) (append_assoc body (checksum (unsummed kind body) ∷ []) after) ∙ take_at body ((checksum (unsummed kind body) ∷ []) ++ after) (length body) refl)
 
-framed_none : (o : Option RecordFault) (rest : List ℕ) (at : ℕ) → o ≡ None → framed_by o rest at ≡ Ok (record { kind = head_kind rest; body = head_body rest }, at + record_size rest)
+pub framed_none : (o : Option RecordFault) (rest : List ℕ) (at : ℕ) → o ≡ None → framed_by o rest at ≡ Ok (record { kind = head_kind rest; body = head_body rest }, at + record_size rest)
 framed_none None rest at e = refl
 framed_none (Some f) rest at e = absurd cc
 

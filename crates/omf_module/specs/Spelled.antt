@@ -49,3 +49,11 @@ ReadIsSpelled =
     (bytes : List ℕ) (at after : ℕ) (m : ModuleValue)
     → module_at bytes at ≡ Ok (m, after)
     → (records : List RecordValue) × SpellsRecords bytes at after records × SpellsModule at records m
+
+-- What is spelled is read: where bytes are records that spell a module, it is read, with the place after its end.
+abbrev pub SpelledIsRead : Type 0
+SpelledIsRead =
+    (bytes : List ℕ) (at after : ℕ) (records : List RecordValue) (m : ModuleValue)
+    → SpellsRecords bytes at after records
+    → SpellsModule at records m
+    → module_at bytes at ≡ Ok (m, after)

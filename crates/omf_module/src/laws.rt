@@ -1,7 +1,7 @@
 //! What holds of all modules that are written, whatever calls are made. Each law is ensured by a function that does
 //! nothing: a layer above that calls it has the law in its proof.
 
-ghost use Rattle.omf_module.specs.Spelled.{ReadIsSpelled};
+ghost use Rattle.omf_module.specs.Spelled.{ReadIsSpelled, SpelledIsRead};
 ghost use Rattle.omf_module.specs.Laws.{WrittenModuleIsRead, WrittenFileIsRead};
 
 use omf_core::laws::{no_fault_exactly_at_records, written_is_spelled};
@@ -27,4 +27,9 @@ pub fn written_file_is_read()
 #[tactic(auto, using(crate::proofs::ReadSpelled::read_is_spelled))]
 pub fn read_is_spelled()
     ensures { ReadIsSpelled }
+{}
+
+/// What is spelled is read: where bytes are records that spell a module, it is read, with the place after its end.
+pub fn spelled_is_read()
+    ensures { SpelledIsRead }
 {}

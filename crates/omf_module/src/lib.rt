@@ -8,7 +8,7 @@
 //! | [`Content`], [`Fixup`], [`Field`], [`Target`] | bytes of a segment, and the references that stand in them |
 //! | [`read_module`], [`read_file`] | the module that begins at a place; the modules of an object file |
 //! | [`write_file`] | modules as an object file |
-//! | [`laws`] | a module that is written is read as itself |
+//! | [`laws`] | what is read is spelled by records, and what is spelled or written is read |
 //! | [`ModuleFault`], [`Cause`], [`PartsFault`] | why bytes, or parts, make no module |
 #![tactic(auto)]
 
