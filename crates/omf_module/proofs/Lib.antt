@@ -17,3 +17,6 @@ pub mod WrittenContents
 pub mod WrittenFile
 pub mod ReadSpelled
 pub mod SpelledRead
+pub mod PatchLemmas
+pub mod WorkedPlaces
+pub mod PatchingLemmas

@@ -2,6 +2,7 @@
 //! nothing: a layer above that calls it has the law in its proof.
 
 ghost use Rattle.omf_module.specs.Spelled.{ReadIsSpelled, SpelledIsRead};
+ghost use Rattle.omf_module.specs.PatchLaws.{LowTwice, BothTwice, HighTwice};
 ghost use Rattle.omf_module.specs.Laws.{WrittenModuleIsRead, WrittenFileIsRead};
 
 use omf_core::laws::{no_fault_exactly_at_records, written_is_spelled};
@@ -32,4 +33,12 @@ pub fn read_is_spelled()
 /// What is spelled is read: where bytes are records that spell a module, it is read, with the place after its end.
 pub fn spelled_is_read()
     ensures { SpelledIsRead }
+{}
+
+/// Adding a part's start to a reference and then a base is adding their sum: to a low byte, to a word, and to a high byte
+/// where one of the two is a multiple of 256.
+pub fn adding_twice_is_adding_once()
+    ensures low { LowTwice }
+    ensures both { BothTwice }
+    ensures high { HighTwice }
 {}
