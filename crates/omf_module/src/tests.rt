@@ -5,6 +5,8 @@ use omf_core::{Name, RecordFault};
 use std::alloc::Global;
 use std::test::Fail;
 
+mod bad_records;
+
 /// A main program `A` with one byte of code, and nothing else.
 const MAIN: [u8; 32] = [
     0x02, 0x09, 0x00, 0x01, 0x41, 0x00, 0x00, 0x01, 0x01, 0x00, 0x03, 0xAE, // module header
