@@ -1,6 +1,7 @@
 //! Programs that are stepped through by hand, on a board of processor, memory and ports.
 
 use super::{Advanced, Bus, Cpu, End, FlatBus, Inputs, ListPorts, Ports, advance, step};
+use omf_core::Name;
 use place80::{Image, read_regions};
 use std::alloc::Global;
 use std::process::Abort;
@@ -32,6 +33,7 @@ impl Board {
     /// A program that stands at its start, with no input; eight outputs are kept.
     fn new(alloc: Global, regions: &[u8], start: u16, program: &[u8]) -> Result<Board, Fail> {
         let image = Image {
+            name: Name::new(alloc, b"A")?,
             chunks: Vec::new(alloc),
             regions: read_regions(alloc, regions)?,
             start,

@@ -15,9 +15,10 @@ pub record IsChunk (chunk : PlacedBytes) : Type 0 where
   pub in_record : length chunk.bytes ≤ 65531
   pub in_memory : chunk.address + length chunk.bytes ≤ 65536
 
--- a located program: its chunks in the order of their records, its regions, and the address
--- where it starts
+-- a located program: its name, its chunks in the order of their records, its regions, and the
+-- address where it starts
 pub record Located : Type 0 where
+  pub name : List ℕ
   pub chunks : List PlacedBytes
   pub regions : Areas
   pub start : ℕ

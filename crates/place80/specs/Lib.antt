@@ -6,3 +6,7 @@ pub mod Lines
 pub mod Digits
 pub mod RegionsFault
 pub mod RegionsText
+pub mod Layout
+pub mod PlaceFault
+pub mod Locating
+pub mod ImageFile

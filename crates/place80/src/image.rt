@@ -1,11 +1,13 @@
 use crate::chunk::Chunk;
 use crate::regions::Regions;
+use omf_core::Name;
 use std::marker::Model;
 
-/// A located program: its bytes in the order of their content records, its regions, and the
-/// address where it starts.
+/// A located program: its name, its bytes in the order of their content records, its regions, and
+/// the address where it starts.
 #[derive(Debug, Drop)]
 pub struct Image {
+    pub name: Name,
     pub chunks: Vec<Chunk>,
     pub regions: Regions,
     pub start: u16,
@@ -16,7 +18,7 @@ impl Model for Image {
 
     ghost Value = { Located };
 
-    ghost view = { λ i. record { chunks = i.chunks.items; regions = i.regions; start = i.start } };
+    ghost view = { λ i. record { name = i.name; chunks = i.chunks.items; regions = i.regions; start = i.start } };
 }
 
 impl Image {

@@ -1,8 +1,11 @@
 //! Worked texts, and each call once where it answers.
 
 use super::*;
+use omf_core::Name;
 use std::alloc::{AllocError, Global};
 use std::test::Fail;
+
+mod locating;
 
 /// The code and data ranges in the order of their addresses, and the stack between them.
 fn ranges_of(alloc: Global, regions: &Regions) -> Result<Vec<(u16, u16)>, AllocError> {
@@ -162,6 +165,7 @@ fn the_last_chunk_over_an_address(rt: HostRuntime) -> Result<(), Fail> {
         }
     }
     let image = Image {
+        name: Name::new(rt.alloc(), b"A")?,
         chunks,
         regions,
         start: 0x3000,

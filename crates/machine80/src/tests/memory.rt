@@ -5,6 +5,7 @@ ghost use Rattle.std.specs.Prelude.{◌<◌};
 use super::PLAIN;
 use crate::{Bus, FlatBus, fetch};
 use decode80::Instr;
+use omf_core::Name;
 use place80::{Chunk, Image, read_regions};
 use std::alloc::{AllocError, Global};
 use std::process::Abort;
@@ -28,6 +29,7 @@ fn the_last_chunk_is_read(rt: HostRuntime) -> Result<(), Fail> {
     chunks.push(chunk(rt.alloc(), 0x3001, [0xC3, 0x34, 0x12])?)?;
     chunks.push(chunk(rt.alloc(), 0xFFFC, [0x55, 0x66, 0x77])?)?;
     let image = Image {
+        name: Name::new(rt.alloc(), b"A")?,
         chunks,
         regions: read_regions(rt.alloc(), PLAIN)?,
         start: 0x3000,

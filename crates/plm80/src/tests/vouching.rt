@@ -2,6 +2,7 @@
 
 use crate::{Refusal, run, vouch};
 use machine80::{End, FlatBus, Inputs, ListPorts};
+use omf_core::Name;
 use place80::{Chunk, Image, read_regions};
 use std::alloc::Global;
 use std::test::Fail;
@@ -14,6 +15,7 @@ fn image(alloc: Global, program: &[u8; 2]) -> Result<Image, Fail> {
         bytes: Vec::from_slice(alloc, program)?,
     })?;
     Ok(Image {
+        name: Name::new(alloc, b"A")?,
         chunks,
         regions: read_regions(alloc, b"REGIONS 1\nCODE 3000 0002\nSTACK 3100 0100\n")?,
         start: 0x3000,
@@ -69,6 +71,7 @@ fn a_halt_at_0000_follows_ffff(rt: HostRuntime) -> Result<(), Fail> {
     })?;
     let text = b"REGIONS 1\nCODE FFFF 0001\nCODE 0000 0001\nSTACK 3100 0100\n";
     let image = Image {
+        name: Name::new(alloc, b"A")?,
         chunks,
         regions: read_regions(alloc, text)?,
         start: 0xFFFF,

@@ -1,0 +1,84 @@
+-- Where LOCATE places the segments of a program.
+-- (ISIS-II User's Guide, LOCATE: the order of segments, their bases, and the sizes of STACK and MEMORY. The base of CODE
+-- where no option gives one is this project's own.)
+use Rattle.std.specs.Prelude.{ℕ, ◌+◌, ◌%◌, ◌==◌, if◌then◌else◌, Option, Some, None, unwrap_or, List, [], ◌∷◌, ◌++◌, filter, find, map}
+use Rattle.std.specs.List.{range_with_len}
+use Rattle.omf_module.specs.declared.symbols.Common.{Common}
+use Rattle.omf_module.specs.Segments.{names_common, segment_in}
+use Rattle.omf_module.specs.Modules.{ModuleValue}
+use Rattle.omf_module.specs.Place.{Bases, rounded}
+use Rattle.place80.specs.declared.options.Options.{Options}
+use Rattle.place80.specs.declared.placed.Placed.{Placed}
+
+-- where CODE stands without an option
+abbrev pub usual_base : ℕ
+usual_base = 0x3000
+
+-- the segments in the order of their places: CODE, STACK, the named commons by id, the unnamed common, DATA, MEMORY
+abbrev pub common_ids : List Common → List ℕ
+common_ids commons = filter (names_common commons) (range_with_len 6 249)
+
+abbrev pub order_of : List Common → List ℕ
+order_of commons = 1 ∷ 3 ∷ (common_ids commons ++ 255 ∷ 2 ∷ 4 ∷ [])
+
+-- the base that an option gives a segment
+abbrev pub given_base : Options → ℕ → Option ℕ
+given_base options id =
+    if id == 1 then options.code
+    else if id == 3 then options.stack
+    else if id == 255 then options.common
+    else if id == 2 then options.data_base
+    else if id == 4 then options.memory
+    else None
+
+-- the length that an option gives STACK or MEMORY in place of their own
+abbrev pub given_length : Options → ℕ → Option ℕ
+given_length options id = if id == 3 then options.stack_size else if id == 4 then options.memory_size else None
+
+-- The segment of this id after one that ends at `before`: at the base that is given, or else there, at the next multiple of
+-- 256 where it is paged.
+abbrev pub placed_after : Options → ModuleValue → (before id : ℕ) → Placed
+placed_after options m before id = record {
+  id = id;
+  base = unwrap_or (given_base options id) (rounded (segment_in m.segments id).paged before);
+  length = unwrap_or (given_length options id) (segment_in m.segments id).length;
+}
+
+abbrev pub placed_from : Options → ModuleValue → ℕ → List ℕ → List Placed
+placed_from options m before [] = []
+placed_from options m before (id ∷ ids) =
+    let p = placed_after options m before id in p ∷ placed_from options m (p.base + p.length) ids
+
+-- all segments of the program, in their order
+unfoldable pub layout_of : Options → ModuleValue → List Placed
+layout_of options m = placed_from options m usual_base (order_of m.commons)
+
+-- the placed segment of an id
+abbrev pub nowhere : ℕ → Placed
+nowhere id = record { id = id; base = 0; length = 0 }
+
+abbrev pub placed_in : List Placed → ℕ → Placed
+placed_in segments id = unwrap_or (find (λ p. p.id == id) segments) (nowhere id)
+
+abbrev pub base_in : List Placed → ℕ → ℕ
+base_in segments id = (placed_in segments id).base
+
+-- the stack's top, as a word
+abbrev pub top_in : List Placed → ℕ
+top_in segments = let stack = placed_in segments 3 in (stack.base + stack.length) % 65536
+
+-- the bases that these places give, those of named commons by name; no name stands for a word
+abbrev pub bases_of : List Common → List Placed → Bases
+bases_of commons segments = record {
+  code = base_in segments 1;
+  data_base = base_in segments 2;
+  memory = base_in segments 4;
+  common = base_in segments 255;
+  commons = map (λ c. (c.name, base_in segments c.id)) commons;
+  top = top_in segments;
+  words = [];
+}
+
+-- the bases that a program's own places give
+abbrev pub program_bases : Options → ModuleValue → Bases
+program_bases options m = bases_of m.commons (layout_of options m)

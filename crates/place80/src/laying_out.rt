@@ -1,0 +1,105 @@
+//! The places of a program's segments.
+
+ghost use Rattle.std.specs.Prelude.{◌≡◌, ◌⊎◌, ◌≤◌, ◌+◌, None, Some, length, IfOk, IfErr, OnOk};
+ghost use Rattle.omf_module.specs.Place.{rounded};
+ghost use Rattle.omf_module.specs.Rules.{IsModule};
+ghost use Rattle.place80.specs.Layout.{usual_base, order_of, placed_after, placed_from, layout_of};
+ghost use Rattle.place80.specs.PlaceFault.{layout_fault};
+ghost use Rattle.place80.specs.declared.place_fault.PlaceFault.TheVariants.{Memory};
+
+use crate::options::Options;
+use crate::overlap::first_overlap;
+use crate::outside::first_outside;
+use crate::place_fault::PlaceFault;
+use crate::placed::{Layout, Placed};
+use omf_module::{Module, Segment};
+use std::alloc::{AllocError, Global};
+
+/// Where CODE stands without an option.
+const USUAL_BASE: u32 = 0x3000;
+
+/// The places of the program's segments.
+///
+/// A segment with a given base stands there. Any other stands at the end of the one before it, CODE at 3000h, at the next
+/// multiple of 256 where it is paged. A given size of STACK or MEMORY replaces its length. Empty segments take their place
+/// like others and overlap nothing.
+///
+/// # Errors
+/// The first that holds of `OutsideMemory` and `Overlap`; `Memory` only where a growth was refused.
+pub fn layout(alloc: Global, program: &Module, options: &Options) -> Result<Layout, PlaceFault>
+    ensures places { IfOk result (λ layout. layout.segments.items ≡ layout_of options.now program.now) }
+    ensures none { OnOk result (layout_fault options.now program.now ≡ None) }
+    ensures fault { IfErr result (λ fault. (fault ≡ Memory) ⊎ (layout_fault options.now program.now ≡ Some fault)) }
+{
+    let segments = place_all(alloc, program, options)?;
+    if let Some(id) = first_outside(program, &segments) {
+        return Err(PlaceFault::OutsideMemory(id));
+    }
+    if let Some((first, second)) = first_overlap(program, &segments) {
+        return Err(PlaceFault::Overlap(first, second));
+    }
+    Ok(Layout { segments })
+}
+
+/// The ids of the segments in the order of their places.
+fn order(alloc: Global, program: &Module) -> Result<Vec<u8>, AllocError>
+    ensures order { IfOk result (λ ids. ids.items ≡ order_of program.now.commons) }
+    ensures few { IfOk result (λ ids. length ids.items ≤ 254) }
+{
+    let mut ids = Vec::from_slice(alloc, [1, 3].as_slice())?;
+    for id in 6..=254 {
+        if program.segment(id).is_some() {
+            ids.push(id)?;
+        }
+    }
+    ids.extend_from_slice([255, 2, 4].as_slice())?;
+    Ok(ids)
+}
+
+/// All segments at their places.
+fn place_all(alloc: Global, program: &Module, options: &Options) -> Result<Vec<Placed>, AllocError>
+    ensures { IfOk result (λ segments. segments.items ≡ layout_of options.now program.now) }
+{
+    let ids = order(alloc, program)?;
+    let mut segments = Vec::new(alloc);
+    let mut before = USUAL_BASE;
+    for id in &ids {
+        let placed = place_after(program, options, before, *id);
+        before = placed.base + placed.length;
+        segments.push(placed)?;
+    }
+    Ok(segments)
+}
+
+/// The segment of this id after one that ends at `before`.
+fn place_after(program: &Module, options: &Options, before: u32, id: u8) -> Placed
+    requires { before ≤ 4000000000 }
+    ensures { result ≡ placed_after options.now program.now before id }
+{
+    let segment = program.segment(id).unwrap_or(Segment {
+        length: 0,
+        paged: false,
+    });
+    let base = match options.base(id) {
+        Some(base) => u32::from(base),
+        None => rounded(segment.paged, before),
+    };
+    let length = options.length(id).unwrap_or(segment.length);
+    Placed {
+        id,
+        base,
+        length: u32::from(length),
+    }
+}
+
+/// The place itself, or the next multiple of 256 for a paged segment.
+fn rounded(paged: bool, place: u32) -> u32
+    requires { place ≤ 4000000000 }
+    ensures { result ≡ rounded paged place }
+{
+    if paged {
+        (place + 255) / 256 * 256
+    } else {
+        place
+    }
+}

@@ -1,0 +1,71 @@
+//! A program at its places.
+
+ghost use Rattle.std.specs.Prelude.{◌≡◌, ◌⊎◌, ℕ, None, Some, [], ◌∷◌, option_map, IfOk, IfErr, OnOk};
+ghost use Rattle.omf_module.specs.ImageByte.{image_byte};
+ghost use Rattle.place80.specs.Image.{byte_at};
+ghost use Rattle.place80.specs.Regions.{Arranges};
+ghost use Rattle.place80.specs.Layout.{layout_of, program_bases};
+ghost use Rattle.place80.specs.Locating.{located_chunks, located_code, located_stack, located_data};
+ghost use Rattle.place80.specs.PlaceFault.{locate_fault, start_place};
+ghost use Rattle.place80.specs.declared.place_fault.PlaceFault.TheVariants.{Memory};
+
+use crate::image::Image;
+use crate::laying_out::layout;
+use crate::located_chunks::{any_loses_its_low_byte, located_chunks};
+use crate::located_regions::located_regions;
+use crate::options::Options;
+use crate::place_fault::PlaceFault;
+use crate::placed::placed_in;
+use crate::places::{is_in_placed, place_of};
+use omf_core::Name;
+use omf_module::Module;
+use std::alloc::Global;
+
+/// The program's image at its places.
+///
+/// Its memory is at each address the byte that the module defines under those places: that of the last content over it,
+/// with its references increased, and 0 where none covers it. There is one chunk for each content, in order. Code is CODE,
+/// data are DATA, MEMORY and all commons, and the stack is STACK.
+///
+/// # Errors
+/// The first that holds of `Unresolved`, `NoStart`, `OutsideMemory`, `Overlap`, `HighNotPaged` and `StartNotCode`; `Memory`
+/// only where a growth was refused.
+pub fn locate(alloc: Global, program: &Module, options: &Options) -> Result<Image, PlaceFault>
+    ensures name { IfOk result (λ image. image.name ≡ program.now.name) }
+    ensures chunks { IfOk result (λ image. image.chunks ≡ located_chunks options.now program.now) }
+    ensures memory { IfOk result (λ image. (address : ℕ) → byte_at image.chunks address ≡ image_byte (program_bases options.now program.now) (program.now ∷ []) address) }
+    ensures regions { IfOk result (λ image. let segments = layout_of options.now program.now in Arranges (located_code segments) (located_stack segments) (located_data segments) image.regions) }
+    ensures start { IfOk result (λ image. Some image.start ≡ option_map (start_place (program_bases options.now program.now) program.now) program.now.start) }
+    ensures none { OnOk result (locate_fault options.now program.now ≡ None) }
+    ensures fault { IfErr result (λ fault. (fault ≡ Memory) ⊎ (locate_fault options.now program.now ≡ Some fault)) }
+{
+    if let Some(name) = program.externals().first() {
+        return Err(unresolved(alloc, name));
+    }
+    let Some((segment, offset)) = program.start() else {
+        return Err(PlaceFault::NoStart);
+    };
+    let segments = layout(alloc, program, options)?.segments;
+    if any_loses_its_low_byte(&segments, program) {
+        return Err(PlaceFault::HighNotPaged);
+    }
+    let start = place_of(&segments, segment, offset);
+    if !is_in_placed(placed_in(&segments, 1), start) {
+        return Err(PlaceFault::StartNotCode);
+    }
+    Ok(Image {
+        name: program.name().copy(alloc)?,
+        chunks: located_chunks(alloc, &segments, program)?,
+        regions: located_regions(alloc, &segments)?,
+        start,
+    })
+}
+
+/// The fault of an external without a public.
+fn unresolved(alloc: Global, name: &Name) -> PlaceFault
+{
+    match name.copy(alloc) {
+        Ok(name) => PlaceFault::Unresolved(name),
+        Err(_) => PlaceFault::Memory,
+    }
+}

@@ -1,0 +1,49 @@
+/// What LOCATE is told: bases of segments, and sizes in place of those of STACK and MEMORY, all in bytes.
+/// (ISIS-II User's Guide, LOCATE: the controls CODE, STACK, DATA, MEMORY and STACKSIZE; the others are this project's.)
+#[derive(Clone, Copy, Debug, Default, PartialEq, Eq)]
+pub struct Options {
+    /// The base of CODE; 3000h where there is none.
+    pub code: Option<u16>,
+    /// The base of STACK, its lowest address.
+    pub stack: Option<u16>,
+    /// The base of the unnamed common.
+    pub common: Option<u16>,
+    /// The base of DATA.
+    pub data_base: Option<u16>,
+    /// The base of MEMORY.
+    pub memory: Option<u16>,
+    /// The length of STACK, in place of its own.
+    pub stack_size: Option<u16>,
+    /// The length of MEMORY, in place of its own.
+    pub memory_size: Option<u16>,
+}
+
+impl Options {
+    ghost use Rattle.std.specs.Prelude.{◌≡◌};
+    ghost use Rattle.place80.specs.Layout.{given_base, given_length};
+
+    /// The base that is given for the segment of this id.
+    pub(crate) fn base(&self, id: u8) -> Option<u16>
+        ensures { result ≡ given_base self.now id }
+    {
+        match id {
+            1 => self.code,
+            2 => self.data_base,
+            3 => self.stack,
+            4 => self.memory,
+            255 => self.common,
+            _ => None,
+        }
+    }
+
+    /// The length that is given for the segment of this id.
+    pub(crate) fn length(&self, id: u8) -> Option<u16>
+        ensures { result ≡ given_length self.now id }
+    {
+        match id {
+            3 => self.stack_size,
+            4 => self.memory_size,
+            _ => None,
+        }
+    }
+}

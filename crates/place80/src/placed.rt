@@ -1,0 +1,35 @@
+ghost use Rattle.std.specs.Prelude.{◌≡◌};
+ghost use Rattle.place80.specs.Layout.{placed_in};
+
+/// A segment at its place: it takes `length` bytes from the address `base` on. A segment without bytes may stand at 65536
+/// or beyond.
+#[derive(Clone, Copy, Debug, PartialEq, Eq)]
+pub struct Placed {
+    /// 1 CODE, 2 DATA, 3 STACK, 4 MEMORY, 6 to 254 named commons, 255 the unnamed common.
+    pub id: u8,
+    pub base: u32,
+    pub length: u32,
+}
+
+/// The places of a program's segments, in their order: CODE, STACK, the named commons by id, the unnamed common, DATA,
+/// MEMORY.
+#[derive(Debug, Drop)]
+pub struct Layout {
+    pub segments: Vec<Placed>,
+}
+
+/// The segment of this id, and one of no bytes at 0 where there is none.
+pub(crate) fn placed_in(segments: &[Placed], id: u8) -> Placed
+    ensures { result ≡ placed_in segments.now id }
+{
+    for placed in segments {
+        if placed.id == id {
+            return *placed;
+        }
+    }
+    Placed {
+        id,
+        base: 0,
+        length: 0,
+    }
+}
