@@ -10,3 +10,4 @@ pub mod Headline
 pub mod RunLemmas
 pub mod TranscriptLemmas
 pub mod SendsLemmas
+mod ListingLemmas

@@ -14,3 +14,4 @@ pub mod Session
 pub mod Sends
 pub mod Bundle
 pub mod Status
+pub mod Listing
