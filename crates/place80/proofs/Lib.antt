@@ -7,6 +7,6 @@ pub mod WriteLemmas
 pub mod ReadingLemmas
 pub mod FaultLemmas
 pub mod ApartLemmas
-pub mod OverlapLemmas
-pub mod LayoutLemmas
+pub mod PairLemmas
+pub mod PlacingLemmas
 pub mod LocatedLemmas

@@ -2,7 +2,7 @@ use Rattle.std.proofs.Common.{ap, sym, subst, ◌∙◌, ◌++◌, ◌≤◌, �
 use Rattle.std.specs.List.{AllByRecursion}
 use Rattle.place80.specs.declared.placed.Placed.{Placed}
 use Rattle.place80.specs.Layout.{placed_from, order_of, layout_of}
-use Rattle.place80.proofs.LayoutLemmas.{whole_layout}
+use Rattle.place80.proofs.PlacingLemmas.{whole_layout}
 use Rattle.place80.proofs.laying_out.place_all.Goals as goal
 
 pub loop-id-init : goal.loop-id-init

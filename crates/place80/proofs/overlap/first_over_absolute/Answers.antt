@@ -1,5 +1,5 @@
 use Rattle.std.proofs.Common.{◌∙◌, sym}
-use Rattle.place80.proofs.OverlapLemmas.{contents_from, found_here, found_later}
+use Rattle.place80.proofs.PairLemmas.{contents_from, found_here, found_later}
 use Rattle.place80.proofs.overlap.first_over_absolute.Goals as goal
 
 pub returns-in-Some : goal.returns-in-Some

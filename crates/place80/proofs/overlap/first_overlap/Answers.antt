@@ -1,7 +1,7 @@
 use Rattle.std.specs.Option.{option_or}
 use Rattle.std.proofs.Common.{◌∙◌, sym, ap, ℕ, Option}
 use Rattle.place80.specs.PlaceFault.{pairs, first_shared, with_each, absolute_places}
-use Rattle.place80.proofs.OverlapLemmas.{shared_of_both}
+use Rattle.place80.proofs.PairLemmas.{shared_of_both}
 use Rattle.place80.proofs.overlap.first_overlap.Goals as goal
 
 pub returns-in-Some : goal.returns-in-Some

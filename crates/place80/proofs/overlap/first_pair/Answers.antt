@@ -1,6 +1,6 @@
 use Rattle.std.proofs.Common.{◌∙◌, sym}
 use Rattle.place80.specs.declared.placed.Placed.{Placed}
-use Rattle.place80.proofs.OverlapLemmas.{pairs_from, found_here, found_later}
+use Rattle.place80.proofs.PairLemmas.{pairs_from, found_here, found_later}
 use Rattle.place80.proofs.overlap.first_pair.Goals as goal
 
 pub returns-in-Some : goal.returns-in-Some
