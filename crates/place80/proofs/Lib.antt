@@ -7,3 +7,6 @@ pub mod WriteLemmas
 pub mod ReadingLemmas
 pub mod FaultLemmas
 pub mod ApartLemmas
+pub mod AfterLemmas
+pub mod FixupLemmas
+pub mod BytesLemmas
