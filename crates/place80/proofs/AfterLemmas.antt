@@ -1,10 +1,10 @@
 -- Items that pass a test, which also looks at the items before them.
-use Rattle.std.proofs.Common.{◌≡◌, Bool, true, ◌&&◌, List, [], ◌∷◌, ◌++◌, append_assoc, refl, sym, ap, ◌∙◌}
-use Rattle.std.specs.Prelude.{IsTrue}
-use Rattle.std.specs.List.{list_all}
+use Rattle.std.proofs.Common.{◌≡◌, Bool, true, false, ◌&&◌, ◌||◌, List, [], ◌∷◌, ◌++◌, append_assoc, refl, sym, ap, ◌∙◌}
+use Rattle.std.specs.Prelude.{not, IsTrue}
+use Rattle.std.specs.List.{list_all, list_any}
 use Rattle.std.proofs.lemmas.Bool.{and_parts}
 use Rattle.omf_module.specs.Rules.{each_after}
-use Rattle.omf_module.proofs.Kept.{and_both}
+use Rattle.omf_module.proofs.Kept.{and_both, or_neither}
 
 -- what follows from the test holds of each item
 pub all_after : {A : Type 0} (test : List A → A → Bool) (holds : A → Bool) (before xs : List A) →
@@ -31,3 +31,12 @@ pub rest_after : {A : Type 0} (test : List A → A → Bool) (before : List A) (
     IsTrue (each_after test before (x ∷ xs)) → IsTrue (test before x) × IsTrue (each_after test (before ++ x ∷ []) xs)
 rest_after test before x xs passed =
     let parts = and_parts (test before x) (each_after test (before ++ x ∷ []) xs) passed in (parts.0, parts.1)
+
+-- what holds of no item doesn't hold of one of them
+pub none_at : {A : Type 0} (test : A → Bool) (front : List A) (item : A) (back : List A) → list_any test (front ++ item ∷ back) ≡ false → test item ≡ false
+none_at test [] item back none = (or_neither (test item) (list_any test back) none).0
+none_at test (x ∷ xs) item back none = none_at test xs item back (or_neither (test x) (list_any test (xs ++ item ∷ back)) none).1
+
+pub not_true : (b : Bool) → not b ≡ true → b ≡ false
+not_true true e = absurd cc
+not_true false e = refl

@@ -14,15 +14,11 @@ use Rattle.omf_module.specs.Contents.{ContentValue, offsets_by, offsets_of, is_a
 use Rattle.omf_module.specs.Patches.{patches_at, is_inside_bytes, are_inside, meets, are_apart}
 use Rattle.omf_module.specs.Rules.{each_after, is_fitting, has_target, is_placed, is_content}
 use Rattle.omf_module.proofs.Kept.{and_both, or_neither, not_false}
-use Rattle.place80.proofs.AfterLemmas.{all_after, all_after_one, rest_after}
+use Rattle.place80.proofs.AfterLemmas.{all_after, all_after_one, rest_after, none_at, not_true}
 
 -- a reference as a patch of bytes that begin at an offset, where it adds this word
 abbrev pub as_patch : ℕ → (Fixup → ℕ) → Fixup → Patch
 as_patch first word f = record { at = f.offset - first; field = f.field; word = word f }
-
-not_true : (b : Bool) → not b ≡ true → b ≡ false
-not_true true e = absurd cc
-not_true false e = refl
 
 -- a fitting reference
 fits_inside : (commons : List Common) (externals first size : ℕ) (before : List Fixup) (f : Fixup) →
@@ -110,12 +106,7 @@ shift_apart earlier later first a b above below none =
     ∙ ap (λ (xs : List ℕ). list_any (λ x. list_any (λ o. o == x) (offsets_by earlier a)) xs) (sym (offsets_shift later first b below))
     ∙ none
 
--- a reference that shares no byte with some shares none with one of them
-one_taken : (front : List Fixup) (g : Fixup) (back : List Fixup) (o : ℕ) → is_taken (front ++ g ∷ back) o ≡ false → list_any (λ x. x == o) (offsets_of g) ≡ false
-one_taken [] g back o none = (or_neither (list_any (λ x. x == o) (offsets_of g)) (is_taken back o) none).0
-one_taken (f ∷ front) g back o none =
-    one_taken front g back o (or_neither (list_any (λ x. x == o) (offsets_of f)) (is_taken (front ++ g ∷ back) o) none).1
-
+-- no offset passes a test that gives another, where none passes that
 none_of : (p q : ℕ → Bool) (os : List ℕ) → ((o : ℕ) → p o ≡ false → q o ≡ false) → list_any p os ≡ false → list_any q os ≡ false
 none_of p q [] gives none = refl
 none_of p q (o ∷ os) gives none =
@@ -134,7 +125,7 @@ later_apart : (commons : List Common) (externals first size : ℕ) (word : Fixup
     IsTrue (not (meets (as_patch first word g) (as_patch first word f)))
 later_apart commons externals first size word g above front back f fits =
     let none : list_any (λ x. list_any (λ o. o == x) (offsets_of g)) (offsets_of f) ≡ false =
-    none_of (is_taken (front ++ g ∷ back)) (λ x. list_any (λ o. o == x) (offsets_of g)) (offsets_of f) (one_taken front g back) (fits_apart commons externals first size (front ++ g ∷ back) f fits) in
+    none_of (is_taken (front ++ g ∷ back)) (λ x. list_any (λ o. o == x) (offsets_of g)) (offsets_of f) (λ o. none_at (λ (h : Fixup). list_any (λ x. x == o) (offsets_of h)) front g back) (fits_apart commons externals first size (front ++ g ∷ back) f fits) in
     not_false (meets (as_patch first word g) (as_patch first word f))
     (shift_apart g.field f.field first g.offset f.offset (le_from_test first g.offset above)
     (le_from_test first f.offset (is_above first commons externals size (front ++ g ∷ back) f fits)) none)

@@ -10,3 +10,4 @@ pub mod ApartLemmas
 pub mod AfterLemmas
 pub mod FixupLemmas
 pub mod BytesLemmas
+pub mod PlaceLemmas
