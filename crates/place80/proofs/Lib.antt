@@ -11,3 +11,6 @@ pub mod AfterLemmas
 pub mod FixupLemmas
 pub mod BytesLemmas
 pub mod PlaceLemmas
+pub mod LocatedDisjoint
+pub mod LocatedApart
+pub mod OverlapLemmas
