@@ -11,7 +11,7 @@ use Rattle.omf_module.specs.declared.fixup.Field.TheVariants.{Low, High, Both}
 use Rattle.omf_module.specs.declared.fixup.Fixup.{Fixup}
 use Rattle.omf_module.specs.declared.patching.Patch.{Patch}
 use Rattle.omf_module.specs.Contents.{ContentValue, offsets_by, offsets_of, is_among, is_inside, is_taken, shares_a_byte}
-use Rattle.omf_module.specs.Patches.{patches_at, is_inside_bytes, are_inside, meets, are_apart}
+use Rattle.omf_module.specs.Patches.{is_inside_bytes, are_inside, meets, are_apart}
 use Rattle.omf_module.specs.Rules.{each_after, is_fitting, has_target, is_placed, is_content}
 use Rattle.omf_module.proofs.Kept.{and_both, or_neither, not_false}
 use Rattle.place80.proofs.AfterLemmas.{all_after, all_after_one, rest_after, none_at, not_true}

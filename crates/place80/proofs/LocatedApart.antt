@@ -1,8 +1,8 @@
 -- The ranges of a located program share no address where no two of its segments overlap.
-use Rattle.std.proofs.Common.{◌≡◌, ℕ, ◌+◌, ◌%◌, ◌<◌, ◌≤◌, Bool, true, false, cond, ◌&&◌, ◌||◌, List, [], ◌∷◌, ◌++◌, map, refl, sym, ap, subst, ◌∙◌, arith, inl, inr, true≢false}
-use Rattle.std.specs.Prelude.{not, nat_le, nat_lt, ◌==◌, ◌↔◌, Option, None, Some, filter, find, unwrap_or, option_map, All}
+use Rattle.std.proofs.Common.{◌≡◌, ℕ, ◌+◌, ◌%◌, ◌<◌, ◌≤◌, Bool, true, false, cond, ◌&&◌, ◌||◌, List, [], ◌∷◌, ◌++◌, map, refl, sym, ap, ◌∙◌, arith, inl, inr, true≢false}
+use Rattle.std.specs.Prelude.{not, nat_le, nat_lt, ◌==◌, Option, None, Some, filter, find, unwrap_or, All}
 use Rattle.std.specs.Option.{option_or}
-use Rattle.std.proofs.lemmas.Bool.{and_parts, cases_Bool, lt-ltb, le-leb, leb-true, ltb-true}
+use Rattle.std.proofs.lemmas.Bool.{and_parts, cases_Bool, lt-ltb}
 use Rattle.std.proofs.lemmas.Bool.Decides.{nat_tests}
 use Rattle.std.proofs.lemmas.List.Elements.{All-head, All-tail}
 use Rattle.std.proofs.lemmas.List.Folds.{find-append}
@@ -13,8 +13,8 @@ use Rattle.place80.specs.declared.placed.Placed.{Placed}
 use Rattle.place80.specs.Range.{in_range}
 use Rattle.place80.specs.Regions.{AreDisjoint}
 use Rattle.place80.specs.RegionsText.{filled}
-use Rattle.place80.specs.Layout.{nowhere, placed_in}
-use Rattle.place80.specs.PlaceFault.{overlaps, pairs, is_in_placed}
+use Rattle.place80.specs.Layout.{nowhere}
+use Rattle.place80.specs.PlaceFault.{overlaps, pairs}
 use Rattle.place80.specs.Locating.{range_at, located_code, located_stack, located_data}
 use Rattle.place80.proofs.DisjointLemmas.{held, held-append}
 use Rattle.place80.proofs.LocatedDisjoint.{EndsInMemory, find_none}

@@ -1,23 +1,19 @@
 -- The ranges of placed segments that lie in memory and of which no two overlap.
-use Rattle.std.proofs.Common.{◌≡◌, ℕ, zero, suc, ◌+◌, ◌%◌, ◌<◌, ◌≤◌, Bool, true, false, cond, ◌&&◌, ◌||◌, List, [], ◌∷◌, ◌++◌, length, map, get_or, refl, sym, ap, subst, ◌∙◌, arith, inl, inr}
-use Rattle.std.specs.Prelude.{not, nat_lt, ◌==◌, Option, None, Some, filter, find, unwrap_or, option_map, All, count_by}
+use Rattle.std.proofs.Common.{◌≡◌, ℕ, ◌+◌, ◌<◌, ◌≤◌, Bool, true, false, cond, ◌&&◌, ◌||◌, List, [], ◌∷◌, map, refl, arith}
+use Rattle.std.specs.Prelude.{not, nat_lt, ◌==◌, None, Some, filter, find, unwrap_or, All}
 use Rattle.std.specs.List.{list_any}
-use Rattle.std.specs.Option.{option_or}
-use Rattle.std.proofs.lemmas.Bool.{and_parts, cases_Bool, lt-ltb, ltb-true}
+use Rattle.std.proofs.lemmas.Bool.{ltb-true}
 use Rattle.std.proofs.lemmas.Bool.Decides.{nat_tests}
 use Rattle.std.proofs.lemmas.List.Elements.{All-nil, All-cons, All-head, All-tail, All-filter, All-map, All-weaker, filter_passes}
-use Rattle.std.proofs.lemmas.List.Folds.{find-append}
 use Rattle.omf_module.specs.Contents.{ContentValue}
 use Rattle.omf_module.proofs.Kept.{or_neither}
 use Rattle.place80.specs.declared.range.Range.{Range}
 use Rattle.place80.specs.declared.placed.Placed.{Placed}
-use Rattle.place80.specs.Range.{in_range, IsInMemory}
-use Rattle.place80.specs.Regions.{AreDisjoint}
+use Rattle.place80.specs.Range.{IsInMemory}
 use Rattle.place80.specs.RegionsText.{filled}
 use Rattle.place80.specs.Layout.{nowhere, placed_in}
-use Rattle.place80.specs.PlaceFault.{passes_memory, is_outside, overlaps, pairs}
+use Rattle.place80.specs.PlaceFault.{passes_memory, is_outside}
 use Rattle.place80.specs.Locating.{range_at, located_code, located_stack, located_data}
-use Rattle.place80.proofs.DisjointLemmas.{held, held-append}
 
 -- no range of these is empty
 pub filled_not_empty : (ranges : List Range) → All (λ range. 0 < range.length) (filled ranges)

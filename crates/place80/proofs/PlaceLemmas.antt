@@ -1,15 +1,15 @@
 -- Places in a program, the one module that is located.
-use Rattle.std.proofs.Common.{◌≡◌, ◌≢◌, ℕ, ◌+◌, ◌/◌, ◌*◌, ◌%◌, Bool, true, false, cond, ◌&&◌, ◌||◌, List, [], ◌∷◌, ◌++◌, map, refl, sym, ap, ◌∙◌, arith, inl, inr, subst, eqb-true, eq-eqb}
-use Rattle.std.specs.Prelude.{not, nat_eq, nat_le, ◌==◌, Option, None, Some, find, IsTrue, if◌then◌else◌, slice_index}
+use Rattle.std.proofs.Common.{◌≡◌, ℕ, ◌+◌, ◌/◌, ◌*◌, ◌%◌, Bool, true, false, cond, ◌&&◌, ◌||◌, List, [], ◌∷◌, ◌++◌, map, refl, sym, ap, ◌∙◌, arith, inl, inr, eqb-true, eq-eqb}
+use Rattle.std.specs.Prelude.{not, nat_eq, ◌==◌, Some, find, IsTrue, if◌then◌else◌, slice_index}
 use Rattle.std.specs.List.{list_all, list_any}
 use Rattle.std.specs.Option.{option_map_or}
 use Rattle.std.specs.Cmp.Lexicographic.{pointwise}
-use Rattle.std.proofs.lemmas.Bool.{and_parts, cases_Bool, eqb-false}
+use Rattle.std.proofs.lemmas.Bool.{and_parts, cases_Bool}
 use Rattle.std.proofs.lemmas.Bool.Decides.{nat_tests}
 use Rattle.omf_module.specs.declared.symbols.Common.{Common}
 use Rattle.omf_module.specs.Segments.{is_fixed_id, is_common_id, names_common, has_segment, segment_in}
 use Rattle.omf_module.specs.Modules.{ModuleValue}
-use Rattle.omf_module.specs.Place.{Bases, word_of, common_name, base_of, rounded, is_laid_out, starts_from, part_start, place_in}
+use Rattle.omf_module.specs.Place.{word_of, common_name, base_of, is_laid_out, starts_from, part_start, place_in}
 use Rattle.omf_module.specs.Rules.{each_after, is_new_common}
 use Rattle.omf_module.proofs.Kept.{not_false}
 use Rattle.place80.specs.declared.placed.Placed.{Placed}
