@@ -14,3 +14,5 @@ pub mod PlaceLemmas
 pub mod LocatedDisjoint
 pub mod LocatedApart
 pub mod OverlapLemmas
+pub mod SoundLemmas
+pub mod LayoutLemmas
