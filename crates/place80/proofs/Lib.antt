@@ -16,3 +16,4 @@ pub mod LocatedApart
 pub mod OverlapLemmas
 pub mod SoundLemmas
 pub mod LayoutLemmas
+pub mod ChunkLemmas
