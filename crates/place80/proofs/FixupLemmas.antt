@@ -182,7 +182,7 @@ content_targets segments commons externals c good =
     (fits_target commons externals c.offset (length c.bytes)) (fits_of segments commons externals c good)
 
 -- what holds of all references holds of the one at a place
-test_at : {A : Type 0} (test : A → Bool) (xs : List A) (i : ℕ) (d : A) → IsTrue (list_all test xs) → i < length xs → IsTrue (test (get_or xs i d))
+pub test_at : {A : Type 0} (test : A → Bool) (xs : List A) (i : ℕ) (d : A) → IsTrue (list_all test xs) → i < length xs → IsTrue (test (get_or xs i d))
 test_at test [] i d all below = absurd (omega arith)
 test_at test (x ∷ xs) zero d all below = (and_parts (test x) (list_all test xs) all).0
 test_at test (x ∷ xs) (suc i) d all below = test_at test xs i d (and_parts (test x) (list_all test xs) all).1 (omega arith)

@@ -20,3 +20,4 @@ pub mod OverlapLemmas
 pub mod SoundLemmas
 pub mod LayoutLemmas
 pub mod LocatingLemmas
+pub mod ChunkLemmas
