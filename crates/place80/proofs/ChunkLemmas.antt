@@ -6,7 +6,7 @@ use Rattle.std.proofs.lemmas.Bool.{cases_Bool}
 use Rattle.std.proofs.lemmas.Bool.Decides.{nat_tests}
 use Rattle.std.proofs.lemmas.List.Elements.{All-nil, All-cons, All-head, All-tail}
 use Rattle.omf_module.specs.Contents.{ContentValue}
-use Rattle.omf_module.specs.Segments.{segment_in}
+use Rattle.omf_module.specs.Segments.{segment_in, has_segment, empty_segment}
 use Rattle.omf_module.specs.Modules.{ModuleValue}
 use Rattle.omf_module.specs.Place.{place_in}
 use Rattle.omf_module.specs.ImageByte.{patch_of, chunk_of}
@@ -16,7 +16,7 @@ use Rattle.omf_module.proofs.PatchingLemmas.{length-with_patches}
 use Rattle.place80.specs.declared.options.Options.{Options}
 use Rattle.place80.specs.declared.placed.Placed.{Placed}
 use Rattle.place80.specs.Image.{IsChunk}
-use Rattle.place80.specs.Layout.{nowhere, placed_in, base_in, top_in, layout_of, program_bases}
+use Rattle.place80.specs.Layout.{own_segment, nowhere, placed_in, base_in, top_in, layout_of, program_bases}
 use Rattle.place80.specs.Locating.{placed_bytes}
 use Rattle.place80.specs.PlaceFault.{passes_memory, is_outside}
 use Rattle.place80.proofs.FixupLemmas.{test_at}
@@ -60,10 +60,11 @@ memory_holds contents p i d inside is_memory below in_memory =
     grind (arith, nat_tests, past)
 
 -- a segment that no option gives a length has its own
-own_length : (options : Options) (m : ModuleValue) (id : ℕ) → (id == 3) ≡ false → (id == 4) ≡ false → length_of_id options m id ≡ (segment_in m.segments id).length
-own_length options m id not_stack not_memory =
-    ap (λ b. unwrap_or (cond b options.stack_size (cond (id == 4) options.memory_size None)) (segment_in m.segments id).length) not_stack
-    ∙ ap (λ b. unwrap_or (cond b options.memory_size None) (segment_in m.segments id).length) not_memory
+own_length : (options : Options) (m : ModuleValue) (id : ℕ) → has_segment m.commons id ≡ true → (id == 3) ≡ false → (id == 4) ≡ false → length_of_id options m id ≡ (segment_in m.segments id).length
+own_length options m id has not_stack not_memory =
+    ap (λ b. unwrap_or (cond b options.stack_size (cond (id == 4) options.memory_size None)) (own_segment m id).length) not_stack
+    ∙ ap (λ b. unwrap_or (cond b options.memory_size None) (own_segment m id).length) not_memory
+    ∙ ap (λ b. (unwrap_or (cond b (Some (segment_in m.segments id)) None) empty_segment).length) has
 
 -- a content lies within the segment that is placed for it
 content_within : (options : Options) (m : ModuleValue) (i : ℕ) (d : ContentValue) → IsTrue (is_sound m) → find (is_outside m.contents) (layout_of options m) ≡ None →
@@ -83,7 +84,7 @@ content_within options m i d sound none below lies not_absolute =
           let is_four : c.segment ≡ 4 = eqb-true c.segment 4 e in
           memory_holds m.contents p i d inside.0 (inside.1 ∙ is_four) below is_four
       | inr e ↦
-          let own : p.length ≡ (segment_in m.segments c.segment).length = long.0 ∙ ap (length_of_id options m) long.1 ∙ own_length options m c.segment lies.not_stack e in
+          let own : p.length ≡ (segment_in m.segments c.segment).length = long.0 ∙ ap (length_of_id options m) long.1 ∙ own_length options m c.segment lies.has lies.not_stack e in
           let limit : end_of m.segments c.segment ≡ (segment_in m.segments c.segment).length = ap (λ b. cond b 65536 (segment_in m.segments c.segment).length) not_absolute in
           let held : c.offset + length c.bytes ≤ end_of m.segments c.segment = lies.within in
           omega (arith, own, limit, held)

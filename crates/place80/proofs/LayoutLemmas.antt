@@ -12,8 +12,8 @@ use Rattle.omf_module.specs.Modules.{ModuleValue}
 use Rattle.omf_module.specs.Rules.{each_after, is_new_common}
 use Rattle.place80.specs.declared.options.Options.{Options}
 use Rattle.place80.specs.declared.placed.Placed.{Placed}
-use Rattle.place80.specs.Layout.{usual_base, common_ids, order_of, given_length, placed_after, placed_from, layout_of}
-use Rattle.place80.specs.PlaceFault.{is_outside, overlaps, pairs, all_pairs, absolute_places, outside_memory, overlap, layout_fault}
+use Rattle.place80.specs.Layout.{usual_base, common_ids, order_of, given_length, own_segment, common_numbers, placed_after, placed_from, layout_of}
+use Rattle.place80.specs.PlaceFault.{ids_of, overlap_of, first_shared, with_each, is_outside, overlaps, pairs, all_pairs, absolute_places, outside_memory, overlap, layout_fault}
 use Rattle.place80.specs.declared.place_fault.PlaceFault.TheVariants.{OutsideMemory, Overlap}
 use Rattle.place80.proofs.LocatedDisjoint.{HasWord}
 use Rattle.place80.proofs.SoundLemmas.{named_id}
@@ -27,7 +27,7 @@ unmapped f None none = refl
 unmapped f (Some x) none = absurd cc
 
 abbrev over_absolute : ModuleValue → List Placed → List (Placed × Placed)
-over_absolute m segments = flat_map (λ a. map (λ p. (a, p)) segments) (absolute_places m.contents)
+over_absolute m segments = with_each segments (absolute_places m.contents)
 
 -- where segments can be laid out, they are in memory and no two of them overlap
 pub in_memory_and_apart : (options : Options) (m : ModuleValue) → layout_fault options m ≡ None →
@@ -39,12 +39,12 @@ in_memory_and_apart options m none =
       unmapped (λ (p : Placed). OutsideMemory p.id) (find (is_outside m.contents) segments) parts.0,
       (neither (find (λ (pq : Placed × Placed). overlaps pq.0 pq.1) (pairs segments)) (find (λ (pq : Placed × Placed). overlaps pq.0 pq.1) (over_absolute m segments))
       (sym (find-append (λ (pq : Placed × Placed). overlaps pq.0 pq.1) (pairs segments) (over_absolute m segments))
-      ∙ unmapped (λ (pq : Placed × Placed). Overlap pq.0.id pq.1.id) (find (λ (pq : Placed × Placed). overlaps pq.0 pq.1) (all_pairs m segments)) parts.1)).0,
+      ∙ unmapped ids_of (find (λ (pq : Placed × Placed). overlaps pq.0 pq.1) (all_pairs m segments)) (unmapped overlap_of (first_shared (all_pairs m segments)) parts.1))).0,
     )
 
 -- the length of each segment is the one that is given, or else its own
 abbrev pub length_of_id : Options → ModuleValue → ℕ → ℕ
-length_of_id options m id = unwrap_or (given_length options id) (segment_in m.segments id).length
+length_of_id options m id = unwrap_or (given_length options id) (own_segment m id).length
 
 placed_lengths : (options : Options) (m : ModuleValue) (before : ℕ) (ids : List ℕ) → All (λ p. p.length ≡ length_of_id options m p.id) (placed_from options m before ids)
 placed_lengths options m before [] = All-nil (λ p. p.length ≡ length_of_id options m p.id)
@@ -130,6 +130,7 @@ fixed_in_order named id fixed not_absolute =
 -- every segment of the program but the absolute one is placed
 pub layout_has : (options : Options) (m : ModuleValue) (id : ℕ) → IsTrue (each_after is_new_common [] m.commons) → has_segment m.commons id ≡ true → (id == 0) ≡ false →
     list_any (λ p. p.id == id) (layout_of options m) ≡ true
+unfolding common_numbers
 layout_has options m id new has not_absolute = elim (cases_Bool (is_fixed_id id)) [
   | inl e ↦ layout_ids options m id ∙ fixed_in_order (common_ids m.commons) id e not_absolute
   | inr e ↦

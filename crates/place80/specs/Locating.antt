@@ -1,6 +1,6 @@
 -- The image of a located program: its chunks, its regions and its start, by the places of its segments.
 -- (ISIS-II User's Guide, LOCATE: an absolute module.)
-use Rattle.std.specs.Prelude.{ℕ, ◌+◌, ◌-◌, ◌≤◌, IsTrue, length, ◌%◌, ◌==◌, Bool, ◌&&◌, not, List, [], ◌∷◌, filter, map}
+use Rattle.std.specs.Prelude.{ℕ, ◌+◌, ◌-◌, ◌≤◌, IsTrue, length, ◌%◌, ◌==◌, Bool, ◌&&◌, ◌||◌, not, List, [], ◌∷◌, filter, map}
 use Rattle.std.specs.List.{AllByRecursion}
 use Rattle.omf_module.specs.Modules.{ModuleValue}
 use Rattle.omf_module.specs.declared.fixup.Fixup.{Fixup}
@@ -64,7 +64,7 @@ abbrev pub located_stack : List Placed → Range
 located_stack segments = range_at (placed_in segments 3)
 
 abbrev pub is_data : ℕ → Bool
-is_data id = not (id == 1) && not (id == 3)
+is_data id = not (id == 1 || id == 3)
 
 abbrev pub located_data : List Placed → List Range
 located_data segments = filled (map range_at (filter (λ p. is_data p.id) segments))

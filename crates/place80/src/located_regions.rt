@@ -64,7 +64,7 @@ fn data_ranges(alloc: Global, segments: &[Placed]) -> Result<Vec<Range>, AllocEr
 fn is_data(id: u8) -> bool
     ensures { result ≡ is_data id }
 {
-    id != 1 && id != 3
+    !(id == 1 || id == 3)
 }
 
 /// Appends the range, where it isn't empty.
