@@ -158,7 +158,7 @@ records_keep e bytes small (suc n) at d f is s =
 -- ---- the header
 
 -- no id stands before
-abbrev is_apart : List (ℕ × Segment) → ℕ × Segment → Bool
+abbrev pub is_apart : List (ℕ × Segment) → ℕ × Segment → Bool
 is_apart before e = not (list_any (λ d. d.0 == e.0) before)
 
 entry_apart : (told : List (ℕ × Segment)) (r : List ℕ) (x : ℕ × Segment) (after : List ℕ) → entry_at told r ≡ Ok (x, after) → is_apart told x ≡ true
@@ -194,7 +194,7 @@ header_at_apart bytes at h is =
     (header_apart x.0.0.body v.0 (placed_ok at (header_in x.0.0.body) v.0 v.1))
 
 -- entries that are apart, of segments that exist
-entries_new : (c : List Common) (before e : List (ℕ × Segment)) → each_after is_apart before e ≡ true → list_all (λ x. has_segment c x.0) e ≡ true → each_after (is_new_entry c) before e ≡ true
+pub entries_new : (c : List Common) (before e : List (ℕ × Segment)) → each_after is_apart before e ≡ true → list_all (λ x. has_segment c x.0) e ≡ true → each_after (is_new_entry c) before e ≡ true
 entries_new c before [] apart exist = refl
 entries_new c before (x ∷ xs) apart exist =
     let a = and_parts (is_apart before x) (each_after is_apart (before ++ x ∷ []) xs) apart in

@@ -1,7 +1,7 @@
 -- What is read is spelled by records.
-use Rattle.std.proofs.Common.{◌≡◌, ℕ, zero, suc, ◌+◌, true, List, [], ◌∷◌, ◌++◌, length, drop, Option, Some, None, Result, Ok, Err, refl, sym, ap, subst, ◌∙◌, inl, inr, arith}
+use Rattle.std.proofs.Common.{◌≡◌, ℕ, zero, suc, ◌+◌, List, [], ◌∷◌, ◌++◌, length, drop, Option, Some, None, Result, Ok, Err, refl, sym, ap, subst, ◌∙◌, inl, inr, arith}
 use Rattle.std.specs.Prelude.{◌==◌, nat_le, if◌then◌else◌}
-use Rattle.std.proofs.lemmas.Bool.Decides.{eqb_tells}
+use Rattle.std.proofs.lemmas.Bool.{eqb-true}
 use Rattle.omf_core.specs.declared.fault.RecordFault.{RecordFault}
 use Rattle.omf_core.specs.Record.{SpellsRecord, fault_at, head_kind, head_body, record_size}
 use Rattle.omf_core.specs.Records.{RecordValue, SpellsRecords}
@@ -15,7 +15,7 @@ use Rattle.omf_module.specs.Stop.{◌>>=◌}
 use Rattle.omf_module.specs.FirstRound.{Draft, First, after_record, after_end, at_place, framed_by, framed, record_at, or_others, records_from, header_in}
 use Rattle.omf_module.specs.SecondRound.{contents_from}
 use Rattle.omf_module.specs.Reading.{begun, known_of, parts_of, header_at, parts_at}
-use Rattle.omf_module.specs.Spelled.{are_within, told_over, ReadIsSpelled}
+use Rattle.omf_module.proofs.Gathers.{are_within, told_over, ReadIsGathered}
 use Rattle.omf_module.proofs.Kept.{bind_ok, placed_ok, ok_is, passed, passed_if, chosen}
 
 -- what is framed at a place is spelled there
@@ -52,13 +52,6 @@ record Rest (bytes : List ℕ) (at : ℕ) (d : Draft) (f : First) : Type 0 where
   pub told_last : after_end place end.body gathered ≡ Ok (f.draft, f.start)
   pub spelled : SpellsRecords bytes at f.after (within ++ end ∷ [])
 
-is_kind : (a b : ℕ) → (a == b) ≡ true → a ≡ b
-is_kind a b e =
-    elim (eqb_tells a b) [
-      | inl is ↦ is.1
-      | inr off ↦ absurd cc
-    ]
-
 rest_of : (n : ℕ) (bytes : List ℕ) (at : ℕ) (d : Draft) (f : First) → records_from n bytes at d ≡ Ok f → Rest bytes at d f
 unfolding record_at
 rest_of zero bytes at d f is = absurd cc
@@ -75,7 +68,7 @@ rest_of (suc n) bytes at d f is =
           subst (λ (w : First). Rest bytes at d w) made record {
             within = [];
             end = x.0.0;
-            is_end = is_kind x.0.0.kind 0x04 ended.0;
+            is_end = eqb-true x.0.0.kind 0x04 ended.0;
             only_end = tt;
             gathered = d;
             place = at;
@@ -120,15 +113,15 @@ header_of bytes at h is =
     let fr = framed_spelled bytes at x.0 x.1 in
     subst (λ (w : (List ℕ × List (ℕ × Segment)) × ℕ). Header bytes at w) (ok_is {F = ModuleFault} (v.0, x.0.1) h v.2) record {
       header = x.0.0;
-      is_header = is_kind x.0.0.kind 0x02 g.0;
+      is_header = eqb-true x.0.0.kind 0x02 g.0;
       told = placed_ok at (header_in x.0.0.body) v.0 v.1;
       spelled = fr.spelled;
       after = fr.after;
     }
 
-pub read_is_spelled : ReadIsSpelled
+pub read_is_gathered : ReadIsGathered
 unfolding parts_at
-read_is_spelled bytes at after m is =
+read_is_gathered bytes at after m is =
     let p = bind_ok (parts_at bytes at) (λ p. Ok (made_of p.0, p.1)) (m, after) is in
     let h = bind_ok (header_at bytes at) (λ header. records_from (length bytes) bytes header.1 (begun at header.0.1) >>= λ first. contents_from (known_of header.0.1 first.draft) first.draft.steps >>= λ contents. Ok (parts_of header.0 first contents, first.after)) p.0 p.1 in
     let f = bind_ok (records_from (length bytes) bytes h.0.1 (begun at h.0.0.1)) (λ first. contents_from (known_of h.0.0.1 first.draft) first.draft.steps >>= λ contents. Ok (parts_of h.0.0 first contents, first.after)) p.0 h.2 in

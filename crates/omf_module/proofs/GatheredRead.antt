@@ -15,7 +15,7 @@ use Rattle.omf_module.specs.Stop.{◌>>=◌}
 use Rattle.omf_module.specs.FirstRound.{Draft, First, after_record, after_end, at_place, framed, record_at, or_others, records_from, header_in}
 use Rattle.omf_module.specs.SecondRound.{contents_from}
 use Rattle.omf_module.specs.Reading.{begun, known_of, parts_of, header_at, parts_at}
-use Rattle.omf_module.specs.Spelled.{are_within, told_over, SpelledIsRead}
+use Rattle.omf_module.proofs.Gathers.{are_within, told_over, GatheredIsRead}
 use Rattle.omf_module.proofs.Kept.{bind_ok, ok_is}
 use Rattle.omf_module.proofs.WrittenFields.{test_off}
 use Rattle.omf_module.proofs.WrittenRecords.{framed_none}
@@ -95,9 +95,9 @@ header_spelled bytes at r h two told is =
 abbrev with_kind : ℕ → List ℕ → RecordValue
 with_kind kind body = record { kind = kind; body = body }
 
-pub spelled_is_read : SpelledIsRead
+pub gathered_is_read : GatheredIsRead
 unfolding parts_at
-spelled_is_read bytes at after records m spelled s =
+gathered_is_read bytes at after records m spelled s =
     let whole : SpellsRecords bytes at after (s.header ∷ (s.within ++ s.end ∷ [])) = subst (λ (rs : List RecordValue). SpellsRecords bytes at after rs) s.whole spelled in
     let place = at + 4 + length s.header.body in
     let next : at + (4 + length s.header.body) ≡ at + 4 + length s.header.body = omega arith in
