@@ -7,3 +7,4 @@ pub mod WriteLemmas
 pub mod ReadingLemmas
 pub mod FaultLemmas
 pub mod ApartLemmas
+pub mod ImageFileLemmas
