@@ -21,3 +21,4 @@ pub mod SoundLemmas
 pub mod LayoutLemmas
 pub mod LocatingLemmas
 pub mod ChunkLemmas
+pub mod ImageFileLemmas
