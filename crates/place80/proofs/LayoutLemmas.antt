@@ -34,12 +34,11 @@ pub in_memory_and_apart : (options : Options) (m : ModuleValue) → layout_fault
     (find (is_outside m.contents) (layout_of options m) ≡ None) × (find (λ pq. overlaps pq.0 pq.1) (pairs (layout_of options m)) ≡ None)
 in_memory_and_apart options m none =
     let parts = neither (outside_memory m (layout_of options m)) (overlap m (layout_of options m)) none in
-    let segments : List Placed = layout_of options m in
-    (
+    let segments : List Placed = layout_of options m in (
       unmapped (λ (p : Placed). OutsideMemory p.id) (find (is_outside m.contents) segments) parts.0,
       (neither (find (λ (pq : Placed × Placed). overlaps pq.0 pq.1) (pairs segments)) (find (λ (pq : Placed × Placed). overlaps pq.0 pq.1) (over_absolute m segments))
-      (sym (find-append (λ (pq : Placed × Placed). overlaps pq.0 pq.1) (pairs segments) (over_absolute m segments))
-      ∙ unmapped ids_of (find (λ (pq : Placed × Placed). overlaps pq.0 pq.1) (all_pairs m segments)) (unmapped overlap_of (first_shared (all_pairs m segments)) parts.1))).0,
+          (sym (find-append (λ (pq : Placed × Placed). overlaps pq.0 pq.1) (pairs segments) (over_absolute m segments))
+          ∙ unmapped ids_of (find (λ (pq : Placed × Placed). overlaps pq.0 pq.1) (all_pairs m segments)) (unmapped overlap_of (first_shared (all_pairs m segments)) parts.1))).0,
     )
 
 -- the length of each segment is the one that is given, or else its own
@@ -122,9 +121,9 @@ fixed_in_order named id fixed not_absolute =
     elim (cases_Bool (1 == id)) [
       | inl e ↦ ap (λ b. b || (3 == id || list_any (λ i. i == id) back)) e
       | inr e ↦ elim (cases_Bool (3 == id)) [
-          | inl f ↦ ap (λ b. 1 == id || (b || list_any (λ i. i == id) back)) f ∙ or_true (1 == id)
-          | inr f ↦ from_later named id (any_back (λ i. i == id) named (255 ∷ 2 ∷ 4 ∷ []) (last_three id fixed not_absolute e f))
-        ]
+        | inl f ↦ ap (λ b. 1 == id || (b || list_any (λ i. i == id) back)) f ∙ or_true (1 == id)
+        | inr f ↦ from_later named id (any_back (λ i. i == id) named (255 ∷ 2 ∷ 4 ∷ []) (last_three id fixed not_absolute e f))
+      ]
     ]
 
 -- every segment of the program but the absolute one is placed

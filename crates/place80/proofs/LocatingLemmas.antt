@@ -80,7 +80,7 @@ chunk_same : (segments : List Placed) (m : ModuleValue) (c : ContentValue) → I
     chunk_by segments c ≡ one_chunk segments m c
 chunk_same segments m c sound none good =
     let patches = map_same (λ f. has_target m.commons 0 f.target) (patch_by segments c.offset) (patch_of (bases_of m.commons segments) (m ∷ []) (0, m) c)
-        (λ f has. patch_same segments m c f sound has) c.fixups (targets_there m c none good) in
+    (λ f has. patch_same segments m c f sound has) c.fixups (targets_there m c none good) in
     let place = place_of_id segments m c.segment c.offset (sound_commons m sound) (content_lies m.segments m.commons (length m.externals) c good).has in
     ap (λ (n : ℕ). record { address = n; bytes = with_patches (map (patch_by segments c.offset) c.fixups) c.bytes }) (sym place)
     ∙ ap (λ (l : List Patch). record { address = place_in (bases_of m.commons segments) (m ∷ []) 0 m c.segment c.offset; bytes = with_patches l c.bytes }) patches

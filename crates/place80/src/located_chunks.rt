@@ -16,13 +16,18 @@ use std::alloc::{AllocError, Global};
 pub(crate) fn any_loses_its_low_byte(segments: &[Placed], contents: &[Content]) -> bool
     ensures { result ≡ list_any (λ c. list_any (loses_by segments.now) c.fixups) contents.now }
 {
-    contents.iter().any(|content| content_loses_a_low_byte(segments, content))
+    contents
+        .iter()
+        .any(|content| content_loses_a_low_byte(segments, content))
 }
 
 fn content_loses_a_low_byte(segments: &[Placed], content: &Content) -> bool
     ensures { result ≡ list_any (loses_by segments.now) content.now.fixups }
 {
-    content.fixups.iter().any(|fixup| loses_its_low_byte(segments, *fixup))
+    content
+        .fixups
+        .iter()
+        .any(|fixup| loses_its_low_byte(segments, *fixup))
 }
 
 /// Whether the reference takes the high byte of a word that isn't a multiple of 256.
@@ -62,11 +67,7 @@ pub(crate) fn located_chunks(
 }
 
 /// The chunk of a content.
-fn located_chunk(
-    alloc: Global,
-    segments: &[Placed],
-    content: &Content,
-) -> Result<Chunk, AllocError>
+fn located_chunk(alloc: Global, segments: &[Placed], content: &Content) -> Result<Chunk, AllocError>
     requires { CanBePlaced segments.now content.now }
     ensures { IfOk result (λ chunk. chunk ≡ chunk_by segments.now content.now) }
 {

@@ -44,6 +44,5 @@ fn any_passes(contents: &[Content], size: u32) -> bool
 fn passes_memory(size: u32, content: &Content) -> bool
     ensures { result ≡ passes_memory size content.now }
 {
-    content.segment == 4
-        && u64::from(size) < u64::from(content.offset) + content.bytes.len() as u64
+    content.segment == 4 && u64::from(size) < u64::from(content.offset) + content.bytes.len() as u64
 }

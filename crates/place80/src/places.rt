@@ -31,6 +31,5 @@ pub(crate) fn is_in_placed(placed: Placed, address: u16) -> bool
     ensures { result ≡ is_in_placed placed address }
 {
     let address = u64::from(address);
-    u64::from(placed.base) <= address
-        && address < u64::from(placed.base) + u64::from(placed.length)
+    u64::from(placed.base) <= address && address < u64::from(placed.base) + u64::from(placed.length)
 }

@@ -12,6 +12,6 @@ unreachable-requires c =
     let stack = c.stack_range-stack.ensures in
     let data_ranges = c.in_ok-data_ranges.ensures in
     let same = ap (λ (l : List Range). l ++ c.stack_range-stack.result ∷ c.in_ok-data_ranges.data_ranges.items) code
-        ∙ ap (λ (r : Range). located_code c.args.segments.now ++ r ∷ c.in_ok-data_ranges.data_ranges.items) stack
-        ∙ ap (λ (l : List Range). located_code c.args.segments.now ++ located_stack c.args.segments.now ∷ l) data_ranges in
+    ∙ ap (λ (r : Range). located_code c.args.segments.now ++ r ∷ c.in_ok-data_ranges.data_ranges.items) stack
+    ∙ ap (λ (l : List Range). located_code c.args.segments.now ++ located_stack c.args.segments.now ∷ l) data_ranges in
     none_of c.in_ok-regions.field-0 c.in_ok-regions.ensures.overlap c.in-None.is (subst (λ (l : List Range). AreDisjoint l) (sym same) c.requires.disjoint)
