@@ -22,3 +22,4 @@ pub mod LayoutLemmas
 pub mod LocatingLemmas
 pub mod ChunkLemmas
 pub mod ImageFileLemmas
+pub mod LaidOut

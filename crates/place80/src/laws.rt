@@ -3,6 +3,7 @@
 ghost use Rattle.std.specs.Prelude.{◌≡◌, ◌≢◌, ℕ, ◌<◌, List, [], ◌∷◌, ◌++◌, length, slice_index, true, false, if◌then◌else◌};
 ghost use Rattle.place80.specs.Image.{PlacedBytes, covers, byte_of, byte_at, memory_of};
 ghost use Rattle.place80.specs.Range.{in_range};
+ghost use Rattle.place80.specs.LayoutLaws.{LayoutIsLaidOut, LaidOutInOneWay, OverlapIsASharedAddress};
 ghost use Rattle.place80.specs.Regions.{Areas, AreRegions, in_code, in_data};
 ghost use Rattle.place80.specs.RegionsText.{regions_text, Spells, Refuses};
 ghost use Rattle.place80.specs.ImageFile.{WrittenImageIsRead};
@@ -51,3 +52,15 @@ pub fn written_image_is_read()
 {
     written_file_is_read();
 }
+
+/// The layout of a program is the one list of its segments in which each has its length and stands at the base that is
+/// given for it or follows the one before it.
+pub fn segments_are_laid_out_in_one_way()
+    ensures laid_out { LayoutIsLaidOut }
+    ensures one_way { LaidOutInOneWay }
+{}
+
+/// Two placed segments overlap exactly where an address lies in both.
+pub fn segments_overlap_at_an_address()
+    ensures { OverlapIsASharedAddress }
+{}
