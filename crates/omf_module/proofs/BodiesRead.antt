@@ -21,7 +21,8 @@ use Rattle.omf_module.specs.SpelledBodies.{SpellsCommon, SpellsPublic, SpellsExt
 use Rattle.omf_module.specs.Spelled.{may_stand_within}
 use Rattle.omf_module.proofs.WrittenFields.{field_again}
 use Rattle.omf_module.proofs.EntriesSpelled.{each_read, any, all_any, commons_law, publics_law, externals_law}
-use Rattle.omf_module.proofs.BodiesSpelled.{Piece, Tells, Adds, own_after, bare, bare_more, bare_placed, placed_at, steps_of, references, SpellsStep, offsets_law, indices_law, either}
+use Rattle.omf_module.proofs.BodiesSpelled.{Piece, Tells, Adds, own_after, bare, bare_more, bare_placed, placed_at, steps_of, references, SpellsStep, offsets_law, indices_law}
+use Rattle.omf_module.proofs.RecordsSpelled.{either}
 
 -- a kind that is one of a list: what holds of each of them holds of it
 pub by_kind : (P : ℕ → Type 0) (kinds : List ℕ) (kind : ℕ) → list_any (λ k. kind == k) kinds ≡ true → AllByRecursion P kinds → P kind

@@ -1,7 +1,6 @@
 -- A record tells exactly what its body spells.
-use Rattle.std.proofs.Common.{◌≡◌, ◌⊎◌, ℕ, Bool, true, false, cond, ◌||◌, List, [], ◌∷◌, ◌++◌, map, Result, Ok, Err, refl, sym, ap, subst, ◌∙◌, inl, inr, append_assoc}
+use Rattle.std.proofs.Common.{◌≡◌, ℕ, true, ◌||◌, List, [], ◌∷◌, ◌++◌, map, Result, Ok, refl, sym, ap, subst, ◌∙◌, append_assoc}
 use Rattle.std.specs.Prelude.{◌==◌, slice_index, if◌then◌else◌}
-use Rattle.std.proofs.lemmas.Bool.{eqb-true}
 use Rattle.std.proofs.lemmas.List.{append-nil, map-append}
 use Rattle.omf_module.specs.declared.symbols.Common.{Common}
 use Rattle.omf_module.specs.declared.symbols.Public.{Public}
@@ -12,15 +11,13 @@ use Rattle.omf_module.specs.declared.fixup.Target.TheVariants as target
 use Rattle.omf_module.specs.declared.step.Step.{Step}
 use Rattle.omf_module.specs.declared.step.Step.TheVariants.{Uses, Content, Inside, Refers}
 use Rattle.omf_module.specs.declared.fault.Cause.{Cause}
-use Rattle.omf_module.specs.declared.fault.Cause.TheVariants.{UnknownKind, NoEnd}
 use Rattle.omf_module.specs.Stop.{◌>>=◌}
 use Rattle.omf_module.specs.Rules.{each_after, is_new_common}
 use Rattle.omf_module.specs.Fields.{byte_at, word_at, field_at, common_at, public_at, external_at, offset_at, index_at}
-use Rattle.omf_module.specs.FirstRound.{Placed, Draft, entries_in, step_of, step_of_offset, step_of_index, after_content, after_publics, after_externals, after_commons, after_indices, after_relocations, after_references, after_record}
+use Rattle.omf_module.specs.FirstRound.{Placed, Draft, entries_in, step_of, step_of_offset, step_of_index, after_content, after_publics, after_externals, after_commons, after_indices, after_relocations, after_references}
 use Rattle.omf_module.specs.Writing.{record_of}
 use Rattle.omf_module.specs.SpelledBodies.{SpellsEach, SpellsCommon, SpellsPublic, SpellsPublics, SpellsExternal, SpellsOffset, SpellsIndex, SpellsBytes, SpellsReferences, Depending}
-use Rattle.omf_module.specs.Spelled.{may_stand_within}
-use Rattle.omf_module.proofs.Kept.{bind_ok, ok_is, chosen}
+use Rattle.omf_module.proofs.Kept.{bind_ok, ok_is}
 use Rattle.omf_module.proofs.EntriesSpelled.{Reads, each_spelled, any, byte_is, word_is, field_is, commons_law, publics_law, externals_law, offset_read, offset_spelled, offset_shorter, index_read, index_spelled, index_shorter}
 
 -- ---- what a record tells
@@ -132,7 +129,7 @@ bare_more xs ys = map-append (λ s. s.1) xs ys
 
 -- ---- records that tell steps alone
 
-abbrev steps_alone : List Step → Piece
+abbrev pub steps_alone : List Step → Piece
 steps_alone ss = record { commons = []; publics = []; externals = []; steps = ss }
 
 alone : (d : Draft) (own : ℕ) (steps : List Placed) (ss : List Step) → bare steps ≡ bare d.steps ++ ss → Adds d (record d { own = own; steps = steps }) own (steps_alone ss)
@@ -146,7 +143,7 @@ alone d own steps ss e = record {
 
 -- from what a body tells to how it is spelled
 
-content_told : (at : ℕ) (body : List ℕ) (d d' : Draft) → after_content at body d ≡ Ok d' → Told 0x06 body d d'
+pub content_told : (at : ℕ) (body : List ℕ) (d d' : Draft) → after_content at body d ≡ Ok d' → Told 0x06 body d d'
 unfolding after_content
 content_told at body d d' is =
     let a = bind_ok (byte_at 0x06 body) (λ segment. word_at 0x06 segment.1 >>= λ offset. Ok (record d { own = segment.0; steps = d.steps ++ (at, Content segment.0 offset.0 offset.1) ∷ [] })) d' is in
@@ -169,7 +166,7 @@ content_told at body d d' is =
           (subst (λ n. Adds d made n (steps_alone (step ∷ []))) own (alone d a.0.0 (d.steps ++ new ∷ []) (step ∷ []) (bare_more d.steps (new ∷ [])))),
     )
 
-publics_told : (at : ℕ) (body : List ℕ) (d d' : Draft) → after_publics at body d ≡ Ok d' → Told 0x16 body d d'
+pub publics_told : (at : ℕ) (body : List ℕ) (d d' : Draft) → after_publics at body d ≡ Ok d' → Told 0x16 body d d'
 unfolding after_publics
 publics_told at body d d' is =
     let a = bind_ok (byte_at 0x16 body) (λ segment. entries_in (public_at segment.0) d.publics segment.1 >>= λ publics. Ok (record d { publics = publics; steps = d.steps ++ (at, Uses segment.0) ∷ [] })) d' is in
@@ -197,7 +194,7 @@ publics_told at body d d' is =
       },
     )
 
-externals_told : (body : List ℕ) (d d' : Draft) → after_externals body d ≡ Ok d' → Told 0x18 body d d'
+pub externals_told : (body : List ℕ) (d d' : Draft) → after_externals body d ≡ Ok d' → Told 0x18 body d d'
 unfolding after_externals
 externals_told body d d' is =
     let a = bind_ok (entries_in external_at d.externals body) (λ externals. Ok (record d { externals = externals })) d' is in
@@ -214,7 +211,7 @@ externals_told body d d' is =
       },
     )
 
-commons_told : (body : List ℕ) (d d' : Draft) → after_commons body d ≡ Ok d' → Told 0x2E body d d'
+pub commons_told : (body : List ℕ) (d d' : Draft) → after_commons body d ≡ Ok d' → Told 0x2E body d d'
 unfolding after_commons
 commons_told body d d' is =
     let a = bind_ok (entries_in common_at d.commons body) (λ commons. Ok (record d { commons = commons })) d' is in
@@ -238,7 +235,7 @@ referred d at first steps entries fs whole are =
     alone d d.own steps (bare first ++ references fs)
     (ap bare whole ∙ (bare_more (d.steps ++ first) entries ∙ (ap (λ (ss : List Step). ss ++ bare entries) (bare_more d.steps first) ∙ (append_assoc (bare d.steps) (bare first) (bare entries) ∙ ap (λ (ss : List Step). bare d.steps ++ (bare first ++ ss)) are))))
 
-indices_told : (at : ℕ) (body : List ℕ) (d d' : Draft) → after_indices at body d ≡ Ok d' → Told 0x20 body d d'
+pub indices_told : (at : ℕ) (body : List ℕ) (d d' : Draft) → after_indices at body d ≡ Ok d' → Told 0x20 body d d'
 unfolding after_indices
 indices_told at body d d' is =
     let first : List Placed = (at, Inside) ∷ [] in
@@ -258,7 +255,7 @@ indices_told at body d d' is =
           (referred d at ((at, Inside) ∷ []) b.0 each.entries fs.0 each.whole fs.1),
     )
 
-relocations_told : (at : ℕ) (body : List ℕ) (d d' : Draft) → after_relocations at body d ≡ Ok d' → Told 0x22 body d d'
+pub relocations_told : (at : ℕ) (body : List ℕ) (d d' : Draft) → after_relocations at body d ≡ Ok d' → Told 0x22 body d d'
 unfolding after_relocations
 relocations_told at body d d' is =
     let to : Target = target.Segment d.own in
@@ -278,7 +275,7 @@ relocations_told at body d d' is =
           (referred d at ((at, Inside) ∷ []) b.0 each.entries fs.0 each.whole fs.1),
     )
 
-intersegment_told : (at : ℕ) (body : List ℕ) (d d' : Draft) → after_references at body d ≡ Ok d' → Told 0x24 body d d'
+pub intersegment_told : (at : ℕ) (body : List ℕ) (d d' : Draft) → after_references at body d ≡ Ok d' → Told 0x24 body d d'
 unfolding after_references
 intersegment_told at body d d' is =
     let g = bind_ok (byte_at 0x24 body) (λ segment. field_at 0x24 segment.1 >>= λ field. entries_in (step_of_offset 0x24 at field.0 (target.Segment segment.0)) (d.steps ++ (at, Uses segment.0) ∷ (at, Inside) ∷ []) field.1 >>= λ steps. Ok (record d { steps = steps })) d' is in
@@ -305,7 +302,7 @@ intersegment_told at body d d' is =
     )
 
 -- a record that tells nothing
-nothing_told : (d d' : Draft) → d ≡ d' → Adds d d' d.own (steps_alone [])
+pub nothing_told : (d d' : Draft) → d ≡ d' → Adds d d' d.own (steps_alone [])
 nothing_told d d' is =
     subst (λ (v : Draft). Adds d v d.own (steps_alone [])) is record {
       commons = sym (append-nil d.commons);
@@ -314,91 +311,3 @@ nothing_told d d' is =
       steps = sym (append-nil (bare d.steps));
       own_is = refl;
     }
-
--- ---- any record
-
-pub either : (a b : Bool) → (a || b) ≡ true → (a ≡ true) ⊎ (b ≡ true)
-either true b e = inl refl
-either false b e = inr e
-
-neither : {A : Type 0} (b : Bool) (c e : Cause) (x : A) → cond b (Err c) (Err e) ≡ Ok x → ⊥
-neither true c e x is = absurd cc
-neither false c e x is = absurd cc
-
-abbrev Listed : ℕ → List ℕ → Draft → Draft → Type 0
-Listed kind body d d' = (may_stand_within (record_of kind body) ≡ true) × Told kind body d d'
-
-abbrev quiet : ℕ → Draft → Result Draft Cause
-quiet kind d = if kind == 0x08 || kind == 0x10 || kind == 0x12 then Ok d else (if kind == 0x0E then Err NoEnd else Err (UnknownKind kind))
-
-abbrev or_references : ℕ → ℕ → List ℕ → Draft → Result Draft Cause
-or_references at kind body d = if kind == 0x24 then after_references at body d else quiet kind d
-
-abbrev or_relocations : ℕ → ℕ → List ℕ → Draft → Result Draft Cause
-or_relocations at kind body d = if kind == 0x22 then after_relocations at body d else or_references at kind body d
-
-abbrev or_indices : ℕ → ℕ → List ℕ → Draft → Result Draft Cause
-or_indices at kind body d = if kind == 0x20 then after_indices at body d else or_relocations at kind body d
-
-abbrev or_commons : ℕ → ℕ → List ℕ → Draft → Result Draft Cause
-or_commons at kind body d = if kind == 0x2E then after_commons body d else or_indices at kind body d
-
-abbrev or_externals : ℕ → ℕ → List ℕ → Draft → Result Draft Cause
-or_externals at kind body d = if kind == 0x18 then after_externals body d else or_commons at kind body d
-
-abbrev or_publics : ℕ → ℕ → List ℕ → Draft → Result Draft Cause
-or_publics at kind body d = if kind == 0x16 then after_publics at body d else or_externals at kind body d
-
-quiet_told : (kind : ℕ) (body : List ℕ) (d d' : Draft) → quiet kind d ≡ Ok d' → Listed kind body d d'
-quiet_told kind body d d' is =
-    let tells : Tells d.commons d.own 0x08 body (steps_alone []) = record { commons = refl; publics = refl; externals = refl; steps = refl; new = refl } in
-    let tells' : Tells d.commons d.own 0x10 body (steps_alone []) = record { commons = refl; publics = refl; externals = refl; steps = refl; new = refl } in
-    let tells'' : Tells d.commons d.own 0x12 body (steps_alone []) = record { commons = refl; publics = refl; externals = refl; steps = refl; new = refl } in
-    elim (chosen (kind == 0x08 || kind == 0x10 || kind == 0x12) (Ok d) (if kind == 0x0E then Err NoEnd else Err (UnknownKind kind)) (Ok d') is) [
-      | inl q ↦
-          let adds = nothing_told d d' (ok_is {F = Cause} d d' q.1) in
-          elim (either (kind == 0x08 || kind == 0x10) (kind == 0x12) q.0) [
-            | inl a ↦
-                elim (either (kind == 0x08) (kind == 0x10) a) [
-                  | inl b ↦ subst (λ k. Listed k body d d') (sym (eqb-true kind 0x08 b)) (refl, (steps_alone [], tells, adds))
-                  | inr b ↦ subst (λ k. Listed k body d d') (sym (eqb-true kind 0x10 b)) (refl, (steps_alone [], tells', adds))
-                ]
-            | inr a ↦ subst (λ k. Listed k body d d') (sym (eqb-true kind 0x12 a)) (refl, (steps_alone [], tells'', adds))
-          ]
-      | inr q ↦ absurd (neither (kind == 0x0E) NoEnd (UnknownKind kind) d' q.1)
-    ]
-
-pub record_told : (at kind : ℕ) (body : List ℕ) (d d' : Draft) → after_record at kind body d ≡ Ok d' → Listed kind body d d'
-unfolding after_record
-record_told at kind body d d' is =
-    elim (chosen (kind == 0x06) (after_content at body d) (or_publics at kind body d) (Ok d') is) [
-      | inl a ↦ subst (λ k. Listed k body d d') (sym (eqb-true kind 0x06 a.0)) (refl, content_told at body d d' a.1)
-      | inr a ↦
-          elim (chosen (kind == 0x16) (after_publics at body d) (or_externals at kind body d) (Ok d') a.1) [
-            | inl b ↦ subst (λ k. Listed k body d d') (sym (eqb-true kind 0x16 b.0)) (refl, publics_told at body d d' b.1)
-            | inr b ↦
-                elim (chosen (kind == 0x18) (after_externals body d) (or_commons at kind body d) (Ok d') b.1) [
-                  | inl c ↦ subst (λ k. Listed k body d d') (sym (eqb-true kind 0x18 c.0)) (refl, externals_told body d d' c.1)
-                  | inr c ↦
-                      elim (chosen (kind == 0x2E) (after_commons body d) (or_indices at kind body d) (Ok d') c.1) [
-                        | inl e ↦ subst (λ k. Listed k body d d') (sym (eqb-true kind 0x2E e.0)) (refl, commons_told body d d' e.1)
-                        | inr e ↦ reference_told at kind body d d' e.1
-                      ]
-                ]
-          ]
-    ]
-  where
-    reference_told : (at kind : ℕ) (body : List ℕ) (d d' : Draft) → or_indices at kind body d ≡ Ok d' → Listed kind body d d'
-    reference_told at kind body d d' is =
-        elim (chosen (kind == 0x20) (after_indices at body d) (or_relocations at kind body d) (Ok d') is) [
-          | inl a ↦ subst (λ k. Listed k body d d') (sym (eqb-true kind 0x20 a.0)) (refl, indices_told at body d d' a.1)
-          | inr a ↦
-              elim (chosen (kind == 0x22) (after_relocations at body d) (or_references at kind body d) (Ok d') a.1) [
-                | inl b ↦ subst (λ k. Listed k body d d') (sym (eqb-true kind 0x22 b.0)) (refl, relocations_told at body d d' b.1)
-                | inr b ↦
-                    elim (chosen (kind == 0x24) (after_references at body d) (quiet kind d) (Ok d') b.1) [
-                      | inl c ↦ subst (λ k. Listed k body d d') (sym (eqb-true kind 0x24 c.0)) (refl, intersegment_told at body d d' c.1)
-                      | inr c ↦ quiet_told kind body d d' c.1
-                    ]
-              ]
-        ]

@@ -26,7 +26,7 @@ record_ok kind body to = Ok (record { kind = kind; body = body }, to)
 same_record : (kind kind' : ℕ) (body body' : List ℕ) (to to' : ℕ) → kind ≡ kind' → body ≡ body' → to ≡ to' → record_ok kind body to ≡ record_ok kind' body' to'
 same_record kind kind' body body' to to' a b c = ap (λ k. record_ok k body to) a ∙ (ap (λ x. record_ok kind' x to) b ∙ ap (λ x. record_ok kind' body' x) c)
 
-spelled_framed : (bytes : List ℕ) (at : ℕ) (r : RecordValue) → SpellsRecord bytes at (at + 4 + length r.body) r.kind r.body → framed bytes at ≡ Ok (r, at + 4 + length r.body)
+pub spelled_framed : (bytes : List ℕ) (at : ℕ) (r : RecordValue) → SpellsRecord bytes at (at + 4 + length r.body) r.kind r.body → framed bytes at ≡ Ok (r, at + 4 + length r.body)
 unfolding framed
 spelled_framed bytes at r is =
     let rest = drop at bytes in
@@ -36,7 +36,7 @@ spelled_framed bytes at r is =
     framed_none (fault_at (drop at bytes) at) (drop at bytes) at none
     ∙ same_record (head_kind (drop at bytes)) r.kind (head_body (drop at bytes)) r.body (at + record_size (drop at bytes)) (at + 4 + length r.body) same.0 same.1 same.2
 
-spelled_inside : (bytes : List ℕ) (at to kind : ℕ) (body : List ℕ) → SpellsRecord bytes at to kind body → nat_le (length bytes) at ≡ false
+pub spelled_inside : (bytes : List ℕ) (at to kind : ℕ) (body : List ℕ) → SpellsRecord bytes at to kind body → nat_le (length bytes) at ≡ false
 spelled_inside bytes at to kind body is = lt-leb (length bytes) at (omega (arith, is.within, is.all_counted))
 
 record_spelled : (bytes : List ℕ) (at : ℕ) (d d' : Draft) (r : RecordValue) → (r.kind == 0x04) ≡ false → after_record at r.kind r.body d ≡ Ok d' → SpellsRecord bytes at (at + 4 + length r.body) r.kind r.body
@@ -74,7 +74,7 @@ records_spelled (suc n) bytes at after d (r ∷ rs) end g place e enough within 
     ap (taking n bytes) (record_spelled bytes at d x.0 r within.0 x.1 is.0)
     ∙ records_spelled n bytes (at + 4 + length r.body) after x.0 rs end g place e (omega (arith, enough)) within.1 (ap (λ p. told_over p x.0 rs) (sym next) ∙ x.2) ended is.1
 
-few_within : (bytes : List ℕ) (at after : ℕ) (rs : List RecordValue) (e : RecordValue) → SpellsRecords bytes at after (rs ++ e ∷ []) → at + length rs < length bytes
+pub few_within : (bytes : List ℕ) (at after : ℕ) (rs : List RecordValue) (e : RecordValue) → SpellsRecords bytes at after (rs ++ e ∷ []) → at + length rs < length bytes
 few_within bytes at after [] e is = omega (arith, is.0.within)
 few_within bytes at after (r ∷ rs) e is = omega (arith, few_within bytes (at + 4 + length r.body) after rs e is.1)
 

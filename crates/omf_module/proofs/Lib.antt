@@ -20,6 +20,7 @@ pub mod ReadGathered
 pub mod GatheredRead
 pub mod EntriesSpelled
 pub mod BodiesSpelled
+pub mod RecordsSpelled
 pub mod BodiesRead
 pub mod WithinSpelled
 pub mod StepsRun
@@ -27,6 +28,7 @@ pub mod GroupsSpelled
 pub mod GroupsRead
 pub mod ModulesSpelled
 pub mod GatheredOnce
+pub mod FilesSpelled
 pub mod WorkedSpelled
 pub mod PatchLemmas
 pub mod WorkedPlaces

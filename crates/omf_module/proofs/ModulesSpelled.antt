@@ -25,9 +25,9 @@ use Rattle.omf_module.specs.SpelledBodies.{SpellsEntry, SpellsHeader, SpellsEnd,
 use Rattle.omf_module.specs.Spelled.{may_stand_within, SpellsModule}
 use Rattle.omf_module.proofs.Kept.{bind_ok, ok_is, chosen, passed_if}
 use Rattle.omf_module.proofs.WrittenFields.{name_again}
-use Rattle.omf_module.proofs.RoundsKeep.{is_apart, entries_new}
+use Rattle.omf_module.proofs.RoundsKeep.{entries_new}
 use Rattle.omf_module.proofs.Gathers.{are_within, Gathers}
-use Rattle.omf_module.proofs.EntriesSpelled.{byte_is, word_is, name_is, each_read, each_spelled, entries_law}
+use Rattle.omf_module.proofs.EntriesSpelled.{is_apart, byte_is, word_is, name_is, each_read, each_spelled, entries_law}
 use Rattle.omf_module.proofs.BodiesSpelled.{Piece, bare, bare_more}
 use Rattle.omf_module.proofs.WithinSpelled.{Whole, within_told, within_read}
 use Rattle.omf_module.proofs.StepsRun.{building, contents_in, Runs, runs_of, of_runs, runs_both, runs_parts, used, may_use}

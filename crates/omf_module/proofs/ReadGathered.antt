@@ -19,7 +19,7 @@ use Rattle.omf_module.proofs.Gathers.{are_within, told_over, ReadIsGathered}
 use Rattle.omf_module.proofs.Kept.{bind_ok, placed_ok, ok_is, passed, passed_if, chosen}
 
 -- what is framed at a place is spelled there
-record Framed (bytes : List ℕ) (at : ℕ) (r : RecordValue × ℕ) : Type 0 where
+pub record Framed (bytes : List ℕ) (at : ℕ) (r : RecordValue × ℕ) : Type 0 where
   pub spelled : SpellsRecord bytes at (at + 4 + length r.0.body) r.0.kind r.0.body
   pub after : r.1 ≡ at + 4 + length r.0.body
 
@@ -36,7 +36,7 @@ framed_is None bytes at r o is =
       after = place;
     }
 
-framed_spelled : (bytes : List ℕ) (at : ℕ) (r : RecordValue × ℕ) → framed bytes at ≡ Ok r → Framed bytes at r
+pub framed_spelled : (bytes : List ℕ) (at : ℕ) (r : RecordValue × ℕ) → framed bytes at ≡ Ok r → Framed bytes at r
 unfolding framed
 framed_spelled bytes at r is = framed_is (fault_at (drop at bytes) at) bytes at r refl is
 

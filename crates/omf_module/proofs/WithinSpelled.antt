@@ -15,7 +15,8 @@ use Rattle.omf_module.specs.SpelledBodies.{SpellsEach, SpellsCommon, SpellsPubli
 use Rattle.omf_module.specs.Spelled.{may_stand_within, bodies_of, Joins}
 use Rattle.omf_module.proofs.Kept.{bind_ok, ok_is, and_both}
 use Rattle.omf_module.proofs.Gathers.{told_over}
-use Rattle.omf_module.proofs.BodiesSpelled.{Piece, SpellsSteps, own_after, Tells, Adds, bare, record_told}
+use Rattle.omf_module.proofs.BodiesSpelled.{Piece, SpellsSteps, own_after, Tells, Adds, bare}
+use Rattle.omf_module.proofs.RecordsSpelled.{record_told}
 use Rattle.omf_module.proofs.BodiesRead.{record_read}
 
 -- ---- tests of items with those before

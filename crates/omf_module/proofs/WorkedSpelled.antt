@@ -1,5 +1,6 @@
 -- The definition of a module's records, computed on small modules.
-use Rattle.std.specs.Prelude.{ℕ, List, [], ◌∷◌, ◌++◌, false, true, Some, None, refl}
+use Rattle.std.proofs.Common.{lit<, lit≤}
+use Rattle.std.specs.Prelude.{◌≡◌, Ok, ℕ, List, [], ◌∷◌, ◌++◌, false, true, Some, None, refl}
 use Rattle.omf_core.specs.Records.{RecordValue}
 use Rattle.omf_module.specs.declared.fixup.Field.TheVariants.{Low, Both}
 use Rattle.omf_module.specs.declared.fixup.Target.TheVariants.{Segment, External}
@@ -7,7 +8,9 @@ use Rattle.omf_module.specs.Modules.{ModuleValue}
 use Rattle.omf_module.specs.Segments.{entries_for, listed_ids}
 use Rattle.omf_module.specs.Writing.{record_of}
 use Rattle.omf_module.specs.SpelledBodies.{entry_bytes, common_bytes, public_bytes, external_bytes, offset_bytes, index_bytes, no_start, start_bytes}
-use Rattle.omf_module.specs.Spelled.{SpellsModule}
+use Rattle.omf_module.specs.Spelled.{SpellsModule, SpellsFile}
+use Rattle.omf_module.specs.Reading.{file_of}
+use Rattle.omf_module.proofs.FilesSpelled.{spelled_file_is_read}
 
 -- module A: CODE of length 1, byte 76 at its start, where the program starts
 abbrev smallest : ModuleValue
@@ -51,6 +54,35 @@ smallest_spelled = record {
   sound = refl;
   starts = refl;
 }
+
+-- the file of that module alone
+abbrev smallest_file : List ℕ
+smallest_file =
+    0x02 ∷ 0x09 ∷ 0x00 ∷ 0x01 ∷ 0x41 ∷ 0x00 ∷ 0x00 ∷ 0x01 ∷ 0x01 ∷ 0x00 ∷ 0x03 ∷ 0xAE ∷ 0x06 ∷ 0x05 ∷ 0x00 ∷ 0x01 ∷ 0x00 ∷ 0x00 ∷ 0x76 ∷ 0x7E
+    ∷ 0x04 ∷ 0x05 ∷ 0x00 ∷ 0x01 ∷ 0x01 ∷ 0x00 ∷ 0x00 ∷ 0xF5 ∷ 0x0E ∷ 0x01 ∷ 0x00 ∷ 0xF1 ∷ []
+
+smallest_file_spelled : SpellsFile smallest_file (smallest ∷ [])
+smallest_file_spelled = record {
+  lists = smallest_records ∷ [];
+  last = [];
+  after = 32;
+  spelled = (
+    record { kind_byte = refl; length_word = refl; body_bytes = refl; all_counted = refl; within = lit≤ tt; sum_zero = refl },
+    (
+      record { kind_byte = refl; length_word = refl; body_bytes = refl; all_counted = refl; within = lit≤ tt; sum_zero = refl },
+      (
+        record { kind_byte = refl; length_word = refl; body_bytes = refl; all_counted = refl; within = lit≤ tt; sum_zero = refl },
+        (record { kind_byte = refl; length_word = refl; body_bytes = refl; all_counted = refl; within = lit≤ tt; sum_zero = refl }, refl),
+      ),
+    ),
+  );
+  each = (smallest_spelled, tt);
+  some = lit< tt;
+}
+
+-- and it is read
+smallest_file_read : file_of smallest_file ≡ Ok (smallest ∷ [])
+smallest_file_read = spelled_file_is_read smallest_file (smallest ∷ []) smallest_file_spelled
 
 -- Module B, of every kind of record that is looked at: CODE and a common SUM, a public G, an external X that is declared
 -- after its use, and a content with references to its own segment, to the common and to X, with line numbers between.

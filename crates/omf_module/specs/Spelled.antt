@@ -1,7 +1,7 @@
 -- How records spell a module: what holds of the whole list of them, and nothing of the bytes around them.
 -- (8080 Object Module Formats: a module is a header, records in any order, and an end.)
-use Rattle.std.specs.Prelude.{◌≡◌, ℕ, ◌==◌, Bool, ◌||◌, not, if◌then◌else◌, List, [], ◌∷◌, ◌++◌, length, slice_index, map, IsTrue, Ok}
-use Rattle.std.specs.List.{list_all, list_any, filter}
+use Rattle.std.specs.Prelude.{◌≡◌, ℕ, ◌<◌, ◌==◌, Bool, ◌||◌, not, if◌then◌else◌, List, [], ◌∷◌, ◌++◌, length, slice_index, map, IsTrue, Ok}
+use Rattle.std.specs.List.{list_all, list_any, filter, flat_map}
 use Rattle.omf_core.specs.Records.{RecordValue, SpellsRecords}
 use Rattle.omf_module.specs.declared.segment.Segment.{Segment}
 use Rattle.omf_module.specs.declared.symbols.Common.{Common}
@@ -11,7 +11,7 @@ use Rattle.omf_module.specs.Modules.{ModuleValue}
 use Rattle.omf_module.specs.Rules.{each_after, is_new_entry, is_new_common, is_sound_content, is_start}
 use Rattle.omf_module.specs.Writing.{record_of}
 use Rattle.omf_module.specs.SpelledBodies.{SpellsEach, SpellsHeader, SpellsCommon, SpellsPublics, SpellsExternal, SpellsBytes, SpellsReferences, SpellsEnd}
-use Rattle.omf_module.specs.Reading.{module_at}
+use Rattle.omf_module.specs.Reading.{module_at, file_of}
 
 -- ---- lists of records
 
@@ -89,6 +89,18 @@ pub record SpellsModule (records : List RecordValue) (m : ModuleValue) : Type 0 
   pub sound : IsTrue (list_all (is_sound_content entries m.commons (length m.externals)) m.contents)
   pub starts : IsTrue (is_start m.commons m.start)
 
+-- The bytes spell the modules as an object file: the records of one module after another, of one at least, and the record
+-- that ends a file (0E). What stands after it isn't looked at.
+pub record SpellsFile (bytes : List ℕ) (modules : List ModuleValue) : Type 0 where
+  pub lists : List (List RecordValue)
+  pub last : List ℕ
+  pub after : ℕ
+  pub spelled : SpellsRecords bytes 0 after (flat_map (λ records. records) lists ++ record_of 0x0E last ∷ [])
+  pub each : Pairs SpellsModule lists modules
+  pub some : 0 < length modules
+
+-- ---- laws
+
 -- What is read is spelled: the bytes of the module are its records, one after another.
 abbrev pub ReadIsSpelled : Type 0
 ReadIsSpelled =
@@ -107,3 +119,10 @@ SpelledIsRead =
 -- Records spell one module at most.
 abbrev pub SpelledIsOne : Type 0
 SpelledIsOne = (records : List RecordValue) (m n : ModuleValue) → SpellsModule records m → SpellsModule records n → m ≡ n
+
+-- A file that is read is spelled, and one that is spelled is read.
+abbrev pub ReadFileIsSpelled : Type 0
+ReadFileIsSpelled = (bytes : List ℕ) (modules : List ModuleValue) → file_of bytes ≡ Ok modules → SpellsFile bytes modules
+
+abbrev pub SpelledFileIsRead : Type 0
+SpelledFileIsRead = (bytes : List ℕ) (modules : List ModuleValue) → SpellsFile bytes modules → file_of bytes ≡ Ok modules

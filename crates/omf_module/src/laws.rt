@@ -1,7 +1,7 @@
 //! What holds of all modules that are written, whatever calls are made. Each law is ensured by a function that does
 //! nothing: a layer above that calls it has the law in its proof.
 
-ghost use Rattle.omf_module.specs.Spelled.{ReadIsSpelled, SpelledIsRead, SpelledIsOne};
+ghost use Rattle.omf_module.specs.Spelled.{ReadIsSpelled, SpelledIsRead, SpelledIsOne, ReadFileIsSpelled, SpelledFileIsRead};
 ghost use Rattle.omf_module.specs.PatchLaws.{LowTwice, BothTwice, HighTwice};
 ghost use Rattle.omf_module.specs.Laws.{WrittenModuleIsRead, WrittenFileIsRead};
 
@@ -37,6 +37,16 @@ pub fn spelled_is_read()
 /// Records spell one module at most.
 pub fn spelled_is_one()
     ensures { SpelledIsOne }
+{}
+
+/// A file that is read is spelled: records of one module after another, and the record that ends it.
+pub fn read_file_is_spelled()
+    ensures { ReadFileIsSpelled }
+{}
+
+/// A file that is spelled is read, whatever stands after its last record.
+pub fn spelled_file_is_read()
+    ensures { SpelledFileIsRead }
 {}
 
 /// Adding a part's start to a reference and then a base is adding their sum: to a low byte, to a word, and to a high byte
