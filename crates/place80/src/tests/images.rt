@@ -4,6 +4,7 @@ use crate::*;
 use omf_core::{Name, RecordFault};
 use omf_module::{Cause, ModuleFault};
 use std::alloc::Global;
+use std::process::Abort;
 use std::test::Fail;
 
 /// The image of a module A: a halt at 3000, where it starts.
@@ -81,41 +82,66 @@ fn other_than_one_absolute_main_program(rt: HostRuntime) -> Result<(), Fail> {
     Ok(())
 }
 
+/// With other bytes from one place of the image's file up to another this is the fault, if there is one.
+fn answers(
+    rt: &impl Abort,
+    alloc: Global,
+    (from, to): (usize, usize),
+    other: &[u8],
+    fault: Option<ImageFault>,
+) -> Result<(), Fail> {
+    let file = changed(alloc, from, to, other)?;
+    assert_eq!(rt; fault_of(alloc, &file)?, fault);
+    Ok(())
+}
+
 #[test]
 fn what_is_not_absolute(rt: HostRuntime) -> Result<(), Fail> {
     let alloc = rt.alloc();
-    let external = [0x18, 0x04, 0x00, 0x01, 0x45, 0x00, 0x9E];
-    let relocation = [0x22, 0x04, 0x00, 0x01, 0x00, 0x30, 0xA9];
-    let elsewhere = [0x04, 0x05, 0x00, 0x01, 0x01, 0x00, 0x30, 0xC5];
-    let no_bytes = [0x06, 0x04, 0x00, 0x01, 0x00, 0x00, 0xF5];
-    for (from, to, other) in [
-        (8, 8, external.as_slice()),
-        (16, 16, relocation.as_slice()),
-        (16, 24, elsewhere.as_slice()),
-        (16, 16, no_bytes.as_slice()),
-    ] {
-        let file = changed(alloc, from, to, other)?;
-        assert_eq!(rt;
-            fault_of(alloc, &file)?,
-            Some(ImageFault::NotAbsolute),
-            "{other:?}"
-        );
-    }
-    Ok(())
+    let fault = Some(ImageFault::NotAbsolute);
+    // An external name.
+    answers(&rt, alloc, (8, 8), b"\x18\x04\x00\x01\x45\x00\x9E", fault)?;
+    // A reference to the absolute segment.
+    answers(&rt, alloc, (16, 16), b"\x22\x04\x00\x01\x00\x30\xA9", fault)?;
+    // A content of CODE without bytes.
+    answers(&rt, alloc, (16, 16), b"\x06\x04\x00\x01\x00\x00\xF5", fault)?;
+    // A start in CODE.
+    answers(
+        &rt,
+        alloc,
+        (16, 24),
+        b"\x04\x05\x00\x01\x01\x00\x30\xC5",
+        fault,
+    )
 }
 
 #[test]
 fn publics_commons_and_segments_do_not_matter(rt: HostRuntime) -> Result<(), Fail> {
     let alloc = rt.alloc();
-    let header = [
-        0x02, 0x09, 0x00, 0x01, 0x41, 0x00, 0x00, 0x02, 0x10, 0x00, 0x03, 0x9E,
-    ];
-    let public = [0x16, 0x07, 0x00, 0x02, 0x01, 0x00, 0x01, 0x50, 0x00, 0x8F];
-    let common = [0x2E, 0x06, 0x00, 0x06, 0x03, 0x42, 0x55, 0x46, 0xE6];
-    assert_eq!(rt; fault_of(alloc, &changed(alloc, 0, 8, &header)?)?, None);
-    assert_eq!(rt; fault_of(alloc, &changed(alloc, 8, 8, &public)?)?, None);
-    assert_eq!(rt; fault_of(alloc, &changed(alloc, 8, 8, &common)?)?, None);
-    Ok(())
+    // A header with sixteen bytes of DATA.
+    answers(
+        &rt,
+        alloc,
+        (0, 8),
+        b"\x02\x09\x00\x01\x41\x00\x00\x02\x10\x00\x03\x9E",
+        None,
+    )?;
+    // A public of DATA.
+    answers(
+        &rt,
+        alloc,
+        (8, 8),
+        b"\x16\x07\x00\x02\x01\x00\x01\x50\x00\x8F",
+        None,
+    )?;
+    // A named common.
+    answers(
+        &rt,
+        alloc,
+        (8, 8),
+        b"\x2E\x06\x00\x06\x03\x42\x55\x46\xE6",
+        None,
+    )
 }
 
 #[test]
@@ -134,36 +160,50 @@ fn an_image_that_is_cut(rt: HostRuntime) -> Result<(), Fail> {
     Ok(())
 }
 
-#[test]
-fn an_image_of_two_chunks_and_of_none(rt: HostRuntime) -> Result<(), Fail> {
-    let alloc = rt.alloc();
-    let mut image = Image {
+/// An image of these chunks.
+fn image_of(alloc: Global, chunks: Vec<Chunk>) -> Result<Image, Fail> {
+    Ok(Image {
         name: Name::new(alloc, b"IMAGE")?,
-        chunks: Vec::new(alloc),
+        chunks,
         regions: read_regions(alloc, REGIONS)?,
         start: 0x1234,
-    };
-    let mut none = Vec::new(alloc);
-    write_image(alloc, &image, &mut none)?;
-    let read = read_image(alloc, &none, read_regions(alloc, REGIONS)?)
-        .ok()
-        .ok_or("none")?;
+    })
+}
+
+/// The image that is read from what is written for an image.
+fn again(alloc: Global, image: &Image) -> Result<Image, Fail> {
+    let mut file = Vec::new(alloc);
+    write_image(alloc, image, &mut file)?;
+    let regions = read_regions(alloc, REGIONS)?;
+    Ok(read_image(alloc, &file, regions).ok().ok_or("again")?)
+}
+
+#[test]
+fn an_image_of_no_chunks(rt: HostRuntime) -> Result<(), Fail> {
+    let image = image_of(rt.alloc(), Vec::new(rt.alloc()))?;
+    let read = again(rt.alloc(), &image)?;
     assert_eq!(rt; read.name.bytes(), b"IMAGE".as_slice());
     assert!(rt; read.chunks.is_empty());
     assert_eq!(rt; read.start, 0x1234);
-    for (address, size) in [(0xFFFE, 2), (0, 65531)] {
-        let bytes = vec![in alloc; 0xC9; size]?;
-        image.chunks.push(Chunk { address, bytes })?;
-    }
-    let mut two = Vec::new(alloc);
-    write_image(alloc, &image, &mut two)?;
-    let read = read_image(alloc, &two, read_regions(alloc, REGIONS)?)
-        .ok()
-        .ok_or("two")?;
+    Ok(())
+}
+
+#[test]
+fn an_image_of_the_last_byte_and_of_a_full_record(rt: HostRuntime) -> Result<(), Fail> {
+    let alloc = rt.alloc();
+    let mut chunks = Vec::new(alloc);
+    let bytes = vec![in alloc; 0x76u8]?;
+    chunks.push(Chunk {
+        address: 0xFFFF,
+        bytes,
+    })?;
+    let bytes = vec![in alloc; 0xC9u8; 65531]?;
+    chunks.push(Chunk { address: 5, bytes })?;
+    let read = again(alloc, &image_of(alloc, chunks)?)?;
     assert_eq!(rt; read.chunks.len(), 2);
-    assert_eq!(rt; read.chunks[0].address, 0xFFFE);
-    assert_eq!(rt; read.chunks[0].bytes.as_slice(), [0xC9, 0xC9].as_slice());
-    assert_eq!(rt; read.chunks[1].address, 0);
+    assert_eq!(rt; read.chunks[0].address, 0xFFFF);
+    assert_eq!(rt; read.chunks[0].bytes.as_slice(), [0x76].as_slice());
+    assert_eq!(rt; read.chunks[1].address, 5);
     assert_eq!(rt; read.chunks[1].bytes.len(), 65531);
     Ok(())
 }
