@@ -5,7 +5,7 @@ use Rattle.omf_module.specs.Stop.{◌>>=◌}
 use Rattle.omf_module.specs.FirstRound.{entries_from}
 
 -- one entry more
-next_entry : {A : Type 0} (entry : List A → List ℕ → Result (A × List ℕ) Cause) (n : ℕ) (told : List A) (rest : List ℕ) → 0 < length rest
+pub next_entry : {A : Type 0} (entry : List A → List ℕ → Result (A × List ℕ) Cause) (n : ℕ) (told : List A) (rest : List ℕ) → 0 < length rest
     → entries_from entry (suc n) told rest ≡ (entry told rest >>= λ e. entries_from entry n (told ++ e.0 ∷ []) e.1)
 next_entry entry n told [] some = absurd (omega (arith, some))
 next_entry entry n told (b ∷ rest) some = refl

@@ -1,8 +1,7 @@
 -- What the first round gathers keeps the rules, as far as the second one finds all that is used.
-use Rattle.std.proofs.Common.{◌≡◌, ℕ, ◌+◌, ◌*◌, ◌≤◌, Bool, true, false, ◌&&◌, ◌||◌, List, [], ◌∷◌, ◌++◌, length, Ok, Err, refl, sym, ap, subst, ◌∙◌, arith}
-use Rattle.std.specs.Prelude.{not, ◌==◌, nat_eq, nat_le, if◌then◌else◌}
-use Rattle.std.specs.List.{list_all, list_any}
-use Rattle.std.specs.Cmp.Lexicographic.{pointwise}
+use Rattle.std.proofs.Common.{◌≡◌, ℕ, ◌+◌, ◌*◌, ◌≤◌, true, List, [], ◌∷◌, ◌++◌, length, Ok, refl, sym, ap, subst, ◌∙◌, arith}
+use Rattle.std.specs.Prelude.{nat_le}
+use Rattle.std.specs.List.{list_all}
 use Rattle.std.proofs.lemmas.Bool.{and_parts, le-leb}
 use Rattle.omf_module.specs.declared.segment.Segment.{Segment}
 use Rattle.omf_module.specs.declared.symbols.Common.{Common}
@@ -12,35 +11,19 @@ use Rattle.omf_module.specs.declared.fixup.Target.{Target}
 use Rattle.omf_module.specs.declared.fixup.Target.TheVariants as target
 use Rattle.omf_module.specs.declared.step.Step.TheVariants.{Uses, Content, Inside, Refers}
 use Rattle.omf_module.specs.declared.fault.Cause.{Cause}
-use Rattle.omf_module.specs.declared.fault.Cause.TheVariants.{BadBody}
-use Rattle.omf_module.specs.Segments.{has_segment, is_common_id, names_common}
+use Rattle.omf_module.specs.Segments.{has_segment}
 use Rattle.omf_module.specs.Rules.{each_after, is_new_common}
 use Rattle.omf_module.specs.Stop.{◌>>=◌}
 use Rattle.omf_module.specs.Fields.{byte_at, word_at, name_at, field_at, common_at, public_at, external_at, offset_at, index_at}
 use Rattle.omf_module.specs.FirstRound.{Placed, Draft, entries_in, step_of_offset, step_of_index, after_content, after_publics, after_externals, after_commons, after_indices, after_relocations, after_references}
-use Rattle.omf_module.proofs.Kept.{bind_ok, ok_is, passed, and_both, or_neither, not_false, from_not, all_both, all_parts, all_one, each_after_push, entries_keep}
+use Rattle.omf_module.proofs.Kept.{bind_ok, ok_is, all_both, all_parts, all_one, each_after_push, entries_keep}
+use Rattle.omf_module.proofs.EntriesSpelled.{commons_law}
 use Rattle.omf_module.proofs.SecondKeeps.{is_short, is_use, are_short, are_uses}
 
 -- ---- entries
 
-not_true : (a : Bool) → not a ≡ true → a ≡ false
-not_true true e = absurd cc
-not_true false e = refl
-
 common_is_new : (told : List Common) (r : List ℕ) (c : Common) (after : List ℕ) → common_at told r ≡ Ok (c, after) → is_new_common told c ≡ true
-unfolding common_at
-common_is_new told r c after e =
-    let id = bind_ok (byte_at 0x2E r) (λ id. if not (is_common_id id.0) || names_common told id.0 then Err (BadBody 0x2E) else (name_at 0x2E id.1 >>= λ name. if list_any (λ d. pointwise nat_eq d.name name.0) told then Err (BadBody 0x2E) else Ok (record { id = id.0; name = name.0 }, name.1))) (c, after) e in
-    let a = passed (not (is_common_id id.0.0) || names_common told id.0.0) (BadBody 0x2E) (name_at 0x2E id.0.1 >>= λ name. if list_any (λ d. pointwise nat_eq d.name name.0) told then Err (BadBody 0x2E) else Ok (record { id = id.0.0; name = name.0 }, name.1)) (c, after) id.2 in
-    let name = bind_ok (name_at 0x2E id.0.1) (λ name. if list_any (λ d. pointwise nat_eq d.name name.0) told then Err (BadBody 0x2E) else Ok (record { id = id.0.0; name = name.0 }, name.1)) (c, after) a.1 in
-    let made : Common = record { id = id.0.0; name = name.0.0 } in
-    let b = passed (list_any (λ (d : Common). pointwise nat_eq d.name name.0.0) told) (BadBody 0x2E) (Ok (made, name.0.1)) (c, after) name.2 in
-    let ids = or_neither (not (is_common_id id.0.0)) (names_common told id.0.0) a.0 in
-    let is : made ≡ c = ap (λ (p : Common × List ℕ). p.0) (ok_is {F = Cause} (made, name.0.1) (c, after) b.1) in
-    subst (λ (v : Common). is_new_common told v ≡ true) is
-    (and_both (is_common_id id.0.0 && not (list_any (λ (d : Common). d.id == id.0.0) told)) (not (list_any (λ (d : Common). pointwise nat_eq d.name name.0.0) told))
-    (and_both (is_common_id id.0.0) (not (list_any (λ (d : Common). d.id == id.0.0) told)) (from_not (is_common_id id.0.0) ids.0) (not_false (names_common told id.0.0) ids.1))
-    (not_false (list_any (λ (d : Common). pointwise nat_eq d.name name.0.0) told) b.0))
+common_is_new told r c after e = (commons_law.spelled told r c after e).1
 
 public_in : (segment : ℕ) (told : List Public) (r : List ℕ) (p : Public) (after : List ℕ) → public_at segment told r ≡ Ok (p, after) → p.segment ≡ segment
 unfolding public_at

@@ -1,7 +1,7 @@
 -- The parts that both rounds give keep the rules.
-use Rattle.std.proofs.Common.{◌≡◌, ℕ, zero, suc, ◌+◌, ◌-◌, ◌<◌, ◌≤◌, Bool, true, false, ◌&&◌, ◌||◌, List, [], ◌∷◌, ◌++◌, length, drop, get_or, Option, Some, None, Result, Ok, Err, refl, sym, ap, subst, inl, inr, arith, IsTrue}
-use Rattle.std.specs.Prelude.{not, ◌==◌, nat_le, if◌then◌else◌}
-use Rattle.std.specs.List.{list_all, list_any}
+use Rattle.std.proofs.Common.{◌≡◌, ℕ, zero, suc, ◌+◌, ◌-◌, ◌<◌, ◌≤◌, Bool, true, false, ◌&&◌, ◌||◌, List, [], ◌∷◌, ◌++◌, length, drop, get_or, Option, Some, None, Result, Ok, Err, refl, sym, ap, subst, ◌∙◌, inl, inr, arith, IsTrue}
+use Rattle.std.specs.Prelude.{◌==◌, nat_le, if◌then◌else◌}
+use Rattle.std.specs.List.{list_all}
 use Rattle.std.proofs.lemmas.Bool.{and_parts}
 use Rattle.std.proofs.lemmas.List.{length-take, get_or-drop}
 use Rattle.omf_core.specs.declared.fault.RecordFault.{RecordFault}
@@ -10,18 +10,20 @@ use Rattle.omf_core.specs.Records.{RecordValue}
 use Rattle.omf_module.specs.declared.segment.Segment.{Segment}
 use Rattle.omf_module.specs.declared.symbols.Common.{Common}
 use Rattle.omf_module.specs.declared.fault.Cause.{Cause}
-use Rattle.omf_module.specs.declared.fault.Cause.TheVariants.{NoHeader, UnknownKind, BadBody, NoEnd}
+use Rattle.omf_module.specs.declared.fault.Cause.TheVariants.{NoHeader, UnknownKind, NoEnd}
 use Rattle.omf_module.specs.declared.fault.ModuleFault.{ModuleFault}
 use Rattle.omf_module.specs.Segments.{has_segment}
 use Rattle.omf_module.specs.Modules.{ModuleValue}
 use Rattle.omf_module.specs.Rules.{each_after, is_new_entry, is_new_common, is_content, is_start, is_sound, keeps_rules}
 use Rattle.omf_module.specs.Stop.{◌>>=◌}
-use Rattle.omf_module.specs.Fields.{byte_at, word_at, name_at, entry_at}
+use Rattle.omf_module.specs.Fields.{byte_at, name_at, entry_at}
 use Rattle.omf_module.specs.FirstRound.{Placed, Draft, First, entries_in, after_content, after_publics, after_externals, after_commons, after_indices, after_relocations, after_references, after_record, start_in, start_steps, after_end, header_in, entry_steps, at_place, framed_by, framed, record_at, or_others, records_from}
 use Rattle.omf_module.specs.SecondRound.{contents_from}
 use Rattle.omf_module.specs.Reading.{begun, known_of, parts_of, header_at, parts_at}
-use Rattle.omf_module.proofs.Kept.{bind_ok, placed_ok, ok_is, passed, passed_if, chosen, and_both, not_false, all_parts, each_after_push, entries_keep}
+use Rattle.omf_module.proofs.Kept.{bind_ok, placed_ok, ok_is, passed, passed_if, chosen, and_both, all_parts}
 use Rattle.omf_module.proofs.SecondKeeps.{is_use, are_short, are_uses, contents_keep}
+use Rattle.omf_module.specs.SpelledBodies.{SpellsEntry}
+use Rattle.omf_module.proofs.EntriesSpelled.{is_apart, each_spelled, entries_law}
 use Rattle.omf_module.proofs.FirstKeeps.{Sound, longer_by, with_steps, content_keeps, publics_keep, externals_keep, commons_keep, indices_keep, relocations_keep, references_keep}
 
 -- ---- one record
@@ -157,21 +159,6 @@ records_keep e bytes small (suc n) at d f is s =
 
 -- ---- the header
 
--- no id stands before
-abbrev is_apart : List (ℕ × Segment) → ℕ × Segment → Bool
-is_apart before e = not (list_any (λ d. d.0 == e.0) before)
-
-entry_apart : (told : List (ℕ × Segment)) (r : List ℕ) (x : ℕ × Segment) (after : List ℕ) → entry_at told r ≡ Ok (x, after) → is_apart told x ≡ true
-unfolding entry_at
-entry_apart told r x after e =
-    let a = bind_ok (byte_at 0x02 r) (λ id. word_at 0x02 id.1 >>= λ length. byte_at 0x02 length.1 >>= λ alignment. if list_any (λ d. d.0 == id.0) told then Err (BadBody 0x02) else Ok ((id.0, record { length = length.0; paged = not (alignment.0 == 3) }), alignment.1)) (x, after) e in
-    let b = bind_ok (word_at 0x02 a.0.1) (λ length. byte_at 0x02 length.1 >>= λ alignment. if list_any (λ d. d.0 == a.0.0) told then Err (BadBody 0x02) else Ok ((a.0.0, record { length = length.0; paged = not (alignment.0 == 3) }), alignment.1)) (x, after) a.2 in
-    let c = bind_ok (byte_at 0x02 b.0.1) (λ alignment. if list_any (λ d. d.0 == a.0.0) told then Err (BadBody 0x02) else Ok ((a.0.0, record { length = b.0.0; paged = not (alignment.0 == 3) }), alignment.1)) (x, after) b.2 in
-    let made : ℕ × Segment = (a.0.0, record { length = b.0.0; paged = not (c.0.0 == 3) }) in
-    let p = passed (list_any (λ (d : ℕ × Segment). d.0 == a.0.0) told) (BadBody 0x02) (Ok (made, c.0.1)) (x, after) c.2 in
-    subst (λ (v : ℕ × Segment). is_apart told v ≡ true) (ap (λ (v : (ℕ × Segment) × List ℕ). v.0) (ok_is {F = Cause} (made, c.0.1) (x, after) p.1))
-    (not_false (list_any (λ (d : ℕ × Segment). d.0 == a.0.0) told) p.0)
-
 header_apart : (body : List ℕ) (h : List ℕ × List (ℕ × Segment)) → header_in body ≡ Ok h → each_after is_apart [] h.1 ≡ true
 unfolding header_in
 header_apart body h is =
@@ -179,8 +166,8 @@ header_apart body h is =
     let b = bind_ok (byte_at 0x02 a.0.1) (λ translator. byte_at 0x02 translator.1 >>= λ version. entries_in entry_at [] version.1 >>= λ entries. Ok (a.0.0, entries)) h a.2 in
     let c = bind_ok (byte_at 0x02 b.0.1) (λ version. entries_in entry_at [] version.1 >>= λ entries. Ok (a.0.0, entries)) h b.2 in
     let d = bind_ok (entries_in entry_at [] c.0.1) (λ entries. Ok (a.0.0, entries)) h c.2 in
-    let kept = entries_keep (λ (xs : List (ℕ × Segment)). each_after is_apart [] xs ≡ true) entry_at (length c.0.1) [] c.0.1 d.0 d.1 refl
-    (λ told r x after one holds. each_after_push is_apart [] told x holds (entry_apart told r x after one)) in
+    let each = each_spelled entry_at SpellsEntry is_apart entries_law [] c.0.1 d.0 d.1 in
+    let kept : each_after is_apart [] d.0 ≡ true = ap (λ (xs : List (ℕ × Segment)). each_after is_apart [] xs) each.whole ∙ each.tested in
     subst (λ (v : List ℕ × List (ℕ × Segment)). each_after is_apart [] v.1 ≡ true) (ok_is {F = Cause} (a.0.0, d.0) h d.2) kept
 
 header_at_apart : (bytes : List ℕ) (at : ℕ) (h : (List ℕ × List (ℕ × Segment)) × ℕ) → header_at bytes at ≡ Ok h → each_after is_apart [] h.0.1 ≡ true
@@ -194,7 +181,7 @@ header_at_apart bytes at h is =
     (header_apart x.0.0.body v.0 (placed_ok at (header_in x.0.0.body) v.0 v.1))
 
 -- entries that are apart, of segments that exist
-entries_new : (c : List Common) (before e : List (ℕ × Segment)) → each_after is_apart before e ≡ true → list_all (λ x. has_segment c x.0) e ≡ true → each_after (is_new_entry c) before e ≡ true
+pub entries_new : (c : List Common) (before e : List (ℕ × Segment)) → each_after is_apart before e ≡ true → list_all (λ x. has_segment c x.0) e ≡ true → each_after (is_new_entry c) before e ≡ true
 entries_new c before [] apart exist = refl
 entries_new c before (x ∷ xs) apart exist =
     let a = and_parts (is_apart before x) (each_after is_apart (before ++ x ∷ []) xs) apart in

@@ -15,7 +15,7 @@ use Rattle.omf_module.specs.declared.fault.Cause.TheVariants.{SegmentUnknown, Of
 use Rattle.omf_module.specs.declared.fault.ModuleFault.{ModuleFault}
 use Rattle.omf_module.specs.Contents.{ContentValue, is_inside, shares_a_byte}
 use Rattle.omf_module.specs.Segments.{has_segment}
-use Rattle.omf_module.specs.Rules.{each_after, is_fitting, has_target, end_of, is_placed, is_content}
+use Rattle.omf_module.specs.Rules.{is_fitting, has_target, end_of, lies_within, is_placed, has_fitting, is_content}
 use Rattle.omf_module.specs.Stop.{◌>>=◌}
 use Rattle.omf_module.specs.FirstRound.{Placed, at_place}
 use Rattle.omf_module.specs.SecondRound.{Known, Built, found, after_fixup, new_content, with_fixup, with_current, after_step, built_from, contents_from}
@@ -48,36 +48,55 @@ found_target : (k : Known) (t to : Target) → found k t ≡ Ok to → has_targe
 found_target k (target.Segment id) to e = (passed_if (has_segment k.commons id) (SegmentUnknown id) (Ok (target.Segment id)) to e).0
 found_target k (target.External index) to e = (passed_if (nat_lt index k.externals) IndexUnknown (Ok (target.External index)) to e).0
 
-fixup_fits : (k : Known) (f : Fixup) (c c' : ContentValue) → after_fixup k f c ≡ Ok c' → fits k c ≡ true → fits k c' ≡ true
+-- a reference that is taken fits, and is the last one
+pub fixup_taken : (k : Known) (f : Fixup) (c c' : ContentValue) → after_fixup k f c ≡ Ok c'
+    → (is_fitting k.commons k.externals c.offset (length c.bytes) c.fixups f ≡ true) × (record c { fixups = c.fixups ++ f ∷ [] } ≡ c')
 unfolding after_fixup
-fixup_fits k f c c' e fit =
+fixup_taken k f c c' e =
     let inside = passed (not (is_inside c.offset (length c.bytes) f)) FixupOutside (if shares_a_byte c.fixups f then Err FixupTwice else (found k f.target >>= λ to. Ok (record c { fixups = c.fixups ++ f ∷ [] }))) c' e in
     let apart = passed (shares_a_byte c.fixups f) FixupTwice (found k f.target >>= λ to. Ok (record c { fixups = c.fixups ++ f ∷ [] })) c' inside.1 in
     let there = bind_ok (found k f.target) (λ to. Ok (record c { fixups = c.fixups ++ f ∷ [] })) c' apart.1 in
-    let parts = and_parts (is_placed k.segments k.commons c) (each_after (is_fitting k.commons k.externals c.offset (length c.bytes)) [] c.fixups) fit in
-    let one : is_fitting k.commons k.externals c.offset (length c.bytes) c.fixups f ≡ true =
-    and_both (is_inside c.offset (length c.bytes) f && not (shares_a_byte c.fixups f)) (has_target k.commons k.externals f.target)
-    (and_both (is_inside c.offset (length c.bytes) f) (not (shares_a_byte c.fixups f)) (from_not (is_inside c.offset (length c.bytes) f) inside.0) (not_false (shares_a_byte c.fixups f) apart.0))
-    (found_target k f.target there.0 there.1) in
-    let made : ContentValue = record c { fixups = c.fixups ++ f ∷ [] } in
-    subst (λ (v : ContentValue). fits k v ≡ true) (ok_is {F = Cause} made c' there.2)
-    (and_both (is_placed k.segments k.commons c) (each_after (is_fitting k.commons k.externals c.offset (length c.bytes)) [] (c.fixups ++ f ∷ [])) parts.0
-    (each_after_push (is_fitting k.commons k.externals c.offset (length c.bytes)) [] c.fixups f parts.1 one))
+    let made : ContentValue = record c { fixups = c.fixups ++ f ∷ [] } in (
+      and_both (is_inside c.offset (length c.bytes) f && not (shares_a_byte c.fixups f)) (has_target k.commons k.externals f.target)
+          (and_both (is_inside c.offset (length c.bytes) f) (not (shares_a_byte c.fixups f)) (from_not (is_inside c.offset (length c.bytes) f) inside.0) (not_false (shares_a_byte c.fixups f) apart.0))
+          (found_target k f.target there.0 there.1),
+      ok_is {F = Cause} made c' there.2,
+    )
 
-new_fits : (k : Known) (segment offset : ℕ) (bytes : List ℕ) (c : ContentValue) → new_content k segment offset bytes ≡ Ok c → nat_le (length bytes) 65531 ≡ true → fits k c ≡ true
+fixup_fits : (k : Known) (f : Fixup) (c c' : ContentValue) → after_fixup k f c ≡ Ok c' → fits k c ≡ true → fits k c' ≡ true
+fixup_fits k f c c' e fit =
+    let taken = fixup_taken k f c c' e in
+    let parts = and_parts (is_placed k.segments k.commons c) (has_fitting k.commons k.externals c) fit in
+    let made : ContentValue = record c { fixups = c.fixups ++ f ∷ [] } in
+    subst (λ (v : ContentValue). fits k v ≡ true) taken.1
+    (and_both (is_placed k.segments k.commons c) (has_fitting k.commons k.externals made) parts.0
+    (each_after_push (is_fitting k.commons k.externals c.offset (length c.bytes)) [] c.fixups f parts.1 taken.0))
+
+abbrev pub content_with : ℕ → ℕ → List ℕ → ContentValue
+content_with segment offset bytes = record { segment = segment; offset = offset; bytes = bytes; fixups = [] }
+
+-- a content that is taken lies within its segment
+pub content_taken : (k : Known) (segment offset : ℕ) (bytes : List ℕ) (c : ContentValue) → new_content k segment offset bytes ≡ Ok c
+    → (lies_within k.segments k.commons (content_with segment offset bytes) ≡ true) × (content_with segment offset bytes ≡ c)
 unfolding new_content
-new_fits k segment offset bytes c e short =
-    let made : ContentValue = record { segment = segment; offset = offset; bytes = bytes; fixups = [] } in
+content_taken k segment offset bytes c e =
+    let made : ContentValue = content_with segment offset bytes in
     let a = passed (not (has_segment k.commons segment) || segment == 3) (SegmentUnknown segment) (if nat_lt (end_of k.segments segment) (offset + length bytes) then Err OffsetOutside else Ok made) c e in
     let b = passed (nat_lt (end_of k.segments segment) (offset + length bytes)) OffsetOutside (Ok made) c a.1 in
     let has = or_neither (not (has_segment k.commons segment)) (segment == 3) a.0 in
-    let within : offset + length bytes ≤ end_of k.segments segment = ltb-false (end_of k.segments segment) (offset + length bytes) b.0 in
-    subst (λ (v : ContentValue). fits k v ≡ true) (ok_is {F = Cause} made c b.1)
-    (and_both (is_placed k.segments k.commons made) true
-    (and_both (has_segment k.commons segment && not (segment == 3) && nat_le (offset + length bytes) (end_of k.segments segment)) (nat_le (length bytes) 65531)
-    (and_both (has_segment k.commons segment && not (segment == 3)) (nat_le (offset + length bytes) (end_of k.segments segment))
-    (and_both (has_segment k.commons segment) (not (segment == 3)) (from_not (has_segment k.commons segment) has.0) (not_false (segment == 3) has.1))
-    (le-leb (offset + length bytes) (end_of k.segments segment) within)) short) refl)
+    let within : offset + length bytes ≤ end_of k.segments segment = ltb-false (end_of k.segments segment) (offset + length bytes) b.0 in (
+      and_both (has_segment k.commons segment && not (segment == 3)) (nat_le (offset + length bytes) (end_of k.segments segment))
+          (and_both (has_segment k.commons segment) (not (segment == 3)) (from_not (has_segment k.commons segment) has.0) (not_false (segment == 3) has.1))
+          (le-leb (offset + length bytes) (end_of k.segments segment) within),
+      ok_is {F = Cause} made c b.1,
+    )
+
+new_fits : (k : Known) (segment offset : ℕ) (bytes : List ℕ) (c : ContentValue) → new_content k segment offset bytes ≡ Ok c → nat_le (length bytes) 65531 ≡ true → fits k c ≡ true
+new_fits k segment offset bytes c e short =
+    let taken = content_taken k segment offset bytes c e in
+    let made : ContentValue = content_with segment offset bytes in
+    subst (λ (v : ContentValue). fits k v ≡ true) taken.1
+    (and_both (is_placed k.segments k.commons made) true (and_both (lies_within k.segments k.commons made) (nat_le (length bytes) 65531) taken.0 short) refl)
 
 abbrev all_fit : Known → Built → Type 0
 all_fit k b = list_all (fits k) (b.done ++ option_to_list b.current) ≡ true

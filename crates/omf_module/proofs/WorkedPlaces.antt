@@ -38,6 +38,13 @@ jump_back = refl
 high_byte : bytes_from (at 0x3000 0) (of_code 2 (0x3E ∷ 0x01 ∷ []) (record { offset = 1; field = High; target = target.Segment 1 } ∷ []) ∷ []) 0x3000 2 ≡ 0x3E ∷ 0x31 ∷ []
 high_byte = refl
 
+-- the stack's top, of a module alone
+abbrev with_stack : ModuleValue → ℕ → ModuleValue
+with_stack m size = record m { segments = (1, record { length = 3; paged = false }) ∷ (3, record { length = size; paged = false }) ∷ [] }
+
+stack_top_alone : bytes_from (at 0x3000 0x3110) (with_stack (of_code 3 (0x31 ∷ 0x00 ∷ 0x00 ∷ []) (record { offset = 1; field = Both; target = target.Segment 3 } ∷ [])) 0x10 ∷ []) 0x3000 3 ≡ 0x31 ∷ 0x10 ∷ 0x31 ∷ []
+stack_top_alone = refl
+
 -- the stack's top, whichever of two modules with a part of the stack refers to it
 stack_top : bytes_from (at 0x3000 0x3110) (of_code 3 (0x31 ∷ 0x00 ∷ 0x00 ∷ []) (record { offset = 1; field = Both; target = target.Segment 3 } ∷ []) ∷ of_code 0 [] [] ∷ []) 0x3000 3 ≡ 0x31 ∷ 0x10 ∷ 0x31 ∷ []
 stack_top = refl

@@ -18,7 +18,7 @@ use Rattle.omf_module.specs.declared.fault.Cause.{Cause}
 use Rattle.omf_module.specs.declared.fault.Cause.TheVariants.{SegmentUnknown, OffsetOutside, FixupOutside, FixupTwice, IndexUnknown}
 use Rattle.omf_module.specs.Contents.{ContentValue, is_inside, shares_a_byte}
 use Rattle.omf_module.specs.Segments.{has_segment}
-use Rattle.omf_module.specs.Rules.{each_after, is_fitting, has_target, end_of, is_placed, is_content}
+use Rattle.omf_module.specs.Rules.{each_after, is_fitting, has_target, end_of, lies_within, is_placed, is_content}
 use Rattle.omf_module.specs.Stop.{◌>>=◌}
 use Rattle.omf_module.specs.Fields.{offset_at, index_at}
 use Rattle.omf_module.specs.FirstRound.{Placed, Draft, entries_in, step_of_offset, step_of_index, after_content, after_indices, after_relocations, after_references, after_record, at_place}
@@ -47,7 +47,7 @@ not_on : (b : Bool) → b ≡ true → not b ≡ false
 not_on true e = refl
 not_on false e = absurd cc
 
-fixup_again : (k : Known) (f : Fixup) (c : ContentValue) → is_fitting k.commons k.externals c.offset (length c.bytes) c.fixups f ≡ true → after_fixup k f c ≡ Ok (record c { fixups = c.fixups ++ f ∷ [] })
+pub fixup_again : (k : Known) (f : Fixup) (c : ContentValue) → is_fitting k.commons k.externals c.offset (length c.bytes) c.fixups f ≡ true → after_fixup k f c ≡ Ok (record c { fixups = c.fixups ++ f ∷ [] })
 unfolding after_fixup
 fixup_again k f c fit =
     let p = and_parts (is_inside c.offset (length c.bytes) f && not (shares_a_byte c.fixups f)) (has_target k.commons k.externals f.target) fit in
@@ -189,11 +189,10 @@ or_off : (a b : Bool) → a ≡ true → b ≡ false → (not a || b) ≡ false
 or_off true b e f = f
 or_off false b e f = absurd cc
 
-content_again : (k : Known) (c : ContentValue) → is_placed k.segments k.commons c ≡ true → new_content k c.segment c.offset c.bytes ≡ Ok (held c.segment c.offset c.bytes [])
+pub content_again : (k : Known) (c : ContentValue) → lies_within k.segments k.commons c ≡ true → new_content k c.segment c.offset c.bytes ≡ Ok (held c.segment c.offset c.bytes [])
 unfolding new_content
-content_again k c placed =
-    let a = and_parts (has_segment k.commons c.segment && not (c.segment == 3) && nat_le (c.offset + length c.bytes) (end_of k.segments c.segment)) (nat_le (length c.bytes) 65531) placed in
-    let b = and_parts (has_segment k.commons c.segment && not (c.segment == 3)) (nat_le (c.offset + length c.bytes) (end_of k.segments c.segment)) a.0 in
+content_again k c lies =
+    let b = and_parts (has_segment k.commons c.segment && not (c.segment == 3)) (nat_le (c.offset + length c.bytes) (end_of k.segments c.segment)) lies in
     let d = and_parts (has_segment k.commons c.segment) (not (c.segment == 3)) b.0 in
     let within = leb-true (c.offset + length c.bytes) (end_of k.segments c.segment) b.1 in
     test_off (not (has_segment k.commons c.segment) || c.segment == 3) (Err (SegmentUnknown c.segment)) (if nat_lt (end_of k.segments c.segment) (c.offset + length c.bytes) then Err OffsetOutside else Ok (held c.segment c.offset c.bytes [])) (or_off (has_segment k.commons c.segment) (c.segment == 3) d.0 (off_by_not (c.segment == 3) d.1))
@@ -203,7 +202,7 @@ content_pass : (k : Known) (steps : List Placed) (at : ℕ) (b : Built) (c : Con
     → built_from k (steps ++ (at, Content c.segment c.offset c.bytes) ∷ []) none ≡ Ok (holding (b.done ++ option_to_list b.current) (held c.segment c.offset c.bytes []))
 content_pass k steps at b c placed ran =
     built_append k steps ((at, Content c.segment c.offset c.bytes) ∷ []) none b ran
-    ∙ ap (λ (r : Result ContentValue Cause). at_place at (r >>= λ v. Ok (holding (b.done ++ option_to_list b.current) v)) >>= λ v. built_from k [] v) (content_again k c placed)
+    ∙ ap (λ (r : Result ContentValue Cause). at_place at (r >>= λ v. Ok (holding (b.done ++ option_to_list b.current) v)) >>= λ v. built_from k [] v) (content_again k c (and_parts (lies_within k.segments k.commons c) (nat_le (length c.bytes) 65531) placed).0)
 
 -- two stretches of records
 pub after_both : (k : Known) (at : ℕ) (d : Draft) (rs ss : List RecordValue) (cs cs' : List Common) (ps ps' : List Public) (xs xs' : List (List ℕ)) (b b' : Built) (a : After k at d rs cs ps xs b)

@@ -53,7 +53,7 @@ pub test_off : {A : Type 0} (b : Bool) (x y : A) → b ≡ false → (if b then 
 test_off true x y e = absurd cc
 test_off false x y e = refl
 
-not_or_off : (a b : Bool) → a ≡ true → not b ≡ true → (not a || b) ≡ false
+pub not_or_off : (a b : Bool) → a ≡ true → not b ≡ true → (not a || b) ≡ false
 not_or_off true true e f = absurd cc
 not_or_off true false e f = refl
 not_or_off false b e f = absurd cc

@@ -31,7 +31,7 @@ use Rattle.omf_module.specs.Laws.{WrittenModuleIsRead, WrittenFileIsRead}
 use Rattle.omf_module.proofs.Kept.{bind_ok, ok_is}
 use Rattle.omf_module.proofs.WritingLemmas.{spellings_append}
 use Rattle.omf_module.proofs.WrittenFields.{test_off, header_again}
-use Rattle.omf_module.specs.Spelled.{are_within, told_over}
+use Rattle.omf_module.proofs.Gathers.{are_within, told_over}
 use Rattle.omf_module.proofs.WrittenRecords.{framed_written, record_longer, records_written}
 use Rattle.omf_module.proofs.WrittenModule.{none, uses_pass, draft_by, commons_told, publics_told, externals_told}
 use Rattle.omf_module.proofs.WrittenContents.{after_both, Contents, contents_told}

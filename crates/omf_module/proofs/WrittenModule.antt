@@ -21,7 +21,7 @@ use Rattle.omf_module.specs.SecondRound.{Known, Built, after_step, built_from}
 use Rattle.omf_module.specs.Writing.{common_record, public_record, external_record}
 use Rattle.omf_module.proofs.Kept.{bind_ok, ok_is}
 use Rattle.omf_module.proofs.WrittenFields.{one_entry, common_again, public_again, external_again}
-use Rattle.omf_module.specs.Spelled.{told_over}
+use Rattle.omf_module.proofs.Gathers.{told_over}
 
 abbrev pub none : Built
 none = record { done = []; current = None }

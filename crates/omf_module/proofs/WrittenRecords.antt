@@ -13,7 +13,7 @@ use Rattle.omf_module.specs.declared.fault.ModuleFault.{ModuleFault}
 use Rattle.omf_module.specs.Stop.{◌>>=◌}
 use Rattle.omf_module.proofs.Kept.{bind_ok, ok_is}
 use Rattle.omf_module.proofs.WrittenFields.{test_off}
-use Rattle.omf_module.specs.Spelled.{are_within, told_over}
+use Rattle.omf_module.proofs.Gathers.{are_within, told_over}
 use Rattle.omf_module.specs.FirstRound.{Draft, First, after_record, after_end, at_place, framed_by, framed, record_at, or_others, records_from}
 
 -- ---- the frame

@@ -7,6 +7,7 @@ pub mod Segments
 pub mod Writing
 pub mod Fields
 pub mod FirstRound
+pub mod SpelledBodies
 pub mod Spelled
 pub mod Stop
 pub mod Told

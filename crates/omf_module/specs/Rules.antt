@@ -43,18 +43,26 @@ is_fitting commons externals first size before f =
 abbrev pub end_of : List (ℕ × Segment) → ℕ → ℕ
 end_of segments id = if id == 0 then 65536 else (segment_in segments id).length
 
--- the record lies within a segment that the module has and that isn't STACK, and in one record of a file
+-- the record lies within a segment that the module has and that isn't STACK
+abbrev pub lies_within : List (ℕ × Segment) → List Common → ContentValue → Bool
+lies_within segments commons c =
+    has_segment commons c.segment && not (c.segment == 3) && nat_le (c.offset + length c.bytes) (end_of segments c.segment)
+
+-- and fits one record of a file
 abbrev pub is_placed : List (ℕ × Segment) → List Common → ContentValue → Bool
-is_placed segments commons c =
-    has_segment commons c.segment
-    && not (c.segment == 3)
-    && nat_le (c.offset + length c.bytes) (end_of segments c.segment)
-    && nat_le (length c.bytes) 65531
+is_placed segments commons c = lies_within segments commons c && nat_le (length c.bytes) 65531
+
+-- its references are each in its own bytes, apart from those before, and to what is there
+abbrev pub has_fitting : List Common → ℕ → ContentValue → Bool
+has_fitting commons externals c = each_after (is_fitting commons externals c.offset (length c.bytes)) [] c.fixups
+
+-- what is asked of a content that stands in a record
+abbrev pub is_sound_content : List (ℕ × Segment) → List Common → ℕ → ContentValue → Bool
+is_sound_content segments commons externals c = lies_within segments commons c && has_fitting commons externals c
 
 abbrev pub is_content : List (ℕ × Segment) → List Common → ℕ → ContentValue → Bool
 is_content segments commons externals c =
-    is_placed segments commons c
-    && each_after (is_fitting commons externals c.offset (length c.bytes)) [] c.fixups
+    is_placed segments commons c && has_fitting commons externals c
 
 -- the start, if there is one, is in a segment that the module has
 abbrev pub is_start : List Common → Option (ℕ × ℕ) → Bool

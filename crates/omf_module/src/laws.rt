@@ -1,7 +1,7 @@
 //! What holds of all modules that are written, whatever calls are made. Each law is ensured by a function that does
 //! nothing: a layer above that calls it has the law in its proof.
 
-ghost use Rattle.omf_module.specs.Spelled.{ReadIsSpelled, SpelledIsRead};
+ghost use Rattle.omf_module.specs.Spelled.{ReadIsSpelled, SpelledIsRead, SpelledIsOne, ReadFileIsSpelled, SpelledFileIsRead};
 ghost use Rattle.omf_module.specs.PatchLaws.{LowTwice, BothTwice, HighTwice};
 ghost use Rattle.omf_module.specs.Laws.{WrittenModuleIsRead, WrittenFileIsRead};
 
@@ -23,9 +23,8 @@ pub fn written_file_is_read()
     no_fault_exactly_at_records();
 }
 
-/// What is read is spelled: the bytes of a module are records, one after another, a header, records none of which is an
-/// end, and an end; and what all of them tell makes the module.
-#[tactic(auto, using(crate::proofs::ReadSpelled::read_is_spelled))]
+/// What is read is spelled: the bytes of a module are records, one after another, and the whole list of them spells it, by
+/// what its records of each kind hold.
 pub fn read_is_spelled()
     ensures { ReadIsSpelled }
 {}
@@ -33,6 +32,21 @@ pub fn read_is_spelled()
 /// What is spelled is read: where bytes are records that spell a module, it is read, with the place after its end.
 pub fn spelled_is_read()
     ensures { SpelledIsRead }
+{}
+
+/// Records spell one module at most.
+pub fn spelled_is_one()
+    ensures { SpelledIsOne }
+{}
+
+/// A file that is read is spelled: records of one module after another, and the record that ends it.
+pub fn read_file_is_spelled()
+    ensures { ReadFileIsSpelled }
+{}
+
+/// A file that is spelled is read, whatever stands after its last record.
+pub fn spelled_file_is_read()
+    ensures { SpelledFileIsRead }
 {}
 
 /// Adding a part's start to a reference and then a base is adding their sum: to a low byte, to a word, and to a high byte

@@ -52,13 +52,13 @@ fn push_entry(entry: &(u8, Segment), out: &mut Vec<u8>) -> Result<(), AllocError
     Ok(())
 }
 
-fn put_header(alloc: Global, module: &Module, out: &mut Vec<u8>) -> Result<(), AllocError>
-    ensures { OnOk result (out.new.items ≡ out.old.items ++ spellings (header_record module.now ∷ [])) }
+fn put_header(alloc: Global, source: &Module, out: &mut Vec<u8>) -> Result<(), AllocError>
+    ensures { OnOk result (out.new.items ≡ out.old.items ++ spellings (header_record source.now ∷ [])) }
 {
     let mut body = Vec::new(alloc);
-    push_name(module.name(), &mut body)?;
+    push_name(source.name(), &mut body)?;
     body.extend_from_slice(&[0, 0])?;
-    push_entries(module.segments(), &mut body)?;
+    push_entries(source.segments(), &mut body)?;
     put(alloc, RecordKind::ModuleHeader, &body, out)
 }
 
@@ -174,17 +174,17 @@ fn put_end(alloc: Global, start: Option<(u8, u16)>, out: &mut Vec<u8>) -> Result
 /// Appends the records of the module.
 pub(crate) fn put_module(
     alloc: Global,
-    module: &Module,
+    source: &Module,
     out: &mut Vec<u8>,
 ) -> Result<(), AllocError>
-    ensures { OnOk result (out.new.items ≡ out.old.items ++ spellings (records_of module.now)) }
+    ensures { OnOk result (out.new.items ≡ out.old.items ++ spellings (records_of source.now)) }
 {
-    put_header(alloc, module, out)?;
-    put_commons(alloc, module.commons(), out)?;
-    put_publics(alloc, module.publics(), out)?;
-    put_externals(alloc, module.externals(), out)?;
-    put_contents(alloc, module.contents(), out)?;
-    put_end(alloc, module.start(), out)?;
+    put_header(alloc, source, out)?;
+    put_commons(alloc, source.commons(), out)?;
+    put_publics(alloc, source.publics(), out)?;
+    put_externals(alloc, source.externals(), out)?;
+    put_contents(alloc, source.contents(), out)?;
+    put_end(alloc, source.start(), out)?;
     Ok(())
 }
 

@@ -1,7 +1,100 @@
--- Images as object files.
-use Rattle.std.specs.Prelude.{ℕ}
+-- Images as object files: a file of one absolute module. What it doesn't hold of an image are the regions.
+-- (8080 Object Module Formats: absolute segment, module, object file.)
+use Rattle.std.specs.Prelude.{◌≡◌, ℕ, ◌==◌, Bool, true, ◌&&◌, if◌then◌else◌, IsTrue, List, [], ◌∷◌, length, map, Option, Some, None, Result, Ok, Err}
+use Rattle.std.specs.List.{list_all, AllByRecursion}
+use Rattle.omf_core.specs.Name.{is_name}
+use Rattle.omf_module.specs.declared.fault.Cause.{Cause}
+use Rattle.omf_module.specs.declared.fault.Cause.TheVariants.{Memory as OutOfMemory}
+use Rattle.omf_module.specs.declared.fault.ModuleFault.{ModuleFault}
+use Rattle.omf_module.specs.Contents.{ContentValue}
+use Rattle.omf_module.specs.Modules.{ModuleValue}
+use Rattle.omf_module.specs.Reading.{file_of}
+use Rattle.omf_module.specs.Writing.{file_bytes}
 use Rattle.place80.specs.declared.image_fault.ImageFault.{ImageFault}
 use Rattle.place80.specs.declared.image_fault.ImageFault.TheVariants.{Module, NotOneModule, NotAbsolute, NoStart, Memory}
+use Rattle.place80.specs.Image.{PlacedBytes, Located, IsChunk}
+
+-- an image without its regions: an absolute program
+pub record AbsoluteProgram : Type 0 where
+  pub name : List ℕ
+  pub chunks : List PlacedBytes
+  pub start : ℕ
+
+abbrev pub without_regions : Located → AbsoluteProgram
+without_regions image = record { name = image.name; chunks = image.chunks; start = image.start }
+
+-- ---- written
+
+-- the content of the absolute segment that a chunk is; nothing in it is a reference
+abbrev pub chunk_content : PlacedBytes → ContentValue
+chunk_content chunk = record { segment = 0; offset = chunk.address; bytes = chunk.bytes; fixups = [] }
+
+-- the module of an image: its name, one content for each chunk, in order, and its start; it has no segments of its own
+abbrev pub image_module : Located → ModuleValue
+image_module image = record { name = image.name; segments = []; commons = []; publics = []; externals = []; contents = map chunk_content image.chunks; start = Some (0, image.start) }
+
+-- the object file of an image
+abbrev pub image_bytes : Located → List ℕ
+image_bytes image = file_bytes (image_module image ∷ [])
+
+-- ---- read
+
+-- the content is absolute, and no part of it is a reference
+abbrev pub is_absolute_content : ContentValue → Bool
+is_absolute_content content = content.segment == 0 && length content.fixups == 0
+
+-- the start, if there is one, is absolute
+abbrev pub is_absolute_start : Option (ℕ × ℕ) → Bool
+is_absolute_start None = true
+is_absolute_start (Some place) = place.0 == 0
+
+-- nothing of the module waits for other modules or for a place
+abbrev pub is_absolute : ModuleValue → Bool
+is_absolute m = length m.externals == 0 && list_all is_absolute_content m.contents && is_absolute_start m.start
+
+-- the chunk that a content of the absolute segment is
+abbrev pub content_chunk : ContentValue → PlacedBytes
+content_chunk content = record { address = content.offset; bytes = content.bytes }
+
+abbrev pub program_from : ModuleValue → Option (ℕ × ℕ) → Result AbsoluteProgram ImageFault
+program_from m None = Err NoStart
+program_from m (Some place) = Ok (record { name = m.name; chunks = map content_chunk m.contents; start = place.1 })
+
+-- the program of a module that is absolute and has a start
+abbrev pub program_of : ModuleValue → Result AbsoluteProgram ImageFault
+program_of m = if is_absolute m then program_from m m.start else Err NotAbsolute
+
+abbrev pub program_of_one : List ModuleValue → Result AbsoluteProgram ImageFault
+program_of_one [] = Err NotOneModule
+program_of_one (m ∷ []) = program_of m
+program_of_one (m ∷ other ∷ others) = Err NotOneModule
+
+abbrev pub program_in : Result (List ModuleValue) ModuleFault → Result AbsoluteProgram ImageFault
+program_in (Ok modules) = program_of_one modules
+program_in (Err fault) = Err (Module fault)
+
+-- what bytes tell of an image, or the first of the faults, in the order of their numbers
+abbrev pub image_of : List ℕ → Result AbsoluteProgram ImageFault
+image_of bytes = program_in (file_of bytes)
+
+-- ---- what is written is read
+
+abbrev pub WrittenImageIsRead : Type 0
+WrittenImageIsRead =
+    (image : Located)
+    → IsTrue (is_name image.name)
+    → AllByRecursion IsChunk image.chunks
+    → image_of (image_bytes image) ≡ Ok (without_regions image)
+
+-- ---- faults
+
+-- what is told of a fault of the object file: want of memory is told as such
+abbrev pub of_cause : Cause → ModuleFault → ImageFault
+of_cause OutOfMemory fault = Memory
+of_cause cause fault = Module fault
+
+abbrev pub of_module_fault : ModuleFault → ImageFault
+of_module_fault fault = of_cause fault.cause fault
 
 -- the number of a fault
 abbrev pub image_fault_code : ImageFault → ℕ

@@ -4,8 +4,9 @@
 use Rattle.std.specs.Prelude.{ℕ, ◌+◌, ◌%◌, ◌==◌, if◌then◌else◌, Option, Some, None, unwrap_or, List, [], ◌∷◌, ◌++◌, filter, find, map}
 use Rattle.std.specs.List.{range_with_len}
 use Rattle.omf_module.specs.declared.symbols.Common.{Common}
-use Rattle.omf_module.specs.Segments.{names_common, segment_in}
-use Rattle.omf_module.specs.Modules.{ModuleValue}
+use Rattle.omf_module.specs.declared.segment.Segment.{Segment}
+use Rattle.omf_module.specs.Segments.{names_common, empty_segment}
+use Rattle.omf_module.specs.Modules.{ModuleValue, segment_of}
 use Rattle.omf_module.specs.Place.{Bases, rounded}
 use Rattle.place80.specs.declared.options.Options.{Options}
 use Rattle.place80.specs.declared.placed.Placed.{Placed}
@@ -15,8 +16,11 @@ abbrev pub usual_base : ℕ
 usual_base = 0x3000
 
 -- the segments in the order of their places: CODE, STACK, the named commons by id, the unnamed common, DATA, MEMORY
+unfoldable pub common_numbers : List ℕ
+common_numbers = range_with_len 6 249
+
 abbrev pub common_ids : List Common → List ℕ
-common_ids commons = filter (names_common commons) (range_with_len 6 249)
+common_ids commons = filter (names_common commons) common_numbers
 
 abbrev pub order_of : List Common → List ℕ
 order_of commons = 1 ∷ 3 ∷ (common_ids commons ++ 255 ∷ 2 ∷ 4 ∷ [])
@@ -35,13 +39,17 @@ given_base options id =
 abbrev pub given_length : Options → ℕ → Option ℕ
 given_length options id = if id == 3 then options.stack_size else if id == 4 then options.memory_size else None
 
+-- the module's segment of an id in that order
+abbrev pub own_segment : ModuleValue → ℕ → Segment
+own_segment m id = unwrap_or (segment_of m id) empty_segment
+
 -- The segment of this id after one that ends at `before`: at the base that is given, or else there, at the next multiple of
 -- 256 where it is paged.
 abbrev pub placed_after : Options → ModuleValue → (before id : ℕ) → Placed
 placed_after options m before id = record {
   id = id;
-  base = unwrap_or (given_base options id) (rounded (segment_in m.segments id).paged before);
-  length = unwrap_or (given_length options id) (segment_in m.segments id).length;
+  base = unwrap_or (given_base options id) (rounded (own_segment m id).paged before);
+  length = unwrap_or (given_length options id) (own_segment m id).length;
 }
 
 abbrev pub placed_from : Options → ModuleValue → ℕ → List ℕ → List Placed
@@ -66,6 +74,14 @@ base_in segments id = (placed_in segments id).base
 -- the stack's top, as a word
 abbrev pub top_in : List Placed → ℕ
 top_in segments = let stack = placed_in segments 3 in (stack.base + stack.length) % 65536
+
+-- The place of an offset in a segment of the one module that is located: absolute offsets stand as they are, STACK is spoken
+-- of from its top, anything else from its base.
+abbrev pub place_by : List Placed → (id offset : ℕ) → ℕ
+place_by segments id offset =
+    if id == 0 then offset
+    else if id == 3 then (top_in segments + offset) % 65536
+    else (base_in segments id + offset) % 65536
 
 -- the bases that these places give, those of named commons by name; no name stands for a word
 abbrev pub bases_of : List Common → List Placed → Bases

@@ -10,3 +10,4 @@ pub mod Layout
 pub mod PlaceFault
 pub mod Locating
 pub mod ImageFile
+pub mod LayoutLaws

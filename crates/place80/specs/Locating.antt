@@ -1,14 +1,22 @@
 -- The image of a located program: its chunks, its regions and its start, by the places of its segments.
 -- (ISIS-II User's Guide, LOCATE: an absolute module.)
-use Rattle.std.specs.Prelude.{ℕ, ◌%◌, ◌==◌, ◌||◌, not, List, [], ◌∷◌, filter, map}
+use Rattle.std.specs.Prelude.{ℕ, ◌+◌, ◌-◌, ◌≤◌, IsTrue, length, ◌%◌, ◌==◌, Bool, ◌&&◌, ◌||◌, not, List, [], ◌∷◌, filter, map}
+use Rattle.std.specs.List.{AllByRecursion}
 use Rattle.omf_module.specs.Modules.{ModuleValue}
+use Rattle.omf_module.specs.declared.fixup.Fixup.{Fixup}
+use Rattle.omf_module.specs.declared.fixup.Target.{Target}
+use Rattle.omf_module.specs.declared.fixup.Target.TheVariants as target
+use Rattle.omf_module.specs.declared.patching.Patch.{Patch}
+use Rattle.omf_module.specs.Contents.{ContentValue}
+use Rattle.omf_module.specs.Patches.{with_patches, are_inside, are_apart}
 use Rattle.omf_module.specs.ImageByte.{ByteChunk, chunks_of}
 use Rattle.place80.specs.declared.range.Range.{Range}
 use Rattle.place80.specs.declared.options.Options.{Options}
 use Rattle.place80.specs.declared.placed.Placed.{Placed}
 use Rattle.place80.specs.Image.{PlacedBytes}
 use Rattle.place80.specs.RegionsText.{filled}
-use Rattle.place80.specs.Layout.{placed_in, program_bases}
+use Rattle.place80.specs.Layout.{placed_in, place_by, program_bases}
+use Rattle.place80.specs.PlaceFault.{is_high}
 
 -- a chunk of an image
 abbrev pub placed_bytes : ByteChunk → PlacedBytes
@@ -17,6 +25,32 @@ placed_bytes c = record { address = c.place; bytes = c.bytes }
 -- one chunk for each content, at its place, with its references applied
 abbrev pub located_chunks : Options → ModuleValue → List PlacedBytes
 located_chunks options m = map placed_bytes (chunks_of (program_bases options m) (m ∷ []))
+
+-- The same by the placed segments of the one module, which has no external: the word that a reference is increased by, the
+-- patch that this is, whether it loses the word's low byte, and the chunk of a content.
+abbrev pub target_by : List Placed → Target → ℕ
+target_by segments (target.Segment id) = place_by segments id 0
+target_by segments (target.External index) = 0
+
+abbrev pub patch_by : List Placed → (first : ℕ) → Fixup → Patch
+patch_by segments first f = record { at = f.offset - first; field = f.field; word = target_by segments f.target }
+
+abbrev pub loses_by : List Placed → Fixup → Bool
+loses_by segments f = is_high f.field && not (target_by segments f.target % 256 == 0)
+
+abbrev pub chunk_by : List Placed → ContentValue → PlacedBytes
+chunk_by segments c = record {
+  address = place_by segments c.segment c.offset;
+  bytes = with_patches (map (patch_by segments c.offset) c.fixups) c.bytes;
+}
+
+-- a content that fits its place: its references begin in it, lie inside it and share no byte, and its chunk is one
+pub record CanBePlaced (segments : List Placed) (c : ContentValue) : Type 0 where
+  pub begin : AllByRecursion (λ f. c.offset ≤ f.offset) c.fixups
+  pub inside : IsTrue (are_inside (length c.bytes) (map (patch_by segments c.offset) c.fixups))
+  pub apart : IsTrue (are_apart (map (patch_by segments c.offset) c.fixups))
+  pub in_record : length c.bytes ≤ 65531
+  pub in_memory : place_by segments c.segment c.offset + length c.bytes ≤ 65536
 
 -- the range of a placed segment; one of no bytes at the end of memory is told at 0
 abbrev pub range_at : Placed → Range
@@ -29,5 +63,8 @@ located_code segments = filled (map range_at (filter (λ p. p.id == 1) segments)
 abbrev pub located_stack : List Placed → Range
 located_stack segments = range_at (placed_in segments 3)
 
+abbrev pub is_data : ℕ → Bool
+is_data id = not (id == 1 || id == 3)
+
 abbrev pub located_data : List Placed → List Range
-located_data segments = filled (map range_at (filter (λ p. not (p.id == 1 || p.id == 3)) segments))
+located_data segments = filled (map range_at (filter (λ p. is_data p.id) segments))

@@ -48,6 +48,10 @@ outside_memory m segments = option_map (λ p. OutsideMemory p.id) (find (is_outs
 abbrev pub overlaps : Placed → Placed → Bool
 overlaps p q = nat_lt 0 p.length && nat_lt 0 q.length && nat_lt p.base (q.base + q.length) && nat_lt q.base (p.base + p.length)
 
+-- the first of the segments that shares an address with a place, by its id
+abbrev pub first_over : Placed → List Placed → Option ℕ
+first_over place segments = option_map (λ (p : Placed). p.id) (find (overlaps place) segments)
+
 -- each with each later one, in order
 abbrev pub pairs : List Placed → List (Placed × Placed)
 pairs [] = []
@@ -60,12 +64,26 @@ absolute_place c = record { id = 0; base = c.offset; length = length c.bytes }
 abbrev pub absolute_places : List ContentValue → List Placed
 absolute_places contents = map absolute_place (filter (λ c. c.segment == 0) contents)
 
+-- each of the places with each segment
+abbrev pub with_each : List Placed → List Placed → List (Placed × Placed)
+with_each segments places = flat_map (λ a. map (λ p. (a, p)) segments) places
+
 -- each two segments in order, and then each absolute content with each segment
 abbrev pub all_pairs : ModuleValue → List Placed → List (Placed × Placed)
-all_pairs m segments = pairs segments ++ flat_map (λ a. map (λ p. (a, p)) segments) (absolute_places m.contents)
+all_pairs m segments = pairs segments ++ with_each segments (absolute_places m.contents)
+
+-- the first pair that shares an address, by the ids
+abbrev pub ids_of : Placed × Placed → ℕ × ℕ
+ids_of pq = (pq.0.id, pq.1.id)
+
+abbrev pub first_shared : List (Placed × Placed) → Option (ℕ × ℕ)
+first_shared pqs = option_map ids_of (find (λ pq. overlaps pq.0 pq.1) pqs)
+
+abbrev pub overlap_of : ℕ × ℕ → PlaceFault
+overlap_of ids = Overlap ids.0 ids.1
 
 abbrev pub overlap : ModuleValue → List Placed → Option PlaceFault
-overlap m segments = option_map (λ pq. Overlap pq.0.id pq.1.id) (find (λ pq. overlaps pq.0 pq.1) (all_pairs m segments))
+overlap m segments = option_map overlap_of (first_shared (all_pairs m segments))
 
 -- a reference takes the high byte of a word that isn't a multiple of 256
 abbrev pub is_high : Field → Bool

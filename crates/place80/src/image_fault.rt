@@ -1,4 +1,5 @@
-use omf_module::ModuleFault;
+use omf_module::{Cause, ModuleFault};
+use std::alloc::AllocError;
 use thiserror::Error;
 
 /// Why bytes are no image: the first of these that holds, in the order of their numbers, or that a growth was refused.
@@ -7,10 +8,10 @@ pub enum ImageFault {
     /// The bytes are no object file.
     #[error("{0}")]
     Module(ModuleFault),
-    /// The object file has more than one module.
+    /// The object file has other than one module.
     #[error("NotOneModule")]
     NotOneModule,
-    /// The module has an external or a reference, or content or its start stand in a segment other than 0.
+    /// The module has an external name or a reference, or content or its start stand in a segment other than 0.
     #[error("NotAbsolute")]
     NotAbsolute,
     /// The module is no main program.
@@ -35,6 +36,32 @@ impl ImageFault {
             ImageFault::NotAbsolute => 3,
             ImageFault::NoStart => 4,
             ImageFault::Memory => 5,
+        }
+    }
+}
+
+impl From<AllocError> for ImageFault {
+    ghost use Rattle.std.specs.Prelude.{◌≡◌};
+    ghost use Rattle.place80.specs.declared.image_fault.ImageFault.TheVariants.{Memory};
+
+    ghost from_gives = { λ _ fault. fault ≡ Memory };
+
+    fn from(_error: AllocError) -> ImageFault {
+        ImageFault::Memory
+    }
+}
+
+impl From<ModuleFault> for ImageFault {
+    ghost use Rattle.std.specs.Prelude.{◌≡◌};
+    ghost use Rattle.place80.specs.ImageFile.{of_module_fault};
+
+    ghost from_gives = { λ cause fault. fault ≡ of_module_fault cause };
+
+    /// Want of memory is told as such, and not as a fault of the module.
+    fn from(fault: ModuleFault) -> ImageFault {
+        match fault.cause {
+            Cause::Memory => ImageFault::Memory,
+            _ => ImageFault::Module(fault),
         }
     }
 }

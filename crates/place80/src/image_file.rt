@@ -1,99 +1,187 @@
-//! Images as object files: one absolute module.
+//! Images as object files: a file of one absolute module.
 
+ghost use Rattle.std.specs.Prelude.{◌≡◌, ◌≢◌, ◌≤◌, ◌+◌, ◌++◌, Some, Ok, Err, map, length, IfOk, IfErr, OnOk, OnErr};
+ghost use Rattle.std.specs.List.{AllByRecursion, list_all};
+ghost use Rattle.omf_module.specs.Modules.{ModuleValue};
+ghost use Rattle.place80.specs.Image.{IsChunk};
+ghost use Rattle.place80.specs.ImageFile.{image_module, image_bytes, image_of, chunk_content, content_chunk, is_absolute, is_absolute_content, is_absolute_start, program_of, without_regions};
+
+use crate::absolute::AbsoluteProgram;
 use crate::chunk::Chunk;
 use crate::image::Image;
 use crate::image_fault::ImageFault;
 use crate::regions::Regions;
-use omf_core::{RecordKind, put_record};
-use omf_module::{Content, Module, read_file};
+use omf_module::{Content, Module, Parts, PartsFault, read_file, write_file};
 use std::alloc::{AllocError, Global};
 
-/// Appends the object file of the image ...
-pub fn write_image(alloc: Global, image: &Image, out: &mut Vec<u8>) -> Result<(), AllocError> {
-    let mut file = Vec::new(alloc);
-    let mut body = Vec::new(alloc);
-    body.push(image.name.bytes().len() as u8)?;
-    body.extend_from_slice(image.name.bytes())?;
-    body.extend_from_slice([0, 0].as_slice())?;
-    put(alloc, RecordKind::ModuleHeader, &body, &mut file)?;
-    for chunk in &image.chunks {
-        let mut body = Vec::new(alloc);
-        body.push(0)?;
-        body.extend_from_slice(&chunk.address.to_le_bytes())?;
-        body.extend_from_slice(&chunk.bytes)?;
-        put(alloc, RecordKind::Content, &body, &mut file)?;
-    }
-    let start = image.start.to_le_bytes();
-    put(alloc, RecordKind::ModuleEnd, &[1, 0, start[0], start[1]], &mut file)?;
-    put(alloc, RecordKind::EndOfFile, &[], &mut file)?;
-    out.extend_from_slice(&file)?;
-    Ok(())
+/// Appends the object file of the image to `out`, which grows by its own allocator: one module of the image's name that
+/// has no segments, with one content record in segment 0 for each chunk, in order, and a start in segment 0.
+/// (8080 Object Module Formats, absolute segment.)
+///
+/// # Errors
+/// `AllocError` only where a growth was refused; `out` is then as it was.
+pub fn write_image(alloc: Global, image: &Image, out: &mut Vec<u8>) -> Result<(), AllocError>
+    ensures written { OnOk result (out.new.items ≡ out.old.items ++ image_bytes image.now) }
+    ensures refused { OnErr result (out.new.items ≡ out.old.items) }
+{
+    let module = module_of(alloc, image)?;
+    write_file(alloc, &[module], out)
 }
 
-fn put(alloc: Global, kind: RecordKind, body: &[u8], out: &mut Vec<u8>) -> Result<(), AllocError> {
-    match put_record(alloc, kind.byte(), body, out) {
-        Ok(()) => Ok(()),
-        Err(_) => Err(AllocError),
+/// The module that an image is written as.
+fn module_of(alloc: Global, image: &Image) -> Result<Module, AllocError>
+    ensures { IfOk result (λ made. made ≡ image_module image.now) }
+{
+    match Module::from_parts(alloc, parts_of(alloc, image)?) {
+        Ok(module) => Ok(module),
+        // Chunks keep the rules of contents, and the image has no other part that a rule speaks of.
+        Err((_, PartsFault::Rule)) => unreachable!(),
+        Err((_, PartsFault::Memory)) => Err(AllocError),
     }
 }
 
-/// The image ...
+/// The parts of that module.
+fn parts_of(alloc: Global, image: &Image) -> Result<Parts, AllocError>
+    ensures parts { IfOk result (λ parts. parts ≡ image_module image.now) }
+    ensures rules { OnOk result (AllByRecursion IsChunk image.now.chunks) }
+{
+    Ok(Parts {
+        name: image.name.copy(alloc)?,
+        segments: Vec::new(alloc),
+        commons: Vec::new(alloc),
+        publics: Vec::new(alloc),
+        externals: Vec::new(alloc),
+        contents: contents_of(alloc, &image.chunks)?,
+        start: Some((0, image.start)),
+    })
+}
+
+/// The contents that chunks are written as.
+fn contents_of(alloc: Global, chunks: &[Chunk]) -> Result<Vec<Content>, AllocError>
+    ensures contents { IfOk result (λ contents. contents.items ≡ map chunk_content chunks.now) }
+    ensures rules { OnOk result (AllByRecursion IsChunk chunks.now) }
+{
+    let mut contents = Vec::new(alloc);
+    for chunk in chunks {
+        contents.push(content_of(alloc, chunk)?)?;
+    }
+    Ok(contents)
+}
+
+/// The content that a chunk is written as.
+fn content_of(alloc: Global, chunk: &Chunk) -> Result<Content, AllocError>
+    ensures content { IfOk result (λ content. content ≡ chunk_content chunk.now) }
+    ensures rule { IsChunk chunk.now }
+{
+    Ok(Content {
+        segment: 0,
+        offset: chunk.address,
+        bytes: Vec::from_slice(alloc, &chunk.bytes)?,
+        fixups: Vec::new(alloc),
+    })
+}
+
+/// The image that an object file holds, with these regions. The file has one module, which has a start and no external
+/// names, and whose contents and start stand in segment 0 and have no references. Its publics, its commons and the
+/// segments of its header aren't looked at.
+///
+/// # Errors
+/// The first of: `Module` where the bytes are no object file, `NotOneModule`, `NotAbsolute`, `NoStart`; or `Memory`, only
+/// where a growth was refused. Either hands the regions back.
 pub fn read_image(
     alloc: Global,
     bytes: &[u8],
     regions: Regions,
-) -> Result<Image, (Regions, ImageFault)> {
-    let modules = match read_file(alloc, bytes) {
-        Ok(modules) => modules,
-        Err(fault) if fault.code() == 13 => return Err((regions, ImageFault::Memory)),
-        Err(fault) => return Err((regions, ImageFault::Module(fault))),
-    };
-    let [program] = modules.as_slice() else {
-        return Err((regions, ImageFault::NotOneModule));
-    };
-    if !is_absolute(program) {
-        return Err((regions, ImageFault::NotAbsolute));
-    }
-    let Some((_, start)) = program.start() else {
-        return Err((regions, ImageFault::NoStart));
-    };
-    let name = match program.name().copy(alloc) {
-        Ok(name) => name,
-        Err(_) => return Err((regions, ImageFault::Memory)),
-    };
-    match chunks_of(alloc, program) {
-        Ok(chunks) => Ok(Image {
-            name,
-            chunks,
+) -> Result<Image, (Regions, ImageFault)>
+    ensures read { IfOk result (λ image. image_of bytes.now ≡ Ok (without_regions image)) }
+    ensures regions { IfOk result (λ image. image.regions ≡ regions) }
+    ensures back { IfErr result (λ refused. refused.0 ≡ regions) }
+    ensures fault { IfErr result (λ refused. refused.1 ≢ ImageFault.Memory → image_of bytes.now ≡ Err refused.1) }
+{
+    match read_program(alloc, bytes) {
+        Ok(program) => Ok(Image {
+            name: program.name,
+            chunks: program.chunks,
             regions,
-            start,
+            start: program.start,
         }),
-        Err(_) => Err((regions, ImageFault::Memory)),
+        Err(fault) => Err((regions, fault)),
     }
 }
 
-fn is_absolute(program: &Module) -> bool {
+/// The absolute program that an object file holds.
+fn read_program(alloc: Global, bytes: &[u8]) -> Result<AbsoluteProgram, ImageFault>
+    ensures read { IfOk result (λ program. image_of bytes.now ≡ Ok program) }
+    ensures fault { IfErr result (λ fault. fault ≢ ImageFault.Memory → image_of bytes.now ≡ Err fault) }
+{
+    let modules = read_file(alloc, bytes)?;
+    match modules.as_slice() {
+        [module] => program_of(alloc, module),
+        _ => Err(ImageFault::NotOneModule),
+    }
+}
+
+/// The absolute program that a module is.
+fn program_of(alloc: Global, program: &Module) -> Result<AbsoluteProgram, ImageFault>
+    ensures read { IfOk result (λ read. program_of program.now ≡ Ok read) }
+    ensures fault { IfErr result (λ fault. fault ≢ ImageFault.Memory → program_of program.now ≡ Err fault) }
+{
+    if !is_absolute(program) {
+        return Err(ImageFault::NotAbsolute);
+    }
+    let Some((_, start)) = program.start() else {
+        return Err(ImageFault::NoStart);
+    };
+    Ok(AbsoluteProgram {
+        name: program.name().copy(alloc)?,
+        chunks: chunks_of(alloc, program.contents())?,
+        start,
+    })
+}
+
+/// Whether nothing of the module waits for other modules or for a place.
+fn is_absolute(program: &Module) -> bool
+    ensures { result ≡ is_absolute program.now }
+{
     program.externals().is_empty()
-        && program.contents().iter().all(|c| c.segment == 0 && c.fixups.is_empty())
+        && are_absolute(program.contents())
         && starts_absolute(program.start())
 }
 
-fn starts_absolute(start: Option<(u8, u16)>) -> bool {
+/// Whether all of the contents are absolute, and no part of them a reference.
+fn are_absolute(contents: &[Content]) -> bool
+    ensures { result ≡ list_all is_absolute_content contents.now }
+{
+    contents.iter().all(|content| content.segment == 0 && content.fixups.is_empty())
+}
+
+/// Whether the start, if there is one, is absolute.
+fn starts_absolute(start: Option<(u8, u16)>) -> bool
+    ensures { result ≡ is_absolute_start start }
+{
     match start {
         Some((segment, _)) => segment == 0,
         None => true,
     }
 }
 
-fn chunks_of(alloc: Global, program: &Module) -> Result<Vec<Chunk>, AllocError> {
+/// The chunks that contents are.
+fn chunks_of(alloc: Global, contents: &[Content]) -> Result<Vec<Chunk>, AllocError>
+    requires { AllByRecursion (λ content. IsChunk (content_chunk content)) contents.now }
+    ensures { IfOk result (λ chunks. chunks.items ≡ map content_chunk contents.now) }
+{
     let mut chunks = Vec::new(alloc);
-    for content in program.contents() {
+    for content in contents {
         chunks.push(chunk_of(alloc, content)?)?;
     }
     Ok(chunks)
 }
 
-fn chunk_of(alloc: Global, content: &Content) -> Result<Chunk, AllocError> {
+/// The chunk that a content is.
+fn chunk_of(alloc: Global, content: &Content) -> Result<Chunk, AllocError>
+    requires { IsChunk (content_chunk content.now) }
+    ensures { IfOk result (λ chunk. chunk ≡ content_chunk content.now) }
+{
     Ok(Chunk {
         address: content.offset,
         bytes: Vec::from_slice(alloc, &content.bytes)?,

@@ -1,11 +1,15 @@
-//! The laws of memory, of regions and of their text, over the definitions alone.
+//! The laws of memory, of regions and of their text, and of images as object files, over the definitions alone.
 
 ghost use Rattle.std.specs.Prelude.{◌≡◌, ◌≢◌, ℕ, ◌<◌, List, [], ◌∷◌, ◌++◌, length, slice_index, true, false, if◌then◌else◌};
 ghost use Rattle.place80.specs.Image.{PlacedBytes, covers, byte_of, byte_at, memory_of};
 ghost use Rattle.place80.specs.Range.{in_range};
+ghost use Rattle.place80.specs.LayoutLaws.{LayoutIsLaidOut, LaidOutInOneWay, OverlapIsASharedAddress};
 ghost use Rattle.place80.specs.Regions.{Areas, AreRegions, in_code, in_data};
 ghost use Rattle.place80.specs.RegionsText.{regions_text, Spells, Refuses};
+ghost use Rattle.place80.specs.ImageFile.{WrittenImageIsRead};
 ghost use Rattle.place80.specs.declared.fault.RegionsFault.{RegionsFault};
+
+use omf_module::laws::written_file_is_read;
 
 /// A text spells one list of regions at most, and none where it is refused, for want of memory
 /// aside; it is refused for one cause at most; and the text that is written for regions spells
@@ -40,4 +44,23 @@ pub fn memory_has_the_byte_of_the_last_chunk()
     ensures later_hides { (chunks : List PlacedBytes) (chunk : PlacedBytes) (address : ℕ) →
         byte_at (chunks ++ chunk ∷ []) address
         ≡ (if covers chunk address then byte_of chunk address else byte_at chunks address) }
+{}
+
+/// What is written for an image is read as that image, but for its regions, which an object file doesn't hold.
+pub fn written_image_is_read()
+    ensures { WrittenImageIsRead }
+{
+    written_file_is_read();
+}
+
+/// The layout of a program is the one list of its segments in which each has its length and stands at the base that is
+/// given for it or follows the one before it.
+pub fn segments_are_laid_out_in_one_way()
+    ensures laid_out { LayoutIsLaidOut }
+    ensures one_way { LaidOutInOneWay }
+{}
+
+/// Two placed segments overlap exactly where an address lies in both.
+pub fn segments_overlap_at_an_address()
+    ensures { OverlapIsASharedAddress }
 {}

@@ -1,18 +1,19 @@
 //! The places of a program's segments.
 
-ghost use Rattle.std.specs.Prelude.{◌≡◌, ◌⊎◌, ◌≤◌, ◌+◌, None, Some, length, IfOk, IfErr, OnOk};
+ghost use Rattle.std.specs.Prelude.{◌≡◌, ◌⊎◌, ◌≤◌, ◌<◌, ◌+◌, None, Some, length, IfOk, IfErr, OnOk};
+ghost use Rattle.std.specs.List.{AllByRecursion};
 ghost use Rattle.omf_module.specs.Place.{rounded};
-ghost use Rattle.omf_module.specs.Rules.{IsModule};
-ghost use Rattle.place80.specs.Layout.{usual_base, order_of, placed_after, placed_from, layout_of};
+ghost use Rattle.omf_module.specs.Segments.{names_common};
+ghost use Rattle.place80.specs.Layout.{common_ids, order_of, placed_after, layout_of};
 ghost use Rattle.place80.specs.PlaceFault.{layout_fault};
 ghost use Rattle.place80.specs.declared.place_fault.PlaceFault.TheVariants.{Memory};
 
 use crate::options::Options;
-use crate::overlap::first_overlap;
 use crate::outside::first_outside;
+use crate::overlap::first_overlap;
 use crate::place_fault::PlaceFault;
 use crate::placed::{Layout, Placed};
-use omf_module::{Module, Segment};
+use omf_module::{Common, Module, Segment};
 use std::alloc::{AllocError, Global};
 
 /// Where CODE stands without an option.
@@ -22,12 +23,13 @@ const USUAL_BASE: u32 = 0x3000;
 ///
 /// A segment with a given base stands there. Any other stands at the end of the one before it, CODE at 3000h, at the next
 /// multiple of 256 where it is paged. A given size of STACK or MEMORY replaces its length. Empty segments take their place
-/// like others and overlap nothing.
+/// like others and overlap nothing. (ISIS-II User's Guide, LOCATE.)
 ///
 /// # Errors
 /// The first that holds of `OutsideMemory` and `Overlap`; `Memory` only where a growth was refused.
 pub fn layout(alloc: Global, program: &Module, options: &Options) -> Result<Layout, PlaceFault>
     ensures places { IfOk result (λ layout. layout.segments.items ≡ layout_of options.now program.now) }
+    ensures lengths { IfOk result (λ layout. AllByRecursion (λ p. p.length < 65536) layout.segments.items) }
     ensures none { OnOk result (layout_fault options.now program.now ≡ None) }
     ensures fault { IfErr result (λ fault. (fault ≡ Memory) ⊎ (layout_fault options.now program.now ≡ Some fault)) }
 {
@@ -41,26 +43,45 @@ pub fn layout(alloc: Global, program: &Module, options: &Options) -> Result<Layo
     Ok(Layout { segments })
 }
 
+/// Whether one of the commons has this id.
+fn names_common(commons: &[Common], id: u8) -> bool
+    ensures { result ≡ names_common commons.now id }
+{
+    commons.iter().any(|common| common.id == id)
+}
+
+/// The ids of the named commons, in ascending order.
+fn common_ids(alloc: Global, commons: &[Common]) -> Result<Vec<u8>, AllocError>
+    ensures ids { IfOk result (λ ids. ids.items ≡ common_ids commons.now) }
+    ensures few { IfOk result (λ ids. length ids.items ≤ 249) }
+{
+    let mut ids = Vec::new(alloc);
+    for id in 6..255u16 {
+        if names_common(commons, id as u8) {
+            ids.push(id as u8)?;
+        }
+    }
+    Ok(ids)
+}
+
 /// The ids of the segments in the order of their places.
-fn order(alloc: Global, program: &Module) -> Result<Vec<u8>, AllocError>
-    ensures order { IfOk result (λ ids. ids.items ≡ order_of program.now.commons) }
+fn order(alloc: Global, commons: &[Common]) -> Result<Vec<u8>, AllocError>
+    ensures order { IfOk result (λ ids. ids.items ≡ order_of commons.now) }
     ensures few { IfOk result (λ ids. length ids.items ≤ 254) }
 {
     let mut ids = Vec::from_slice(alloc, [1, 3].as_slice())?;
-    for id in 6..=254 {
-        if program.segment(id).is_some() {
-            ids.push(id)?;
-        }
-    }
+    let commons = common_ids(alloc, commons)?;
+    ids.extend_from_slice(&commons)?;
     ids.extend_from_slice([255, 2, 4].as_slice())?;
     Ok(ids)
 }
 
 /// All segments at their places.
 fn place_all(alloc: Global, program: &Module, options: &Options) -> Result<Vec<Placed>, AllocError>
-    ensures { IfOk result (λ segments. segments.items ≡ layout_of options.now program.now) }
+    ensures places { IfOk result (λ segments. segments.items ≡ layout_of options.now program.now) }
+    ensures lengths { IfOk result (λ segments. AllByRecursion (λ p. p.length < 65536) segments.items) }
 {
-    let ids = order(alloc, program)?;
+    let ids = order(alloc, program.commons())?;
     let mut segments = Vec::new(alloc);
     let mut before = USUAL_BASE;
     for id in &ids {
@@ -74,7 +95,9 @@ fn place_all(alloc: Global, program: &Module, options: &Options) -> Result<Vec<P
 /// The segment of this id after one that ends at `before`.
 fn place_after(program: &Module, options: &Options, before: u32, id: u8) -> Placed
     requires { before ≤ 4000000000 }
-    ensures { result ≡ placed_after options.now program.now before id }
+    ensures place { result ≡ placed_after options.now program.now before id }
+    ensures near { result.base ≤ before + 65535 }
+    ensures length { result.length < 65536 }
 {
     let segment = program.segment(id).unwrap_or(Segment {
         length: 0,
@@ -95,7 +118,8 @@ fn place_after(program: &Module, options: &Options, before: u32, id: u8) -> Plac
 /// The place itself, or the next multiple of 256 for a paged segment.
 fn rounded(paged: bool, place: u32) -> u32
     requires { place ≤ 4000000000 }
-    ensures { result ≡ rounded paged place }
+    ensures rounded { result ≡ rounded paged place }
+    ensures near { result ≤ place + 255 }
 {
     if paged {
         (place + 255) / 256 * 256

@@ -10,6 +10,7 @@
 //! | [`lines`] | texts over whole lines |
 #![tactic(auto)]
 
+mod absolute;
 mod chunk;
 mod digits;
 mod entry;
@@ -17,8 +18,8 @@ mod fault;
 mod image;
 mod image_fault;
 mod image_file;
-mod laying_out;
 pub mod laws;
+mod laying_out;
 pub mod lines;
 mod located_chunks;
 mod located_regions;

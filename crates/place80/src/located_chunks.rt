@@ -1,28 +1,48 @@
 //! The chunks of an image: contents at their places, with their references applied.
 
+ghost use Rattle.std.specs.Prelude.{◌≡◌, ◌+◌, ◌≤◌, [], map, length, IsTrue, IfOk};
+ghost use Rattle.std.specs.List.{AllByRecursion, list_all, list_any};
+ghost use Rattle.omf_module.specs.Patches.{are_inside, are_apart};
+ghost use Rattle.place80.specs.Layout.{place_by};
+ghost use Rattle.place80.specs.Locating.{target_by, patch_by, loses_by, chunk_by, CanBePlaced};
+
 use crate::chunk::Chunk;
 use crate::placed::Placed;
 use crate::places::place_of;
-use omf_module::{Content, Field, Fixup, Module, Patch, Target, apply_patches};
+use omf_module::{Content, Field, Fixup, Patch, Target, apply_patches};
 use std::alloc::{AllocError, Global};
 
-/// Whether a reference of the program takes the high byte of a word that isn't a multiple of 256.
-pub(crate) fn any_loses_its_low_byte(segments: &[Placed], program: &Module) -> bool
+/// Whether a reference of the contents takes the high byte of a word that isn't a multiple of 256.
+pub(crate) fn any_loses_its_low_byte(segments: &[Placed], contents: &[Content]) -> bool
+    ensures { result ≡ list_any (λ c. list_any (loses_by segments.now) c.fixups) contents.now }
 {
-    program
-        .contents()
+    contents
         .iter()
-        .any(|content| content.fixups.iter().any(|fixup| loses_its_low_byte(segments, *fixup)))
+        .any(|content| content_loses_a_low_byte(segments, content))
+}
+
+fn content_loses_a_low_byte(segments: &[Placed], content: &Content) -> bool
+    ensures { result ≡ list_any (loses_by segments.now) content.now.fixups }
+{
+    content
+        .fixups
+        .iter()
+        .any(|fixup| loses_its_low_byte(segments, *fixup))
 }
 
 /// Whether the reference takes the high byte of a word that isn't a multiple of 256.
 fn loses_its_low_byte(segments: &[Placed], fixup: Fixup) -> bool
+    ensures { result ≡ loses_by segments.now fixup }
 {
-    fixup.field == Field::High && target_word(segments, fixup.target) % 256 != 0
+    match fixup.field {
+        Field::High => target_word(segments, fixup.target) % 256 != 0,
+        Field::Low | Field::Both => false,
+    }
 }
 
 /// The word that a reference is increased by. No external is left where a program is located.
 fn target_word(segments: &[Placed], target: Target) -> u16
+    ensures { result ≡ target_by segments.now target }
 {
     match target {
         Target::Segment(id) => place_of(segments, id, 0),
@@ -34,25 +54,25 @@ fn target_word(segments: &[Placed], target: Target) -> u16
 pub(crate) fn located_chunks(
     alloc: Global,
     segments: &[Placed],
-    program: &Module,
+    contents: &[Content],
 ) -> Result<Vec<Chunk>, AllocError>
+    requires { AllByRecursion (CanBePlaced segments.now) contents.now }
+    ensures { IfOk result (λ chunks. chunks.items ≡ map (chunk_by segments.now) contents.now) }
 {
     let mut chunks = Vec::new(alloc);
-    for content in program.contents() {
+    for content in contents {
         chunks.push(located_chunk(alloc, segments, content)?)?;
     }
     Ok(chunks)
 }
 
 /// The chunk of a content.
-fn located_chunk(
-    alloc: Global,
-    segments: &[Placed],
-    content: &Content,
-) -> Result<Chunk, AllocError>
+fn located_chunk(alloc: Global, segments: &[Placed], content: &Content) -> Result<Chunk, AllocError>
+    requires { CanBePlaced segments.now content.now }
+    ensures { IfOk result (λ chunk. chunk ≡ chunk_by segments.now content.now) }
 {
     let mut bytes = Vec::from_slice(alloc, &content.bytes)?;
-    let patches = patches_of(alloc, segments, content)?;
+    let patches = patches_of(alloc, segments, content.offset, &content.fixups)?;
     apply_patches(&mut bytes, &patches);
     Ok(Chunk {
         address: place_of(segments, content.segment, content.offset),
@@ -60,17 +80,20 @@ fn located_chunk(
     })
 }
 
-/// The references of a content as words that are added to its bytes.
+/// The references of a content, whose first byte has the offset `first`, as words that are added to its bytes.
 fn patches_of(
     alloc: Global,
     segments: &[Placed],
-    content: &Content,
+    first: u16,
+    fixups: &[Fixup],
 ) -> Result<Vec<Patch>, AllocError>
+    requires { AllByRecursion (λ f. first ≤ f.offset) fixups.now }
+    ensures { IfOk result (λ patches. patches.items ≡ map (patch_by segments.now first) fixups.now) }
 {
     let mut patches = Vec::new(alloc);
-    for fixup in &content.fixups {
+    for fixup in fixups {
         patches.push(Patch {
-            at: usize::from(fixup.offset - content.offset),
+            at: usize::from(fixup.offset - first),
             field: fixup.field,
             word: target_word(segments, fixup.target),
         })?;

@@ -1,5 +1,12 @@
 //! The regions of a located program.
 
+ghost use Rattle.std.specs.Prelude.{◌≡◌, ◌<◌, ◌%◌, ◌==◌, [], ◌∷◌, ◌++◌, IfOk, OnOk, All};
+ghost use Rattle.place80.specs.RegionsText.{filled};
+ghost use Rattle.std.specs.List.{AllByRecursion};
+ghost use Rattle.place80.specs.Range.{IsInMemory};
+ghost use Rattle.place80.specs.Regions.{AreDisjoint, Arranges};
+ghost use Rattle.place80.specs.Locating.{is_data, range_at, located_code, located_stack, located_data};
+
 use crate::placed::{Placed, placed_in};
 use crate::range::Range;
 use crate::regions::Regions;
@@ -7,33 +14,81 @@ use std::alloc::{AllocError, Global};
 
 /// The regions of the segments: code is CODE, data are DATA, MEMORY and all commons, the stack is STACK.
 pub(crate) fn located_regions(alloc: Global, segments: &[Placed]) -> Result<Regions, AllocError>
+    requires lengths { AllByRecursion (λ p. p.length < 65536) segments.now }
+    requires code_filled { All (λ range. 0 < range.length) (located_code segments.now) }
+    requires data_filled { All (λ range. 0 < range.length) (located_data segments.now) }
+    requires code_in_memory { All IsInMemory (located_code segments.now) }
+    requires stack_in_memory { IsInMemory (located_stack segments.now) }
+    requires data_in_memory { All IsInMemory (located_data segments.now) }
+    requires disjoint { AreDisjoint (located_code segments.now ++ located_stack segments.now ∷ located_data segments.now) }
+    ensures { IfOk result (Arranges (located_code segments.now) (located_stack segments.now) (located_data segments.now)) }
 {
-    let code = ranges_of(alloc, segments, |id| id == 1)?;
-    let stack = range_at(placed_in(segments, 3));
-    let data_ranges = ranges_of(alloc, segments, |id| id != 1 && id != 3)?;
+    let code = code_ranges(alloc, segments)?;
+    let stack = stack_range(segments);
+    let data_ranges = data_ranges(alloc, segments)?;
     match Regions::from_ranges(alloc, code, stack, data_ranges)? {
         Some(regions) => Ok(regions),
         None => unreachable!(),
     }
 }
 
-/// The ranges of the segments with such ids, without the empty ones.
-fn ranges_of(
-    alloc: Global,
-    segments: &[Placed],
-    is_taken: impl Fn(u8) -> bool,
-) -> Result<Vec<Range>, AllocError>
+/// The ranges of CODE, without an empty one.
+fn code_ranges(alloc: Global, segments: &[Placed]) -> Result<Vec<Range>, AllocError>
+    requires { AllByRecursion (λ p. p.length < 65536) segments.now }
+    ensures { IfOk result (λ ranges. ranges.items ≡ located_code segments.now) }
 {
-    segments
-        .iter()
-        .filter(|placed| is_taken(placed.id))
-        .map(|placed| range_at(*placed))
-        .filter(|range| range.length > 0)
-        .collect(alloc)
+    let mut ranges = Vec::new(alloc);
+    for placed in segments {
+        if placed.id == 1 {
+            push_filled(&mut ranges, range_at(*placed))?;
+        }
+    }
+    Ok(ranges)
+}
+
+/// The ranges of DATA, MEMORY and all commons, without the empty ones.
+fn data_ranges(alloc: Global, segments: &[Placed]) -> Result<Vec<Range>, AllocError>
+    requires { AllByRecursion (λ p. p.length < 65536) segments.now }
+    ensures { IfOk result (λ ranges. ranges.items ≡ located_data segments.now) }
+{
+    let mut ranges = Vec::new(alloc);
+    for placed in segments {
+        if is_data(placed.id) {
+            push_filled(&mut ranges, range_at(*placed))?;
+        }
+    }
+    Ok(ranges)
+}
+
+/// Whether segments of this id are data.
+fn is_data(id: u8) -> bool
+    ensures { result ≡ is_data id }
+{
+    !(id == 1 || id == 3)
+}
+
+/// Appends the range, where it isn't empty.
+fn push_filled(ranges: &mut Vec<Range>, range: Range) -> Result<(), AllocError>
+    ensures { OnOk result (ranges.new.items ≡ ranges.old.items ++ filled (range ∷ [])) }
+{
+    if range.length > 0 {
+        ranges.push(range)?;
+    }
+    Ok(())
+}
+
+/// The range of STACK.
+fn stack_range(segments: &[Placed]) -> Range
+    requires { AllByRecursion (λ p. p.length < 65536) segments.now }
+    ensures { result ≡ located_stack segments.now }
+{
+    range_at(placed_in(segments, 3))
 }
 
 /// The range of a placed segment; one of no bytes at the end of memory is told at 0.
 fn range_at(placed: Placed) -> Range
+    requires { placed.length < 65536 }
+    ensures { result ≡ range_at placed }
 {
     Range {
         first: (placed.base % 65536) as u16,

@@ -7,7 +7,7 @@ ghost use Rattle.place80.specs.Regions.{Arranges};
 ghost use Rattle.place80.specs.Layout.{layout_of, program_bases};
 ghost use Rattle.place80.specs.Locating.{located_chunks, located_code, located_stack, located_data};
 ghost use Rattle.place80.specs.PlaceFault.{locate_fault, start_place};
-ghost use Rattle.place80.specs.declared.place_fault.PlaceFault.TheVariants.{Memory};
+ghost use Rattle.place80.specs.declared.place_fault.PlaceFault.TheVariants.{Memory, Unresolved};
 
 use crate::image::Image;
 use crate::laying_out::layout;
@@ -46,7 +46,7 @@ pub fn locate(alloc: Global, program: &Module, options: &Options) -> Result<Imag
         return Err(PlaceFault::NoStart);
     };
     let segments = layout(alloc, program, options)?.segments;
-    if any_loses_its_low_byte(&segments, program) {
+    if any_loses_its_low_byte(&segments, program.contents()) {
         return Err(PlaceFault::HighNotPaged);
     }
     let start = place_of(&segments, segment, offset);
@@ -55,7 +55,7 @@ pub fn locate(alloc: Global, program: &Module, options: &Options) -> Result<Imag
     }
     Ok(Image {
         name: program.name().copy(alloc)?,
-        chunks: located_chunks(alloc, &segments, program)?,
+        chunks: located_chunks(alloc, &segments, program.contents())?,
         regions: located_regions(alloc, &segments)?,
         start,
     })
@@ -63,6 +63,7 @@ pub fn locate(alloc: Global, program: &Module, options: &Options) -> Result<Imag
 
 /// The fault of an external without a public.
 fn unresolved(alloc: Global, name: &Name) -> PlaceFault
+    ensures { (result ≡ Memory) ⊎ (result ≡ Unresolved name.now) }
 {
     match name.copy(alloc) {
         Ok(name) => PlaceFault::Unresolved(name),

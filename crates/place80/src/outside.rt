@@ -1,15 +1,16 @@
 //! Segments that pass the end of memory.
 
-ghost use Rattle.std.specs.Prelude.{◌≡◌, option_map};
-ghost use Rattle.std.specs.List.{find, list_any};
+ghost use Rattle.std.specs.Prelude.{◌≡◌, ◌+◌, ◌==◌, ◌&&◌, option_map, find, nat_lt, length};
+ghost use Rattle.std.specs.List.{list_any};
 ghost use Rattle.place80.specs.PlaceFault.{passes_memory, is_outside};
+ghost use Rattle.place80.specs.declared.placed.Placed.{Placed};
 
 use crate::placed::Placed;
 use omf_module::{Content, Module};
 
 /// The first segment that is outside memory, by its id.
 pub(crate) fn first_outside(program: &Module, segments: &[Placed]) -> Option<u8>
-    ensures { result ≡ option_map (λ p. p.id) (find (is_outside program.now.contents) segments.now) }
+    ensures { result ≡ option_map (λ (p : Placed). p.id) (find (is_outside program.now.contents) segments.now) }
 {
     let contents = program.contents();
     let placed = segments
@@ -22,14 +23,26 @@ pub(crate) fn first_outside(program: &Module, segments: &[Placed]) -> Option<u8>
 fn is_outside(contents: &[Content], placed: Placed) -> bool
     ensures { result ≡ is_outside contents.now placed }
 {
-    u64::from(placed.base) + u64::from(placed.length) > 65536
-        || (placed.id == 4 && contents.iter().any(|c| passes_memory(placed.length, c)))
+    ends_outside(placed) || (placed.id == 4 && any_passes(contents, placed.length))
+}
+
+/// Whether the segment ends above 65536.
+fn ends_outside(placed: Placed) -> bool
+    ensures { result ≡ nat_lt 65536 (placed.base + placed.length) }
+{
+    65536 < u64::from(placed.base) + u64::from(placed.length)
+}
+
+/// Whether there is content of MEMORY that the length doesn't hold.
+fn any_passes(contents: &[Content], size: u32) -> bool
+    ensures { result ≡ list_any (passes_memory size) contents.now }
+{
+    contents.iter().any(|content| passes_memory(size, content))
 }
 
 /// Whether this is content of MEMORY that the length doesn't hold.
-fn passes_memory(length: u32, content: &Content) -> bool
-    ensures { result ≡ passes_memory length content.now }
+fn passes_memory(size: u32, content: &Content) -> bool
+    ensures { result ≡ passes_memory size content.now }
 {
-    content.segment == 4
-        && u64::from(length) < u64::from(content.offset) + content.bytes.len() as u64
+    content.segment == 4 && u64::from(size) < u64::from(content.offset) + content.bytes.len() as u64
 }

@@ -1,4 +1,4 @@
-ghost use Rattle.std.specs.Prelude.{◌≡◌};
+ghost use Rattle.std.specs.Prelude.{◌≡◌, ◌==◌, find};
 ghost use Rattle.place80.specs.Layout.{placed_in};
 
 /// A segment at its place: it takes `length` bytes from the address `base` on. A segment without bytes may stand at 65536
@@ -22,14 +22,21 @@ pub struct Layout {
 pub(crate) fn placed_in(segments: &[Placed], id: u8) -> Placed
     ensures { result ≡ placed_in segments.now id }
 {
-    for placed in segments {
-        if placed.id == id {
-            return *placed;
-        }
-    }
-    Placed {
+    find_placed(segments, id).unwrap_or(Placed {
         id,
         base: 0,
         length: 0,
+    })
+}
+
+/// The segment of this id.
+fn find_placed(segments: &[Placed], id: u8) -> Option<Placed>
+    ensures { result ≡ find (λ p. p.id == id) segments.now }
+{
+    for placed in segments {
+        if placed.id == id {
+            return Some(*placed);
+        }
     }
+    None
 }

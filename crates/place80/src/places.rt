@@ -1,9 +1,14 @@
 //! Places by the segments that were laid out.
 
+ghost use Rattle.std.specs.Prelude.{◌≡◌};
+ghost use Rattle.place80.specs.Layout.{top_in, place_by};
+ghost use Rattle.place80.specs.PlaceFault.{is_in_placed};
+
 use crate::placed::{Placed, placed_in};
 
 /// The stack's top, as a word.
 fn top_in(segments: &[Placed]) -> u16
+    ensures { result ≡ top_in segments.now }
 {
     let stack = placed_in(segments, 3);
     ((u64::from(stack.base) + u64::from(stack.length)) % 65536) as u16
@@ -12,6 +17,7 @@ fn top_in(segments: &[Placed]) -> u16
 /// The place of an offset in a segment: absolute offsets stand as they are, STACK is spoken of from its top, and anything
 /// else from its base.
 pub(crate) fn place_of(segments: &[Placed], id: u8, offset: u16) -> u16
+    ensures { result ≡ place_by segments.now id offset }
 {
     match id {
         0 => offset,
@@ -22,8 +28,8 @@ pub(crate) fn place_of(segments: &[Placed], id: u8, offset: u16) -> u16
 
 /// Whether the address is one of the segment's.
 pub(crate) fn is_in_placed(placed: Placed, address: u16) -> bool
+    ensures { result ≡ is_in_placed placed address }
 {
     let address = u64::from(address);
-    u64::from(placed.base) <= address
-        && address < u64::from(placed.base) + u64::from(placed.length)
+    u64::from(placed.base) <= address && address < u64::from(placed.base) + u64::from(placed.length)
 }

@@ -5,6 +5,7 @@ use omf_core::Name;
 use std::alloc::{AllocError, Global};
 use std::test::Fail;
 
+mod images;
 mod locating;
 
 /// The code and data ranges in the order of their addresses, and the stack between them.

@@ -1,7 +1,6 @@
 mod StreamLemmas
 mod InputsLemmas
 mod BundleLemmas
-mod ImageLemmas
 pub mod WalkLemmas
 pub mod CheckLemmas
 pub mod Fetching

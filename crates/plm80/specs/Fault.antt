@@ -1,14 +1,14 @@
 -- The numbers of the faults of sessions and bundles.
 use Rattle.std.specs.Prelude.{ℕ}
 use Rattle.plm80.specs.declared.fault.SessionFault.{SessionFault}
-use Rattle.plm80.specs.declared.fault.SessionFault.TheVariants.{Read, Write, BadImage, Regions, Inputs, Refused, Memory, TooLong}
+use Rattle.plm80.specs.declared.fault.SessionFault.TheVariants.{Read, Write, Image, Regions, Inputs, Refused, Memory, TooLong}
 use Rattle.plm80.specs.declared.fault.BundleFault.{BundleFault}
 use Rattle.plm80.specs.declared.fault.BundleFault.TheVariants.{Session, BadBundle}
 
 abbrev pub session_code : SessionFault → ℕ
 session_code (Read _) = 1
 session_code Write = 2
-session_code BadImage = 3
+session_code (Image _) = 3
 session_code (Regions _) = 4
 session_code (Inputs _) = 5
 session_code (Refused _) = 6

@@ -3,7 +3,6 @@ pub mod WholeText
 pub mod HexText
 pub mod InputsText
 pub mod BundleText
-pub mod ImageText
 pub mod TranscriptText
 pub mod Refusal
 pub mod Check

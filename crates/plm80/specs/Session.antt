@@ -1,27 +1,28 @@
 -- What a session answers and writes: a relation between the three texts, the answer and the text that is written.
 use Rattle.std.specs.Prelude.{◌≡◌, ◌≢◌, ℕ, ◌≤◌, ◌⊎◌, List, [], None, Some, Result, Ok, Err}
 use Rattle.place80.specs.declared.fault.RegionsFault.TheVariants.{Memory as RegionsMemory}
+use Rattle.place80.specs.declared.image_fault.ImageFault.TheVariants.{Memory as ImageMemory}
 use Rattle.place80.specs.Regions.{Areas}
 use Rattle.place80.specs.RegionsText.{Spells, Refuses}
-use Rattle.place80.specs.Image.{Located, PlacedBytes}
+use Rattle.place80.specs.Image.{Located}
+use Rattle.place80.specs.ImageFile.{image_of, without_regions}
 use Rattle.machine80.specs.Ports.{lists_of}
 use Rattle.machine80.specs.Step.{Machine, refusals_at}
 use Rattle.machine80.specs.World.{world_at_start}
 use Rattle.machine80.specs.Run.{IsRun}
 use Rattle.plm80.specs.declared.replying.Outcome.{Outcome}
 use Rattle.plm80.specs.declared.fault.SessionFault.{SessionFault}
-use Rattle.plm80.specs.declared.fault.SessionFault.TheVariants.{Read, Write, BadImage, Regions, Inputs, Refused, Memory, TooLong}
+use Rattle.plm80.specs.declared.fault.SessionFault.TheVariants.{Read, Write, Image, Regions, Inputs, Refused, Memory, TooLong}
 use Rattle.plm80.specs.declared.refusal.Refusal.{Refusal}
 use Rattle.plm80.specs.declared.refusal.Refusal.TheVariants.{Memory as NoMemory}
 use Rattle.plm80.specs.BundleText.{Texts}
-use Rattle.plm80.specs.ImageText.{SpellsImage}
 use Rattle.plm80.specs.InputsText.{inputs_of, bad_line}
 use Rattle.plm80.specs.TranscriptText.{transcript, refusal_line}
 use Rattle.plm80.specs.Check.{IsSound, IsFault}
 
--- the image's bytes spell its chunks and its start, and the regions' text its regions
+-- the image's bytes tell the image but for its regions, and the regions' text spells those
 pub record SpellsProgram (t : Texts) (image : Located) : Type 0 where
-  pub contents : SpellsImage t.image image.start image.chunks
+  pub contents : image_of t.image ≡ Ok (without_regions image)
   pub regions : Spells t.regions image.regions
 
 -- the text is the transcript of a run of at most so many steps on these inputs. Of the outputs as many are taken as the
@@ -47,7 +48,7 @@ pub record Runs (limit steps : ℕ) (t : Texts) (o : Outcome) (text : List ℕ) 
 -- the first fault of the texts, in the order regions, image, inputs, check
 abbrev pub Faults : Texts → SessionFault → List ℕ → Type 0
 Faults t (Regions f) text = Refuses t.regions f × (f ≢ RegionsMemory) × (text ≡ [])
-Faults t BadImage text = ((areas : Areas) × Spells t.regions areas) × ((start : ℕ) (chunks : List PlacedBytes) → SpellsImage t.image start chunks → ⊥) × (text ≡ [])
+Faults t (Image f) text = ((areas : Areas) × Spells t.regions areas) × (image_of t.image ≡ Err f) × (f ≢ ImageMemory) × (text ≡ [])
 Faults t (Inputs n) text = ((image : Located) × SpellsProgram t image) × (bad_line t.inputs ≡ Some n) × (text ≡ [])
 Faults t (Refused r) text = ((image : Located) × SpellsProgram t image × IsFault image r) × (bad_line t.inputs ≡ None) × (text ≡ refusal_line r)
 Faults t Memory text = text ≡ []

@@ -4,7 +4,7 @@ ghost use Rattle.std.specs.Prelude.{◌≡◌};
 ghost use Rattle.plm80.specs.Fault.{session_code, bundle_code};
 
 use crate::refusal::Refusal;
-use place80::RegionsFault;
+use place80::{ImageFault, RegionsFault};
 use thiserror::Error;
 
 /// Why a session has no outcome.
@@ -16,9 +16,9 @@ pub enum SessionFault {
     /// A write failed, or took no byte.
     #[error("Write")]
     Write,
-    /// The image's bytes have another form than the written one.
-    #[error("BadImage")]
-    BadImage,
+    /// The image's bytes are no image.
+    #[error("{0}")]
+    Image(ImageFault),
     /// The regions' text spells none.
     #[error("{0}")]
     Regions(RegionsFault),
@@ -44,7 +44,7 @@ impl SessionFault {
         match self {
             SessionFault::Read(_) => 1,
             SessionFault::Write => 2,
-            SessionFault::BadImage => 3,
+            SessionFault::Image(_) => 3,
             SessionFault::Regions(_) => 4,
             SessionFault::Inputs(_) => 5,
             SessionFault::Refused(_) => 6,

@@ -5,14 +5,13 @@ ghost use Rattle.machine80.specs.Ports.{lists_of};
 ghost use Rattle.plm80.specs.Session.{Says, SpellsProgram, Faults, IsRefused, Transcribes};
 
 use crate::fault::SessionFault;
-use crate::image_text::read_image_text;
 use crate::inputs::{InputsFault, read_inputs};
 use crate::refusal::Refusal;
 use crate::running::run;
 use crate::transcript::{refusal_text, transcript_text};
 use crate::vouched::{Vouched, vouch};
 use machine80::{End, FlatBus, Inputs, ListPorts};
-use place80::{Image, RegionsFault, read_regions};
+use place80::{Image, ImageFault, RegionsFault, read_image, read_regions};
 use std::alloc::{AllocError, Global};
 
 /// What a session came to.
@@ -28,7 +27,7 @@ pub struct Outcome {
     pub at: u16,
 }
 
-/// Three texts: an image in its written form, regions and inputs.
+/// Three texts: an image as an object file, regions and inputs.
 #[derive(Clone, Copy)]
 pub struct SessionTexts<'a> {
     pub image: &'a [u8],
@@ -73,14 +72,10 @@ fn load(alloc: Global, texts: SessionTexts<'_>) -> Result<Image, SessionFault>
         Err(RegionsFault::Memory) => return Err(SessionFault::Memory),
         Err(fault) => return Err(SessionFault::Regions(fault)),
     };
-    match read_image_text(alloc, texts.image) {
-        Ok(Some(text)) => Ok(Image {
-            chunks: text.chunks,
-            regions,
-            start: text.start,
-        }),
-        Ok(None) => Err(SessionFault::BadImage),
-        Err(AllocError) => Err(SessionFault::Memory),
+    match read_image(alloc, texts.image, regions) {
+        Ok(image) => Ok(image),
+        Err((_, ImageFault::Memory)) => Err(SessionFault::Memory),
+        Err((_, fault)) => Err(SessionFault::Image(fault)),
     }
 }
 

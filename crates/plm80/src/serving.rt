@@ -18,7 +18,7 @@ pub const TEXT_LIMIT: usize = 1_048_576;
 /// keeping `outputs` outputs at most; and writes the transcript, or the line of the refusal.
 ///
 /// # Errors
-/// The first of: `Read` and `TooLong` with the number of the text, 1 to 3, while it is read; `Regions`, `BadImage`,
+/// The first of: `Read` and `TooLong` with the number of the text, 1 to 3, while it is read; `Regions`, `Image`,
 /// `Inputs` with the number of its line; `Refused`, after its line was written; `Write`, after which what went out is a
 /// prefix of the text. `Memory` comes where a growth was refused. After every other fault but `Refused` nothing was
 /// written.

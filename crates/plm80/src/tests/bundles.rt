@@ -34,7 +34,7 @@ fn a_bundle_comes_to_its_transcript(rt: HostRuntime) -> Result<(), Fail> {
 }
 
 /// A bundle is answered so, and nothing is written.
-fn faults(rt: &impl Abort, alloc: Global, bytes: &[u8], fault: BundleFault) {
+pub(super) fn faults(rt: &impl Abort, alloc: Global, bytes: &[u8], fault: BundleFault) {
     let mut writer = roomy(alloc);
     let mut input = Reading::new(bytes);
     let mut out = Writing::new(&mut writer);
@@ -81,23 +81,6 @@ fn the_version_of_the_regions_is_told(rt: HostRuntime) {
         &rt,
         rt.alloc(),
         b"02050001410000B7060900000030DB02D301769A04050001000030C60E0100F1\nREGIONS 9\nCODE 3000 0005\nSTACK 3005 0000\nINPUTS\n02 41\n",
-        fault,
-    );
-}
-
-#[test]
-fn an_image_without_bytes_or_with_a_wrong_sum_is_bad(rt: HostRuntime) {
-    let fault = BundleFault::Session(SessionFault::BadImage);
-    faults(
-        &rt,
-        rt.alloc(),
-        b"\nREGIONS 1\nSTACK 3005 0000\nINPUTS\n",
-        fault,
-    );
-    faults(
-        &rt,
-        rt.alloc(),
-        b"02050001410000B6060900000030DB02D301769A04050001000030C60E0100F1\nREGIONS 1\nCODE 3000 0005\nSTACK 3005 0000\nINPUTS\n02 41\n",
         fault,
     );
 }

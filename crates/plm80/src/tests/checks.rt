@@ -2,7 +2,8 @@
 
 use super::image_of;
 use crate::{SessionFault, SessionTexts, answer_texts};
-use place80::RegionsFault;
+use omf_module::{Cause, ModuleFault};
+use place80::{ImageFault, RegionsFault};
 use std::alloc::Global;
 use std::process::Abort;
 use std::test::Fail;
@@ -119,7 +120,11 @@ fn a_fault_of_the_regions_comes_first(rt: HostRuntime) {
         Some(SessionFault::Regions(RegionsFault::BadVersion))
     );
     let image = region_fault(alloc, b"REGIONS 1\nSTACK 3100 0100\n");
-    assert_eq!(rt; image, Some(SessionFault::BadImage));
+    let no_module = ImageFault::Module(ModuleFault {
+        at: 0,
+        cause: Cause::NoHeader,
+    });
+    assert_eq!(rt; image, Some(SessionFault::Image(no_module)));
 }
 
 #[test]

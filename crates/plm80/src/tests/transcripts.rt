@@ -3,7 +3,8 @@
 use crate::transcript::{refusal_text, transcript_text};
 use crate::{BundleFault, Refusal, SessionFault};
 use machine80::End;
-use place80::RegionsFault;
+use omf_module::{Cause, ModuleFault};
+use place80::{ImageFault, RegionsFault};
 use std::alloc::Global;
 use std::process::Abort;
 use std::test::Fail;
@@ -53,7 +54,13 @@ fn a_fault_is_printed_as_its_name_and_values(rt: HostRuntime) -> Result<(), Fail
     prints(&rt, rt.alloc(), SessionFault::Read(1), "Read 1")?;
     prints(&rt, rt.alloc(), SessionFault::TooLong(2), "TooLong 2")?;
     prints(&rt, rt.alloc(), SessionFault::Write, "Write")?;
-    prints(&rt, rt.alloc(), SessionFault::BadImage, "BadImage")?;
+    let absolute = SessionFault::Image(ImageFault::NotAbsolute);
+    prints(&rt, rt.alloc(), absolute, "NotAbsolute")?;
+    let no_end = SessionFault::Image(ImageFault::Module(ModuleFault {
+        at: 28,
+        cause: Cause::NoEnd,
+    }));
+    prints(&rt, rt.alloc(), no_end, "NoEnd AT 28")?;
     prints(&rt, rt.alloc(), SessionFault::Inputs(1), "Inputs 1")?;
     prints(&rt, rt.alloc(), SessionFault::Memory, "Memory")?;
     let version = SessionFault::Regions(RegionsFault::BadVersion);

@@ -12,11 +12,11 @@ use Rattle.omf_module.proofs.writing.put_module.Goals as goal
 pub put_contents-requires : goal.put_contents-requires
 put_contents-requires c =
     subst (λ (xs : List ContentValue). AllByRecursion (λ (x : ContentValue). length x.bytes ≤ 65531) xs)
-    (sym c.contents.ensures.value) (module_contents_short c.args.module.now c.contents.ensures.rules)
+    (sym c.contents.ensures.value) (module_contents_short c.args.source.now c.contents.ensures.rules)
 
 pub returns : goal.returns
 returns c =
-    module_written c.args.module.now c.args.out.now.items c.put_header.new.out.items c.put_commons.new.out.items c.put_publics.new.out.items c.put_externals.new.out.items c.put_contents.new.out.items c.put_end.new.out.items
+    module_written c.args.source.now c.args.out.now.items c.put_header.new.out.items c.put_commons.new.out.items c.put_publics.new.out.items c.put_externals.new.out.items c.put_contents.new.out.items c.put_end.new.out.items
     c.in_ok-put_header.ensures
     (c.in_ok-put_commons.ensures ∙ ap (λ (x : List Common). c.put_header.new.out.items ++ spellings (map common_record x)) c.commons.ensures.value)
     (c.in_ok-put_publics.ensures ∙ ap (λ (x : List Public). c.put_commons.new.out.items ++ spellings (map public_record x)) c.publics.ensures.value)

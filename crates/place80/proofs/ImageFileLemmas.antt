@@ -1,0 +1,106 @@
+-- The module of an image keeps the rules of modules, and is read as the image.
+use Rattle.std.proofs.Common.{◌≡◌, ℕ, ◌+◌, ◌≤◌, ◌<◌, Bool, true, false, ◌&&◌, List, [], ◌∷◌, ◌++◌, length, map, drop, Option, Some, None, Result, Ok, Err, refl, sym, ap, subst, ◌∙◌, true≢false}
+use Rattle.std.specs.Prelude.{◌==◌, nat_le, not, if◌then◌else◌}
+use Rattle.std.specs.List.{list_all, AllByRecursion}
+use Rattle.std.proofs.lemmas.Bool.{and_parts, le-leb, leb-true, eqb-true}
+use Rattle.omf_core.specs.Name.{is_name}
+use Rattle.omf_module.specs.declared.segment.Segment.{Segment}
+use Rattle.omf_module.specs.Contents.{ContentValue}
+use Rattle.omf_module.specs.Segments.{entries_for, listed_ids, in_one_form, has_segment}
+use Rattle.omf_module.specs.Modules.{ModuleValue, made_of}
+use Rattle.omf_module.specs.Rules.{IsModule, keeps_rules, is_sound, is_content, is_placed, is_fitting, is_start, each_after, is_new_common, end_of}
+use Rattle.omf_module.specs.Reading.{file_of}
+use Rattle.omf_module.specs.Writing.{file_bytes}
+use Rattle.omf_module.specs.Laws.{WrittenFileIsRead}
+use Rattle.place80.specs.declared.image_fault.ImageFault.TheVariants.{NotAbsolute}
+use Rattle.place80.specs.Image.{PlacedBytes, Located, IsChunk}
+use Rattle.place80.specs.ImageFile.{AbsoluteProgram, without_regions, chunk_content, content_chunk, image_module, image_bytes, is_absolute_content, is_absolute_start, is_absolute, program_from, program_of, program_in, image_of, WrittenImageIsRead}
+
+-- ---- the module of an image
+
+-- a module without commons lists no segments where none is told
+pub none_listed : in_one_form [] [] ≡ []
+unfolding entries_for listed_ids
+none_listed = refl
+
+pub made_as_it_is : (image : Located) → made_of (image_module image) ≡ image_module image
+made_as_it_is image = ap (λ (s : List (ℕ × Segment)). record (image_module image) { segments = s }) none_listed
+
+both : (a b : Bool) → a ≡ true → b ≡ true → (a && b) ≡ true
+both true b e f = f
+both false b e f = absurd cc
+
+-- a chunk keeps the rules of a content
+content_placed : (chunk : PlacedBytes) → IsChunk chunk → is_content [] [] 0 (chunk_content chunk) ≡ true
+content_placed chunk w = both (is_placed [] [] (chunk_content chunk)) true (both (nat_le (chunk.address + length chunk.bytes) 65536) (nat_le (length chunk.bytes) 65531) (le-leb (chunk.address + length chunk.bytes) 65536 w.in_memory) (le-leb (length chunk.bytes) 65531 w.in_record)) refl
+
+contents_placed : (chunks : List PlacedBytes) → AllByRecursion IsChunk chunks → list_all (is_content [] [] 0) (map chunk_content chunks) ≡ true
+contents_placed [] w = refl
+contents_placed (chunk ∷ chunks) w = both (is_content [] [] 0 (chunk_content chunk)) (list_all (is_content [] [] 0) (map chunk_content chunks)) (content_placed chunk w.0) (contents_placed chunks w.1)
+
+pub image_keeps_rules : (image : Located) → AllByRecursion IsChunk image.chunks → keeps_rules (image_module image) ≡ true
+image_keeps_rules image w = both (list_all (is_content [] [] 0) (map chunk_content image.chunks)) true (contents_placed image.chunks w) refl
+
+image_is_module : (image : Located) → is_name image.name ≡ true → AllByRecursion IsChunk image.chunks → IsModule (image_module image)
+image_is_module image name w = record {
+  sound = image_keeps_rules image w;
+  own = refl;
+  one_form = sym none_listed;
+  names = ap (λ (b : Bool). b && true && true && true) name;
+}
+
+-- so no rule forbids it
+pub no_rule_broken : (image : Located) → AllByRecursion IsChunk image.chunks → keeps_rules (image_module image) ≡ false → ⊥
+no_rule_broken image w broken = true≢false (sym (image_keeps_rules image w) ∙ broken)
+
+-- ---- what is written is read
+
+chunks_again : (chunks : List PlacedBytes) → map content_chunk (map chunk_content chunks) ≡ chunks
+chunks_again [] = refl
+chunks_again (chunk ∷ chunks) = ap (λ (rest : List PlacedBytes). chunk ∷ rest) (chunks_again chunks)
+
+all_absolute : (chunks : List PlacedBytes) → list_all is_absolute_content (map chunk_content chunks) ≡ true
+all_absolute [] = refl
+all_absolute (chunk ∷ chunks) = all_absolute chunks
+
+image_module_absolute : (image : Located) → is_absolute (image_module image) ≡ true
+image_module_absolute image = both (list_all is_absolute_content (map chunk_content image.chunks)) true (all_absolute image.chunks) refl
+
+image_module_read : (image : Located) → program_of (image_module image) ≡ Ok (without_regions image)
+image_module_read image =
+    ap (λ (b : Bool). if b then program_from (image_module image) (Some (0, image.start)) else Err NotAbsolute) (image_module_absolute image)
+    ∙ ap (λ (chunks : List PlacedBytes). Ok (record { name = image.name; chunks = chunks; start = image.start })) (chunks_again image.chunks)
+
+pub written_image_is_read : WrittenFileIsRead → WrittenImageIsRead
+written_image_is_read written image name w =
+    ap program_in (written (image_module image) [] (image_is_module image name w, tt)) ∙ image_module_read image
+
+-- ---- the chunks of an absolute module
+
+-- an absolute content that keeps the rules of modules is a chunk
+content_is_chunk : (m : ModuleValue) (content : ContentValue) → is_absolute_content content ≡ true → is_content m.segments m.commons (length m.externals) content ≡ true → IsChunk (content_chunk content)
+content_is_chunk m content absolute kept =
+    let own : content.segment ≡ 0 = eqb-true content.segment 0 (and_parts (content.segment == 0) (length content.fixups == 0) absolute).0 in
+    let placed = (and_parts (is_placed m.segments m.commons content) (each_after (is_fitting m.commons (length m.externals) content.offset (length content.bytes)) [] content.fixups) kept).0 in
+    let p = and_parts (has_segment m.commons content.segment && not (content.segment == 3) && nat_le (content.offset + length content.bytes) (end_of m.segments content.segment)) (nat_le (length content.bytes) 65531) placed in
+    let q = and_parts (has_segment m.commons content.segment && not (content.segment == 3)) (nat_le (content.offset + length content.bytes) (end_of m.segments content.segment)) p.0 in
+    record {
+      in_record = leb-true (length content.bytes) 65531 p.1;
+      in_memory = leb-true (content.offset + length content.bytes) 65536 (subst (λ (id : ℕ). nat_le (content.offset + length content.bytes) (end_of m.segments id) ≡ true) own q.1);
+    }
+
+contents_are_chunks : (m : ModuleValue) (contents : List ContentValue) → list_all is_absolute_content contents ≡ true → list_all (is_content m.segments m.commons (length m.externals)) contents ≡ true
+    → AllByRecursion (λ (content : ContentValue). IsChunk (content_chunk content)) contents
+contents_are_chunks m [] absolute kept = tt
+contents_are_chunks m (content ∷ contents) absolute kept =
+    let a = and_parts (is_absolute_content content) (list_all is_absolute_content contents) absolute in
+    let k = and_parts (is_content m.segments m.commons (length m.externals) content) (list_all (is_content m.segments m.commons (length m.externals)) contents) kept in
+    (content_is_chunk m content a.0 k.0, contents_are_chunks m contents a.1 k.1)
+
+pub absolute_contents : (m : ModuleValue) → IsModule m → is_absolute m ≡ true → AllByRecursion (λ (content : ContentValue). IsChunk (content_chunk content)) m.contents
+absolute_contents m w absolute =
+    let a = and_parts (length m.externals == 0 && list_all is_absolute_content m.contents) (is_absolute_start m.start) absolute in
+    let b = and_parts (length m.externals == 0) (list_all is_absolute_content m.contents) a.0 in
+    let c = and_parts (each_after is_new_common [] m.commons && list_all (λ p. has_segment m.commons p.segment) m.publics && list_all (is_content m.segments m.commons (length m.externals)) m.contents) (is_start m.commons m.start) w.sound in
+    let d = and_parts (each_after is_new_common [] m.commons && list_all (λ p. has_segment m.commons p.segment) m.publics) (list_all (is_content m.segments m.commons (length m.externals)) m.contents) c.0 in
+    contents_are_chunks m m.contents b.1 d.1

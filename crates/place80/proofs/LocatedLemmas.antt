@@ -1,0 +1,30 @@
+-- What holds of placed segments holds of the one that is looked up.
+use Rattle.std.specs.Prelude.{◌≡◌, ℕ, suc, ◌+◌, ◌==◌, ◌<◌, ◌++◌, map, drop, length, true, false, List, [], ◌∷◌, find, unwrap_or, Option, None, IfNone}
+use Rattle.std.specs.List.{AllByRecursion}
+use Rattle.std.proofs.Common.{cond, arith, Some, subst, sym, ap, ◌∙◌, append_assoc, get_or, drop-cons}
+use Rattle.place80.specs.declared.placed.Placed.{Placed}
+use Rattle.omf_module.specs.Contents.{ContentValue}
+use Rattle.place80.specs.Image.{PlacedBytes}
+use Rattle.place80.specs.Locating.{chunk_by}
+use Rattle.place80.specs.Layout.{placed_in, nowhere}
+
+pub placed_in_word : (segments : List Placed) (id : ℕ) → AllByRecursion (λ (p : Placed). p.length < 65536) segments → (placed_in segments id).length < 65536
+placed_in_word [] id all = omega arith
+placed_in_word (p ∷ ps) id all =
+    elim (p.id == id) as (λ b. (unwrap_or (cond b (Some p) (find (λ (q : Placed). q.id == id) ps)) (nowhere id)).length < 65536)
+    [ true ↦ all.0 | false ↦ placed_in_word ps id all.1 ]
+
+-- where a call answers that there is none, what it says of that holds
+pub none_of : {A : Type 0} {P : Type 0} (o : Option A) → IfNone o (¬ P) → o ≡ None → P → ⊥
+none_of {A = A} {P = P} o says none holds = subst (λ (x : Option A). IfNone x (¬ P)) none says holds
+
+-- the chunks so far and those that are left, with one more
+pub chunk_step : (segments : List Placed) (contents : List ContentValue) (i : ℕ) (c : ContentValue) (front : List PlacedBytes) (made : PlacedBytes) → i < length contents → c ≡ get_or contents i c → made ≡ chunk_by segments c →
+    (front ++ made ∷ []) ++ map (chunk_by segments) (drop (i + 1) contents) ≡ front ++ map (chunk_by segments) (drop i contents)
+chunk_step segments contents i c front made inside is same =
+    let next : suc i ≡ i + 1 = omega arith in
+    append_assoc front (made ∷ []) (map (chunk_by segments) (drop (i + 1) contents))
+    ∙ ap (λ (x : PlacedBytes). front ++ x ∷ map (chunk_by segments) (drop (i + 1) contents)) same
+    ∙ ap (λ (n : ℕ). front ++ chunk_by segments c ∷ map (chunk_by segments) (drop n contents)) (sym next)
+    ∙ ap (λ (x : ContentValue). front ++ chunk_by segments x ∷ map (chunk_by segments) (drop (suc i) contents)) is
+    ∙ ap (λ (l : List ContentValue). front ++ map (chunk_by segments) l) (sym (drop-cons contents i c inside))

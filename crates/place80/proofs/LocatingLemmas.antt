@@ -1,0 +1,221 @@
+-- The one module that is located: its words, patches, chunks and start by its placed segments, and the causes in their order.
+use Rattle.std.specs.Prelude.{◌≡◌, ◌⊎◌, ℕ, ◌+◌, ◌-◌, ◌%◌, ◌==◌, Bool, true, false, not, ◌&&◌, ◌||◌, if◌then◌else◌, Option, Some, None, option_map, option_and_then, is_none, List, [], ◌∷◌, ◌++◌, map, find, length, slice_get, nat_le, ◌≤◌, IsTrue, All, refl}
+use Rattle.std.specs.List.{list_all, list_any, AllByRecursion}
+use Rattle.std.specs.Option.{option_or}
+use Rattle.std.proofs.Common.{◌∙◌, ap, sym, subst, cond, arith, ◌<◌, get_or}
+use Rattle.std.proofs.lemmas.Bool.{and_parts, ltb-true, leb-true}
+use Rattle.std.proofs.lemmas.List.Elements.{All-from_get_or, All-from_recursion, recursion_from_All}
+use Rattle.std.proofs.lemmas.List.{append-nil}
+use Rattle.omf_module.specs.declared.fixup.Fixup.{Fixup}
+use Rattle.omf_module.specs.declared.fixup.Target.{Target}
+use Rattle.omf_module.specs.declared.fixup.Target.TheVariants as target
+use Rattle.omf_module.specs.declared.patching.Patch.{Patch}
+use Rattle.omf_module.specs.Contents.{ContentValue}
+use Rattle.omf_module.specs.Patches.{with_patches}
+use Rattle.omf_module.specs.Segments.{has_segment}
+use Rattle.omf_module.specs.Modules.{ModuleValue}
+use Rattle.omf_module.specs.Rules.{each_after, is_new_common, has_target, is_content, is_start, is_sound, IsModule}
+use Rattle.omf_module.specs.Place.{Bases, place_in}
+use Rattle.omf_module.specs.ImageByte.{target_word, patch_of, ByteChunk, chunk_of, chunks_of}
+use Rattle.place80.specs.declared.options.Options.{Options}
+use Rattle.place80.specs.declared.placed.Placed.{Placed}
+use Rattle.place80.specs.Image.{PlacedBytes}
+use Rattle.place80.specs.Layout.{placed_in, place_by, bases_of, layout_of, program_bases}
+use Rattle.place80.specs.Locating.{target_by, patch_by, loses_by, chunk_by, CanBePlaced, placed_bytes, located_chunks}
+use Rattle.place80.specs.PlaceFault.{is_outside, overlaps, pairs, is_high, loses_low_byte, high_not_paged, is_in_placed, start_place, start_not_code, unresolved, no_start, layout_fault, locate_fault}
+use Rattle.place80.specs.declared.place_fault.PlaceFault.{PlaceFault}
+use Rattle.place80.specs.declared.place_fault.PlaceFault.TheVariants.{HighNotPaged, StartNotCode}
+use Rattle.place80.proofs.FixupLemmas.{test_at, content_above, content_inside, content_apart, content_targets}
+use Rattle.place80.proofs.ChunkLemmas.{content_in_memory}
+use Rattle.place80.proofs.LayoutLemmas.{in_memory_and_apart}
+use Rattle.place80.proofs.LocatedDisjoint.{EndsInMemory, HasWord, ends_in_memory}
+use Rattle.place80.proofs.PlaceLemmas.{place_of_id}
+use Rattle.place80.proofs.SoundLemmas.{sound_commons, sound_contents, sound_start, content_lies}
+
+-- two tests, or two functions, that agree where another test is passed
+any_same : {A : Type 0} (good p q : A → Bool) → ((x : A) → IsTrue (good x) → p x ≡ q x) → (xs : List A) → IsTrue (list_all good xs) → list_any p xs ≡ list_any q xs
+any_same good p q same [] all = refl
+any_same good p q same (x ∷ xs) all =
+    let parts = and_parts (good x) (list_all good xs) all in
+    ap (λ (b : Bool). b || list_any p xs) (same x parts.0) ∙ ap (λ (b : Bool). q x || b) (any_same good p q same xs parts.1)
+
+map_same : {A B : Type 0} (good : A → Bool) (f g : A → B) → ((x : A) → IsTrue (good x) → f x ≡ g x) → (xs : List A) → IsTrue (list_all good xs) → map f xs ≡ map g xs
+map_same good f g same [] all = refl
+map_same good f g same (x ∷ xs) all =
+    let parts = and_parts (good x) (list_all good xs) all in
+    ap (λ y. y ∷ map f xs) (same x parts.0) ∙ ap (λ l. g x ∷ l) (map_same good f g same xs parts.1)
+
+-- what a reference is to, where the module has no external
+target_same : (segments : List Placed) (m : ModuleValue) (t : Target) → IsTrue (is_sound m) → IsTrue (has_target m.commons 0 t) →
+    target_word (bases_of m.commons segments) (m ∷ []) (0, m) t ≡ target_by segments t
+target_same segments m (target.Segment id) sound has = place_of_id segments m id 0 (sound_commons m sound) has
+target_same segments m (target.External index) sound has = let below : index < 0 = ltb-true index 0 has in absurd (omega arith)
+
+no_externals : (m : ModuleValue) → m.externals ≡ [] → length m.externals ≡ 0
+no_externals m none = ap (λ (l : List (List ℕ)). length l) none
+
+targets_there : (m : ModuleValue) (c : ContentValue) → m.externals ≡ [] → IsTrue (is_content m.segments m.commons (length m.externals) c) → IsTrue (list_all (λ f. has_target m.commons 0 f.target) c.fixups)
+targets_there m c none good = content_targets m.segments m.commons 0 c (subst (λ n. IsTrue (is_content m.segments m.commons n c)) (no_externals m none) good)
+
+-- references that lose their low bytes
+loses_same : (segments : List Placed) (m : ModuleValue) (f : Fixup) → IsTrue (is_sound m) → IsTrue (has_target m.commons 0 f.target) → loses_by segments f ≡ loses_low_byte (bases_of m.commons segments) m f
+loses_same segments m f sound has = ap (λ n. is_high f.field && not (n % 256 == 0)) (sym (target_same segments m f.target sound has))
+
+pub any_loses_same : (segments : List Placed) (m : ModuleValue) → IsTrue (is_sound m) → m.externals ≡ [] →
+    list_any (λ c. list_any (loses_by segments) c.fixups) m.contents ≡ list_any (λ c. list_any (loses_low_byte (bases_of m.commons segments) m) c.fixups) m.contents
+any_loses_same segments m sound none =
+    any_same (is_content m.segments m.commons (length m.externals)) (λ c. list_any (loses_by segments) c.fixups) (λ c. list_any (loses_low_byte (bases_of m.commons segments) m) c.fixups)
+    (λ c good. any_same (λ f. has_target m.commons 0 f.target) (loses_by segments) (loses_low_byte (bases_of m.commons segments) m) (λ f has. loses_same segments m f sound has) c.fixups (targets_there m c none good))
+    m.contents (sound_contents m sound)
+
+-- the chunks of contents
+abbrev one_chunk : List Placed → ModuleValue → ContentValue → PlacedBytes
+one_chunk segments m c = placed_bytes (chunk_of (bases_of m.commons segments) (m ∷ []) (0, m) c)
+
+patch_same : (segments : List Placed) (m : ModuleValue) (c : ContentValue) (f : Fixup) → IsTrue (is_sound m) → IsTrue (has_target m.commons 0 f.target) →
+    patch_by segments c.offset f ≡ patch_of (bases_of m.commons segments) (m ∷ []) (0, m) c f
+patch_same segments m c f sound has = ap (λ (n : ℕ). record { at = f.offset - c.offset; field = f.field; word = n }) (sym (target_same segments m f.target sound has))
+
+chunk_same : (segments : List Placed) (m : ModuleValue) (c : ContentValue) → IsTrue (is_sound m) → m.externals ≡ [] → IsTrue (is_content m.segments m.commons (length m.externals) c) →
+    chunk_by segments c ≡ one_chunk segments m c
+chunk_same segments m c sound none good =
+    let patches = map_same (λ f. has_target m.commons 0 f.target) (patch_by segments c.offset) (patch_of (bases_of m.commons segments) (m ∷ []) (0, m) c)
+    (λ f has. patch_same segments m c f sound has) c.fixups (targets_there m c none good) in
+    let place = place_of_id segments m c.segment c.offset (sound_commons m sound) (content_lies m.segments m.commons (length m.externals) c good).has in
+    ap (λ (n : ℕ). record { address = n; bytes = with_patches (map (patch_by segments c.offset) c.fixups) c.bytes }) (sym place)
+    ∙ ap (λ (l : List Patch). record { address = place_in (bases_of m.commons segments) (m ∷ []) 0 m c.segment c.offset; bytes = with_patches l c.bytes }) patches
+
+map_both : {A B C : Type 0} (f : B → C) (g : A → B) (xs : List A) → map f (map g xs) ≡ map (λ x. f (g x)) xs
+map_both f g [] = refl
+map_both f g (x ∷ xs) = ap (λ l. f (g x) ∷ l) (map_both f g xs)
+
+pub chunks_same : (options : Options) (m : ModuleValue) → IsTrue (is_sound m) → m.externals ≡ [] → map (chunk_by (layout_of options m)) m.contents ≡ located_chunks options m
+chunks_same options m sound none =
+    let segments : List Placed = layout_of options m in
+    map_same (is_content m.segments m.commons (length m.externals)) (chunk_by segments) (one_chunk segments m) (λ c good. chunk_same segments m c sound none good) m.contents (sound_contents m sound)
+    ∙ sym (map_both placed_bytes (chunk_of (bases_of m.commons segments) (m ∷ []) (0, m)) m.contents)
+    ∙ ap (map placed_bytes) (sym (append-nil (map (chunk_of (bases_of m.commons segments) (m ∷ []) (0, m)) m.contents)))
+
+-- the start
+pub start_same : (segments : List Placed) (m : ModuleValue) (id offset : ℕ) → IsTrue (is_sound m) → m.start ≡ Some (id, offset) → place_by segments id offset ≡ start_place (bases_of m.commons segments) m (id, offset)
+start_same segments m id offset sound is =
+    let has : has_segment m.commons id ≡ true = subst (λ (s : Option (ℕ × ℕ)). IsTrue (is_start m.commons s)) is (sound_start m sound) in
+    sym (place_of_id segments m id offset (sound_commons m sound) has)
+
+pub start_found : (segments : List Placed) (m : ModuleValue) (id offset : ℕ) → IsTrue (is_sound m) → m.start ≡ Some (id, offset) → Some (place_by segments id offset) ≡ option_map (start_place (bases_of m.commons segments) m) m.start
+start_found segments m id offset sound is =
+    ap (λ (n : ℕ). Some n) (start_same segments m id offset sound is) ∙ ap (λ (s : Option (ℕ × ℕ)). option_map (start_place (bases_of m.commons segments) m) s) (sym is)
+
+-- ---- the causes, in order
+
+pub none_unresolved : (m : ModuleValue) → m.externals ≡ [] → unresolved m ≡ None
+none_unresolved m none = ap (λ (l : List (List ℕ)). option_map PlaceFault.Unresolved (slice_get l 0)) none
+
+has_start : (m : ModuleValue) (start : ℕ × ℕ) → m.start ≡ Some start → no_start m ≡ None
+has_start m start is = ap (λ (s : Option (ℕ × ℕ)). if is_none s then Some PlaceFault.NoStart else None) is
+
+-- past the first three
+abbrev last_two : Options → ModuleValue → Option PlaceFault
+last_two options m = option_or (high_not_paged (program_bases options m) m) (start_not_code (program_bases options m) m (layout_of options m))
+
+pub past_three : (options : Options) (m : ModuleValue) (start : ℕ × ℕ) → m.externals ≡ [] → m.start ≡ Some start → layout_fault options m ≡ None → locate_fault options m ≡ last_two options m
+past_three options m start closed is laid =
+    ap (λ o. option_or o (option_or (no_start m) (option_or (layout_fault options m) (last_two options m)))) (none_unresolved m closed)
+    ∙ ap (λ o. option_or o (option_or (layout_fault options m) (last_two options m))) (has_start m start is)
+    ∙ ap (λ o. option_or o (last_two options m)) laid
+
+pub high_is : (bases : Bases) (m : ModuleValue) (b : Bool) → b ≡ list_any (λ c. list_any (loses_low_byte bases m) c.fixups) m.contents → high_not_paged bases m ≡ (if b then Some HighNotPaged else None)
+high_is bases m b is = ap (λ (x : Bool). if x then Some HighNotPaged else None) (sym is)
+
+pub start_is : (bases : Bases) (m : ModuleValue) (segments : List Placed) (start : ℕ × ℕ) (b : Bool) → m.start ≡ Some start → b ≡ is_in_placed (placed_in segments 1) (start_place bases m start) →
+    start_not_code bases m segments ≡ (if b then None else Some StartNotCode)
+start_is bases m segments start b is here =
+    ap (λ (s : Option (ℕ × ℕ)). option_and_then (λ start. if is_in_placed (placed_in segments 1) (start_place bases m start) then None else Some StartNotCode) s) is
+    ∙ ap (λ (x : Bool). if x then None else Some StartNotCode) (sym here)
+
+pub by_last_two : (options : Options) (m : ModuleValue) (start : ℕ × ℕ) (high inside : Bool) → m.externals ≡ [] → m.start ≡ Some start → layout_fault options m ≡ None →
+    high ≡ list_any (λ c. list_any (loses_low_byte (program_bases options m) m) c.fixups) m.contents →
+    inside ≡ is_in_placed (placed_in (layout_of options m) 1) (start_place (program_bases options m) m start) →
+    locate_fault options m ≡ option_or (if high then Some HighNotPaged else None) (if inside then None else Some StartNotCode)
+by_last_two options m start high inside closed is laid loses here =
+    past_three options m start closed is laid
+    ∙ ap (λ o. option_or o (start_not_code (program_bases options m) m (layout_of options m))) (high_is (program_bases options m) m high loses)
+    ∙ ap (λ o. option_or (if high then Some HighNotPaged else None) o) (start_is (program_bases options m) m (layout_of options m) start inside is here)
+
+-- ---- contents fit their places
+
+from_tests : {A : Type 0} (test : A → Bool) (P : A → Type 0) → ((x : A) → IsTrue (test x) → P x) → (xs : List A) → IsTrue (list_all test xs) → AllByRecursion P xs
+from_tests test P gives [] all = _
+from_tests test P gives (x ∷ xs) all =
+    let parts = and_parts (test x) (list_all test xs) all in
+    (gives x parts.0, from_tests test P gives xs parts.1)
+
+can_be_placed : (options : Options) (m : ModuleValue) (i : ℕ) (d : ContentValue) → IsTrue (is_sound m) → find (is_outside m.contents) (layout_of options m) ≡ None → i < length m.contents →
+    CanBePlaced (layout_of options m) (get_or m.contents i d)
+can_be_placed options m i d sound none below =
+    let c : ContentValue = get_or m.contents i d in
+    let segments : List Placed = layout_of options m in
+    let good = test_at (is_content m.segments m.commons (length m.externals)) m.contents i d (sound_contents m sound) below in
+    let lies = content_lies m.segments m.commons (length m.externals) c good in
+    record {
+      begin = from_tests (λ f. nat_le c.offset f.offset) (λ f. c.offset ≤ f.offset) (λ f h. leb-true c.offset f.offset h) c.fixups (content_above m.segments m.commons (length m.externals) c good);
+      inside = content_inside m.segments m.commons (length m.externals) c (λ f. target_by segments f.target) good;
+      apart = content_apart m.segments m.commons (length m.externals) c (λ f. target_by segments f.target) good;
+      in_record = lies.in_record;
+      in_memory = subst (λ n. n + length c.bytes ≤ 65536) (place_of_id segments m c.segment c.offset (sound_commons m sound) lies.has) (content_in_memory options m i d sound none below);
+    }
+
+pub all_can_be_placed : (options : Options) (m : ModuleValue) → IsTrue (is_sound m) → layout_fault options m ≡ None → AllByRecursion (CanBePlaced (layout_of options m)) m.contents
+all_can_be_placed options m sound laid =
+    let d : ContentValue = record { segment = 0; offset = 0; bytes = []; fixups = [] } in
+    recursion_from_All (CanBePlaced (layout_of options m)) m.contents
+    (All-from_get_or (CanBePlaced (layout_of options m)) m.contents d (λ i below. can_be_placed options m i d sound (in_memory_and_apart options m laid).0 below))
+
+-- ---- as the calls tell it
+
+pub no_first : {A : Type 0} (xs : List A) → slice_get xs 0 ≡ None → xs ≡ []
+no_first [] none = refl
+no_first (x ∷ xs) none = absurd cc
+
+pub high_told : (options : Options) (m : ModuleValue) (segments : List Placed) (contents : List ContentValue) (b : Bool) → IsTrue (is_sound m) → m.externals ≡ [] →
+    segments ≡ layout_of options m → contents ≡ m.contents → b ≡ list_any (λ c. list_any (loses_by segments) c.fixups) contents →
+    b ≡ list_any (λ c. list_any (loses_low_byte (program_bases options m) m) c.fixups) m.contents
+high_told options m segments contents b sound closed places same told =
+    told
+    ∙ ap (λ (s : List Placed). list_any (λ c. list_any (loses_by s) c.fixups) contents) places
+    ∙ ap (λ (l : List ContentValue). list_any (λ c. list_any (loses_by (layout_of options m)) c.fixups) l) same
+    ∙ any_loses_same (layout_of options m) m sound closed
+
+pub place_told : (options : Options) (m : ModuleValue) (segments : List Placed) (id offset place : ℕ) → segments ≡ layout_of options m → place ≡ place_by segments id offset → place ≡ place_by (layout_of options m) id offset
+place_told options m segments id offset place places told = told ∙ ap (λ (s : List Placed). place_by s id offset) places
+
+pub inside_told : (options : Options) (m : ModuleValue) (segments : List Placed) (id offset place : ℕ) (p : Placed) (b : Bool) → IsTrue (is_sound m) → m.start ≡ Some (id, offset) →
+    segments ≡ layout_of options m → place ≡ place_by (layout_of options m) id offset → p ≡ placed_in segments 1 → b ≡ is_in_placed p place →
+    b ≡ is_in_placed (placed_in (layout_of options m) 1) (start_place (program_bases options m) m (id, offset))
+inside_told options m segments id offset place p b sound is places placed code told =
+    told
+    ∙ ap (λ (q : Placed). is_in_placed q place) (code ∙ ap (λ (s : List Placed). placed_in s 1) places)
+    ∙ ap (λ (n : ℕ). is_in_placed (placed_in (layout_of options m) 1) n) (placed ∙ start_same (layout_of options m) m id offset sound is)
+
+pub chunks_told : (options : Options) (m : ModuleValue) (segments : List Placed) (contents : List ContentValue) (chunks : List PlacedBytes) → IsTrue (is_sound m) → m.externals ≡ [] →
+    segments ≡ layout_of options m → contents ≡ m.contents → chunks ≡ map (chunk_by segments) contents → chunks ≡ located_chunks options m
+chunks_told options m segments contents chunks sound closed places same told =
+    told
+    ∙ ap (λ (s : List Placed). map (chunk_by s) contents) places
+    ∙ ap (map (chunk_by (layout_of options m))) same
+    ∙ chunks_same options m sound closed
+
+-- ranges of a layout without a fault
+pub record Fit (segments : List Placed) : Type 0 where
+  pub ends : All EndsInMemory segments
+  pub words : All HasWord segments
+  pub apart : find (λ pq. overlaps pq.0 pq.1) (pairs segments) ≡ None
+
+pub laid_fit : (options : Options) (m : ModuleValue) (segments : List Placed) → segments ≡ layout_of options m → AllByRecursion (λ p. p.length < 65536) segments → layout_fault options m ≡ None → Fit segments
+laid_fit options m segments places lengths laid =
+    let parts = in_memory_and_apart options m laid in
+    record {
+      ends = subst (λ (s : List Placed). All EndsInMemory s) (sym places) (ends_in_memory m.contents (layout_of options m) parts.0);
+      words = All-from_recursion HasWord segments lengths;
+      apart = subst (λ (s : List Placed). find (λ (pq : Placed × Placed). overlaps pq.0 pq.1) (pairs s) ≡ None) (sym places) parts.1;
+    }

@@ -1,0 +1,7 @@
+use Rattle.std.proofs.Common.{◌≡◌, ◌++◌, drop}
+use Rattle.place80.specs.Locating.{located_code}
+use Rattle.place80.proofs.located_regions.code_ranges.Given as goal
+
+-- the ranges so far, and those of the segments that are left
+abbrev pub invariant-loop-placed : goal.invariant-loop-placed
+invariant-loop-placed l = l.ranges.items ++ located_code (drop l.placed-index l.segments) ≡ located_code l.segments

@@ -1,0 +1,131 @@
+use Rattle.std.specs.Prelude.{◌≡◌, ℕ, Bool, true, false, Some, None, Option, List, [], slice_get, option_copied, ◌<◌, refl}
+use Rattle.std.specs.List.{AllByRecursion}
+use Rattle.std.proofs.Common.{◌∙◌, ap, sym, subst, inr}
+use Rattle.omf_module.specs.Contents.{ContentValue}
+use Rattle.place80.specs.declared.placed.Placed.{Placed}
+use Rattle.place80.specs.Image.{PlacedBytes, byte_at}
+use Rattle.place80.specs.Layout.{layout_of}
+use Rattle.place80.specs.Locating.{CanBePlaced}
+use Rattle.place80.proofs.LocatingLemmas.{start_found, by_last_two, all_can_be_placed, no_first, high_told, place_told, inside_told, chunks_told, laid_fit}
+use Rattle.place80.proofs.LocatedDisjoint.{code_not_empty, data_not_empty, code_in_memory, data_in_memory, stack_in_memory}
+use Rattle.place80.proofs.LocatedApart.{disjoint_located}
+use Rattle.place80.proofs.BytesLemmas.{located_byte}
+use Rattle.place80.proofs.locating.locate.Goals as goal
+
+pub returns-then-any_loses_its_low_byte-clause-fault : goal.returns-then-any_loses_its_low_byte-clause-fault
+returns-then-any_loses_its_low_byte-clause-fault c =
+    let m = c.args.program.now in
+    let options = c.args.options.now in
+    let start : ℕ × ℕ = (c.in-Some-start.segment, c.in-Some-start.offset) in
+    let sound = c.externals.ensures.rules.sound in
+    let closed : m.externals ≡ [] = no_first m.externals (ap (λ (l : List (List ℕ)). slice_get l 0) (sym c.externals.ensures.value) ∙ sym c.first.ensures.value ∙ ap option_copied c.in_default.is) in
+    let is : m.start ≡ Some start = sym c.start.ensures.value ∙ c.in-Some-start.is in
+    let laid = c.in_ok-segments.ensures.none in
+    let places = c.in_ok-segments.ensures.places in
+    let loses = high_told options m c.deref.result.now c.contents.result.now c.any_loses_its_low_byte.result sound closed (c.deref.ensures.value ∙ places) c.contents.ensures.value c.any_loses_its_low_byte.ensures in
+    inr (by_last_two options m start true _ closed is laid (sym c.if-any_loses_its_low_byte.true ∙ loses) refl)
+
+pub returns-then-not-is_in_placed-clause-fault : goal.returns-then-not-is_in_placed-clause-fault
+returns-then-not-is_in_placed-clause-fault c =
+    let m = c.args.program.now in
+    let options = c.args.options.now in
+    let start : ℕ × ℕ = (c.in-Some-start.segment, c.in-Some-start.offset) in
+    let sound = c.externals.ensures.rules.sound in
+    let closed : m.externals ≡ [] = no_first m.externals (ap (λ (l : List (List ℕ)). slice_get l 0) (sym c.externals.ensures.value) ∙ sym c.first.ensures.value ∙ ap option_copied c.in_default.is) in
+    let is : m.start ≡ Some start = sym c.start.ensures.value ∙ c.in-Some-start.is in
+    let laid = c.in_ok-segments.ensures.none in
+    let places = c.in_ok-segments.ensures.places in
+    let loses = high_told options m c.deref.result.now c.contents.result.now c.any_loses_its_low_byte.result sound closed (c.deref.ensures.value ∙ places) c.contents.ensures.value c.any_loses_its_low_byte.ensures in
+    let place = place_told options m c.deref-2.result.now start.0 start.1 c.place_of-start.result (c.deref-2.ensures.value ∙ places) c.place_of-start.ensures in
+    let inside = inside_told options m c.deref-3.result.now start.0 start.1 c.place_of-start.result c.placed_in.result c.is_in_placed.result sound is (c.deref-3.ensures.value ∙ places) place c.placed_in.ensures c.is_in_placed.ensures in
+    inr (by_last_two options m start false false closed is laid (sym c.if-any_loses_its_low_byte.false ∙ loses) (sym c.if-not-is_in_placed.true ∙ inside))
+
+pub located_chunks-requires : goal.located_chunks-requires
+located_chunks-requires c =
+    subst (λ (l : List ContentValue). AllByRecursion (CanBePlaced c.deref-4.result.now) l) (sym c.contents-2.ensures.value)
+    (subst (λ (s : List Placed). AllByRecursion (CanBePlaced s) c.args.program.now.contents) (sym (c.deref-4.ensures.value ∙ c.in_ok-segments.ensures.places))
+    (all_can_be_placed c.args.options.now c.args.program.now c.contents-2.ensures.rules.sound c.in_ok-segments.ensures.none))
+
+pub located_regions-requires-clause-code_filled : goal.located_regions-requires-clause-code_filled
+located_regions-requires-clause-code_filled c = code_not_empty c.deref-5.result.now
+
+pub located_regions-requires-clause-data_filled : goal.located_regions-requires-clause-data_filled
+located_regions-requires-clause-data_filled c = data_not_empty c.deref-5.result.now
+
+pub located_regions-requires-clause-code_in_memory : goal.located_regions-requires-clause-code_in_memory
+located_regions-requires-clause-code_in_memory c =
+    let fit = laid_fit c.args.options.now c.args.program.now c.deref-5.result.now (c.deref-5.ensures.value ∙ c.in_ok-segments.ensures.places) (subst (λ (s : List Placed). AllByRecursion (λ p. p.length < 65536) s) (sym c.deref-5.ensures.value) c.in_ok-segments.ensures.lengths) c.in_ok-segments.ensures.none in
+    code_in_memory c.deref-5.result.now fit.ends fit.words
+
+pub located_regions-requires-clause-stack_in_memory : goal.located_regions-requires-clause-stack_in_memory
+located_regions-requires-clause-stack_in_memory c =
+    let fit = laid_fit c.args.options.now c.args.program.now c.deref-5.result.now (c.deref-5.ensures.value ∙ c.in_ok-segments.ensures.places) (subst (λ (s : List Placed). AllByRecursion (λ p. p.length < 65536) s) (sym c.deref-5.ensures.value) c.in_ok-segments.ensures.lengths) c.in_ok-segments.ensures.none in
+    stack_in_memory c.deref-5.result.now fit.ends fit.words
+
+pub located_regions-requires-clause-data_in_memory : goal.located_regions-requires-clause-data_in_memory
+located_regions-requires-clause-data_in_memory c =
+    let fit = laid_fit c.args.options.now c.args.program.now c.deref-5.result.now (c.deref-5.ensures.value ∙ c.in_ok-segments.ensures.places) (subst (λ (s : List Placed). AllByRecursion (λ p. p.length < 65536) s) (sym c.deref-5.ensures.value) c.in_ok-segments.ensures.lengths) c.in_ok-segments.ensures.none in
+    data_in_memory c.deref-5.result.now fit.ends fit.words
+
+pub located_regions-requires-clause-disjoint : goal.located_regions-requires-clause-disjoint
+located_regions-requires-clause-disjoint c =
+    let fit = laid_fit c.args.options.now c.args.program.now c.deref-5.result.now (c.deref-5.ensures.value ∙ c.in_ok-segments.ensures.places) (subst (λ (s : List Placed). AllByRecursion (λ p. p.length < 65536) s) (sym c.deref-5.ensures.value) c.in_ok-segments.ensures.lengths) c.in_ok-segments.ensures.none in
+    disjoint_located c.deref-5.result.now fit.ends fit.apart
+
+pub returns-clause-chunks : goal.returns-clause-chunks
+returns-clause-chunks c =
+    let m = c.args.program.now in
+    let options = c.args.options.now in
+    let start : ℕ × ℕ = (c.in-Some-start.segment, c.in-Some-start.offset) in
+    let sound = c.externals.ensures.rules.sound in
+    let closed : m.externals ≡ [] = no_first m.externals (ap (λ (l : List (List ℕ)). slice_get l 0) (sym c.externals.ensures.value) ∙ sym c.first.ensures.value ∙ ap option_copied c.in_default.is) in
+    let is : m.start ≡ Some start = sym c.start.ensures.value ∙ c.in-Some-start.is in
+    let laid = c.in_ok-segments.ensures.none in
+    let places = c.in_ok-segments.ensures.places in
+    let loses = high_told options m c.deref.result.now c.contents.result.now c.any_loses_its_low_byte.result sound closed (c.deref.ensures.value ∙ places) c.contents.ensures.value c.any_loses_its_low_byte.ensures in
+    let chunks = chunks_told options m c.deref-4.result.now c.contents-2.result.now c.in_ok-located_chunks.field-0.items sound closed (c.deref-4.ensures.value ∙ places) c.contents-2.ensures.value c.in_ok-located_chunks.ensures in
+    chunks
+
+pub returns-clause-memory : goal.returns-clause-memory
+returns-clause-memory c =
+    let m = c.args.program.now in
+    let options = c.args.options.now in
+    let start : ℕ × ℕ = (c.in-Some-start.segment, c.in-Some-start.offset) in
+    let sound = c.externals.ensures.rules.sound in
+    let closed : m.externals ≡ [] = no_first m.externals (ap (λ (l : List (List ℕ)). slice_get l 0) (sym c.externals.ensures.value) ∙ sym c.first.ensures.value ∙ ap option_copied c.in_default.is) in
+    let is : m.start ≡ Some start = sym c.start.ensures.value ∙ c.in-Some-start.is in
+    let laid = c.in_ok-segments.ensures.none in
+    let places = c.in_ok-segments.ensures.places in
+    let loses = high_told options m c.deref.result.now c.contents.result.now c.any_loses_its_low_byte.result sound closed (c.deref.ensures.value ∙ places) c.contents.ensures.value c.any_loses_its_low_byte.ensures in
+    let chunks = chunks_told options m c.deref-4.result.now c.contents-2.result.now c.in_ok-located_chunks.field-0.items sound closed (c.deref-4.ensures.value ∙ places) c.contents-2.ensures.value c.in_ok-located_chunks.ensures in
+    λ address. ap (λ (l : List PlacedBytes). byte_at l address) chunks ∙ located_byte options m address
+
+pub returns-clause-start : goal.returns-clause-start
+returns-clause-start c =
+    let m = c.args.program.now in
+    let options = c.args.options.now in
+    let start : ℕ × ℕ = (c.in-Some-start.segment, c.in-Some-start.offset) in
+    let sound = c.externals.ensures.rules.sound in
+    let closed : m.externals ≡ [] = no_first m.externals (ap (λ (l : List (List ℕ)). slice_get l 0) (sym c.externals.ensures.value) ∙ sym c.first.ensures.value ∙ ap option_copied c.in_default.is) in
+    let is : m.start ≡ Some start = sym c.start.ensures.value ∙ c.in-Some-start.is in
+    let laid = c.in_ok-segments.ensures.none in
+    let places = c.in_ok-segments.ensures.places in
+    let loses = high_told options m c.deref.result.now c.contents.result.now c.any_loses_its_low_byte.result sound closed (c.deref.ensures.value ∙ places) c.contents.ensures.value c.any_loses_its_low_byte.ensures in
+    let place = place_told options m c.deref-2.result.now start.0 start.1 c.place_of-start.result (c.deref-2.ensures.value ∙ places) c.place_of-start.ensures in
+    let inside = inside_told options m c.deref-3.result.now start.0 start.1 c.place_of-start.result c.placed_in.result c.is_in_placed.result sound is (c.deref-3.ensures.value ∙ places) place c.placed_in.ensures c.is_in_placed.ensures in
+    ap (λ (n : ℕ). Some n) place ∙ start_found (layout_of options m) m start.0 start.1 sound is
+
+pub returns-clause-none : goal.returns-clause-none
+returns-clause-none c =
+    let m = c.args.program.now in
+    let options = c.args.options.now in
+    let start : ℕ × ℕ = (c.in-Some-start.segment, c.in-Some-start.offset) in
+    let sound = c.externals.ensures.rules.sound in
+    let closed : m.externals ≡ [] = no_first m.externals (ap (λ (l : List (List ℕ)). slice_get l 0) (sym c.externals.ensures.value) ∙ sym c.first.ensures.value ∙ ap option_copied c.in_default.is) in
+    let is : m.start ≡ Some start = sym c.start.ensures.value ∙ c.in-Some-start.is in
+    let laid = c.in_ok-segments.ensures.none in
+    let places = c.in_ok-segments.ensures.places in
+    let loses = high_told options m c.deref.result.now c.contents.result.now c.any_loses_its_low_byte.result sound closed (c.deref.ensures.value ∙ places) c.contents.ensures.value c.any_loses_its_low_byte.ensures in
+    let place = place_told options m c.deref-2.result.now start.0 start.1 c.place_of-start.result (c.deref-2.ensures.value ∙ places) c.place_of-start.ensures in
+    let inside = inside_told options m c.deref-3.result.now start.0 start.1 c.place_of-start.result c.placed_in.result c.is_in_placed.result sound is (c.deref-3.ensures.value ∙ places) place c.placed_in.ensures c.is_in_placed.ensures in
+    by_last_two options m start false true closed is laid (sym c.if-any_loses_its_low_byte.false ∙ loses) (sym c.if-not-is_in_placed.false ∙ inside)

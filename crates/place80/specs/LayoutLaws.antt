@@ -1,0 +1,45 @@
+-- What it means that segments are laid out, said of the whole list of them and of each two neighbours, and that segments
+-- overlap. (ISIS-II User's Guide, LOCATE: the order of segments, their bases, and the sizes of STACK and MEMORY.)
+use Rattle.std.specs.Prelude.{◌≡◌, ◌↔◌, ℕ, ◌+◌, true, unwrap_or, List, [], ◌∷◌, map}
+use Rattle.std.specs.List.{AllByRecursion}
+use Rattle.omf_module.specs.Modules.{ModuleValue}
+use Rattle.omf_module.specs.Place.{rounded}
+use Rattle.place80.specs.declared.options.Options.{Options}
+use Rattle.place80.specs.declared.placed.Placed.{Placed}
+use Rattle.place80.specs.Layout.{usual_base, order_of, given_base, given_length, own_segment, placed_in, layout_of}
+use Rattle.place80.specs.PlaceFault.{overlaps, is_in_placed}
+
+-- it has the length that is given for it, or its own
+abbrev pub HasItsLength : Options → ModuleValue → Placed → Type 0
+HasItsLength options m p = p.length ≡ unwrap_or (given_length options p.id) (own_segment m p.id).length
+
+-- it stands at the base that is given for it, or at the end of the one before it, at the next multiple of 256 where it is
+-- paged
+abbrev pub Follows : Options → ModuleValue → Placed → Placed → Type 0
+Follows options m before p = p.base ≡ unwrap_or (given_base options p.id) (rounded (own_segment m p.id).paged (before.base + before.length))
+
+-- each stands so after the one before it
+abbrev pub AllFollow : Options → ModuleValue → Placed → List Placed → Type 0
+AllFollow options m before [] = Unit {0}
+AllFollow options m before (p ∷ ps) = Follows options m before p × AllFollow options m p ps
+
+-- the segments of the program in their order, CODE at the base that is given for it or at 3000h
+pub record IsLaidOut (options : Options) (m : ModuleValue) (segments : List Placed) : Type 0 where
+  pub code : Placed
+  pub others : List Placed
+  pub whole : segments ≡ code ∷ others
+  pub order : map (λ p. p.id) segments ≡ order_of m.commons
+  pub lengths : AllByRecursion (HasItsLength options m) segments
+  pub first : code.base ≡ unwrap_or options.code usual_base
+  pub follow : AllFollow options m code others
+
+-- the layout is laid out, and no other list of segments is
+abbrev pub LayoutIsLaidOut : Type 0
+LayoutIsLaidOut = (options : Options) (m : ModuleValue) → IsLaidOut options m (layout_of options m)
+
+abbrev pub LaidOutInOneWay : Type 0
+LaidOutInOneWay = (options : Options) (m : ModuleValue) (segments : List Placed) → IsLaidOut options m segments → segments ≡ layout_of options m
+
+-- two segments overlap exactly where an address lies in both
+abbrev pub OverlapIsASharedAddress : Type 0
+OverlapIsASharedAddress = (p q : Placed) → overlaps p q ≡ true ↔ ((address : ℕ) × (is_in_placed p address ≡ true) × (is_in_placed q address ≡ true))

@@ -1,0 +1,19 @@
+use crate::chunk::Chunk;
+use omf_core::Name;
+use std::marker::Model;
+
+/// What an object file holds of an image: all but its regions.
+#[derive(Drop)]
+pub(crate) struct AbsoluteProgram {
+    pub name: Name,
+    pub chunks: Vec<Chunk>,
+    pub start: u16,
+}
+
+impl Model for AbsoluteProgram {
+    ghost use Rattle.place80.specs.ImageFile.{AbsoluteProgram};
+
+    ghost Value = { AbsoluteProgram };
+
+    ghost view = { λ p. record { name = p.name; chunks = p.chunks.items; start = p.start } };
+}
