@@ -10,3 +10,4 @@ pub mod RunLemmas
 pub mod TranscriptLemmas
 pub mod SendsLemmas
 mod ListingLemmas
+mod NumberLemmas

@@ -32,7 +32,7 @@ lines_from-line memory at (suc left) (suc n) rest below e some sum =
     let inside : line_length (instruction_of (bytes_from memory at) (suc left)) - 1 ≡ n = omega arith in
     ap (λ (k : ℕ). line ++ lines_from memory ((at + 1) % 65536) k left) inside
     ∙ ap (λ (after : List ℕ). line ++ after) (lines_from-inside memory ((at + 1) % 65536) n left rest (omega arith) (omega arith)
-        ∙ ap (λ (a : ℕ). lines_from memory a 0 rest) (address-next at n))
+    ∙ ap (λ (a : ℕ). lines_from memory a 0 rest) (address-next at n))
 
 -- the line of a byte that begins no instruction
 pub list_line-alone : (at : ℕ) (bytes before : List ℕ) (found : Option (Instr × ℕ)) → found ≡ None →

@@ -14,3 +14,4 @@ pub mod Sends
 pub mod Bundle
 pub mod Status
 pub mod Listing
+pub mod NumberText

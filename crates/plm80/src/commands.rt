@@ -5,6 +5,7 @@ mod files;
 mod list_text;
 mod listing;
 mod locating;
+mod number_text;
 mod numbers;
 mod running;
 mod words;

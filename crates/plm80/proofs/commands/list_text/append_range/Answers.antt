@@ -11,7 +11,7 @@ loop-left-preserved c =
     let rest : List ℕ = lines_from memory ((c.loop-left.at + n) % 65536) 0 (c.loop-left.left - n) in
     let within : n ≤ c.loop-left.left = c.in_ok-length.ensures.within in
     let step : lines_from memory c.loop-left.at 0 c.loop-left.left ≡ line ++ rest =
-        lines_from-line memory c.loop-left.at c.loop-left.left n (c.loop-left.left - n) (search rules) c.in_ok-length.ensures.length c.in_ok-length.ensures.some.0 (omega arith) in
+    lines_from-line memory c.loop-left.at c.loop-left.left n (c.loop-left.left - n) (search rules) c.in_ok-length.ensures.length c.in_ok-length.ensures.some.0 (omega arith) in
     let made : c.append_line.new.text.items ≡ c.loop-left.text.items ++ line = search rules in
     ap (λ (t : List ℕ). t ++ rest) made ∙ append_assoc c.loop-left.text.items line rest ∙ ap (λ (t : List ℕ). c.loop-left.text.items ++ t) (sym step) ∙ c.loop-left.invariant
 
