@@ -6,8 +6,8 @@ use Rattle.omf_module.specs.Modules.{ModuleValue}
 use Rattle.omf_module.specs.Place.{rounded}
 use Rattle.place80.specs.declared.options.Options.{Options}
 use Rattle.place80.specs.declared.placed.Placed.{Placed}
-use Rattle.place80.specs.Layout.{usual_base, common_ids, order_of, given_base, given_length, own_segment, placed_after, placed_from, layout_of}
-use Rattle.place80.specs.LayoutLaws.{HasItsLength, Follows, AllFollow, IsLaidOut}
+use Rattle.place80.specs.Layout.{usual_base, common_ids, order_of, given_length, own_segment, placed_after, placed_from, layout_of}
+use Rattle.place80.specs.LayoutLaws.{HasItsLength, AllFollow, IsLaidOut}
 
 ids_from : (options : Options) (m : ModuleValue) (before : ℕ) (ids : List ℕ) → map (λ p. p.id) (placed_from options m before ids) ≡ ids
 ids_from options m before [] = refl

@@ -1,20 +1,20 @@
 -- The placed segments of a program.
-use Rattle.std.proofs.Common.{◌≡◌, ◌≢◌, ℕ, zero, suc, ◌+◌, ◌<◌, ◌≤◌, Bool, true, false, cond, ◌||◌, List, [], ◌∷◌, ◌++◌, map, refl, sym, ap, subst, ◌∙◌, arith, inl, inr, eqb-true}
+use Rattle.std.proofs.Common.{◌≡◌, ◌≢◌, ℕ, zero, suc, ◌+◌, ◌<◌, ◌≤◌, Bool, true, false, cond, ◌||◌, List, [], ◌∷◌, ◌++◌, refl, sym, ap, subst, ◌∙◌, arith, inl, inr, eqb-true}
 use Rattle.std.specs.Prelude.{◌==◌, Option, None, Some, filter, find, unwrap_or, option_map, All, IsTrue}
-use Rattle.std.specs.List.{list_any, range_with_len, flat_map}
+use Rattle.std.specs.List.{list_any, range_with_len}
 use Rattle.std.specs.Option.{option_or}
 use Rattle.std.proofs.lemmas.Bool.{cases_Bool, eqb-false}
 use Rattle.std.proofs.lemmas.Bool.Decides.{nat_tests}
 use Rattle.std.proofs.lemmas.List.Elements.{All-nil, All-cons, All-weaker}
 use Rattle.std.proofs.lemmas.List.Folds.{find-append}
-use Rattle.omf_module.specs.Segments.{segment_in, has_segment, names_common, is_fixed_id}
+use Rattle.omf_module.specs.Segments.{has_segment, names_common, is_fixed_id}
 use Rattle.omf_module.specs.Modules.{ModuleValue}
 use Rattle.omf_module.specs.Rules.{each_after, is_new_common}
 use Rattle.place80.specs.declared.options.Options.{Options}
 use Rattle.place80.specs.declared.placed.Placed.{Placed}
 use Rattle.place80.specs.Layout.{usual_base, common_ids, order_of, given_length, own_segment, common_numbers, placed_after, placed_from, layout_of}
 use Rattle.place80.specs.PlaceFault.{ids_of, overlap_of, first_shared, with_each, is_outside, overlaps, pairs, all_pairs, absolute_places, outside_memory, overlap, layout_fault}
-use Rattle.place80.specs.declared.place_fault.PlaceFault.TheVariants.{OutsideMemory, Overlap}
+use Rattle.place80.specs.declared.place_fault.PlaceFault.TheVariants.{OutsideMemory}
 use Rattle.place80.proofs.LocatedDisjoint.{HasWord}
 use Rattle.place80.proofs.SoundLemmas.{named_id}
 

@@ -1,8 +1,8 @@
 -- The one module that is located: its words, patches, chunks and start by its placed segments, and the causes in their order.
-use Rattle.std.specs.Prelude.{◌≡◌, ◌⊎◌, ℕ, ◌+◌, ◌-◌, ◌%◌, ◌==◌, Bool, true, false, not, ◌&&◌, ◌||◌, if◌then◌else◌, Option, Some, None, option_map, option_and_then, is_none, List, [], ◌∷◌, ◌++◌, map, find, length, slice_get, nat_le, ◌≤◌, IsTrue, All, refl}
+use Rattle.std.specs.Prelude.{◌≡◌, ℕ, ◌+◌, ◌-◌, ◌%◌, ◌==◌, Bool, true, not, ◌&&◌, ◌||◌, if◌then◌else◌, Option, Some, None, option_map, option_and_then, is_none, List, [], ◌∷◌, map, find, length, slice_get, nat_le, ◌≤◌, IsTrue, All, refl}
 use Rattle.std.specs.List.{list_all, list_any, AllByRecursion}
 use Rattle.std.specs.Option.{option_or}
-use Rattle.std.proofs.Common.{◌∙◌, ap, sym, subst, cond, arith, ◌<◌, get_or}
+use Rattle.std.proofs.Common.{◌∙◌, ap, sym, subst, arith, ◌<◌, get_or}
 use Rattle.std.proofs.lemmas.Bool.{and_parts, ltb-true, leb-true}
 use Rattle.std.proofs.lemmas.List.Elements.{All-from_get_or, All-from_recursion, recursion_from_All}
 use Rattle.std.proofs.lemmas.List.{append-nil}
@@ -14,9 +14,9 @@ use Rattle.omf_module.specs.Contents.{ContentValue}
 use Rattle.omf_module.specs.Patches.{with_patches}
 use Rattle.omf_module.specs.Segments.{has_segment}
 use Rattle.omf_module.specs.Modules.{ModuleValue}
-use Rattle.omf_module.specs.Rules.{each_after, is_new_common, has_target, is_content, is_start, is_sound, IsModule}
+use Rattle.omf_module.specs.Rules.{has_target, is_content, is_start, is_sound}
 use Rattle.omf_module.specs.Place.{Bases, place_in}
-use Rattle.omf_module.specs.ImageByte.{target_word, patch_of, ByteChunk, chunk_of, chunks_of}
+use Rattle.omf_module.specs.ImageByte.{target_word, patch_of, chunk_of}
 use Rattle.place80.specs.declared.options.Options.{Options}
 use Rattle.place80.specs.declared.placed.Placed.{Placed}
 use Rattle.place80.specs.Image.{PlacedBytes}

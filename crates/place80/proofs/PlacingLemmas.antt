@@ -1,7 +1,7 @@
 -- The places of segments, one after another.
-use Rattle.std.specs.Prelude.{◌≡◌, ℕ, suc, ◌+◌, ◌-◌, ◌<◌, ◌≤◌, Bool, true, false, List, [], ◌∷◌, ◌++◌, filter, length, refl}
+use Rattle.std.specs.Prelude.{◌≡◌, ℕ, suc, ◌+◌, ◌-◌, ◌<◌, ◌≤◌, Bool, true, false, List, [], ◌∷◌, ◌++◌, filter, refl}
 use Rattle.std.specs.List.{range_with_len}
-use Rattle.std.proofs.Common.{cond, ◌∙◌, ap, sym, arith, append_assoc}
+use Rattle.std.proofs.Common.{cond, ap, sym, arith, append_assoc}
 use Rattle.omf_module.specs.declared.symbols.Common.{Common}
 use Rattle.omf_module.specs.Segments.{names_common}
 use Rattle.omf_module.specs.Modules.{ModuleValue}

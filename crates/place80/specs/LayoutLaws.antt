@@ -6,7 +6,7 @@ use Rattle.omf_module.specs.Modules.{ModuleValue}
 use Rattle.omf_module.specs.Place.{rounded}
 use Rattle.place80.specs.declared.options.Options.{Options}
 use Rattle.place80.specs.declared.placed.Placed.{Placed}
-use Rattle.place80.specs.Layout.{usual_base, order_of, given_base, given_length, own_segment, placed_in, layout_of}
+use Rattle.place80.specs.Layout.{usual_base, order_of, given_base, given_length, own_segment, layout_of}
 use Rattle.place80.specs.PlaceFault.{overlaps, is_in_placed}
 
 -- it has the length that is given for it, or its own

@@ -602,43 +602,60 @@ fn the_last_byte_of_memory(rt: HostRuntime) -> Result<(), Fail> {
     Ok(())
 }
 
+/// STACK past the end of memory, unless an earlier cause holds.
+const OUTSIDE: Options = Options {
+    stack: Some(0xFFFF),
+    stack_size: Some(2),
+    ..USUAL
+};
+
+/// A program of one byte of CODE and one of DATA that starts there.
+fn starting_at(alloc: Global, start: Option<(u8, u16)>) -> Result<Parts, Fail> {
+    let mut parts = parts(alloc, &[segment(1, 1), segment(2, 1)], &[0x76])?;
+    parts.start = start;
+    Ok(parts)
+}
+
 #[test]
-fn causes_in_their_order(rt: HostRuntime) -> Result<(), Fail> {
-    let alloc = rt.alloc();
-    let code = [segment(1, 1), segment(2, 1)];
-    let outside = Options {
-        stack: Some(0xFFFF),
-        stack_size: Some(2),
-        ..USUAL
-    };
-    let mut open = parts(alloc, &code, &[0x76])?;
-    open.externals.push(Name::new(alloc, b"B")?)?;
-    open.start = None;
-    let open = module(open, alloc)?;
+fn an_external_is_told_first(rt: HostRuntime) -> Result<(), Fail> {
+    let mut parts = starting_at(rt.alloc(), None)?;
+    parts.externals.push(Name::new(rt.alloc(), b"B")?)?;
+    let program = module(parts, rt.alloc())?;
+    let fault = locate(rt.alloc(), &program, &OUTSIDE).err();
     assert_eq!(rt;
-        locate(alloc, &open, &outside).err(),
-        Some(PlaceFault::Unresolved(Name::new(alloc, b"B")?))
+        fault,
+        Some(PlaceFault::Unresolved(Name::new(rt.alloc(), b"B")?))
     );
-    let mut no_main = parts(alloc, &code, &[0x76])?;
-    no_main.start = None;
-    let no_main = module(no_main, alloc)?;
-    assert_eq!(rt;
-        locate(alloc, &no_main, &outside).err(),
-        Some(PlaceFault::NoStart)
-    );
+    Ok(())
+}
+
+#[test]
+fn a_module_without_a_start_is_told_next(rt: HostRuntime) -> Result<(), Fail> {
+    let program = module(starting_at(rt.alloc(), None)?, rt.alloc())?;
+    let fault = locate(rt.alloc(), &program, &OUTSIDE).err();
+    assert_eq!(rt; fault, Some(PlaceFault::NoStart));
+    Ok(())
+}
+
+/// The fault of a program that starts there.
+fn fault_of_start(
+    alloc: Global,
+    start: (u8, u16),
+    options: &Options,
+) -> Result<Option<PlaceFault>, Fail> {
+    let program = module(starting_at(alloc, Some(start))?, alloc)?;
+    Ok(locate(alloc, &program, options).err())
+}
+
+#[test]
+fn a_start_outside_code_is_told_last(rt: HostRuntime) -> Result<(), Fail> {
     for start in [(1, 1), (2, 0), (0, 0x2FFF), (3, 0)] {
-        let mut parts = parts(alloc, &code, &[0x76])?;
-        parts.start = Some(start);
-        let program = module(parts, alloc)?;
-        assert_eq!(rt;
-            locate(alloc, &program, &outside).err(),
-            Some(PlaceFault::OutsideMemory(3))
-        );
-        assert_eq!(rt;
-            locate(alloc, &program, &USUAL).err(),
-            Some(PlaceFault::StartNotCode)
-        );
+        let fault = fault_of_start(rt.alloc(), start, &USUAL)?;
+        assert_eq!(rt; fault, Some(PlaceFault::StartNotCode));
     }
+    let fault = fault_of_start(rt.alloc(), (1, 1), &OUTSIDE)?;
+    assert_eq!(rt; fault, Some(PlaceFault::OutsideMemory(3)));
+    assert!(rt; fault_of_start(rt.alloc(), (0, 0x3000), &USUAL)?.is_none());
     Ok(())
 }
 

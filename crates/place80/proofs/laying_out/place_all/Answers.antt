@@ -1,7 +1,7 @@
-use Rattle.std.proofs.Common.{ap, sym, subst, ◌∙◌, ◌++◌, ◌≤◌, ◌<◌, ◌≡◌, List, ℕ, arith}
+use Rattle.std.proofs.Common.{ap, sym, subst, ◌∙◌, ◌++◌, ◌<◌, List, arith}
 use Rattle.std.specs.List.{AllByRecursion}
 use Rattle.place80.specs.declared.placed.Placed.{Placed}
-use Rattle.place80.specs.Layout.{placed_from, order_of, layout_of}
+use Rattle.place80.specs.Layout.{placed_from, order_of}
 use Rattle.place80.proofs.PlacingLemmas.{whole_layout}
 use Rattle.place80.proofs.laying_out.place_all.Goals as goal
 

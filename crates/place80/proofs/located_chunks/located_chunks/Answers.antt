@@ -1,4 +1,4 @@
-use Rattle.std.specs.Prelude.{◌≡◌, ◌++◌, ◌+◌, List, map, drop}
+use Rattle.std.specs.Prelude.{◌++◌, ◌+◌, List, map, drop}
 use Rattle.std.proofs.Common.{◌∙◌, ap}
 use Rattle.place80.specs.Image.{PlacedBytes}
 use Rattle.place80.specs.Locating.{chunk_by}

@@ -1,4 +1,4 @@
-use Rattle.std.proofs.Common.{◌≡◌, ◌≤◌, ◌++◌, map, drop}
+use Rattle.std.proofs.Common.{◌≡◌, ◌++◌, map, drop}
 use Rattle.place80.specs.Locating.{patch_by}
 use Rattle.place80.proofs.located_chunks.patches_of.Given as goal
 

@@ -1,8 +1,8 @@
-use Rattle.std.specs.Prelude.{IfNone, ◌≡◌, ◌++◌, ◌∷◌, List}
+use Rattle.std.specs.Prelude.{◌++◌, ◌∷◌, List}
 use Rattle.std.proofs.Common.{subst, sym, ◌∙◌, ap}
 use Rattle.place80.specs.declared.range.Range.{Range}
 use Rattle.place80.specs.Regions.{AreDisjoint}
-use Rattle.place80.specs.Locating.{located_code, located_stack, located_data}
+use Rattle.place80.specs.Locating.{located_code, located_stack}
 use Rattle.place80.proofs.LocatedLemmas.{none_of}
 use Rattle.place80.proofs.located_regions.located_regions.Goals as goal
 

@@ -1,4 +1,4 @@
-use Rattle.std.specs.Prelude.{◌≡◌, ℕ, Bool, true, false, Some, None, Option, List, [], slice_get, option_copied, ◌<◌, refl}
+use Rattle.std.specs.Prelude.{◌≡◌, ℕ, true, false, Some, List, [], slice_get, option_copied, ◌<◌, refl}
 use Rattle.std.specs.List.{AllByRecursion}
 use Rattle.std.proofs.Common.{◌∙◌, ap, sym, subst, inr}
 use Rattle.omf_module.specs.Contents.{ContentValue}
