@@ -1,5 +1,5 @@
 -- The module of an image keeps the rules of modules, and is read as the image.
-use Rattle.std.proofs.Common.{◌≡◌, ℕ, ◌+◌, ◌≤◌, ◌<◌, Bool, true, false, ◌&&◌, List, [], ◌∷◌, ◌++◌, length, map, drop, Option, Some, None, Result, Ok, Err, refl, sym, ap, subst, ◌∙◌, true≢false}
+use Rattle.std.proofs.Common.{◌≡◌, ℕ, ◌+◌, Bool, true, false, ◌&&◌, List, [], ◌∷◌, length, map, Some, Ok, Err, refl, sym, ap, subst, ◌∙◌, true≢false}
 use Rattle.std.specs.Prelude.{◌==◌, nat_le, not, if◌then◌else◌}
 use Rattle.std.specs.List.{list_all, AllByRecursion}
 use Rattle.std.proofs.lemmas.Bool.{and_parts, le-leb, leb-true, eqb-true}
@@ -8,13 +8,11 @@ use Rattle.omf_module.specs.declared.segment.Segment.{Segment}
 use Rattle.omf_module.specs.Contents.{ContentValue}
 use Rattle.omf_module.specs.Segments.{entries_for, listed_ids, in_one_form, has_segment}
 use Rattle.omf_module.specs.Modules.{ModuleValue, made_of}
-use Rattle.omf_module.specs.Rules.{IsModule, keeps_rules, is_sound, is_content, is_placed, is_fitting, is_start, each_after, is_new_common, end_of}
-use Rattle.omf_module.specs.Reading.{file_of}
-use Rattle.omf_module.specs.Writing.{file_bytes}
+use Rattle.omf_module.specs.Rules.{IsModule, keeps_rules, is_content, is_placed, is_fitting, is_start, each_after, is_new_common, end_of}
 use Rattle.omf_module.specs.Laws.{WrittenFileIsRead}
 use Rattle.place80.specs.declared.image_fault.ImageFault.TheVariants.{NotAbsolute}
 use Rattle.place80.specs.Image.{PlacedBytes, Located, IsChunk}
-use Rattle.place80.specs.ImageFile.{AbsoluteProgram, without_regions, chunk_content, content_chunk, image_module, image_bytes, is_absolute_content, is_absolute_start, is_absolute, program_from, program_of, program_in, image_of, WrittenImageIsRead}
+use Rattle.place80.specs.ImageFile.{without_regions, chunk_content, content_chunk, image_module, is_absolute_content, is_absolute_start, is_absolute, program_from, program_of, program_in, WrittenImageIsRead}
 
 -- ---- the module of an image
 

@@ -1,4 +1,4 @@
-use Rattle.std.proofs.Common.{Bool, false, ◌≡◌, ap, sym, ◌∙◌}
+use Rattle.std.proofs.Common.{ap, sym, ◌∙◌}
 use Rattle.omf_module.specs.Modules.{made_of}
 use Rattle.omf_module.specs.Rules.{keeps_rules}
 use Rattle.place80.proofs.ImageFileLemmas.{made_as_it_is, no_rule_broken}
