@@ -1,28 +1,30 @@
 # plm80: LINK, LOCATE and a verifying loader for 8080 programs.
 #
-#   make run     builds plm80 and runs it on the stored examples
-#   make test    proves every crate from nothing and runs every test
-#   make bench   builds plm80 and prints million steps per second of four loops
-#   make help    prints this
+#   make run       builds plm80 and runs it on the stored examples
+#   make test      proves every crate from nothing and runs every test
+#   make commands  builds plm80 and runs the tests of its commands alone
+#   make bench     builds plm80 and prints million steps per second of four loops
+#   make help      prints this
 
-.PHONY: help run test bench build
+.PHONY: help run test commands bench build
 
 help:
 	@sed -n 's/^#  //p' Makefile
 
 build:
+	@mkdir -p crates/plm80/out
 	@cd crates/plm80 && rt run > out/build.log 2>&1 || { tail -20 crates/plm80/out/build.log; exit 1; }
 
 run: build
-	@for bundle in examples/*.bundle; do \
-	    echo "plm80 < $$bundle"; \
-	    crates/plm80/out/plm80 < $$bundle; \
-	    echo "exit status $$?"; \
-	    echo; \
-	done
+	@examples/run crates/plm80/out/plm80
 
 test:
 	rt ci
+	@$(MAKE) --no-print-directory commands
+
+commands: build
+	@tests/commands/run crates/plm80/out/plm80
+	@tests/commands/walk crates/plm80/out/plm80
 
 bench: build
 	@bench/run crates/plm80/out/plm80

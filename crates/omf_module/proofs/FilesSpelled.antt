@@ -6,6 +6,7 @@ use Rattle.std.proofs.lemmas.Bool.{eqb-true}
 use Rattle.std.proofs.lemmas.List.{append-nil, length-append}
 use Rattle.omf_core.specs.Record.{SpellsRecord}
 use Rattle.omf_core.specs.Records.{RecordValue, SpellsRecords}
+use Rattle.omf_core.proofs.SpelledRecords.{lists_join}
 use Rattle.omf_module.specs.declared.fault.Cause.TheVariants.{NoEnd}
 use Rattle.omf_module.specs.declared.fault.ModuleFault.{ModuleFault}
 use Rattle.omf_module.specs.Modules.{ModuleValue}
@@ -29,10 +30,6 @@ pub spelled_is_read : SpelledIsRead
 spelled_is_read bytes at after records m spelled is = gathered_is_read bytes at after records m spelled (spelled_gathers at records m is)
 
 -- ---- records after records
-
-append_records : (bytes : List ℕ) (from mid to : ℕ) (rs ss : List RecordValue) → SpellsRecords bytes from mid rs → SpellsRecords bytes mid to ss → SpellsRecords bytes from to (rs ++ ss)
-append_records bytes from mid to [] ss a b = subst (λ n. SpellsRecords bytes n to ss) (sym a) b
-append_records bytes from mid to (r ∷ rs) ss a b = (a.0, append_records bytes (from + 4 + length r.body) mid to rs ss a.1 b)
 
 split_records : (bytes : List ℕ) (from to : ℕ) (rs ss : List RecordValue) → SpellsRecords bytes from to (rs ++ ss) → (mid : ℕ) × SpellsRecords bytes from mid rs × SpellsRecords bytes mid to ss
 split_records bytes from to [] ss all = (from, refl, all)
@@ -92,7 +89,7 @@ rest_of (suc n) bytes at read all is =
             after = o.after;
             whole = o.whole ∙ append_assoc read (m.0.0 ∷ []) o.modules;
             spelled = subst (λ (rs : List RecordValue). SpellsRecords bytes at o.after rs) (sym (append_assoc s.0 (joined o.lists) (ending o.last)))
-                (append_records bytes at m.0.1 o.after s.0 (joined o.lists ++ ending o.last) s.1 o.spelled);
+                (lists_join bytes at m.0.1 o.after s.0 (joined o.lists ++ ending o.last) s.1 o.spelled);
             each = (s.2, o.each);
           }
     ]
@@ -107,7 +104,7 @@ read_file_is_spelled bytes modules is =
       last = o.last;
       after = o.after;
       spelled = subst (λ (rs : List RecordValue). SpellsRecords bytes 0 o.after rs) (sym (append_assoc s.0 (joined o.lists) (ending o.last)))
-          (append_records bytes 0 m.0.1 o.after s.0 (joined o.lists ++ ending o.last) s.1 o.spelled);
+          (lists_join bytes 0 m.0.1 o.after s.0 (joined o.lists ++ ending o.last) s.1 o.spelled);
       each = (s.2, o.each);
       some = omega arith;
     }

@@ -29,6 +29,7 @@ pub mod GroupsRead
 pub mod ModulesSpelled
 pub mod GatheredOnce
 pub mod FilesSpelled
+pub mod WrittenSpelled
 pub mod WorkedSpelled
 pub mod PatchLemmas
 pub mod WorkedPlaces

@@ -6,6 +6,7 @@ use Rattle.omf_module.specs.Modules.{ModuleValue}
 use Rattle.omf_module.specs.Rules.{IsModule}
 use Rattle.omf_module.specs.Writing.{records_of, file_bytes}
 use Rattle.omf_module.specs.Reading.{module_at, file_of}
+use Rattle.omf_module.specs.Spelled.{SpellsModule}
 
 -- A module that is written is read as the same module, wherever it stands.
 abbrev pub WrittenModuleIsRead : Type 0
@@ -13,6 +14,10 @@ WrittenModuleIsRead =
     (before after : List ℕ) (m : ModuleValue)
     → IsModule m
     → module_at (before ++ (spellings (records_of m) ++ after)) (length before) ≡ Ok (m, length before + length (spellings (records_of m)))
+
+-- The records that are written for a module spell it.
+abbrev pub WrittenRecordsSpell : Type 0
+WrittenRecordsSpell = (m : ModuleValue) → IsModule m → SpellsModule (records_of m) m
 
 -- A file that is written is read as the same modules.
 abbrev pub WrittenFileIsRead : Type 0

@@ -3,9 +3,12 @@
 
 ghost use Rattle.omf_module.specs.Spelled.{ReadIsSpelled, SpelledIsRead, SpelledIsOne, ReadFileIsSpelled, SpelledFileIsRead};
 ghost use Rattle.omf_module.specs.PatchLaws.{LowTwice, BothTwice, HighTwice};
-ghost use Rattle.omf_module.specs.Laws.{WrittenModuleIsRead, WrittenFileIsRead};
+ghost use Rattle.omf_module.specs.Laws.{WrittenModuleIsRead, WrittenRecordsSpell, WrittenFileIsRead};
 
-use omf_core::laws::{no_fault_exactly_at_records, written_is_spelled};
+use omf_core::laws::{
+    no_fault_exactly_at_records, one_list_at_each_stretch, written_is_spelled,
+    written_list_is_spelled,
+};
 
 /// A module that is written is read as the same module, wherever it stands in a file.
 pub fn written_module_is_read()
@@ -13,6 +16,16 @@ pub fn written_module_is_read()
 {
     written_is_spelled();
     no_fault_exactly_at_records();
+}
+
+/// The records that are written for a module spell it.
+pub fn written_records_spell()
+    ensures { WrittenRecordsSpell }
+{
+    written_is_spelled();
+    no_fault_exactly_at_records();
+    written_list_is_spelled();
+    one_list_at_each_stretch();
 }
 
 /// A file that is written is read as the same modules.

@@ -9,3 +9,5 @@ pub mod Headline
 pub mod RunLemmas
 pub mod TranscriptLemmas
 pub mod SendsLemmas
+mod ListingLemmas
+mod NumberLemmas

@@ -13,3 +13,5 @@ pub mod Session
 pub mod Sends
 pub mod Bundle
 pub mod Status
+pub mod Listing
+pub mod NumberText

@@ -1,7 +1,8 @@
 //! Hexadecimal digits, read and written.
-ghost use Rattle.std.specs.Prelude.{◌≡◌, IfOk, vec_items};
+ghost use Rattle.std.specs.Prelude.{◌≡◌, ◌<◌, true, IfOk, vec_items};
+ghost use Rattle.std.specs.Fmt.{digit_glyph};
 ghost use Rattle.std.specs.Option.{option_map};
-ghost use Rattle.plm80.specs.HexText.{bytes_spelled};
+ghost use Rattle.plm80.specs.HexText.{byte_digits, bytes_spelled, word_digits};
 
 use hex::FromHexError;
 use std::alloc::{AllocError, Global};
@@ -16,6 +17,35 @@ pub fn bytes_of_digits(alloc: Global, digits: &[u8]) -> Result<Option<Vec<u8>>, 
         Ok(bytes) => Ok(Some(bytes)),
         Err(FromHexError::OutOfMemory) => Err(AllocError),
         Err(_) => Ok(None),
+    }
+}
+
+/// A byte as two hexadecimal digits in upper case.
+pub fn digits_of_byte(byte: u8) -> [u8; 2]
+    ensures { result ≡ byte_digits byte }
+{
+    [digit_of(byte / 16), digit_of(byte % 16)]
+}
+
+/// A word as four hexadecimal digits in upper case.
+pub fn digits_of_word(word: u16) -> [u8; 4]
+    ensures { result ≡ word_digits word }
+{
+    let [high, low] = word.to_be_bytes();
+    let [first, second] = digits_of_byte(high);
+    let [third, fourth] = digits_of_byte(low);
+    [first, second, third, fourth]
+}
+
+/// The hexadecimal digit of a value below 16, in upper case.
+fn digit_of(value: u8) -> u8
+    requires { value < 16 }
+    ensures { result ≡ digit_glyph true value }
+{
+    if value < 10 {
+        b'0' + value
+    } else {
+        b'A' + (value - 10)
     }
 }
 

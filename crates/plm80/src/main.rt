@@ -17,6 +17,7 @@ ghost use Rattle.plm80.specs.Status.{run_status};
 mod bundle_text;
 mod bundling;
 mod checking;
+mod commands;
 mod digits;
 mod fault;
 mod inputs;
@@ -35,6 +36,7 @@ mod whole;
 mod writing;
 
 pub use bundling::{BUNDLE_LIMIT, bundle};
+use commands::{answer_words, fail, refuse_words};
 pub use fault::{BundleFault, SessionFault};
 pub use inputs::{InputsFault, read_inputs};
 use machine80::End;
@@ -43,8 +45,9 @@ pub use refusal::Refusal;
 pub use replying::{Outcome, Reply, SessionTexts, answer_texts};
 pub use running::{Ended, run};
 pub use serving::{TEXT_LIMIT, session};
+use std::alloc::AllocError;
 use std::env;
-use std::fmt::Display;
+use std::io::ErrorKind;
 use std::process::ExitCode;
 pub use stream::{Failed, Sink, Source};
 pub use vouched::{ProcRow, Vouched, vouch};
@@ -57,35 +60,34 @@ const STEPS: u64 = 1_000_000;
 /// The outputs that a bundle's run keeps at most.
 const OUTPUTS: usize = 65_536;
 
-/// With no words on the command line, runs the bundle on standard input and writes its transcript to standard output.
+/// With no words on the command line, runs the bundle on standard input and writes its transcript to standard output; with
+/// words, does what they ask for.
 ///
-/// The exit status is 0 where the run halted, 1 where the image is refused, 2 at a fault, 3 where the run ended at a port
-/// or at a store outside data, and 4 where its steps were used up. A fault is one line on standard error.
+/// The exit status is 0 where the run halted or a command is done, 1 where the image is refused, 2 at a fault, 3 where the
+/// run ended at a port or at a store outside data, and 4 where its steps were used up. A fault is one line on standard
+/// error.
 fn main(rt: HostRuntime) -> ExitCode {
-    if has_words(&rt) {
-        return fail(&rt, "NotYet");
+    let words = match env::args(&rt) {
+        Ok(words) => words.collect::<Vec<String>>(rt.alloc()),
+        Err(error) if error.kind() == ErrorKind::OutOfMemory => Err(AllocError),
+        Err(_) => return refuse_words(&rt),
+    };
+    match words {
+        Ok(words) if words.len() > 1 => answer_words(&rt, &words),
+        Ok(_) => run_bundle(&rt),
+        Err(AllocError) => fail(&rt, SessionFault::Memory),
     }
+}
+
+/// Runs the bundle on standard input, and gives the exit status.
+fn run_bundle(rt: &HostRuntime) -> ExitCode {
     let mut input = Reading::new(rt.stdin());
     let mut out = Writing::new(rt.stdout());
     match bundle(rt.alloc(), &mut input, &mut out, STEPS, OUTPUTS) {
         Ok(outcome) => ExitCode::from(status_of(outcome.end)),
         Err(BundleFault::Session(SessionFault::Refused(_))) => ExitCode::from(1),
-        Err(fault) => fail(&rt, fault),
+        Err(fault) => fail(rt, fault),
     }
-}
-
-/// Whether there are words on the command line; words that are no text are some.
-fn has_words(rt: &HostRuntime) -> bool {
-    match env::args(rt) {
-        Ok(words) => words.count() > 1,
-        Err(_) => true,
-    }
-}
-
-/// Prints a fault on standard error, and gives its exit status.
-fn fail(rt: &HostRuntime, fault: impl Display + Drop) -> ExitCode {
-    let _ = eprintln!(rt; "plm80: {fault}");
-    ExitCode::from(2)
 }
 
 /// The exit status of a run that ended so.

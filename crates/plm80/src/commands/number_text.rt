@@ -1,0 +1,36 @@
+//! Numbers from their texts, of digits alone.
+
+ghost use Rattle.std.specs.Prelude.{◌≡◌, ◌==◌, IfSome, IfNone, slice_index};
+ghost use Rattle.plm80.specs.NumberText.{IsCountText, IsWordText, count_value, word_value};
+
+/// The word that one to four hexadecimal digits write, in either case; `None` exactly for every other text.
+pub fn word_of_digits(text: &str) -> Option<u16>
+    ensures word { IfSome result (λ word. IsWordText text.now × (word ≡ word_value text.now)) }
+    ensures none { IfNone result (IsWordText text.now → ⊥) }
+{
+    if text.len() > 4 || has_plus(text.as_bytes()) {
+        return None;
+    }
+    u16::from_str_radix(text, 16).ok()
+}
+
+/// The number that decimal digits write, which 64 bits hold; `None` exactly for every other text.
+pub fn count_of_digits(text: &str) -> Option<u64>
+    ensures count { IfSome result (λ count. IsCountText text.now × (count ≡ count_value text.now)) }
+    ensures none { IfNone result (IsCountText text.now → ⊥) }
+{
+    if has_plus(text.as_bytes()) {
+        return None;
+    }
+    u64::from_str_radix(text, 10).ok()
+}
+
+/// Whether the first byte is a plus sign, which std takes before digits.
+fn has_plus(text: &[u8]) -> bool
+    ensures { result ≡ (slice_index text.now 0 == 43) }
+{
+    match text {
+        [first, ..] => *first == b'+',
+        [] => false,
+    }
+}
