@@ -13,7 +13,7 @@ help:
 
 build:
 	@mkdir -p crates/plm80/out
-	@cd crates/plm80 && rt run > out/build.log 2>&1 || { tail -20 crates/plm80/out/build.log; exit 1; }
+	@cd crates/plm80 && rt run < stdin > out/build.log 2>&1 || { tail -20 out/build.log; exit 1; }
 
 run: build
 	@examples/run crates/plm80/out/plm80

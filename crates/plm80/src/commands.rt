@@ -2,10 +2,10 @@
 
 mod command_fault;
 mod files;
-mod list_text;
+pub mod list_text;
 mod listing;
 mod locating;
-mod number_text;
+pub mod number_text;
 mod numbers;
 mod running;
 mod words;

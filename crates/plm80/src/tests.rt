@@ -10,6 +10,7 @@ mod bundles;
 mod checks;
 mod images;
 mod inputs;
+mod listings;
 mod memory;
 mod programs;
 mod refusals;

@@ -18,8 +18,9 @@ pub struct ListWords<'a> {
 const ABOUT: &str = "Prints the instructions of an image's code";
 
 const AFTER_HELP: &str = "\
-Each range of code is listed from its first byte on: the address, the bytes and the text of each instruction, in hexadecimal.
-A byte that begins no instruction, or whose instruction leaves the range, stands alone with the text ??.
+Each range of code is listed from its first byte on: the address, the bytes and
+the text of each instruction, in hexadecimal. A byte that begins no instruction,
+or whose instruction leaves the range, stands alone with the text ??.
 
 Example: plm80 list readings.img readings.regions";
 

@@ -34,11 +34,14 @@ const ABOUT: &str =
     "Places the module of an object file in memory: writes its image and its regions";
 
 const AFTER_HELP: &str = "\
-Bases are addresses, sizes are in bytes, and each is one to four hexadecimal digits in either case.
+Bases are addresses, sizes are in bytes, and each is one to four hexadecimal
+digits in either case.
 
-Segments stand in the order CODE, STACK, named commons, unnamed common, DATA, MEMORY. One with a base stands there; any other
-stands where the one before it ends, on the next multiple of 100h where it is paged. References are increased by the places
-of their targets, those to STACK by the address after its last byte.
+Segments stand in the order CODE, STACK, named commons, unnamed common, DATA,
+MEMORY. One with a base stands there; any other stands where the one before it
+ends, on the next multiple of 100h where it is paged. References are increased
+by the places of their targets, those to STACK by the address after its last
+byte.
 
 Example: plm80 locate readings.obj readings.img readings.regions --data 4000";
 

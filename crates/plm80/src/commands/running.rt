@@ -22,11 +22,13 @@ const ABOUT: &str =
     "Verifies an image and runs it: prints the transcript, or why the image is refused";
 
 const AFTER_HELP: &str = "\
-N is a decimal number, at most 18446744073709551615. A line of INPUTS is a port, a space and the bytes that the program reads
-there, all of two hexadecimal digits, as in 02 41FF; an empty file is no input.
+N is a decimal number, at most 18446744073709551615. A line of INPUTS is a port,
+a space and the bytes that the program reads there, all of two hexadecimal
+digits, as in 02 41FF; an empty file is no input.
 
-The transcript is a line for the bytes of stack that the program needs, a line for each byte that it writes to a port, and a
-line for how it ends and after how many steps.
+The transcript is a line for the bytes of stack that the program needs, a line
+for each byte that it writes to a port, and a line for how it ends and after how
+many steps.
 
 Example: plm80 run readings.img readings.regions readings.inputs --steps 5000";
 

@@ -20,12 +20,14 @@ pub enum Request<'a> {
 const ABOUT: &str = "Locates 8080 programs of OMF-80 object files, verifies them and runs them";
 
 const AFTER_HELP: &str = "\
-With no words it reads a bundle from standard input (an image in hexadecimal, its regions, a line INPUTS, its inputs) and
-prints the transcript of its run. Files have at most 1048576 bytes, a bundle 4194312.
+With no words it reads a bundle from standard input (an image in hexadecimal,
+its regions, a line INPUTS, its inputs) and prints the transcript of its run.
+Files have at most 1048576 bytes, a bundle 4194312.
 
-The exit status is 0 where the command is done or the program halted, 1 where the verifier refuses the program, 2 at a fault
-of the words or of a file, 3 where the program stops at an empty port, a refused output or a store outside data, and 4 where
-its steps are used up.
+The exit status is 0 where the command is done or the program halted, 1 where
+the verifier refuses the program, 2 at a fault of the words or of a file, 3
+where the program stops at an empty port, a refused output or a store outside
+data, and 4 where its steps are used up.
 
 Example: plm80 locate readings.obj readings.img readings.regions
          plm80 run readings.img readings.regions readings.inputs";
