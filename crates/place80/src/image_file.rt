@@ -1,8 +1,7 @@
 //! Images as object files: a file of one absolute module.
 
-ghost use Rattle.std.specs.Prelude.{◌≡◌, ◌≢◌, ◌≤◌, ◌+◌, ◌++◌, Some, Ok, Err, map, length, IfOk, IfErr, OnOk, OnErr};
+ghost use Rattle.std.specs.Prelude.{◌≡◌, ◌≢◌, ◌++◌, Ok, Err, map, IfOk, IfErr, OnOk, OnErr};
 ghost use Rattle.std.specs.List.{AllByRecursion, list_all};
-ghost use Rattle.omf_module.specs.Modules.{ModuleValue};
 ghost use Rattle.place80.specs.Image.{IsChunk};
 ghost use Rattle.place80.specs.ImageFile.{image_module, image_bytes, image_of, chunk_content, content_chunk, is_absolute, is_absolute_content, is_absolute_start, program_of, without_regions};
 

@@ -7,6 +7,7 @@
 //! | [`Regions`] | the ranges of code and of data, and the one range of the stack |
 //! | [`Chunk`], [`Image`] | bytes at an address; a located program |
 //! | [`RegionsFault`] | why bytes are no regions text |
+//! | [`write_image`], [`read_image`], [`ImageFault`] | an image as an object file, and why bytes are no image |
 //! | [`lines`] | texts over whole lines |
 #![tactic(auto)]
 

@@ -1,4 +1,5 @@
-//! Images that are read, through bundles.
+//! Images that are read, through bundles. Each is a change of that of [`super::IMAGE`]: a header of 8 bytes, a content of
+//! 12, the end of the module and the end of the file.
 
 use super::bundles::{HALTED, faults};
 use super::{TRANSCRIPT, roomy};
@@ -10,82 +11,99 @@ use std::alloc::Global;
 use std::process::Abort;
 use std::test::Fail;
 
-/// The records of an image at 3000, in digits: its header, its code, its end, and the end of the file.
-const HEADER: &str = "02050001410000B7";
+/// A bundle with this image.
+fn bundle_of(alloc: Global, image: &str) -> Result<String, Fail> {
+    let rest = "REGIONS 1\nCODE 3000 0005\nSTACK 3005 0000\nINPUTS\n02 41\n";
+    Ok(format!(in alloc; "{image}\n{rest}")?)
+}
 
-const CODE: &str = "060900000030DB02D301769A";
-
-const END: &str = "04050001000030C6";
-
-const END_OF_FILE: &str = "0E0100F1";
-
-/// The image of these records is answered so in a bundle, and nothing is written.
+/// A bundle with this image is answered so, and nothing is written.
 fn image_faults(
     rt: &impl Abort,
     alloc: Global,
-    records: &[&str],
+    image: &str,
     fault: ImageFault,
 ) -> Result<(), Fail> {
-    let bundle = bundle_of(alloc, records)?;
+    let bundle = bundle_of(alloc, image)?;
     let expected = BundleFault::Session(SessionFault::Image(fault));
     faults(rt, alloc, bundle.as_bytes(), expected);
     Ok(())
 }
 
-/// A bundle with the image of these records.
-fn bundle_of(alloc: Global, records: &[&str]) -> Result<String, Fail> {
-    let mut bundle = String::new(alloc);
-    for record in records {
-        bundle.push_str(record)?;
-    }
-    bundle.push_str("\nREGIONS 1\nCODE 3000 0005\nSTACK 3005 0000\nINPUTS\n02 41\n")?;
-    Ok(bundle)
+/// A bundle with this image is no object file, by the record at this place.
+fn module_faults(
+    rt: &impl Abort,
+    alloc: Global,
+    image: &str,
+    at: usize,
+    cause: Cause,
+) -> Result<(), Fail> {
+    image_faults(
+        rt,
+        alloc,
+        image,
+        ImageFault::Module(ModuleFault { at, cause }),
+    )
+}
+
+/// A bundle with this image comes to the transcript.
+fn runs(rt: &impl Abort, alloc: Global, image: &str) -> Result<(), Fail> {
+    let mut writer = roomy(alloc);
+    let text = bundle_of(alloc, image)?;
+    let mut input = Reading::new(text.as_bytes());
+    let mut out = Writing::new(&mut writer);
+    let answer = bundle(alloc, &mut input, &mut out, 1_000_000, 65_536);
+    assert_eq!(rt; answer, Ok(HALTED));
+    assert_eq!(rt; writer.taken.as_slice(), TRANSCRIPT.as_bytes());
+    Ok(())
 }
 
 #[test]
-fn an_image_is_one_absolute_main_program(rt: HostRuntime) -> Result<(), Fail> {
+fn an_image_that_is_not_absolute_is_told(rt: HostRuntime) -> Result<(), Fail> {
     let alloc = rt.alloc();
-    let absolute = ImageFault::NotAbsolute;
-    let external = [HEADER, "1804000145009E", CODE, END, END_OF_FILE];
-    image_faults(&rt, alloc, &external, absolute)?;
-    let reference = [HEADER, CODE, "220400010030A9", END, END_OF_FILE];
-    image_faults(&rt, alloc, &reference, absolute)?;
-    let elsewhere = [HEADER, CODE, "04050001010030C5", END_OF_FILE];
-    image_faults(&rt, alloc, &elsewhere, absolute)?;
-    let twice = [HEADER, CODE, END, HEADER, CODE, END, END_OF_FILE];
-    image_faults(&rt, alloc, &twice, ImageFault::NotOneModule)?;
-    let no_main = [HEADER, CODE, "04050000000000F7", END_OF_FILE];
-    image_faults(&rt, alloc, &no_main, ImageFault::NoStart)
+    let fault = ImageFault::NotAbsolute;
+    let external = "02050001410000B71804000145009E060900000030DB02D301769A04050001000030C60E0100F1";
+    image_faults(&rt, alloc, external, fault)?;
+    let reference =
+        "02050001410000B7060900000030DB02D301769A220400010030A904050001000030C60E0100F1";
+    image_faults(&rt, alloc, reference, fault)?;
+    let start = "02050001410000B7060900000030DB02D301769A04050001010030C50E0100F1";
+    image_faults(&rt, alloc, start, fault)
 }
 
 #[test]
-fn an_image_that_is_no_object_file_is_told_with_its_place(rt: HostRuntime) -> Result<(), Fail> {
+fn an_image_is_one_main_module(rt: HostRuntime) -> Result<(), Fail> {
     let alloc = rt.alloc();
-    let fault = |at: usize, cause: Cause| ImageFault::Module(ModuleFault { at, cause });
-    image_faults(&rt, alloc, &[], fault(0, Cause::NoHeader))?;
-    image_faults(&rt, alloc, &[HEADER, CODE, END], fault(28, Cause::NoEnd))?;
-    image_faults(&rt, alloc, &[HEADER, CODE], fault(20, Cause::NoEnd))?;
+    let twice = "02050001410000B704050001000030C602050001410000B704050001000030C60E0100F1";
+    image_faults(&rt, alloc, twice, ImageFault::NotOneModule)?;
+    let no_main = "02050001410000B7060900000030DB02D301769A04050000000000F70E0100F1";
+    image_faults(&rt, alloc, no_main, ImageFault::NoStart)
+}
+
+#[test]
+fn an_image_that_is_cut_is_told_with_its_place(rt: HostRuntime) -> Result<(), Fail> {
+    let alloc = rt.alloc();
+    module_faults(&rt, alloc, "", 0, Cause::NoHeader)?;
+    let no_end = "02050001410000B7060900000030DB02D301769A04050001000030C6";
+    module_faults(&rt, alloc, no_end, 28, Cause::NoEnd)?;
     let truncated = Cause::Record(RecordFault::Truncated(8));
-    image_faults(&rt, alloc, &[HEADER, "0609"], fault(8, truncated))?;
+    module_faults(&rt, alloc, "02050001410000B70609", 8, truncated)
+}
+
+#[test]
+fn an_image_with_a_wrong_sum_or_of_a_library_is_told(rt: HostRuntime) -> Result<(), Fail> {
+    let alloc = rt.alloc();
     let wrong_sum = Cause::Record(RecordFault::BadSum(0));
-    image_faults(&rt, alloc, &["02050001410000B6"], fault(0, wrong_sum))?;
-    let library = fault(0, Cause::NoHeader);
-    image_faults(&rt, alloc, &["2C0700000000000000CD"], library)
+    module_faults(&rt, alloc, "02050001410000B6", 0, wrong_sum)?;
+    module_faults(&rt, alloc, "2C0700000000000000CD", 0, Cause::NoHeader)
 }
 
 #[test]
 fn an_image_that_others_wrote_is_run(rt: HostRuntime) -> Result<(), Fail> {
     let alloc = rt.alloc();
-    let translated = ["02050001410909A5", CODE, END, END_OF_FILE, "FFFF"];
-    let public = [HEADER, "1607000201000150008F", CODE, END, END_OF_FILE];
-    for records in [translated.as_slice(), public.as_slice()] {
-        let mut writer = roomy(alloc);
-        let text = bundle_of(alloc, records)?;
-        let mut input = Reading::new(text.as_bytes());
-        let mut out = Writing::new(&mut writer);
-        let answer = bundle(alloc, &mut input, &mut out, 1_000_000, 65_536);
-        assert_eq!(rt; answer, Ok(HALTED));
-        assert_eq!(rt; writer.taken.as_slice(), TRANSCRIPT.as_bytes());
-    }
-    Ok(())
+    let translated = "02050001410909A5060900000030DB02D301769A04050001000030C60E0100F1FFFF";
+    runs(&rt, alloc, translated)?;
+    let public =
+        "02050001410000B71607000201000150008F060900000030DB02D301769A04050001000030C60E0100F1";
+    runs(&rt, alloc, public)
 }
