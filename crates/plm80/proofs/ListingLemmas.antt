@@ -1,8 +1,8 @@
 -- The lines of a range, one after another.
-use Rattle.std.specs.Prelude.{◌≡◌, ℕ, zero, suc, ◌+◌, ◌-◌, ◌%◌, ◌<◌, ◌≤◌, List, [], ◌∷◌, ◌++◌, None, Some, Option, take, codes, refl}
-use Rattle.std.proofs.Common.{◌∙◌, ap, sym, arith, append_assoc}
+use Rattle.std.specs.Prelude.{◌≡◌, ℕ, zero, suc, ◌+◌, ◌-◌, ◌%◌, ◌<◌, ◌≤◌, List, [], ◌∷◌, ◌++◌, None, Some, Option, take, codes}
+use Rattle.std.proofs.Common.{◌∙◌, ap, arith, append_assoc}
 use Rattle.decode80.specs.declared.instr.Instr.{Instr}
-use Rattle.plm80.specs.Listing.{bytes_from, columns, instruction_of, line_length, line_text, list_line, lines_from}
+use Rattle.plm80.specs.Listing.{bytes_from, columns, instruction_of, line_length, list_line, lines_from}
 
 -- the address after so many and one more
 address-next : (at n : ℕ) → ((at + 1) % 65536 + n) % 65536 ≡ (at + suc n) % 65536

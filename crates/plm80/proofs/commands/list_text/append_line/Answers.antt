@@ -1,6 +1,6 @@
 use Rattle.std.proofs.Common.{rules, ◌≡◌, ◌++◌, ◌∙◌, sym, ap, ℕ, List, [], ◌∷◌, codes, take}
 use Rattle.std.specs.Prelude.{None}
-use Rattle.plm80.specs.Listing.{bytes_from, columns, instruction_of, list_line}
+use Rattle.plm80.specs.Listing.{bytes_from, columns, instruction_of}
 use Rattle.plm80.proofs.ListingLemmas.{list_line-alone}
 use Rattle.plm80.proofs.commands.list_text.append_line.Goals as goal
 

@@ -1,4 +1,4 @@
-use Rattle.std.proofs.Common.{◌≡◌, ◌≤◌, subst, sym, refl, ℕ}
+use Rattle.std.proofs.Common.{◌≤◌, subst, sym, refl, ℕ}
 use Rattle.plm80.proofs.commands.list_text.instruction_in.Goals as goal
 
 pub returns-then-length-left-clause-length : goal.returns-then-length-left-clause-length
