@@ -1,6 +1,6 @@
 //! From an instruction to its text.
 
-ghost use Rattle.std.specs.Prelude.{◌≡◌, ◌++◌, OnOk, OnErr, codes, take, vec_len};
+ghost use Rattle.std.specs.Prelude.{◌≡◌, ◌+◌, ◌<◌, ◌≤◌, ◌++◌, OnOk, OnErr, codes, length, take, vec_len, vec_capacity};
 ghost use Rattle.decode80.specs.Text.{joined, mnemonic, operand_texts, text};
 
 use crate::digits::{byte_digits, digit, word_digits};
@@ -17,10 +17,12 @@ use std::alloc::{AllocError, Global};
 ///
 /// # Errors
 ///
-/// `AllocError` where a growth of `out` was refused; `out` then has the bytes that it had.
+/// `AllocError` where a growth of `out` was refused, which needs none where it has room for the text; `out` then has the
+/// bytes that it had.
 pub fn write_text(_alloc: Global, instr: Instr, out: &mut Vec<u8>) -> Result<(), AllocError>
     ensures ok { OnOk result (out.new.items ≡ out.old.items ++ text instr) }
     ensures err { OnErr result (out.new.items ≡ out.old.items) }
+    ensures full { OnErr result (vec_capacity out.old < vec_len out.old + length (text instr)) }
 {
     let before = out.len();
     match append_text(instr, out) {
@@ -36,6 +38,8 @@ pub fn write_text(_alloc: Global, instr: Instr, out: &mut Vec<u8>) -> Result<(),
 fn append_text(instr: Instr, out: &mut Vec<u8>) -> Result<(), AllocError>
     ensures ok { OnOk result (out.new.items ≡ out.old.items ++ text instr) }
     ensures err { OnErr result (take (vec_len out.old) out.new.items ≡ out.old.items) }
+    ensures full { OnErr result (vec_capacity out.old < vec_len out.old + length (text instr)) }
+    ensures capacity { vec_capacity out.old ≤ vec_capacity out.new }
 {
     append(mnemonic_of(instr), out)?;
     append_operands(instr, out)
@@ -44,6 +48,8 @@ fn append_text(instr: Instr, out: &mut Vec<u8>) -> Result<(), AllocError>
 fn append_operands(instr: Instr, out: &mut Vec<u8>) -> Result<(), AllocError>
     ensures ok { OnOk result (out.new.items ≡ out.old.items ++ joined (operand_texts instr)) }
     ensures err { OnErr result (take (vec_len out.old) out.new.items ≡ out.old.items) }
+    ensures full { OnErr result (vec_capacity out.old < vec_len out.old + length (joined (operand_texts instr))) }
+    ensures capacity { vec_capacity out.old ≤ vec_capacity out.new }
 {
     match instr {
         Instr::Mov(to, from) => append_two(to.text(), from.text(), out),
@@ -74,6 +80,8 @@ fn append_operands(instr: Instr, out: &mut Vec<u8>) -> Result<(), AllocError>
 fn append_one(operand: &[u8], out: &mut Vec<u8>) -> Result<(), AllocError>
     ensures ok { OnOk result (out.new.items ≡ out.old.items ++ (codes " " ++ operand.now)) }
     ensures err { OnErr result (take (vec_len out.old) out.new.items ≡ out.old.items) }
+    ensures full { OnErr result (vec_capacity out.old < vec_len out.old + length (codes " " ++ operand.now)) }
+    ensures capacity { vec_capacity out.old ≤ vec_capacity out.new }
 {
     append(b" ", out)?;
     append(operand, out)
@@ -83,6 +91,8 @@ fn append_one(operand: &[u8], out: &mut Vec<u8>) -> Result<(), AllocError>
 fn append_two(first: &[u8], second: &[u8], out: &mut Vec<u8>) -> Result<(), AllocError>
     ensures ok { OnOk result (out.new.items ≡ out.old.items ++ (codes " " ++ first.now ++ (codes "," ++ second.now))) }
     ensures err { OnErr result (take (vec_len out.old) out.new.items ≡ out.old.items) }
+    ensures full { OnErr result (vec_capacity out.old < vec_len out.old + length (codes " " ++ first.now ++ (codes "," ++ second.now))) }
+    ensures capacity { vec_capacity out.old ≤ vec_capacity out.new }
 {
     append_one(first, out)?;
     append(b",", out)?;
@@ -93,6 +103,8 @@ fn append_two(first: &[u8], second: &[u8], out: &mut Vec<u8>) -> Result<(), Allo
 fn append(bytes: &[u8], out: &mut Vec<u8>) -> Result<(), AllocError>
     ensures ok { OnOk result (out.new.items ≡ out.old.items ++ bytes.now) }
     ensures err { OnErr result (take (vec_len out.old) out.new.items ≡ out.old.items) }
+    ensures full { OnErr result (vec_capacity out.old < vec_len out.old + length bytes.now) }
+    ensures capacity { vec_capacity out.old ≤ vec_capacity out.new }
 {
     out.extend_from_slice(bytes)
 }

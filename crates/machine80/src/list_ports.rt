@@ -22,13 +22,13 @@ pub struct ListPorts {
 }
 
 impl Model for ListPorts {
-    ghost use Rattle.std.specs.Prelude.{ℕ, ◌≤◌, ◌<◌, length, All};
+    ghost use Rattle.std.specs.Prelude.{ℕ, ◌≤◌, ◌<◌, length, All, min, vec_capacity};
     ghost use Rattle.machine80.specs.Ports.{Lists};
     ghost use Rattle.machine80.specs.ListPorts.{queues};
 
     ghost Value = { Lists };
 
-    ghost view = { λ p. record { inputs = queues p.places p.pairs.items; outputs = p.outputs.items; refused = p.refused; limit = p.limit } };
+    ghost view = { λ p. record { inputs = queues p.places p.pairs.items; outputs = p.outputs.items; refused = p.refused; limit = p.limit; room = min p.limit (vec_capacity p.outputs) } };
 
     ghost invariant = { λ p. All (λ place. place ≤ length p.pairs.items) p.places };
 }
@@ -89,6 +89,8 @@ impl Ports for ListPorts {
     ghost refused = { λ p. p.refused };
 
     ghost limit = { λ p. Some p.limit };
+
+    ghost room = { λ p. p.room };
 
     fn take(&mut self, port: u8) -> Option<u8> {
         match first_of(self.pairs.as_slice(), self.places[port as usize], port) {

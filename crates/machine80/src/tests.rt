@@ -20,6 +20,9 @@ const PLAIN: &[u8] = b"REGIONS 1\nCODE 3000 0100\nSTACK 3100 0100\n";
 /// The same with data from 4000 on.
 const WITH_DATA: &[u8] = b"REGIONS 1\nCODE 3000 0100\nSTACK 3100 0100\nDATA 4000 0100\n";
 
+/// Why an output is refused where fewer are kept than the limit says.
+const NO_MEMORY: &str = "no memory for an output";
+
 /// A processor, its memory and its ports.
 #[derive(Drop)]
 struct Board {

@@ -1,4 +1,4 @@
-ghost use Rattle.std.specs.Prelude.{◌≡◌, ◌<◌, ◌↔◌, ◌++◌, length, vec_len, OnOk, OnErr, IsErrOf};
+ghost use Rattle.std.specs.Prelude.{◌≡◌, ◌+◌, ◌<◌, ◌↔◌, ◌++◌, length, vec_len, vec_capacity, OnOk, OnErr, IsErrOf};
 ghost use Rattle.omf_core.specs.Record.{SpellsRecord, spelling, checksum};
 
 use crate::{PutFault, sum_of};
@@ -12,12 +12,14 @@ const LONGEST_BODY: usize = 65534;
 ///
 /// # Errors
 /// `TooLong` exactly where the body has more than 65534 bytes, which is tested first;
-/// `Memory` only where `out` can't grow. After either, `out` holds the bytes that it held.
+/// `Memory` only where `out` can't grow, which it needn't where it has room for the record.
+/// After either, `out` holds the bytes that it held.
 pub fn put_record(_alloc: Global, kind: u8, body: &[u8], out: &mut Vec<u8>) -> Result<(), PutFault>
     ensures appended { OnOk result (out.new.items ≡ out.old.items ++ spelling kind body.now) }
     ensures spells { OnOk result (SpellsRecord out.new.items (vec_len out.old) (vec_len out.new) kind body.now) }
     ensures too_long { IsErrOf result PutFault.TooLong ↔ (65534 < length body.now) }
     ensures refused { OnErr result (out.new.items ≡ out.old.items) }
+    ensures memory { IsErrOf result PutFault.Memory → vec_capacity out.old < vec_len out.old + (4 + length body.now) }
 {
     if body.len() > LONGEST_BODY {
         return Err(PutFault::TooLong);

@@ -112,7 +112,8 @@ fn names(rt: HostRuntime) -> Result<(), Fail> {
     );
     assert_eq!(rt; name_fault(rt.alloc(), &[0x20]), Some(NameFault::BadName));
     assert_eq!(rt; name_fault(rt.alloc(), &[0x7F]), Some(NameFault::BadName));
-    assert_eq!(rt; name_fault(rt.alloc(), long.get(1..).ok_or("short")?), None);
+    let longest = Name::new(rt.alloc(), long.get(1..).ok_or("short")?)?;
+    assert_eq!(rt; longest.bytes().len(), 255);
     Ok(())
 }
 

@@ -1,6 +1,7 @@
 //! Ports that are lists.
 
-use crate::{Inputs, ListPorts, Ports};
+use super::NO_MEMORY;
+use crate::{Inputs, ListPorts, PortRefused, Ports};
 use std::process::Abort;
 use std::test::Fail;
 
@@ -10,11 +11,12 @@ fn outputs_up_to_the_limit(rt: HostRuntime) -> Result<(), Fail> {
         pairs: Vec::new(rt.alloc()),
     };
     let mut ports = ListPorts::new(rt.alloc(), inputs, 2);
-    let rows = [(0x01, 0x41, true), (0xFF, 0x42, true), (0x01, 0x43, false)];
-    for (port, byte, kept) in rows {
+    for (port, byte) in [(0x01, 0x41), (0xFF, 0x42)] {
         assert!(rt; ports.refusals() < 5);
-        assert_eq!(rt; ports.give(port, byte).is_ok(), kept);
+        ports.give(port, byte).map_err(|_| NO_MEMORY)?;
     }
+    assert!(rt; ports.refusals() < 5);
+    assert_eq!(rt; ports.give(0x01, 0x43).err(), Some(PortRefused));
     assert_eq!(rt; ports.refusals(), 1);
     assert_eq!(rt; ports.outputs(), [(0x01, 0x41), (0xFF, 0x42)].as_slice());
     Ok(())

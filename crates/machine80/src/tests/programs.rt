@@ -1,16 +1,27 @@
 //! Programs from their start to their end.
 
-use super::{Board, PLAIN};
-use crate::{End, Inputs, ListPorts};
+use super::{Board, NO_MEMORY, PLAIN};
+use crate::{End, Inputs, ListPorts, Ports};
 use std::process::Abort;
 use std::test::Fail;
 
-/// Runs to an end at this address, the ending step being of this number.
-fn ends(rt: &impl Abort, board: &mut Board, end: End, pc: u16, steps: u64) {
+/// Runs to an end at this address, the ending step being of this number. No program here puts out eight bytes, so an
+/// output is refused only where there is no memory for it.
+fn ends(
+    rt: &impl Abort,
+    board: &mut Board,
+    end: End,
+    pc: u16,
+    steps: u64,
+) -> Result<(), &'static str> {
     let advanced = board.advance(rt);
+    if board.ports.refusals() > 0 {
+        return Err(NO_MEMORY);
+    }
     assert_eq!(rt; advanced.end, Some(end));
     assert_eq!(rt; board.cpu.pc(), pc);
     assert_eq!(rt; advanced.steps, steps);
+    Ok(())
 }
 
 #[test]
@@ -19,7 +30,7 @@ fn an_input_is_put_out(rt: HostRuntime) -> Result<(), Fail> {
     let mut pairs = Vec::new(rt.alloc());
     pairs.push((0x02, 0x41))?;
     board.ports = ListPorts::new(rt.alloc(), Inputs { pairs }, 8);
-    ends(&rt, &mut board, End::Halt, 0x3004, 3);
+    ends(&rt, &mut board, End::Halt, 0x3004, 3)?;
     assert_eq!(rt; board.ports.outputs(), [(0x01, 0x41)].as_slice());
     Ok(())
 }
@@ -32,7 +43,7 @@ fn an_argument_is_put_out(rt: HostRuntime) -> Result<(), Fail> {
         0xD3, 0x01, 0xC9,
     ];
     let mut board = Board::new(rt.alloc(), PLAIN, 0x3000, &program)?;
-    ends(&rt, &mut board, End::Halt, 0x300A, 11);
+    ends(&rt, &mut board, End::Halt, 0x300A, 11)?;
     assert_eq!(rt; board.ports.outputs(), [(0x01, 0x05)].as_slice());
     assert_eq!(rt; board.cpu.sp(), 0x3200);
     Ok(())
@@ -43,11 +54,11 @@ fn an_argument_is_put_out(rt: HostRuntime) -> Result<(), Fail> {
 fn flags_and_digits_are_put_out(rt: HostRuntime) -> Result<(), Fail> {
     let program = [0x3E, 0x10, 0xD6, 0x01, 0xF5, 0xC1, 0x79, 0xD3, 0x01, 0x76];
     let mut board = Board::new(rt.alloc(), PLAIN, 0x3000, &program)?;
-    ends(&rt, &mut board, End::Halt, 0x3009, 7);
+    ends(&rt, &mut board, End::Halt, 0x3009, 7)?;
     assert_eq!(rt; board.ports.outputs(), [(0x01, 0x06)].as_slice());
     let program = [0x3E, 0x9A, 0x27, 0xD3, 0x01, 0x76];
     let mut board = Board::new(rt.alloc(), PLAIN, 0x3000, &program)?;
-    ends(&rt, &mut board, End::Halt, 0x3005, 4);
+    ends(&rt, &mut board, End::Halt, 0x3005, 4)?;
     assert_eq!(rt; board.ports.outputs(), [(0x01, 0x00)].as_slice());
     Ok(())
 }
@@ -62,7 +73,7 @@ fn calls_come_back(rt: HostRuntime) -> Result<(), Fail> {
         End::Halt,
         0x3003,
         5,
-    );
+    )?;
     // RZ goes on where Z is 0.
     let program = [0xCD, 0x04, 0x30, 0x76, 0xC8, 0xC9];
     ends(
@@ -71,7 +82,7 @@ fn calls_come_back(rt: HostRuntime) -> Result<(), Fail> {
         End::Halt,
         0x3003,
         4,
-    );
+    )?;
     // RST 1 from 0009 to the RET at 0008.
     let regions = b"REGIONS 1\nCODE 0000 000B\nSTACK 0100 0010\n";
     let program = [
@@ -83,7 +94,7 @@ fn calls_come_back(rt: HostRuntime) -> Result<(), Fail> {
         End::Halt,
         0x000A,
         4,
-    );
+    )?;
     Ok(())
 }
 
@@ -97,7 +108,7 @@ fn jumps_go_where_they_say(rt: HostRuntime) -> Result<(), Fail> {
         End::Halt,
         0x3001,
         3,
-    );
+    )?;
     // By PCHL.
     let program = [0x21, 0x05, 0x30, 0xE9, 0x76, 0x76];
     ends(
@@ -106,7 +117,7 @@ fn jumps_go_where_they_say(rt: HostRuntime) -> Result<(), Fail> {
         End::Halt,
         0x3005,
         3,
-    );
+    )?;
     // EI does nothing.
     ends(
         &rt,
@@ -114,7 +125,7 @@ fn jumps_go_where_they_say(rt: HostRuntime) -> Result<(), Fail> {
         End::Halt,
         0x3001,
         2,
-    );
+    )?;
     Ok(())
 }
 
