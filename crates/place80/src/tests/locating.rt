@@ -131,362 +131,220 @@ fn a_halt_at_its_place(rt: HostRuntime) -> Result<(), Fail> {
     Ok(())
 }
 
+/// The first bytes that a program with a reference of this kind at offset 1 of its code has at 3000, its stack of 16 bytes at
+/// 3100.
+fn increased(alloc: Global, code: [u8; 4], field: Field, target: u8) -> Result<Vec<u8>, Fail> {
+    let segments = [segment(1, 4), segment(3, 0x10)];
+    let program = referring(alloc, &segments, &code, field, target)?;
+    first_bytes(alloc, &program, &at_stack(0x3100))
+}
+
 #[test]
-fn references_are_increased(rt: HostRuntime) -> Result<(), Fail> {
-    let alloc = rt.alloc();
-    let code = [segment(1, 4), segment(3, 0x10)];
-    let stack_at_3100 = Options {
-        stack: Some(0x3100),
+fn a_word_is_increased_with_its_carry(rt: HostRuntime) -> Result<(), Fail> {
+    let bytes = increased(rt.alloc(), [0xC3, 0x03, 0x00, 0x76], Field::Both, 1)?;
+    assert_eq!(rt; bytes.as_slice(), [0xC3, 0x03, 0x30, 0x76].as_slice());
+    let bytes = increased(rt.alloc(), [0xC3, 0xFF, 0xFF, 0x76], Field::Both, 1)?;
+    assert_eq!(rt; bytes.as_slice(), [0xC3, 0xFF, 0x2F, 0x76].as_slice());
+    Ok(())
+}
+
+#[test]
+fn the_stack_is_its_top(rt: HostRuntime) -> Result<(), Fail> {
+    let bytes = increased(rt.alloc(), [0x31, 0x00, 0x00, 0x00], Field::Both, 3)?;
+    assert_eq!(rt; bytes.as_slice(), [0x31, 0x10, 0x31, 0x00].as_slice());
+    let bytes = increased(rt.alloc(), [0x3E, 0xF8, 0x00, 0x00], Field::Low, 3)?;
+    assert_eq!(rt; bytes.as_slice(), [0x3E, 0x08, 0x00, 0x00].as_slice());
+    Ok(())
+}
+
+#[test]
+fn a_high_byte_needs_a_page(rt: HostRuntime) -> Result<(), Fail> {
+    let bytes = increased(rt.alloc(), [0x3E, 0x01, 0x00, 0x00], Field::High, 1)?;
+    assert_eq!(rt; bytes.as_slice(), [0x3E, 0x31, 0x00, 0x00].as_slice());
+    let bytes = increased(rt.alloc(), [0x3E, 0x05, 0x00, 0x00], Field::High, 0)?;
+    assert_eq!(rt; bytes.as_slice(), [0x3E, 0x05, 0x00, 0x00].as_slice());
+    let code = [0x3E, 0x01];
+    let program = referring(rt.alloc(), &[segment(1, 2)], &code, Field::High, 1)?;
+    let fault = locate(rt.alloc(), &program, &at_code(0x3010)).err();
+    assert_eq!(rt; fault, Some(PlaceFault::HighNotPaged));
+    Ok(())
+}
+
+fn at_code(base: u16) -> Options {
+    let code = Some(base);
+    Options { code, ..USUAL }
+}
+
+fn at_stack(base: u16) -> Options {
+    let stack = Some(base);
+    Options { stack, ..USUAL }
+}
+
+fn at_common(base: u16) -> Options {
+    let common = Some(base);
+    Options { common, ..USUAL }
+}
+
+fn at_data(base: u16) -> Options {
+    let data_base = Some(base);
+    Options { data_base, ..USUAL }
+}
+
+fn at_memory(base: u16) -> Options {
+    let memory = Some(base);
+    Options { memory, ..USUAL }
+}
+
+fn of_stack_size(size: u16) -> Options {
+    let stack_size = Some(size);
+    Options {
+        stack_size,
         ..USUAL
-    };
-    let rows = [
-        (
-            [0xC3, 0x03, 0x00, 0x76],
-            Field::Both,
-            1,
-            [0xC3, 0x03, 0x30, 0x76],
-        ),
-        (
-            [0xC3, 0xFF, 0xFF, 0x76],
-            Field::Both,
-            1,
-            [0xC3, 0xFF, 0x2F, 0x76],
-        ),
-        (
-            [0x3E, 0x01, 0x00, 0x00],
-            Field::High,
-            1,
-            [0x3E, 0x31, 0x00, 0x00],
-        ),
-        (
-            [0x31, 0x00, 0x00, 0x00],
-            Field::Both,
-            3,
-            [0x31, 0x10, 0x31, 0x00],
-        ),
-        (
-            [0x3E, 0xF8, 0x00, 0x00],
-            Field::Low,
-            3,
-            [0x3E, 0x08, 0x00, 0x00],
-        ),
-        (
-            [0x3E, 0x05, 0x00, 0x00],
-            Field::High,
-            0,
-            [0x3E, 0x05, 0x00, 0x00],
-        ),
-    ];
-    for (before, field, target, after) in rows {
-        let program = referring(alloc, &code, &before, field, target)?;
-        let bytes = first_bytes(alloc, &program, &stack_at_3100)?;
-        assert_eq!(rt; bytes.as_slice(), after.as_slice());
     }
-    let program = referring(alloc, &code, &[0x3E, 0x01, 0x00, 0x00], Field::High, 1)?;
-    let code_at_3010 = Options {
-        code: Some(0x3010),
+}
+
+fn of_memory_size(size: u16) -> Options {
+    let memory_size = Some(size);
+    Options {
+        memory_size,
         ..USUAL
-    };
+    }
+}
+
+/// The bases of the program with all segments: CODE, STACK, the common, the unnamed common, DATA and MEMORY.
+fn bases(alloc: Global, options: Options) -> Result<Vec<u32>, Fail> {
+    let segments = layout(alloc, &whole(alloc)?, &options)?.segments;
+    let mut bases = Vec::new(alloc);
+    for placed in &segments {
+        bases.push(placed.base)?;
+    }
+    Ok(bases)
+}
+
+#[test]
+fn without_options(rt: HostRuntime) -> Result<(), Fail> {
+    let segments = layout(rt.alloc(), &whole(rt.alloc())?, &USUAL)?.segments;
+    let mut rows = Vec::new(rt.alloc());
+    for placed in &segments {
+        rows.push((placed.id, placed.base, placed.length))?;
+    }
     assert_eq!(rt;
-        locate(alloc, &program, &code_at_3010).err(),
-        Some(PlaceFault::HighNotPaged)
+        rows.as_slice(),
+        [
+            (1, 0x3000, 0x10),
+            (3, 0x3010, 0x20),
+            (9, 0x3030, 8),
+            (255, 0x3038, 4),
+            (2, 0x303C, 8),
+            (4, 0x3044, 2),
+        ]
+        .as_slice()
     );
     Ok(())
 }
 
 #[test]
-fn each_option_alone_at_zero(rt: HostRuntime) -> Result<(), Fail> {
-    let alloc = rt.alloc();
-    let at_zero = Some(0);
-    // The bases of CODE, STACK, the common, the unnamed common, DATA and MEMORY, and the lengths of STACK and MEMORY.
+fn each_base_alone_at_zero(rt: HostRuntime) -> Result<(), Fail> {
     let rows = [
-        (
-            USUAL,
-            [0x3000, 0x3010, 0x3030, 0x3038, 0x303C, 0x3044],
-            (0x20, 2),
-        ),
-        (
-            Options {
-                code: at_zero,
-                ..USUAL
-            },
-            [0, 0x10, 0x30, 0x38, 0x3C, 0x44],
-            (0x20, 2),
-        ),
-        (
-            Options {
-                stack: at_zero,
-                ..USUAL
-            },
-            [0x3000, 0, 0x20, 0x28, 0x2C, 0x34],
-            (0x20, 2),
-        ),
-        (
-            Options {
-                common: at_zero,
-                ..USUAL
-            },
-            [0x3000, 0x3010, 0x3030, 0, 4, 0x0C],
-            (0x20, 2),
-        ),
-        (
-            Options {
-                data_base: at_zero,
-                ..USUAL
-            },
-            [0x3000, 0x3010, 0x3030, 0x3038, 0, 8],
-            (0x20, 2),
-        ),
-        (
-            Options {
-                memory: at_zero,
-                ..USUAL
-            },
-            [0x3000, 0x3010, 0x3030, 0x3038, 0x303C, 0],
-            (0x20, 2),
-        ),
-        (
-            Options {
-                stack_size: at_zero,
-                ..USUAL
-            },
-            [0x3000, 0x3010, 0x3010, 0x3018, 0x301C, 0x3024],
-            (0, 2),
-        ),
-        (
-            Options {
-                memory_size: at_zero,
-                ..USUAL
-            },
-            [0x3000, 0x3010, 0x3030, 0x3038, 0x303C, 0x3044],
-            (0x20, 0),
-        ),
+        (at_code(0), [0, 0x10, 0x30, 0x38, 0x3C, 0x44]),
+        (at_stack(0), [0x3000, 0, 0x20, 0x28, 0x2C, 0x34]),
+        (at_common(0), [0x3000, 0x3010, 0x3030, 0, 4, 0x0C]),
+        (at_data(0), [0x3000, 0x3010, 0x3030, 0x3038, 0, 8]),
+        (at_memory(0), [0x3000, 0x3010, 0x3030, 0x3038, 0x303C, 0]),
     ];
-    let program = whole(alloc)?;
-    for (options, bases, (stack, memory)) in rows {
-        let segments = layout(alloc, &program, &options)?.segments;
-        assert_eq!(rt; segments.len(), 6);
-        let ids = [1, 3, 9, 255, 2, 4];
-        let lengths = [0x10, stack, 8, 4, 8, memory];
-        for index in 0..6 {
-            let placed = Placed {
-                id: ids[index],
-                base: bases[index],
-                length: lengths[index],
-            };
-            assert_eq!(rt; segments[index], placed);
-        }
+    for (options, expected) in rows {
+        assert_eq!(rt; bases(rt.alloc(), options)?.as_slice(), expected.as_slice());
     }
     Ok(())
 }
 
 #[test]
+fn sizes_of_zero(rt: HostRuntime) -> Result<(), Fail> {
+    let program = whole(rt.alloc())?;
+    assert_eq!(rt;
+        bases(rt.alloc(), of_stack_size(0))?.as_slice(),
+        [0x3000, 0x3010, 0x3010, 0x3018, 0x301C, 0x3024].as_slice()
+    );
+    let segments = layout(rt.alloc(), &program, &of_memory_size(0))?.segments;
+    assert_eq!(rt;
+        segments.last().copied(),
+        Some(Placed {
+            id: 4,
+            base: 0x3044,
+            length: 0
+        })
+    );
+    Ok(())
+}
+
+/// The fault of the program with all segments.
+fn fault_of(alloc: Global, options: Options) -> Result<Option<PlaceFault>, Fail> {
+    Ok(layout(alloc, &whole(alloc)?, &options).err())
+}
+
+#[test]
 fn each_option_alone_at_ffff(rt: HostRuntime) -> Result<(), Fail> {
-    let alloc = rt.alloc();
-    let last = Some(0xFFFF);
     let rows = [
-        (
-            Options {
-                code: last,
-                ..USUAL
-            },
-            1,
-        ),
-        (
-            Options {
-                stack: last,
-                ..USUAL
-            },
-            3,
-        ),
-        (
-            Options {
-                common: last,
-                ..USUAL
-            },
-            255,
-        ),
-        (
-            Options {
-                data_base: last,
-                ..USUAL
-            },
-            2,
-        ),
-        (
-            Options {
-                memory: last,
-                ..USUAL
-            },
-            4,
-        ),
-        (
-            Options {
-                stack_size: last,
-                ..USUAL
-            },
-            3,
-        ),
-        (
-            Options {
-                memory_size: last,
-                ..USUAL
-            },
-            4,
-        ),
+        (at_code(0xFFFF), 1),
+        (at_stack(0xFFFF), 3),
+        (at_common(0xFFFF), 255),
+        (at_data(0xFFFF), 2),
+        (at_memory(0xFFFF), 4),
+        (of_stack_size(0xFFFF), 3),
+        (of_memory_size(0xFFFF), 4),
     ];
-    let program = whole(alloc)?;
     for (options, id) in rows {
-        assert_eq!(rt;
-            layout(alloc, &program, &options).err(),
-            Some(PlaceFault::OutsideMemory(id))
-        );
+        let fault = fault_of(rt.alloc(), options)?;
+        assert_eq!(rt; fault, Some(PlaceFault::OutsideMemory(id)));
     }
     Ok(())
 }
 
 #[test]
 fn segments_that_overlap(rt: HostRuntime) -> Result<(), Fail> {
-    let alloc = rt.alloc();
     let rows = [
-        (
-            Options {
-                stack: Some(0x300F),
-                ..USUAL
-            },
-            (1, 3),
-        ),
-        (
-            Options {
-                common: Some(0x300F),
-                ..USUAL
-            },
-            (1, 255),
-        ),
-        (
-            Options {
-                common: Some(0x300D),
-                stack: Some(0x3100),
-                ..USUAL
-            },
-            (1, 255),
-        ),
-        (
-            Options {
-                common: Some(0x302F),
-                ..USUAL
-            },
-            (3, 255),
-        ),
-        (
-            Options {
-                common: Some(0x3037),
-                ..USUAL
-            },
-            (9, 255),
-        ),
-        (
-            Options {
-                data_base: Some(0x2FF9),
-                ..USUAL
-            },
-            (1, 2),
-        ),
-        (
-            Options {
-                data_base: Some(0x3010),
-                ..USUAL
-            },
-            (3, 2),
-        ),
-        (
-            Options {
-                data_base: Some(0x3030),
-                ..USUAL
-            },
-            (9, 2),
-        ),
-        (
-            Options {
-                data_base: Some(0x303B),
-                ..USUAL
-            },
-            (255, 2),
-        ),
-        (
-            Options {
-                data_base: Some(0x2FF8),
-                ..USUAL
-            },
-            (1, 4),
-        ),
-        (
-            Options {
-                memory: Some(0x300F),
-                ..USUAL
-            },
-            (1, 4),
-        ),
-        (
-            Options {
-                memory: Some(0x302F),
-                ..USUAL
-            },
-            (3, 4),
-        ),
-        (
-            Options {
-                memory: Some(0x3037),
-                ..USUAL
-            },
-            (9, 4),
-        ),
-        (
-            Options {
-                memory: Some(0x303B),
-                ..USUAL
-            },
-            (255, 4),
-        ),
-        (
-            Options {
-                memory: Some(0x3043),
-                ..USUAL
-            },
-            (2, 4),
-        ),
+        (at_stack(0x300F), 1, 3),
+        (at_common(0x300F), 1, 255),
+        (at_common(0x302F), 3, 255),
+        (at_common(0x3037), 9, 255),
+        (at_data(0x2FF9), 1, 2),
+        (at_data(0x3010), 3, 2),
+        (at_data(0x3030), 9, 2),
+        (at_data(0x303B), 255, 2),
     ];
-    let program = whole(alloc)?;
-    for (options, (first, second)) in rows {
-        assert_eq!(rt;
-            layout(alloc, &program, &options).err(),
-            Some(PlaceFault::Overlap(first, second))
-        );
+    for (options, first, second) in rows {
+        let fault = fault_of(rt.alloc(), options)?;
+        assert_eq!(rt; fault, Some(PlaceFault::Overlap(first, second)));
     }
-    // What only touches overlaps nothing, and neither does what is empty.
-    assert!(rt;
-        layout(
-            alloc,
-            &program,
-            &Options {
-                memory: Some(0x2FFE),
-                ..USUAL
-            }
-        )
-        .is_ok()
-    );
-    assert!(rt;
-        layout(
-            alloc,
-            &program,
-            &Options {
-                memory: Some(0x3000),
-                memory_size: Some(0),
-                ..USUAL
-            }
-        )
-        .is_ok()
-    );
+    Ok(())
+}
+
+#[test]
+fn memory_that_overlaps(rt: HostRuntime) -> Result<(), Fail> {
+    let rows = [
+        (at_data(0x2FF8), 1),
+        (at_memory(0x300F), 1),
+        (at_memory(0x302F), 3),
+        (at_memory(0x3037), 9),
+        (at_memory(0x303B), 255),
+        (at_memory(0x3043), 2),
+    ];
+    for (options, first) in rows {
+        let fault = fault_of(rt.alloc(), options)?;
+        assert_eq!(rt; fault, Some(PlaceFault::Overlap(first, 4)));
+    }
+    Ok(())
+}
+
+#[test]
+fn what_touches_or_is_empty_overlaps_nothing(rt: HostRuntime) -> Result<(), Fail> {
+    assert!(rt; fault_of(rt.alloc(), at_memory(0x2FFE))?.is_none());
+    let memory_size = Some(0);
+    let options = Options {
+        memory_size,
+        ..at_memory(0x3000)
+    };
+    assert!(rt; fault_of(rt.alloc(), options)?.is_none());
     Ok(())
 }
 
@@ -497,75 +355,52 @@ fn one_byte_of_code_and_of_data(rt: HostRuntime) -> Result<(), Fail> {
         parts(alloc, &[segment(1, 1), segment(2, 1)], &[0x76])?,
         alloc,
     )?;
-    let data_at_3000 = Options {
-        data_base: Some(0x3000),
-        ..USUAL
-    };
-    assert_eq!(rt;
-        locate(alloc, &program, &data_at_3000).err(),
-        Some(PlaceFault::Overlap(1, 2))
-    );
+    let fault = locate(alloc, &program, &at_data(0x3000)).err();
+    assert_eq!(rt; fault, Some(PlaceFault::Overlap(1, 2)));
     Ok(())
+}
+
+/// The fault of a program of one byte of CODE at 3000 with such absolute bytes.
+fn fault_beside(alloc: Global, offset: u16, bytes: &[u8]) -> Result<Option<PlaceFault>, Fail> {
+    let mut parts = parts(alloc, &[segment(1, 1)], &[0x76])?;
+    parts.contents.push(content(alloc, 0, offset, bytes)?)?;
+    Ok(locate(alloc, &module(parts, alloc)?, &USUAL).err())
 }
 
 #[test]
 fn absolute_content_overlaps_too(rt: HostRuntime) -> Result<(), Fail> {
-    let alloc = rt.alloc();
-    for (offset, bytes, fault) in [
-        (0x3000, [1].as_slice(), Some(PlaceFault::Overlap(0, 1))),
-        (0x2FFF, [1].as_slice(), None),
-        (0x2FFF, [1, 2].as_slice(), Some(PlaceFault::Overlap(0, 1))),
-        (0x3001, [1].as_slice(), None),
-        (0x3000, [].as_slice(), None),
-    ] {
-        let mut parts = parts(alloc, &[segment(1, 1)], &[0x76])?;
-        parts.contents.push(content(alloc, 0, offset, bytes)?)?;
-        let program = module(parts, alloc)?;
-        assert_eq!(rt; locate(alloc, &program, &USUAL).err(), fault);
-    }
+    assert!(rt; fault_beside(rt.alloc(), 0x2FFF, &[1])?.is_none());
+    assert!(rt; fault_beside(rt.alloc(), 0x3001, &[1])?.is_none());
+    assert!(rt; fault_beside(rt.alloc(), 0x3000, &[])?.is_none());
+    let fault = fault_beside(rt.alloc(), 0x3000, &[1])?;
+    assert_eq!(rt; fault, Some(PlaceFault::Overlap(0, 1)));
+    let fault = fault_beside(rt.alloc(), 0x2FFF, &[1, 2])?;
+    assert_eq!(rt; fault, Some(PlaceFault::Overlap(0, 1)));
     Ok(())
 }
 
-#[test]
-fn paged_segments_start_at_multiples_of_256(rt: HostRuntime) -> Result<(), Fail> {
-    let alloc = rt.alloc();
+/// The base of DATA, of 8 bytes and paged, after 16 bytes of CODE.
+fn base_of_paged_data(alloc: Global, options: Options) -> Result<u32, Fail> {
     let paged = Segment {
         length: 8,
         paged: true,
     };
-    let program = module(
-        parts(alloc, &[segment(1, 0x10), (2, paged)], &[0x76])?,
-        alloc,
-    )?;
-    let segments = layout(alloc, &program, &USUAL)?.segments;
-    let data = segments.iter().find(|placed| placed.id == 2).copied();
-    assert_eq!(rt;
-        data,
-        Some(Placed {
-            id: 2,
-            base: 0x3100,
-            length: 8
-        })
-    );
+    let parts = parts(alloc, &[segment(1, 0x10), (2, paged)], &[0x76])?;
+    let segments = layout(alloc, &module(parts, alloc)?, &options)?.segments;
+    for placed in &segments {
+        if placed.id == 2 {
+            return Ok(placed.base);
+        }
+    }
+    Err("no DATA")?
+}
+
+#[test]
+fn paged_segments_start_at_multiples_of_256(rt: HostRuntime) -> Result<(), Fail> {
+    assert_eq!(rt; base_of_paged_data(rt.alloc(), USUAL)?, 0x3100);
+    assert_eq!(rt; base_of_paged_data(rt.alloc(), at_code(0x30F0))?, 0x3100);
     // A base that is given is taken as it is.
-    let segments = layout(
-        alloc,
-        &program,
-        &Options {
-            data_base: Some(0x4001),
-            ..USUAL
-        },
-    )?
-    .segments;
-    let data = segments.iter().find(|placed| placed.id == 2).copied();
-    assert_eq!(rt;
-        data,
-        Some(Placed {
-            id: 2,
-            base: 0x4001,
-            length: 8
-        })
-    );
+    assert_eq!(rt; base_of_paged_data(rt.alloc(), at_data(0x4001))?, 0x4001);
     Ok(())
 }
 
@@ -573,32 +408,15 @@ fn paged_segments_start_at_multiples_of_256(rt: HostRuntime) -> Result<(), Fail>
 fn the_last_byte_of_memory(rt: HostRuntime) -> Result<(), Fail> {
     let alloc = rt.alloc();
     let program = module(parts(alloc, &[segment(1, 0xFFFF)], &[0x76])?, alloc)?;
-    let image = locate(
-        alloc,
-        &program,
-        &Options {
-            code: Some(1),
-            ..USUAL
-        },
-    )?;
+    let image = locate(alloc, &program, &at_code(1))?;
     let mut regions = Vec::new(alloc);
     write_regions(alloc, &image.regions, &mut regions)?;
     assert_eq!(rt;
         regions.as_slice(),
         b"REGIONS 1\nCODE 0001 FFFF\nSTACK 0000 0000\n".as_slice()
     );
-    assert_eq!(rt;
-        locate(
-            alloc,
-            &program,
-            &Options {
-                code: Some(2),
-                ..USUAL
-            }
-        )
-        .err(),
-        Some(PlaceFault::OutsideMemory(1))
-    );
+    let fault = locate(alloc, &program, &at_code(2)).err();
+    assert_eq!(rt; fault, Some(PlaceFault::OutsideMemory(1)));
     Ok(())
 }
 
@@ -665,17 +483,10 @@ fn memory_that_no_longer_holds_its_content(rt: HostRuntime) -> Result<(), Fail> 
     let mut parts = parts(alloc, &[segment(1, 1), segment(4, 2)], &[0x76])?;
     parts.contents.push(content(alloc, 4, 0, &[1, 2])?)?;
     let program = module(parts, alloc)?;
-    for (size, fault) in [
-        (1, Some(PlaceFault::OutsideMemory(4))),
-        (2, None),
-        (3, None),
-    ] {
-        let options = Options {
-            memory_size: Some(size),
-            ..USUAL
-        };
-        assert_eq!(rt; layout(alloc, &program, &options).err(), fault);
-    }
+    let fault = layout(alloc, &program, &of_memory_size(1)).err();
+    assert_eq!(rt; fault, Some(PlaceFault::OutsideMemory(4)));
+    assert!(rt; layout(alloc, &program, &of_memory_size(2)).is_ok());
+    assert!(rt; layout(alloc, &program, &of_memory_size(3)).is_ok());
     Ok(())
 }
 
