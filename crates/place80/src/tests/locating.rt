@@ -77,13 +77,14 @@ fn referring(
     target: u8,
 ) -> Result<Module, Fail> {
     let mut parts = parts(alloc, segments, code)?;
-    let mut fixups = Vec::new(alloc);
-    fixups.push(Fixup {
+    let mut referring = content(alloc, 1, 0, code)?;
+    referring.fixups.push(Fixup {
         offset: 1,
         field,
         target: Target::Segment(target),
     })?;
-    parts.contents[0].fixups = fixups;
+    parts.contents.clear();
+    parts.contents.push(referring)?;
     module(parts, alloc)
 }
 
@@ -108,13 +109,15 @@ fn whole(alloc: Global) -> Result<Module, Fail> {
 /// The bytes of the first chunk.
 fn first_bytes(alloc: Global, program: &Module, options: &Options) -> Result<Vec<u8>, Fail> {
     let image = locate(alloc, program, options)?;
-    Ok(Vec::from_slice(alloc, &image.chunks[0].bytes)?)
+    let chunk = image.chunks.first().ok_or("a chunk")?;
+    Ok(Vec::from_slice(alloc, &chunk.bytes)?)
 }
 
 #[test]
 fn a_halt_at_its_place(rt: HostRuntime) -> Result<(), Fail> {
     let modules = read_file(rt.alloc(), HALT)?;
-    let image = locate(rt.alloc(), &modules[0], &USUAL)?;
+    let program = modules.first().ok_or("a module")?;
+    let image = locate(rt.alloc(), program, &USUAL)?;
     assert_eq!(rt; image.name.bytes(), b"A".as_slice());
     assert_eq!(rt; image.start, 0x3000);
     assert_eq!(rt; image.byte(0x3000), 0x76);
