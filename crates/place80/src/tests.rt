@@ -78,20 +78,9 @@ fn the_ends_of_memory(rt: HostRuntime) -> Result<(), Fail> {
 }
 
 #[test]
-fn texts_that_are_refused(rt: HostRuntime) {
-    let cases: [(&[u8], RegionsFault); 27] = [
-        (b"", RegionsFault::BadVersion),
-        (b"\n", RegionsFault::BadVersion),
-        (b"REGIONS 9\n", RegionsFault::BadVersion),
-        (b"REGIONS 9", RegionsFault::BadVersion),
-        (
-            b"REGIONS 1\r\nSTACK 0000 0000\r\n",
-            RegionsFault::BadVersion,
-        ),
-        (b"regions 1\n", RegionsFault::BadVersion),
+fn texts_of_bad_lines(rt: HostRuntime) {
+    let cases: [(&[u8], RegionsFault); 15] = [
         (b"REGIONS 1", RegionsFault::BadLine(1)),
-        (b"REGIONS 1\n", RegionsFault::NoStack),
-        (b"REGIONS 1\nCODE 3000 0010\n", RegionsFault::NoStack),
         (b"REGIONS 1\nCODE FFFF 0002\n", RegionsFault::BadLine(2)),
         (b"REGIONS 1\nSTACK FFFF 0002\n", RegionsFault::BadLine(2)),
         (b"REGIONS 1\nCODE 3000 000a\n", RegionsFault::BadLine(2)),
@@ -112,6 +101,26 @@ fn texts_that_are_refused(rt: HostRuntime) {
             b"REGIONS 1\nCODE 3000 0001\nCODE 3000 0001\nDATA 4000 0001\nXXXX\nCODE\n",
             RegionsFault::BadLine(5),
         ),
+    ];
+    for (text, fault) in cases {
+        assert_eq!(rt; read_regions(rt.alloc(), text).err(), Some(fault));
+    }
+}
+
+#[test]
+fn texts_of_other_faults(rt: HostRuntime) {
+    let cases: [(&[u8], RegionsFault); 12] = [
+        (b"", RegionsFault::BadVersion),
+        (b"\n", RegionsFault::BadVersion),
+        (b"REGIONS 9\n", RegionsFault::BadVersion),
+        (b"REGIONS 9", RegionsFault::BadVersion),
+        (
+            b"REGIONS 1\r\nSTACK 0000 0000\r\n",
+            RegionsFault::BadVersion,
+        ),
+        (b"regions 1\n", RegionsFault::BadVersion),
+        (b"REGIONS 1\n", RegionsFault::NoStack),
+        (b"REGIONS 1\nCODE 3000 0010\n", RegionsFault::NoStack),
         (
             b"REGIONS 1\nCODE 3000 0010\nSTACK 300F 0002\n",
             RegionsFault::RegionsOverlap,
