@@ -7,7 +7,7 @@ use Rattle.std.proofs.lemmas.List.{take_at, drop_at, drop-drop, take_all}
 use Rattle.std.proofs.lemmas.List.Splits.{join_with_byte-slice_split}
 use Rattle.place80.specs.Lines.{parts}
 use Rattle.plm80.specs.BundleText.{Sides, sides_after, sides_of, text_joined}
-use Rattle.plm80.proofs.InputsLemmas.{parts-some}
+use Rattle.loader80.proofs.InputsLemmas.{parts-some}
 
 -- a line `INPUTS` parts the text
 sides_of-found : (line : List ℕ) (lines : List (List ℕ)) → 0 < length lines → bytes_eq line (codes "INPUTS") ≡ true

@@ -1,13 +1,4 @@
-mod StreamLemmas
-mod InputsLemmas
 mod BundleLemmas
-pub mod WalkLemmas
-pub mod CheckLemmas
-pub mod Fetching
-pub mod Storing
-pub mod Headline
-pub mod RunLemmas
-pub mod TranscriptLemmas
-pub mod SendsLemmas
+mod BundledLemmas
 mod ListingLemmas
 mod NumberLemmas

@@ -1,13 +1,13 @@
 -- What a bundle answers and writes, over a reader and a writer that tell their bytes.
 use Rattle.std.specs.Prelude.{◌≡◌, ℕ, List, [], Option, None, Some, Result, Ok, Err}
 use Rattle.std.specs.Io.KnownBytes.{Appends}
-use Rattle.plm80.specs.declared.replying.Outcome.{Outcome}
-use Rattle.plm80.specs.declared.fault.SessionFault.{SessionFault}
-use Rattle.plm80.specs.declared.fault.SessionFault.TheVariants.{Read, Write, Memory, TooLong}
+use Rattle.loader80.specs.declared.replying.Outcome.{Outcome}
+use Rattle.loader80.specs.declared.fault.SessionFault.{SessionFault}
+use Rattle.loader80.specs.declared.fault.SessionFault.TheVariants.{Read, Write, Memory, TooLong}
 use Rattle.plm80.specs.declared.fault.BundleFault.{BundleFault}
 use Rattle.plm80.specs.declared.fault.BundleFault.TheVariants.{Session, BadBundle}
-use Rattle.plm80.specs.BundleText.{Texts}
-use Rattle.plm80.specs.Sends.{Sends}
+use Rattle.loader80.specs.Texts.{Texts}
+use Rattle.loader80.specs.Sends.{Sends}
 
 -- three texts
 abbrev pub texts_read : (image regions inputs : List ℕ) → Texts

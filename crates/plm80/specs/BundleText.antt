@@ -4,7 +4,8 @@ use Rattle.std.specs.List.{join_with_byte}
 use Rattle.std.specs.Option.{option_map}
 use Rattle.std.specs.Str.{bytes_eq}
 use Rattle.place80.specs.Lines.{parts}
-use Rattle.plm80.specs.HexText.{bytes_spelled}
+use Rattle.loader80.specs.HexText.{bytes_spelled}
+use Rattle.loader80.specs.Texts.{Texts}
 
 -- what stands before and after the line that parts them
 pub record Sides : Type 0 where
@@ -26,12 +27,6 @@ sides_of (last ∷ []) = None
 sides_of (line ∷ next ∷ lines) =
     if bytes_eq line (codes "INPUTS") then Some (record { before = []; after = text_joined (next ∷ lines) })
     else option_map (sides_after (line ++ 10 ∷ [])) (sides_of (next ∷ lines))
-
--- the three texts of a bundle
-pub record Texts : Type 0 where
-  pub image : List ℕ
-  pub regions : List ℕ
-  pub inputs : List ℕ
 
 -- an image beside the texts that follow it
 abbrev pub texts_from : Option (List ℕ) → Option Sides → Option Texts

@@ -1,19 +1,8 @@
--- The numbers of the faults of sessions and bundles.
+-- The numbers of the faults of a bundle: those of a session on its parts, and one of its own.
 use Rattle.std.specs.Prelude.{ℕ}
-use Rattle.plm80.specs.declared.fault.SessionFault.{SessionFault}
-use Rattle.plm80.specs.declared.fault.SessionFault.TheVariants.{Read, Write, Image, Regions, Inputs, Refused, Memory, TooLong}
+use Rattle.loader80.specs.Fault.{session_code}
 use Rattle.plm80.specs.declared.fault.BundleFault.{BundleFault}
 use Rattle.plm80.specs.declared.fault.BundleFault.TheVariants.{Session, BadBundle}
-
-abbrev pub session_code : SessionFault → ℕ
-session_code (Read _) = 1
-session_code Write = 2
-session_code (Image _) = 3
-session_code (Regions _) = 4
-session_code (Inputs _) = 5
-session_code (Refused _) = 6
-session_code Memory = 7
-session_code (TooLong _) = 8
 
 abbrev pub bundle_code : BundleFault → ℕ
 bundle_code (Session fault) = session_code fault

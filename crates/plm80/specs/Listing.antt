@@ -7,7 +7,7 @@ use Rattle.decode80.specs.Decoded.{decoded}
 use Rattle.decode80.specs.Text.{text}
 use Rattle.place80.specs.declared.range.Range.{Range}
 use Rattle.place80.specs.Image.{Located, memory_of}
-use Rattle.plm80.specs.HexText.{byte_digits, word_digits}
+use Rattle.loader80.specs.HexText.{byte_digits, word_digits}
 
 -- three bytes from an address on; 0000 follows FFFF
 abbrev pub bytes_from : List ℕ → ℕ → List ℕ

@@ -1,10 +1,11 @@
 //! A bundle parted into its three texts.
 ghost use Rattle.std.specs.Prelude.{◌≡◌, None, Some, IfOk, MatchOption};
 ghost use Rattle.std.specs.Option.{option_map};
-ghost use Rattle.plm80.specs.BundleText.{Sides, Texts, bundle_texts, sides_of};
+ghost use Rattle.loader80.specs.Texts.{Texts};
+ghost use Rattle.plm80.specs.BundleText.{Sides, bundle_texts, sides_of};
 ghost use Rattle.place80.specs.Lines.{parts};
 
-use crate::digits::bytes_of_digits;
+use loader80::digits::bytes_of_digits;
 use place80::lines::first_line;
 use std::alloc::{AllocError, Global};
 

@@ -2,16 +2,16 @@
 
 ghost use Rattle.std.specs.Prelude.{◌≡◌, ℕ, ◌+◌, ◌<◌, ◌≤◌, List, Some, None, length, IfSome, IfNone};
 ghost use Rattle.plm80.specs.BundleText.{bundle_texts};
-ghost use Rattle.plm80.specs.WholeText.{TakesAtMost};
-ghost use Rattle.plm80.specs.Sends.{AreWithin, IsTooLong};
+ghost use Rattle.loader80.specs.WholeText.{TakesAtMost};
+ghost use Rattle.loader80.specs.Sends.{AreWithin, IsTooLong};
 ghost use Rattle.plm80.specs.Bundle.{BundleSends, BundleTooLong, bundle_read_failures, bundle_write_failures, of_session, texts_read};
 
 use crate::bundle_text::part_bundle;
-use crate::fault::{BundleFault, SessionFault};
-use crate::replying::{Outcome, SessionTexts, answer_texts};
-use crate::serving::TEXT_LIMIT;
-use crate::stream::{Failed, Sink, Source};
-use crate::whole::{ReadAllFault, read_all, write_all};
+use crate::fault::BundleFault;
+use loader80::{
+    Failed, Outcome, ReadAllFault, SessionFault, SessionTexts, Sink, Source, TEXT_LIMIT,
+    answer_texts, read_all, write_all,
+};
 use std::alloc::Global;
 
 /// The greatest number of bytes of a bundle whose three parts can be within their limits.

@@ -1,58 +1,10 @@
-//! Why a session or a bundle has no outcome.
+//! Why a bundle has no outcome.
 
 ghost use Rattle.std.specs.Prelude.{◌≡◌};
-ghost use Rattle.plm80.specs.Fault.{session_code, bundle_code};
+ghost use Rattle.plm80.specs.Fault.{bundle_code};
 
-use crate::refusal::Refusal;
-use place80::{ImageFault, RegionsFault};
+use loader80::SessionFault;
 use thiserror::Error;
-
-/// Why a session has no outcome.
-#[derive(Clone, Copy, Debug, PartialEq, Eq, Error)]
-pub enum SessionFault {
-    /// A read failed: of the image 1, the regions 2 or the inputs 3.
-    #[error("Read {0}")]
-    Read(u8),
-    /// A write failed, or took no byte.
-    #[error("Write")]
-    Write,
-    /// The image's bytes are no image.
-    #[error("{0}")]
-    Image(ImageFault),
-    /// The regions' text spells none.
-    #[error("{0}")]
-    Regions(RegionsFault),
-    /// The first line of the inputs' text, counted from 1, that has another form.
-    #[error("Inputs {0}")]
-    Inputs(usize),
-    /// The check refuses the image.
-    #[error("{0}")]
-    Refused(Refusal),
-    /// A growth was refused.
-    #[error("Memory")]
-    Memory,
-    /// More than 1,048,576 bytes came: of the image 1, the regions 2 or the inputs 3.
-    #[error("TooLong {0}")]
-    TooLong(u8),
-}
-
-impl SessionFault {
-    /// The fault's number.
-    pub fn code(&self) -> u8
-        ensures { result ≡ session_code self.now }
-    {
-        match self {
-            SessionFault::Read(_) => 1,
-            SessionFault::Write => 2,
-            SessionFault::Image(_) => 3,
-            SessionFault::Regions(_) => 4,
-            SessionFault::Inputs(_) => 5,
-            SessionFault::Refused(_) => 6,
-            SessionFault::Memory => 7,
-            SessionFault::TooLong(_) => 8,
-        }
-    }
-}
 
 /// Why a bundle has no outcome.
 #[derive(Clone, Copy, Debug, PartialEq, Eq, Error)]

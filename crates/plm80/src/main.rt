@@ -1,14 +1,9 @@
-//! `plm80`: a bundle of 8080 code from its bytes to the transcript of its run.
+//! `plm80`: the program, from its words, files and standard input to the calls of the layers below.
 //!
 //! | Item | What it is |
 //! |---|---|
-//! | [`bundle`], [`session`] | one input, or three, to the transcript of a run |
-//! | [`vouch`], [`Vouched`], [`run`] | an image is checked, and runs |
-//! | [`Source`], [`Sink`] | what gives and takes bytes, and counts the calls that failed |
-//! | [`Reading`], [`Writing`] | those made of std's readers and writers |
-//! | [`read_all`], [`write_all`] | a source read whole within a limit, bytes written whole |
-//! | [`read_inputs`] | the inputs of a run, from their text |
-//! | [`Refusal`] | why the check refuses an image |
+//! | [`bundle`] | one input with an image, regions and inputs, to the transcript of a run |
+//! | `commands` | `locate`, `run` and `list`, as clap reads their words |
 #![tactic(auto)]
 
 ghost use Rattle.std.specs.Prelude.{◌≡◌};
@@ -16,43 +11,20 @@ ghost use Rattle.plm80.specs.Status.{run_status};
 
 mod bundle_text;
 mod bundling;
-mod checking;
 mod commands;
-mod digits;
 mod fault;
-mod inputs;
-mod reading;
-mod refusal;
-mod replying;
-mod running;
-mod serving;
-mod stream;
 #[cfg(test)]
 mod tests;
-mod transcript;
-mod vouched;
-mod walk;
-mod whole;
-mod writing;
 
 pub use bundling::{BUNDLE_LIMIT, bundle};
 use commands::{answer_words, fail, refuse_words};
-pub use fault::{BundleFault, SessionFault};
-pub use inputs::{InputsFault, read_inputs};
+pub use fault::BundleFault;
+use loader80::{Reading, SessionFault, Writing};
 use machine80::End;
-pub use reading::Reading;
-pub use refusal::Refusal;
-pub use replying::{Outcome, Reply, SessionTexts, answer_texts};
-pub use running::{Ended, run};
-pub use serving::{TEXT_LIMIT, session};
 use std::alloc::AllocError;
 use std::env;
 use std::io::ErrorKind;
 use std::process::ExitCode;
-pub use stream::{Failed, Sink, Source};
-pub use vouched::{ProcRow, Vouched, vouch};
-pub use whole::{ReadAllFault, read_all, write_all};
-pub use writing::Writing;
 
 /// The steps that a bundle's run makes at most.
 const STEPS: u64 = 1_000_000;

@@ -1,7 +1,9 @@
 //! Files, read and written whole.
 
+ghost use Rattle.std.specs.Prelude.{◌≡◌, ◌≤◌, IfOk, vec_len, None};
+
 use crate::commands::command_fault::{CommandFault, FileFault};
-use crate::{Failed, ReadAllFault, Reading, TEXT_LIMIT, Writing, read_all, write_all};
+use loader80::{Failed, ReadAllFault, Reading, TEXT_LIMIT, Writing, read_all, write_all};
 use std::fs::File;
 use std::io::Read;
 use std::{fs, io};
@@ -16,7 +18,9 @@ pub struct LateFile<'a> {
 
 impl<'a> LateFile<'a> {
     /// The file of this path, not opened yet.
-    pub fn new(rt: &'a HostRuntime, path: &'a str) -> LateFile<'a> {
+    pub fn new(rt: &'a HostRuntime, path: &'a str) -> LateFile<'a>
+        ensures { result.file ≡ None }
+    {
         LateFile {
             rt,
             path,
@@ -40,7 +44,9 @@ impl<'a> Read for LateFile<'a> {
 }
 
 /// All bytes of the file, of which there are no more than a text may have.
-pub fn read_whole<'a>(rt: &HostRuntime, path: &'a str) -> Result<Vec<u8>, CommandFault<'a>> {
+pub fn read_whole<'a>(rt: &HostRuntime, path: &'a str) -> Result<Vec<u8>, CommandFault<'a>>
+    ensures within { IfOk result (λ bytes. vec_len bytes ≤ TEXT_LIMIT) }
+{
     let mut source = Reading::new(LateFile::new(rt, path));
     match read_all(rt.alloc(), &mut source, TEXT_LIMIT) {
         Ok(bytes) => Ok(bytes),

@@ -2,11 +2,11 @@
 
 ghost use Rattle.std.specs.Prelude.{◌≡◌, ◌+◌, ◌<◌, ◌≤◌, ◌++◌, [], ◌∷◌, length, drop, take, codes, IfOk, IfSome, OnOk};
 ghost use Rattle.std.specs.List.{flat_map};
-ghost use Rattle.plm80.specs.HexText.{byte_digits};
+ghost use Rattle.loader80.specs.HexText.{byte_digits};
 ghost use Rattle.plm80.specs.Listing.{bytes_from, columns, instruction_of, line_length, list_line, listing_of, range_lines};
 
-use crate::digits::{digits_of_byte, digits_of_word};
 use decode80::{Instr, decode, spelling_laws, write_text};
+use loader80::digits::{digits_of_byte, digits_of_word};
 use machine80::{Bus, FlatBus};
 use place80::{Image, Range};
 use std::alloc::{AllocError, Global};

@@ -1,5 +1,9 @@
 //! `plm80 list`: the instructions of a located program.
 
+ghost use Rattle.std.specs.Prelude.{◌≡◌, ◌×◌, IfOk, Ok};
+ghost use Rattle.place80.specs.ImageFile.{image_of as told_image, without_regions};
+ghost use Rattle.place80.specs.RegionsText.{Spells};
+
 use crate::commands::command_fault::{CommandFault, FileFault};
 use crate::commands::files::{print, read_whole};
 use crate::commands::list_text::listing;
@@ -59,7 +63,9 @@ pub fn list_files<'a>(rt: &HostRuntime, words: ListWords<'a>) -> Result<u8, Comm
 }
 
 /// The regions that the file's text spells.
-fn regions_of<'a>(alloc: Global, path: &'a str, text: &[u8]) -> Result<Regions, CommandFault<'a>> {
+fn regions_of<'a>(alloc: Global, path: &'a str, text: &[u8]) -> Result<Regions, CommandFault<'a>>
+    ensures { IfOk result (Spells text.now) }
+{
     match read_regions(alloc, text) {
         Ok(regions) => Ok(regions),
         Err(RegionsFault::Memory) => Err(CommandFault::Memory),
@@ -73,7 +79,10 @@ fn image_of<'a>(
     path: &'a str,
     bytes: &[u8],
     regions: Regions,
-) -> Result<Image, CommandFault<'a>> {
+) -> Result<Image, CommandFault<'a>>
+    ensures image { IfOk result (λ image. told_image bytes.now ≡ Ok (without_regions image)) }
+    ensures regions { IfOk result (λ image. image.regions ≡ regions) }
+{
     match read_image(alloc, bytes, regions) {
         Ok(image) => Ok(image),
         Err((_, ImageFault::Memory)) => Err(CommandFault::Memory),

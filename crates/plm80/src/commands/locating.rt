@@ -1,5 +1,9 @@
 //! `plm80 locate`: an object file's one module at its places, as an image and its regions.
 
+ghost use Rattle.std.specs.Prelude.{◌≡◌, IfOk, IfErr};
+ghost use Rattle.std.specs.Option.{option_map};
+ghost use Rattle.plm80.specs.NumberText.{IsWordGiven};
+
 use crate::commands::command_fault::{CommandFault, FileFault};
 use crate::commands::files::{read_whole, replace};
 use crate::commands::numbers::word_given;
@@ -115,7 +119,16 @@ impl<'a> LocateWords<'a> {
 
 impl<'a> LocateTexts<'a> {
     /// The numbers that the texts spell; the first that spells none is a fault.
-    fn numbers(self) -> Result<Options, CommandFault<'a>> {
+    fn numbers(self) -> Result<Options, CommandFault<'a>>
+        ensures code { IfOk result (λ options. IsWordGiven (option_map (λ t. t.now) self.code) options.code) }
+        ensures stack { IfOk result (λ options. IsWordGiven (option_map (λ t. t.now) self.stack) options.stack) }
+        ensures common { IfOk result (λ options. IsWordGiven (option_map (λ t. t.now) self.common) options.common) }
+        ensures data_base { IfOk result (λ options. IsWordGiven (option_map (λ t. t.now) self.data_base) options.data_base) }
+        ensures memory { IfOk result (λ options. IsWordGiven (option_map (λ t. t.now) self.memory) options.memory) }
+        ensures stack_size { IfOk result (λ options. IsWordGiven (option_map (λ t. t.now) self.stack_size) options.stack_size) }
+        ensures memory_size { IfOk result (λ options. IsWordGiven (option_map (λ t. t.now) self.memory_size) options.memory_size) }
+        ensures fault { IfErr result (λ fault. fault ≡ CommandFault.BadNumber) }
+    {
         Ok(Options {
             code: word_given(self.code)?,
             stack: word_given(self.stack)?,

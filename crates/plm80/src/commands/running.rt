@@ -4,8 +4,9 @@ use crate::commands::command_fault::{CommandFault, FileFault};
 use crate::commands::files::LateFile;
 use crate::commands::numbers::count_given;
 use crate::commands::words::{number_option, path_argument, path_of};
-use crate::{Reading, SessionFault, Writing, session, status_of};
+use crate::status_of;
 use clap::{ArgMatches, Command};
+use loader80::{Reading, SessionFault, Writing, session};
 use std::alloc::{AllocError, Global};
 
 /// The words of `run`.

@@ -1,12 +1,13 @@
 //! Bundles, from their bytes to the transcript.
 
-use super::{SlowWriter, TRANSCRIPT, failing_at, roomy, slow};
+use super::TRANSCRIPT;
 use crate::bundle_text::part_bundle;
-use crate::{BundleFault, Outcome, Reading, SessionFault, Writing, bundle};
+use crate::{BundleFault, bundle};
+use loader80::{Outcome, Reading, SessionFault, Writing};
 use machine80::End;
 use place80::RegionsFault;
 use std::alloc::Global;
-use std::io::ErrorKind;
+use std::io::{Error, ErrorKind, Read};
 use std::process::Abort;
 use std::test::Fail;
 
@@ -24,23 +25,23 @@ pub(super) const HALTED: Outcome = Outcome {
 
 #[test]
 fn a_bundle_comes_to_its_transcript(rt: HostRuntime) -> Result<(), Fail> {
-    let mut writer = roomy(rt.alloc());
-    let mut input = Reading::new(slow(BUNDLE));
+    let mut writer = Vec::new(rt.alloc());
+    let mut input = Reading::new(BUNDLE);
     let mut out = Writing::new(&mut writer);
     let answer = bundle(rt.alloc(), &mut input, &mut out, 1_000_000, 65_536);
     assert_eq!(rt; answer, Ok(HALTED));
-    assert_eq!(rt; writer.taken.as_slice(), TRANSCRIPT.as_bytes());
+    assert_eq!(rt; writer.as_slice(), TRANSCRIPT.as_bytes());
     Ok(())
 }
 
 /// A bundle is answered so, and nothing is written.
 pub(super) fn faults(rt: &impl Abort, alloc: Global, bytes: &[u8], fault: BundleFault) {
-    let mut writer = roomy(alloc);
+    let mut writer = Vec::new(alloc);
     let mut input = Reading::new(bytes);
     let mut out = Writing::new(&mut writer);
     let answer = bundle(alloc, &mut input, &mut out, 1_000_000, 65_536);
     assert_eq!(rt; answer, Err(fault));
-    assert_eq!(rt; writer.taken.len(), 0);
+    assert_eq!(rt; writer.len(), 0);
 }
 
 #[test]
@@ -89,25 +90,35 @@ fn the_version_of_the_regions_is_told(rt: HostRuntime) {
 fn digits_of_image_and_inputs_are_of_either_case(rt: HostRuntime) -> Result<(), Fail> {
     let bytes =
         b"02050001410000b7060900000030Db02d301769a04050001000030C60e0100F1\nREGIONS 1\nCODE 3000 0005\nSTACK 3005 0000\nINPUTS\n02 4a\n";
-    let mut writer = roomy(rt.alloc());
+    let mut writer = Vec::new(rt.alloc());
     let mut input = Reading::new(bytes.as_slice());
     let mut out = Writing::new(&mut writer);
     let answer = bundle(rt.alloc(), &mut input, &mut out, 1_000_000, 65_536);
     assert_eq!(rt; answer, Ok(HALTED));
     let expected = "STACK 0\nOUT 01 4A\nHALT 3004 AFTER 3\n";
-    assert_eq!(rt; writer.taken.as_slice(), expected.as_bytes());
+    assert_eq!(rt; writer.as_slice(), expected.as_bytes());
     Ok(())
+}
+
+/// A reader that fails.
+#[derive(Drop)]
+struct Broken;
+
+impl Read for Broken {
+    fn read(&mut self, _buffer: &mut [u8]) -> std::io::Result<usize> {
+        Err(Error::from(ErrorKind::Interrupted))
+    }
 }
 
 #[test]
 fn a_failed_read_of_a_bundle_is_told(rt: HostRuntime) {
     for place in [0, 10, BUNDLE.len()] {
-        let mut writer = roomy(rt.alloc());
-        let mut input = Reading::new(failing_at(BUNDLE, place));
+        let mut writer = Vec::new(rt.alloc());
+        let mut input = Reading::new((&BUNDLE[..place]).chain(Broken));
         let mut out = Writing::new(&mut writer);
         let answer = bundle(rt.alloc(), &mut input, &mut out, 1_000_000, 65_536);
         assert_eq!(rt; answer, Err(BundleFault::Session(SessionFault::Read(1))));
-        assert_eq!(rt; writer.taken.len(), 0);
+        assert_eq!(rt; writer.len(), 0);
     }
 }
 
@@ -115,26 +126,35 @@ fn a_failed_read_of_a_bundle_is_told(rt: HostRuntime) {
 fn a_failed_write_of_a_transcript_is_told(rt: HostRuntime) {
     let text = TRANSCRIPT.as_bytes();
     for full in 0..text.len() {
-        for kind in [None, Some(ErrorKind::Other)] {
-            let taken = Vec::new(rt.alloc());
-            let mut writer = SlowWriter { taken, full, kind };
-            let mut input = Reading::new(BUNDLE);
-            let mut out = Writing::new(&mut writer);
-            let answer = bundle(rt.alloc(), &mut input, &mut out, 1_000_000, 65_536);
-            assert_eq!(rt; answer, Err(BundleFault::Session(SessionFault::Write)));
-            assert_eq!(rt; writer.taken.as_slice(), &text[..full]);
-        }
+        let mut room = [0; 64];
+        let mut input = Reading::new(BUNDLE);
+        let mut out = Writing::new(&mut room[..full]);
+        let answer = bundle(rt.alloc(), &mut input, &mut out, 1_000_000, 65_536);
+        assert_eq!(rt; answer, Err(BundleFault::Session(SessionFault::Write)));
+        assert_eq!(rt; &room[..full], &text[..full]);
     }
 }
 
 #[test]
+fn the_fault_of_a_bundle_is_printed(rt: HostRuntime) -> Result<(), Fail> {
+    let alloc = rt.alloc();
+    let bad = format!(in alloc; "{}", BundleFault::BadBundle)?;
+    assert_eq!(rt; bad.as_str(), "BadBundle");
+    let wrapped = format!(in alloc; "{}", BundleFault::Session(SessionFault::Inputs(1)))?;
+    assert_eq!(rt; wrapped.as_str(), "Inputs 1");
+    assert_eq!(rt; BundleFault::BadBundle.code(), 9);
+    assert_eq!(rt; BundleFault::Session(SessionFault::Inputs(1)).code(), 5);
+    Ok(())
+}
+
+#[test]
 fn a_bundle_without_an_end_is_too_long(rt: HostRuntime) {
-    let mut writer = roomy(rt.alloc());
+    let mut writer = Vec::new(rt.alloc());
     let mut input = Reading::new(std::io::repeat(b'0'));
     let mut out = Writing::new(&mut writer);
     let answer = bundle(rt.alloc(), &mut input, &mut out, 1_000_000, 65_536);
     assert_eq!(rt; answer, Err(BundleFault::Session(SessionFault::TooLong(1))));
-    assert_eq!(rt; writer.taken.len(), 0);
+    assert_eq!(rt; writer.len(), 0);
 }
 
 #[test]

@@ -1,14 +1,15 @@
 //! The listing of an image's code, and the numbers of options.
 
-use super::{image_of, regions_of};
 use crate::commands::list_text::listing;
 use crate::commands::number_text::{count_of_digits, word_of_digits};
 use place80::{read_image, read_regions};
 use std::test::Fail;
 
-/// A program that pushes an argument and calls a procedure, and a byte that begins no instruction.
-const PROGRAM: &[u8] =
-    b"\x31\x00\x32\x21\x05\x00\xE5\xCD\x0B\x30\x76\xD1\xC1\xD5\x79\xD3\x01\xC9\x08\xC3";
+/// An image at 3000 of a program that pushes an argument and calls a procedure, and of two bytes that begin no instruction.
+const IMAGE: &[u8] =
+    b"02050001410000B7061800000030310032210500E5CD0B3076D1C1D579D301C908C37E04050001000030C60E0100F1";
+
+const REGIONS: &[u8] = b"REGIONS 1\nCODE 3000 0014\nSTACK 3100 0100\n";
 
 const LISTING: &str = "\
 3000 310032 LXI SP,3200
@@ -29,8 +30,8 @@ const LISTING: &str = "\
 #[test]
 fn a_program_is_listed(rt: HostRuntime) -> Result<(), Fail> {
     let alloc = rt.alloc();
-    let regions = read_regions(alloc, regions_of(alloc, PROGRAM.len())?.as_bytes())?;
-    let bytes = image_of(alloc, PROGRAM)?;
+    let regions = read_regions(alloc, REGIONS)?;
+    let bytes = hex::decode(alloc, IMAGE)?;
     let image = match read_image(alloc, &bytes, regions) {
         Ok(image) => image,
         Err((_, fault)) => return Err(Fail::from(fault)),

@@ -2,7 +2,8 @@
 
 use super::TRANSCRIPT;
 use super::bundles::{BUNDLE, HALTED};
-use crate::{BundleFault, Outcome, Reading, SessionFault, Writing, bundle};
+use crate::{BundleFault, bundle};
+use loader80::{Outcome, Reading, SessionFault, Writing};
 use machine80::End;
 use std::io::Write;
 

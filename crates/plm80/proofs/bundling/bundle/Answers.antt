@@ -3,9 +3,11 @@ use Rattle.std.specs.Prelude.{Option, Some, string_bytes}
 use Rattle.std.specs.Option.{option_map}
 use Rattle.std.specs.Io.KnownBytes.{Appends}
 use Rattle.plm80.specs.declared.bundle_text.BundleTexts.{BundleTexts}
-use Rattle.plm80.specs.BundleText.{Texts, bundle_texts}
+use Rattle.loader80.specs.Texts.{Texts}
+use Rattle.plm80.specs.BundleText.{bundle_texts}
 use Rattle.plm80.specs.Bundle.{texts_read}
-use Rattle.plm80.proofs.SendsLemmas.{Read3, told_text, bundle_sends, bundle_sends_prefix}
+use Rattle.loader80.proofs.SendsLemmas.{Read3, told_text}
+use Rattle.plm80.proofs.BundledLemmas.{bundle_sends, bundle_sends_prefix}
 use Rattle.plm80.proofs.bundling.bundle.Goals as goal
 
 pub returns-in-Ok-write_all-clause-sends : goal.returns-in-Ok-write_all-clause-sends

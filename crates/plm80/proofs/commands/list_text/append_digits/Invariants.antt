@@ -1,6 +1,6 @@
 use Rattle.std.proofs.Common.{◌≡◌, ◌++◌, take}
 use Rattle.std.specs.List.{flat_map}
-use Rattle.plm80.specs.HexText.{byte_digits}
+use Rattle.loader80.specs.HexText.{byte_digits}
 use Rattle.plm80.proofs.commands.list_text.append_digits.Given as goal
 
 abbrev pub invariant-loop-byte : goal.invariant-loop-byte

@@ -1,0 +1,39 @@
+-- A run of a vouched image.
+use Rattle.std.specs.Prelude.{◌≡◌, ℕ, Bool, true, false, List, Option, None, Some, IfSome, length, refl}
+use Rattle.std.proofs.Common.{subst}
+use Rattle.place80.specs.Regions.{Areas}
+use Rattle.place80.specs.Image.{Located, memory_of}
+use Rattle.machine80.specs.declared.cpu.Cpu.{Cpu}
+use Rattle.machine80.specs.Cpu.{started}
+use Rattle.machine80.specs.declared.end.End.{End}
+use Rattle.machine80.specs.Step.{Machine, machine}
+use Rattle.machine80.specs.World.{world_at_start, IsProperEnd}
+use Rattle.machine80.specs.Run.{IsRun, Agrees, world_of}
+use Rattle.loader80.specs.Check.{IsSound}
+use Rattle.loader80.proofs.Headline.{never_goes_wrong}
+
+-- some number of outputs agrees with each run
+pub most_for : Bool → List (ℕ × ℕ) → Option ℕ
+most_for true outputs = Some (length outputs)
+most_for false outputs = None
+
+pub most_agrees : (b : Bool) (outputs : List (ℕ × ℕ)) → Agrees b (most_for b outputs) outputs
+unfolding most_for
+most_agrees true outputs = refl
+most_agrees false outputs = tt
+
+-- a run ends properly, if it ends
+pub ends_properly : (image : Located) (inputs : List (List ℕ)) (outputs : List (ℕ × ℕ)) (most : Option ℕ) (limit steps : ℕ) (m : Machine) (ending : Option End) → IsSound image →
+    IsRun image.regions most (world_at_start image inputs outputs) limit steps m ending → IfSome ending IsProperEnd
+ends_properly image inputs outputs most limit steps m None sound run = tt
+ends_properly image inputs outputs most limit steps m (Some e) sound run = (never_goes_wrong image sound).ends inputs outputs most run.1.before run.1.last e run.1.at run.1.stops
+
+-- the same from the parts of the start
+pub parts_end_properly : (image : Located) (regions : Areas) (cpu : Cpu) (memory : List ℕ) (inputs : List (List ℕ)) (outputs : List (ℕ × ℕ)) (most : Option ℕ) (limit steps : ℕ) (m : Machine) (ending : Option End) → IsSound image →
+    regions ≡ image.regions → cpu ≡ started image.start image.regions → memory ≡ memory_of image.chunks →
+    IsRun regions most (world_of (machine cpu memory inputs outputs)) limit steps m ending → IfSome ending IsProperEnd
+parts_end_properly image regions cpu memory inputs outputs most limit steps m ending sound e f g run =
+    let run₁ : IsRun image.regions most (world_of (machine cpu memory inputs outputs)) limit steps m ending = subst (λ (r : Areas). IsRun r most (world_of (machine cpu memory inputs outputs)) limit steps m ending) e run in
+    let run₂ : IsRun image.regions most (world_of (machine (started image.start image.regions) memory inputs outputs)) limit steps m ending = subst (λ (x : Cpu). IsRun image.regions most (world_of (machine x memory inputs outputs)) limit steps m ending) f run₁ in
+    let run₃ : IsRun image.regions most (world_at_start image inputs outputs) limit steps m ending = subst (λ (x : List ℕ). IsRun image.regions most (world_of (machine (started image.start image.regions) x inputs outputs)) limit steps m ending) g run₂ in
+    ends_properly image inputs outputs most limit steps m ending sound run₃

@@ -1,0 +1,61 @@
+-- What is answered for three texts is sent.
+use Rattle.std.specs.Prelude.{◌≡◌, ℕ, ◌<◌, ◌≤◌, List, Option, Some, Result, Ok, Err, IfSome, length, take}
+use Rattle.std.specs.Io.KnownBytes.{Appends}
+use Rattle.std.proofs.Common.{◌∙◌, sym, subst}
+use Rattle.loader80.specs.declared.replying.Outcome.{Outcome}
+use Rattle.loader80.specs.declared.fault.SessionFault.{SessionFault}
+use Rattle.loader80.specs.declared.fault.SessionFault.TheVariants.{Read, Write, Memory, TooLong}
+use Rattle.loader80.specs.Texts.{Texts}
+use Rattle.loader80.specs.Session.{Says}
+use Rattle.loader80.specs.Sends.{AreWithin, Answers, Sends, SendsPrefix, text_limit}
+
+-- a text that is told and read
+pub told_text : (left : Option (List ℕ)) (bytes text : List ℕ) → IfSome left (λ told. bytes ≡ told) → left ≡ Some text → bytes ≡ text
+told_text left bytes text whole told = subst (λ (o : Option (List ℕ)). IfSome o (λ x. bytes ≡ x)) told whole
+
+-- the texts as they were read
+pub record Read3 (i r n : List ℕ) (t : Texts) : Type 0 where
+  pub image : i ≡ t.image
+  pub regions : r ≡ t.regions
+  pub inputs : n ≡ t.inputs
+
+pub says_at : (limit steps : ℕ) (i r n : List ℕ) (t : Texts) (answer : Result Outcome SessionFault) (text : List ℕ) → Read3 i r n t → Says limit steps (record { image = i; regions = r; inputs = n }) answer text → Says limit steps t answer text
+says_at limit steps i r n t answer text same says =
+    subst (λ (x : List ℕ). Says limit steps (record { image = t.image; regions = t.regions; inputs = x }) answer text) same.inputs
+    (subst (λ (x : List ℕ). Says limit steps (record { image = t.image; regions = x; inputs = n }) answer text) same.regions
+    (subst (λ (x : List ℕ). Says limit steps (record { image = x; regions = r; inputs = n }) answer text) same.image says))
+
+pub within_at : (i r n : List ℕ) (t : Texts) → Read3 i r n t → AreWithin (record { image = i; regions = r; inputs = n }) → AreWithin t
+within_at i r n t same within = record {
+  image = subst (λ (l : List ℕ). length l ≤ text_limit) same.image within.image;
+  regions = subst (λ (l : List ℕ). length l ≤ text_limit) same.regions within.regions;
+  inputs = subst (λ (l : List ℕ). length l ≤ text_limit) same.inputs within.inputs;
+}
+
+-- what is said of texts within the limit is an answer
+pub answers_of : (limit steps : ℕ) (t : Texts) (answer : Result Outcome SessionFault) (text : List ℕ) → AreWithin t → Says limit steps t answer text → Answers limit steps t answer text
+answers_of limit steps t (Err (Read k)) text within says = absurd says
+answers_of limit steps t (Err (TooLong k)) text within says = absurd says
+answers_of limit steps t (Err Write) text within says = absurd says
+answers_of limit steps t (Err Memory) text within says = says
+answers_of limit steps t answer text within says = (within, says)
+
+-- an answer whose text was written whole
+pub sends_of : (limit steps : ℕ) (t : Texts) (answer : Result Outcome SessionFault) (text : List ℕ) (old new : Option (List ℕ)) → Says limit steps t answer text → Answers limit steps t answer text → Appends old new text → Sends limit steps t answer old new
+sends_of limit steps t (Err Write) text old new says answers appended = absurd says
+sends_of limit steps t answer text old new says answers appended = record { text = text; answers = answers; appended = appended }
+
+pub sends_all : (limit steps : ℕ) (i r n : List ℕ) (t : Texts) (answer : Result Outcome SessionFault) (text : List ℕ) (old new : Option (List ℕ)) → Read3 i r n t → AreWithin t → Says limit steps (record { image = i; regions = r; inputs = n }) answer text → Appends old new text → Sends limit steps t answer old new
+sends_all limit steps i r n t answer text old new same within says appended =
+    let said : Says limit steps t answer text = says_at limit steps i r n t answer text same says in
+    sends_of limit steps t answer text old new said (answers_of limit steps t answer text within said) appended
+
+pub sends_prefix : (limit steps : ℕ) (i r n : List ℕ) (t : Texts) (answer : Result Outcome SessionFault) (text : List ℕ) (count : ℕ) (old new : Option (List ℕ)) → Read3 i r n t → AreWithin t → Says limit steps (record { image = i; regions = r; inputs = n }) answer text → count < length text → Appends old new (take count text) → SendsPrefix limit steps t old new
+sends_prefix limit steps i r n t answer text count old new same within says part appended = record {
+  answer = answer;
+  text = text;
+  answers = answers_of limit steps t answer text within (says_at limit steps i r n t answer text same says);
+  count = count;
+  part = part;
+  appended = appended;
+}

@@ -1,0 +1,70 @@
+-- A run on list ports has a transcript.
+use Rattle.std.specs.Prelude.{◌≡◌, ℕ, ◌+◌, ◌≤◌, Bool, true, false, nat_lt, List, [], Option, Some, length, refl}
+use Rattle.std.proofs.Common.{ap, sym, subst, arith}
+use Rattle.std.proofs.lemmas.Bool.Decides.{nat_tests}
+use Rattle.place80.specs.Image.{Located}
+use Rattle.machine80.specs.declared.end.End.{End}
+use Rattle.machine80.specs.Ports.{Lists, has_room}
+use Rattle.machine80.specs.Step.{Machine, refusals_at}
+use Rattle.machine80.specs.World.{world_at_start}
+use Rattle.machine80.specs.Run.{IsRun, Agrees}
+use Rattle.loader80.specs.declared.replying.Outcome.{Outcome}
+use Rattle.loader80.specs.Session.{IsTranscript}
+use Rattle.loader80.specs.TranscriptText.{transcript}
+
+-- the ports before and after a run: they were new, and the count of refusals tells the end
+pub record RanOn (inputs : List (List ℕ)) (limit : ℕ) (before after : Lists) (ending : Option End) : Type 0 where
+  pub inputs_before : before.inputs ≡ inputs
+  pub outputs_before : before.outputs ≡ []
+  pub refused_before : before.refused ≡ 0
+  pub limit_before : before.limit ≡ limit
+  pub limit_after : Some after.limit ≡ Some before.limit
+  pub refusals : after.refused ≡ before.refused + refusals_at ending
+  pub room : has_room (Some before.limit) before.outputs → has_room (Some after.limit) after.outputs
+
+-- the outputs are within the limit
+kept_within : (inputs : List (List ℕ)) (limit : ℕ) (before after : Lists) (ending : Option End) → RanOn inputs limit before after ending → length after.outputs ≤ limit
+kept_within inputs limit before after ending ports =
+    let none : length before.outputs ≡ 0 = ap length ports.outputs_before in
+    let begun : length before.outputs ≤ before.limit = omega arith in
+    let within : length after.outputs ≤ after.limit = ports.room begun in
+    let same : after.limit ≡ before.limit = cc ports.limit_after in
+    omega (arith, ports.limit_before)
+
+-- a count that stays has not risen
+not_risen : (a b : ℕ) → b ≡ a → nat_lt a b ≡ true → ⊥
+not_risen a b same rose = grind (arith, nat_tests, same, rose)
+
+-- the transcript, whether or not an output was refused
+made : (b : Bool) (image : Located) (inputs : List (List ℕ)) (limit steps : ℕ) (o : Outcome) (text : List ℕ) (before after : Lists) (last : Machine) → nat_lt before.refused after.refused ≡ b → RanOn inputs limit before after o.end → last.outputs ≡ after.outputs →
+    ((most : Option ℕ) → Agrees b most last.outputs → IsRun image.regions most (world_at_start image inputs []) steps o.steps last o.end) → o.at ≡ last.cpu.pc → text ≡ transcript o.stack_bytes last.outputs o.end o.at o.steps →
+    IsTranscript image inputs limit steps o text
+made true image inputs limit steps o text before after last rose ports same run at spells = record {
+  most = length last.outputs;
+  within = subst (λ (l : List (ℕ × ℕ)). length l ≤ limit) (sym same) (kept_within inputs limit before after o.end ports);
+  whole = λ none. let equal : after.refused ≡ before.refused = omega (arith, ports.refusals, none) in absurd (not_risen before.refused after.refused equal rose);
+  last = last;
+  run = run (Some (length last.outputs)) refl;
+  at = at;
+  spells = spells;
+}
+made false image inputs limit steps o text before after last rose ports same run at spells = record {
+  most = limit;
+  within = omega arith;
+  whole = λ none. refl;
+  last = last;
+  run = run (Some limit) (subst (λ (l : List (ℕ × ℕ)). length l ≤ limit) (sym same) (kept_within inputs limit before after o.end ports));
+  at = at;
+  spells = spells;
+}
+
+pub transcript_made : (image : Located) (inputs : List (List ℕ)) (limit steps : ℕ) (o : Outcome) (text : List ℕ) (before after : Lists) (last : Machine) → RanOn inputs limit before after o.end → last.outputs ≡ after.outputs →
+    ((most : Option ℕ) → Agrees (nat_lt before.refused after.refused) most after.outputs → IsRun image.regions most (world_at_start image before.inputs before.outputs) steps o.steps last o.end) → o.at ≡ last.cpu.pc → text ≡ transcript o.stack_bytes last.outputs o.end o.at o.steps →
+    IsTranscript image inputs limit steps o text
+transcript_made image inputs limit steps o text before after last ports same run at spells =
+    made (nat_lt before.refused after.refused) image inputs limit steps o text before after last refl ports same
+    (λ most agrees.
+    subst (λ (i : List (List ℕ)). IsRun image.regions most (world_at_start image i []) steps o.steps last o.end) ports.inputs_before
+    (subst (λ (l : List (ℕ × ℕ)). IsRun image.regions most (world_at_start image before.inputs l) steps o.steps last o.end) ports.outputs_before
+    (run most (subst (λ (l : List (ℕ × ℕ)). Agrees (nat_lt before.refused after.refused) most l) same agrees))))
+    at spells

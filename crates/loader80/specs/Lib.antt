@@ -1,0 +1,13 @@
+pub mod Failures
+pub mod WholeText
+pub mod HexText
+pub mod InputsText
+pub mod Texts
+pub mod TranscriptText
+pub mod Refusal
+pub mod Check
+pub mod Walk
+pub mod Vouched
+pub mod Fault
+pub mod Session
+pub mod Sends

@@ -1,0 +1,44 @@
+//! The verifying loader: an image is checked, runs, and what comes of it is told as a transcript.
+//!
+//! | Item | What it is |
+//! |---|---|
+//! | [`vouch`], [`Vouched`], [`run`] | an image is checked, and runs |
+//! | [`Refusal`] | why the check refuses an image |
+//! | [`session`] | three inputs to the transcript of a run |
+//! | [`answer_texts`] | the same of three texts that were read |
+//! | [`Source`], [`Sink`] | what gives and takes bytes, and counts the calls that failed |
+//! | [`Reading`], [`Writing`] | those made of std's readers and writers |
+//! | [`read_all`], [`write_all`] | a source read whole within a limit, bytes written whole |
+//! | [`read_inputs`] | the inputs of a run, from their text |
+//! | [`digits`] | hexadecimal digits, read and written |
+#![tactic(auto)]
+
+mod checking;
+pub mod digits;
+mod fault;
+mod inputs;
+mod reading;
+mod refusal;
+mod replying;
+mod running;
+mod serving;
+mod stream;
+#[cfg(test)]
+mod tests;
+mod transcript;
+mod vouched;
+mod walk;
+mod whole;
+mod writing;
+
+pub use fault::SessionFault;
+pub use inputs::{InputsFault, read_inputs};
+pub use reading::Reading;
+pub use refusal::Refusal;
+pub use replying::{Outcome, Reply, SessionTexts, answer_texts};
+pub use running::{Ended, run};
+pub use serving::{TEXT_LIMIT, session};
+pub use stream::{Failed, Sink, Source};
+pub use vouched::{ProcRow, Vouched, vouch};
+pub use whole::{ReadAllFault, read_all, write_all};
+pub use writing::Writing;

@@ -1,5 +1,0 @@
-use Rattle.plm80.proofs.Headline.{never_goes_wrong}
-use Rattle.plm80.proofs.vouched.vouch.Goals as goal
-
-pub returns-in-Ok-clause-never_goes_wrong : goal.returns-in-Ok-clause-never_goes_wrong
-returns-in-Ok-clause-never_goes_wrong c = never_goes_wrong c.args.image c.in-Ok.ensures.sound
