@@ -1,6 +1,6 @@
 //! `plm80 list`: the instructions of a located program.
 
-ghost use Rattle.std.specs.Prelude.{◌≡◌, ◌×◌, IfOk, Ok};
+ghost use Rattle.std.specs.Prelude.{◌≡◌, IfOk, Ok};
 ghost use Rattle.place80.specs.ImageFile.{image_of as told_image, without_regions};
 ghost use Rattle.place80.specs.RegionsText.{Spells};
 

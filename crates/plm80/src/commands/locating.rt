@@ -120,13 +120,13 @@ impl<'a> LocateWords<'a> {
 impl<'a> LocateTexts<'a> {
     /// The numbers that the texts spell; the first that spells none is a fault.
     fn numbers(self) -> Result<Options, CommandFault<'a>>
-        ensures code { IfOk result (λ options. IsWordGiven (option_map (λ t. t.now) self.code) options.code) }
-        ensures stack { IfOk result (λ options. IsWordGiven (option_map (λ t. t.now) self.stack) options.stack) }
-        ensures common { IfOk result (λ options. IsWordGiven (option_map (λ t. t.now) self.common) options.common) }
-        ensures data_base { IfOk result (λ options. IsWordGiven (option_map (λ t. t.now) self.data_base) options.data_base) }
-        ensures memory { IfOk result (λ options. IsWordGiven (option_map (λ t. t.now) self.memory) options.memory) }
-        ensures stack_size { IfOk result (λ options. IsWordGiven (option_map (λ t. t.now) self.stack_size) options.stack_size) }
-        ensures memory_size { IfOk result (λ options. IsWordGiven (option_map (λ t. t.now) self.memory_size) options.memory_size) }
+        ensures code { IfOk result (λ options. IsWordGiven (option_map (λ t. t.now) self.entry.code) options.code) }
+        ensures stack { IfOk result (λ options. IsWordGiven (option_map (λ t. t.now) self.entry.stack) options.stack) }
+        ensures common { IfOk result (λ options. IsWordGiven (option_map (λ t. t.now) self.entry.common) options.common) }
+        ensures data_base { IfOk result (λ options. IsWordGiven (option_map (λ t. t.now) self.entry.data_base) options.data_base) }
+        ensures memory { IfOk result (λ options. IsWordGiven (option_map (λ t. t.now) self.entry.memory) options.memory) }
+        ensures stack_size { IfOk result (λ options. IsWordGiven (option_map (λ t. t.now) self.entry.stack_size) options.stack_size) }
+        ensures memory_size { IfOk result (λ options. IsWordGiven (option_map (λ t. t.now) self.entry.memory_size) options.memory_size) }
         ensures fault { IfErr result (λ fault. fault ≡ CommandFault.BadNumber) }
     {
         Ok(Options {

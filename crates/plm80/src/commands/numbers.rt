@@ -9,8 +9,8 @@ use crate::commands::number_text::{count_of_digits, word_of_digits};
 
 /// A word of one to four hexadecimal digits in either case, where the option is given.
 pub fn word_given<'a>(text: Option<&str>) -> Result<Option<u16>, CommandFault<'a>>
-    ensures word { IfOk result (IsWordGiven (option_map (λ t. t.now) text)) }
-    ensures fault { IfErr result (λ fault. (fault ≡ CommandFault.BadNumber) × (MayBeWord (option_map (λ t. t.now) text) → ⊥)) }
+    ensures word { IfOk result (IsWordGiven (option_map (λ t. t.now) text.entry)) }
+    ensures fault { IfErr result (λ fault. (fault ≡ CommandFault.BadNumber) × (MayBeWord (option_map (λ t. t.now) text.entry) → ⊥)) }
 {
     match text {
         None => Ok(None),
