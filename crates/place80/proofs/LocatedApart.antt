@@ -136,7 +136,7 @@ none_holds p (q ∷ qs) address ends all none inside =
     let rest : held address (map range_at qs) ≡ 0 = none_holds p qs address ends (All-tail EndsInMemory q qs all) parts.1 inside in
     held_more address (range_at q) (map range_at qs) ∙ omega arith
 
-none_of_both : {A : Type 0} (a b : Option A) → option_or a b ≡ None → (a ≡ None) × (b ≡ None)
+pub none_of_both : {A : Type 0} (a b : Option A) → option_or a b ≡ None → (a ≡ None) × (b ≡ None)
 none_of_both None b none = (refl, none)
 none_of_both (Some x) b none = absurd cc
 
