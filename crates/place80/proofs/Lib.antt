@@ -24,3 +24,4 @@ pub mod ChunkLemmas
 pub mod ImageFileLemmas
 pub mod LaidOut
 pub mod FitLemmas
+pub mod LocatedRegions

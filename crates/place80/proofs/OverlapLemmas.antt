@@ -9,10 +9,10 @@ use Rattle.place80.specs.PlaceFault.{overlaps, is_in_placed}
 use Rattle.place80.proofs.LocatedApart.{share_then_overlap}
 
 -- an address of a segment
-in_placed : (p : Placed) (address : ℕ) → p.base ≤ address → address < p.base + p.length → is_in_placed p address ≡ true
+pub in_placed : (p : Placed) (address : ℕ) → p.base ≤ address → address < p.base + p.length → is_in_placed p address ≡ true
 in_placed p address above below = and_both (nat_le p.base address) (nat_lt address (p.base + p.length)) (le-leb p.base address above) (lt-ltb address (p.base + p.length) below)
 
-placed_bounds : (p : Placed) (address : ℕ) → is_in_placed p address ≡ true → (p.base ≤ address) × (address < p.base + p.length)
+pub placed_bounds : (p : Placed) (address : ℕ) → is_in_placed p address ≡ true → (p.base ≤ address) × (address < p.base + p.length)
 placed_bounds p address inside =
     let parts = and_parts (nat_le p.base address) (nat_lt address (p.base + p.length)) inside in
     (leb-true p.base address parts.0, ltb-true address (p.base + p.length) parts.1)
