@@ -23,3 +23,5 @@ pub mod LocatingLemmas
 pub mod ChunkLemmas
 pub mod ImageFileLemmas
 pub mod LaidOut
+pub mod FitLemmas
+pub mod LocatedRegions

@@ -26,7 +26,7 @@ holds address range = cond (in_range range address) 1 0
 held_more : (address : ℕ) (range : Range) (ranges : List Range) → held address (range ∷ ranges) ≡ holds address range + held address ranges
 held_more address range ranges = sum_by-cons (holds address) range ranges
 
-empty_holds : (address : ℕ) (range : Range) → nat_lt 0 range.length ≡ false → in_range range address ≡ false
+pub empty_holds : (address : ℕ) (range : Range) → nat_lt 0 range.length ≡ false → in_range range address ≡ false
 empty_holds address range empty = grind (arith, nat_tests, empty)
 
 -- to leave out empty ranges leaves out no address
@@ -102,7 +102,7 @@ above_base : (base length address : ℕ) → base + length ≤ 65536 → nat_le 
     (base ≤ address) × (address < base + length)
 above_base base length address ends above below = (grind (arith, nat_tests, ends, above, below), grind (arith, nat_tests, ends, above, below))
 
-in_segment : (p : Placed) (address : ℕ) → EndsInMemory p → in_range (range_at p) address ≡ true → (p.base ≤ address) × (address < p.base + p.length)
+pub in_segment : (p : Placed) (address : ℕ) → EndsInMemory p → in_range (range_at p) address ≡ true → (p.base ≤ address) × (address < p.base + p.length)
 in_segment p address ends inside =
     let parts = and_parts (nat_le (p.base % 65536) address) (nat_lt address (p.base % 65536 + p.length)) inside in
     above_base p.base p.length address ends parts.0 parts.1
@@ -136,7 +136,7 @@ none_holds p (q ∷ qs) address ends all none inside =
     let rest : held address (map range_at qs) ≡ 0 = none_holds p qs address ends (All-tail EndsInMemory q qs all) parts.1 inside in
     held_more address (range_at q) (map range_at qs) ∙ omega arith
 
-none_of_both : {A : Type 0} (a b : Option A) → option_or a b ≡ None → (a ≡ None) × (b ≡ None)
+pub none_of_both : {A : Type 0} (a b : Option A) → option_or a b ≡ None → (a ≡ None) × (b ≡ None)
 none_of_both None b none = (refl, none)
 none_of_both (Some x) b none = absurd cc
 

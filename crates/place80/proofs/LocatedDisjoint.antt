@@ -75,7 +75,7 @@ pub data_in_memory : (segments : List Placed) → All EndsInMemory segments → 
 data_in_memory segments ends words = chosen_in_memory (λ p. not (p.id == 1 || p.id == 3)) segments ends words
 
 -- the segment that is found, or else none at 0
-found_all : (P : Placed → Type 0) (id : ℕ) (segments : List Placed) → P (nowhere id) → All P segments → P (placed_in segments id)
+pub found_all : (P : Placed → Type 0) (id : ℕ) (segments : List Placed) → P (nowhere id) → All P segments → P (placed_in segments id)
 found_all P id [] none all = none
 found_all P id (p ∷ ps) none all =
     elim (p.id == id) as (λ b. P (unwrap_or (cond b (Some p) (find (λ q. q.id == id) ps)) (nowhere id))) [

@@ -1,20 +1,18 @@
--- What it means that placed segments overlap, and which pair of them is found first.
-use Rattle.std.proofs.Common.{◌≡◌, ℕ, ◌+◌, ◌<◌, ◌≤◌, Bool, true, false, cond, ◌&&◌, List, [], ◌∷◌, map, refl, ap, ◌∙◌, arith, inl, inr}
-use Rattle.std.specs.Prelude.{nat_le, nat_lt, ◌↔◌, Option, Some, find, option_map}
-use Rattle.std.specs.Option.{option_or}
+-- What it means that placed segments overlap.
+use Rattle.std.proofs.Common.{◌≡◌, ℕ, ◌+◌, ◌<◌, ◌≤◌, true, ◌&&◌, arith, inl, inr}
+use Rattle.std.specs.Prelude.{nat_le, nat_lt, ◌↔◌}
 use Rattle.std.proofs.lemmas.Bool.{and_parts, cases_Bool, le-leb, lt-ltb, ltb-true, leb-true}
 use Rattle.std.proofs.lemmas.Bool.Decides.{nat_tests}
-use Rattle.std.proofs.lemmas.List.Folds.{find-append}
 use Rattle.omf_module.proofs.Kept.{and_both}
 use Rattle.place80.specs.declared.placed.Placed.{Placed}
-use Rattle.place80.specs.PlaceFault.{overlaps, pairs, is_in_placed}
+use Rattle.place80.specs.PlaceFault.{overlaps, is_in_placed}
 use Rattle.place80.proofs.LocatedApart.{share_then_overlap}
 
 -- an address of a segment
-in_placed : (p : Placed) (address : ℕ) → p.base ≤ address → address < p.base + p.length → is_in_placed p address ≡ true
+pub in_placed : (p : Placed) (address : ℕ) → p.base ≤ address → address < p.base + p.length → is_in_placed p address ≡ true
 in_placed p address above below = and_both (nat_le p.base address) (nat_lt address (p.base + p.length)) (le-leb p.base address above) (lt-ltb address (p.base + p.length) below)
 
-placed_bounds : (p : Placed) (address : ℕ) → is_in_placed p address ≡ true → (p.base ≤ address) × (address < p.base + p.length)
+pub placed_bounds : (p : Placed) (address : ℕ) → is_in_placed p address ≡ true → (p.base ≤ address) × (address < p.base + p.length)
 placed_bounds p address inside =
     let parts = and_parts (nat_le p.base address) (nat_lt address (p.base + p.length)) inside in
     (leb-true p.base address parts.0, ltb-true address (p.base + p.length) parts.1)
@@ -46,22 +44,3 @@ overlap_is_shared_address p q = (
       let there = placed_bounds q shared.0 shared.2 in
       share_then_overlap p q shared.0 here.0 here.1 there.0 there.1,
 )
-
--- the first pair of a segment and a later one is with the first later one that it overlaps
-abbrev overlap_pair : Placed × Placed → Bool
-overlap_pair pq = overlaps pq.0 pq.1
-
-abbrev pair_with : Placed → Placed → Placed × Placed
-pair_with p q = (p, q)
-
-pub first_with : (p : Placed) (ps : List Placed) → find (λ (pq : Placed × Placed). overlaps pq.0 pq.1) (map (λ q. (p, q)) ps) ≡ option_map (λ q. (p, q)) (find (overlaps p) ps)
-first_with p [] = refl
-first_with p (q ∷ qs) =
-    elim (overlaps p q) as (λ b. cond b (Some (pair_with p q)) (find overlap_pair (map (pair_with p) qs)) ≡ option_map (pair_with p) (cond b (Some q) (find (overlaps p) qs)))
-    [ true ↦ refl | false ↦ first_with p qs ]
-
-pub first_of_pairs : (p : Placed) (ps : List Placed) →
-    find (λ pq. overlaps pq.0 pq.1) (pairs (p ∷ ps)) ≡ option_or (option_map (λ q. (p, q)) (find (overlaps p) ps)) (find (λ pq. overlaps pq.0 pq.1) (pairs ps))
-first_of_pairs p ps =
-    find-append overlap_pair (map (pair_with p) ps) (pairs ps)
-    ∙ ap (λ (o : Option (Placed × Placed)). option_or o (find overlap_pair (pairs ps))) (first_with p ps)

@@ -1,4 +1,4 @@
--- Words in upper case hexadecimal.
+-- Words in upper case hexadecimal of four digits. (The texts are this project's own; Intel's manuals write addresses so.)
 use Rattle.std.specs.Prelude.{ℕ, ◌+◌, ◌/◌, ◌%◌, nat_lt, if◌then◌else◌, List, [], ◌∷◌}
 
 -- the digit of a value below 16: 0 to 9, then A to F

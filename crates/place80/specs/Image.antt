@@ -1,4 +1,5 @@
 -- The image of a located program, and its memory.
+-- (8080 Object Module Formats: the content records of an absolute module, which are loaded in their order.)
 use Rattle.std.specs.Prelude.{ℕ, ◌+◌, ◌-◌, ◌≤◌, Bool, ◌&&◌, nat_lt, nat_le, Option, None, List, length, map, filter, slice_index}
 use Rattle.std.specs.List.{last_or, range_with_len}
 use Rattle.std.specs.Option.{option_map_or}

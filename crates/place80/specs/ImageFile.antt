@@ -1,5 +1,6 @@
 -- Images as object files: a file of one absolute module. What it doesn't hold of an image are the regions.
--- (8080 Object Module Formats: absolute segment, module, object file.)
+-- (8080 Object Module Formats: absolute segment, module, object file. That a module with externals, references or parts that
+-- aren't absolute is no image, and the numbers of the faults, are this project's own.)
 use Rattle.std.specs.Prelude.{◌≡◌, ℕ, ◌==◌, Bool, true, ◌&&◌, if◌then◌else◌, IsTrue, List, [], ◌∷◌, length, map, Option, Some, None, Result, Ok, Err}
 use Rattle.std.specs.List.{list_all, AllByRecursion}
 use Rattle.omf_core.specs.Name.{is_name}

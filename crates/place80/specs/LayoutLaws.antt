@@ -1,13 +1,14 @@
--- What it means that segments are laid out, said of the whole list of them and of each two neighbours, and that segments
--- overlap. (ISIS-II User's Guide, LOCATE: the order of segments, their bases, and the sizes of STACK and MEMORY.)
-use Rattle.std.specs.Prelude.{◌≡◌, ◌↔◌, ℕ, ◌+◌, true, unwrap_or, List, [], ◌∷◌, map}
+-- What it means that segments are laid out, said of the whole list of them and of each two neighbours, that segments overlap,
+-- and that they fit. (ISIS-II User's Guide, LOCATE: the order of segments, their bases, and the sizes of STACK and MEMORY.)
+use Rattle.std.specs.Prelude.{◌≡◌, ◌↔◌, ℕ, ◌+◌, ◌≤◌, true, false, unwrap_or, None, List, [], ◌∷◌, map, length, All, AllPairs}
 use Rattle.std.specs.List.{AllByRecursion}
+use Rattle.omf_module.specs.Contents.{ContentValue}
 use Rattle.omf_module.specs.Modules.{ModuleValue}
 use Rattle.omf_module.specs.Place.{rounded}
 use Rattle.place80.specs.declared.options.Options.{Options}
 use Rattle.place80.specs.declared.placed.Placed.{Placed}
 use Rattle.place80.specs.Layout.{usual_base, order_of, given_base, given_length, own_segment, layout_of}
-use Rattle.place80.specs.PlaceFault.{overlaps, is_in_placed}
+use Rattle.place80.specs.PlaceFault.{overlaps, is_in_placed, absolute_place, layout_fault}
 
 -- it has the length that is given for it, or its own
 abbrev pub HasItsLength : Options → ModuleValue → Placed → Type 0
@@ -43,3 +44,22 @@ LaidOutInOneWay = (options : Options) (m : ModuleValue) (segments : List Placed)
 -- two segments overlap exactly where an address lies in both
 abbrev pub OverlapIsASharedAddress : Type 0
 OverlapIsASharedAddress = (p q : Placed) → overlaps p q ≡ true ↔ ((address : ℕ) × (is_in_placed p address ≡ true) × (is_in_placed q address ≡ true))
+
+-- the segment ends with memory or before it, and where it is MEMORY, it holds all of its content
+pub record LiesInMemory (contents : List ContentValue) (p : Placed) : Type 0 where
+  pub «end» : p.base + p.length ≤ 65536
+  pub content : p.id ≡ 4 → All (λ c. c.segment ≡ 4 → c.offset + length c.bytes ≤ p.length) contents
+
+-- no address lies in both
+abbrev pub AreApart : Placed → Placed → Type 0
+AreApart p q = (address : ℕ) → is_in_placed p address ≡ true → is_in_placed q address ≡ false
+
+-- segments that fit: each lies in memory, and no address lies in two of them, or in one and in an absolute content
+pub record Fit (m : ModuleValue) (segments : List Placed) : Type 0 where
+  pub in_memory : All (LiesInMemory m.contents) segments
+  pub apart : AllPairs AreApart segments
+  pub absolute_apart : All (λ c. c.segment ≡ 0 → All (AreApart (absolute_place c)) segments) m.contents
+
+-- nothing is told of a layout exactly where its segments fit
+abbrev pub NothingIsToldWhereSegmentsFit : Type 0
+NothingIsToldWhereSegmentsFit = (options : Options) (m : ModuleValue) → layout_fault options m ≡ None ↔ Fit m (layout_of options m)

@@ -11,3 +11,4 @@ pub mod PlaceFault
 pub mod Locating
 pub mod ImageFile
 pub mod LayoutLaws
+pub mod LocatedLaws

@@ -1,4 +1,5 @@
 -- Laws of an image's memory.
+-- (8080 Assembly Language Programming Manual: a memory of 65536 bytes, by address.)
 use Rattle.std.specs.Prelude.{◌≡◌, ℕ, ◌<◌, true, false, Option, None, Some, List, [], ◌∷◌, ◌++◌, length, filter, slice_index, refl, if◌then◌else◌}
 use Rattle.std.specs.List.{last_or}
 use Rattle.std.specs.Option.{option_map_or}

@@ -1,4 +1,4 @@
--- Ranges of addresses in a memory of 65536 bytes.
+-- Ranges of addresses in a memory of 65536 bytes. (8080 Assembly Language Programming Manual: addresses are words.)
 use Rattle.std.specs.Prelude.{ℕ, ◌+◌, ◌≤◌, ◌<◌, Bool, ◌&&◌, nat_lt, nat_le, List}
 use Rattle.std.specs.List.{list_any}
 use Rattle.place80.specs.declared.range.Range.{Range}

@@ -1,4 +1,6 @@
 -- The regions of a program: its code, its data and its stack.
+-- (ISIS-II User's Guide, LOCATE: the segments CODE, DATA and STACK. That regions may not share an address is this project's
+-- own.)
 use Rattle.std.specs.Prelude.{ℕ, ◌+◌, ◌%◌, ◌≤◌, ◌<◌, Bool, List, ◌∷◌, ◌++◌, All, AllPairs, IsPermutation, count_by, ◌≡◌}
 use Rattle.place80.specs.declared.range.Range.{Range}
 use Rattle.place80.specs.Range.{in_range, in_ranges, IsInMemory}

@@ -1,4 +1,4 @@
--- The faults of a regions text by their numbers.
+-- The faults of a regions text by their numbers. (The text and the numbers are this project's own.)
 use Rattle.std.specs.Prelude.{ℕ}
 use Rattle.place80.specs.declared.fault.RegionsFault.{RegionsFault}
 use Rattle.place80.specs.declared.fault.RegionsFault.TheVariants.{BadLine, BadVersion, RegionsOverlap, NoStack, Memory}

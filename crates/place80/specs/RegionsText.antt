@@ -1,6 +1,7 @@
 -- The text of regions, version 1. It is over whole lines: the first is `REGIONS 1`, and each
 -- further one is `CODE ffff llll`, `DATA ffff llll` or `STACK ffff llll`, the first address and the
 -- length of a range in upper case hexadecimal, in any order.
+-- (The text is this project's own; its words are names of the segments of ISIS-II's LOCATE.)
 use Rattle.std.specs.Prelude.{◌≡◌, ℕ, ◌+◌, ◌<◌, ◌≤◌, Bool, IsTrue, IsSome, nat_lt, List, [], ◌∷◌, ◌++◌, length, map, filter, filter_map, All, IsPermutation, codes, Option, Some, None}
 use Rattle.place80.specs.declared.range.Range.{Range}
 use Rattle.place80.specs.declared.entry.Entry.{Entry}

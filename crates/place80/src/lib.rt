@@ -1,14 +1,17 @@
-//! Where a program lies in the 8080's memory: the image of a located program, the regions that it
-//! may fetch from, store to and push on, and their texts.
+//! Where a program lies in the 8080's memory: the places of its segments, the image of a located program, the regions
+//! that it may fetch from, store to and push on, and their texts.
 //!
 //! | Item | What it is |
 //! |---|---|
+//! | [`layout`], [`Layout`], [`Placed`] | the segments of a program at their places |
+//! | [`locate`], [`Options`], [`PlaceFault`] | a program made an image, what is told of its places, and why it can't be |
 //! | [`Range`] | consecutive addresses |
 //! | [`Regions`] | the ranges of code and of data, and the one range of the stack |
 //! | [`Chunk`], [`Image`] | bytes at an address; a located program |
-//! | [`RegionsFault`] | why bytes are no regions text |
+//! | [`write_regions`], [`read_regions`], [`RegionsFault`] | regions as a text, and why bytes are no regions text |
 //! | [`write_image`], [`read_image`], [`ImageFault`] | an image as an object file, and why bytes are no image |
 //! | [`lines`] | texts over whole lines |
+//! | [`laws`] | what holds of the definitions alone |
 #![tactic(auto)]
 
 mod absolute;

@@ -7,7 +7,7 @@ ghost use Rattle.place80.specs.Regions.{Arranges};
 ghost use Rattle.place80.specs.Layout.{layout_of, program_bases};
 ghost use Rattle.place80.specs.Locating.{located_chunks, located_code, located_stack, located_data};
 ghost use Rattle.place80.specs.PlaceFault.{locate_fault, start_place};
-ghost use Rattle.place80.specs.declared.place_fault.PlaceFault.TheVariants.{Memory, Unresolved};
+ghost use Rattle.place80.specs.declared.place_fault.PlaceFault.TheVariants.{Memory, NoStart, Unresolved};
 
 use crate::image::Image;
 use crate::laying_out::layout;
@@ -29,7 +29,7 @@ use std::alloc::Global;
 ///
 /// # Errors
 /// The first that holds of `Unresolved`, `NoStart`, `OutsideMemory`, `Overlap`, `HighNotPaged` and `StartNotCode`; `Memory`
-/// only where a growth was refused.
+/// only where a growth was refused, and never of a module without externals that is no main program.
 pub fn locate(alloc: Global, program: &Module, options: &Options) -> Result<Image, PlaceFault>
     ensures name { IfOk result (λ image. image.name ≡ program.now.name) }
     ensures chunks { IfOk result (λ image. image.chunks ≡ located_chunks options.now program.now) }
@@ -38,6 +38,7 @@ pub fn locate(alloc: Global, program: &Module, options: &Options) -> Result<Imag
     ensures start { IfOk result (λ image. Some image.start ≡ option_map (start_place (program_bases options.now program.now) program.now) program.now.start) }
     ensures none { OnOk result (locate_fault options.now program.now ≡ None) }
     ensures fault { IfErr result (λ fault. (fault ≡ Memory) ⊎ (locate_fault options.now program.now ≡ Some fault)) }
+    ensures no_main { IfErr result (λ fault. program.now.externals ≡ [] → program.now.start ≡ None → fault ≡ NoStart) }
 {
     if let Some(name) = program.externals().first() {
         return Err(unresolved(alloc, name));

@@ -1,8 +1,8 @@
 ghost use Rattle.std.specs.Prelude.{◌≡◌, ◌==◌, find};
 ghost use Rattle.place80.specs.Layout.{placed_in};
 
-/// A segment at its place: it takes `length` bytes from the address `base` on. A segment without bytes may stand at 65536
-/// or beyond.
+/// A segment at its place: it takes `length` bytes from the address `base` on, the last of them below 65536 in a layout. A
+/// segment without bytes may stand at 65536.
 #[derive(Clone, Copy, Debug, PartialEq, Eq)]
 pub struct Placed {
     /// 1 CODE, 2 DATA, 3 STACK, 4 MEMORY, 6 to 254 named commons, 255 the unnamed common.

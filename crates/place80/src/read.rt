@@ -3,6 +3,7 @@
 ghost use Rattle.std.specs.Prelude.{◌≡◌, IsTrue, IsNone, IfOk, IfErr, IfSome, IfNone, slice_get};
 ghost use Rattle.place80.specs.Range.{IsInMemory};
 ghost use Rattle.place80.specs.RegionsText.{code_ranges, data_ranges, stack_range, stack_ranges, range_of, entry_text, GoodText, IsNoEntry, Spells, Refuses};
+ghost use Rattle.place80.specs.declared.fault.RegionsFault.TheVariants.{BadVersion};
 
 use crate::entry::{Entry, read_entry};
 use crate::fault::RegionsFault;
@@ -20,10 +21,11 @@ const HEADING: &[u8] = b"REGIONS 1";
 /// `STACK ffff llll`, the first address and the length of a range in upper case hexadecimal, in
 /// any order, and each line ends with its line feed. Code and data of length 0 are left out. The
 /// faults are looked for in the order `BadVersion`, `BadLine` with the first such line, `NoStack`,
-/// `RegionsOverlap`; `Memory` comes only where a growth was refused.
+/// `RegionsOverlap`; `Memory` comes only where a growth was refused, and never in place of `BadVersion`.
 pub fn read_regions(alloc: Global, bytes: &[u8]) -> Result<Regions, RegionsFault>
     ensures spelled { IfOk result (Spells bytes.now) }
     ensures refused { IfErr result (Refuses bytes.now) }
+    ensures version { IfErr result (λ fault. Refuses bytes.now BadVersion → fault ≡ BadVersion) }
 {
     let entries = read_entries(alloc, bytes)?;
     let Some(stack) = stack_of(&entries) else {
@@ -41,6 +43,7 @@ pub fn read_regions(alloc: Global, bytes: &[u8]) -> Result<Regions, RegionsFault
 fn read_entries(alloc: Global, text: &[u8]) -> Result<Vec<Entry>, RegionsFault>
     ensures good { IfOk result (λ entries. GoodText text.now entries.items) }
     ensures refused { IfErr result (Refuses text.now) }
+    ensures version { IfErr result (λ fault. Refuses text.now BadVersion → fault ≡ BadVersion) }
 {
     let Some((heading, after)) = first_line(text) else {
         return Err(if text == HEADING {

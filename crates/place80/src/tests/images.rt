@@ -54,7 +54,7 @@ fn changed(alloc: Global, from: usize, to: usize, other: &[u8]) -> Result<Vec<u8
 #[test]
 fn an_image_is_read_and_written_again(rt: HostRuntime) -> Result<(), Fail> {
     let regions = read_regions(rt.alloc(), REGIONS)?;
-    let image = read_image(rt.alloc(), HALT, regions).ok().ok_or("read")?;
+    let image = read_image(rt.alloc(), HALT, regions).map_err(|(_, fault)| fault)?;
     assert_eq!(rt; image.name.bytes(), b"A".as_slice());
     assert_eq!(rt; image.chunks.len(), 1);
     assert_eq!(rt; image.chunks[0].address, 0x3000);
@@ -175,7 +175,7 @@ fn again(alloc: Global, image: &Image) -> Result<Image, Fail> {
     let mut file = Vec::new(alloc);
     write_image(alloc, image, &mut file)?;
     let regions = read_regions(alloc, REGIONS)?;
-    Ok(read_image(alloc, &file, regions).ok().ok_or("again")?)
+    Ok(read_image(alloc, &file, regions).map_err(|(_, fault)| fault)?)
 }
 
 #[test]

@@ -65,7 +65,7 @@ fn parts(alloc: Global, segments: &[(u8, Segment)], code: &[u8]) -> Result<Parts
 }
 
 fn module(parts: Parts, alloc: Global) -> Result<Module, Fail> {
-    Ok(Module::from_parts(alloc, parts).ok().ok_or("rules")?)
+    Ok(Module::from_parts(alloc, parts).map_err(|(_, fault)| fault)?)
 }
 
 /// A program whose code has one reference, at offset 1.
@@ -341,13 +341,13 @@ fn memory_that_overlaps(rt: HostRuntime) -> Result<(), Fail> {
 
 #[test]
 fn what_touches_or_is_empty_overlaps_nothing(rt: HostRuntime) -> Result<(), Fail> {
-    assert!(rt; fault_of(rt.alloc(), at_memory(0x2FFE))?.is_none());
+    assert_eq!(rt; fault_of(rt.alloc(), at_memory(0x2FFE))?, None);
     let memory_size = Some(0);
     let options = Options {
         memory_size,
         ..at_memory(0x3000)
     };
-    assert!(rt; fault_of(rt.alloc(), options)?.is_none());
+    assert_eq!(rt; fault_of(rt.alloc(), options)?, None);
     Ok(())
 }
 
@@ -372,9 +372,9 @@ fn fault_beside(alloc: Global, offset: u16, bytes: &[u8]) -> Result<Option<Place
 
 #[test]
 fn absolute_content_overlaps_too(rt: HostRuntime) -> Result<(), Fail> {
-    assert!(rt; fault_beside(rt.alloc(), 0x2FFF, &[1])?.is_none());
-    assert!(rt; fault_beside(rt.alloc(), 0x3001, &[1])?.is_none());
-    assert!(rt; fault_beside(rt.alloc(), 0x3000, &[])?.is_none());
+    assert_eq!(rt; fault_beside(rt.alloc(), 0x2FFF, &[1])?, None);
+    assert_eq!(rt; fault_beside(rt.alloc(), 0x3001, &[1])?, None);
+    assert_eq!(rt; fault_beside(rt.alloc(), 0x3000, &[])?, None);
     let fault = fault_beside(rt.alloc(), 0x3000, &[1])?;
     assert_eq!(rt; fault, Some(PlaceFault::Overlap(0, 1)));
     let fault = fault_beside(rt.alloc(), 0x2FFF, &[1, 2])?;
@@ -476,7 +476,8 @@ fn a_start_outside_code_is_told_last(rt: HostRuntime) -> Result<(), Fail> {
     }
     let fault = fault_of_start(rt.alloc(), (1, 1), &OUTSIDE)?;
     assert_eq!(rt; fault, Some(PlaceFault::OutsideMemory(3)));
-    assert!(rt; fault_of_start(rt.alloc(), (0, 0x3000), &USUAL)?.is_none());
+    let fault = fault_of_start(rt.alloc(), (0, 0x3000), &USUAL)?;
+    assert_eq!(rt; fault, None);
     Ok(())
 }
 
@@ -488,8 +489,10 @@ fn memory_that_no_longer_holds_its_content(rt: HostRuntime) -> Result<(), Fail> 
     let program = module(parts, alloc)?;
     let fault = layout(alloc, &program, &of_memory_size(1)).err();
     assert_eq!(rt; fault, Some(PlaceFault::OutsideMemory(4)));
-    assert!(rt; layout(alloc, &program, &of_memory_size(2)).is_ok());
-    assert!(rt; layout(alloc, &program, &of_memory_size(3)).is_ok());
+    let fault = layout(alloc, &program, &of_memory_size(2)).err();
+    assert_eq!(rt; fault, None);
+    let fault = layout(alloc, &program, &of_memory_size(3)).err();
+    assert_eq!(rt; fault, None);
     Ok(())
 }
 

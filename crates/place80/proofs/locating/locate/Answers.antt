@@ -76,13 +76,9 @@ pub returns-clause-chunks : goal.returns-clause-chunks
 returns-clause-chunks c =
     let m = c.args.program.now in
     let options = c.args.options.now in
-    let start : ℕ × ℕ = (c.in-Some-start.segment, c.in-Some-start.offset) in
     let sound = c.externals.ensures.rules.sound in
     let closed : m.externals ≡ [] = no_first m.externals (ap (λ (l : List (List ℕ)). slice_get l 0) (sym c.externals.ensures.value) ∙ sym c.first.ensures.value ∙ ap option_copied c.in_default.is) in
-    let is : m.start ≡ Some start = sym c.start.ensures.value ∙ c.in-Some-start.is in
-    let laid = c.in_ok-segments.ensures.none in
     let places = c.in_ok-segments.ensures.places in
-    let loses = high_told options m c.deref.result.now c.contents.result.now c.any_loses_its_low_byte.result sound closed (c.deref.ensures.value ∙ places) c.contents.ensures.value c.any_loses_its_low_byte.ensures in
     let chunks = chunks_told options m c.deref-4.result.now c.contents-2.result.now c.in_ok-located_chunks.field-0.items sound closed (c.deref-4.ensures.value ∙ places) c.contents-2.ensures.value c.in_ok-located_chunks.ensures in
     chunks
 
@@ -90,13 +86,9 @@ pub returns-clause-memory : goal.returns-clause-memory
 returns-clause-memory c =
     let m = c.args.program.now in
     let options = c.args.options.now in
-    let start : ℕ × ℕ = (c.in-Some-start.segment, c.in-Some-start.offset) in
     let sound = c.externals.ensures.rules.sound in
     let closed : m.externals ≡ [] = no_first m.externals (ap (λ (l : List (List ℕ)). slice_get l 0) (sym c.externals.ensures.value) ∙ sym c.first.ensures.value ∙ ap option_copied c.in_default.is) in
-    let is : m.start ≡ Some start = sym c.start.ensures.value ∙ c.in-Some-start.is in
-    let laid = c.in_ok-segments.ensures.none in
     let places = c.in_ok-segments.ensures.places in
-    let loses = high_told options m c.deref.result.now c.contents.result.now c.any_loses_its_low_byte.result sound closed (c.deref.ensures.value ∙ places) c.contents.ensures.value c.any_loses_its_low_byte.ensures in
     let chunks = chunks_told options m c.deref-4.result.now c.contents-2.result.now c.in_ok-located_chunks.field-0.items sound closed (c.deref-4.ensures.value ∙ places) c.contents-2.ensures.value c.in_ok-located_chunks.ensures in
     λ address. ap (λ (l : List PlacedBytes). byte_at l address) chunks ∙ located_byte options m address
 
@@ -106,13 +98,9 @@ returns-clause-start c =
     let options = c.args.options.now in
     let start : ℕ × ℕ = (c.in-Some-start.segment, c.in-Some-start.offset) in
     let sound = c.externals.ensures.rules.sound in
-    let closed : m.externals ≡ [] = no_first m.externals (ap (λ (l : List (List ℕ)). slice_get l 0) (sym c.externals.ensures.value) ∙ sym c.first.ensures.value ∙ ap option_copied c.in_default.is) in
     let is : m.start ≡ Some start = sym c.start.ensures.value ∙ c.in-Some-start.is in
-    let laid = c.in_ok-segments.ensures.none in
     let places = c.in_ok-segments.ensures.places in
-    let loses = high_told options m c.deref.result.now c.contents.result.now c.any_loses_its_low_byte.result sound closed (c.deref.ensures.value ∙ places) c.contents.ensures.value c.any_loses_its_low_byte.ensures in
     let place = place_told options m c.deref-2.result.now start.0 start.1 c.place_of-start.result (c.deref-2.ensures.value ∙ places) c.place_of-start.ensures in
-    let inside = inside_told options m c.deref-3.result.now start.0 start.1 c.place_of-start.result c.placed_in.result c.is_in_placed.result sound is (c.deref-3.ensures.value ∙ places) place c.placed_in.ensures c.is_in_placed.ensures in
     ap (λ (n : ℕ). Some n) place ∙ start_found (layout_of options m) m start.0 start.1 sound is
 
 pub returns-clause-none : goal.returns-clause-none
