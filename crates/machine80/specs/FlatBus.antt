@@ -1,4 +1,5 @@
--- A chunk that is written into a memory.
+-- A chunk that is written into a memory. (8080 Object Module Formats, content record: its bytes stand at successive
+-- addresses. That a memory is 0 before them is this project's own.)
 use Rattle.std.specs.Prelude.{◌≡◌, ℕ, List, length, slice_index, if◌then◌else◌}
 use Rattle.place80.specs.Image.{PlacedBytes, covers, byte_of}
 

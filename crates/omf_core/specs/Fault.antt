@@ -1,4 +1,4 @@
--- The numbers of the refusals.
+-- The numbers of the refusals. (They are this project's own.)
 use Rattle.std.specs.Prelude.{ℕ}
 use Rattle.omf_core.specs.declared.fault.RecordFault.{RecordFault}
 use Rattle.omf_core.specs.declared.fault.RecordFault.TheVariants.{Truncated, BadSum, ZeroLength}

@@ -1,4 +1,4 @@
--- What holds of all spellings.
+-- What holds of all spellings. (8080 Object Module Formats: it follows from the layout of records and names.)
 use Rattle.std.specs.Prelude.{◌≡◌, ℕ, ◌+◌, ◌↔◌, ◌⊎◌, List, [], ◌∷◌, ◌++◌, length, drop, All, Some, None, IsTrue, slice_range, ◌<◌}
 use Rattle.omf_core.specs.declared.fault.RecordFault.TheVariants.{Truncated, BadSum, ZeroLength}
 use Rattle.omf_core.specs.Name.{SpellsName, is_name, holds_name, name_spelling}

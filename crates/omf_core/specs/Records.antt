@@ -1,4 +1,4 @@
--- Records that follow one another.
+-- Records that follow one another. (8080 Object Module Formats: a module is a sequence of records.)
 use Rattle.std.specs.Prelude.{◌≡◌, ℕ, ◌+◌, List, [], ◌∷◌, ◌++◌, length}
 use Rattle.omf_core.specs.Record.{SpellsRecord, spelling}
 
