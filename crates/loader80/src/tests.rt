@@ -1,8 +1,9 @@
 //! Programs, texts, readers and writers, with values that the formats and the 8080's tables give.
 
 use crate::{Outcome, Reply, SessionTexts, answer_texts};
+use machine80::End;
 use omf_core::{RecordKind, put_record};
-use std::alloc::Global;
+use std::alloc::{AllocError, Global};
 use std::io::{Error, ErrorKind, Read, Write};
 use std::test::Fail;
 
@@ -94,13 +95,13 @@ impl Write for SlowWriter {
     }
 }
 
-/// A writer that takes one byte at a time, and never fails.
-fn roomy(alloc: Global) -> SlowWriter {
-    SlowWriter {
-        taken: Vec::new(alloc),
+/// A writer that takes one byte at a time, with room for 64.
+fn roomy(alloc: Global) -> Result<SlowWriter, Fail> {
+    Ok(SlowWriter {
+        taken: Vec::with_capacity(alloc, 64)?,
         full: usize::MAX,
         kind: None,
-    }
+    })
 }
 
 /// The written image of a program at 3000, where it starts.
@@ -151,4 +152,17 @@ fn reply_to(
         inputs,
     };
     Ok(answer_texts(alloc, texts, steps, outputs))
+}
+
+/// The reply, unless an output was refused for want of memory: the limit is above the outputs.
+fn with_memory(reply: Reply) -> Result<Reply, Fail> {
+    match reply.answer {
+        Ok(
+            Outcome {
+                end: Some(End::OutputRefused(_)),
+                ..
+            },
+        ) => Err(Fail::from(AllocError)),
+        _ => Ok(reply),
+    }
 }

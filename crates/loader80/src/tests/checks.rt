@@ -23,6 +23,7 @@ fn answers(
         inputs: b"",
     };
     let reply = answer_texts(alloc, texts, 100, 65_536);
+    assert_ne!(rt; reply.answer, Err(SessionFault::Memory));
     assert_eq!(rt; reply.text.as_str(), expected);
     Ok(())
 }

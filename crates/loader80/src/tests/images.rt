@@ -1,7 +1,7 @@
 //! Images that are read. Each is a change of that of [`super::IMAGE`]: a header of 8 bytes, a content of 12, the end of the
 //! module and the end of the file.
 
-use super::{INPUTS, REGIONS, TRANSCRIPT};
+use super::{INPUTS, REGIONS, TRANSCRIPT, with_memory};
 use crate::{Outcome, Reply, SessionFault, SessionTexts, answer_texts};
 use machine80::End;
 use omf_core::RecordFault;
@@ -53,7 +53,7 @@ fn module_faults(
 
 /// This image comes to the transcript.
 fn runs(rt: &impl Abort, alloc: Global, image: &str) -> Result<(), Fail> {
-    let reply = reply_to_image(alloc, image)?;
+    let reply = with_memory(reply_to_image(alloc, image)?)?;
     let halted = Outcome {
         stack_bytes: 0,
         end: Some(End::Halt),

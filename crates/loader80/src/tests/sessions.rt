@@ -1,8 +1,8 @@
 //! Sessions: three readers and a writer.
 
-use super::{IMAGE, INPUTS, REGIONS, TRANSCRIPT, failing_at, roomy, slow};
+use super::{IMAGE, INPUTS, REGIONS, SlowWriter, TRANSCRIPT, failing_at, roomy, slow};
 use crate::{Reading, SessionFault, Writing, session};
-use std::alloc::Global;
+use std::alloc::{AllocError, Global};
 use std::io::Read;
 use std::process::Abort;
 use std::test::Fail;
@@ -10,7 +10,7 @@ use std::test::Fail;
 #[test]
 fn three_texts_come_to_their_transcript(rt: HostRuntime) -> Result<(), Fail> {
     let bytes = hex::decode(rt.alloc(), IMAGE)?;
-    let mut writer = roomy(rt.alloc());
+    let mut writer = roomy(rt.alloc())?;
     let mut image = Reading::new(slow(bytes.as_slice()));
     let mut regions = Reading::new(slow(REGIONS));
     let mut inputs = Reading::new(slow(INPUTS));
@@ -24,7 +24,10 @@ fn three_texts_come_to_their_transcript(rt: HostRuntime) -> Result<(), Fail> {
         1_000_000,
         65_536,
     );
-    assert!(rt; answer.is_ok());
+    assert_eq!(rt; answer.err(), None);
+    if writer.taken.as_slice() == b"STACK 0\nOUTPUT 01 AFTER 2\n".as_slice() {
+        return Err(Fail::from(AllocError));
+    }
     assert_eq!(rt; writer.taken.as_slice(), TRANSCRIPT.as_bytes());
     Ok(())
 }
@@ -38,7 +41,11 @@ fn faults<A: Read + Drop, B: Read + Drop, C: Read + Drop>(
     inputs: C,
     fault: SessionFault,
 ) {
-    let mut writer = roomy(alloc);
+    let mut writer = SlowWriter {
+        taken: Vec::new(alloc),
+        full: 0,
+        kind: None,
+    };
     let mut image = Reading::new(image);
     let mut regions = Reading::new(regions);
     let mut inputs = Reading::new(inputs);

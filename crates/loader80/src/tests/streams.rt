@@ -41,7 +41,7 @@ fn a_writer_takes_a_prefix_where_it_fails(rt: HostRuntime) -> Result<(), Fail> {
     let text = b"abc";
     for full in 0..4usize {
         for kind in [None, Some(ErrorKind::Interrupted)] {
-            let taken = Vec::new(rt.alloc());
+            let taken = Vec::with_capacity(rt.alloc(), 3)?;
             let mut writer = SlowWriter { taken, full, kind };
             let mut sink = Writing::new(&mut writer);
             let written = write_all(&mut sink, text);
