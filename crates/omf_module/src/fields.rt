@@ -1,7 +1,7 @@
 //! The fields of a record's body.
 
 ghost use Rattle.std.specs.Prelude.{◌≡◌};
-ghost use Rattle.omf_module.specs.Stop.{Gives};
+ghost use Rattle.omf_module.specs.Stop.{Answers, Gives};
 ghost use Rattle.omf_module.specs.Fields.{byte_at, word_at, name_at, field_at};
 
 use crate::fault::Cause;
@@ -10,20 +10,20 @@ use crate::stop::Stop;
 use omf_core::{Name, NameFault};
 use std::alloc::Global;
 
-pub(crate) fn byte_at(kind: u8, rest: &[u8]) -> Result<(u8, &[u8]), Stop<Cause>>
-    ensures { Gives (λ x. (x.0, x.1.now)) result (byte_at kind rest.now) }
+pub(crate) fn byte_at(kind: u8, rest: &[u8]) -> Result<(u8, &[u8]), Cause>
+    ensures { Answers (λ x. (x.0, x.1.now)) result (byte_at kind rest.now) }
 {
     match rest {
-        [] => Err(Stop::Fault(Cause::BadBody(kind))),
+        [] => Err(Cause::BadBody(kind)),
         [byte, after @ ..] => Ok((*byte, after)),
     }
 }
 
-pub(crate) fn word_at(kind: u8, rest: &[u8]) -> Result<(u16, &[u8]), Stop<Cause>>
-    ensures { Gives (λ x. (x.0, x.1.now)) result (word_at kind rest.now) }
+pub(crate) fn word_at(kind: u8, rest: &[u8]) -> Result<(u16, &[u8]), Cause>
+    ensures { Answers (λ x. (x.0, x.1.now)) result (word_at kind rest.now) }
 {
     match rest {
-        [] | [_] => Err(Stop::Fault(Cause::BadBody(kind))),
+        [] | [_] => Err(Cause::BadBody(kind)),
         [low, high, after @ ..] => Ok((*low as u16 + 256 * *high as u16, after)),
     }
 }
@@ -43,13 +43,13 @@ pub(crate) fn name_at(alloc: Global, kind: u8, rest: &[u8]) -> Result<(Name, &[u
     }
 }
 
-pub(crate) fn field_at(kind: u8, rest: &[u8]) -> Result<(Field, &[u8]), Stop<Cause>>
-    ensures { Gives (λ x. (x.0, x.1.now)) result (field_at kind rest.now) }
+pub(crate) fn field_at(kind: u8, rest: &[u8]) -> Result<(Field, &[u8]), Cause>
+    ensures { Answers (λ x. (x.0, x.1.now)) result (field_at kind rest.now) }
 {
     match rest {
         [1, after @ ..] => Ok((Field::Low, after)),
         [2, after @ ..] => Ok((Field::High, after)),
         [3, after @ ..] => Ok((Field::Both, after)),
-        _ => Err(Stop::Fault(Cause::BadBody(kind))),
+        _ => Err(Cause::BadBody(kind)),
     }
 }

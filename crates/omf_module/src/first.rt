@@ -2,7 +2,7 @@
 
 ghost use Rattle.std.specs.Prelude.{◌≡◌, ◌++◌, ℕ, List, length, map};
 ghost use Rattle.omf_module.specs.declared.step.Step.{Step};
-ghost use Rattle.omf_module.specs.Stop.{Gives, placed};
+ghost use Rattle.omf_module.specs.Stop.{Answers, Gives, placed};
 ghost use Rattle.omf_module.specs.FirstRound.{Draft, entry_steps, start_steps, after_content, after_publics, after_externals, after_commons, after_indices, after_relocations, after_references, after_record, after_end, start_in, header_in, framed, record_at, records_from};
 ghost use Rattle.omf_module.specs.Told.{draft_of, first_of};
 
@@ -118,8 +118,8 @@ fn take_record<'a>(
 
 /// The start that the body of a module end record tells.
 #[tactic(auto, unfolding(crate::specs::FirstRound::start_in))]
-fn start_in(body: &[u8]) -> Result<Option<(u8, u16)>, Stop<Cause>>
-    ensures { Gives (λ x. x) result (start_in body.now) }
+fn start_in(body: &[u8]) -> Result<Option<(u8, u16)>, Cause>
+    ensures { Answers (λ x. x) result (start_in body.now) }
 {
     let (main, rest) = byte_at(0x04, body)?;
     match main {
@@ -129,7 +129,7 @@ fn start_in(body: &[u8]) -> Result<Option<(u8, u16)>, Stop<Cause>>
             let (offset, _) = word_at(0x04, rest)?;
             Ok(Some((segment, offset)))
         }
-        _ => Err(Stop::Fault(Cause::BadBody(0x04))),
+        _ => Err(Cause::BadBody(0x04)),
     }
 }
 
@@ -161,18 +161,15 @@ pub(crate) fn placed(at: usize, stop: Stop<Cause>) -> Stop<ModuleFault>
 
 /// The record that stands at a place, and the place after it.
 #[tactic(auto, unfolding(crate::specs::FirstRound::framed))]
-pub(crate) fn framed<'a>(
-    bytes: &'a [u8],
-    at: usize,
-) -> Result<(Record<'a>, usize), Stop<ModuleFault>>
-    ensures { Gives (λ x. (record { kind = x.0.kind; body = x.0.body.now }, x.1)) result (framed bytes.now at) }
+pub(crate) fn framed<'a>(bytes: &'a [u8], at: usize) -> Result<(Record<'a>, usize), ModuleFault>
+    ensures { Answers (λ x. (record { kind = x.0.kind; body = x.0.body.now }, x.1)) result (framed bytes.now at) }
 {
     match next_record(bytes, at) {
         Ok(read) => Ok(read),
-        Err(fault) => Err(Stop::Fault(ModuleFault {
+        Err(fault) => Err(ModuleFault {
             at,
             cause: Cause::Record(fault),
-        })),
+        }),
     }
 }
 

@@ -1,7 +1,7 @@
 //! Modules read from an object file.
 
 ghost use Rattle.std.specs.Prelude.{◌≡◌, IfOk};
-ghost use Rattle.omf_module.specs.Stop.{Gives};
+ghost use Rattle.omf_module.specs.Stop.{Answers, Gives};
 ghost use Rattle.omf_module.specs.FirstRound.{entry_steps};
 ghost use Rattle.omf_module.specs.Told.{draft_of};
 ghost use Rattle.omf_module.specs.Reading.{Reads, fault_of, begun, header_at, parts_at, module_at, ends_at, next_module, file_of};
@@ -143,14 +143,14 @@ pub fn read_module(alloc: Global, bytes: &[u8], at: usize) -> Result<(Module, us
 
 /// Whether the file ends at a place that follows a module.
 #[tactic(auto, unfolding(crate::specs::Reading::ends_at))]
-fn ends_at(bytes: &[u8], at: usize) -> Result<bool, Stop<ModuleFault>>
-    ensures { Gives (λ ended. ended) result (ends_at bytes.now at) }
+fn ends_at(bytes: &[u8], at: usize) -> Result<bool, ModuleFault>
+    ensures { Answers (λ ended. ended) result (ends_at bytes.now at) }
 {
     if bytes.len() <= at {
-        return Err(Stop::Fault(ModuleFault {
+        return Err(ModuleFault {
             at,
             cause: Cause::NoEnd,
-        }));
+        });
     }
     let (record, _) = framed(bytes, at)?;
     Ok(record.kind == 0x0E)
