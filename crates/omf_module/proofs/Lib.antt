@@ -4,6 +4,7 @@ pub mod OneForm
 pub mod WritingLemmas
 pub mod EntryLemmas
 pub mod StopLemmas
+pub mod RuleLemmas
 pub mod RoundLemmas
 pub mod Kept
 pub mod SecondKeeps

@@ -1,4 +1,5 @@
 -- What holds of all modules that are written.
+-- (8080 Object Module Formats, module and object file: what is written follows the standard as what is read does.)
 use Rattle.std.specs.Prelude.{◌≡◌, ℕ, ◌+◌, List, ◌∷◌, ◌++◌, length, Ok}
 use Rattle.std.specs.List.{AllByRecursion}
 use Rattle.omf_core.specs.Records.{spellings}

@@ -1,4 +1,5 @@
 -- Adding a part's start and then a base is adding their sum.
+-- (ISIS-II User's Guide: LINK adds the one, LOCATE the other.)
 use Rattle.std.specs.Prelude.{◌≡◌, ◌⊎◌, ℕ, ◌+◌, ◌/◌, ◌%◌}
 
 -- to a low byte, and to a word with the carry between its bytes

@@ -1,4 +1,4 @@
--- Reading from left to right, with the first fault that is met.
+-- Reading from left to right, with the first fault that is met. (The faults and their order are this project's.)
 use Rattle.std.specs.Prelude.{◌≡◌, ℕ, Result, Ok, Err}
 use Rattle.omf_module.specs.declared.fault.Cause.{Cause}
 use Rattle.omf_module.specs.declared.fault.ModuleFault.{ModuleFault}
@@ -25,6 +25,10 @@ Answers view (Err f) read = read ≡ Err f
 abbrev pub Gives : {X Y F : Type 0} → (X → Y) → Result X (Stop F) → Result Y F → Type 0
 Gives view (Ok x) read = read ≡ Ok (view x)
 Gives view (Err e) read = Stops e read
+
+-- A fault of reading is told, whether there is memory or not.
+abbrev pub Tells : {X Y F : Type 0} → Result X (Stop F) → Result Y F → Type 0
+Tells {X} {Y} {F} result read = (fault : F) → read ≡ Err fault → result ≡ Err (Fault fault)
 
 -- a fault with the place of its record
 abbrev pub placed : ℕ → Stop Cause → Stop ModuleFault

@@ -1,7 +1,7 @@
 //! The fields of a record's body.
 
 ghost use Rattle.std.specs.Prelude.{◌≡◌};
-ghost use Rattle.omf_module.specs.Stop.{Answers, Gives};
+ghost use Rattle.omf_module.specs.Stop.{Answers, Gives, Tells};
 ghost use Rattle.omf_module.specs.Fields.{byte_at, word_at, name_at, field_at};
 
 use crate::fault::Cause;
@@ -28,9 +28,11 @@ pub(crate) fn word_at(kind: u8, rest: &[u8]) -> Result<(u16, &[u8]), Cause>
     }
 }
 
-/// The name that the bytes begin with. A name that isn't all there is `BadBody`, one of other bytes `BadName`.
+/// The name that the bytes begin with. A name that isn't all there is `BadBody`, one of other bytes `BadName`:
+/// both are told before memory is taken for it.
 pub(crate) fn name_at(alloc: Global, kind: u8, rest: &[u8]) -> Result<(Name, &[u8]), Stop<Cause>>
-    ensures { Gives (λ x. (x.0, x.1.now)) result (name_at kind rest.now) }
+    ensures read { Gives (λ x. (x.0, x.1.now)) result (name_at kind rest.now) }
+    ensures told { Tells result (name_at kind rest.now) }
 {
     if rest.is_empty() || rest.len() <= rest[0] as usize {
         return Err(Stop::Fault(Cause::BadBody(kind)));

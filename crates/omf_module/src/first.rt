@@ -2,7 +2,8 @@
 
 ghost use Rattle.std.specs.Prelude.{◌≡◌, ◌++◌, ℕ, List, length, map};
 ghost use Rattle.omf_module.specs.declared.step.Step.{Step};
-ghost use Rattle.omf_module.specs.Stop.{Answers, Gives, placed};
+ghost use Rattle.omf_module.specs.Stop.{Answers, Gives, Tells, placed};
+ghost use Rattle.omf_module.specs.Fields.{name_at};
 ghost use Rattle.omf_module.specs.FirstRound.{Draft, entry_steps, start_steps, after_content, after_publics, after_externals, after_commons, after_indices, after_relocations, after_references, after_record, after_end, start_in, header_in, framed, record_at, records_from};
 ghost use Rattle.omf_module.specs.Told.{draft_of, first_of};
 
@@ -20,7 +21,8 @@ use std::alloc::Global;
 
 #[tactic(auto, unfolding(crate::specs::FirstRound::after_content))]
 fn take_content<'a>(at: usize, body: &'a [u8], told: &mut Told<'a>) -> Result<(), Stop<Cause>>
-    ensures { Gives (λ _. draft_of told.new) result (after_content at body.now (draft_of told.old)) }
+    ensures read { Gives (λ _. draft_of told.new) result (after_content at body.now (draft_of told.old)) }
+    ensures told { Tells result (after_content at body.now (draft_of told.old)) }
 {
     let (segment, rest) = byte_at(0x06, body)?;
     let (offset, rest) = word_at(0x06, rest)?;
@@ -139,7 +141,8 @@ pub(crate) fn header_in(
     alloc: Global,
     body: &[u8],
 ) -> Result<(Name, Vec<(u8, Segment)>), Stop<Cause>>
-    ensures { Gives (λ x. (x.0, x.1.items)) result (header_in body.now) }
+    ensures read { Gives (λ x. (x.0, x.1.items)) result (header_in body.now) }
+    ensures early { Tells result (name_at 0x02 body.now) }
 {
     let (name, rest) = name_at(alloc, 0x02, body)?;
     let (_, rest) = byte_at(0x02, rest)?;
@@ -175,7 +178,8 @@ pub(crate) fn framed<'a>(bytes: &'a [u8], at: usize) -> Result<(Record<'a>, usiz
 
 /// The end record of a module.
 fn take_end(at: usize, body: &[u8], told: &mut Told) -> Result<Option<(u8, u16)>, Stop<Cause>>
-    ensures { Gives (λ start. (draft_of told.new, start)) result (after_end at body.now (draft_of told.old)) }
+    ensures read { Gives (λ start. (draft_of told.new, start)) result (after_end at body.now (draft_of told.old)) }
+    ensures told { Tells result (after_end at body.now (draft_of told.old)) }
 {
     let start = start_in(body)?;
     if let Some((segment, _)) = start {
