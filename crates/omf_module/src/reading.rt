@@ -1,10 +1,10 @@
 //! Modules read from an object file.
 
-ghost use Rattle.std.specs.Prelude.{◌≡◌, Err, IfOk};
+ghost use Rattle.std.specs.Prelude.{◌≡◌, length, Err, IfOk};
 ghost use Rattle.omf_module.specs.Stop.{Answers, Gives, Tells};
 ghost use Rattle.omf_module.specs.FirstRound.{entry_steps};
 ghost use Rattle.omf_module.specs.Told.{draft_of};
-ghost use Rattle.omf_module.specs.Reading.{Reads, fault_of, name_of, begun, header_at, parts_at, module_at, ends_at, next_module, file_of};
+ghost use Rattle.omf_module.specs.Reading.{Reads, fault_of, name_of, begun, header_at, parts_at, module_at, ends_at, next_module, modules_from, file_of};
 
 use crate::fault::{Cause, ModuleFault};
 use crate::first::{framed, header_in, placed, take_all};
@@ -19,7 +19,7 @@ use omf_core::Name;
 use std::alloc::{AllocError, Global};
 
 /// The module header that stands at a place, and the place after it.
-#[tactic(auto, using(crate::proofs::StopLemmas::stops_placed), unfolding(crate::specs::Reading::header_at))]
+#[tactic(auto, using(crate::proofs::StopLemmas::stops_placed), unfolding(crate::specs::Reading::header_at, crate::specs::Reading::name_of))]
 fn header_at(
     alloc: Global,
     bytes: &[u8],
@@ -179,14 +179,17 @@ fn take_module(
     Ok(Some(after))
 }
 
-fn modules_from(alloc: Global, bytes: &[u8]) -> Result<Vec<Module>, Stop<ModuleFault>>
-    ensures read { Gives (λ modules. modules.items) result (file_of bytes.now) }
-    ensures early { Tells result (name_of bytes.now 0) }
+/// Adds the modules from a place on, up to the end of the file.
+fn take_modules(
+    alloc: Global,
+    bytes: &[u8],
+    from: usize,
+    modules: Vec<Module>,
+) -> Result<Vec<Module>, Stop<ModuleFault>>
+    ensures { Gives (λ modules. modules.items) result (modules_from (length bytes.now) bytes.now from modules.items) }
 {
-    let mut modules = Vec::new(alloc);
-    let (module, after) = module_at(alloc, bytes, 0)?;
-    modules.push(module)?;
-    let mut at = after;
+    let mut modules = modules;
+    let mut at = from;
     for _ in 0..bytes.len() {
         match take_module(alloc, bytes, at, &mut modules) {
             Ok(Some(after)) => at = after,
@@ -200,6 +203,16 @@ fn modules_from(alloc: Global, bytes: &[u8]) -> Result<Vec<Module>, Stop<ModuleF
     }))
 }
 
+fn file_of(alloc: Global, bytes: &[u8]) -> Result<Vec<Module>, Stop<ModuleFault>>
+    ensures read { Gives (λ modules. modules.items) result (file_of bytes.now) }
+    ensures early { Tells result (name_of bytes.now 0) }
+{
+    let (module, after) = module_at(alloc, bytes, 0)?;
+    let mut modules = Vec::new(alloc);
+    modules.push(module)?;
+    take_modules(alloc, bytes, after, modules)
+}
+
 /// The modules of an object file, which are one or more, up to the end-of-file record after them. Bytes after that aren't
 /// looked at. (8080 Object Module Formats, object file.)
 ///
@@ -211,7 +224,7 @@ pub fn read_file(alloc: Global, bytes: &[u8]) -> Result<Vec<Module>, ModuleFault
     ensures read { Reads (λ modules. modules.items) result (file_of bytes.now) }
     ensures early { (fault : ModuleFault) → name_of bytes.now 0 ≡ Err fault → result ≡ Err fault }
 {
-    match modules_from(alloc, bytes) {
+    match file_of(alloc, bytes) {
         Ok(modules) => Ok(modules),
         Err(stop) => Err(told(stop)),
     }
