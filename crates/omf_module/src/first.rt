@@ -1,10 +1,10 @@
 //! The first round over the records of a module: what each of them tells, and its faults by place.
 
-ghost use Rattle.std.specs.Prelude.{◌≡◌, ◌++◌, ℕ, List, length, map};
+ghost use Rattle.std.specs.Prelude.{◌≡◌, ◌++◌, ℕ, false, List, length, map};
 ghost use Rattle.omf_module.specs.declared.step.Step.{Step};
 ghost use Rattle.omf_module.specs.Stop.{Answers, Gives, Tells, placed};
 ghost use Rattle.omf_module.specs.Fields.{name_at};
-ghost use Rattle.omf_module.specs.FirstRound.{Draft, entry_steps, start_steps, after_content, after_publics, after_externals, after_commons, after_indices, after_relocations, after_references, after_record, after_end, start_in, header_in, framed, record_at, records_from};
+ghost use Rattle.omf_module.specs.FirstRound.{Draft, entry_steps, start_steps, after_content, after_publics, after_externals, after_commons, after_indices, after_relocations, after_references, is_told_of, after_record, after_end, start_in, header_in, framed, record_at, records_from};
 ghost use Rattle.omf_module.specs.Told.{draft_of, first_of};
 
 use crate::bodies::{commons_in, entries_in, externals_in, indices_in, offsets_in, publics_in};
@@ -102,7 +102,8 @@ fn take_record<'a>(
     body: &'a [u8],
     told: &mut Told<'a>,
 ) -> Result<(), Stop<Cause>>
-    ensures { Gives (λ _. draft_of told.new) result (after_record at kind body.now (draft_of told.old)) }
+    ensures read { Gives (λ _. draft_of told.new) result (after_record at kind body.now (draft_of told.old)) }
+    ensures told { is_told_of kind ≡ false → Tells result (after_record at kind body.now (draft_of told.old)) }
 {
     match kind {
         0x06 => take_content(at, body, told),
