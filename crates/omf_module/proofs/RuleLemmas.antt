@@ -1,10 +1,9 @@
 -- The rules of a module are those of references and all others.
 use Rattle.std.proofs.Common.{◌≡◌, Bool, true, false, ◌&&◌, List, [], ◌∷◌, length, refl, sym, ap, ◌∙◌}
 use Rattle.std.specs.List.{list_all}
-use Rattle.omf_module.specs.Contents.{ContentValue}
 use Rattle.omf_module.specs.Segments.{has_segment}
 use Rattle.omf_module.specs.Modules.{ModuleValue}
-use Rattle.omf_module.specs.Rules.{each_after, is_new_entry, is_new_common, is_placed, has_fitting, is_content, is_start, keeps_rules, keeps_rules_but_for_fixups, keeps_fixup_rules}
+use Rattle.omf_module.specs.Rules.{each_after, is_new_entry, is_new_common, is_placed, has_fitting, is_start, keeps_rules, keeps_rules_but_for_fixups, keeps_fixup_rules}
 
 crossed : (a b c d : Bool) → (a && b && (c && d)) ≡ (a && c && (b && d))
 crossed false b c d = refl

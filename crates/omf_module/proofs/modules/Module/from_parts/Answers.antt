@@ -1,5 +1,3 @@
-use Rattle.std.proofs.Common.{◌≡◌}
-use Rattle.omf_module.specs.Rules.{keeps_rules}
 use Rattle.omf_module.proofs.RuleLemmas.{others_fail, fixups_fail, both_kept}
 use Rattle.omf_module.proofs.modules.Module.from_parts.Goals as goal
 
