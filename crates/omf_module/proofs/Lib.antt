@@ -35,3 +35,4 @@ pub mod WorkedSpelled
 pub mod PatchLemmas
 pub mod WorkedPlaces
 pub mod PatchingLemmas
+pub mod PatchedTwice
