@@ -1,14 +1,11 @@
 -- A reference that is increased twice.
-use Rattle.std.specs.Prelude.{◌≡◌, ◌⊎◌, ℕ, ◌+◌, ◌*◌, ◌/◌, ◌%◌, ◌<◌, ◌==◌, Bool, true, false, ◌&&◌, ◌||◌, nat_lt, List, [], ◌∷◌, length, slice_index, IsTrue, refl, if◌then◌else◌}
-use Rattle.std.specs.List.{list_any}
-use Rattle.std.proofs.Common.{◌∙◌, ap, sym, arith, inl, inr, get_or, eq-eqb, eqb-true}
+use Rattle.std.specs.Prelude.{◌≡◌, ◌⊎◌, ℕ, ◌+◌, ◌*◌, ◌/◌, ◌%◌, ◌<◌, ◌==◌, Bool, true, false, ◌||◌, List, [], ◌∷◌, length, slice_index, IsTrue, refl, if◌then◌else◌}
+use Rattle.std.proofs.Common.{◌∙◌, ap, sym, arith, inl, inr, eq-eqb}
 use Rattle.std.proofs.lemmas.Bool.{cases_Bool}
 use Rattle.std.proofs.lemmas.Bool.Decides.{nat_tests}
 use Rattle.omf_module.specs.declared.fixup.Field.{Field}
 use Rattle.omf_module.specs.declared.fixup.Field.TheVariants.{Low, High, Both}
-use Rattle.omf_module.specs.declared.patching.Patch.{Patch}
-use Rattle.omf_module.specs.Contents.{offsets_by}
-use Rattle.omf_module.specs.Patches.{patches_at, word_in_bytes, patched, byte_with, with_patches, is_inside_bytes}
+use Rattle.omf_module.specs.Patches.{patches_at, word_in_bytes, patched, with_patches, is_inside_bytes}
 use Rattle.omf_module.specs.PatchLaws.{patch_by, PatchedTwice}
 use Rattle.omf_module.proofs.PatchLemmas.{low_twice, both_twice, high_twice}
 use Rattle.omf_module.proofs.PatchingLemmas.{length-with_patches, with_patches_at, are_patched, first_has, first_lacks, stays, second_below}
@@ -31,9 +28,9 @@ word_after at u bytes below =
     let has_low : patches_at at (patch_by Both at u) ≡ true = ap (λ (b : Bool). b || ((at + 1) == at || false)) same in
     let has_high : patches_at (at + 1) (patch_by Both at u) ≡ true = grind (arith, nat_tests) in
     let low : slice_index (with_patches (patch_by Both at u ∷ []) bytes) at ≡ w % 65536 % 256 =
-        byte_after Both at u bytes at (omega (arith, below)) has_low ∙ ap (λ (b : Bool). if b then w % 65536 % 256 else w % 65536 / 256 % 256) same in
+    byte_after Both at u bytes at (omega (arith, below)) has_low ∙ ap (λ (b : Bool). if b then w % 65536 % 256 else w % 65536 / 256 % 256) same in
     let high : slice_index (with_patches (patch_by Both at u ∷ []) bytes) (at + 1) ≡ w % 65536 / 256 % 256 =
-        byte_after Both at u bytes (at + 1) below has_high ∙ ap (λ (b : Bool). if b then w % 65536 % 256 else w % 65536 / 256 % 256) next in
+    byte_after Both at u bytes (at + 1) below has_high ∙ ap (λ (b : Bool). if b then w % 65536 % 256 else w % 65536 / 256 % 256) next in
     word_again (word_in_bytes (with_patches (patch_by Both at u ∷ []) bytes) at) w
     (ap (λ (n : ℕ). n + 256 * slice_index (with_patches (patch_by Both at u ∷ []) bytes) (at + 1)) low ∙ ap (λ (n : ℕ). w % 65536 % 256 + 256 * n) high)
 
