@@ -4,6 +4,7 @@ pub mod OneForm
 pub mod WritingLemmas
 pub mod EntryLemmas
 pub mod StopLemmas
+pub mod RuleLemmas
 pub mod RoundLemmas
 pub mod Kept
 pub mod SecondKeeps
@@ -34,3 +35,4 @@ pub mod WorkedSpelled
 pub mod PatchLemmas
 pub mod WorkedPlaces
 pub mod PatchingLemmas
+pub mod PatchedTwice

@@ -10,7 +10,7 @@ use Rattle.omf_module.specs.declared.segment.Segment.{Segment}
 use Rattle.omf_module.specs.declared.symbols.Common.{Common}
 use Rattle.omf_module.specs.Segments.{empty_segment, segment_in, entries_for, listed_ids, in_one_form, names_common, has_segment, is_used, is_common_id, is_fixed_id}
 use Rattle.omf_module.specs.Contents.{ContentValue}
-use Rattle.omf_module.specs.Modules.{ModuleValue, made_of}
+use Rattle.omf_module.specs.Modules.{ModuleValue, made_of, segment_of}
 use Rattle.omf_module.specs.Rules.{each_after, is_new_entry, is_new_common, end_of, is_placed, is_content, is_fitting, is_start, is_sound, keeps_rules, has_names, IsModule}
 
 abbrev segment_by : ℕ → Bool → Segment
@@ -230,3 +230,16 @@ made_is_module p kept names =
       one_form = one_form_twice p.segments p.commons;
       names = names;
     }
+
+-- ---- what a reader of segments is told of a module that is made of parts
+
+pub segments_kept : (p : ModuleValue) (id : ℕ) → 1 ≤ id → id ≤ 255 → segment_of (made_of p) id ≡ segment_of p id
+segments_kept p id low high =
+    ap (λ (s : Segment). if has_segment p.commons id then Some s else None) (segment_in-one_form p.segments p.commons id low (omega (arith, high)))
+
+none_listed : list_any (λ i. i == 0) listed_ids ≡ false
+unfolding listed_ids
+none_listed = refl
+
+pub absolute_empty : (p : ModuleValue) → segment_of (made_of p) 0 ≡ Some empty_segment
+absolute_empty p = ap (λ (s : Segment). Some s) (segment_in-entries_for p.segments p.commons 0 listed_ids ∙ ap (λ b. chosen b (segment_in p.segments 0)) none_listed)

@@ -24,10 +24,10 @@ pub are_patched : (patches : List Patch) (bytes after : List ℕ) → length aft
 are_patched patches bytes after same at = fill_by_all (byte_with patches bytes) after (length bytes) 0 same at
 
 -- the first patch has the byte, or not
-first_has : (p : Patch) (ps : List Patch) (bytes : List ℕ) (i : ℕ) → patches_at i p ≡ true → byte_with (p ∷ ps) bytes i ≡ patched p.field bytes p.at p.word i
+pub first_has : (p : Patch) (ps : List Patch) (bytes : List ℕ) (i : ℕ) → patches_at i p ≡ true → byte_with (p ∷ ps) bytes i ≡ patched p.field bytes p.at p.word i
 first_has p ps bytes i h = ap (λ (b : Bool). option_map_or (λ (q : Patch). patched q.field bytes q.at q.word i) (cond b (Some p) (find (patches_at i) ps)) (slice_index bytes i)) h
 
-first_lacks : (p : Patch) (ps : List Patch) (bytes : List ℕ) (i : ℕ) → patches_at i p ≡ false → byte_with (p ∷ ps) bytes i ≡ byte_with ps bytes i
+pub first_lacks : (p : Patch) (ps : List Patch) (bytes : List ℕ) (i : ℕ) → patches_at i p ≡ false → byte_with (p ∷ ps) bytes i ≡ byte_with ps bytes i
 first_lacks p ps bytes i h = ap (λ (b : Bool). option_map_or (λ (q : Patch). patched q.field bytes q.at q.word i) (cond b (Some p) (find (patches_at i) ps)) (slice_index bytes i)) h
 
 -- one byte of a patch
@@ -84,7 +84,7 @@ two_bytes p bytes low high two inside is_low is_high =
 below_length : (n long : ℕ) (t : Bool) → (nat_lt n long && t) ≡ true → n < long
 below_length n long t h = grind (arith, nat_tests, h)
 
-second_below : (n long : ℕ) → (nat_lt n long && (nat_lt (n + 1) long && true)) ≡ true → n + 1 < long
+pub second_below : (n long : ℕ) → (nat_lt n long && (nat_lt (n + 1) long && true)) ≡ true → n + 1 < long
 second_below n long h = grind (arith, nat_tests, h)
 
 -- one patch, by its field
@@ -112,7 +112,7 @@ both_applied p bytes sum low high is within total is_low is_high =
     (is_high ∙ ap (λ (n : ℕ). n / 256 % 256) total ∙ ap (λ (b : Bool). if b then (word_in_bytes bytes p.at + p.word) % 65536 % 256 else (word_in_bytes bytes p.at + p.word) % 65536 / 256 % 256) (sym at_high) ∙ ap (λ (f : Field). patched f bytes p.at p.word (p.at + 1)) (sym is))
 
 -- a byte that a patch does not have stays
-stays : (p : Patch) (bytes : List ℕ) (i : ℕ) → patches_at i p ≡ false → slice_index (with_patches (p ∷ []) bytes) i ≡ slice_index bytes i
+pub stays : (p : Patch) (bytes : List ℕ) (i : ℕ) → patches_at i p ≡ false → slice_index (with_patches (p ∷ []) bytes) i ≡ slice_index bytes i
 stays p bytes i h = elim (cases_Bool (nat_lt i (length bytes))) [
   | inl e ↦ with_patches_at (p ∷ []) bytes i (grind (arith, nat_tests, e)) ∙ first_lacks p [] bytes i h
   | inr e ↦

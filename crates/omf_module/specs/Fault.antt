@@ -1,4 +1,4 @@
--- The numbers of the refusals.
+-- The numbers of the refusals, which are this project's own.
 use Rattle.std.specs.Prelude.{ℕ}
 use Rattle.omf_module.specs.declared.fault.PartsFault.{PartsFault}
 use Rattle.omf_module.specs.declared.fault.PartsFault.TheVariants.{Rule, Memory}

@@ -1,7 +1,8 @@
 -- The first round over the records of a module, by place, the fields of a body in order.
 -- It gathers what the records tell, and what the second round has to test.
 -- (8080 Object Module Formats: a record may use what a later one declares, hence two rounds.)
-use Rattle.std.specs.Prelude.{ℕ, zero, suc, ◌+◌, ◌==◌, ◌||◌, nat_le, if◌then◌else◌, List, [], ◌∷◌, ◌++◌, length, drop, map, Option, Some, None, Result, Ok, Err}
+use Rattle.std.specs.List.{list_any}
+use Rattle.std.specs.Prelude.{ℕ, zero, suc, ◌+◌, ◌==◌, Bool, ◌||◌, nat_le, if◌then◌else◌, List, [], ◌∷◌, ◌++◌, length, drop, map, Option, Some, None, Result, Ok, Err}
 use Rattle.omf_core.specs.declared.fault.RecordFault.{RecordFault}
 use Rattle.omf_core.specs.Record.{fault_at, head_kind, head_body, record_size}
 use Rattle.omf_core.specs.Records.{RecordValue}
@@ -94,6 +95,10 @@ after_references at body d = do
   field ← field_at 0x24 segment.1
   steps ← entries_in (step_of_offset 0x24 at field.0 (target.Segment segment.0)) (d.steps ++ (at, Uses segment.0) ∷ (at, Inside) ∷ []) field.1
   Ok (record d { steps = steps })
+
+-- content, publics, externals, the three records of references, commons: the kinds that tell something of a module
+abbrev pub is_told_of : ℕ → Bool
+is_told_of kind = list_any (λ told. kind == told) (0x06 ∷ 0x16 ∷ 0x18 ∷ 0x20 ∷ 0x22 ∷ 0x24 ∷ 0x2E ∷ [])
 
 -- a record between header and end
 unfoldable pub after_record : ℕ → ℕ → List ℕ → Draft → Result Draft Cause

@@ -1,12 +1,22 @@
--- What holds of all modules that are written.
-use Rattle.std.specs.Prelude.{◌≡◌, ℕ, ◌+◌, List, ◌∷◌, ◌++◌, length, Ok}
+-- What holds of all modules that are made of parts, and of all that are written.
+-- (8080 Object Module Formats, module and object file: what is written follows the standard as what is read does.)
+use Rattle.std.specs.Prelude.{◌≡◌, ◌≤◌, ℕ, ◌+◌, List, ◌∷◌, ◌++◌, length, Some, Ok}
 use Rattle.std.specs.List.{AllByRecursion}
 use Rattle.omf_core.specs.Records.{spellings}
-use Rattle.omf_module.specs.Modules.{ModuleValue}
+use Rattle.omf_module.specs.Segments.{empty_segment}
+use Rattle.omf_module.specs.Modules.{ModuleValue, made_of, segment_of}
 use Rattle.omf_module.specs.Rules.{IsModule}
 use Rattle.omf_module.specs.Writing.{records_of, file_bytes}
 use Rattle.omf_module.specs.Reading.{module_at, file_of}
 use Rattle.omf_module.specs.Spelled.{SpellsModule}
+
+-- A module that is made of parts has their segments, in whatever order they were listed, but for absolute bytes: these
+-- have no length.
+abbrev pub SegmentsAreKept : Type 0
+SegmentsAreKept = (p : ModuleValue) (id : ℕ) → 1 ≤ id → id ≤ 255 → segment_of (made_of p) id ≡ segment_of p id
+
+abbrev pub AbsoluteIsEmpty : Type 0
+AbsoluteIsEmpty = (p : ModuleValue) → segment_of (made_of p) 0 ≡ Some empty_segment
 
 -- A module that is written is read as the same module, wherever it stands.
 abbrev pub WrittenModuleIsRead : Type 0

@@ -1,4 +1,5 @@
 -- A mark for each byte of a content record, which tells whether a reference has that byte.
+-- (8080 Object Module Formats, fixup records; that two of them share no byte is this project's rule.)
 use Rattle.std.specs.Prelude.{◌≡◌, ℕ, ◌+◌, ◌<◌, Bool, false, List, length, slice_index_or}
 use Rattle.omf_module.specs.declared.fixup.Fixup.{Fixup}
 use Rattle.omf_module.specs.Contents.{is_taken}

@@ -9,6 +9,7 @@ use Rattle.omf_module.specs.declared.fault.ModuleFault.{ModuleFault}
 use Rattle.omf_module.specs.Contents.{ContentValue}
 use Rattle.omf_module.specs.Modules.{ModuleValue, made_of}
 use Rattle.omf_module.specs.Stop.{◌>>=◌}
+use Rattle.omf_module.specs.Fields.{name_at}
 use Rattle.omf_module.specs.FirstRound.{Draft, First, at_place, entry_steps, header_in, framed, records_from}
 use Rattle.omf_module.specs.SecondRound.{Known, contents_from}
 
@@ -33,6 +34,16 @@ header_at bytes at =
     else (framed bytes at >>= λ r.
     if r.0.kind == 0x02
     then (at_place at (header_in r.0.body) >>= λ h. Ok (h, r.1))
+    else Err (record { at = at; cause = NoHeader }))
+
+-- the name of the module that begins at a place: so much is read before any memory is taken
+unfoldable pub name_of : List ℕ → ℕ → Result (List ℕ) ModuleFault
+name_of bytes at =
+    if nat_le (length bytes) at
+    then Err (record { at = at; cause = NoHeader })
+    else (framed bytes at >>= λ r.
+    if r.0.kind == 0x02
+    then (at_place at (name_at 0x02 r.0.body) >>= λ n. Ok n.0)
     else Err (record { at = at; cause = NoHeader }))
 
 -- both rounds: the parts, and the place after the module

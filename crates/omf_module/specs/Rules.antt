@@ -81,6 +81,19 @@ is_sound m =
 abbrev pub keeps_rules : ModuleValue → Bool
 keeps_rules m = each_after (is_new_entry m.commons) [] m.segments && is_sound m
 
+-- the rules that don't speak of references: those of the lists, of the places of contents, and of the start
+abbrev pub keeps_rules_but_for_fixups : ModuleValue → Bool
+keeps_rules_but_for_fixups m =
+    each_after (is_new_entry m.commons) [] m.segments
+    && each_after is_new_common [] m.commons
+    && list_all (λ p. has_segment m.commons p.segment) m.publics
+    && list_all (is_placed m.segments m.commons) m.contents
+    && is_start m.commons m.start
+
+-- the rules of references
+abbrev pub keeps_fixup_rules : ModuleValue → Bool
+keeps_fixup_rules m = list_all (has_fitting m.commons (length m.externals)) m.contents
+
 -- all names are names, as their type keeps it
 abbrev pub has_names : ModuleValue → Bool
 has_names m =

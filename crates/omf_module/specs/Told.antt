@@ -1,4 +1,4 @@
--- What the records told, without where it lies in memory.
+-- What the records told, without where it lies in memory. (8080 Object Module Formats, records of a module.)
 use Rattle.omf_module.specs.declared.told.Told.{Told}
 use Rattle.omf_module.specs.declared.told.First.{First as Gathered}
 use Rattle.omf_module.specs.FirstRound.{Draft, First}

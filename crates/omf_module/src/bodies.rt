@@ -1,7 +1,7 @@
 //! The bodies of records: their entries, up to the end of the body.
 
 ghost use Rattle.std.specs.Prelude.{◌≡◌};
-ghost use Rattle.omf_module.specs.Stop.{Gives};
+ghost use Rattle.omf_module.specs.Stop.{Answers, Gives};
 ghost use Rattle.omf_module.specs.Fields.{entry_at, common_at, public_at, external_at};
 ghost use Rattle.omf_module.specs.FirstRound.{entries_in, step_of_offset, step_of_index};
 
@@ -96,8 +96,8 @@ fn offset_step<'a, 's>(
     target: Target,
     before: &[(usize, Step<'s>)],
     rest: &'a [u8],
-) -> Result<((usize, Step<'s>), &'a [u8]), Stop<Cause>>
-    ensures { Gives (λ x. (x.0, x.1.now)) result (step_of_offset kind at field target before.now rest.now) }
+) -> Result<((usize, Step<'s>), &'a [u8]), Cause>
+    ensures { Answers (λ x. (x.0, x.1.now)) result (step_of_offset kind at field target before.now rest.now) }
 {
     let (fixup, rest) = offset_at(kind, field, target, rest)?;
     Ok(((at, Step::Refers(fixup)), rest))
@@ -109,8 +109,8 @@ fn index_step<'a, 's>(
     field: Field,
     before: &[(usize, Step<'s>)],
     rest: &'a [u8],
-) -> Result<((usize, Step<'s>), &'a [u8]), Stop<Cause>>
-    ensures { Gives (λ x. (x.0, x.1.now)) result (step_of_index at field before.now rest.now) }
+) -> Result<((usize, Step<'s>), &'a [u8]), Cause>
+    ensures { Answers (λ x. (x.0, x.1.now)) result (step_of_index at field before.now rest.now) }
 {
     let (fixup, rest) = index_at(field, rest)?;
     Ok(((at, Step::Refers(fixup)), rest))

@@ -1,7 +1,7 @@
 //! The entries of a record's body, each by its fields in order.
 
 ghost use Rattle.std.specs.Prelude.{◌≡◌};
-ghost use Rattle.omf_module.specs.Stop.{Gives};
+ghost use Rattle.omf_module.specs.Stop.{Answers, Gives};
 ghost use Rattle.omf_module.specs.Fields.{entry_at, common_at, public_at, external_at, offset_at, index_at};
 
 use crate::distinct::{lists_id, names_name};
@@ -22,14 +22,14 @@ const ANY_BYTE: u8 = 3;
 pub(crate) fn entry_at<'a>(
     before: &[(u8, Segment)],
     rest: &'a [u8],
-) -> Result<((u8, Segment), &'a [u8]), Stop<Cause>>
-    ensures { Gives (λ x. (x.0, x.1.now)) result (entry_at before.now rest.now) }
+) -> Result<((u8, Segment), &'a [u8]), Cause>
+    ensures { Answers (λ x. (x.0, x.1.now)) result (entry_at before.now rest.now) }
 {
     let (id, rest) = byte_at(0x02, rest)?;
     let (length, rest) = word_at(0x02, rest)?;
     let (alignment, rest) = byte_at(0x02, rest)?;
     if lists_id(before, id) {
-        return Err(Stop::Fault(Cause::BadBody(0x02)));
+        return Err(Cause::BadBody(0x02));
     }
     let paged = alignment != ANY_BYTE;
     Ok(((id, Segment { length, paged }), rest))
@@ -93,8 +93,8 @@ pub(crate) fn offset_at(
     field: Field,
     target: Target,
     rest: &[u8],
-) -> Result<(Fixup, &[u8]), Stop<Cause>>
-    ensures { Gives (λ x. (x.0, x.1.now)) result (offset_at kind field target rest.now) }
+) -> Result<(Fixup, &[u8]), Cause>
+    ensures { Answers (λ x. (x.0, x.1.now)) result (offset_at kind field target rest.now) }
 {
     let (offset, rest) = word_at(kind, rest)?;
     let fixup = Fixup {
@@ -106,8 +106,8 @@ pub(crate) fn offset_at(
 }
 
 #[tactic(auto, unfolding(crate::specs::Fields::index_at))]
-pub(crate) fn index_at(field: Field, rest: &[u8]) -> Result<(Fixup, &[u8]), Stop<Cause>>
-    ensures { Gives (λ x. (x.0, x.1.now)) result (index_at field rest.now) }
+pub(crate) fn index_at(field: Field, rest: &[u8]) -> Result<(Fixup, &[u8]), Cause>
+    ensures { Answers (λ x. (x.0, x.1.now)) result (index_at field rest.now) }
 {
     let (index, rest) = word_at(0x20, rest)?;
     let (offset, rest) = word_at(0x20, rest)?;

@@ -1,9 +1,10 @@
 //! The first round over the records of a module: what each of them tells, and its faults by place.
 
-ghost use Rattle.std.specs.Prelude.{◌≡◌, ◌++◌, ℕ, List, length, map};
+ghost use Rattle.std.specs.Prelude.{◌≡◌, ◌++◌, ℕ, false, List, length, map};
 ghost use Rattle.omf_module.specs.declared.step.Step.{Step};
-ghost use Rattle.omf_module.specs.Stop.{Gives, placed};
-ghost use Rattle.omf_module.specs.FirstRound.{Draft, entry_steps, start_steps, after_content, after_publics, after_externals, after_commons, after_indices, after_relocations, after_references, after_record, after_end, start_in, header_in, framed, record_at, records_from};
+ghost use Rattle.omf_module.specs.Stop.{Answers, Gives, Tells, placed};
+ghost use Rattle.omf_module.specs.Fields.{name_at};
+ghost use Rattle.omf_module.specs.FirstRound.{Draft, entry_steps, start_steps, after_content, after_publics, after_externals, after_commons, after_indices, after_relocations, after_references, is_told_of, after_record, after_end, start_in, header_in, framed, record_at, records_from};
 ghost use Rattle.omf_module.specs.Told.{draft_of, first_of};
 
 use crate::bodies::{commons_in, entries_in, externals_in, indices_in, offsets_in, publics_in};
@@ -20,7 +21,8 @@ use std::alloc::Global;
 
 #[tactic(auto, unfolding(crate::specs::FirstRound::after_content))]
 fn take_content<'a>(at: usize, body: &'a [u8], told: &mut Told<'a>) -> Result<(), Stop<Cause>>
-    ensures { Gives (λ _. draft_of told.new) result (after_content at body.now (draft_of told.old)) }
+    ensures read { Gives (λ _. draft_of told.new) result (after_content at body.now (draft_of told.old)) }
+    ensures told { Tells result (after_content at body.now (draft_of told.old)) }
 {
     let (segment, rest) = byte_at(0x06, body)?;
     let (offset, rest) = word_at(0x06, rest)?;
@@ -100,7 +102,8 @@ fn take_record<'a>(
     body: &'a [u8],
     told: &mut Told<'a>,
 ) -> Result<(), Stop<Cause>>
-    ensures { Gives (λ _. draft_of told.new) result (after_record at kind body.now (draft_of told.old)) }
+    ensures read { Gives (λ _. draft_of told.new) result (after_record at kind body.now (draft_of told.old)) }
+    ensures told { is_told_of kind ≡ false → Tells result (after_record at kind body.now (draft_of told.old)) }
 {
     match kind {
         0x06 => take_content(at, body, told),
@@ -118,8 +121,8 @@ fn take_record<'a>(
 
 /// The start that the body of a module end record tells.
 #[tactic(auto, unfolding(crate::specs::FirstRound::start_in))]
-fn start_in(body: &[u8]) -> Result<Option<(u8, u16)>, Stop<Cause>>
-    ensures { Gives (λ x. x) result (start_in body.now) }
+fn start_in(body: &[u8]) -> Result<Option<(u8, u16)>, Cause>
+    ensures { Answers (λ x. x) result (start_in body.now) }
 {
     let (main, rest) = byte_at(0x04, body)?;
     match main {
@@ -129,7 +132,7 @@ fn start_in(body: &[u8]) -> Result<Option<(u8, u16)>, Stop<Cause>>
             let (offset, _) = word_at(0x04, rest)?;
             Ok(Some((segment, offset)))
         }
-        _ => Err(Stop::Fault(Cause::BadBody(0x04))),
+        _ => Err(Cause::BadBody(0x04)),
     }
 }
 
@@ -139,7 +142,8 @@ pub(crate) fn header_in(
     alloc: Global,
     body: &[u8],
 ) -> Result<(Name, Vec<(u8, Segment)>), Stop<Cause>>
-    ensures { Gives (λ x. (x.0, x.1.items)) result (header_in body.now) }
+    ensures read { Gives (λ x. (x.0, x.1.items)) result (header_in body.now) }
+    ensures early { Tells result (name_at 0x02 body.now) }
 {
     let (name, rest) = name_at(alloc, 0x02, body)?;
     let (_, rest) = byte_at(0x02, rest)?;
@@ -161,24 +165,22 @@ pub(crate) fn placed(at: usize, stop: Stop<Cause>) -> Stop<ModuleFault>
 
 /// The record that stands at a place, and the place after it.
 #[tactic(auto, unfolding(crate::specs::FirstRound::framed))]
-pub(crate) fn framed<'a>(
-    bytes: &'a [u8],
-    at: usize,
-) -> Result<(Record<'a>, usize), Stop<ModuleFault>>
-    ensures { Gives (λ x. (record { kind = x.0.kind; body = x.0.body.now }, x.1)) result (framed bytes.now at) }
+pub(crate) fn framed<'a>(bytes: &'a [u8], at: usize) -> Result<(Record<'a>, usize), ModuleFault>
+    ensures { Answers (λ x. (record { kind = x.0.kind; body = x.0.body.now }, x.1)) result (framed bytes.now at) }
 {
     match next_record(bytes, at) {
         Ok(read) => Ok(read),
-        Err(fault) => Err(Stop::Fault(ModuleFault {
+        Err(fault) => Err(ModuleFault {
             at,
             cause: Cause::Record(fault),
-        })),
+        }),
     }
 }
 
 /// The end record of a module.
 fn take_end(at: usize, body: &[u8], told: &mut Told) -> Result<Option<(u8, u16)>, Stop<Cause>>
-    ensures { Gives (λ start. (draft_of told.new, start)) result (after_end at body.now (draft_of told.old)) }
+    ensures read { Gives (λ start. (draft_of told.new, start)) result (after_end at body.now (draft_of told.old)) }
+    ensures told { Tells result (after_end at body.now (draft_of told.old)) }
 {
     let start = start_in(body)?;
     if let Some((segment, _)) = start {

@@ -1,14 +1,20 @@
-//! What holds of all modules that are written, whatever calls are made. Each law is ensured by a function that does
+//! What holds of all modules that are made or written, whatever calls are made. Each law is ensured by a function that does
 //! nothing: a layer above that calls it has the law in its proof.
 
 ghost use Rattle.omf_module.specs.Spelled.{ReadIsSpelled, SpelledIsRead, SpelledIsOne, ReadFileIsSpelled, SpelledFileIsRead};
-ghost use Rattle.omf_module.specs.PatchLaws.{LowTwice, BothTwice, HighTwice};
-ghost use Rattle.omf_module.specs.Laws.{WrittenModuleIsRead, WrittenRecordsSpell, WrittenFileIsRead};
+ghost use Rattle.omf_module.specs.PatchLaws.{LowTwice, BothTwice, HighTwice, PatchedTwice};
+ghost use Rattle.omf_module.specs.Laws.{SegmentsAreKept, AbsoluteIsEmpty, WrittenModuleIsRead, WrittenRecordsSpell, WrittenFileIsRead};
 
 use omf_core::laws::{
     no_fault_exactly_at_records, one_list_at_each_stretch, written_is_spelled,
     written_list_is_spelled,
 };
+
+/// A module that is made of parts has their segments, in whatever order they were listed; absolute bytes have no length.
+pub fn segments_are_kept()
+    ensures kept { SegmentsAreKept }
+    ensures absolute { AbsoluteIsEmpty }
+{}
 
 /// A module that is written is read as the same module, wherever it stands in a file.
 pub fn written_module_is_read()
@@ -63,9 +69,10 @@ pub fn spelled_file_is_read()
 {}
 
 /// Adding a part's start to a reference and then a base is adding their sum: to a low byte, to a word, and to a high byte
-/// where one of the two is a multiple of 256.
+/// where one of the two is a multiple of 256; and so in the bytes of a content.
 pub fn adding_twice_is_adding_once()
     ensures low { LowTwice }
     ensures both { BothTwice }
     ensures high { HighTwice }
+    ensures in_bytes { PatchedTwice }
 {}

@@ -5,6 +5,7 @@
 //! |---|---|
 //! | [`Module`], [`Parts`] | a module that keeps the rules; the parts that it is made of |
 //! | [`Segment`], [`Common`], [`Public`] | a segment's size and alignment; a named common; a declared name |
+//! | [`names_common`] | whether a module has a named common of an id |
 //! | [`Content`], [`Fixup`], [`Field`], [`Target`] | bytes of a segment, and the references that stand in them |
 //! | [`read_module`], [`read_file`] | the module that begins at a place; the modules of an object file |
 //! | [`write_file`] | modules as an object file |
@@ -47,6 +48,7 @@ pub use modules::Module;
 pub use parts::Parts;
 pub use patching::{Patch, apply_patches};
 pub use reading::{read_file, read_module};
+pub use rules::names_common;
 pub use segment::Segment;
 pub use symbols::{Common, Public};
 pub use writing::write_file;

@@ -4,7 +4,7 @@ use crate::fault::PartsFault;
 use crate::listing::in_one_form;
 use crate::names::look_at_names;
 use crate::parts::Parts;
-use crate::rules::{has_segment, keeps_rules, segment_in};
+use crate::rules::{has_segment, keeps_fixup_rules, keeps_rules_but_for_fixups, segment_in};
 use crate::segment::Segment;
 use crate::symbols::{Common, Public};
 use omf_core::Name;
@@ -39,10 +39,10 @@ impl Model for Module {
 
 impl Module {
     ghost use Rattle.std.specs.Prelude.{◌≡◌, ◌≤◌, length, false, Err, IfOk, IfErr, OnOk, IsTrue};
-    ghost use Rattle.omf_module.specs.declared.fault.PartsFault.TheVariants.{Rule};
+    ghost use Rattle.omf_module.specs.declared.fault.PartsFault.TheVariants.{Rule, Memory};
     ghost use Rattle.omf_module.specs.Segments.{in_one_form};
     ghost use Rattle.omf_module.specs.Modules.{made_of, segment_of};
-    ghost use Rattle.omf_module.specs.Rules.{keeps_rules, has_names, IsModule};
+    ghost use Rattle.omf_module.specs.Rules.{keeps_rules, keeps_rules_but_for_fixups, has_names, IsModule};
 
     /// The module of these parts. The order of `segments` doesn't matter, nor whether a segment without bytes
     /// that isn't paged is among them.
@@ -53,14 +53,19 @@ impl Module {
     /// `commons`, or a common's name twice; a common's id is outside 6 to 254; a content is in STACK, passes the end of its
     /// segment (of absolute bytes: 65536) or has more than 65531 bytes; a fixup's bytes aren't all in its content, or
     /// one of them is another fixup's; an external index isn't below the number of externals.
-    /// `Memory` only where there is none. Either hands the parts back.
+    /// `Memory` only where there is none, and the parts keep all rules but perhaps those of fixups. Either hands the parts
+    /// back.
     pub fn from_parts(alloc: Global, parts: Parts) -> Result<Module, (Parts, PartsFault)>
         ensures made { IfOk result (λ m. m ≡ made_of parts) }
         ensures kept { OnOk result (IsTrue (keeps_rules parts)) }
         ensures rule { IfErr result (λ e. e.1 ≡ Rule → keeps_rules parts ≡ false) }
+        ensures memory { IfErr result (λ e. e.1 ≡ Memory → IsTrue (keeps_rules_but_for_fixups parts)) }
         ensures back { IfErr result (λ e. e.0 ≡ parts) }
     {
-        match keeps_rules(alloc, &parts) {
+        if !keeps_rules_but_for_fixups(&parts) {
+            return Err((parts, PartsFault::Rule));
+        }
+        match keeps_fixup_rules(alloc, &parts) {
             Ok(true) => {}
             Ok(false) => return Err((parts, PartsFault::Rule)),
             Err(_) => return Err((parts, PartsFault::Memory)),

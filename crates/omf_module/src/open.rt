@@ -35,7 +35,7 @@ impl<'a> Model for Open<'a> {
 impl<'a> Open<'a> {
     ghost use Rattle.std.specs.Prelude.{◌≡◌, ℕ, List, [], IfOk};
     ghost use Rattle.omf_module.specs.declared.segment.Segment.{Segment};
-    ghost use Rattle.omf_module.specs.Stop.{Gives};
+    ghost use Rattle.omf_module.specs.Stop.{Gives, Tells};
     ghost use Rattle.omf_module.specs.SecondRound.{after_fixup};
 
     /// The content of these bytes, without references.
@@ -65,7 +65,8 @@ impl<'a> Open<'a> {
         externals: usize,
         fixup: Fixup,
     ) -> Result<(), Stop<Cause>>
-        ensures { (segments : List (ℕ × Segment)) → Gives (λ _. self.new) result (after_fixup (record { segments = segments; commons = commons.now; externals = externals }) fixup self.old) }
+        ensures read { (segments : List (ℕ × Segment)) → Gives (λ _. self.new) result (after_fixup (record { segments = segments; commons = commons.now; externals = externals }) fixup self.old) }
+        ensures told { (segments : List (ℕ × Segment)) → Tells result (after_fixup (record { segments = segments; commons = commons.now; externals = externals }) fixup self.old) }
     {
         if !is_inside(self.offset, self.bytes.len(), fixup) {
             return Err(Stop::Fault(Cause::FixupOutside));

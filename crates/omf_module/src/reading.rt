@@ -1,10 +1,10 @@
 //! Modules read from an object file.
 
-ghost use Rattle.std.specs.Prelude.{◌≡◌, IfOk};
-ghost use Rattle.omf_module.specs.Stop.{Gives};
+ghost use Rattle.std.specs.Prelude.{◌≡◌, length, Err, IfOk};
+ghost use Rattle.omf_module.specs.Stop.{Answers, Gives, Tells};
 ghost use Rattle.omf_module.specs.FirstRound.{entry_steps};
 ghost use Rattle.omf_module.specs.Told.{draft_of};
-ghost use Rattle.omf_module.specs.Reading.{Reads, fault_of, begun, header_at, parts_at, module_at, ends_at, next_module, file_of};
+ghost use Rattle.omf_module.specs.Reading.{Reads, fault_of, name_of, begun, header_at, parts_at, module_at, ends_at, next_module, modules_from, file_of};
 
 use crate::fault::{Cause, ModuleFault};
 use crate::first::{framed, header_in, placed, take_all};
@@ -19,13 +19,14 @@ use omf_core::Name;
 use std::alloc::{AllocError, Global};
 
 /// The module header that stands at a place, and the place after it.
-#[tactic(auto, using(crate::proofs::StopLemmas::stops_placed), unfolding(crate::specs::Reading::header_at))]
+#[tactic(auto, using(crate::proofs::StopLemmas::stops_placed), unfolding(crate::specs::Reading::header_at, crate::specs::Reading::name_of))]
 fn header_at(
     alloc: Global,
     bytes: &[u8],
     at: usize,
 ) -> Result<((Name, Vec<(u8, Segment)>), usize), Stop<ModuleFault>>
-    ensures { Gives (λ x. ((x.0.0, x.0.1.items), x.1)) result (header_at bytes.now at) }
+    ensures read { Gives (λ x. ((x.0.0, x.0.1.items), x.1)) result (header_at bytes.now at) }
+    ensures early { Tells result (name_of bytes.now at) }
 {
     let none = Stop::Fault(ModuleFault {
         at,
@@ -74,7 +75,8 @@ fn begun<'a>(alloc: Global, at: usize, entries: &[(u8, Segment)]) -> Result<Told
 /// Both rounds: the parts of the module, and the place after it.
 #[tactic(auto, unfolding(crate::specs::Reading::parts_at))]
 fn parts_at(alloc: Global, bytes: &[u8], at: usize) -> Result<(Parts, usize), Stop<ModuleFault>>
-    ensures { Gives (λ x. (x.0, x.1)) result (parts_at bytes.now at) }
+    ensures read { Gives (λ x. (x.0, x.1)) result (parts_at bytes.now at) }
+    ensures early { Tells result (name_of bytes.now at) }
 {
     let ((name, segments), after) = header_at(alloc, bytes, at)?;
     let first = take_all(alloc, bytes, after, begun(alloc, at, &segments)?)?;
@@ -99,7 +101,8 @@ fn parts_at(alloc: Global, bytes: &[u8], at: usize) -> Result<(Parts, usize), St
 }
 
 fn module_at(alloc: Global, bytes: &[u8], at: usize) -> Result<(Module, usize), Stop<ModuleFault>>
-    ensures { Gives (λ x. (x.0, x.1)) result (module_at bytes.now at) }
+    ensures read { Gives (λ x. (x.0, x.1)) result (module_at bytes.now at) }
+    ensures early { Tells result (name_of bytes.now at) }
 {
     let (parts, after) = parts_at(alloc, bytes, at)?;
     let module = Module::of_rules(alloc, parts)?;
@@ -131,9 +134,11 @@ fn told(stop: Stop<ModuleFault>) -> ModuleFault
 /// (8080 Object Module Formats, module.)
 ///
 /// # Errors
-/// The first fault, at the place of its record; or `Memory` at place 0, only where there is none.
+/// The first fault, at the place of its record; or `Memory` at place 0, only where there is none: not before the module's
+/// name is read, so that bytes where no module begins are told as such in any case.
 pub fn read_module(alloc: Global, bytes: &[u8], at: usize) -> Result<(Module, usize), ModuleFault>
-    ensures { Reads (λ x. (x.0, x.1)) result (module_at bytes.now at) }
+    ensures read { Reads (λ x. (x.0, x.1)) result (module_at bytes.now at) }
+    ensures early { (fault : ModuleFault) → name_of bytes.now at ≡ Err fault → result ≡ Err fault }
 {
     match module_at(alloc, bytes, at) {
         Ok(read) => Ok(read),
@@ -143,14 +148,14 @@ pub fn read_module(alloc: Global, bytes: &[u8], at: usize) -> Result<(Module, us
 
 /// Whether the file ends at a place that follows a module.
 #[tactic(auto, unfolding(crate::specs::Reading::ends_at))]
-fn ends_at(bytes: &[u8], at: usize) -> Result<bool, Stop<ModuleFault>>
-    ensures { Gives (λ ended. ended) result (ends_at bytes.now at) }
+fn ends_at(bytes: &[u8], at: usize) -> Result<bool, ModuleFault>
+    ensures { Answers (λ ended. ended) result (ends_at bytes.now at) }
 {
     if bytes.len() <= at {
-        return Err(Stop::Fault(ModuleFault {
+        return Err(ModuleFault {
             at,
             cause: Cause::NoEnd,
-        }));
+        });
     }
     let (record, _) = framed(bytes, at)?;
     Ok(record.kind == 0x0E)
@@ -174,13 +179,17 @@ fn take_module(
     Ok(Some(after))
 }
 
-fn modules_from(alloc: Global, bytes: &[u8]) -> Result<Vec<Module>, Stop<ModuleFault>>
-    ensures { Gives (λ modules. modules.items) result (file_of bytes.now) }
+/// Adds the modules from a place on, up to the end of the file.
+fn take_modules(
+    alloc: Global,
+    bytes: &[u8],
+    from: usize,
+    modules: Vec<Module>,
+) -> Result<Vec<Module>, Stop<ModuleFault>>
+    ensures { Gives (λ modules. modules.items) result (modules_from (length bytes.now) bytes.now from modules.items) }
 {
-    let mut modules = Vec::new(alloc);
-    let (module, after) = module_at(alloc, bytes, 0)?;
-    modules.push(module)?;
-    let mut at = after;
+    let mut modules = modules;
+    let mut at = from;
     for _ in 0..bytes.len() {
         match take_module(alloc, bytes, at, &mut modules) {
             Ok(Some(after)) => at = after,
@@ -194,16 +203,28 @@ fn modules_from(alloc: Global, bytes: &[u8]) -> Result<Vec<Module>, Stop<ModuleF
     }))
 }
 
+fn file_of(alloc: Global, bytes: &[u8]) -> Result<Vec<Module>, Stop<ModuleFault>>
+    ensures read { Gives (λ modules. modules.items) result (file_of bytes.now) }
+    ensures early { Tells result (name_of bytes.now 0) }
+{
+    let (module, after) = module_at(alloc, bytes, 0)?;
+    let mut modules = Vec::new(alloc);
+    modules.push(module)?;
+    take_modules(alloc, bytes, after, modules)
+}
+
 /// The modules of an object file, which are one or more, up to the end-of-file record after them. Bytes after that aren't
 /// looked at. (8080 Object Module Formats, object file.)
 ///
 /// # Errors
 /// The first fault of the modules as they stand, as [`read_module`] tells it; `NoEnd` where no byte stands after a module;
-/// `Record` where the bytes there are no record. `Memory` at place 0, only where there is none.
+/// `Record` where the bytes there are no record. `Memory` at place 0, only where there is none, and not before the first
+/// module's name is read.
 pub fn read_file(alloc: Global, bytes: &[u8]) -> Result<Vec<Module>, ModuleFault>
-    ensures { Reads (λ modules. modules.items) result (file_of bytes.now) }
+    ensures read { Reads (λ modules. modules.items) result (file_of bytes.now) }
+    ensures early { (fault : ModuleFault) → name_of bytes.now 0 ≡ Err fault → result ≡ Err fault }
 {
-    match modules_from(alloc, bytes) {
+    match file_of(alloc, bytes) {
         Ok(modules) => Ok(modules),
         Err(stop) => Err(told(stop)),
     }

@@ -3,7 +3,7 @@
 ghost use Rattle.std.specs.Prelude.{◌≡◌, ℕ, ◌+◌, length, IfOk};
 ghost use Rattle.std.specs.List.{list_all};
 ghost use Rattle.omf_module.specs.Segments.{is_fixed_id, names_common, has_segment, segment_in};
-ghost use Rattle.omf_module.specs.Rules.{end_of, is_placed, is_content, is_start, keeps_rules};
+ghost use Rattle.omf_module.specs.Rules.{end_of, is_placed, has_fitting, is_start, keeps_rules_but_for_fixups, keeps_fixup_rules};
 
 use crate::content::Content;
 use crate::distinct::{are_commons, are_entries};
@@ -27,7 +27,8 @@ fn is_fixed_id(id: u8) -> bool
     id <= 4 || id == 255
 }
 
-pub(crate) fn names_common(commons: &[Common], id: u8) -> bool
+/// Whether one of the commons has this id. It takes no memory.
+pub fn names_common(commons: &[Common], id: u8) -> bool
     ensures { result ≡ names_common commons.now id }
 {
     commons.iter().any(|c| c.id == id)
@@ -75,43 +76,11 @@ fn is_placed(segments: &[(u8, Segment)], commons: &[Common], content: &Content) 
         && content.offset as usize + content.bytes.len() <= end_of(segments, content.segment)
 }
 
-fn is_content(
-    alloc: Global,
-    segments: &[(u8, Segment)],
-    commons: &[Common],
-    externals: usize,
-    content: &Content,
-) -> Result<bool, AllocError>
-    ensures { IfOk result (λ kept. kept ≡ is_content segments.now commons.now externals content.now) }
+/// Whether each content lies where it may.
+fn are_placed(segments: &[(u8, Segment)], commons: &[Common], contents: &[Content]) -> bool
+    ensures { result ≡ list_all (is_placed segments.now commons.now) contents.now }
 {
-    if !is_placed(segments, commons, content) {
-        return Ok(false);
-    }
-    are_fitting(
-        alloc,
-        commons,
-        externals,
-        content.offset,
-        content.bytes.len(),
-        &content.fixups,
-    )
-}
-
-fn are_contents(
-    alloc: Global,
-    segments: &[(u8, Segment)],
-    commons: &[Common],
-    externals: usize,
-    contents: &[Content],
-) -> Result<bool, AllocError>
-    ensures { IfOk result (λ kept. kept ≡ list_all (is_content segments.now commons.now externals) contents.now) }
-{
-    for content in contents {
-        if !is_content(alloc, segments, commons, externals, content)? {
-            return Ok(false);
-        }
-    }
-    Ok(true)
+    contents.iter().all(|c| is_placed(segments, commons, c))
 }
 
 fn are_publics(commons: &[Common], publics: &[Public]) -> bool
@@ -129,23 +98,51 @@ fn is_start(commons: &[Common], start: Option<(u8, u16)>) -> bool
     }
 }
 
-/// Whether the parts keep all rules of a module.
-pub(crate) fn keeps_rules(alloc: Global, parts: &Parts) -> Result<bool, AllocError>
-    ensures { IfOk result (λ kept. kept ≡ keeps_rules parts.now) }
+/// Whether the parts keep the rules that don't speak of references. It takes no memory.
+pub(crate) fn keeps_rules_but_for_fixups(parts: &Parts) -> bool
+    ensures { result ≡ keeps_rules_but_for_fixups parts.now }
 {
     let commons = parts.commons.as_slice();
     let segments = parts.segments.as_slice();
-    if !are_entries(commons, segments)
-        || !are_commons(commons)
-        || !are_publics(commons, &parts.publics)
-        || !is_start(commons, parts.start)
-    {
-        return Ok(false);
+    are_entries(commons, segments)
+        && are_commons(commons)
+        && are_publics(commons, &parts.publics)
+        && are_placed(segments, commons, &parts.contents)
+        && is_start(commons, parts.start)
+}
+
+/// Whether the references of each content lie inside it, share no byte, and are to what is there.
+fn have_fitting(
+    alloc: Global,
+    commons: &[Common],
+    externals: usize,
+    contents: &[Content],
+) -> Result<bool, AllocError>
+    ensures { IfOk result (λ kept. kept ≡ list_all (has_fitting commons.now externals) contents.now) }
+{
+    for content in contents {
+        let size = content.bytes.len();
+        if !are_fitting(
+            alloc,
+            commons,
+            externals,
+            content.offset,
+            size,
+            &content.fixups,
+        )? {
+            return Ok(false);
+        }
     }
-    are_contents(
+    Ok(true)
+}
+
+/// Whether the parts keep the rules of references.
+pub(crate) fn keeps_fixup_rules(alloc: Global, parts: &Parts) -> Result<bool, AllocError>
+    ensures { IfOk result (λ kept. kept ≡ keeps_fixup_rules parts.now) }
+{
+    have_fitting(
         alloc,
-        segments,
-        commons,
+        &parts.commons,
         parts.externals.len(),
         &parts.contents,
     )

@@ -2,7 +2,7 @@
 
 ghost use Rattle.std.specs.Prelude.{ℕ, ◌≡◌, ◌++◌, OnOk};
 ghost use Rattle.std.specs.Option.{option_to_list};
-ghost use Rattle.omf_module.specs.Stop.{Gives};
+ghost use Rattle.omf_module.specs.Stop.{Gives, Tells};
 ghost use Rattle.omf_module.specs.Contents.{ContentValue};
 ghost use Rattle.omf_module.specs.SecondRound.{Known, Built, after_step, new_content, built_from, contents_from};
 
@@ -30,7 +30,8 @@ fn new_content<'a>(
     offset: u16,
     bytes: &'a [u8],
 ) -> Result<Open<'a>, Stop<Cause>>
-    ensures { (externals : ℕ) → Gives (λ x. x) result (new_content (record { segments = segments.now; commons = commons.now; externals = externals }) segment offset bytes.now) }
+    ensures read { (externals : ℕ) → Gives (λ x. x) result (new_content (record { segments = segments.now; commons = commons.now; externals = externals }) segment offset bytes.now) }
+    ensures told { (externals : ℕ) → Tells result (new_content (record { segments = segments.now; commons = commons.now; externals = externals }) segment offset bytes.now) }
 {
     if !has_segment(commons, segment) || segment == STACK {
         return Err(Stop::Fault(Cause::SegmentUnknown(segment)));
@@ -63,7 +64,9 @@ fn take_step<'a>(
     current: Option<Open<'a>>,
     done: &mut Vec<Content>,
 ) -> Result<Option<Open<'a>>, Stop<Cause>>
-    ensures { Gives (λ c. record { done = done.new.items; current = c }) result
+    ensures read { Gives (λ c. record { done = done.new.items; current = c }) result
+        (after_step (record { segments = segments.now; commons = commons.now; externals = externals }) step.now (record { done = done.old.items; current = current.entry })) }
+    ensures told { Tells result
         (after_step (record { segments = segments.now; commons = commons.now; externals = externals }) step.now (record { done = done.old.items; current = current.entry })) }
 {
     match step {

@@ -1,8 +1,9 @@
 //! Why reading stops: a fault of the bytes, or want of memory.
 
 ghost use Rattle.std.specs.Prelude.{◌≡◌};
-ghost use Rattle.omf_module.specs.declared.stop.Stop.TheVariants.{Memory};
+ghost use Rattle.omf_module.specs.declared.stop.Stop.TheVariants.{Memory, Fault};
 
+use crate::fault::{Cause, ModuleFault};
 use std::alloc::{AllocError, AllocFailed};
 
 #[derive(Debug, Drop)]
@@ -24,5 +25,21 @@ impl<F, T: Drop> From<AllocFailed<T>> for Stop<F> {
 
     fn from(_e: AllocFailed<T>) -> Stop<F> {
         Stop::Memory
+    }
+}
+
+impl From<Cause> for Stop<Cause> {
+    ghost from_gives = { λ cause e. e ≡ Fault cause };
+
+    fn from(cause: Cause) -> Stop<Cause> {
+        Stop::Fault(cause)
+    }
+}
+
+impl From<ModuleFault> for Stop<ModuleFault> {
+    ghost from_gives = { λ fault e. e ≡ Fault fault };
+
+    fn from(fault: ModuleFault) -> Stop<ModuleFault> {
+        Stop::Fault(fault)
     }
 }
