@@ -3,7 +3,6 @@
 ghost use Rattle.std.specs.Prelude.{◌≡◌, ◌⊎◌, ◌≤◌, ◌<◌, ◌+◌, None, Some, length, IfOk, IfErr, OnOk};
 ghost use Rattle.std.specs.List.{AllByRecursion};
 ghost use Rattle.omf_module.specs.Place.{rounded};
-ghost use Rattle.omf_module.specs.Segments.{names_common};
 ghost use Rattle.place80.specs.Layout.{common_ids, order_of, placed_after, layout_of};
 ghost use Rattle.place80.specs.PlaceFault.{layout_fault};
 ghost use Rattle.place80.specs.declared.place_fault.PlaceFault.TheVariants.{Memory};
@@ -13,7 +12,7 @@ use crate::outside::first_outside;
 use crate::overlap::first_overlap;
 use crate::place_fault::PlaceFault;
 use crate::placed::{Layout, Placed};
-use omf_module::{Common, Module, Segment};
+use omf_module::{Common, Module, Segment, names_common};
 use std::alloc::{AllocError, Global};
 
 /// Where CODE stands without an option.
@@ -41,13 +40,6 @@ pub fn layout(alloc: Global, program: &Module, options: &Options) -> Result<Layo
         return Err(PlaceFault::Overlap(first, second));
     }
     Ok(Layout { segments })
-}
-
-/// Whether one of the commons has this id.
-fn names_common(commons: &[Common], id: u8) -> bool
-    ensures { result ≡ names_common commons.now id }
-{
-    commons.iter().any(|common| common.id == id)
 }
 
 /// The ids of the named commons, in ascending order.
