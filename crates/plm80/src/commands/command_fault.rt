@@ -1,5 +1,7 @@
 //! Why a command stops.
 
+ghost use Rattle.std.specs.Prelude.{◌≡◌};
+
 use omf_module::ModuleFault;
 use place80::{ImageFault, PlaceFault, RegionsFault};
 use std::alloc::{AllocError, AllocFailed};
@@ -59,7 +61,9 @@ pub enum FileFault {
 
 impl FileFault {
     /// The fault of the file of this path.
-    pub fn of<'a>(self, path: &'a str) -> CommandFault<'a> {
+    pub fn of<'a>(self, path: &'a str) -> CommandFault<'a>
+        ensures { result ≡ CommandFault.OfFile path.entry self }
+    {
         CommandFault::OfFile { path, fault: self }
     }
 }

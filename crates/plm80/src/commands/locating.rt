@@ -2,7 +2,7 @@
 
 ghost use Rattle.std.specs.Prelude.{◌≡◌, IfOk, IfErr};
 ghost use Rattle.std.specs.Option.{option_map};
-ghost use Rattle.plm80.specs.NumberText.{IsWordGiven};
+ghost use Rattle.plm80.specs.NumberText.{IsWordGiven, MayBeWord};
 
 use crate::commands::command_fault::{CommandFault, FileFault};
 use crate::commands::files::{read_whole, replace};
@@ -128,6 +128,17 @@ impl<'a> LocateTexts<'a> {
         ensures stack_size { IfOk result (λ options. IsWordGiven (option_map (λ t. t.now) self.entry.stack_size) options.stack_size) }
         ensures memory_size { IfOk result (λ options. IsWordGiven (option_map (λ t. t.now) self.entry.memory_size) options.memory_size) }
         ensures fault { IfErr result (λ fault. fault ≡ CommandFault.BadNumber) }
+        ensures refused {
+            IfErr result (λ _.
+                MayBeWord (option_map (λ t. t.now) self.entry.code)
+                → MayBeWord (option_map (λ t. t.now) self.entry.stack)
+                → MayBeWord (option_map (λ t. t.now) self.entry.common)
+                → MayBeWord (option_map (λ t. t.now) self.entry.data_base)
+                → MayBeWord (option_map (λ t. t.now) self.entry.memory)
+                → MayBeWord (option_map (λ t. t.now) self.entry.stack_size)
+                → MayBeWord (option_map (λ t. t.now) self.entry.memory_size)
+                → ⊥)
+        }
     {
         Ok(Options {
             code: word_given(self.code)?,
