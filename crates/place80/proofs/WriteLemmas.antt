@@ -1,6 +1,6 @@
 -- The text of regions spells them.
 use Rattle.std.proofs.Common.{◌≡◌, ℕ, ◌/◌, ◌%◌, ◌<◌, ◌≤◌, false, cond, List, [], ◌∷◌, ◌++◌, length, map, append_assoc, append-nil, lit≤, refl, ap, sym, subst, ◌∙◌, arith}
-use Rattle.std.specs.Prelude.{All, IsPermutation, filter_map, codes, Option, Some, None}
+use Rattle.std.specs.Prelude.{All, IsPermutation, filter_map, codes, Option, Some, None, Result, Ok, Err, OnOk}
 use Rattle.std.specs.List.{flat_map, cons_option}
 use Rattle.std.proofs.lemmas.Bool.{lt-ltb}
 use Rattle.std.proofs.lemmas.Grind.{common_steps}
@@ -163,3 +163,8 @@ steps_are_text areas front with_code with_stack with_data first_line code_word s
     ∙ ap (λ w. ((codes "REGIONS 1\n" ++ flat_map (λ range. (codes "CODE " ++ range_text range) ++ 10 ∷ []) areas.code) ++ ((codes "STACK " ++ range_text areas.stack) ++ 10 ∷ [])) ++ flat_map (λ range. (w ++ range_text range) ++ 10 ∷ []) data') data_word_is
     ∙ ap (λ rs. ((codes "REGIONS 1\n" ++ flat_map (λ range. (codes "CODE " ++ range_text range) ++ 10 ∷ []) areas.code) ++ ((codes "STACK " ++ range_text areas.stack) ++ 10 ∷ [])) ++ flat_map (λ range. (codes "DATA " ++ range_text range) ++ 10 ∷ []) rs) data_is
     ∙ pieces_are_text areas
+
+-- what holds anyway holds where there is a value
+pub on_ok_always : {T E P : Type 0} (result : Result T E) → P → OnOk result P
+on_ok_always (Ok value) p = p
+on_ok_always (Err fault) p = tt

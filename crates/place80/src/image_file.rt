@@ -9,27 +9,32 @@ use crate::absolute::AbsoluteProgram;
 use crate::chunk::Chunk;
 use crate::image::Image;
 use crate::image_fault::ImageFault;
+use crate::laws::written_image_is_read;
 use crate::regions::Regions;
 use omf_module::{Content, Module, Parts, PartsFault, read_file, write_file};
 use std::alloc::{AllocError, Global};
 
 /// Appends the object file of the image to `out`, which grows by its own allocator: one module of the image's name that
-/// has no segments, with one content record in segment 0 for each chunk, in order, and a start in segment 0.
-/// (8080 Object Module Formats, absolute segment.)
+/// has no segments, with one content record in segment 0 for each chunk, in order, and a start in segment 0. They are read
+/// as the same image, but for its regions, which an object file doesn't hold. (8080 Object Module Formats, absolute segment.)
 ///
 /// # Errors
 /// `AllocError` only where a growth was refused; `out` is then as it was.
 pub fn write_image(alloc: Global, image: &Image, out: &mut Vec<u8>) -> Result<(), AllocError>
     ensures written { OnOk result (out.new.items ≡ out.old.items ++ image_bytes image.now) }
+    ensures read { OnOk result (image_of (image_bytes image.now) ≡ Ok (without_regions image.now)) }
     ensures refused { OnErr result (out.new.items ≡ out.old.items) }
 {
+    written_image_is_read();
+    let _ = image.name.bytes();
     let module = module_of(alloc, image)?;
     write_file(alloc, &[module], out)
 }
 
 /// The module that an image is written as.
 fn module_of(alloc: Global, image: &Image) -> Result<Module, AllocError>
-    ensures { IfOk result (λ made. made ≡ image_module image.now) }
+    ensures made { IfOk result (λ made. made ≡ image_module image.now) }
+    ensures rules { OnOk result (AllByRecursion IsChunk image.now.chunks) }
 {
     match Module::from_parts(alloc, parts_of(alloc, image)?) {
         Ok(module) => Ok(module),

@@ -2,26 +2,32 @@
 
 ghost use Rattle.std.specs.Prelude.{◌≡◌, ◌∷◌, ◌++◌, [], IfOk, OnOk, OnErr};
 ghost use Rattle.std.specs.List.{flat_map};
-ghost use Rattle.place80.specs.RegionsText.{range_text, regions_text};
+ghost use Rattle.place80.specs.Regions.{AreRegions};
+ghost use Rattle.place80.specs.RegionsText.{Spells, range_text, regions_text};
 
 use crate::digits::digits_of;
+use crate::laws::text_of_regions_is_read_as_itself;
 use crate::range::Range;
 use crate::regions::Regions;
 use std::alloc::{AllocError, Global};
 
 /// Appends the text of the regions, version 1: the line `REGIONS 1`, the code lines by address, the
-/// stack line, the data lines by address. Where a growth is refused, `out` keeps what it held.
+/// stack line, the data lines by address. It is read as the same regions. Where a growth is refused,
+/// `out` keeps what it held.
 pub fn write_regions(alloc: Global, regions: &Regions, out: &mut Vec<u8>) -> Result<(), AllocError>
     ensures ok { OnOk result (out.new.items ≡ out.old.items ++ regions_text regions.now) }
+    ensures read { OnOk result (Spells (regions_text regions.now) regions.now) }
     ensures err { OnErr result (out.new.items ≡ out.old.items) }
 {
+    text_of_regions_is_read_as_itself();
     let text = spelled(alloc, regions)?;
     out.extend_from_slice(&text)
 }
 
 /// The text of the regions.
 fn spelled(alloc: Global, regions: &Regions) -> Result<Vec<u8>, AllocError>
-    ensures { IfOk result (λ text. text.items ≡ regions_text regions.now) }
+    ensures text { IfOk result (λ text. text.items ≡ regions_text regions.now) }
+    ensures rules { OnOk result (AreRegions regions.now) }
 {
     let mut text = Vec::from_slice(alloc, b"REGIONS 1\n".as_slice())?;
     put_lines(&mut text, b"CODE ".as_slice(), regions.code())?;

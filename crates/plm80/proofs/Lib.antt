@@ -2,3 +2,4 @@ mod BundleLemmas
 mod BundledLemmas
 mod ListingLemmas
 mod NumberLemmas
+mod LocateLemmas

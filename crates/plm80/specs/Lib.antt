@@ -4,3 +4,5 @@ pub mod Fault
 pub mod Status
 pub mod Listing
 pub mod NumberText
+pub mod Told
+pub mod LocateFiles

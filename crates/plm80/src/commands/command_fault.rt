@@ -1,10 +1,11 @@
 //! Why a command stops.
 
 ghost use Rattle.std.specs.Prelude.{◌≡◌};
+ghost use Rattle.plm80.specs.Told.{image_told, module_told, regions_told};
 
-use omf_module::ModuleFault;
+use omf_module::{Cause, ModuleFault};
 use place80::{ImageFault, PlaceFault, RegionsFault};
-use std::alloc::{AllocError, AllocFailed};
+use std::alloc::AllocError;
 use thiserror::Error;
 
 /// Why a command stops, as its line on standard error says it.
@@ -68,19 +69,53 @@ impl FileFault {
     }
 }
 
+/// A fault of the object file of this path.
+pub fn of_module<'a>(path: &'a str, fault: ModuleFault) -> CommandFault<'a>
+    ensures { result ≡ module_told path.entry fault fault.cause }
+{
+    match fault.cause {
+        Cause::Memory => CommandFault::Memory,
+        _ => FileFault::Module(fault).of(path),
+    }
+}
+
+/// A fault of the regions text of this path.
+pub fn of_regions<'a>(path: &'a str, fault: RegionsFault) -> CommandFault<'a>
+    ensures { result ≡ regions_told path.entry fault }
+{
+    match fault {
+        RegionsFault::Memory => CommandFault::Memory,
+        _ => FileFault::Regions(fault).of(path),
+    }
+}
+
+/// A fault of the image file of this path.
+pub fn of_image<'a>(path: &'a str, fault: ImageFault) -> CommandFault<'a>
+    ensures { result ≡ image_told path.entry fault }
+{
+    match fault {
+        ImageFault::Memory => CommandFault::Memory,
+        _ => FileFault::Image(fault).of(path),
+    }
+}
+
 impl<'a> From<AllocError> for CommandFault<'a> {
+    ghost use Rattle.std.specs.Prelude.{◌≡◌};
+    ghost use Rattle.plm80.specs.declared.commands.command_fault.CommandFault.TheVariants.{Memory};
+
+    ghost from_gives = { λ _ fault. fault ≡ Memory };
+
     fn from(_error: AllocError) -> CommandFault<'a> {
         CommandFault::Memory
     }
 }
 
-impl<'a, T: Drop> From<AllocFailed<T>> for CommandFault<'a> {
-    fn from(_error: AllocFailed<T>) -> CommandFault<'a> {
-        CommandFault::Memory
-    }
-}
-
 impl<'a> From<PlaceFault> for CommandFault<'a> {
+    ghost use Rattle.std.specs.Prelude.{◌≡◌};
+    ghost use Rattle.plm80.specs.Told.{place_told};
+
+    ghost from_gives = { λ cause fault. fault ≡ place_told cause };
+
     fn from(fault: PlaceFault) -> CommandFault<'a> {
         match fault {
             PlaceFault::Memory => CommandFault::Memory,

@@ -1,10 +1,13 @@
 //! `plm80 list`: the instructions of a located program.
 
-ghost use Rattle.std.specs.Prelude.{◌≡◌, IfOk, Ok};
+ghost use Rattle.std.specs.Prelude.{◌≡◌, ◌⊎◌, IfOk, IfErr, Ok, Err};
 ghost use Rattle.place80.specs.ImageFile.{image_of as told_image, without_regions};
-ghost use Rattle.place80.specs.RegionsText.{Spells};
+ghost use Rattle.place80.specs.RegionsText.{Refuses, Spells};
+ghost use Rattle.place80.specs.declared.fault.RegionsFault.TheVariants.{BadVersion};
+ghost use Rattle.plm80.specs.declared.commands.command_fault.CommandFault.TheVariants.{Memory};
+ghost use Rattle.plm80.specs.Told.{image_told, regions_told};
 
-use crate::commands::command_fault::{CommandFault, FileFault};
+use crate::commands::command_fault::{CommandFault, of_image, of_regions};
 use crate::commands::files::{print, read_whole};
 use crate::commands::list_text::listing;
 use crate::commands::words::{path_argument, path_of};
@@ -64,12 +67,13 @@ pub fn list_files<'a>(rt: &HostRuntime, words: ListWords<'a>) -> Result<u8, Comm
 
 /// The regions that the file's text spells.
 fn regions_of<'a>(alloc: Global, path: &'a str, text: &[u8]) -> Result<Regions, CommandFault<'a>>
-    ensures { IfOk result (Spells text.now) }
+    ensures regions { IfOk result (Spells text.now) }
+    ensures fault { IfErr result (λ fault. (cause : RegionsFault) × Refuses text.now cause × (fault ≡ regions_told path.entry cause)) }
+    ensures version { IfErr result (λ fault. Refuses text.now BadVersion → fault ≡ regions_told path.entry BadVersion) }
 {
     match read_regions(alloc, text) {
         Ok(regions) => Ok(regions),
-        Err(RegionsFault::Memory) => Err(CommandFault::Memory),
-        Err(fault) => Err(FileFault::Regions(fault).of(path)),
+        Err(fault) => Err(of_regions(path, fault)),
     }
 }
 
@@ -82,10 +86,10 @@ fn image_of<'a>(
 ) -> Result<Image, CommandFault<'a>>
     ensures image { IfOk result (λ image. told_image bytes.now ≡ Ok (without_regions image)) }
     ensures regions { IfOk result (λ image. image.regions ≡ regions) }
+    ensures fault { IfErr result (λ fault. (fault ≡ Memory) ⊎ ((cause : ImageFault) × (told_image bytes.now ≡ Err cause) × (fault ≡ image_told path.entry cause))) }
 {
     match read_image(alloc, bytes, regions) {
         Ok(image) => Ok(image),
-        Err((_, ImageFault::Memory)) => Err(CommandFault::Memory),
-        Err((_, fault)) => Err(FileFault::Image(fault).of(path)),
+        Err((_, fault)) => Err(of_image(path, fault)),
     }
 }

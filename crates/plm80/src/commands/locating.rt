@@ -1,15 +1,20 @@
 //! `plm80 locate`: an object file's one module at its places, as an image and its regions.
 
-ghost use Rattle.std.specs.Prelude.{◌≡◌, IfOk, IfErr};
+ghost use Rattle.std.specs.Prelude.{◌≡◌, ◌⊎◌, Some, Err, IfOk, IfErr};
 ghost use Rattle.std.specs.Option.{option_map};
+ghost use Rattle.omf_module.specs.declared.fault.ModuleFault.{ModuleFault};
+ghost use Rattle.omf_module.specs.Reading.{file_of, name_of};
+ghost use Rattle.plm80.specs.declared.commands.command_fault.CommandFault.TheVariants.{Memory};
+ghost use Rattle.plm80.specs.LocateFiles.{AreFilesOf, Locates, first_fault};
 ghost use Rattle.plm80.specs.NumberText.{IsWordGiven, MayBeWord};
+ghost use Rattle.plm80.specs.Told.{module_told};
 
-use crate::commands::command_fault::{CommandFault, FileFault};
+use crate::commands::command_fault::{CommandFault, FileFault, of_module};
 use crate::commands::files::{read_whole, replace};
 use crate::commands::numbers::word_given;
 use crate::commands::words::{number_option, path_argument, path_of};
 use clap::{ArgMatches, Command};
-use omf_module::{Cause, Module, ModuleFault, read_file};
+use omf_module::read_file;
 use place80::{Image, Options, locate, write_image, write_regions};
 use std::alloc::{AllocError, Global};
 
@@ -128,17 +133,15 @@ impl<'a> LocateTexts<'a> {
         ensures stack_size { IfOk result (λ options. IsWordGiven (option_map (λ t. t.now) self.entry.stack_size) options.stack_size) }
         ensures memory_size { IfOk result (λ options. IsWordGiven (option_map (λ t. t.now) self.entry.memory_size) options.memory_size) }
         ensures fault { IfErr result (λ fault. fault ≡ CommandFault.BadNumber) }
-        ensures refused {
-            IfErr result (λ _.
-                MayBeWord (option_map (λ t. t.now) self.entry.code)
-                → MayBeWord (option_map (λ t. t.now) self.entry.stack)
-                → MayBeWord (option_map (λ t. t.now) self.entry.common)
-                → MayBeWord (option_map (λ t. t.now) self.entry.data_base)
-                → MayBeWord (option_map (λ t. t.now) self.entry.memory)
-                → MayBeWord (option_map (λ t. t.now) self.entry.stack_size)
-                → MayBeWord (option_map (λ t. t.now) self.entry.memory_size)
-                → ⊥)
-        }
+        ensures refused { IfErr result (λ _.
+            MayBeWord (option_map (λ t. t.now) self.entry.code)
+            → MayBeWord (option_map (λ t. t.now) self.entry.stack)
+            → MayBeWord (option_map (λ t. t.now) self.entry.common)
+            → MayBeWord (option_map (λ t. t.now) self.entry.data_base)
+            → MayBeWord (option_map (λ t. t.now) self.entry.memory)
+            → MayBeWord (option_map (λ t. t.now) self.entry.stack_size)
+            → MayBeWord (option_map (λ t. t.now) self.entry.memory_size)
+            → ⊥) }
     {
         Ok(Options {
             code: word_given(self.code)?,
@@ -157,43 +160,54 @@ impl<'a> LocateTexts<'a> {
 pub fn locate_file<'a>(rt: &HostRuntime, words: LocateWords<'a>) -> Result<u8, CommandFault<'a>> {
     let options = words.options.numbers()?;
     let bytes = read_whole(rt, words.object)?;
-    let modules = modules_of(rt.alloc(), words.object, &bytes)?;
-    let [program] = modules.as_slice() else {
-        return Err(FileFault::NotOneModule.of(words.object));
-    };
-    let image = locate(rt.alloc(), program, &options)?;
-    write_files(rt, words, &image)?;
+    let image = located(rt.alloc(), words.object, &bytes, &options)?;
+    let files = files_of(rt.alloc(), &image)?;
+    replace(rt, words.image, &files.image)?;
+    replace(rt, words.regions, &files.regions)?;
     Ok(0)
 }
 
-/// The modules of the object file.
-fn modules_of<'a>(
+/// The one module of the object file of this path at its places, as an image.
+fn located<'a>(
     alloc: Global,
     path: &'a str,
     bytes: &[u8],
-) -> Result<Vec<Module>, CommandFault<'a>> {
-    match read_file(alloc, bytes) {
-        Ok(modules) => Ok(modules),
-        Err(
-            ModuleFault {
-                cause: Cause::Memory,
-                ..
-            },
-        ) => Err(CommandFault::Memory),
-        Err(fault) => Err(FileFault::Module(fault).of(path)),
+    options: &Options,
+) -> Result<Image, CommandFault<'a>>
+    ensures image { IfOk result (Locates options.now (file_of bytes.now)) }
+    ensures fault { IfErr result (λ fault. (fault ≡ Memory) ⊎ (first_fault path.entry options.now (file_of bytes.now) ≡ Some fault)) }
+    ensures early { (fault : ModuleFault) → name_of bytes.now 0 ≡ Err fault → result ≡ Err (module_told path.entry fault fault.cause) }
+{
+    let modules = match read_file(alloc, bytes) {
+        Ok(modules) => modules,
+        Err(fault) => return Err(of_module(path, fault)),
+    };
+    let [program] = modules.as_slice() else {
+        return Err(FileFault::NotOneModule.of(path));
+    };
+    match locate(alloc, program, options) {
+        Ok(image) => Ok(image),
+        Err(fault) => Err(CommandFault::from(fault)),
     }
 }
 
-/// Writes the image and then the regions, once the bytes of both are made.
-fn write_files<'a>(
-    rt: &HostRuntime,
-    words: LocateWords<'a>,
-    image: &Image,
-) -> Result<(), CommandFault<'a>> {
-    let mut image_bytes = Vec::new(rt.alloc());
-    write_image(rt.alloc(), image, &mut image_bytes)?;
-    let mut regions_text = Vec::new(rt.alloc());
-    write_regions(rt.alloc(), &image.regions, &mut regions_text)?;
-    replace(rt, words.image, &image_bytes)?;
-    replace(rt, words.regions, &regions_text)
+/// The bytes of the two files that `locate` writes.
+#[derive(Drop)]
+struct LocatedFiles {
+    image: Vec<u8>,
+    regions: Vec<u8>,
+}
+
+/// The bytes of the files of an image. They are read as that image.
+fn files_of(alloc: Global, image: &Image) -> Result<LocatedFiles, AllocError>
+    ensures { IfOk result (λ files. AreFilesOf image.now files.image.items files.regions.items) }
+{
+    let mut image_bytes = Vec::new(alloc);
+    write_image(alloc, image, &mut image_bytes)?;
+    let mut regions_text = Vec::new(alloc);
+    write_regions(alloc, &image.regions, &mut regions_text)?;
+    Ok(LocatedFiles {
+        image: image_bytes,
+        regions: regions_text,
+    })
 }

@@ -1,12 +1,15 @@
 //! `plm80 run`: the transcript of a located program's run.
 
+ghost use Rattle.std.specs.Prelude.{◌≡◌};
+ghost use Rattle.plm80.specs.Told.{run_told, session_path};
+
 use crate::commands::command_fault::{CommandFault, FileFault};
 use crate::commands::files::LateFile;
 use crate::commands::numbers::count_given;
 use crate::commands::words::{number_option, path_argument, path_of};
 use crate::status_of;
 use clap::{ArgMatches, Command};
-use loader80::{Reading, SessionFault, Writing, session};
+use loader80::{Outcome, Reading, SessionFault, Writing, session};
 use std::alloc::{AllocError, Global};
 
 /// The words of `run`.
@@ -78,7 +81,9 @@ impl<'a> RunWords<'a> {
     }
 
     /// The path of the file that a session knows by its number.
-    fn path_of_text(&self, number: u8) -> &'a str {
+    fn path_of_text(&self, number: u8) -> &'a str
+        ensures { result ≡ session_path self.now.image self.now.regions self.now.inputs number }
+    {
         match number {
             1 => self.image,
             2 => self.regions,
@@ -86,16 +91,22 @@ impl<'a> RunWords<'a> {
         }
     }
 
-    /// A session's fault, with the path of the file where it is of one file.
-    fn fault_of(&self, fault: SessionFault) -> CommandFault<'a> {
-        match fault {
-            SessionFault::Read(number) => FileFault::Read.of(self.path_of_text(number)),
-            SessionFault::TooLong(number) => FileFault::TooLong.of(self.path_of_text(number)),
-            SessionFault::Image(fault) => FileFault::Image(fault).of(self.image),
-            SessionFault::Regions(fault) => FileFault::Regions(fault).of(self.regions),
-            SessionFault::Inputs(line) => FileFault::Inputs(line).of(self.inputs),
-            SessionFault::Write => CommandFault::Write,
-            SessionFault::Refused(_) | SessionFault::Memory => CommandFault::Memory,
+    /// The exit status after a session's answer, or its fault, with the path of the file that it is of.
+    fn told(&self, answer: Result<Outcome, SessionFault>) -> Result<u8, CommandFault<'a>>
+        ensures { result ≡ run_told self.now.image self.now.regions self.now.inputs answer }
+    {
+        match answer {
+            Ok(outcome) => Ok(status_of(outcome.end)),
+            Err(SessionFault::Refused(_)) => Ok(1),
+            Err(SessionFault::Read(number)) => Err(FileFault::Read.of(self.path_of_text(number))),
+            Err(SessionFault::TooLong(number)) => {
+                Err(FileFault::TooLong.of(self.path_of_text(number)))
+            }
+            Err(SessionFault::Image(fault)) => Err(FileFault::Image(fault).of(self.image)),
+            Err(SessionFault::Regions(fault)) => Err(FileFault::Regions(fault).of(self.regions)),
+            Err(SessionFault::Inputs(line)) => Err(FileFault::Inputs(line).of(self.inputs)),
+            Err(SessionFault::Write) => Err(CommandFault::Write),
+            Err(SessionFault::Memory) => Err(CommandFault::Memory),
         }
     }
 }
@@ -117,9 +128,5 @@ pub fn run_files<'a>(rt: &HostRuntime, words: RunWords<'a>) -> Result<u8, Comman
         steps,
         outputs,
     );
-    match answer {
-        Ok(outcome) => Ok(status_of(outcome.end)),
-        Err(SessionFault::Refused(_)) => Ok(1),
-        Err(fault) => Err(words.fault_of(fault)),
-    }
+    words.told(answer)
 }

@@ -4,8 +4,8 @@ use Rattle.omf_module.specs.Rules.{keeps_rules}
 use Rattle.place80.proofs.ImageFileLemmas.{made_as_it_is, no_rule_broken}
 use Rattle.place80.proofs.image_file.module_of.Goals as goal
 
-pub returns-in-Ok : goal.returns-in-Ok
-returns-in-Ok c = c.in-Ok.ensures.made ∙ ap made_of c.in_ok-parts_of.ensures.parts ∙ made_as_it_is c.args.image.now
+pub returns-in-Ok-clause-made : goal.returns-in-Ok-clause-made
+returns-in-Ok-clause-made c = c.in-Ok.ensures.made ∙ ap made_of c.in_ok-parts_of.ensures.parts ∙ made_as_it_is c.args.image.now
 
 pub unreachable-requires : goal.unreachable-requires
 unreachable-requires c =
