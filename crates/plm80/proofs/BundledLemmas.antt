@@ -1,5 +1,5 @@
 -- What is answered for a bundle is what is answered for its three parts.
-use Rattle.std.specs.Prelude.{◌≡◌, ℕ, ◌<◌, ◌≤◌, List, Option, Some, Result, Ok, Err, length, take}
+use Rattle.std.specs.Prelude.{◌≡◌, ℕ, ◌<◌, List, Option, Some, Result, Ok, Err, length, take}
 use Rattle.std.specs.Io.KnownBytes.{Appends}
 use Rattle.std.proofs.Common.{◌∙◌, sym, subst}
 use Rattle.loader80.specs.declared.replying.Outcome.{Outcome}
@@ -7,7 +7,7 @@ use Rattle.loader80.specs.declared.fault.SessionFault.{SessionFault}
 use Rattle.loader80.specs.declared.fault.SessionFault.TheVariants.{Read, Write}
 use Rattle.loader80.specs.Texts.{Texts}
 use Rattle.loader80.specs.Session.{Says}
-use Rattle.loader80.specs.Sends.{AreWithin, Sends, SendsPrefix}
+use Rattle.loader80.specs.Sends.{AreWithin, Sends}
 use Rattle.loader80.proofs.SendsLemmas.{Read3, says_at, within_at, answers_of, sends_of, sends_prefix}
 use Rattle.plm80.specs.declared.fault.BundleFault.{BundleFault}
 use Rattle.plm80.specs.declared.fault.BundleFault.TheVariants.{Session}

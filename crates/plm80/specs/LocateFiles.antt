@@ -4,7 +4,6 @@ use Rattle.std.specs.Prelude.{◌≡◌, ℕ, List, [], ◌∷◌, Option, Some,
 use Rattle.omf_module.specs.declared.fault.ModuleFault.{ModuleFault}
 use Rattle.omf_module.specs.ImageByte.{image_byte}
 use Rattle.omf_module.specs.Modules.{ModuleValue}
-use Rattle.omf_module.specs.Reading.{file_of}
 use Rattle.place80.specs.declared.options.Options.{Options}
 use Rattle.place80.specs.Image.{Located, byte_at}
 use Rattle.place80.specs.ImageFile.{image_bytes, image_of, without_regions}

@@ -2,7 +2,6 @@
 -- (The faults, their paths and the statuses are this project's own.)
 use Rattle.std.specs.Prelude.{ℕ, ◌==◌, if◌then◌else◌, List, Result, Ok, Err}
 use Rattle.std.specs.Borrow.{Bor}
-use Rattle.machine80.specs.declared.end.End.{End}
 use Rattle.omf_module.specs.declared.fault.Cause.{Cause}
 use Rattle.omf_module.specs.declared.fault.Cause.TheVariants.{Memory as ModuleMemory}
 use Rattle.omf_module.specs.declared.fault.ModuleFault.{ModuleFault}
@@ -17,7 +16,6 @@ use Rattle.loader80.specs.declared.fault.SessionFault.TheVariants as session
 use Rattle.loader80.specs.declared.replying.Outcome.{Outcome}
 use Rattle.plm80.specs.declared.commands.command_fault.CommandFault.{CommandFault}
 use Rattle.plm80.specs.declared.commands.command_fault.CommandFault.TheVariants as command
-use Rattle.plm80.specs.declared.commands.command_fault.FileFault.{FileFault}
 use Rattle.plm80.specs.declared.commands.command_fault.FileFault.TheVariants as file
 use Rattle.plm80.specs.declared.fault.BundleFault.{BundleFault}
 use Rattle.plm80.specs.declared.fault.BundleFault.TheVariants as bundle

@@ -6,3 +6,6 @@ mod memory;
 
 /// The transcript of [`bundles::BUNDLE`].
 const TRANSCRIPT: &str = "STACK 0\nOUT 01 41\nHALT 3004 AFTER 3\n";
+
+/// The same where there is no memory for its output.
+const OUTPUT_REFUSED: &str = "STACK 0\nOUTPUT 01 AFTER 2\n";

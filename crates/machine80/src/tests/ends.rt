@@ -2,6 +2,7 @@
 
 use super::{Board, PLAIN, WITH_DATA};
 use crate::{Bus, End, Inputs, ListPorts, Ports};
+use std::alloc::Global;
 use std::process::Abort;
 use std::test::Fail;
 
@@ -13,20 +14,33 @@ fn ends(rt: &impl Abort, board: &mut Board, end: End, code: u8) {
     assert_eq!(rt; board.cpu, before);
 }
 
+/// The program's first step is an end of this number.
+fn ends_at_once(
+    rt: &impl Abort,
+    alloc: Global,
+    regions: &[u8],
+    start: u16,
+    program: &[u8],
+    end: End,
+    code: u8,
+) -> Result<(), Fail> {
+    let mut board = Board::new(alloc, regions, start, program)?;
+    ends(rt, &mut board, end, code);
+    Ok(())
+}
+
 #[test]
 fn the_ends_of_a_program(rt: HostRuntime) -> Result<(), Fail> {
-    ends(
+    ends_at_once(&rt, rt.alloc(), PLAIN, 0x3000, &[0x76], End::Halt, 1)?;
+    ends_at_once(
         &rt,
-        &mut Board::new(rt.alloc(), PLAIN, 0x3000, &[0x76])?,
-        End::Halt,
-        1,
-    );
-    ends(
-        &rt,
-        &mut Board::new(rt.alloc(), PLAIN, 0x3000, &[0xDB, 0x02, 0x76])?,
+        rt.alloc(),
+        PLAIN,
+        0x3000,
+        &[0xDB, 0x02, 0x76],
         End::InputEnd(0x02),
         2,
-    );
+    )?;
     let mut board = Board::new(rt.alloc(), PLAIN, 0x3000, &[0xD3, 0x01, 0x76])?;
     let inputs = Inputs {
         pairs: Vec::new(rt.alloc()),
@@ -57,86 +71,103 @@ fn a_store_outside_data(rt: HostRuntime) -> Result<(), Fail> {
 #[test]
 fn a_fetch_outside_code(rt: HostRuntime) -> Result<(), Fail> {
     // The first byte, the second, the third.
-    ends(
+    ends_at_once(
         &rt,
-        &mut Board::new(rt.alloc(), PLAIN, 0x2FFF, &[0x00, 0x76])?,
+        rt.alloc(),
+        PLAIN,
+        0x2FFF,
+        &[0x00, 0x76],
         End::Fetch(0x2FFF),
         5,
-    );
-    ends(
+    )?;
+    ends_at_once(
         &rt,
-        &mut Board::new(rt.alloc(), PLAIN, 0x30FF, &[0x3E, 0x00, 0x76])?,
+        rt.alloc(),
+        PLAIN,
+        0x30FF,
+        &[0x3E, 0x00, 0x76],
         End::Fetch(0x30FF),
         5,
-    );
-    ends(
+    )?;
+    ends_at_once(
         &rt,
-        &mut Board::new(rt.alloc(), PLAIN, 0x30FE, &[0xC3, 0x00, 0x30])?,
+        rt.alloc(),
+        PLAIN,
+        0x30FE,
+        &[0xC3, 0x00, 0x30],
         End::Fetch(0x30FE),
         5,
-    );
+    )?;
     // An unused byte.
-    ends(
+    ends_at_once(
         &rt,
-        &mut Board::new(rt.alloc(), PLAIN, 0x3000, &[0x08])?,
+        rt.alloc(),
+        PLAIN,
+        0x3000,
+        &[0x08],
         End::Fetch(0x3000),
         5,
-    );
+    )?;
     // Past FFFF, where the byte at 0000 is code too.
     let around = b"REGIONS 1\nCODE FFFF 0001\nCODE 0000 0001\nSTACK 3100 0100\n";
-    ends(
+    ends_at_once(
         &rt,
-        &mut Board::new(rt.alloc(), around, 0xFFFF, &[0x3E, 0x00])?,
+        rt.alloc(),
+        around,
+        0xFFFF,
+        &[0x3E, 0x00],
         End::Fetch(0xFFFF),
         5,
-    );
+    )?;
     // No code at all.
     let bare = b"REGIONS 1\nSTACK 3100 0100\n";
-    ends(
+    ends_at_once(
         &rt,
-        &mut Board::new(rt.alloc(), bare, 0x3000, &[0x76])?,
+        rt.alloc(),
+        bare,
+        0x3000,
+        &[0x76],
         End::Fetch(0x3000),
         5,
-    );
+    )?;
     Ok(())
 }
 
 #[test]
 fn a_stack_byte_outside_the_stack(rt: HostRuntime) -> Result<(), Fail> {
     // POP B on an empty stack, and PUSH B where there is none.
-    ends(
+    ends_at_once(
         &rt,
-        &mut Board::new(rt.alloc(), PLAIN, 0x3000, &[0xC1])?,
+        rt.alloc(),
+        PLAIN,
+        0x3000,
+        &[0xC1],
         End::Stack(0x3200),
         6,
-    );
+    )?;
     let none = b"REGIONS 1\nCODE 3000 0005\nSTACK 3005 0000\n";
-    ends(
+    ends_at_once(
         &rt,
-        &mut Board::new(rt.alloc(), none, 0x3000, &[0xC5])?,
+        rt.alloc(),
+        none,
+        0x3000,
+        &[0xC5],
         End::Stack(0x3004),
         6,
-    );
+    )?;
     // One byte of room: the high byte is inside, the low one is not.
     let one = b"REGIONS 1\nCODE 3000 0005\nSTACK 3005 0001\n";
-    ends(
+    ends_at_once(&rt, rt.alloc(), one, 0x3000, &[0xC5], End::Stack(0x3004), 6)?;
+    ends_at_once(
         &rt,
-        &mut Board::new(rt.alloc(), one, 0x3000, &[0xC5])?,
+        rt.alloc(),
+        one,
+        0x3000,
+        &[0xCD, 0x00, 0x30],
         End::Stack(0x3004),
         6,
-    );
-    ends(
-        &rt,
-        &mut Board::new(rt.alloc(), one, 0x3000, &[0xCD, 0x00, 0x30])?,
-        End::Stack(0x3004),
-        6,
-    );
-    ends(
-        &rt,
-        &mut Board::new(rt.alloc(), one, 0x3000, &[0xE3])?,
-        End::Stack(0x3006),
-        6,
-    );
+    )?;
+    ends_at_once(&rt, rt.alloc(), one, 0x3000, &[0xE3], End::Stack(0x3006), 6)?;
     // A conditional call or return whose condition fails touches no stack.
     for byte in [0xCC, 0xC8] {
         let mut board = Board::new(rt.alloc(), none, 0x3000, &[byte, 0x00, 0x30])?;
@@ -148,12 +179,15 @@ fn a_stack_byte_outside_the_stack(rt: HostRuntime) -> Result<(), Fail> {
 
 #[test]
 fn a_direct_store_outside_data(rt: HostRuntime) -> Result<(), Fail> {
-    ends(
+    ends_at_once(
         &rt,
-        &mut Board::new(rt.alloc(), PLAIN, 0x3000, &[0x32, 0x00, 0x30])?,
+        rt.alloc(),
+        PLAIN,
+        0x3000,
+        &[0x32, 0x00, 0x30],
         End::Direct(0x3000),
         7,
-    );
+    )?;
     // The second byte of SHLD alone is outside: the first is not stored either.
     let small = b"REGIONS 1\nCODE 3000 0010\nSTACK 3100 0100\nDATA 4000 0001\n";
     let mut board = Board::new(rt.alloc(), small, 0x3000, &[0x22, 0x00, 0x40, 0x76])?;

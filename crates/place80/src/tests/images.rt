@@ -1,5 +1,7 @@
 //! Images that are read from object files, and written.
 
+ghost use Rattle.std.specs.Prelude.{◌+◌, ◌≤◌};
+
 use crate::*;
 use omf_core::{Name, RecordFault};
 use omf_module::{Cause, ModuleFault};
@@ -188,23 +190,25 @@ fn an_image_of_no_chunks(rt: HostRuntime) -> Result<(), Fail> {
     Ok(())
 }
 
+/// The length of the one chunk of this address and so many bytes, after its image was written and read again.
+fn length_again(alloc: Global, address: u16, length: usize) -> Result<usize, Fail>
+    requires in_memory { address + length ≤ 65536 }
+    requires in_record { length ≤ 65531 }
+{
+    let bytes = vec![in alloc; 0xC9u8; length]?;
+    let mut chunks = Vec::new(alloc);
+    chunks.push(Chunk { address, bytes })?;
+    let read = again(alloc, &image_of(alloc, chunks)?)?;
+    match read.chunks.as_slice() {
+        [chunk] if chunk.address == address => Ok(chunk.bytes.len()),
+        _ => Err("another chunk")?,
+    }
+}
+
 #[test]
 fn an_image_of_the_last_byte_and_of_a_full_record(rt: HostRuntime) -> Result<(), Fail> {
-    let alloc = rt.alloc();
-    let mut chunks = Vec::new(alloc);
-    let bytes = vec![in alloc; 0x76u8]?;
-    chunks.push(Chunk {
-        address: 0xFFFF,
-        bytes,
-    })?;
-    let bytes = vec![in alloc; 0xC9u8; 65531]?;
-    chunks.push(Chunk { address: 5, bytes })?;
-    let read = again(alloc, &image_of(alloc, chunks)?)?;
-    assert_eq!(rt; read.chunks.len(), 2);
-    assert_eq!(rt; read.chunks[0].address, 0xFFFF);
-    assert_eq!(rt; read.chunks[0].bytes.as_slice(), [0x76].as_slice());
-    assert_eq!(rt; read.chunks[1].address, 5);
-    assert_eq!(rt; read.chunks[1].bytes.len(), 65531);
+    assert_eq!(rt; length_again(rt.alloc(), 0xFFFF, 1)?, 1);
+    assert_eq!(rt; length_again(rt.alloc(), 5, 65531)?, 65531);
     Ok(())
 }
 

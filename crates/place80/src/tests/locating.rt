@@ -113,22 +113,33 @@ fn first_bytes(alloc: Global, program: &Module, options: &Options) -> Result<Vec
     Ok(Vec::from_slice(alloc, &chunk.bytes)?)
 }
 
+/// The image of the halt at its usual place.
+fn located_halt(alloc: Global) -> Result<Image, Fail> {
+    let modules = read_file(alloc, HALT)?;
+    let program = modules.first().ok_or("a module")?;
+    Ok(locate(alloc, program, &USUAL)?)
+}
+
 #[test]
 fn a_halt_at_its_place(rt: HostRuntime) -> Result<(), Fail> {
-    let modules = read_file(rt.alloc(), HALT)?;
-    let program = modules.first().ok_or("a module")?;
-    let image = locate(rt.alloc(), program, &USUAL)?;
+    let image = located_halt(rt.alloc())?;
     assert_eq!(rt; image.name.bytes(), b"A".as_slice());
     assert_eq!(rt; image.start, 0x3000);
     assert_eq!(rt; image.byte(0x3000), 0x76);
     assert_eq!(rt; image.byte(0x3001), 0);
-    let mut regions = Vec::new(rt.alloc());
-    write_regions(rt.alloc(), &image.regions, &mut regions)?;
+    Ok(())
+}
+
+#[test]
+fn the_files_of_a_halt(rt: HostRuntime) -> Result<(), Fail> {
+    let image = located_halt(rt.alloc())?;
+    let mut out = Vec::new(rt.alloc());
+    write_regions(rt.alloc(), &image.regions, &mut out)?;
     assert_eq!(rt;
-        regions.as_slice(),
+        out.as_slice(),
         b"REGIONS 1\nCODE 3000 0001\nSTACK 3001 0000\n".as_slice()
     );
-    let mut out = Vec::new(rt.alloc());
+    out.clear();
     write_image(rt.alloc(), &image, &mut out)?;
     assert_eq!(rt; out.as_slice(), HALT_AT_3000);
     Ok(())

@@ -1,7 +1,7 @@
 //! Want of memory: this test also passes where any one growth is refused.
 
-use super::TRANSCRIPT;
 use super::bundles::{BUNDLE, HALTED};
+use super::{OUTPUT_REFUSED, TRANSCRIPT};
 use crate::{BundleFault, bundle};
 use loader80::{Outcome, Reading, SessionFault, Writing};
 use machine80::End;
@@ -49,7 +49,7 @@ fn want_of_memory_is_told_and_nothing_is_written(rt: HostRuntime) {
     let expected = if answer == Ok(HALTED) {
         TRANSCRIPT
     } else if answer == Ok(REFUSED) {
-        "STACK 0\nOUTPUT 01 AFTER 2\n"
+        OUTPUT_REFUSED
     } else {
         assert_eq!(rt; answer, Err(BundleFault::Session(SessionFault::Memory)));
         ""
