@@ -19,9 +19,11 @@ build:
 run: build
 	@examples/run crates/plm80/out/plm80
 
+# (rt ci has built the program that it proved.)
 test:
 	rt ci
-	@$(MAKE) --no-print-directory commands
+	@tests/commands/run crates/plm80/out/plm80
+	@tests/commands/walk crates/plm80/out/plm80
 
 commands: build
 	@tests/commands/run crates/plm80/out/plm80
