@@ -68,106 +68,56 @@ fn a_store_outside_data(rt: HostRuntime) -> Result<(), Fail> {
     Ok(())
 }
 
+/// The program's first step ends at its own address, where nothing can be fetched.
+fn fetch_ends(
+    rt: &impl Abort,
+    alloc: Global,
+    regions: &[u8],
+    start: u16,
+    program: &[u8],
+) -> Result<(), Fail> {
+    ends_at_once(rt, alloc, regions, start, program, End::Fetch(start), 5)
+}
+
 #[test]
 fn a_fetch_outside_code(rt: HostRuntime) -> Result<(), Fail> {
     // The first byte, the second, the third.
-    ends_at_once(
-        &rt,
-        rt.alloc(),
-        PLAIN,
-        0x2FFF,
-        &[0x00, 0x76],
-        End::Fetch(0x2FFF),
-        5,
-    )?;
-    ends_at_once(
-        &rt,
-        rt.alloc(),
-        PLAIN,
-        0x30FF,
-        &[0x3E, 0x00, 0x76],
-        End::Fetch(0x30FF),
-        5,
-    )?;
-    ends_at_once(
-        &rt,
-        rt.alloc(),
-        PLAIN,
-        0x30FE,
-        &[0xC3, 0x00, 0x30],
-        End::Fetch(0x30FE),
-        5,
-    )?;
+    fetch_ends(&rt, rt.alloc(), PLAIN, 0x2FFF, &[0x00, 0x76])?;
+    fetch_ends(&rt, rt.alloc(), PLAIN, 0x30FF, &[0x3E, 0x00, 0x76])?;
+    fetch_ends(&rt, rt.alloc(), PLAIN, 0x30FE, &[0xC3, 0x00, 0x30])?;
     // An unused byte.
-    ends_at_once(
-        &rt,
-        rt.alloc(),
-        PLAIN,
-        0x3000,
-        &[0x08],
-        End::Fetch(0x3000),
-        5,
-    )?;
+    fetch_ends(&rt, rt.alloc(), PLAIN, 0x3000, &[0x08])?;
     // Past FFFF, where the byte at 0000 is code too.
     let around = b"REGIONS 1\nCODE FFFF 0001\nCODE 0000 0001\nSTACK 3100 0100\n";
-    ends_at_once(
-        &rt,
-        rt.alloc(),
-        around,
-        0xFFFF,
-        &[0x3E, 0x00],
-        End::Fetch(0xFFFF),
-        5,
-    )?;
+    fetch_ends(&rt, rt.alloc(), around, 0xFFFF, &[0x3E, 0x00])?;
     // No code at all.
     let bare = b"REGIONS 1\nSTACK 3100 0100\n";
-    ends_at_once(
-        &rt,
-        rt.alloc(),
-        bare,
-        0x3000,
-        &[0x76],
-        End::Fetch(0x3000),
-        5,
-    )?;
+    fetch_ends(&rt, rt.alloc(), bare, 0x3000, &[0x76])?;
     Ok(())
+}
+
+/// The first step of a program at 3000 ends at this byte outside the stack.
+fn stack_ends(
+    rt: &impl Abort,
+    alloc: Global,
+    regions: &[u8],
+    program: &[u8],
+    byte: u16,
+) -> Result<(), Fail> {
+    ends_at_once(rt, alloc, regions, 0x3000, program, End::Stack(byte), 6)
 }
 
 #[test]
 fn a_stack_byte_outside_the_stack(rt: HostRuntime) -> Result<(), Fail> {
     // POP B on an empty stack, and PUSH B where there is none.
-    ends_at_once(
-        &rt,
-        rt.alloc(),
-        PLAIN,
-        0x3000,
-        &[0xC1],
-        End::Stack(0x3200),
-        6,
-    )?;
+    stack_ends(&rt, rt.alloc(), PLAIN, &[0xC1], 0x3200)?;
     let none = b"REGIONS 1\nCODE 3000 0005\nSTACK 3005 0000\n";
-    ends_at_once(
-        &rt,
-        rt.alloc(),
-        none,
-        0x3000,
-        &[0xC5],
-        End::Stack(0x3004),
-        6,
-    )?;
+    stack_ends(&rt, rt.alloc(), none, &[0xC5], 0x3004)?;
     // One byte of room: the high byte is inside, the low one is not.
     let one = b"REGIONS 1\nCODE 3000 0005\nSTACK 3005 0001\n";
-    ends_at_once(&rt, rt.alloc(), one, 0x3000, &[0xC5], End::Stack(0x3004), 6)?;
-    ends_at_once(
-        &rt,
-        rt.alloc(),
-        one,
-        0x3000,
-        &[0xCD, 0x00, 0x30],
-        End::Stack(0x3004),
-        6,
-    )?;
-    ends_at_once(&rt, rt.alloc(), one, 0x3000, &[0xE3], End::Stack(0x3006), 6)?;
+    stack_ends(&rt, rt.alloc(), one, &[0xC5], 0x3004)?;
+    stack_ends(&rt, rt.alloc(), one, &[0xCD, 0x00, 0x30], 0x3004)?;
+    stack_ends(&rt, rt.alloc(), one, &[0xE3], 0x3006)?;
     // A conditional call or return whose condition fails touches no stack.
     for byte in [0xCC, 0xC8] {
         let mut board = Board::new(rt.alloc(), none, 0x3000, &[byte, 0x00, 0x30])?;
@@ -179,15 +129,8 @@ fn a_stack_byte_outside_the_stack(rt: HostRuntime) -> Result<(), Fail> {
 
 #[test]
 fn a_direct_store_outside_data(rt: HostRuntime) -> Result<(), Fail> {
-    ends_at_once(
-        &rt,
-        rt.alloc(),
-        PLAIN,
-        0x3000,
-        &[0x32, 0x00, 0x30],
-        End::Direct(0x3000),
-        7,
-    )?;
+    let mut board = Board::new(rt.alloc(), PLAIN, 0x3000, &[0x32, 0x00, 0x30])?;
+    ends(&rt, &mut board, End::Direct(0x3000), 7);
     // The second byte of SHLD alone is outside: the first is not stored either.
     let small = b"REGIONS 1\nCODE 3000 0010\nSTACK 3100 0100\nDATA 4000 0001\n";
     let mut board = Board::new(rt.alloc(), small, 0x3000, &[0x22, 0x00, 0x40, 0x76])?;
