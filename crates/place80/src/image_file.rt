@@ -26,6 +26,7 @@ pub fn write_image(alloc: Global, image: &Image, out: &mut Vec<u8>) -> Result<()
     ensures refused { OnErr result (out.new.items ≡ out.old.items) }
 {
     written_image_is_read();
+    // Only for what it tells the proof: the bytes are a name's.
     let _ = image.name.bytes();
     let module = module_of(alloc, image)?;
     write_file(alloc, &[module], out)
