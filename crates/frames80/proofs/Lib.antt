@@ -1,0 +1,3 @@
+pub mod Reversed
+pub mod Meeting
+pub mod Returned

@@ -1,0 +1,12 @@
+-- Words are kept bottom to top, and seen top first.
+use Rattle.std.specs.Prelude.{◌≡◌, ℕ, ◌+◌, ◌-◌, List, ◌++◌, take, drop, length, reverse}
+use Rattle.std.proofs.Common.{sym, ◌∙◌, ap, arith}
+use Rattle.std.proofs.lemmas.List.{reverse-append, length-reverse, length-drop, take-append-drop, drop_at}
+
+-- the lower words without the top t of them, seen from the top
+pub drop_reverse : {A : Type 0} (xs : List A) (t n : ℕ) → t + n ≡ length xs → drop t (reverse xs) ≡ reverse (take n xs)
+drop_reverse xs t n all =
+    let parted : reverse xs ≡ reverse (drop n xs) ++ reverse (take n xs) =
+          ap reverse (sym (take-append-drop n xs)) ∙ reverse-append (take n xs) (drop n xs) in
+    let long : length (reverse (drop n xs)) ≡ t = length-reverse (drop n xs) ∙ length-drop n xs ∙ (omega (arith, all)) in
+    ap (drop t) parted ∙ drop_at (reverse (drop n xs)) (reverse (take n xs)) t long

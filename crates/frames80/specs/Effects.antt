@@ -1,0 +1,77 @@
+-- What each instruction does to a frame. (The instructions are those of the Intel 8080 Assembly Language Programming
+-- Manual; that the verifier gives up SPHL, PCHL, INX SP, DCX SP and most of LXI SP is this project's own.)
+use Rattle.std.specs.Prelude.{ℕ, ◌*◌}
+use Rattle.decode80.specs.declared.register.Register.{Register}
+use Rattle.decode80.specs.declared.register.Register.TheVariants.{A, B, C, D, E, H, L}
+use Rattle.decode80.specs.declared.pair.Pair.{Pair}
+use Rattle.decode80.specs.declared.pair.Pair.TheVariants.{Bc, De, Hl, Sp}
+use Rattle.decode80.specs.declared.pair.StackPair.{StackPair}
+use Rattle.decode80.specs.declared.pair.StackPair.TheVariants.{Bc as StackBc, De as StackDe, Hl as StackHl, Psw}
+use Rattle.decode80.specs.declared.instr.Instr.{Instr}
+use Rattle.decode80.specs.declared.instr.Instr.TheVariants.{Mov, Load, Mvi, Lxi, Dad, Inx, Dcx, Inr, Dcr, Jmp, JumpIf, Call, CallIf, Ret, ReturnIf, Rst, Push, Pop, Lhld, Xthl, Pchl, Xchg, Sphl, Hlt}
+use Rattle.decode80.specs.Restart.{restart_number}
+use Rattle.frames80.specs.declared.fault.FrameFault.{FrameFault}
+use Rattle.frames80.specs.declared.fault.FrameFault.TheVariants.{Sphl as SetsPointer, Pchl as JumpsByPair, StackByByte}
+use Rattle.frames80.specs.declared.frame_pair.FramePair.{FramePair}
+use Rattle.frames80.specs.declared.frame_pair.FramePair.TheVariants.{Bc as FrameBc, De as FrameDe, Hl as FrameHl}
+use Rattle.frames80.specs.declared.effect.Change.{Change}
+use Rattle.frames80.specs.declared.effect.Change.TheVariants.{Keep, Push as PushPair, PushAny, Pop as PopPair, Drop, Swap, Exchange, Forget, SetStack}
+use Rattle.frames80.specs.declared.effect.Effect.{Effect}
+use Rattle.frames80.specs.declared.effect.Effect.TheVariants.{Change as Changes, Halt, Jump, JumpIf as JumpsIf, Call as Calls, CallIf as CallsIf, Return, ReturnIf as ReturnsIf, Refuse}
+
+-- a register is written: its pair holds no return address any more
+abbrev pub written : Register → Change
+written B = Forget FrameBc
+written C = Forget FrameBc
+written D = Forget FrameDe
+written E = Forget FrameDe
+written H = Forget FrameHl
+written L = Forget FrameHl
+written A = Keep
+
+-- a pair is loaded, or counted up or down by one
+abbrev pub loaded : Pair → Effect → Effect
+loaded Bc else_ = Changes (Forget FrameBc)
+loaded De else_ = Changes (Forget FrameDe)
+loaded Hl else_ = Changes (Forget FrameHl)
+loaded Sp else_ = else_
+
+abbrev pub pushed_by : StackPair → Change
+pushed_by StackBc = PushPair FrameBc
+pushed_by StackDe = PushPair FrameDe
+pushed_by StackHl = PushPair FrameHl
+pushed_by Psw = PushAny
+
+abbrev pub popped_by : StackPair → Change
+popped_by StackBc = PopPair FrameBc
+popped_by StackDe = PopPair FrameDe
+popped_by StackHl = PopPair FrameHl
+popped_by Psw = Drop
+
+-- the effect of each instruction
+abbrev pub effect_of : Instr → Effect
+effect_of (Mov to _) = Changes (written to)
+effect_of (Load to) = Changes (written to)
+effect_of (Mvi to _) = Changes (written to)
+effect_of (Inr to) = Changes (written to)
+effect_of (Dcr to) = Changes (written to)
+effect_of (Lxi pair word) = loaded pair (Changes (SetStack word))
+effect_of (Inx pair) = loaded pair (Refuse StackByByte)
+effect_of (Dcx pair) = loaded pair (Refuse StackByByte)
+effect_of (Dad _) = Changes (Forget FrameHl)
+effect_of (Lhld _) = Changes (Forget FrameHl)
+effect_of (Push pair) = Changes (pushed_by pair)
+effect_of (Pop pair) = Changes (popped_by pair)
+effect_of Xthl = Changes Swap
+effect_of Xchg = Changes Exchange
+effect_of Sphl = Refuse SetsPointer
+effect_of Pchl = Refuse JumpsByPair
+effect_of (Jmp to) = Jump to
+effect_of (JumpIf _ to) = JumpsIf to
+effect_of (Call to) = Calls to
+effect_of (CallIf _ to) = CallsIf to
+effect_of (Rst number) = Calls (8 * restart_number number)
+effect_of Ret = Return
+effect_of (ReturnIf _) = ReturnsIf
+effect_of Hlt = Halt
+effect_of _ = Changes Keep

@@ -1,0 +1,50 @@
+//! What instructions do to a frame: the kinds of effect.
+
+use crate::fault::FrameFault;
+use crate::frame_pair::FramePair;
+
+/// How an instruction changes a frame before it goes on to the next one.
+#[derive(Clone, Copy, Debug, PartialEq, Eq)]
+pub enum Change {
+    /// Nothing changes.
+    Keep,
+    /// PUSH of a pair: what the pair holds goes on top.
+    Push(FramePair),
+    /// PUSH PSW: a word that is no return address goes on top.
+    PushAny,
+    /// POP of a pair: the top goes into the pair.
+    Pop(FramePair),
+    /// POP PSW: the top is dropped.
+    Drop,
+    /// XTHL: the top and HL change places.
+    Swap,
+    /// XCHG: DE and HL change places.
+    Exchange,
+    /// A register of the pair is written: it holds no return address any more.
+    Forget(FramePair),
+    /// LXI SP with this word.
+    SetStack(u16),
+}
+
+/// What an instruction does: how it changes a frame, and where it goes on.
+#[derive(Clone, Copy, Debug, PartialEq, Eq)]
+pub enum Effect {
+    /// It goes on to the next instruction, with the frame so changed.
+    Change(Change),
+    /// HLT.
+    Halt,
+    /// JMP to an address.
+    Jump(u16),
+    /// A conditional jump to an address.
+    JumpIf(u16),
+    /// CALL of an address, or RST.
+    Call(u16),
+    /// A conditional call of an address.
+    CallIf(u16),
+    /// RET.
+    Return,
+    /// A conditional return.
+    ReturnIf,
+    /// It is not taken in any frame.
+    Refuse(FrameFault),
+}

@@ -1,0 +1,149 @@
+//! What is known of a procedure's stack and register pairs at a point.
+
+ghost use Rattle.std.specs.Prelude.{◌≡◌, ◌+◌, ◌<◌, ◌≤◌, ◌∷◌, IfOk, OnErr, length};
+
+use crate::frame_pair::FramePair;
+use crate::word::Word;
+use std::alloc::{AllocError, Global};
+use std::hash::{Hash, Hasher};
+use std::marker::Model;
+
+/// What is known of a procedure's stack and register pairs at a point of it.
+///
+/// Of the stack a frame has the words that the procedure itself has left there, its return address among them, and how many
+/// words it has taken from beneath that. A contract sees the words top first; the field has them from bottom to top.
+///
+/// Two frames are equal where all their fields are.
+#[derive(Debug, Drop)]
+pub struct Frame {
+    /// How many words beneath the procedure's own it has popped.
+    pub taken: u32,
+    /// Its own words, from bottom to top.
+    pub words: Vec<Word>,
+    /// What B and C hold.
+    pub bc: Word,
+    /// What D and E hold.
+    pub de: Word,
+    /// What H and L hold.
+    pub hl: Word,
+}
+
+impl Model for Frame {
+    ghost use Rattle.frames80.specs.StackFrame.{StackFrame};
+
+    ghost Value = { StackFrame };
+
+    ghost use Rattle.frames80.specs.FrameView.{frame_view};
+
+    ghost view = { frame_view };
+}
+
+impl Frame {
+    ghost use Rattle.frames80.specs.StackFrame.{entry_frame, main_frame, pair_in, with_pair, pushed, popped, top_word, cleared, exchanged};
+
+    /// The frame at the start of a procedure that is called: its one word is its return address.
+    ///
+    /// # Errors
+    /// `AllocError` where memory runs out.
+    pub fn entry(alloc: Global) -> Result<Frame, AllocError>
+        ensures { IfOk result (λ frame. frame ≡ entry_frame) }
+    {
+        let mut frame = Frame::main_entry(alloc)?;
+        frame.push(Word::Own)?;
+        Ok(frame)
+    }
+
+    /// The frame at the start of the main program: it has no words.
+    ///
+    /// # Errors
+    /// `AllocError` where memory runs out.
+    pub fn main_entry(alloc: Global) -> Result<Frame, AllocError>
+        ensures { IfOk result (λ frame. frame ≡ main_frame) }
+    {
+        Ok(Frame {
+            taken: 0,
+            words: Vec::new(alloc),
+            bc: Word::Any,
+            de: Word::Any,
+            hl: Word::Any,
+        })
+    }
+
+    /// The same frame once more.
+    ///
+    /// # Errors
+    /// `AllocError` where memory runs out.
+    pub fn copy(&self, alloc: Global) -> Result<Frame, AllocError>
+        ensures { IfOk result (λ frame. frame ≡ self.now) }
+    {
+        let words = Vec::from_slice(alloc, self.words.as_slice())?;
+        Ok(Frame {
+            taken: self.taken,
+            words,
+            bc: self.bc,
+            de: self.de,
+            hl: self.hl,
+        })
+    }
+
+    /// What a pair holds.
+    pub fn pair(&self, pair: FramePair) -> Word
+        ensures { result ≡ pair_in self.now.pairs pair }
+    {
+        match pair {
+            FramePair::Bc => self.bc,
+            FramePair::De => self.de,
+            FramePair::Hl => self.hl,
+        }
+    }
+
+    /// The pair holds this.
+    pub(crate) fn set_pair(&mut self, pair: FramePair, word: Word)
+        ensures { self.new ≡ record self.old { pairs = with_pair self.old.pairs pair word } }
+    {
+        match pair {
+            FramePair::Bc => self.bc = word,
+            FramePair::De => self.de = word,
+            FramePair::Hl => self.hl = word,
+        }
+    }
+
+    /// A word goes on top.
+    pub(crate) fn push(&mut self, word: Word) -> Result<(), AllocError>
+        ensures { IfOk result (λ _. self.new ≡ pushed word self.old) }
+    {
+        self.words.push(word)?;
+        Ok(())
+    }
+
+    /// The top is popped. Where the procedure has no word of its own left, one from beneath is: any word, and one more taken.
+    pub(crate) fn pop(&mut self) -> Word
+        requires { self.old.taken ≤ 1000000 }
+        ensures word { result ≡ top_word self.old.words }
+        ensures rest { self.new ≡ popped self.old }
+    {
+        match self.words.pop() {
+            Some(word) => word,
+            None => {
+                self.taken += 1;
+                Word::Any
+            }
+        }
+    }
+
+    /// DE and HL change places.
+    pub(crate) fn exchange(&mut self)
+        ensures { self.new ≡ exchanged self.old }
+    {
+        let hl = self.hl;
+        self.hl = self.de;
+        self.de = hl;
+    }
+
+    /// No word is left.
+    pub(crate) fn clear(&mut self)
+        ensures { self.new ≡ cleared self.old }
+    {
+        self.words.clear();
+    }
+}

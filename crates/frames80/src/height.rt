@@ -1,0 +1,21 @@
+//! How deep a frame is.
+
+ghost use Rattle.std.specs.Prelude.{◌≡◌, ◌≤◌, length};
+ghost use Rattle.frames80.specs.Calls.{depth_of};
+
+use crate::frame::Frame;
+use crate::role::Role;
+
+/// The bytes that the procedure has on the stack, its return address not counted, less those that it has taken from beneath
+/// it: `2 * (words - 1 - taken)` in an entry, `2 * words` in the main program. It takes no memory.
+pub fn depth(frame: &Frame, role: Role) -> i64
+    requires taken { frame.now.taken ≤ 1000000 }
+    requires words { length frame.now.words ≤ 1000000 }
+    ensures { result ≡ depth_of role frame.now }
+{
+    let words = frame.words.len() as i64;
+    match role {
+        Role::Main { .. } => 2 * words,
+        Role::Entry => 2 * (words - 1 - i64::from(frame.taken)),
+    }
+}

@@ -1,0 +1,36 @@
+//! What an instruction does to a procedure's stack frame, as the verifier follows it.
+//!
+//! | Item | What it is |
+//! |---|---|
+//! | [`Frame`], [`Word`] | what is known of a procedure's words and register pairs at a point |
+//! | [`Role`] | the main program, or a procedure that is called |
+//! | [`next`], [`Moves`] | what becomes of a frame at an instruction, and where the procedure goes on |
+//! | [`effect_of`], [`Effect`], [`Change`] | the kinds of effect, and the table of instructions |
+//! | [`after`] | the caller's frame when its callee has returned |
+//! | [`meet`] | two frames at one point |
+//! | [`depth`] | how many bytes of the stack a frame takes |
+#![tactic(auto)]
+
+mod call;
+mod effect;
+mod fault;
+mod frame;
+mod frame_pair;
+mod height;
+mod merge;
+mod moves;
+mod role;
+mod table;
+mod word;
+
+pub use call::after;
+pub use effect::{Change, Effect};
+pub use fault::{CallFault, FrameFault, HeightsDiffer};
+pub use frame::Frame;
+pub use frame_pair::FramePair;
+pub use height::depth;
+pub use merge::meet;
+pub use moves::{Moves, next};
+pub use role::Role;
+pub use table::effect_of;
+pub use word::Word;

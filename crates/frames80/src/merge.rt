@@ -1,0 +1,55 @@
+//! How frames meet at a point.
+
+ghost use Rattle.std.specs.Prelude.{◌≡◌, ◌↔◌, true, false, IfOk, OnOk, OnErr, IsErr, IsOk, length, vec_len};
+ghost use Rattle.frames80.specs.Word.{met};
+ghost use Rattle.frames80.specs.Calls.{agree, merged, words_met};
+
+use crate::fault::HeightsDiffer;
+use crate::frame::Frame;
+use crate::word::Word;
+
+/// The frame becomes what is known of both: a word or a pair is the return address only where it is in both. Answers
+/// whether the frame changed. It takes no memory.
+///
+/// # Errors
+/// `HeightsDiffer` exactly where the frames differ in the words taken or in the number of words; the frame is then
+/// unchanged.
+pub fn meet(frame: &mut Frame, other: &Frame) -> Result<bool, HeightsDiffer>
+    ensures agree { IsOk result ↔ (agree frame.old other.now ≡ true) }
+    ensures merged { OnOk result (frame.new ≡ merged frame.old other.now) }
+    ensures changed { IfOk result (λ changed. (changed ≡ false) ↔ (frame.new ≡ frame.old)) }
+    ensures unchanged { OnErr result (frame.new ≡ frame.old) }
+{
+    if frame.taken != other.taken || frame.words.len() != other.words.len() {
+        return Err(HeightsDiffer);
+    }
+    let words = meet_words(&mut frame.words, &other.words);
+    let bc = meet_word(&mut frame.bc, other.bc);
+    let de = meet_word(&mut frame.de, other.de);
+    let hl = meet_word(&mut frame.hl, other.hl);
+    Ok(words | bc | de | hl)
+}
+
+/// Each word meets the one at its place; answers whether one changed.
+fn meet_words(words: &mut Vec<Word>, others: &Vec<Word>) -> bool
+    requires { vec_len words.old ≡ vec_len others.now }
+    ensures met { words.new.items ≡ words_met words.old.items others.now.items }
+    ensures changed { (result ≡ false) ↔ (words.new.items ≡ words.old.items) }
+{
+    let mut changed = false;
+    for i in 0..words.len() {
+        let here = meet_word(&mut words[i], others[i]);
+        changed |= here;
+    }
+    changed
+}
+
+/// A word meets another; answers whether it changed.
+fn meet_word(word: &mut Word, other: Word) -> bool
+    ensures met { word.new ≡ met word.old other }
+    ensures changed { (result ≡ false) ↔ (word.new ≡ word.old) }
+{
+    let old = *word;
+    *word = old.meet(other);
+    *word != old
+}

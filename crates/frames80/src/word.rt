@@ -1,0 +1,70 @@
+//! What a word may be.
+
+ghost use Rattle.std.specs.Cmp.{partial_equiv_from_equiv};
+ghost use Rattle.std.specs.Hash as fed;
+ghost use Rattle.std.specs.Prelude.{◌≡◌};
+
+use std::hash::{Hash, Hasher};
+
+/// What is known of a word on a procedure's stack, or in one of its register pairs.
+#[derive(Clone, Copy, Debug)]
+pub enum Word {
+    /// It is the procedure's own return address, in whole.
+    Own,
+    /// It may be any word.
+    Any,
+}
+
+impl Word {
+    ghost use Rattle.frames80.specs.Word.{met, word_rank};
+
+    /// A word that is one of the two: the return address only where both are.
+    pub(crate) fn meet(self, other: Word) -> Word
+        ensures { result ≡ met self other }
+    {
+        match self {
+            Word::Own => other,
+            Word::Any => Word::Any,
+        }
+    }
+
+    /// A number for each.
+    fn rank(self) -> u8
+        ensures { result ≡ word_rank self }
+    {
+        match self {
+            Word::Own => 1,
+            Word::Any => 0,
+        }
+    }
+}
+
+impl PartialEq for Word {
+    ghost use Rattle.frames80.specs.Word.{word_eq, word_equivalence};
+
+    ghost eq = { word_eq };
+
+    ghost laws = { partial_equiv_from_equiv word_equivalence };
+
+    fn eq(&self, other: &Word) -> bool {
+        self.rank() == other.rank()
+    }
+}
+
+impl Eq for Word {
+    ghost use Rattle.frames80.specs.Word.{word_equivalence};
+
+    ghost laws = { word_equivalence };
+}
+
+impl Hash for Word {
+    ghost use Rattle.frames80.specs.Word.{word_writes, word_alike};
+
+    ghost hash_input = { word_writes };
+
+    ghost respects_eq = { word_alike };
+
+    fn hash<H: Hasher>(&self, state: &mut H) {
+        state.write_u8(self.rank());
+    }
+}
