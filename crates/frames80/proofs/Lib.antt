@@ -1,3 +1,4 @@
 pub mod Reversed
 pub mod Meeting
 pub mod Returned
+pub mod PlaceLemmas

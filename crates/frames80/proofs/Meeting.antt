@@ -82,9 +82,10 @@ pub changed_more : (i : ℕ) (xs ys : List Word) (x y : Word) (before here : Boo
 changed_more i xs ys x y before here at earlier now = (
   λ none. let both = both_false before here none in met_to_stays i xs ys x y at (earlier.0 both.0) (now.0 both.1),
   λ same.
-    let p : before ≡ false = earlier.1 (met_to_stayed i xs ys same) in
-    let q : here ≡ false = now.1 (met_stayed i xs ys x y at same) in
-    rw (p, q) refl)
+      let p : before ≡ false = earlier.1 (met_to_stayed i xs ys same) in
+      let q : here ≡ false = now.1 (met_stayed i xs ys x y at same) in
+      rw (p, q) refl,
+)
 
 words_met-append : (xs ys us vs : List Word) → length xs ≡ length us → words_met (xs ++ ys) (us ++ vs) ≡ words_met xs us ++ words_met ys vs
 words_met-append [] ys [] vs long = refl
@@ -127,14 +128,15 @@ pub changed_frame : (taken : ℕ) (ws ws' : List Word) (b b' d d' h h' : Word) (
     ((((p || q) || r) || s) ≡ false) ↔ (frame_from taken ws' b' d' h' ≡ frame_from taken ws b d h)
 changed_frame taken ws ws' b b' d d' h h' p q r s words bc de hl = (
   λ none.
-    let last = both_false ((p || q) || r) s none in
-    let third = both_false (p || q) r last.0 in
-    let first = both_false p q third.0 in
-    let e1 = words.0 first.0 in let e2 = bc.0 first.1 in let e3 = de.0 third.1 in let e4 = hl.0 last.1 in
-    rw (e1, e2, e3, e4) refl,
+      let last = both_false ((p || q) || r) s none in
+      let third = both_false (p || q) r last.0 in
+      let first = both_false p q third.0 in
+      let e1 = words.0 first.0 in let e2 = bc.0 first.1 in let e3 = de.0 third.1 in let e4 = hl.0 last.1 in
+      rw (e1, e2, e3, e4) refl,
   λ same.
-    let e1 : p ≡ false = words.1 (reverse_same ws' ws (ap (λ (f : StackFrame). f.words) same)) in
-    let e2 : q ≡ false = bc.1 (ap (λ (f : StackFrame). f.pairs.bc) same) in
-    let e3 : r ≡ false = de.1 (ap (λ (f : StackFrame). f.pairs.de) same) in
-    let e4 : s ≡ false = hl.1 (ap (λ (f : StackFrame). f.pairs.hl) same) in
-    rw (e1, e2, e3, e4) refl)
+      let e1 : p ≡ false = words.1 (reverse_same ws' ws (ap (λ (f : StackFrame). f.words) same)) in
+      let e2 : q ≡ false = bc.1 (ap (λ (f : StackFrame). f.pairs.bc) same) in
+      let e3 : r ≡ false = de.1 (ap (λ (f : StackFrame). f.pairs.de) same) in
+      let e4 : s ≡ false = hl.1 (ap (λ (f : StackFrame). f.pairs.hl) same) in
+      rw (e1, e2, e3, e4) refl,
+)

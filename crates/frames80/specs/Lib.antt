@@ -1,7 +1,9 @@
 pub mod Word
 pub mod StackFrame
 pub mod FrameView
+pub mod FrameEquality
 pub mod Fault
 pub mod Effects
 pub mod Moves
 pub mod Calls
+pub mod Places

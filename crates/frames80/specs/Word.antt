@@ -1,6 +1,7 @@
 -- What may be known of a word: that it is the procedure's own return address, or nothing.
 use Rattle.std.specs.Prelude.{◌≡◌, ℕ, Bool, true, nat_eq, refl}
-use Rattle.std.proofs.Common.{ap, sym, true≢false}
+use Rattle.std.proofs.Common.{ap, subst, sym, true≢false}
+use Rattle.std.specs.Bool.{Decides}
 use Rattle.std.specs.Ordering.{on}
 use Rattle.std.specs.Cmp.{IsEquivalence, on_equiv, nat_eq_equiv}
 use Rattle.std.specs.Hash.{HashWrites, u8}
@@ -34,6 +35,13 @@ word_same Own Own same = refl
 word_same Own Any same = absurd (true≢false (sym same))
 word_same Any Own same = absurd (true≢false (sym same))
 word_same Any Any same = refl
+
+pub word_decides : (a b : Word) → Decides (word_eq a b) (a ≡ b)
+word_decides a b = (word_same a b, λ same. subst (λ w. word_eq a w ≡ true) same (own a))
+  where
+    own : (w : Word) → word_eq w w ≡ true
+    own Own = refl
+    own Any = refl
 
 pub word_alike : (a b : Word) → word_eq a b ≡ true → word_writes a ≡ word_writes b
 word_alike a b same = ap word_writes (word_same a b same)

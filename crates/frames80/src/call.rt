@@ -16,7 +16,13 @@ use std::alloc::Global;
 /// `ShortArguments` exactly where the caller has fewer than `wants` words above its bottom word; in the main program, where
 /// it has fewer words. `Memory` only where it has enough and memory runs out.
 #[tactic(auto, using(crate::proofs::Reversed::drop_reverse))]
-pub fn after(alloc: Global, frame: &Frame, role: Role, wants: u32, taken: u32) -> Result<Frame, CallFault>
+pub fn after(
+    alloc: Global,
+    frame: &Frame,
+    role: Role,
+    wants: u32,
+    taken: u32,
+) -> Result<Frame, CallFault>
     requires taken { frame.now.taken ≤ 1000000 }
     requires words { length frame.now.words ≤ 1000000 }
     requires within { taken ≤ wants }

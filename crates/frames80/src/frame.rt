@@ -147,3 +147,44 @@ impl Frame {
         self.words.clear();
     }
 }
+
+impl PartialEq for Frame {
+    ghost use Rattle.std.specs.Cmp.{partial_equiv_from_equiv};
+    ghost use Rattle.frames80.specs.FrameEquality.{frame_eq, frame_equivalence};
+
+    ghost eq = { frame_eq };
+
+    ghost laws = { partial_equiv_from_equiv frame_equivalence };
+
+    #[tactic(auto, using(crate::proofs::Reversed::pointwise_reverse))]
+    fn eq(&self, other: &Frame) -> bool {
+        self.taken == other.taken
+            && self.words == other.words
+            && self.bc == other.bc
+            && self.de == other.de
+            && self.hl == other.hl
+    }
+}
+
+impl Eq for Frame {
+    ghost use Rattle.frames80.specs.FrameEquality.{frame_equivalence};
+
+    ghost laws = { frame_equivalence };
+}
+
+impl Hash for Frame {
+    ghost use Rattle.frames80.specs.FrameEquality.{frame_writes, frame_alike};
+
+    ghost hash_input = { frame_writes };
+
+    ghost respects_eq = { frame_alike };
+
+    #[tactic(auto, using(crate::proofs::Reversed::again_reversed))]
+    fn hash<H: Hasher>(&self, state: &mut H) {
+        state.write_u32(self.taken);
+        self.words.hash(state);
+        self.bc.hash(state);
+        self.de.hash(state);
+        self.hl.hash(state);
+    }
+}

@@ -9,6 +9,7 @@
 //! | [`after`] | the caller's frame when its callee has returned |
 //! | [`meet`] | two frames at one point |
 //! | [`depth`] | how many bytes of the stack a frame takes |
+//! | [`places_move`], [`counts_decide`], [`covered_goes_along`], [`equality_is_exact`] | what holds of all frames, as contracts |
 #![tactic(auto)]
 
 mod call;
@@ -17,6 +18,7 @@ mod fault;
 mod frame;
 mod frame_pair;
 mod height;
+mod laws;
 mod merge;
 mod moves;
 mod role;
@@ -29,6 +31,7 @@ pub use fault::{CallFault, FrameFault, HeightsDiffer};
 pub use frame::Frame;
 pub use frame_pair::FramePair;
 pub use height::depth;
+pub use laws::{counts_decide, covered_goes_along, equality_is_exact, places_move};
 pub use merge::meet;
 pub use moves::{Moves, next};
 pub use role::Role;

@@ -13,11 +13,8 @@ pub fn effect_of(instr: Instr) -> Effect
     ensures { result ≡ effect_of instr }
 {
     match instr {
-        Instr::Mov(to, _)
-        | Instr::Load(to)
-        | Instr::Mvi(to, _)
-        | Instr::Inr(to)
-        | Instr::Dcr(to) => Effect::Change(written(to)),
+        Instr::Mov(to, _) | Instr::Load(to) | Instr::Mvi(to, _) | Instr::Inr(to) | Instr::Dcr(to) =>
+            Effect::Change(written(to)),
         Instr::Lxi(Pair::Sp, word) => Effect::Change(Change::SetStack(word)),
         Instr::Inx(Pair::Sp) | Instr::Dcx(Pair::Sp) => Effect::Refuse(FrameFault::StackByByte),
         Instr::Lxi(Pair::Bc, _) | Instr::Inx(Pair::Bc) | Instr::Dcx(Pair::Bc) => {

@@ -10,9 +10,9 @@ returns-clause-merged c =
     let mine = c.frame.inside.words.items in
     let other = c.other.inside.words.items in
     let long : length mine ≡ length other =
-          sym c.frame.inside.words.ok.0 ∙ sym c.len.ensures ∙ c.if-len.false ∙ c.len-else-frame-other.ensures ∙ c.other.inside.words.ok.0 in
+    sym c.frame.inside.words.ok.0 ∙ sym c.len.ensures ∙ c.if-len.false ∙ c.len-else-frame-other.ensures ∙ c.other.inside.words.ok.0 in
     let words : reverse c.meet_words-words.new.words.items ≡ words_met (reverse mine) (reverse other) =
-          ap reverse c.meet_words-words.ensures.met ∙ sym (words_met-reverse mine other long) in
+    ap reverse c.meet_words-words.ensures.met ∙ sym (words_met-reverse mine other long) in
     rw (← c.frame.view_is, ← c.other.view_is) (same_frame c.frame.inside.taken _ _ _ _ _ _ _ _ words c.meet_word-bc.ensures.met c.meet_word-de.ensures.met c.meet_word-hl.ensures.met)
 
 pub returns-clause-changed : goal.returns-clause-changed
