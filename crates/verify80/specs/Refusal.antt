@@ -1,0 +1,36 @@
+-- The numbers of the refusals, and the refusal for a frame's fault at an address. (They are this project's own.)
+use Rattle.std.specs.Prelude.{ℕ}
+use Rattle.frames80.specs.declared.fault.FrameFault.{FrameFault}
+use Rattle.frames80.specs.declared.fault.FrameFault.TheVariants.{Sphl as FrameSphl, Pchl as FramePchl, StackByByte as FrameStackByByte, SetsStack as FrameSetsStack, PopsBelow as FramePopsBelow, ReturnNotOwn as FrameReturnNotOwn, ReturnFromMain as FrameReturnFromMain, Memory as FrameMemory}
+use Rattle.verify80.specs.declared.refusal.Refusal.{Refusal}
+use Rattle.verify80.specs.declared.refusal.Refusal.TheVariants.{FetchOutside, UnusedOpcode, EnablesInterrupts, Sphl, Pchl, StackByByte, SetsStack, DirectStore, PopsBelow, ReturnNotOwn, ReturnFromMain, HeightsDiffer, UnevenArguments, ShortArguments, Recursion, StackTooSmall, TooManyPoints, Memory}
+
+abbrev pub refusal_code : Refusal → ℕ
+refusal_code (FetchOutside at) = 1
+refusal_code (UnusedOpcode at) = 2
+refusal_code (EnablesInterrupts at) = 3
+refusal_code (Sphl at) = 4
+refusal_code (Pchl at) = 5
+refusal_code (StackByByte at) = 6
+refusal_code (SetsStack at) = 7
+refusal_code (DirectStore at) = 8
+refusal_code (PopsBelow at) = 9
+refusal_code (ReturnNotOwn at) = 10
+refusal_code (ReturnFromMain at) = 11
+refusal_code (HeightsDiffer at) = 12
+refusal_code (UnevenArguments at) = 13
+refusal_code (ShortArguments at) = 14
+refusal_code (Recursion at) = 15
+refusal_code (StackTooSmall need has) = 16
+refusal_code TooManyPoints = 17
+refusal_code Memory = 18
+
+abbrev pub refusal_of : FrameFault → ℕ → Refusal
+refusal_of FrameSphl at = Sphl at
+refusal_of FramePchl at = Pchl at
+refusal_of FrameStackByByte at = StackByByte at
+refusal_of FrameSetsStack at = SetsStack at
+refusal_of FramePopsBelow at = PopsBelow at
+refusal_of FrameReturnNotOwn at = ReturnNotOwn at
+refusal_of FrameReturnFromMain at = ReturnFromMain at
+refusal_of FrameMemory at = Memory

@@ -1,0 +1,27 @@
+//! What the verifier finds out of an image that it accepts.
+
+/// A procedure that a call or RST reaches.
+#[derive(Clone, Copy, Debug, PartialEq, Eq)]
+pub struct ProcRow {
+    /// The address where it is entered.
+    pub entry: u16,
+    /// How many words it has taken from beneath its return address where it returns; 0 where it doesn't return.
+    pub takes: u32,
+    /// The most words that it takes from beneath its return address on any of its walks.
+    pub wants: u32,
+    /// The most bytes of stack that it needs below its return address, its callees' included.
+    pub bound: u64,
+    /// Whether one of its walks returns.
+    pub returns: bool,
+}
+
+/// The report on an image: its procedures by entry, the main program not among them, and the most bytes that the program has
+/// on the stack.
+#[derive(Debug, Drop)]
+pub struct Report {
+    /// The procedures that are reached, by entry.
+    pub procedures: Vec<ProcRow>,
+    /// The greatest sum over chains of calls from the main program: what each caller has on the stack, its return address,
+    /// and what the last procedure has.
+    pub stack_bytes: u64,
+}
