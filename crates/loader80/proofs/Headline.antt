@@ -1,7 +1,7 @@
 -- A program whose reached points have no fault never goes wrong.
 use Rattle.std.specs.Prelude.{◌≡◌, ℕ, ◌<◌, Bool, true, false, not, List, [], ◌∷◌, Option, None, Some, Ok, Err, All, Contains, length, slice_index, slice_index_or, refl, if◌then◌else◌}
 use Rattle.std.specs.List.{list_all}
-use Rattle.std.specs.Option.{option_map_or}
+use Rattle.std.specs.Result.{result_ok}
 use Rattle.std.proofs.Common.{◌∙◌, ap, sym, subst, arith, cond, suc, zero, true≢false}
 use Rattle.decode80.specs.declared.instr.Instr.{Instr}
 use Rattle.decode80.specs.declared.instr.Instr.TheVariants.{Sta, Shld, Push, Pop, Call, CallIf, Ret, ReturnIf, Rst, Xthl, Jmp, JumpIf, Pchl, Sphl, Inx, Dcx, Ei, Hlt, In, Out}
@@ -12,14 +12,15 @@ use Rattle.place80.specs.Regions.{Areas, AreRegions, in_code, in_data, top_of}
 use Rattle.place80.specs.Image.{Located, memory_of}
 use Rattle.machine80.specs.declared.cpu.Cpu.{Cpu}
 use Rattle.machine80.specs.declared.flags.Flags.{Flags}
-use Rattle.machine80.specs.declared.fetching.Fetched.{Fetched}
+use Rattle.decode80.specs.declared.fetching.Fetched.{Fetched}
 use Rattle.machine80.specs.declared.end.End.{End}
 use Rattle.machine80.specs.declared.end.End.TheVariants.{StoreOutside, Stack, Direct}
 use Rattle.machine80.specs.Ports.{next_input}
 use Rattle.machine80.specs.Flags.{holds}
-use Rattle.machine80.specs.Cpu.{ahead}
-use Rattle.machine80.specs.Effects.{stack_bytes, direct_bytes, pointed_bytes, target, stores, stored}
-use Rattle.machine80.specs.Step.{Machine, Turn, Next, Stop, fetch, all_code, admitted, guard, guarded, execute, proceeded, with_input, step_on, first_outside, ends_at}
+use Rattle.decode80.specs.Fetch.{ahead, direct_bytes, all_code, admitted, admitted_if_used, fetch as fetch_in}
+use Rattle.decode80.specs.declared.fetching.FetchFault.TheVariants.{Outside}
+use Rattle.machine80.specs.Effects.{stack_bytes, pointed_bytes, target, stores, stored}
+use Rattle.machine80.specs.Step.{Machine, Turn, Next, Stop, fetch, guard, guarded, execute, proceeded, with_input, step_on, first_outside, ends_at}
 use Rattle.machine80.specs.World.{World, world_at, world_at_start, turn_at, next_world, following, world_after, places_then, refuses, returns, IsJustBelow, IsRight, IsProperEnd, NeverGoesWrong}
 use Rattle.loader80.specs.declared.refusal.Refusal.{Refusal}
 use Rattle.loader80.specs.declared.refusal.Refusal.TheVariants.{NotYet, FetchOutside, EnablesInterrupts, DirectStore}
@@ -52,18 +53,18 @@ allowed_is regions memory at (Shld a) f found h = (chosen (list_all (in_data reg
 allowed_is regions memory at i f found h = cc
 
 admitted_fine : (b : Bool) (regions : Areas) (memory : List ℕ) (at : ℕ) (d : Instr × ℕ) (found : Fetched) → touches_stack d.0 ≡ false →
-    fetched_at regions memory at (if b then Some (record { instr = d.0; next = ahead at d.1 }) else None) ≡ Ok found →
-    ((if b then Some (record { instr = d.0; next = ahead at d.1 }) else None) ≡ Some found) × (touches_stack found.instr ≡ false) × (allowed regions memory at found.instr found ≡ Ok found)
+    fetched_at regions memory at (result_ok (if b then Ok (record { instr = d.0; next = ahead at d.1 }) else Err Outside)) ≡ Ok found →
+    ((result_ok (if b then Ok (record { instr = d.0; next = ahead at d.1 }) else Err Outside)) ≡ Some found) × (touches_stack found.instr ≡ false) × (allowed regions memory at found.instr found ≡ Ok found)
 admitted_fine true regions memory at d found quiet h =
     let f : Fetched = record { instr = d.0; next = ahead at d.1 } in
     let same : f ≡ found = allowed_is regions memory at d.0 f found h in
     (ap Some same, ap (λ (x : Fetched). touches_stack x.instr) (sym same) ∙ quiet, subst (λ (x : Fetched). allowed regions memory at x.instr x ≡ Ok found) same h)
 admitted_fine false regions memory at d found quiet h = cc
 
-fine_fetched : (regions : Areas) (memory : List ℕ) (at : ℕ) (d : Instr × ℕ) (found : Fetched) → touches_stack d.0 ≡ false → fetched_at regions memory at (admitted regions at d) ≡ Ok found → (admitted regions at d ≡ Some found) × (touches_stack found.instr ≡ false) × (allowed regions memory at found.instr found ≡ Ok found)
-fine_fetched regions memory at d found quiet h = admitted_fine (all_code regions at d.1) regions memory at d found quiet h
+fine_fetched : (regions : Areas) (memory : List ℕ) (at : ℕ) (d : Instr × ℕ) (found : Fetched) → touches_stack d.0 ≡ false → fetched_at regions memory at (result_ok (admitted (in_code regions) at d)) ≡ Ok found → (result_ok (admitted (in_code regions) at d) ≡ Some found) × (touches_stack found.instr ≡ false) × (allowed regions memory at found.instr found ≡ Ok found)
+fine_fetched regions memory at d found quiet h = admitted_fine (all_code (in_code regions) at d.1) regions memory at d found quiet h
 
-stack_tested : (b : Bool) (regions : Areas) (memory : List ℕ) (at : ℕ) (d : Instr × ℕ) (found : Fetched) → touches_stack d.0 ≡ b → fetch regions memory at ≡ admitted regions at d →
+stack_tested : (b : Bool) (regions : Areas) (memory : List ℕ) (at : ℕ) (d : Instr × ℕ) (found : Fetched) → touches_stack d.0 ≡ b → fetch regions memory at ≡ result_ok (admitted (in_code regions) at d) →
     (if b then Err (NotYet at) else fetched_at regions memory at (fetch regions memory at)) ≡ Ok found →
     (fetch regions memory at ≡ Some found) × (touches_stack found.instr ≡ false) × (allowed regions memory at found.instr found ≡ Ok found)
 stack_tested true regions memory at d found quiet f h = cc
@@ -71,12 +72,12 @@ stack_tested false regions memory at d found quiet f h =
     let parts = fine_fetched regions memory at d found quiet (ap (fetched_at regions memory at) (sym f) ∙ h) in
     (f ∙ parts.0, parts.1, parts.2)
 
-decoded_fine : (regions : Areas) (memory : List ℕ) (at : ℕ) (d : Option (Instr × ℕ)) (found : Fetched) → fetch regions memory at ≡ option_map_or (admitted regions at) d None → decoded_at regions memory at d ≡ Ok found →
+decoded_fine : (regions : Areas) (memory : List ℕ) (at : ℕ) (d : Option (Instr × ℕ)) (found : Fetched) → fetch regions memory at ≡ result_ok (admitted_if_used (in_code regions) at d) → decoded_at regions memory at d ≡ Ok found →
     (fetch regions memory at ≡ Some found) × (touches_stack found.instr ≡ false) × (allowed regions memory at found.instr found ≡ Ok found)
 decoded_fine regions memory at None found f h = cc
 decoded_fine regions memory at (Some d) found f h = stack_tested (touches_stack d.0) regions memory at d found refl f h
 
-begun_fine : (b : Bool) (regions : Areas) (memory : List ℕ) (at : ℕ) (d : Option (Instr × ℕ)) (found : Fetched) → in_code regions at ≡ b → fetch regions memory at ≡ option_map_or (admitted regions at) d None →
+begun_fine : (b : Bool) (regions : Areas) (memory : List ℕ) (at : ℕ) (d : Option (Instr × ℕ)) (found : Fetched) → in_code regions at ≡ b → fetch regions memory at ≡ result_ok (if b then admitted_if_used (in_code regions) at d else Err Outside) →
     (if b then decoded_at regions memory at d else Err (FetchOutside at)) ≡ Ok found → IsFine regions memory at found
 begun_fine true regions memory at d found here f h =
     let rest = decoded_fine regions memory at d found f h in
@@ -84,7 +85,7 @@ begun_fine true regions memory at d found here f h =
 begun_fine false regions memory at d found here f h = cc
 
 pub is_fine : (regions : Areas) (memory : List ℕ) (at : ℕ) (found : Fetched) → look_at regions memory at ≡ Ok found → IsFine regions memory at found
-unfolding fetch
+unfolding fetch fetch_in
 is_fine regions memory at found h =
     let d : Option (Instr × ℕ) = decoded (slice_index memory at) (slice_index memory (ahead at 1)) (slice_index memory (ahead at 2)) in
     begun_fine (in_code regions at) regions memory at d found refl refl h
