@@ -21,7 +21,7 @@ use Rattle.decode80.specs.Fetch.{ahead, direct_bytes, all_code, admitted, admitt
 use Rattle.decode80.specs.declared.fetching.FetchFault.TheVariants.{Outside}
 use Rattle.machine80.specs.Effects.{stack_bytes, pointed_bytes, target, stores, stored}
 use Rattle.machine80.specs.Step.{Machine, Turn, Next, Stop, fetch, guard, guarded, execute, proceeded, with_input, step_on, first_outside, ends_at}
-use Rattle.machine80.specs.World.{World, world_at, world_at_start, turn_at, next_world, following, world_after, places_then, refuses, returns, IsJustBelow, IsRight, IsProperEnd, NeverGoesWrong}
+use Rattle.machine80.specs.World.{World, world_at, world_at_start, turn_at, next_world, following, world_after, places_then, refuses, returns, IsJustBelow, IsWorldOf, fetched_by, FetchesInside, IsProperEnd, NeverGoesWrong}
 use Rattle.loader80.specs.declared.refusal.Refusal.{Refusal}
 use Rattle.loader80.specs.declared.refusal.Refusal.TheVariants.{NotYet, FetchOutside, EnablesInterrupts, DirectStore}
 use Rattle.loader80.specs.Check.{touches_stack, halt_at, allowed, fetched_at, decoded_at, look_at, successors, Reached, starts, leads, IsSound}
@@ -294,7 +294,7 @@ followed : (image : Located) (most : Option ℕ) (w : World) (o : Option World) 
 followed image most w None sound before h = cc
 followed image most w (Some v) sound before h = stays_in_step image most v w sound (before v refl) h
 
--- every world of a run is in step
+-- every world after the start is in step
 pub always_in_step : (image : Located) (inputs : List (List ℕ)) (outputs : List (ℕ × ℕ)) (most : Option ℕ) → IsSound image → (n : ℕ) (w : World) → world_at image.regions most (world_at_start image inputs outputs) n ≡ Some w → InStep image w
 always_in_step image inputs outputs most sound zero w h =
     let begun : InStep image (world_at_start image inputs outputs) = record { reached = starts image.start refl; same = record { bytes = λ a c. refl } } in
@@ -302,19 +302,22 @@ always_in_step image inputs outputs most sound zero w h =
 always_in_step image inputs outputs most sound (suc n) w h =
     followed image most w (world_at image.regions most (world_at_start image inputs outputs) n) sound (always_in_step image inputs outputs most sound n) h
 
--- the next step of a world in step is right
-right_in_step : (image : Located) (w : World) → IsSound image → InStep image w → IsRight image.regions 0 w
-right_in_step image w sound step =
+-- the next step of a world in step: what it fetches and stores, that it touches no stack, and its end
+inside_in_step : (image : Located) (w : World) → IsSound image → InStep image w → FetchesInside image.regions w
+inside_in_step image w sound step =
     let f : Finds image w = finds image w sound step in
     record {
       found = f.found;
       fetched = f.fetched;
-      goes = record {
-        direct = all_pass (in_data image.regions) (direct_bytes f.found.instr) (direct_inside image.regions (memory_of image.chunks) w.machine.cpu.pc f.found.instr f.found f.fine.fine);
-        stack = none_fail (λ a. IsJustBelow (top_of image.regions) 0 a) (stack_bytes f.found.instr w.machine.cpu) (quiet_stack f.found.instr w.machine.cpu f.fine.quiet);
-        place = λ taken. absurd (true≢false (sym taken ∙ quiet_returns f.found.instr w.machine.cpu.registers.flags f.fine.quiet));
-      };
+      direct = all_pass (in_data image.regions) (direct_bytes f.found.instr) (direct_inside image.regions (memory_of image.chunks) w.machine.cpu.pc f.found.instr f.found f.fine.fine);
     }
+
+quiet_in_step : (image : Located) (w : World) (found : Fetched) → IsSound image → InStep image w → fetched_by image.regions w ≡ Some found → touches_stack found.instr ≡ false
+quiet_in_step image w found sound step fetched =
+    let f : Finds image w = finds image w sound step in
+    let there : fetch image.regions w.machine.memory w.machine.cpu.pc ≡ Some f.found = f.fetched in
+    let same : f.found ≡ found = cc (there, fetched) in
+    subst (λ (x : Fetched). touches_stack x.instr ≡ false) same f.fine.quiet
 
 proper_in_step : (image : Located) (most : Option ℕ) (w : World) (e : End) → IsSound image → InStep image w → turn_at image.regions most w ≡ Stop e → IsProperEnd e
 proper_in_step image most w e sound step h =
@@ -324,9 +327,15 @@ proper_in_step image most w e sound step h =
     guarded_ends (first_outside (in_data image.regions) (pointed_bytes f.found.instr w.machine.cpu.registers)) (refuses most w.machine.outputs) f.found w.machine e
     (ap (λ (o : Option End). guarded o (refuses most w.machine.outputs) f.found w.machine) (sym g) ∙ sym (turn_there image most w f) ∙ h)
 
+-- every world of a run is in step
+world_in_step : (image : Located) (most : Option ℕ) (w : World) → IsSound image → IsWorldOf image most w → InStep image w
+world_in_step image most w sound at = always_in_step image at.inputs at.outputs most sound at.steps w at.is
+
 -- a program whose reached points have no fault never goes wrong, and needs no byte of stack
 pub never_goes_wrong : (image : Located) → IsSound image → NeverGoesWrong image 0
 never_goes_wrong image sound = record {
-  steps = λ inputs outputs most n w h. right_in_step image w sound (always_in_step image inputs outputs most sound n w h);
-  ends = λ inputs outputs most n w e h stops. proper_in_step image most w e sound (always_in_step image inputs outputs most sound n w h) stops;
+  fetches_and_stores = λ most w at. inside_in_step image w sound (world_in_step image most w sound at);
+  returning = λ most w found at fetched taken. absurd (true≢false (sym taken ∙ quiet_returns found.instr w.machine.cpu.registers.flags (quiet_in_step image w found sound (world_in_step image most w sound at) fetched)));
+  stack = λ most w found at fetched. none_fail (λ a. IsJustBelow (top_of image.regions) 0 a) (stack_bytes found.instr w.machine.cpu) (quiet_stack found.instr w.machine.cpu (quiet_in_step image w found sound (world_in_step image most w sound at) fetched));
+  ends = λ most w e at stops. proper_in_step image most w e sound (world_in_step image most w sound at) stops;
 }
