@@ -9,13 +9,11 @@ use crate::alu;
 use crate::bus::Bus;
 use crate::cpu::Cpu;
 use crate::end::End;
-use crate::fetching::Fetched;
 use crate::flags::condition_holds;
 use crate::registers::Registers;
 use crate::stack::{call, come_back, exchange, pop_pair, push_pair};
 use crate::stores::{store_accumulator, store_answer, store_byte, store_word};
-use crate::words::ahead;
-use decode80::{Instr, Operand, StackPair};
+use decode80::{Fetched, Instr, Operand, StackPair, ahead};
 use place80::Regions;
 
 /// The byte that an operation on the accumulator takes.

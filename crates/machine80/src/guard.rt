@@ -8,7 +8,7 @@ ghost use Rattle.machine80.specs.Step.{first_outside, ends_at};
 ghost use Rattle.machine80.specs.declared.end.End.TheVariants.{Stack, Direct, StoreOutside};
 
 use crate::end::End;
-use crate::words::ahead;
+use decode80::ahead;
 use place80::Regions;
 
 /// The end at the first of the two bytes below the stack pointer that is no byte of the stack.

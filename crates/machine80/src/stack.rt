@@ -2,8 +2,9 @@
 
 ghost use Rattle.std.specs.Prelude.{◌≡◌, ◌∷◌, [], ◌/◌, ◌%◌, None, OnSome, IfNone};
 ghost use Rattle.place80.specs.Range.{in_range};
+ghost use Rattle.decode80.specs.Fetch.{ahead};
 ghost use Rattle.machine80.specs.declared.end.End.TheVariants.{Stack};
-ghost use Rattle.machine80.specs.Cpu.{ahead, high_of, low_of, with_stack_pair};
+ghost use Rattle.machine80.specs.Cpu.{high_of, low_of, with_stack_pair};
 ghost use Rattle.machine80.specs.Effects.{byte_in, word_in, stored, pushed_bytes, popped_bytes, push_bytes};
 ghost use Rattle.machine80.specs.Step.{first_outside, ends_at};
 
@@ -11,8 +12,8 @@ use crate::bus::Bus;
 use crate::cpu::Cpu;
 use crate::end::End;
 use crate::guard::{pop_outside, push_outside};
-use crate::words::{ahead, load_word, push, push_word};
-use decode80::StackPair;
+use crate::words::{load_word, push, push_word};
+use decode80::{StackPair, ahead};
 use place80::Regions;
 
 /// A call of an address: `next` is pushed, the place that it comes back to.

@@ -2,8 +2,8 @@
 
 ghost use Rattle.std.specs.Prelude.{◌≡◌, ◌∷◌, [], None, OnSome, IfNone};
 ghost use Rattle.place80.specs.Regions.{in_data};
+ghost use Rattle.decode80.specs.Fetch.{ahead};
 ghost use Rattle.machine80.specs.declared.end.End.TheVariants.{Direct, StoreOutside};
-ghost use Rattle.machine80.specs.Cpu.{ahead};
 ghost use Rattle.machine80.specs.Effects.{stored};
 ghost use Rattle.machine80.specs.Step.{first_outside, ends_at};
 
@@ -12,7 +12,7 @@ use crate::bus::Bus;
 use crate::cpu::Cpu;
 use crate::end::End;
 use crate::guard::{direct_outside, store_outside};
-use crate::words::ahead;
+use decode80::ahead;
 use place80::Regions;
 
 /// STA: the accumulator is stored.

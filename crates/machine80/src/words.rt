@@ -1,19 +1,11 @@
 //! Words in memory.
 
 ghost use Rattle.std.specs.Prelude.{◌≡◌, ◌/◌, ◌%◌};
+ghost use Rattle.decode80.specs.Fetch.{ahead};
 ghost use Rattle.machine80.specs.Effects.{word_in, stored, push_bytes};
-ghost use Rattle.machine80.specs.Cpu.{ahead};
 
 use crate::bus::Bus;
-
-/// The address so many bytes after another one, modulo 65536.
-#[inline]
-#[tactic(auto, unfolding(crate::specs::Cpu::ahead))]
-pub(crate) fn ahead(address: u16, bytes: u16) -> u16
-    ensures { result ≡ ahead address bytes }
-{
-    address.wrapping_add(bytes)
-}
+use decode80::ahead;
 
 /// The word at an address and the one after it, low byte first.
 #[inline]
