@@ -7,10 +7,10 @@ use Rattle.frames80.specs.declared.moves.Moves.{Moves}
 use Rattle.frames80.specs.StackFrame.{StackFrame, entry_frame, main_frame}
 use Rattle.frames80.specs.Calls.{room, returned, depth_of}
 use Rattle.frames80.specs.Places.{Covers}
-use Rattle.verify80.specs.declared.procedure.Procedure.{Procedure}
-use Rattle.verify80.specs.declared.procedure.Procedure.TheVariants.{Main, Entry}
-use Rattle.verify80.specs.Code.{Code}
-use Rattle.verify80.specs.Walks.{Moving, LeadsTo, called, returning, role_of}
+use Rattle.flow80.specs.declared.procedure.Procedure.{Procedure}
+use Rattle.flow80.specs.declared.procedure.Procedure.TheVariants.{Main, Entry}
+use Rattle.flow80.specs.Code.{Code}
+use Rattle.flow80.specs.Walks.{Moving, LeadsTo, called, returning, role_of}
 
 -- frames by procedure and address, and for each procedure how many words it takes where it returns, how many it wants, and
 -- how many bytes of stack it needs below its return address
@@ -53,4 +53,4 @@ pub record Fits (code : Code) (table : Table) : Type 0 where
 pub record IsFitted (code : Code) (bytes : ℕ) : Type 0 where
   pub table : Table
   pub fits : Fits code table
-  pub bytes : table.bound Main ≡ bytes
+  pub printed : table.bound Main ≡ bytes

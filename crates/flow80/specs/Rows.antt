@@ -2,13 +2,13 @@
 -- needs, are this project's own; the convention is that of the PL/M-80 manuals.)
 use Rattle.std.specs.Prelude.{◌≡◌, ◌≤◌, ◌<◌, ◌↔◌, ℕ, true, false, List, All, AllPairs, Any}
 use Rattle.frames80.specs.StackFrame.{StackFrame}
-use Rattle.verify80.specs.declared.procedure.Procedure.{Procedure}
-use Rattle.verify80.specs.declared.procedure.Procedure.TheVariants.{Main, Entry}
-use Rattle.verify80.specs.declared.report.ProcRow.{ProcRow}
-use Rattle.verify80.specs.declared.report.Report.{Report}
-use Rattle.verify80.specs.Code.{Code}
-use Rattle.verify80.specs.Walks.{Walk, Returns}
-use Rattle.verify80.specs.Use.{IsBound}
+use Rattle.flow80.specs.declared.procedure.Procedure.{Procedure}
+use Rattle.flow80.specs.declared.procedure.Procedure.TheVariants.{Main, Entry}
+use Rattle.flow80.specs.declared.report.ProcRow.{ProcRow}
+use Rattle.flow80.specs.declared.report.Report.{Report}
+use Rattle.flow80.specs.Code.{Code}
+use Rattle.flow80.specs.Walks.{Walk, Returns}
+use Rattle.flow80.specs.Use.{IsBound}
 
 -- a walk goes through the procedure
 pub record Occurs (code : Code) (p : Procedure) : Type 0 where

@@ -1,6 +1,6 @@
 -- The walks of a program's procedures: every way that a procedure may be gone through, with the frame that it has at each
 -- point. Frames are never merged here, and there is no order in which points are looked at. (This project's own.)
-use Rattle.std.specs.Prelude.{◌≡◌, ◌≤◌, ℕ, Option, Some, None, Result, Ok}
+use Rattle.std.specs.Prelude.{◌≡◌, ◌≤◌, ◌⊎◌, ℕ, Option, Some, None, Result, Ok}
 use Rattle.decode80.specs.declared.fetching.Fetched.{Fetched}
 use Rattle.frames80.specs.declared.role.Role.{Role}
 use Rattle.frames80.specs.declared.role.Role.TheVariants.{Main as MainRole, Entry as EntryRole}
@@ -10,9 +10,9 @@ use Rattle.frames80.specs.StackFrame.{StackFrame, entry_frame, main_frame}
 use Rattle.frames80.specs.Effects.{effect_of}
 use Rattle.frames80.specs.Moves.{moves_of}
 use Rattle.frames80.specs.Calls.{room, returned}
-use Rattle.verify80.specs.declared.procedure.Procedure.{Procedure}
-use Rattle.verify80.specs.declared.procedure.Procedure.TheVariants.{Main, Entry}
-use Rattle.verify80.specs.Code.{Code}
+use Rattle.flow80.specs.declared.procedure.Procedure.{Procedure}
+use Rattle.flow80.specs.declared.procedure.Procedure.TheVariants.{Main, Entry}
+use Rattle.flow80.specs.Code.{Code}
 
 abbrev pub role_of : Code → Procedure → Role
 role_of code Main = MainRole code.top

@@ -6,14 +6,14 @@ use Rattle.frames80.specs.StackFrame.{StackFrame}
 use Rattle.frames80.specs.Effects.{effect_of}
 use Rattle.frames80.specs.Moves.{moves_of}
 use Rattle.frames80.specs.Calls.{room, agree}
-use Rattle.verify80.specs.declared.procedure.Procedure.{Procedure}
-use Rattle.verify80.specs.declared.procedure.Procedure.TheVariants.{Main, Entry}
-use Rattle.verify80.specs.declared.refusal.Refusal.{Refusal}
-use Rattle.verify80.specs.declared.refusal.Refusal.TheVariants.{FetchOutside, UnusedOpcode, EnablesInterrupts, Sphl, Pchl, StackByByte, SetsStack, DirectStore, PopsBelow, ReturnNotOwn, ReturnFromMain, HeightsDiffer, UnevenArguments, ShortArguments, Recursion, StackTooSmall, TooManyPoints, Memory}
-use Rattle.verify80.specs.Code.{Code}
-use Rattle.verify80.specs.Walks.{Walk, Calls, Returns, role_of}
-use Rattle.verify80.specs.Use.{IsBound}
-use Rattle.verify80.specs.Refusal.{refusal_of}
+use Rattle.flow80.specs.declared.procedure.Procedure.{Procedure}
+use Rattle.flow80.specs.declared.procedure.Procedure.TheVariants.{Main, Entry}
+use Rattle.flow80.specs.declared.refusal.Refusal.{Refusal}
+use Rattle.flow80.specs.declared.refusal.Refusal.TheVariants.{FetchOutside, UnusedOpcode, EnablesInterrupts, Sphl, Pchl, StackByByte, SetsStack, DirectStore, PopsBelow, ReturnNotOwn, ReturnFromMain, HeightsDiffer, UnevenArguments, ShortArguments, Recursion, StackTooSmall, TooManyPoints, Memory}
+use Rattle.flow80.specs.Code.{Code}
+use Rattle.flow80.specs.Walks.{Walk, Calls, Returns, role_of}
+use Rattle.flow80.specs.Use.{IsBound}
+use Rattle.flow80.specs.Refusal.{refusal_of}
 
 -- a walk reaches an address that holds no admissible instruction
 pub record LooksWrong (code : Code) (at : ℕ) (refusal : Refusal) : Type 0 where
@@ -31,7 +31,7 @@ pub record MovesWrong (code : Code) (at : ℕ) (refusal : Refusal) : Type 0 wher
   pub walk : Walk code procedure at frame
   pub looked : code.look at ≡ Ok found
   pub moved : moves_of (role_of code procedure) (effect_of found.instr) frame ≡ Err fault
-  pub refusal : refusal ≡ refusal_of fault at
+  pub named : refusal ≡ refusal_of fault at
 
 -- two walks come to one point with different counts
 pub record Differ (code : Code) (at : ℕ) : Type 0 where
@@ -94,10 +94,10 @@ pub record Recurs (code : Code) (at : ℕ) : Type 0 where
 
 -- the program needs more of the stack than there is
 pub record Overruns (code : Code) (need has : ℕ) : Type 0 where
-  pub agree : (at : ℕ) → Differ code at → ⊥
+  pub agrees : (at : ℕ) → Differ code at → ⊥
   pub ends : (at : ℕ) → Recurs code at → ⊥
-  pub need : IsBound code Main need
-  pub has : has ≡ code.stack
+  pub bound : IsBound code Main need
+  pub stack : has ≡ code.stack
   pub less : has < need
 
 -- so many different points occur: the points are numbered, and no two numbers have one point

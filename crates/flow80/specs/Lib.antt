@@ -5,3 +5,5 @@ pub mod Use
 pub mod Faults
 pub mod Fitting
 pub mod Rows
+pub mod Points
+pub mod Graph

@@ -3,17 +3,17 @@
 use Rattle.std.specs.Prelude.{◌≡◌, ℕ, ℤ, pos, ◌+ℤ◌, ◌≤ℤ◌}
 use Rattle.frames80.specs.StackFrame.{StackFrame}
 use Rattle.frames80.specs.Calls.{depth_of}
-use Rattle.verify80.specs.declared.procedure.Procedure.{Procedure}
-use Rattle.verify80.specs.declared.procedure.Procedure.TheVariants.{Main, Entry}
-use Rattle.verify80.specs.Code.{Code}
-use Rattle.verify80.specs.Walks.{Walk, Calls, role_of}
+use Rattle.flow80.specs.declared.procedure.Procedure.{Procedure}
+use Rattle.flow80.specs.declared.procedure.Procedure.TheVariants.{Main, Entry}
+use Rattle.flow80.specs.Code.{Code}
+use Rattle.flow80.specs.Walks.{Walk, Calls, role_of}
 
 -- the last procedure of a chain: its frame's depth
 pub record EndsChain (code : Code) (p : Procedure) (bytes : ℤ) : Type 0 where
   pub at : ℕ
   pub frame : StackFrame
   pub walk : Walk code p at frame
-  pub bytes : bytes ≡ depth_of (role_of code p) frame
+  pub sum : bytes ≡ depth_of (role_of code p) frame
 
 -- a call in a chain: the caller's depth, two bytes for the return address, and what the callee uses
 pub record Chains (code : Code) (p : Procedure) (target : ℕ) (below bytes : ℤ) : Type 0 where
@@ -22,7 +22,7 @@ pub record Chains (code : Code) (p : Procedure) (target : ℕ) (below bytes : �
   pub frame : StackFrame
   pub walk : Walk code p at frame
   pub call : Calls code p at frame target next
-  pub bytes : bytes ≡ (depth_of (role_of code p) frame +ℤ pos 2) +ℤ below
+  pub sum : bytes ≡ (depth_of (role_of code p) frame +ℤ pos 2) +ℤ below
 
 -- the sums over all chains of calls from a procedure on
 pub data Use (code : Code) : Procedure → ℤ → Type 0 where

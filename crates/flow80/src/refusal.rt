@@ -1,7 +1,7 @@
 //! Why an image is refused.
 
 ghost use Rattle.std.specs.Prelude.{◌≡◌};
-ghost use Rattle.verify80.specs.Refusal.{refusal_code, refusal_of};
+ghost use Rattle.flow80.specs.Refusal.{refusal_code, refusal_of};
 
 use frames80::FrameFault;
 use std::alloc::AllocError;
@@ -112,7 +112,7 @@ impl Refusal {
 }
 
 impl From<AllocError> for Refusal {
-    ghost use Rattle.verify80.specs.declared.refusal.Refusal.TheVariants.{Memory};
+    ghost use Rattle.flow80.specs.declared.refusal.Refusal.TheVariants.{Memory};
 
     ghost from_gives = { λ _ refusal. refusal ≡ Memory };
 

@@ -1,0 +1,30 @@
+-- The points that are known, each with what is known of its frame, in order of first sight. (This project's own.)
+use Rattle.std.specs.Prelude.{◌≡◌, ◌≤◌, ◌<◌, ℕ, Bool, true, false, ◌&&◌, nat_eq, List, Option, Some, None, slice_get}
+use Rattle.frames80.specs.StackFrame.{StackFrame}
+use Rattle.flow80.specs.declared.procedure.Procedure.{Procedure}
+use Rattle.flow80.specs.declared.procedure.Procedure.TheVariants.{Main, Entry}
+
+-- a point: an address of a procedure, and a frame there
+pub record Point : Type 0 where
+  pub procedure : Procedure
+  pub at : ℕ
+  pub frame : StackFrame
+
+-- whether two procedures are the same
+abbrev pub same_procedure : Procedure → Procedure → Bool
+same_procedure Main Main = true
+same_procedure Main (Entry b) = false
+same_procedure (Entry a) Main = false
+same_procedure (Entry a) (Entry b) = nat_eq a b
+
+-- whether a point is that address of that procedure
+abbrev pub is_at : Procedure → ℕ → Point → Bool
+is_at procedure at point = same_procedure procedure point.procedure && nat_eq at point.at
+
+-- a point with another frame
+abbrev pub with_frame : StackFrame → Point → Point
+with_frame frame point = record point { frame = frame }
+
+-- no address of a procedure stands twice
+pub record AreApart (points : List Point) : Type 0 where
+  pub apart : (i j : ℕ) (a b : Point) → slice_get points i ≡ Some a → slice_get points j ≡ Some b → a.procedure ≡ b.procedure → a.at ≡ b.at → i ≡ j

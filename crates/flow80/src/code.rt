@@ -1,0 +1,29 @@
+//! What the verifier goes by.
+
+ghost use Rattle.std.specs.Prelude.{◌≡◌};
+ghost use Rattle.flow80.specs.Code.{Code as CodeSeen};
+
+use crate::refusal::Refusal;
+use decode80::Fetched;
+
+/// A program as the verifier goes by it.
+pub trait Code {
+    /// The instruction at each address, the start, and the stack's top and length.
+    ghost code: { Self → CodeSeen };
+
+    /// The instruction at an address and the address after it, or why none may be executed there.
+    fn look(&self, at: u16) -> Result<Fetched, Refusal>
+        ensures { result ≡ (code self.now).look at };
+
+    /// The address where the main program starts.
+    fn start(&self) -> u16
+        ensures { result ≡ (code self.now).start };
+
+    /// The address just above the stack, modulo 65536.
+    fn top(&self) -> u16
+        ensures { result ≡ (code self.now).top };
+
+    /// The number of bytes that the stack has.
+    fn stack(&self) -> u16
+        ensures { result ≡ (code self.now).stack };
+}

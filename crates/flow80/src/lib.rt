@@ -1,0 +1,20 @@
+//! The verifier's analysis: every walk of every procedure of a program, over any code.
+//!
+//! | Item | What it is |
+//! |---|---|
+//! | [`Code`] | the program: the instruction at each address, the start and the stack |
+//! | [`Procedure`] | the main program, or one that a call reaches |
+//! | [`Refusal`] | why a program is refused |
+//! | [`Report`], [`ProcRow`] | what is found of a program that is accepted |
+#![tactic(auto)]
+
+mod code;
+mod graph;
+mod procedure;
+mod refusal;
+mod report;
+
+pub use code::Code;
+pub use procedure::Procedure;
+pub use refusal::Refusal;
+pub use report::{ProcRow, Report};
