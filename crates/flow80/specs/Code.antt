@@ -2,10 +2,10 @@
 -- program starts, and the stack's top and length. (This project's own.)
 use Rattle.std.specs.Prelude.{ℕ, Result}
 use Rattle.decode80.specs.declared.fetching.Fetched.{Fetched}
-use Rattle.flow80.specs.declared.refusal.Refusal.{Refusal}
+use Rattle.flow80.specs.declared.code.LookFault.{LookFault}
 
 pub record Code : Type 0 where
-  pub look : ℕ → Result Fetched Refusal
+  pub look : ℕ → Result Fetched LookFault
   pub start : ℕ
   pub top : ℕ
   pub stack : ℕ

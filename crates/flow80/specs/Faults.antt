@@ -2,6 +2,7 @@
 use Rattle.std.specs.Prelude.{◌≡◌, ◌≢◌, ◌<◌, ◌+◌, ℕ, true, false, List, length, Result, Ok, Err}
 use Rattle.decode80.specs.declared.fetching.Fetched.{Fetched}
 use Rattle.frames80.specs.declared.fault.FrameFault.{FrameFault}
+use Rattle.frames80.specs.declared.fault.FrameFault.TheVariants.{Sphl as FrameSphl, Pchl as FramePchl, StackByByte as FrameStackByByte, SetsStack as FrameSetsStack, PopsBelow as FramePopsBelow, ReturnNotOwn as FrameReturnNotOwn, ReturnFromMain as FrameReturnFromMain}
 use Rattle.frames80.specs.StackFrame.{StackFrame}
 use Rattle.frames80.specs.Effects.{effect_of}
 use Rattle.frames80.specs.Moves.{moves_of}
@@ -10,28 +11,27 @@ use Rattle.flow80.specs.declared.procedure.Procedure.{Procedure}
 use Rattle.flow80.specs.declared.procedure.Procedure.TheVariants.{Main, Entry}
 use Rattle.flow80.specs.declared.refusal.Refusal.{Refusal}
 use Rattle.flow80.specs.declared.refusal.Refusal.TheVariants.{FetchOutside, UnusedOpcode, EnablesInterrupts, Sphl, Pchl, StackByByte, SetsStack, DirectStore, PopsBelow, ReturnNotOwn, ReturnFromMain, HeightsDiffer, UnevenArguments, ShortArguments, Recursion, StackTooSmall, TooManyPoints, Memory}
+use Rattle.flow80.specs.declared.code.LookFault.{LookFault}
+use Rattle.flow80.specs.declared.code.LookFault.TheVariants.{Outside, Unused, EnablesInterrupts as LooksAtEi, DirectStore as LooksAtStore}
 use Rattle.flow80.specs.Code.{Code}
 use Rattle.flow80.specs.Walks.{Walk, Calls, Returns, role_of}
 use Rattle.flow80.specs.Use.{IsBound}
-use Rattle.flow80.specs.Refusal.{refusal_of}
 
 -- a walk reaches an address that holds no admissible instruction
-pub record LooksWrong (code : Code) (at : ℕ) (refusal : Refusal) : Type 0 where
+pub record LooksWrong (code : Code) (at : ℕ) (fault : LookFault) : Type 0 where
   pub procedure : Procedure
   pub frame : StackFrame
   pub walk : Walk code procedure at frame
-  pub looked : code.look at ≡ Err refusal
+  pub looked : code.look at ≡ Err fault
 
 -- a walk reaches an instruction that may not be executed with its frame
-pub record MovesWrong (code : Code) (at : ℕ) (refusal : Refusal) : Type 0 where
+pub record MovesWrong (code : Code) (at : ℕ) (fault : FrameFault) : Type 0 where
   pub procedure : Procedure
   pub frame : StackFrame
   pub found : Fetched
-  pub fault : FrameFault
   pub walk : Walk code procedure at frame
   pub looked : code.look at ≡ Ok found
   pub moved : moves_of (role_of code procedure) (effect_of found.instr) frame ≡ Err fault
-  pub named : refusal ≡ refusal_of fault at
 
 -- two walks come to one point with different counts
 pub record Differ (code : Code) (at : ℕ) : Type 0 where
@@ -114,17 +114,17 @@ most_points = 262144
 
 -- the refusal holds: it names a fault that is there. (Nothing is said of running out of memory.)
 abbrev pub Holds : Code → Refusal → Type 0
-Holds code (FetchOutside at) = LooksWrong code at (FetchOutside at)
-Holds code (UnusedOpcode at) = LooksWrong code at (UnusedOpcode at)
-Holds code (EnablesInterrupts at) = LooksWrong code at (EnablesInterrupts at)
-Holds code (DirectStore at) = LooksWrong code at (DirectStore at)
-Holds code (Sphl at) = MovesWrong code at (Sphl at)
-Holds code (Pchl at) = MovesWrong code at (Pchl at)
-Holds code (StackByByte at) = MovesWrong code at (StackByByte at)
-Holds code (SetsStack at) = MovesWrong code at (SetsStack at)
-Holds code (PopsBelow at) = MovesWrong code at (PopsBelow at)
-Holds code (ReturnNotOwn at) = MovesWrong code at (ReturnNotOwn at)
-Holds code (ReturnFromMain at) = MovesWrong code at (ReturnFromMain at)
+Holds code (FetchOutside at) = LooksWrong code at Outside
+Holds code (UnusedOpcode at) = LooksWrong code at Unused
+Holds code (EnablesInterrupts at) = LooksWrong code at LooksAtEi
+Holds code (DirectStore at) = LooksWrong code at LooksAtStore
+Holds code (Sphl at) = MovesWrong code at FrameSphl
+Holds code (Pchl at) = MovesWrong code at FramePchl
+Holds code (StackByByte at) = MovesWrong code at FrameStackByByte
+Holds code (SetsStack at) = MovesWrong code at FrameSetsStack
+Holds code (PopsBelow at) = MovesWrong code at FramePopsBelow
+Holds code (ReturnNotOwn at) = MovesWrong code at FrameReturnNotOwn
+Holds code (ReturnFromMain at) = MovesWrong code at FrameReturnFromMain
 Holds code (HeightsDiffer at) = Differ code at
 Holds code (UnevenArguments at) = Uneven code at
 Holds code (ShortArguments at) = Short code at

@@ -1,7 +1,9 @@
--- The numbers of the refusals, and the refusal for a frame's fault at an address. (They are this project's own.)
+-- The numbers of the refusals, and the refusals for the faults of looks and of frames at an address. (They are this project's own.)
 use Rattle.std.specs.Prelude.{ℕ}
 use Rattle.frames80.specs.declared.fault.FrameFault.{FrameFault}
 use Rattle.frames80.specs.declared.fault.FrameFault.TheVariants.{Sphl as FrameSphl, Pchl as FramePchl, StackByByte as FrameStackByByte, SetsStack as FrameSetsStack, PopsBelow as FramePopsBelow, ReturnNotOwn as FrameReturnNotOwn, ReturnFromMain as FrameReturnFromMain, Memory as FrameMemory}
+use Rattle.flow80.specs.declared.code.LookFault.{LookFault}
+use Rattle.flow80.specs.declared.code.LookFault.TheVariants.{Outside, Unused, EnablesInterrupts as LooksAtEi, DirectStore as LooksAtStore}
 use Rattle.flow80.specs.declared.refusal.Refusal.{Refusal}
 use Rattle.flow80.specs.declared.refusal.Refusal.TheVariants.{FetchOutside, UnusedOpcode, EnablesInterrupts, Sphl, Pchl, StackByByte, SetsStack, DirectStore, PopsBelow, ReturnNotOwn, ReturnFromMain, HeightsDiffer, UnevenArguments, ShortArguments, Recursion, StackTooSmall, TooManyPoints, Memory}
 
@@ -34,3 +36,9 @@ refusal_of FramePopsBelow at = PopsBelow at
 refusal_of FrameReturnNotOwn at = ReturnNotOwn at
 refusal_of FrameReturnFromMain at = ReturnFromMain at
 refusal_of FrameMemory at = Memory
+
+abbrev pub look_refusal : LookFault → ℕ → Refusal
+look_refusal Outside at = FetchOutside at
+look_refusal Unused at = UnusedOpcode at
+look_refusal LooksAtEi at = EnablesInterrupts at
+look_refusal LooksAtStore at = DirectStore at

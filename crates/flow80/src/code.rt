@@ -3,8 +3,20 @@
 ghost use Rattle.std.specs.Prelude.{◌≡◌};
 ghost use Rattle.flow80.specs.Code.{Code as CodeSeen};
 
-use crate::refusal::Refusal;
 use decode80::Fetched;
+
+/// Why no instruction may be executed at an address, whatever the frame.
+#[derive(Clone, Copy, Debug, PartialEq, Eq)]
+pub enum LookFault {
+    /// A byte of the instruction is outside CODE or past FFFF.
+    Outside,
+    /// The byte is one of the twelve unused ones.
+    Unused,
+    /// It is an EI whose next byte isn't a HLT in CODE.
+    EnablesInterrupts,
+    /// It is a STA or SHLD with a byte outside data.
+    DirectStore,
+}
 
 /// A program as the verifier goes by it.
 pub trait Code {
@@ -12,7 +24,7 @@ pub trait Code {
     ghost code: { Self → CodeSeen };
 
     /// The instruction at an address and the address after it, or why none may be executed there.
-    fn look(&self, at: u16) -> Result<Fetched, Refusal>
+    fn look(&self, at: u16) -> Result<Fetched, LookFault>
         ensures { result ≡ (code self.now).look at };
 
     /// The address where the main program starts.

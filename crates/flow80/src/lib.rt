@@ -2,7 +2,7 @@
 //!
 //! | Item | What it is |
 //! |---|---|
-//! | [`Code`] | the program: the instruction at each address, the start and the stack |
+//! | [`Code`], [`LookFault`] | the program: the instruction at each address, the start and the stack |
 //! | [`Procedure`] | the main program, or one that a call reaches |
 //! | [`Refusal`] | why a program is refused |
 //! | [`Report`], [`ProcRow`] | what is found of a program that is accepted |
@@ -14,7 +14,7 @@ mod procedure;
 mod refusal;
 mod report;
 
-pub use code::Code;
+pub use code::{Code, LookFault};
 pub use procedure::Procedure;
 pub use refusal::Refusal;
 pub use report::{ProcRow, Report};

@@ -1,8 +1,9 @@
 //! Why an image is refused.
 
 ghost use Rattle.std.specs.Prelude.{◌≡◌};
-ghost use Rattle.flow80.specs.Refusal.{refusal_code, refusal_of};
+ghost use Rattle.flow80.specs.Refusal.{refusal_code, refusal_of, look_refusal};
 
+use crate::code::LookFault;
 use frames80::FrameFault;
 use std::alloc::AllocError;
 use thiserror::Error;
@@ -91,6 +92,18 @@ impl Refusal {
             Refusal::StackTooSmall(_, _) => 16,
             Refusal::TooManyPoints => 17,
             Refusal::Memory => 18,
+        }
+    }
+
+    /// The refusal where no instruction may be executed at an address.
+    pub(crate) fn of_look(fault: LookFault, at: u16) -> Refusal
+        ensures { result ≡ look_refusal fault at }
+    {
+        match fault {
+            LookFault::Outside => Refusal::FetchOutside(at),
+            LookFault::Unused => Refusal::UnusedOpcode(at),
+            LookFault::EnablesInterrupts => Refusal::EnablesInterrupts(at),
+            LookFault::DirectStore => Refusal::DirectStore(at),
         }
     }
 

@@ -1,0 +1,43 @@
+-- What the verifier keeps true of its table while it fills: each frame in it is shown by walks. That is what makes its
+-- refusals hold. (This project's own.)
+use Rattle.std.specs.Prelude.{◌≡◌, ◌≤◌, ℕ, List, length, Option, Some, None, slice_get}
+use Rattle.frames80.specs.declared.word.Word.TheVariants.{Any}
+use Rattle.frames80.specs.StackFrame.{StackFrame}
+use Rattle.frames80.specs.Places.{Place, word_at, Covers, ChangesByPlaces, ReturnsByPlaces, MeetsByPlaces, CountsAlone, CoveredGoesAlong, ReturnRefused}
+use Rattle.flow80.specs.declared.procedure.Procedure.{Procedure}
+use Rattle.flow80.specs.declared.procedure.Procedure.TheVariants.{Entry}
+use Rattle.flow80.specs.Code.{Code}
+use Rattle.flow80.specs.Walks.{Walk, Returns}
+use Rattle.flow80.specs.Rows.{ReturnsWith}
+use Rattle.flow80.specs.Points.{Point, AreApart}
+
+-- what may be asked of a frame: nothing, or one place that may be any word
+pub data Query : Type 0 where
+  Whole : Query
+  At : Place → Query
+
+-- the place that is asked for may be any word
+abbrev pub MayBeAny : StackFrame → Query → Type 0
+MayBeAny f Whole = Unit {0}
+MayBeAny f (At place) = word_at f place ≡ Any
+
+-- a walk to the point has the frame's counts, has the return address wherever the frame has it, and has any word at the
+-- place that is asked for
+pub record Shows (code : Code) (p : Procedure) (at : ℕ) (f : StackFrame) (query : Query) : Type 0 where
+  pub frame : StackFrame
+  pub walk : Walk code p at frame
+  pub covers : Covers f frame
+  pub answers : MayBeAny frame query
+
+-- a frame is shown at a point: whatever may be asked of it, a walk shows it
+pub record IsShown (code : Code) (p : Procedure) (at : ℕ) (f : StackFrame) : Type 0 where
+  pub by : (query : Query) → MayBeAny f query → Shows code p at f query
+
+-- the laws of frames that this rests on
+pub record FrameLaws : Type 0 where
+  pub changes : ChangesByPlaces
+  pub returns : ReturnsByPlaces
+  pub meets : MeetsByPlaces
+  pub counts : CountsAlone
+  pub covered : CoveredGoesAlong
+  pub refused : ReturnRefused
