@@ -221,7 +221,7 @@ moves_wrong laws code p at f found fault shown looked refused =
       moved = refused_along laws (role_of code p) effect f s.frame fault s.covers s.answers refused;
     }
 
-agree_same : (f g v w : StackFrame) → SameCounts f v → SameCounts g w → agree v w ≡ agree f g
+pub agree_same : (f g v w : StackFrame) → SameCounts f v → SameCounts g w → agree v w ≡ agree f g
 agree_same f g v w one other = rw (sym one.taken, sym one.words, sym other.taken, sym other.words) refl
 
 pub differ : (code : Code) (p : Procedure) (at : ℕ) (f g : StackFrame) → IsShown code p at f → IsShown code p at g → agree f g ≡ false → Differ code at
