@@ -1,3 +1,5 @@
 pub mod MoveLemmas
 pub mod ShownLemmas
 pub mod FitLemmas
+pub mod Slices
+pub mod KnownLemmas
