@@ -173,6 +173,10 @@ met_own : (a b : Word) → met a b ≡ Own → a ≡ Own
 met_own Own b own = refl
 met_own Any b own = own
 
+met_other_own : (a b : Word) → met a b ≡ Own → b ≡ Own
+met_other_own Own b own = own
+met_other_own Any b own = absurd (let e : Any ≡ Own = own in cc)
+
 words_met-long : (xs ys : List Word) → length xs ≡ length ys → length (words_met xs ys) ≡ length xs
 words_met-long [] ys long = refl
 words_met-long (x ∷ xs) [] long = absurd (omega arith)
@@ -182,6 +186,12 @@ covers_meet : (f g : StackFrame) → Covers f g → (h : StackFrame) → agree f
 covers_meet f g covers h same = record {
   counts = record { taken = covers.counts.taken; words = words_met-long f.words h.words (counts_of_agree f h same).words ∙ covers.counts.words };
   own = λ place own. covers.own place (met_own (word_at f place) (word_at h place) (sym (meets_by_places f h place same) ∙ own));
+}
+
+covers_meet_other : (f g : StackFrame) → Covers f g → (h : StackFrame) → agree h f ≡ true → Covers (merged h f) g
+covers_meet_other f g covers h same = record {
+  counts = record { taken = (counts_of_agree h f same).taken ∙ covers.counts.taken; words = words_met-long h.words f.words (counts_of_agree h f same).words ∙ (counts_of_agree h f same).words ∙ covers.counts.words };
+  own = λ place own. covers.own place (met_other_own (word_at h place) (word_at f place) (sym (meets_by_places h f place same) ∙ own));
 }
 
 -- an entry's words are its return address alone where they are one word, and it is
@@ -215,4 +225,5 @@ covered_goes_along f g covers = record {
   return = covers_return f g covers;
   may_return = may_return f g covers;
   meet = covers_meet f g covers;
+  meet_other = covers_meet_other f g covers;
 }

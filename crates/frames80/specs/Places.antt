@@ -102,12 +102,14 @@ pub record CountsDecide (f g : StackFrame) : Type 0 where
 abbrev pub CountsAlone : Type 0
 CountsAlone = (f g : StackFrame) → SameCounts f g → CountsDecide f g
 
--- a frame that is covered goes where the frame that covers it goes, and is covered there
+-- a frame that is covered goes where the frame that covers it goes, and is covered there; where that one meets another frame, on
+-- either side, it is covered by both together
 pub record CoversOn (f g : StackFrame) : Type 0 where
   pub change : (change : Change) → Covers (changed change f) (changed change g)
   pub return : (taken : ℕ) → Covers (returned taken f) (returned taken g)
   pub may_return : (role : Role) → return_fault role f.words ≡ None → return_fault role g.words ≡ None
   pub meet : (h : StackFrame) → agree f h ≡ true → Covers (merged f h) g
+  pub meet_other : (h : StackFrame) → agree h f ≡ true → Covers (merged h f) g
 
 abbrev pub CoveredGoesAlong : Type 0
 CoveredGoesAlong = (f g : StackFrame) → Covers f g → CoversOn f g
