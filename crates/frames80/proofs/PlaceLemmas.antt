@@ -1,6 +1,6 @@
 -- The laws of places.
-use Rattle.std.specs.Prelude.{◌≡◌, ℕ, ◌+◌, ◌-◌, ◌&&◌, zero, suc, Bool, true, false, List, [], ◌∷◌, length, drop, nat_eq, Option, None, Some, refl}
-use Rattle.std.proofs.Common.{ap, sym, ◌∙◌, arith, subst, true≢false}
+use Rattle.std.specs.Prelude.{◌≡◌, ℕ, ◌+◌, ◌-◌, zero, suc, Bool, true, false, List, [], ◌∷◌, length, drop, nat_eq, None, refl}
+use Rattle.std.proofs.Common.{ap, sym, ◌∙◌, arith, true≢false}
 use Rattle.std.specs.Cmp.{unsigned_Decides, first_so, second_so}
 use Rattle.std.proofs.lemmas.List.{length-drop}
 use Rattle.frames80.specs.declared.word.Word.{Word}
@@ -9,14 +9,13 @@ use Rattle.frames80.specs.declared.role.Role.{Role}
 use Rattle.frames80.specs.declared.role.Role.TheVariants.{Main, Entry}
 use Rattle.frames80.specs.declared.frame_pair.FramePair.{FramePair}
 use Rattle.frames80.specs.declared.frame_pair.FramePair.TheVariants.{Bc, De, Hl}
-use Rattle.frames80.specs.declared.fault.FrameFault.{FrameFault}
 use Rattle.frames80.specs.declared.effect.Change.{Change}
 use Rattle.frames80.specs.declared.effect.Change.TheVariants.{Keep, Push, PushAny, Pop, Drop, Swap, Exchange, Forget, SetStack}
 use Rattle.frames80.specs.Word.{met}
-use Rattle.frames80.specs.StackFrame.{StackFrame, Pairs, pair_in, with_pair, top_word, taken_after_pop}
-use Rattle.frames80.specs.Moves.{changed, change_fault, pop_fault, load_fault, return_fault, is_own_alone}
+use Rattle.frames80.specs.StackFrame.{StackFrame, pair_in, with_pair, top_word, taken_after_pop}
+use Rattle.frames80.specs.Moves.{changed, change_fault, pop_fault, return_fault, is_own_alone}
 use Rattle.frames80.specs.Calls.{room, returned, agree, words_met, merged}
-use Rattle.frames80.specs.Places.{Place, InPair, InWord, Source, From, Unknown, word_from_top, word_at, sourced, pair_source, source, source_after, ChangesByPlaces, ReturnsByPlaces, MeetsByPlaces, SameCounts, Covers, CountsDecide, CountsAlone, CoversOn, CoveredGoesAlong, ReturnRefused}
+use Rattle.frames80.specs.Places.{InPair, InWord, Source, From, Unknown, word_from_top, word_at, sourced, pair_source, source, source_after, ChangesByPlaces, ReturnsByPlaces, MeetsByPlaces, SameCounts, Covers, CountsAlone, CoveredGoesAlong}
 
 top_at : (words : List Word) → top_word words ≡ word_from_top words 0
 top_at [] = refl

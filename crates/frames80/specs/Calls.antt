@@ -1,6 +1,6 @@
 -- What becomes of a caller's frame when its callee returns, how frames meet at a point, and how deep a frame is. (This
 -- project's own; the convention is that of the PL/M-80 manuals: a callee takes its arguments from the stack.)
-use Rattle.std.specs.Prelude.{ℕ, ◌+◌, ◌-◌, ◌*◌, ℤ, pos, ◌*ℤ◌, ◌-ℤ◌, Bool, ◌&&◌, nat_eq, nat_lt, List, [], ◌∷◌, drop, length, Result, Ok, Err, if◌then◌else◌}
+use Rattle.std.specs.Prelude.{ℕ, ◌-◌, ◌*◌, ℤ, pos, ◌*ℤ◌, ◌-ℤ◌, Bool, ◌&&◌, nat_eq, nat_lt, List, [], ◌∷◌, drop, length, Result, Ok, Err, if◌then◌else◌}
 use Rattle.frames80.specs.declared.word.Word.{Word}
 use Rattle.frames80.specs.declared.role.Role.{Role}
 use Rattle.frames80.specs.declared.role.Role.TheVariants.{Main, Entry}

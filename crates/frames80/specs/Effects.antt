@@ -1,6 +1,6 @@
 -- What each instruction does to a frame. (The instructions and the registers they write are those of the Intel 8080 Assembly
 -- Language Programming Manual; that SPHL, PCHL, INX SP, DCX SP and most of LXI SP are refused is this project's own.)
-use Rattle.std.specs.Prelude.{ℕ, ◌*◌}
+use Rattle.std.specs.Prelude.{◌*◌}
 use Rattle.decode80.specs.declared.register.Register.{Register}
 use Rattle.decode80.specs.declared.register.Register.TheVariants.{A, B, C, D, E, H, L}
 use Rattle.decode80.specs.declared.pair.Pair.{Pair}
@@ -10,9 +10,7 @@ use Rattle.decode80.specs.declared.pair.StackPair.TheVariants.{Bc as StackBc, De
 use Rattle.decode80.specs.declared.instr.Instr.{Instr}
 use Rattle.decode80.specs.declared.instr.Instr.TheVariants.{Mov, Load, Mvi, Lxi, Dad, Inx, Dcx, Inr, Dcr, Jmp, JumpIf, Call, CallIf, Ret, ReturnIf, Rst, Push, Pop, Lhld, Xthl, Pchl, Xchg, Sphl, Hlt}
 use Rattle.decode80.specs.Restart.{restart_number}
-use Rattle.frames80.specs.declared.fault.FrameFault.{FrameFault}
 use Rattle.frames80.specs.declared.fault.FrameFault.TheVariants.{Sphl as SetsPointer, Pchl as JumpsByPair, StackByByte}
-use Rattle.frames80.specs.declared.frame_pair.FramePair.{FramePair}
 use Rattle.frames80.specs.declared.frame_pair.FramePair.TheVariants.{Bc as FrameBc, De as FrameDe, Hl as FrameHl}
 use Rattle.frames80.specs.declared.effect.Change.{Change}
 use Rattle.frames80.specs.declared.effect.Change.TheVariants.{Keep, Push as PushPair, PushAny, Pop as PopPair, Drop, Swap, Exchange, Forget, SetStack}

@@ -6,7 +6,7 @@ use Rattle.frames80.specs.declared.word.Word.TheVariants.{Own, Any}
 use Rattle.frames80.specs.declared.role.Role.{Role}
 use Rattle.frames80.specs.declared.role.Role.TheVariants.{Main, Entry}
 use Rattle.frames80.specs.declared.frame_pair.FramePair.{FramePair}
-use Rattle.frames80.specs.declared.frame_pair.FramePair.TheVariants.{Bc, De, Hl}
+use Rattle.frames80.specs.declared.frame_pair.FramePair.TheVariants.{Hl}
 use Rattle.frames80.specs.declared.fault.FrameFault.{FrameFault}
 use Rattle.frames80.specs.declared.fault.FrameFault.TheVariants.{SetsStack, PopsBelow, ReturnNotOwn, ReturnFromMain}
 use Rattle.frames80.specs.declared.effect.Change.{Change}
