@@ -1,23 +1,25 @@
 -- What is known stays shown, small and on its way to its end when a point is added, a frame changes or a return is seen.
-use Rattle.std.specs.Prelude.{◌≡◌, ◌≢◌, ◌⊎◌, ◌≤◌, ◌<◌, ◌+◌, ◌*◌, ◌-◌, ℕ, zero, suc, Bool, true, false, List, [], ◌∷◌, ◌++◌, length, sum_by, count_by, Option, Some, None, slice_get, slice_set, is_none, cond, refl}
-use Rattle.std.proofs.Common.{ap, sym, ◌∙◌, subst, arith, inl, inr}
+use Rattle.std.specs.Prelude.{◌≡◌, ◌≢◌, ◌⊎◌, ◌≤◌, ◌<◌, ◌+◌, ◌*◌, ◌-◌, ℕ, zero, suc, Bool, true, false, List, [], ◌∷◌, ◌++◌, length, sum_by, count_by, Option, Some, None, slice_get, slice_set, is_none, cond, Result, Ok, Err, refl}
+use Rattle.std.proofs.Common.{ap, sym, ◌∙◌, subst, arith, inl, inr, true≢false}
 use Rattle.std.proofs.lemmas.List.Sums.{sum_by-cons, sum_by_push}
 use Rattle.frames80.specs.declared.word.Word.{Word}
 use Rattle.frames80.specs.declared.word.Word.TheVariants.{Own, Any}
 use Rattle.frames80.specs.Word.{met}
 use Rattle.frames80.specs.StackFrame.{StackFrame, Pairs}
 use Rattle.frames80.specs.Calls.{words_met, pairs_met, merged, agree}
-use Rattle.frames80.specs.Places.{SameCounts, Covers, MeetsByPlaces}
+use Rattle.frames80.specs.Places.{Place, word_at, SameCounts, Covers, MeetsByPlaces}
 use Rattle.flow80.specs.declared.procedure.Procedure.{Procedure}
 use Rattle.flow80.specs.declared.procedure.Procedure.TheVariants.{Main, Entry}
 use Rattle.flow80.specs.Code.{Code}
-use Rattle.flow80.specs.Faults.{most_points, Many}
+use Rattle.flow80.specs.declared.refusal.Refusal.{Refusal}
+use Rattle.flow80.specs.declared.refusal.Refusal.TheVariants.{HeightsDiffer, TooManyPoints, Memory}
+use Rattle.flow80.specs.Faults.{most_points, Many, Differ}
 use Rattle.flow80.specs.Rows.{ReturnsWith}
-use Rattle.flow80.specs.Points.{Point, AreApart, with_frame}
+use Rattle.flow80.specs.Points.{Point, AreApart, IsPointAt, IsNoPoint, with_frame}
 use Rattle.flow80.specs.Shown.{Query, Whole, Shows, IsShown, FrameLaws}
-use Rattle.flow80.specs.Known.{Known, known_at, exit_of, IsWithin, IsSmall, Stands, owns_word, owns, weight, Goes, Holds}
+use Rattle.flow80.specs.Known.{Known, known_at, exit_of, IsWithin, IsSmall, Stands, owns_word, owns, weight, Goes, HasPoint, Flows}
 use Rattle.flow80.proofs.Slices.{IsLast, grown, grown_last, grown_before, length_grown, IsOther, changed_at, changed_here, length_changed, within, sum_changed}
-use Rattle.flow80.proofs.ShownLemmas.{covers_self}
+use Rattle.flow80.proofs.ShownLemmas.{covers_self, counts_agree, met_other, shown_merged, differ}
 
 -- a point is added
 abbrev pub added : Known → Point → Known
@@ -33,11 +35,7 @@ stands_added code known new stands shown = record { points = λ i point is. by i
 within_more : (n m : ℕ) (f : StackFrame) → n ≤ m → IsWithin n f → IsWithin m f
 within_more n m f more is = record { taken = let t = is.taken in omega arith; words = let w = is.words in omega arith }
 
--- no point of the list stands there
-pub record NoPoint (points : List Point) (p : Procedure) (at : ℕ) : Type 0 where
-  pub none : (i : ℕ) (point : Point) → slice_get points i ≡ Some point → point.procedure ≡ p → point.at ≡ at → ⊥
-
-pub apart_added : (points : List Point) (new : Point) → AreApart points → NoPoint points new.procedure new.at → AreApart (points ++ new ∷ [])
+pub apart_added : (points : List Point) (new : Point) → AreApart points → IsNoPoint points new.procedure new.at → AreApart (points ++ new ∷ [])
 apart_added points new apart none = record { apart = λ i j a b one other p at. by i j a b p at (grown points new i a one) (grown points new j b other) }
   where
     by : (i j : ℕ) (a b : Point) → a.procedure ≡ b.procedure → a.at ≡ b.at →
@@ -48,7 +46,7 @@ apart_added points new apart none = record { apart = λ i j a b one other p at. 
     by i j a b p at (inr one) (inr other) = one.place ∙ sym other.place
 
 pub small_added : (known : Known) (new : Point) → IsSmall known → length known.points < most_points → IsWithin (length known.points + 1) new.frame →
-    NoPoint known.points new.procedure new.at → IsSmall (added known new)
+    IsNoPoint known.points new.procedure new.at → IsSmall (added known new)
 small_added known new small room fits none = record {
   points = rw (length_grown known.points new) (omega arith);
   frames = λ i point is. rw (length_grown known.points new) (by i point (grown known.points new i point is));
@@ -253,7 +251,7 @@ picked (p ∷ ps) new (suc n) = by (picked ps new n)
 
 -- more points than are looked at
 pub many : (code : Code) (known : Known) (new : Point) → Stands code known → IsSmall known → length known.points ≡ most_points → IsShown code new.procedure new.at new.frame →
-    NoPoint known.points new.procedure new.at → Many code (most_points + 1)
+    IsNoPoint known.points new.procedure new.at → Many code (most_points + 1)
 many code known new stands small full shown none = record {
   procedure = λ n. (pick known.points new n).procedure;
   at = λ n. (pick known.points new n).at;
@@ -277,3 +275,72 @@ many code known new stands small full shown none = record {
     apart n m n_few m_few p at (inr one) (inl other) =
       absurd (none.none m (pick known.points new m) other (sym p ∙ ap (λ (x : Point). x.procedure) one.is) (sym at ∙ ap (λ (x : Point). x.at) one.is))
     apart n m n_few m_few p at (inr one) (inr other) = let a = one.past in let b = other.past in omega arith
+
+-- what comes of a frame that leads to a point, case by case
+pub flows_added : (known : Known) (p : Procedure) (to : ℕ) (g : StackFrame) → IsSmall known → length known.points < most_points → IsWithin (length known.points + 1) g →
+    IsNoPoint known.points p to → Flows known (added known (record { procedure = p; at = to; frame = g })) p to g (Ok true)
+flows_added known p to g small room fits none = record {
+  small = small_added known (record { procedure = p; at = to; frame = g }) small room fits none;
+  more = let e = length_grown known.points (record { procedure = p; at = to; frame = g }) in omega arith;
+  stands = λ code stands shown. stands_added code known (record { procedure = p; at = to; frame = g }) stands shown;
+  goes = record { same = λ e. absurd (true≢false e); less = λ _. goes_added known (record { procedure = p; at = to; frame = g }) room fits };
+  has = λ e. absurd (true≢false e);
+}
+
+pub flows_too_many : (known new : Known) (p : Procedure) (to : ℕ) (g : StackFrame) → IsSmall known → most_points ≤ length known.points →
+    IsNoPoint known.points p to → Flows known new p to g (Err TooManyPoints)
+flows_too_many known new p to g small full none = record {
+  small = tt; more = tt; goes = tt; has = tt;
+  stands = λ code stands shown. many code known (record { procedure = p; at = to; frame = g }) stands small (let few = small.points in omega arith) shown none;
+}
+
+pub flows_out_of_memory : (known new : Known) (p : Procedure) (to : ℕ) (g : StackFrame) → Flows known new p to g (Err Memory)
+flows_out_of_memory known new p to g = record { small = tt; more = tt; stands = λ code stands shown. tt; goes = tt; has = tt }
+
+-- a frame that changes nothing where it is met is covered
+covered_by_same : FrameLaws → (f g : StackFrame) → agree f g ≡ true → merged f g ≡ f → Covers f g
+covered_by_same laws f g same unchanged = record {
+  counts = counts_agree f g same;
+  own = λ place own. met_other (word_at f place) (word_at g place) (sym (laws.meets f g place same) ∙ ap (λ (h : StackFrame). word_at h place) unchanged ∙ own);
+}
+
+pub flows_same : FrameLaws → (known : Known) (p : Procedure) (to i : ℕ) (g : StackFrame) → (at : IsPointAt known.points p to i) → IsSmall known →
+    agree at.point.frame g ≡ true → merged at.point.frame g ≡ at.point.frame → Flows known known p to g (Ok false)
+flows_same laws known p to i g at small same unchanged = record {
+  small = small;
+  more = omega arith;
+  stands = λ code stands shown. stands;
+  goes = record { same = λ _. refl; less = λ e. absurd (true≢false (sym e)) };
+  has = λ _. record {
+    number = i; point = at.point; there = at.stands; procedure = at.in_procedure; address = at.at_address;
+    covers = covered_by_same laws at.point.frame g same unchanged;
+  };
+}
+
+merged_counts : FrameLaws → (f g : StackFrame) → agree f g ≡ true → SameCounts (merged f g) f
+merged_counts laws f g same = ((laws.covered f f (covers_self f)).meet g same).counts
+
+shown_there : (code : Code) (point : Point) (p : Procedure) (to : ℕ) (g : StackFrame) → point.procedure ≡ p → point.at ≡ to → IsShown code p to g → IsShown code point.procedure point.at g
+shown_there code point p to g procedure address shown =
+    subst (λ (q : Procedure). IsShown code q point.at g) (sym procedure) (subst (λ a. IsShown code p a g) (sym address) shown)
+
+pub flows_replaced : FrameLaws → (known : Known) (p : Procedure) (to i : ℕ) (g : StackFrame) → (at : IsPointAt known.points p to i) → IsSmall known →
+    agree at.point.frame g ≡ true → (merged at.point.frame g ≢ at.point.frame) → Flows known (replaced known i (merged at.point.frame g) at.point) p to g (Ok true)
+flows_replaced laws known p to i g at small same changed = record {
+  small = small_replaced known i (merged at.point.frame g) at.point small at.stands (merged_counts laws at.point.frame g same);
+  more = let e = length_changed known.points i (with_frame (merged at.point.frame g) at.point) in omega arith;
+  stands = λ code stands shown. stands_replaced code known i (merged at.point.frame g) at.point stands
+    (shown_merged laws code at.point.procedure at.point.at at.point.frame g (stands.points i at.point at.stands)
+      (shown_there code at.point p to g at.in_procedure at.at_address shown) same);
+  goes = record { same = λ e. absurd (true≢false e); less = λ _. goes_replaced known i (merged at.point.frame g) at.point at.stands (owns_met at.point.frame g (counts_agree at.point.frame g same) changed) };
+  has = λ e. absurd (true≢false e);
+}
+
+pub flows_differ : (known new : Known) (p : Procedure) (to i : ℕ) (g : StackFrame) → (at : IsPointAt known.points p to i) →
+    agree at.point.frame g ≡ false → Flows known new p to g (Err (HeightsDiffer to))
+flows_differ known new p to i g at apart = record {
+  small = tt; more = tt; goes = tt; has = tt;
+  stands = λ code stands shown.
+    subst (λ a. Differ code a) at.at_address
+      (differ code at.point.procedure at.point.at at.point.frame g (stands.points i at.point at.stands) (shown_there code at.point p to g at.in_procedure at.at_address shown) apart);
+}

@@ -153,7 +153,7 @@ shown_after laws code p at f found moves move target taken call exit enough = re
     } }
 
 -- frames that meet where both are shown are shown
-met_other : (a b : Word) → met a b ≡ Own → b ≡ Own
+pub met_other : (a b : Word) → met a b ≡ Own → b ≡ Own
 met_other Own b own = own
 met_other Any b own = absurd (cc)
 

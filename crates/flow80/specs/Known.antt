@@ -1,6 +1,6 @@
 -- What the verifier knows while it goes over the points: the points with their frames, and for each entry how many words
 -- its procedure takes where it returns, once a return was seen. (This project's own.)
-use Rattle.std.specs.Prelude.{◌≡◌, ◌≤◌, ◌<◌, ◌+◌, ◌*◌, ◌-◌, ℕ, Bool, true, false, List, [], ◌∷◌, length, sum_by, count_by, Option, Some, None, slice_get, is_none}
+use Rattle.std.specs.Prelude.{◌≡◌, ◌≤◌, ◌<◌, ◌+◌, ◌*◌, ◌-◌, ℕ, Bool, true, false, List, [], ◌∷◌, length, sum_by, count_by, Option, Some, None, slice_get, is_none, Result, Ok, Err, OnOk, IfOk, MatchResult}
 use Rattle.decode80.specs.declared.fetching.Fetched.{Fetched}
 use Rattle.frames80.specs.declared.word.Word.{Word}
 use Rattle.frames80.specs.declared.word.Word.TheVariants.{Own, Any}
@@ -12,7 +12,8 @@ use Rattle.flow80.specs.declared.procedure.Procedure.{Procedure}
 use Rattle.flow80.specs.declared.procedure.Procedure.TheVariants.{Main, Entry}
 use Rattle.flow80.specs.Code.{Code}
 use Rattle.flow80.specs.Walks.{Moving, LeadsTo, called, returning}
-use Rattle.flow80.specs.Faults.{most_points}
+use Rattle.flow80.specs.declared.refusal.Refusal.{Refusal}
+use Rattle.flow80.specs.Faults.{most_points, Holds as Refused}
 use Rattle.flow80.specs.Rows.{ReturnsWith}
 use Rattle.flow80.specs.Points.{Point, AreApart}
 use Rattle.flow80.specs.Shown.{IsShown}
@@ -66,7 +67,7 @@ pub record Goes (old new : Known) (changed : Bool) : Type 0 where
   pub less : changed ≡ true → weight new < weight old
 
 -- the table has a frame at a point that covers this one
-pub record Holds (known : Known) (p : Procedure) (at : ℕ) (g : StackFrame) : Type 0 where
+pub record HasPoint (known : Known) (p : Procedure) (at : ℕ) (g : StackFrame) : Type 0 where
   pub number : ℕ
   pub point : Point
   pub there : slice_get known.points number ≡ Some point
@@ -76,10 +77,19 @@ pub record Holds (known : Known) (p : Procedure) (at : ℕ) (g : StackFrame) : T
 
 -- each way that a move leads is in the table
 pub record Follows (known : Known) (p : Procedure) (f : StackFrame) (next : ℕ) (moves : Moves) : Type 0 where
-  pub on : (to : ℕ) (g : StackFrame) → LeadsTo moves next to g → Holds known p to g
-  pub enters : (target : ℕ) → called moves ≡ Some target → Holds known (Entry target) target entry_frame
-  pub after : (target taken : ℕ) → called moves ≡ Some target → exit_of known.exits target ≡ Some taken → Holds known p next (returned taken f)
+  pub on : (to : ℕ) (g : StackFrame) → LeadsTo moves next to g → HasPoint known p to g
+  pub enters : (target : ℕ) → called moves ≡ Some target → HasPoint known (Entry target) target entry_frame
+  pub after : (target taken : ℕ) → called moves ≡ Some target → exit_of known.exits target ≡ Some taken → HasPoint known p next (returned taken f)
   pub return : (taken : ℕ) → returning moves ≡ Some taken → takes_of known.exits p ≡ Some taken
+
+-- what comes of a frame that leads to a point: the table stays small and shown, it changes nothing or is nearer to its end,
+-- and where it changes nothing the frame was covered; or a refusal holds
+pub record Flows (old new : Known) (p : Procedure) (to : ℕ) (g : StackFrame) (result : Result Bool Refusal) : Type 0 where
+  pub small : OnOk result (IsSmall new)
+  pub more : OnOk result (length old.points ≤ length new.points)
+  pub stands : (code : Code) → Stands code old → IsShown code p to g → MatchResult result (λ _. Stands code new) (λ refusal. Refused code refusal)
+  pub goes : IfOk result (λ changed. Goes old new changed)
+  pub has : IfOk result (λ changed. changed ≡ false → HasPoint new p to g)
 
 -- a point is closed: its instruction moves, and each way on is in the table
 pub record IsClosed (code : Code) (known : Known) (point : Point) : Type 0 where
@@ -90,5 +100,5 @@ pub record IsClosed (code : Code) (known : Known) (point : Point) : Type 0 where
 
 -- all points are closed, and the start is among them
 pub record AllClosed (code : Code) (known : Known) : Type 0 where
-  pub start : Holds known Main code.start main_frame
+  pub start : HasPoint known Main code.start main_frame
   pub points : (i : ℕ) (point : Point) → slice_get known.points i ≡ Some point → IsClosed code known point
