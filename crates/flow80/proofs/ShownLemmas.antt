@@ -21,7 +21,7 @@ use Rattle.flow80.specs.Code.{Code}
 use Rattle.flow80.specs.Walks.{Walk, begins, goes_on, enters, comes_back, Begins, GoesOn, Calls, Enters, Returns, GoesOnAfter, Moving, LeadsTo, called, returning, role_of}
 use Rattle.flow80.specs.Faults.{LooksWrong, MovesWrong, Differ, Uneven, Short}
 use Rattle.flow80.specs.Rows.{ReturnsWith}
-use Rattle.flow80.specs.Shown.{Query, Whole, At, MayBeAny, Shows, IsShown, FrameLaws}
+use Rattle.flow80.specs.Shown.{Query, Whole, At, MayBeAny, Shows, IsShown, AtMove, FrameLaws}
 use Rattle.flow80.proofs.MoveLemmas.{change_of, frame_after, move_with, Moved, moved_is, covered_moves, LeadsAlong, leads_along, called_along, returning_along, query_of, asked, refused_along}
 
 pub counts_back : (f g : StackFrame) → SameCounts f g → SameCounts g f
@@ -39,12 +39,6 @@ shown_self code p at f walk = record { by = λ query may. record { frame = f; wa
 
 pub shown_start : (code : Code) → IsShown code Main code.start main_frame
 shown_start code = shown_self code Main code.start main_frame (begins Main code.start main_frame (record { procedure = refl; start = refl; frame = refl }))
-
--- at a shown frame an instruction moves
-pub record AtMove (code : Code) (p : Procedure) (at : ℕ) (f : StackFrame) (found : Fetched) (moves : Moves) : Type 0 where
-  pub shown : IsShown code p at f
-  pub looked : code.look at ≡ Ok found
-  pub moved : moves_of (role_of code p) (effect_of found.instr) f ≡ Ok moves
 
 -- with a frame that it covers it moves too
 pub moving_along : FrameLaws → (code : Code) (p : Procedure) (at : ℕ) (f : StackFrame) (found : Fetched) (moves : Moves) → AtMove code p at f found moves →

@@ -1,26 +1,32 @@
 -- What the verifier knows while it goes over the points: the points with their frames, and for each entry how many words
 -- its procedure takes where it returns, once a return was seen. (This project's own.)
-use Rattle.std.specs.Prelude.{◌≡◌, ◌≤◌, ◌<◌, ◌+◌, ◌*◌, ◌-◌, ℕ, Bool, true, false, List, [], ◌∷◌, length, sum_by, count_by, Option, Some, None, slice_get, is_none, Result, Ok, Err, OnOk, IfOk, MatchResult}
+use Rattle.std.specs.Prelude.{◌≡◌, ◌≤◌, ◌<◌, ◌+◌, ◌*◌, ◌-◌, ℕ, Bool, true, false, List, [], ◌∷◌, length, sum_by, count_by, Option, Some, None, slice_get, is_none, replicate, Result, Ok, Err, OnOk, IfOk, MatchResult}
 use Rattle.decode80.specs.declared.fetching.Fetched.{Fetched}
 use Rattle.frames80.specs.declared.word.Word.{Word}
 use Rattle.frames80.specs.declared.word.Word.TheVariants.{Own, Any}
+use Rattle.frames80.specs.declared.role.Role.{Role}
 use Rattle.frames80.specs.declared.moves.Moves.{Moves}
+use Rattle.frames80.specs.declared.moves.Moves.TheVariants.{End, On, Jump, Either, Call, MaybeCall, Return, MaybeReturn}
 use Rattle.frames80.specs.StackFrame.{StackFrame, entry_frame, main_frame}
 use Rattle.frames80.specs.Calls.{returned}
 use Rattle.frames80.specs.Places.{Covers}
 use Rattle.flow80.specs.declared.procedure.Procedure.{Procedure}
 use Rattle.flow80.specs.declared.procedure.Procedure.TheVariants.{Main, Entry}
 use Rattle.flow80.specs.Code.{Code}
-use Rattle.flow80.specs.Walks.{Moving, LeadsTo, called, returning}
+use Rattle.flow80.specs.Walks.{Moving, LeadsTo, called, returning, role_of}
 use Rattle.flow80.specs.declared.refusal.Refusal.{Refusal}
 use Rattle.flow80.specs.Faults.{most_points, Holds as Refused}
 use Rattle.flow80.specs.Rows.{ReturnsWith}
 use Rattle.flow80.specs.Points.{Point, AreApart}
-use Rattle.flow80.specs.Shown.{IsShown}
+use Rattle.flow80.specs.Shown.{IsShown, AtMove}
 
 pub record Known : Type 0 where
   pub points : List Point
   pub exits : List (Option ℕ)
+
+-- nothing is known yet
+abbrev pub nothing_known : Known
+nothing_known = record { points = []; exits = replicate 65536 None }
 
 -- how many words a procedure takes where it returns, once a return was seen
 abbrev pub known_at : Option (Option ℕ) → Option ℕ
@@ -90,6 +96,37 @@ pub record Flows (old new : Known) (p : Procedure) (to : ℕ) (g : StackFrame) (
   pub stands : (code : Code) → Stands code old → IsShown code p to g → MatchResult result (λ _. Stands code new) (λ refusal. Refused code refusal)
   pub goes : IfOk result (λ changed. Goes old new changed)
   pub has : IfOk result (λ changed. changed ≡ false → HasPoint new p to g)
+
+-- the frames that a move carries have no more words than so many
+abbrev pub AreWithin : ℕ → Moves → Type 0
+AreWithin most End = Unit {0}
+AreWithin most (On f) = IsWithin most f
+AreWithin most (Jump f _) = IsWithin most f
+AreWithin most (Either f _) = IsWithin most f
+AreWithin most (Call f _) = IsWithin most f
+AreWithin most (MaybeCall f _) = IsWithin most f
+AreWithin most (Return _) = Unit {0}
+AreWithin most (MaybeReturn f _) = IsWithin most f
+
+-- a call carries the caller's frame
+abbrev pub Carries : Moves → StackFrame → Type 0
+Carries (Call g _) f = g ≡ f
+Carries (MaybeCall g _) f = g ≡ f
+Carries End f = Unit {0}
+Carries (On _) f = Unit {0}
+Carries (Jump _ _) f = Unit {0}
+Carries (Either _ _) f = Unit {0}
+Carries (Return _) f = Unit {0}
+Carries (MaybeReturn _ _) f = Unit {0}
+
+-- what comes of a point's move: as of one frame, for each way that it leads
+pub record Steps (old new : Known) (p : Procedure) (at next : ℕ) (role : Role) (moves : Moves) (result : Result Bool Refusal) : Type 0 where
+  pub small : OnOk result (IsSmall new)
+  pub more : OnOk result (length old.points ≤ length new.points)
+  pub stands : (code : Code) (f : StackFrame) (found : Fetched) → Stands code old → AtMove code p at f found moves → Carries moves f → found.next ≡ next → role ≡ role_of code p →
+    MatchResult result (λ _. Stands code new) (λ refusal. Refused code refusal)
+  pub goes : IfOk result (λ changed. Goes old new changed)
+  pub follows : IfOk result (λ changed. changed ≡ false → (f : StackFrame) → Carries moves f → Follows new p f next moves)
 
 -- a point is closed: its instruction moves, and each way on is in the table
 pub record IsClosed (code : Code) (known : Known) (point : Point) : Type 0 where

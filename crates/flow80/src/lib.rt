@@ -8,8 +8,10 @@
 //! | [`Report`], [`ProcRow`] | what is found of a program that is accepted |
 #![tactic(auto)]
 
+mod callers;
 mod code;
 mod graph;
+mod laws;
 mod procedure;
 mod refusal;
 mod report;
