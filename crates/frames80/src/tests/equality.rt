@@ -1,8 +1,8 @@
 //! Frames as keys of a set.
 
 use super::frame_of;
-use crate::Frame;
 use crate::Word::{Any, Own};
+use crate::{Frame, Word};
 use std::collections::HashSet;
 use std::test::Fail;
 
@@ -10,16 +10,21 @@ use std::test::Fail;
 #[test]
 fn frames_are_keys(rt: HostRuntime) -> Result<(), Fail> {
     let mut set: HashSet<Frame> = HashSet::new(rt.alloc());
-    let frame = frame_of(rt.alloc(), 1, &[Own, Any], [Any, Own, Any])?;
-    assert!(rt; set.insert(frame.copy(rt.alloc())?)?);
-    assert!(rt; !set.insert(frame.copy(rt.alloc())?)?);
-    assert!(rt; set.insert(frame_of(rt.alloc(), 2, &[Own, Any], [Any, Own, Any])?)?);
-    assert!(rt; set.insert(frame_of(rt.alloc(), 1, &[Any, Own], [Any, Own, Any])?)?);
-    assert!(rt; set.insert(frame_of(rt.alloc(), 1, &[Own], [Any, Own, Any])?)?);
-    assert!(rt; set.insert(frame_of(rt.alloc(), 1, &[Own, Any], [Own, Own, Any])?)?);
-    assert!(rt; set.insert(frame_of(rt.alloc(), 1, &[Own, Any], [Any, Any, Any])?)?);
-    assert!(rt; set.insert(frame_of(rt.alloc(), 1, &[Own, Any], [Any, Own, Own])?)?);
-    assert!(rt; set.contains(&frame));
-    assert_eq!(rt; set.len(), 7);
+    let rows: [(u32, &[Word], [Word; 3], bool); 8] = [
+        (1, &[Own, Any], [Any, Own, Any], true),
+        (1, &[Own, Any], [Any, Own, Any], false),
+        (2, &[Own, Any], [Any, Own, Any], true),
+        (1, &[Any, Own], [Any, Own, Any], true),
+        (1, &[Own], [Any, Own, Any], true),
+        (1, &[Own, Any], [Own, Own, Any], true),
+        (1, &[Own, Any], [Any, Any, Any], true),
+        (1, &[Own, Any], [Any, Own, Own], true),
+    ];
+    for (taken, words, pairs, new) in rows {
+        let frame = frame_of(rt.alloc(), taken, words, pairs)?;
+        let same = frame.copy(rt.alloc())?;
+        assert_eq!(rt; set.insert(frame)?, new);
+        assert!(rt; set.contains(&same));
+    }
     Ok(())
 }

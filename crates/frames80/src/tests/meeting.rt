@@ -3,56 +3,111 @@
 use super::{MAIN, assert_frame, frame_of, stepped};
 use crate::Role::Entry;
 use crate::Word::{Any, Own};
-use crate::{HeightsDiffer, Word, after, meet};
+use crate::{HeightsDiffer, Role, Word, after, meet};
 use std::test::Fail;
 
-/// PUSH and POP of BC, DE and HL carry the return address, PSW doesn't.
+/// Words taken, own words from bottom to top, and BC, DE and HL.
+type Parts = (u32, &'static [Word], [Word; 3]);
+
+/// First bytes, before 00 32, and what they make of a frame.
+const ROWS: [(u8, Role, Parts, Parts); 14] = [
+    // PUSH and POP of BC, DE and HL carry the return address; PSW doesn't.
+    (
+        0xC5,
+        Entry,
+        (0, &[], [Own, Any, Any]),
+        (0, &[Own], [Own, Any, Any]),
+    ),
+    (
+        0xD5,
+        Entry,
+        (0, &[], [Any, Own, Any]),
+        (0, &[Own], [Any, Own, Any]),
+    ),
+    (
+        0xE5,
+        Entry,
+        (0, &[], [Any, Any, Own]),
+        (0, &[Own], [Any, Any, Own]),
+    ),
+    (
+        0xC1,
+        Entry,
+        (0, &[Own], [Any, Any, Any]),
+        (0, &[], [Own, Any, Any]),
+    ),
+    (
+        0xD1,
+        Entry,
+        (0, &[Own], [Any, Any, Any]),
+        (0, &[], [Any, Own, Any]),
+    ),
+    (
+        0xE1,
+        Entry,
+        (0, &[Own], [Any, Any, Any]),
+        (0, &[], [Any, Any, Own]),
+    ),
+    (
+        0xF5,
+        Entry,
+        (0, &[Own], [Own, Own, Own]),
+        (0, &[Own, Any], [Own, Own, Own]),
+    ),
+    (
+        0xF1,
+        Entry,
+        (0, &[Own], [Own, Own, Own]),
+        (0, &[], [Own, Own, Own]),
+    ),
+    // POP B of no words takes one from beneath.
+    (
+        0xC1,
+        Entry,
+        (1, &[], [Own, Any, Any]),
+        (2, &[], [Any, Any, Any]),
+    ),
+    // XTHL exchanges HL with the top; with no words it takes one from beneath. XCHG exchanges DE and HL.
+    (
+        0xE3,
+        Entry,
+        (0, &[Own], [Any, Own, Any]),
+        (0, &[Any], [Any, Own, Own]),
+    ),
+    (
+        0xE3,
+        Entry,
+        (0, &[], [Any, Any, Own]),
+        (1, &[Own], [Any, Any, Any]),
+    ),
+    (
+        0xEB,
+        Entry,
+        (0, &[Own], [Any, Own, Any]),
+        (0, &[Own], [Any, Any, Own]),
+    ),
+    // MOV D,D forgets DE; LXI SP,3200 leaves the main program no words.
+    (
+        0x52,
+        Entry,
+        (0, &[Own], [Own, Own, Own]),
+        (0, &[Own], [Own, Any, Own]),
+    ),
+    (
+        0x31,
+        MAIN,
+        (0, &[Any, Any], [Any, Any, Any]),
+        (0, &[], [Any, Any, Any]),
+    ),
+];
+
 #[test]
-fn a_word_is_pushed_and_popped(rt: HostRuntime) -> Result<(), Fail> {
-    let rows = [
-        (0xC5, 0xC1, [Own, Any, Any]),
-        (0xD5, 0xD1, [Any, Own, Any]),
-        (0xE5, 0xE1, [Any, Any, Own]),
-    ];
-    for (push, pop, pairs) in rows {
-        let frame = frame_of(rt.alloc(), 0, &[], pairs)?;
-        let pushed = stepped(&rt, rt.alloc(), &frame, [push, 0x00, 0x00], Entry)?;
-        assert_frame(&rt, &pushed, 0, &[Own], pairs);
-        let other = frame_of(rt.alloc(), 0, &[Own], [Any, Any, Any])?;
-        let popped = stepped(&rt, rt.alloc(), &other, [pop, 0x00, 0x00], Entry)?;
-        assert_frame(&rt, &popped, 0, &[], pairs);
+fn words_go_to_their_places(rt: HostRuntime) -> Result<(), Fail> {
+    for (first, role, (taken, words, pairs), (taken_after, words_after, pairs_after)) in ROWS {
+        let frame = frame_of(rt.alloc(), taken, words, pairs)?;
+        let after = stepped(&rt, rt.alloc(), &frame, [first, 0x00, 0x32], role)?;
+        assert_frame(&rt, &after, taken_after, words_after, pairs_after);
     }
-    let frame = frame_of(rt.alloc(), 0, &[Own], [Own, Own, Own])?;
-    let pushed = stepped(&rt, rt.alloc(), &frame, [0xF5, 0x00, 0x00], Entry)?;
-    assert_frame(&rt, &pushed, 0, &[Own, Any], [Own, Own, Own]);
-    let popped = stepped(&rt, rt.alloc(), &frame, [0xF1, 0x00, 0x00], Entry)?;
-    assert_frame(&rt, &popped, 0, &[], [Own, Own, Own]);
-    Ok(())
-}
-
-/// XTHL exchanges HL with the top; with no words it takes one from beneath. XCHG exchanges DE and HL.
-#[test]
-fn words_are_exchanged(rt: HostRuntime) -> Result<(), Fail> {
-    let frame = frame_of(rt.alloc(), 0, &[Own], [Any, Own, Any])?;
-    let after = stepped(&rt, rt.alloc(), &frame, [0xE3, 0x00, 0x00], Entry)?;
-    assert_frame(&rt, &after, 0, &[Any], [Any, Own, Own]);
-    let after = stepped(&rt, rt.alloc(), &frame, [0xEB, 0x00, 0x00], Entry)?;
-    assert_frame(&rt, &after, 0, &[Own], [Any, Any, Own]);
-    let frame = frame_of(rt.alloc(), 0, &[], [Any, Any, Own])?;
-    let after = stepped(&rt, rt.alloc(), &frame, [0xE3, 0x00, 0x00], Entry)?;
-    assert_frame(&rt, &after, 1, &[Own], [Any, Any, Any]);
-    Ok(())
-}
-
-/// LXI SP with the stack's top leaves the main program no words; MOV D,D forgets DE; RZ goes on with the frame unchanged.
-#[test]
-fn words_are_lost(rt: HostRuntime) -> Result<(), Fail> {
-    let frame = frame_of(rt.alloc(), 0, &[Any, Any], [Any, Any, Any])?;
-    let after = stepped(&rt, rt.alloc(), &frame, [0x31, 0x00, 0x32], MAIN)?;
-    assert_frame(&rt, &after, 0, &[], [Any, Any, Any]);
-    let frame = frame_of(rt.alloc(), 0, &[Own], [Own, Own, Own])?;
-    let after = stepped(&rt, rt.alloc(), &frame, [0x52, 0x00, 0x00], Entry)?;
-    assert_frame(&rt, &after, 0, &[Own], [Own, Any, Own]);
     Ok(())
 }
 

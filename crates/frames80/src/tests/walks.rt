@@ -4,6 +4,7 @@ use super::{MAIN, assert_frame, frame_of, kind, moved, stepped};
 use crate::Role::Entry;
 use crate::Word::{Any, Own};
 use crate::{Frame, Word, after, depth};
+use std::alloc::Global;
 use std::process::Abort;
 use std::test::Fail;
 
@@ -41,10 +42,10 @@ fn a_callee_takes_one_word(rt: HostRuntime) -> Result<(), Fail> {
 /// LXI SP,3200, LXI H,0005, PUSH H, CALL 300B of a procedure that takes one word, HLT.
 #[test]
 fn its_caller_loses_the_word(rt: HostRuntime) -> Result<(), Fail> {
-    let start = Frame::main_entry(rt.alloc())?;
-    let frame = stepped(&rt, rt.alloc(), &start, [0x31, 0x00, 0x32], MAIN)?;
-    let frame = stepped(&rt, rt.alloc(), &frame, [0x21, 0x05, 0x00], MAIN)?;
-    let frame = stepped(&rt, rt.alloc(), &frame, [0xE5, 0x00, 0x00], MAIN)?;
+    let mut frame = Frame::main_entry(rt.alloc())?;
+    for bytes in [[0x31, 0x00, 0x32], [0x21, 0x05, 0x00], [0xE5, 0x00, 0x00]] {
+        frame = stepped(&rt, rt.alloc(), &frame, bytes, MAIN)?;
+    }
     assert_frame(&rt, &frame, 0, &[Any], [Any, Any, Any]);
     let call = moved(&rt, rt.alloc(), &frame, [0xCD, 0x0B, 0x30], MAIN)?;
     assert_eq!(rt; kind(&call), ("call", 0x300B));
@@ -58,19 +59,23 @@ fn its_caller_loses_the_word(rt: HostRuntime) -> Result<(), Fail> {
     Ok(())
 }
 
+/// The return of an entry after instructions of one byte each.
+fn return_after(rt: &impl Abort, alloc: Global, walk: &[u8]) -> Result<(&'static str, u32), Fail> {
+    let mut frame = Frame::entry(alloc)?;
+    for first in walk {
+        frame = stepped(rt, alloc, &frame, [*first, 0x00, 0x00], Entry)?;
+    }
+    let last = moved(rt, alloc, &frame, [0xC9, 0x00, 0x00], Entry)?;
+    Ok(kind(&last))
+}
+
 /// POP D, POP B, and then either POP B, PUSH D, RET or PUSH D, RET: the returns take two words and one.
 #[test]
 fn two_returns_take_two_words_and_one(rt: HostRuntime) -> Result<(), Fail> {
-    let start = Frame::entry(rt.alloc())?;
-    let frame = stepped(&rt, rt.alloc(), &start, [0xD1, 0x00, 0x00], Entry)?;
-    let fork = stepped(&rt, rt.alloc(), &frame, [0xC1, 0x00, 0x00], Entry)?;
-    let frame = stepped(&rt, rt.alloc(), &fork, [0xC1, 0x00, 0x00], Entry)?;
-    let first = stepped(&rt, rt.alloc(), &frame, [0xD5, 0x00, 0x00], Entry)?;
-    let second = stepped(&rt, rt.alloc(), &fork, [0xD5, 0x00, 0x00], Entry)?;
-    let first = moved(&rt, rt.alloc(), &first, [0xC9, 0x00, 0x00], Entry)?;
-    assert_eq!(rt; kind(&first), ("return", 2));
-    let second = moved(&rt, rt.alloc(), &second, [0xC9, 0x00, 0x00], Entry)?;
-    assert_eq!(rt; kind(&second), ("return", 1));
+    let first = return_after(&rt, rt.alloc(), &[0xD1, 0xC1, 0xC1, 0xD5])?;
+    assert_eq!(rt; first, ("return", 2));
+    let second = return_after(&rt, rt.alloc(), &[0xD1, 0xC1, 0xD5])?;
+    assert_eq!(rt; second, ("return", 1));
     Ok(())
 }
 
