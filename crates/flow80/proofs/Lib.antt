@@ -3,3 +3,4 @@ pub mod ShownLemmas
 pub mod FitLemmas
 pub mod Slices
 pub mod KnownLemmas
+pub mod StepLemmas
