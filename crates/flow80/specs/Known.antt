@@ -86,7 +86,7 @@ pub record Follows (known : Known) (p : Procedure) (f : StackFrame) (next : ℕ)
   pub on : (to : ℕ) (g : StackFrame) → LeadsTo moves next to g → HasPoint known p to g
   pub enters : (target : ℕ) → called moves ≡ Some target → HasPoint known (Entry target) target entry_frame
   pub after : (target taken : ℕ) → called moves ≡ Some target → exit_of known.exits target ≡ Some taken → HasPoint known p next (returned taken f)
-  pub return : (taken : ℕ) → returning moves ≡ Some taken → takes_of known.exits p ≡ Some taken
+  pub return : (entry taken : ℕ) → p ≡ Entry entry → returning moves ≡ Some taken → exit_of known.exits entry ≡ Some taken
 
 -- what comes of a frame that leads to a point: the table stays small and shown, it changes nothing or is nearer to its end,
 -- and where it changes nothing the frame was covered; or a refusal holds
@@ -127,6 +127,25 @@ pub record Steps (old new : Known) (p : Procedure) (at next : ℕ) (role : Role)
     MatchResult result (λ _. Stands code new) (λ refusal. Refused code refusal)
   pub goes : IfOk result (λ changed. Goes old new changed)
   pub follows : IfOk result (λ changed. changed ≡ false → (f : StackFrame) → Carries moves f → Follows new p f next moves)
+
+-- what comes of a return with so many words taken
+pub record Exits (old new : Known) (p : Procedure) (at taken : ℕ) (result : Result Bool Refusal) : Type 0 where
+  pub small : OnOk result (IsSmall new)
+  pub more : OnOk result (length old.points ≤ length new.points)
+  pub stands : (code : Code) → Stands code old → (returns : ReturnsWith code p taken) → returns.at ≡ at →
+    MatchResult result (λ _. Stands code new) (λ refusal. Refused code refusal)
+  pub goes : IfOk result (λ changed. Goes old new changed)
+  pub has : IfOk result (λ changed. changed ≡ false → (entry : ℕ) → p ≡ Entry entry → exit_of new.exits entry ≡ Some taken)
+
+-- what comes of a call
+pub record CallsOut (old new : Known) (p : Procedure) (at next : ℕ) (role : Role) (g : StackFrame) (target : ℕ) (result : Result Bool Refusal) : Type 0 where
+  pub small : OnOk result (IsSmall new)
+  pub more : OnOk result (length old.points ≤ length new.points)
+  pub stands : (code : Code) (found : Fetched) (moves : Moves) → Stands code old → AtMove code p at g found moves → called moves ≡ Some target → found.next ≡ next → role ≡ role_of code p →
+    MatchResult result (λ _. Stands code new) (λ refusal. Refused code refusal)
+  pub goes : IfOk result (λ changed. Goes old new changed)
+  pub enters : IfOk result (λ changed. changed ≡ false → HasPoint new (Entry target) target entry_frame)
+  pub after : IfOk result (λ changed. changed ≡ false → (taken : ℕ) → exit_of new.exits target ≡ Some taken → HasPoint new p next (returned taken g))
 
 -- a point is closed: its instruction moves, and each way on is in the table
 pub record IsClosed (code : Code) (known : Known) (point : Point) : Type 0 where
