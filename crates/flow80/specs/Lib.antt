@@ -7,3 +7,4 @@ pub mod Fitting
 pub mod Rows
 pub mod Points
 pub mod Graph
+pub mod Interned

@@ -10,6 +10,7 @@
 
 mod code;
 mod graph;
+mod interned;
 mod procedure;
 mod refusal;
 mod report;
