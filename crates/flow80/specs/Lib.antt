@@ -8,3 +8,5 @@ pub mod Rows
 pub mod Points
 pub mod Graph
 pub mod Interned
+pub mod Pages
+pub mod PointStore

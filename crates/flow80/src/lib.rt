@@ -11,6 +11,8 @@
 mod code;
 mod graph;
 mod interned;
+mod pages;
+mod points;
 mod procedure;
 mod refusal;
 mod report;
