@@ -51,16 +51,16 @@ over code table fits p at f has found moves moving =
     let effect = effect_of found.instr in
     let same : here.found ≡ found = found_same (code.look at) here.found found here.moving.looked moving.looked in
     let there : here.moves ≡ move_with effect has.frame =
-          (moved_is (role_of code p) effect has.frame here.moves
-            (subst (λ (x : Fetched). moves_of (role_of code p) (effect_of x.instr) has.frame ≡ Ok here.moves) same here.moving.moved)).move in
+    (moved_is (role_of code p) effect has.frame here.moves
+    (subst (λ (x : Fetched). moves_of (role_of code p) (effect_of x.instr) has.frame ≡ Ok here.moves) same here.moving.moved)).move in
     record {
       frame = has.frame;
       covers = has.covers;
       move = (moved_is (role_of code p) effect f moves moving.moved).move;
       on = subst (λ (m : Moves). (to : ℕ) (g : StackFrame) → LeadsTo m found.next to g → Has table p to g) there
-        (subst (λ (x : Fetched). (to : ℕ) (g : StackFrame) → LeadsTo here.moves x.next to g → Has table p to g) same here.on);
+          (subst (λ (x : Fetched). (to : ℕ) (g : StackFrame) → LeadsTo here.moves x.next to g → Has table p to g) same here.on);
       call = subst (λ (m : Moves). (target : ℕ) → called m ≡ Some target → CallFits code table p found.next has.frame target) there
-        (subst (λ (x : Fetched). (target : ℕ) → called here.moves ≡ Some target → CallFits code table p x.next has.frame target) same here.call);
+          (subst (λ (x : Fetched). (target : ℕ) → called here.moves ≡ Some target → CallFits code table p x.next has.frame target) same here.call);
       return = subst (λ (m : Moves). (taken : ℕ) → returning m ≡ Some taken → table.takes p ≡ Some taken) there here.return;
     }
 
@@ -69,10 +69,12 @@ call_fits : (code : Code) (table : Table) → Fits code table → (p : Procedure
     (call : Calls code p at f target next) → (F : StackFrame) × (Covers F f) × (CallFits code table p next F target)
 call_fits code table fits p at f has target next call =
     let o = over code table fits p at f has call.found call.moves call.moving in
-    let effect = effect_of call.found.instr in
-    (o.frame, o.covers,
-     subst (λ n. CallFits code table p n o.frame target) (sym call.after)
-       (o.call target (called_along effect o.frame f ∙ ap called (sym o.move) ∙ call.call)))
+    let effect = effect_of call.found.instr in (
+      o.frame,
+      o.covers,
+      subst (λ n. CallFits code table p n o.frame target) (sym call.after)
+          (o.call target (called_along effect o.frame f ∙ ap called (sym o.move) ∙ call.call)),
+    )
 
 -- the table's number of words taken is that of any walk that returns
 takes_of : (code : Code) (table : Table) → Fits code table → (p : Procedure) (at : ℕ) (f : StackFrame) → Has table p at f → (taken : ℕ) →
@@ -86,25 +88,25 @@ takes_of code table fits p at f has taken returns =
 pub covers_walks : FrameLaws → (code : Code) (table : Table) → Fits code table → (p : Procedure) (at : ℕ) (g : StackFrame) → Walk code p at g → Has table p at g
 covers_walks laws code table fits p at g (begins _ _ _ is) =
     subst (λ (q : Procedure). Has table q at g) (sym is.procedure)
-      (subst (λ a. Has table Main a g) (sym is.start) (subst (λ (f : StackFrame). Has table Main code.start f) (sym is.frame) fits.start))
+    (subst (λ a. Has table Main a g) (sym is.start) (subst (λ (f : StackFrame). Has table Main code.start f) (sym is.frame) fits.start))
 covers_walks laws code table fits p to g (goes_on _ at f _ _ walk step) =
     let o = over code table fits p at f (covers_walks laws code table fits p at f walk) step.found step.moves step.moving in
     let effect = effect_of step.found.instr in
     let along : LeadsAlong effect f o.frame step.found.next to g =
-          leads_along effect f o.frame step.found.next to g (subst (λ (m : Moves). LeadsTo m step.found.next to g) o.move step.leads) in
+    leads_along effect f o.frame step.found.next to g (subst (λ (m : Moves). LeadsTo m step.found.next to g) o.move step.leads) in
     let after : Has table p to (frame_after effect f) =
-          has_then table p to (frame_after effect o.frame) (frame_after effect f) (o.on to (frame_after effect o.frame) along.other)
-            ((laws.covered o.frame f o.covers).change (change_of effect)) in
+    has_then table p to (frame_after effect o.frame) (frame_after effect f) (o.on to (frame_after effect o.frame) along.other)
+    ((laws.covered o.frame f o.covers).change (change_of effect)) in
     subst (λ (h : StackFrame). Has table p to h) (sym along.frame) after
 covers_walks laws code table fits q start g (enters p at f target next _ _ _ walk call is) =
     let c = call_fits code table fits p at f (covers_walks laws code table fits p at f walk) target next call in
     subst (λ (r : Procedure). Has table r start g) (sym is.procedure)
-      (subst (λ a. Has table (Entry target) a g) (sym is.start) (subst (λ (h : StackFrame). Has table (Entry target) target h) (sym is.frame) c.2.enters))
+    (subst (λ a. Has table (Entry target) a g) (sym is.start) (subst (λ (h : StackFrame). Has table (Entry target) target h) (sym is.frame) c.2.enters))
 covers_walks laws code table fits p next g (comes_back _ at f target _ exit h taken _ walk call callee returns after) =
     let c = call_fits code table fits p at f (covers_walks laws code table fits p at f walk) target next call in
     let takes = takes_of code table fits (Entry target) exit h (covers_walks laws code table fits (Entry target) exit h callee) taken returns in
     let back : Has table p next (returned taken f) =
-          has_then table p next (returned taken c.0) (returned taken f) (c.2.after taken takes) ((laws.covered c.0 f c.1).return taken) in
+    has_then table p next (returned taken c.0) (returned taken f) (c.2.after taken takes) ((laws.covered c.0 f c.1).return taken) in
     subst (λ (x : StackFrame). Has table p next x) (sym after.frame) back
 
 -- so no walk is at a fault
@@ -121,7 +123,7 @@ no_move_fault laws code table fits at fault wrong =
     let same : here.found ≡ wrong.found = found_same (code.look at) here.found wrong.found here.moving.looked wrong.looked in
     let effect = effect_of wrong.found.instr in
     let moved : moves_of (role_of code wrong.procedure) effect has.frame ≡ Ok here.moves =
-          subst (λ (x : Fetched). moves_of (role_of code wrong.procedure) (effect_of x.instr) has.frame ≡ Ok here.moves) same here.moving.moved in
+    subst (λ (x : Fetched). moves_of (role_of code wrong.procedure) (effect_of x.instr) has.frame ≡ Ok here.moves) same here.moving.moved in
     let along = covered_moves laws (role_of code wrong.procedure) effect has.frame wrong.frame here.moves has.covers moved in
     not_moved (moves_of (role_of code wrong.procedure) effect wrong.frame) (move_with effect wrong.frame) fault along wrong.moved
 
@@ -160,5 +162,5 @@ no_short laws code table fits at s =
     let c = call_fits code table fits s.procedure at s.frame (covers_walks laws code table fits s.procedure at s.frame s.walk) s.target s.next s.call in
     let wants = wants_above laws code table fits (Entry s.target) s.inside s.callee s.walk_callee in
     let enough : table.wants (Entry s.target) ≤ room (role_of code s.procedure) s.frame.words =
-          subst (λ n. table.wants (Entry s.target) ≤ n) ((laws.counts c.0 s.frame c.1.counts).room (role_of code s.procedure)) c.2.words in
+    subst (λ n. table.wants (Entry s.target) ≤ n) ((laws.counts c.0 s.frame c.1.counts).room (role_of code s.procedure)) c.2.words in
     let less = s.short in omega arith

@@ -39,7 +39,7 @@ pub apart_added : (points : List Point) (new : Point) → AreApart points → Is
 apart_added points new apart none = record { apart = λ i j a b one other p at. by i j a b p at (grown points new i a one) (grown points new j b other) }
   where
     by : (i j : ℕ) (a b : Point) → a.procedure ≡ b.procedure → a.at ≡ b.at →
-      (slice_get points i ≡ Some a) ⊎ IsLast points new i a → (slice_get points j ≡ Some b) ⊎ IsLast points new j b → i ≡ j
+        (slice_get points i ≡ Some a) ⊎ IsLast points new i a → (slice_get points j ≡ Some b) ⊎ IsLast points new j b → i ≡ j
     by i j a b p at (inl one) (inl other) = apart.apart i j a b one other p at
     by i j a b p at (inl one) (inr other) = absurd (none.none i a one (p ∙ ap (λ (x : Point). x.procedure) other.is) (at ∙ ap (λ (x : Point). x.at) other.is))
     by i j a b p at (inr one) (inl other) = absurd (none.none j b other (sym p ∙ ap (λ (x : Point). x.procedure) one.is) (sym at ∙ ap (λ (x : Point). x.at) one.is))
@@ -51,7 +51,7 @@ small_added known new small room fits none = record {
   points = rw (length_grown known.points new) (omega arith);
   frames = λ i point is. rw (length_grown known.points new) (by i point (grown known.points new i point is));
   apart = apart_added known.points new small.apart none;
-  }
+}
   where
     by : (i : ℕ) (point : Point) → (slice_get known.points i ≡ Some point) ⊎ IsLast known.points new i point → IsWithin (length known.points + 1) point.frame
     by i point (inl before) = within_more (length known.points) (length known.points + 1) point.frame (omega arith) (small.frames i point before)
@@ -82,12 +82,12 @@ goes_added known new room fits =
     let most = owns_most new.frame in
     let words = fits.words in
     let points : sum_by (λ (p : Point). owns p.frame) (known.points ++ new ∷ []) ≡ sum_by (λ (p : Point). owns p.frame) known.points + owns new.frame =
-          sum_by_push (λ (p : Point). owns p.frame) known.points new in
+    sum_by_push (λ (p : Point). owns p.frame) known.points new in
     let long = length_grown known.points new in
     rw (points, long) (falls (sum_by (λ (p : Point). owns p.frame) known.points) (owns new.frame) (length known.points) (count_by is_none known.exits) room (omega arith))
   where
     falls : (sum own n rest : ℕ) → n < most_points → own ≤ n + 4 →
-      ((sum + own) + (most_points - (n + 1)) * (most_points + 8)) + rest < (sum + (most_points - n) * (most_points + 8)) + rest
+        ((sum + own) + (most_points - (n + 1)) * (most_points + 8)) + rest < (sum + (most_points - n) * (most_points + 8)) + rest
     falls sum own n rest room few = omega arith
 
 -- a point's frame is replaced by one with the same counts
@@ -108,25 +108,29 @@ small_replaced known at frame point small there same = record {
   points = rw long small.points;
   frames = λ i p is. rw long (by i p (changed_at known.points at (with_frame frame point) i p is));
   apart = record { apart = λ i j a b one other p a_at. apart i j a b p a_at (changed_at known.points at (with_frame frame point) i a one) (changed_at known.points at (with_frame frame point) j b other) };
-  }
+}
   where
     long : length (slice_set known.points at (with_frame frame point)) ≡ length known.points
     long = length_changed known.points at (with_frame frame point)
+
     here_within : IsWithin (length known.points) frame
     here_within = let w = small.frames at point there in
-      record { taken = let t = w.taken in let s = same.taken in omega arith; words = let t = w.words in let s = same.words in omega arith }
+        record { taken = let t = w.taken in let s = same.taken in omega arith; words = let t = w.words in let s = same.words in omega arith }
+
     by : (i : ℕ) (p : Point) → ((i ≡ at) × (p ≡ with_frame frame point)) ⊎ IsOther known.points at i p → IsWithin (length known.points) p.frame
     by i p (inl here) = subst (λ (q : Point). IsWithin (length known.points) q.frame) (sym here.1) here_within
     by i p (inr other) = small.frames i p other.before
+
     was : (i : ℕ) (p : Point) → ((i ≡ at) × (p ≡ with_frame frame point)) ⊎ IsOther known.points at i p → (q : Point) × (slice_get known.points i ≡ Some q) × (q.procedure ≡ p.procedure) × (q.at ≡ p.at)
     was i p (inl here) = (point, subst (λ k. slice_get known.points k ≡ Some point) (sym here.0) there, ap (λ (x : Point). x.procedure) (sym here.1), ap (λ (x : Point). x.at) (sym here.1))
     was i p (inr other) = (p, other.before, refl, refl)
+
     apart : (i j : ℕ) (a b : Point) → a.procedure ≡ b.procedure → a.at ≡ b.at →
-      ((i ≡ at) × (a ≡ with_frame frame point)) ⊎ IsOther known.points at i a → ((j ≡ at) × (b ≡ with_frame frame point)) ⊎ IsOther known.points at j b → i ≡ j
+        ((i ≡ at) × (a ≡ with_frame frame point)) ⊎ IsOther known.points at i a → ((j ≡ at) × (b ≡ with_frame frame point)) ⊎ IsOther known.points at j b → i ≡ j
     apart i j a b p a_at one other =
-      let x = was i a one in
-      let y = was j b other in
-      small.apart.apart i j x.0 y.0 x.1 y.1 (x.2 ∙ p ∙ sym y.2) (x.3 ∙ a_at ∙ sym y.3)
+        let x = was i a one in
+        let y = was j b other in
+        small.apart.apart i j x.0 y.0 x.1 y.1 (x.2 ∙ p ∙ sym y.2) (x.3 ∙ a_at ∙ sym y.3)
 
 -- where frames that meet make another one, a return address is lost
 met_owns : (a b : Word) → owns_word (met a b) ≤ owns_word a
@@ -154,7 +158,7 @@ words_same (x ∷ xs) (y ∷ ys) long same =
     let one = met_owns x y in
     let rest : sum_by owns_word (words_met xs ys) ≤ sum_by owns_word xs = words_owns xs ys (omega arith) in
     let sums : owns_word (met x y) + sum_by owns_word (words_met xs ys) ≡ owns_word x + sum_by owns_word xs =
-          sym (sum_by-cons owns_word (met x y) (words_met xs ys)) ∙ same ∙ sum_by-cons owns_word x xs in
+    sym (sum_by-cons owns_word (met x y) (words_met xs ys)) ∙ same ∙ sum_by-cons owns_word x xs in
     let head : met x y ≡ x = met_same x y (omega arith) in
     let tail : words_met xs ys ≡ xs = words_same xs ys (omega arith) (omega arith) in
     cc
@@ -167,21 +171,27 @@ owns_met f g same apart = by (owns_le)
   where
     words : sum_by owns_word (words_met f.words g.words) ≤ sum_by owns_word f.words
     words = words_owns f.words g.words same.words
+
     bc : owns_word (met f.pairs.bc g.pairs.bc) ≤ owns_word f.pairs.bc
     bc = met_owns f.pairs.bc g.pairs.bc
+
     de : owns_word (met f.pairs.de g.pairs.de) ≤ owns_word f.pairs.de
     de = met_owns f.pairs.de g.pairs.de
+
     hl : owns_word (met f.pairs.hl g.pairs.hl) ≤ owns_word f.pairs.hl
     hl = met_owns f.pairs.hl g.pairs.hl
+
     equal : owns (merged f g) ≡ owns f → merged f g ≡ f
     equal sums =
-      let e1 : words_met f.words g.words ≡ f.words = words_same f.words g.words same.words (let a = words in let b = bc in let c = de in let d = hl in omega arith) in
-      let e2 : met f.pairs.bc g.pairs.bc ≡ f.pairs.bc = met_same f.pairs.bc g.pairs.bc (let a = words in let b = bc in let c = de in let d = hl in omega arith) in
-      let e3 : met f.pairs.de g.pairs.de ≡ f.pairs.de = met_same f.pairs.de g.pairs.de (let a = words in let b = bc in let c = de in let d = hl in omega arith) in
-      let e4 : met f.pairs.hl g.pairs.hl ≡ f.pairs.hl = met_same f.pairs.hl g.pairs.hl (let a = words in let b = bc in let c = de in let d = hl in omega arith) in
-      λ i. record { taken = f.taken; words = e1 i; pairs = record { bc = e2 i; de = e3 i; hl = e4 i } }
+        let e1 : words_met f.words g.words ≡ f.words = words_same f.words g.words same.words (let a = words in let b = bc in let c = de in let d = hl in omega arith) in
+        let e2 : met f.pairs.bc g.pairs.bc ≡ f.pairs.bc = met_same f.pairs.bc g.pairs.bc (let a = words in let b = bc in let c = de in let d = hl in omega arith) in
+        let e3 : met f.pairs.de g.pairs.de ≡ f.pairs.de = met_same f.pairs.de g.pairs.de (let a = words in let b = bc in let c = de in let d = hl in omega arith) in
+        let e4 : met f.pairs.hl g.pairs.hl ≡ f.pairs.hl = met_same f.pairs.hl g.pairs.hl (let a = words in let b = bc in let c = de in let d = hl in omega arith) in
+        λ i. record { taken = f.taken; words = e1 i; pairs = record { bc = e2 i; de = e3 i; hl = e4 i } }
+
     owns_le : owns (merged f g) ≤ owns f
     owns_le = let a = words in let b = bc in let c = de in let d = hl in omega arith
+
     by : owns (merged f g) ≤ owns f → owns (merged f g) < owns f
     by le = below (owns (merged f g)) (owns f) le (λ e. apart (equal e))
 
@@ -189,10 +199,10 @@ pub goes_replaced : (known : Known) (at : ℕ) (frame : StackFrame) (point : Poi
     weight (replaced known at frame point) < weight known
 goes_replaced known at frame point there less =
     let sums : sum_by (λ (p : Point). owns p.frame) (slice_set known.points at (with_frame frame point)) + owns point.frame ≡ sum_by (λ (p : Point). owns p.frame) known.points + owns frame =
-          sum_changed (λ (p : Point). owns p.frame) known.points at point (with_frame frame point) there in
+    sum_changed (λ (p : Point). owns p.frame) known.points at point (with_frame frame point) there in
     rw (length_changed known.points at (with_frame frame point))
-      (falls (sum_by (λ (p : Point). owns p.frame) (slice_set known.points at (with_frame frame point))) (sum_by (λ (p : Point). owns p.frame) known.points)
-        (owns frame) (owns point.frame) ((most_points - length known.points) * (most_points + 8)) (count_by is_none known.exits) sums less)
+    (falls (sum_by (λ (p : Point). owns p.frame) (slice_set known.points at (with_frame frame point))) (sum_by (λ (p : Point). owns p.frame) known.points)
+    (owns frame) (owns point.frame) ((most_points - length known.points) * (most_points + 8)) (count_by is_none known.exits) sums less)
   where
     falls : (new old own had more rest : ℕ) → new + had ≡ old + own → own < had → (new + more) + rest < (old + more) + rest
     falls new old own had more rest sums less = omega arith
@@ -224,7 +234,7 @@ pub goes_exit : (known : Known) (entry taken : ℕ) → slice_get known.exits en
 goes_exit known entry taken there =
     let count = λ (x : Option ℕ). cond (is_none x) 1 0 in
     let sums : sum_by count (slice_set known.exits entry (Some taken)) + 1 ≡ sum_by count known.exits + 0 =
-          sum_changed count known.exits entry None (Some taken) there in
+    sum_changed count known.exits entry None (Some taken) there in
     falls (sum_by (λ (p : Point). owns p.frame) known.points + (most_points - length known.points) * (most_points + 8)) (sum_by count (slice_set known.exits entry (Some taken))) (sum_by count known.exits) sums
   where
     falls : (rest new old : ℕ) → new + 1 ≡ old + 0 → rest + new < rest + old
@@ -258,22 +268,24 @@ many code known new stands small full shown none = record {
   frame = λ n. (seen n).frame;
   walk = λ n _. (seen n).walk;
   apart = λ n m n_few m_few p at. apart n m n_few m_few p at (picked known.points new n) (picked known.points new m);
-  }
+}
   where
     seen_by : (n : ℕ) → (slice_get known.points n ≡ Some (pick known.points new n)) ⊎ IsPast known.points new n →
-      IsShown code (pick known.points new n).procedure (pick known.points new n).at (pick known.points new n).frame
+        IsShown code (pick known.points new n).procedure (pick known.points new n).at (pick known.points new n).frame
     seen_by n (inl there) = stands.points n (pick known.points new n) there
     seen_by n (inr past) = subst (λ (p : Point). IsShown code p.procedure p.at p.frame) (sym past.is) shown
+
     seen : (n : ℕ) → Shows code (pick known.points new n).procedure (pick known.points new n).at (pick known.points new n).frame Whole
     seen n = (seen_by n (picked known.points new n)).by Whole tt
+
     apart : (n m : ℕ) → n < most_points + 1 → m < most_points + 1 → (pick known.points new n).procedure ≡ (pick known.points new m).procedure →
-      (pick known.points new n).at ≡ (pick known.points new m).at → (slice_get known.points n ≡ Some (pick known.points new n)) ⊎ IsPast known.points new n →
-      (slice_get known.points m ≡ Some (pick known.points new m)) ⊎ IsPast known.points new m → n ≡ m
+        (pick known.points new n).at ≡ (pick known.points new m).at → (slice_get known.points n ≡ Some (pick known.points new n)) ⊎ IsPast known.points new n →
+        (slice_get known.points m ≡ Some (pick known.points new m)) ⊎ IsPast known.points new m → n ≡ m
     apart n m n_few m_few p at (inl one) (inl other) = small.apart.apart n m (pick known.points new n) (pick known.points new m) one other p at
     apart n m n_few m_few p at (inl one) (inr other) =
-      absurd (none.none n (pick known.points new n) one (p ∙ ap (λ (x : Point). x.procedure) other.is) (at ∙ ap (λ (x : Point). x.at) other.is))
+        absurd (none.none n (pick known.points new n) one (p ∙ ap (λ (x : Point). x.procedure) other.is) (at ∙ ap (λ (x : Point). x.at) other.is))
     apart n m n_few m_few p at (inr one) (inl other) =
-      absurd (none.none m (pick known.points new m) other (sym p ∙ ap (λ (x : Point). x.procedure) one.is) (sym at ∙ ap (λ (x : Point). x.at) one.is))
+        absurd (none.none m (pick known.points new m) other (sym p ∙ ap (λ (x : Point). x.procedure) one.is) (sym at ∙ ap (λ (x : Point). x.at) one.is))
     apart n m n_few m_few p at (inr one) (inr other) = let a = one.past in let b = other.past in omega arith
 
 -- what comes of a frame that leads to a point, case by case
@@ -290,7 +302,10 @@ flows_added known p to g small room fits none = record {
 pub flows_too_many : (known new : Known) (p : Procedure) (to : ℕ) (g : StackFrame) → IsSmall known → most_points ≤ length known.points →
     IsNoPoint known.points p to → Flows known new p to g (Err TooManyPoints)
 flows_too_many known new p to g small full none = record {
-  small = tt; more = tt; goes = tt; has = tt;
+  small = tt;
+  more = tt;
+  goes = tt;
+  has = tt;
   stands = λ code stands shown. many code known (record { procedure = p; at = to; frame = g }) stands small (let few = small.points in omega arith) shown none;
 }
 
@@ -312,7 +327,11 @@ flows_same laws known p to i g at small same unchanged = record {
   stands = λ code stands shown. stands;
   goes = record { same = λ _. refl; less = λ e. absurd (true≢false (sym e)) };
   has = λ _. record {
-    number = i; point = at.point; there = at.stands; procedure = at.in_procedure; address = at.at_address;
+    number = i;
+    point = at.point;
+    there = at.stands;
+    procedure = at.in_procedure;
+    address = at.at_address;
     covers = covered_by_same laws at.point.frame g same unchanged;
   };
 }
@@ -330,7 +349,7 @@ flows_replaced laws known p to i g at small same changed = record {
   small = small_replaced known i (merged at.point.frame g) at.point small at.stands (merged_counts laws at.point.frame g same);
   more = let e = length_changed known.points i (with_frame (merged at.point.frame g) at.point) in omega arith;
   stands = λ code stands shown. stands_replaced code known i (merged at.point.frame g) at.point stands
-    (shown_merged laws code at.point.procedure at.point.at at.point.frame g (stands.points i at.point at.stands)
+      (shown_merged laws code at.point.procedure at.point.at at.point.frame g (stands.points i at.point at.stands)
       (shown_there code at.point p to g at.in_procedure at.at_address shown) same);
   goes = record { same = λ e. absurd (true≢false e); less = λ _. goes_replaced known i (merged at.point.frame g) at.point at.stands (owns_met at.point.frame g (counts_agree at.point.frame g same) changed) };
   has = λ e. absurd (true≢false e);
@@ -339,8 +358,11 @@ flows_replaced laws known p to i g at small same changed = record {
 pub flows_differ : (known new : Known) (p : Procedure) (to i : ℕ) (g : StackFrame) → (at : IsPointAt known.points p to i) →
     agree at.point.frame g ≡ false → Flows known new p to g (Err (HeightsDiffer to))
 flows_differ known new p to i g at apart = record {
-  small = tt; more = tt; goes = tt; has = tt;
+  small = tt;
+  more = tt;
+  goes = tt;
+  has = tt;
   stands = λ code stands shown.
-    subst (λ a. Differ code a) at.at_address
+      subst (λ a. Differ code a) at.at_address
       (differ code at.point.procedure at.point.at at.point.frame g (stands.points i at.point at.stands) (shown_there code at.point p to g at.in_procedure at.at_address shown) apart);
 }

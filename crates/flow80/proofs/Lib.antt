@@ -4,3 +4,4 @@ pub mod FitLemmas
 pub mod Slices
 pub mod KnownLemmas
 pub mod StepLemmas
+pub mod PointLemmas

@@ -18,7 +18,7 @@ use Rattle.flow80.specs.Rows.{ReturnsWith}
 use Rattle.flow80.specs.Points.{Point}
 use Rattle.flow80.specs.Shown.{IsShown, AtMove, FrameLaws}
 use Rattle.flow80.specs.Known.{Known, IsSmall, IsWithin, Stands, weight, Goes, HasPoint, Flows, Follows, Carries, AreWithin, Steps, exit_of, Exits, CallsOut}
-use Rattle.flow80.proofs.ShownLemmas.{shown_self, shown_on, shown_entry, shown_after, exit_shown, short, uneven}
+use Rattle.flow80.proofs.ShownLemmas.{shown_self, shown_on, shown_entry, shown_after, exit_shown, exit_shown_at, taken_at_return, short, uneven}
 use Rattle.flow80.proofs.KnownLemmas.{with_exit, stands_exit, goes_exit}
 
 -- two steps, one after the other
@@ -91,7 +91,7 @@ steps_one laws old new p at next to role moves g (Ok changed) way flows = record
 }
 steps_one laws old new p at next to role moves g (Err refusal) way flows =
     steps_refused old new p at next role moves refusal
-      (λ code f found stands move carries same_next same_role. flows.stands code stands (leads_shown laws code p at f found moves move next to g same_next way.leads))
+    (λ code f found stands move carries same_next same_role. flows.stands code stands (leads_shown laws code p at f found moves move next to g same_next way.leads))
 
 pub on_way : (g : StackFrame) (next : ℕ) → OneWay (On g) next next g
 on_way g next = record { leads = (refl, refl); only = λ a h leads. leads; no_call = refl; no_return = refl }
@@ -108,7 +108,7 @@ steps_both laws old mid new p at next to role g one (Ok x) first second result o
       small = second.small;
       more = let a = first.more in let b = second.more in omega arith;
       stands = λ code f found stands move carries same_next same_role.
-        second.stands code (first.stands code stands (leads_shown laws code p at f found (Either g to) move next next g same_next (inl refl, refl)))
+          second.stands code (first.stands code stands (leads_shown laws code p at f found (Either g to) move next next g same_next (inl refl, refl)))
           (leads_shown laws code p at f found (Either g to) move next to g same_next (inr refl, refl));
       goes = goes_then old mid new one x first.goes second.goes;
       follows = λ same f carries. record {
@@ -124,9 +124,9 @@ steps_both laws old mid new p at next to role g one (Ok x) first second result o
     by no_one no_x a h (inr is) same = has_there new p to a g h (second.has no_x) is same
 steps_both laws old mid new p at next to role g one (Err r) first second result ok err =
     subst (Steps old new p at next role (Either g to)) (sym (err r refl))
-      (steps_refused old new p at next role (Either g to) r (λ code f found stands move carries same_next same_role.
-        second.stands code (first.stands code stands (leads_shown laws code p at f found (Either g to) move next next g same_next (inl refl, refl)))
-          (leads_shown laws code p at f found (Either g to) move next to g same_next (inr refl, refl))))
+    (steps_refused old new p at next role (Either g to) r (λ code f found stands move carries same_next same_role.
+    second.stands code (first.stands code stands (leads_shown laws code p at f found (Either g to) move next next g same_next (inl refl, refl)))
+    (leads_shown laws code p at f found (Either g to) move next to g same_next (inr refl, refl))))
 
 -- a return
 pub steps_return : FrameLaws → (old new : Known) (p : Procedure) (at next : ℕ) (role : Role) (taken : ℕ) (result : Result Bool Refusal) →
@@ -134,7 +134,7 @@ pub steps_return : FrameLaws → (old new : Known) (p : Procedure) (at next : �
 steps_return laws old new p at next role taken (Ok changed) exits = record {
   small = exits.small;
   more = exits.more;
-  stands = λ code f found stands move carries same_next same_role. exits.stands code stands (exit_shown laws code p at f found (Return taken) move taken refl) refl;
+  stands = λ code f found stands move carries same_next same_role. exits.stands code stands (exit_shown laws code p at f found (Return taken) move taken refl) (exit_shown_at laws code p at f found (Return taken) move taken refl);
   goes = exits.goes;
   follows = λ same f carries. record {
     on = λ to g leads. absurd leads;
@@ -145,7 +145,7 @@ steps_return laws old new p at next role taken (Ok changed) exits = record {
 }
 steps_return laws old new p at next role taken (Err refusal) exits =
     steps_refused old new p at next role (Return taken) refusal
-      (λ code f found stands move carries same_next same_role. exits.stands code stands (exit_shown laws code p at f found (Return taken) move taken refl) refl)
+    (λ code f found stands move carries same_next same_role. exits.stands code stands (exit_shown laws code p at f found (Return taken) move taken refl) (exit_shown_at laws code p at f found (Return taken) move taken refl))
 
 pub steps_maybe_return : FrameLaws → (old mid new : Known) (p : Procedure) (at next : ℕ) (role : Role) (g : StackFrame) (taken : ℕ) (one x : Bool) →
     Flows old mid p next g (Ok one) → Exits mid new p at taken (Ok x) → Steps old new p at next role (MaybeReturn g taken) (Ok (one || x))
@@ -153,8 +153,8 @@ steps_maybe_return laws old mid new p at next role g taken one x first second = 
   small = second.small;
   more = let a = first.more in let b = second.more in omega arith;
   stands = λ code f found stands move carries same_next same_role.
-    second.stands code (first.stands code stands (leads_shown laws code p at f found (MaybeReturn g taken) move next next g same_next (refl, refl)))
-      (exit_shown laws code p at f found (MaybeReturn g taken) move taken refl) refl;
+      second.stands code (first.stands code stands (leads_shown laws code p at f found (MaybeReturn g taken) move next next g same_next (refl, refl)))
+      (exit_shown laws code p at f found (MaybeReturn g taken) move taken refl) (exit_shown_at laws code p at f found (MaybeReturn g taken) move taken refl);
   goes = goes_then old mid new one x first.goes second.goes;
   follows = λ same f carries. record {
     on = λ a h leads. has_there new p next a g h (subst (λ (k : Known). HasPoint k p next g) (sym (second.goes.same (second_false one x same))) (first.has (first_false one x same))) leads.0 leads.1;
@@ -168,34 +168,41 @@ pub steps_maybe_return_refused : FrameLaws → (old mid new : Known) (p : Proced
     Flows old mid p next g (Ok one) → Exits mid new p at taken (Err r) → Steps old new p at next role (MaybeReturn g taken) (Err r)
 steps_maybe_return_refused laws old mid new p at next role g taken one r first second =
     steps_refused old new p at next role (MaybeReturn g taken) r (λ code f found stands move carries same_next same_role.
-      second.stands code (first.stands code stands (leads_shown laws code p at f found (MaybeReturn g taken) move next next g same_next (refl, refl)))
-        (exit_shown laws code p at f found (MaybeReturn g taken) move taken refl) refl)
+    second.stands code (first.stands code stands (leads_shown laws code p at f found (MaybeReturn g taken) move next next g same_next (refl, refl)))
+    (exit_shown laws code p at f found (MaybeReturn g taken) move taken refl) (exit_shown_at laws code p at f found (MaybeReturn g taken) move taken refl))
 
 -- the frame that leads on where another way is taken first is refused
 pub steps_first_refused : FrameLaws → (old new : Known) (p : Procedure) (at next to : ℕ) (role : Role) (moves : Moves) (g : StackFrame) (r : Refusal) →
     LeadsTo moves next to g → Flows old new p to g (Err r) → (last : Known) → Steps old last p at next role moves (Err r)
 steps_first_refused laws old new p at next to role moves g r leads flows last =
     steps_refused old last p at next role moves r
-      (λ code f found stands move carries same_next same_role. flows.stands code stands (leads_shown laws code p at f found moves move next to g same_next leads))
+    (λ code f found stands move carries same_next same_role. flows.stands code stands (leads_shown laws code p at f found moves move next to g same_next leads))
 
 -- returns, case by case
 pub exits_main : (known : Known) (at taken : ℕ) → IsSmall known → Exits known known Main at taken (Ok false)
 exits_main known at taken small = record {
-  small = small; more = omega arith; stands = λ code stands returns same. stands;
+  small = small;
+  more = omega arith;
+  stands = λ code stands returns same. stands;
   goes = record { same = λ _. refl; less = λ e. absurd (true≢false (sym e)) };
   has = λ _ entry is. absurd (let e : Main ≡ Entry entry = is in cc);
 }
 
 pub exits_same : (known : Known) (entry at taken : ℕ) → IsSmall known → exit_of known.exits entry ≡ Some taken → Exits known known (Entry entry) at taken (Ok false)
 exits_same known entry at taken small seen = record {
-  small = small; more = omega arith; stands = λ code stands returns same. stands;
+  small = small;
+  more = omega arith;
+  stands = λ code stands returns same. stands;
   goes = record { same = λ _. refl; less = λ e. absurd (true≢false (sym e)) };
   has = λ _ other is. let e : entry ≡ other = cc in subst (λ n. exit_of known.exits n ≡ Some taken) e seen;
 }
 
 pub exits_uneven : (known new : Known) (entry at taken seen : ℕ) → exit_of known.exits entry ≡ Some seen → (taken ≢ seen) → Exits known new (Entry entry) at taken (Err (UnevenArguments at))
 exits_uneven known new entry at taken seen is apart = record {
-  small = tt; more = tt; goes = tt; has = tt;
+  small = tt;
+  more = tt;
+  goes = tt;
+  has = tt;
   stands = λ code stands returns same. subst (λ a. Refused code (UnevenArguments a)) same (uneven code (Entry entry) taken seen returns (stands.exits entry seen is) apart);
 }
 
@@ -219,14 +226,19 @@ entry_shown = shown_entry
 pub calls_refused : FrameLaws → (old mid new : Known) (p : Procedure) (at next : ℕ) (role : Role) (g : StackFrame) (target : ℕ) (r : Refusal) →
     Flows old mid (Entry target) target entry_frame (Err r) → CallsOut old new p at next role g target (Err r)
 calls_refused laws old mid new p at next role g target r first = record {
-  small = tt; more = tt; goes = tt; enters = tt; after = tt;
+  small = tt;
+  more = tt;
+  goes = tt;
+  enters = tt;
+  after = tt;
   stands = λ code found moves stands move call same_next same_role. first.stands code stands (entry_shown laws code p at g found moves move target call);
 }
 
 pub calls_waiting : FrameLaws → (old mid : Known) (p : Procedure) (at next : ℕ) (role : Role) (g : StackFrame) (target : ℕ) (entered : Bool) →
     Flows old mid (Entry target) target entry_frame (Ok entered) → exit_of mid.exits target ≡ None → CallsOut old mid p at next role g target (Ok entered)
 calls_waiting laws old mid p at next role g target entered first none = record {
-  small = first.small; more = first.more;
+  small = first.small;
+  more = first.more;
   stands = λ code found moves stands move call same_next same_role. first.stands code stands (entry_shown laws code p at g found moves move target call);
   goes = first.goes;
   enters = first.has;
@@ -238,7 +250,7 @@ back_shown : FrameLaws → (code : Code) (mid : Known) (p : Procedure) (at next 
     IsShown code p next (returned taken g)
 back_shown laws code mid p at next role g found moves move target taken call stands exit enough same_next same_role =
     subst (λ n. IsShown code p n (returned taken g)) same_next
-      (shown_after laws code p at g found moves move target taken call (stands.exits target taken exit) (subst (λ (r : Role). taken ≤ room r g.words) same_role enough))
+    (shown_after laws code p at g found moves move target taken call (stands.exits target taken exit) (subst (λ (r : Role). taken ≤ room r g.words) same_role enough))
 
 pub calls_back : FrameLaws → (old mid new : Known) (p : Procedure) (at next : ℕ) (role : Role) (g : StackFrame) (target taken : ℕ) (entered x : Bool) →
     Flows old mid (Entry target) target entry_frame (Ok entered) → exit_of mid.exits target ≡ Some taken → taken ≤ room role g.words →
@@ -247,61 +259,66 @@ calls_back laws old mid new p at next role g target taken entered x first exit e
   small = second.small;
   more = let a = first.more in let b = second.more in omega arith;
   stands = λ code found moves stands move call same_next same_role.
-    let then : Stands code mid = first.stands code stands (entry_shown laws code p at g found moves move target call) in
-    second.stands code then (back_shown laws code mid p at next role g found moves move target taken call then exit enough same_next same_role);
+      let then : Stands code mid = first.stands code stands (entry_shown laws code p at g found moves move target call) in
+      second.stands code then (back_shown laws code mid p at next role g found moves move target taken call then exit enough same_next same_role);
   goes = goes_then old mid new entered x first.goes second.goes;
   enters = λ same. subst (λ (k : Known). HasPoint k (Entry target) target entry_frame) (sym (second.goes.same (second_false entered x same))) (first.has (first_false entered x same));
   after = λ same seen is.
-    let there : exit_of mid.exits target ≡ Some seen = subst (λ (k : Known). exit_of k.exits target ≡ Some seen) (second.goes.same (second_false entered x same)) is in
-    let e : taken ≡ seen = cc in
-    subst (λ n. HasPoint new p next (returned n g)) e (second.has (second_false entered x same));
+      let there : exit_of mid.exits target ≡ Some seen = subst (λ (k : Known). exit_of k.exits target ≡ Some seen) (second.goes.same (second_false entered x same)) is in
+      let e : taken ≡ seen = cc in
+      subst (λ n. HasPoint new p next (returned n g)) e (second.has (second_false entered x same));
 }
 
 pub calls_back_refused : FrameLaws → (old mid new : Known) (p : Procedure) (at next : ℕ) (role : Role) (g : StackFrame) (target taken : ℕ) (entered : Bool) (r : Refusal) →
     Flows old mid (Entry target) target entry_frame (Ok entered) → exit_of mid.exits target ≡ Some taken → taken ≤ room role g.words →
     Flows mid new p next (returned taken g) (Err r) → CallsOut old new p at next role g target (Err r)
 calls_back_refused laws old mid new p at next role g target taken entered r first exit enough second = record {
-  small = tt; more = tt; goes = tt; enters = tt; after = tt;
+  small = tt;
+  more = tt;
+  goes = tt;
+  enters = tt;
+  after = tt;
   stands = λ code found moves stands move call same_next same_role.
-    let then : Stands code mid = first.stands code stands (entry_shown laws code p at g found moves move target call) in
-    second.stands code then (back_shown laws code mid p at next role g found moves move target taken call then exit enough same_next same_role);
+      let then : Stands code mid = first.stands code stands (entry_shown laws code p at g found moves move target call) in
+      second.stands code then (back_shown laws code mid p at next role g found moves move target taken call then exit enough same_next same_role);
 }
-
--- at a return the words taken are those of its frame
-taken_at_return : (code : Code) (p : Procedure) (taken : ℕ) → (returns : ReturnsWith code p taken) → returns.frame.taken ≡ taken
-taken_at_return code p taken returns = ?
 
 pub calls_short : FrameLaws → (old mid new : Known) (p : Procedure) (at next : ℕ) (role : Role) (g : StackFrame) (target taken : ℕ) (entered : Bool) →
     Flows old mid (Entry target) target entry_frame (Ok entered) → exit_of mid.exits target ≡ Some taken → room role g.words < taken →
     CallsOut old new p at next role g target (Err (ShortArguments at))
 calls_short laws old mid new p at next role g target taken entered first exit less = record {
-  small = tt; more = tt; goes = tt; enters = tt; after = tt;
+  small = tt;
+  more = tt;
+  goes = tt;
+  enters = tt;
+  after = tt;
   stands = λ code found moves stands move call same_next same_role.
-    let then : Stands code mid = first.stands code stands (entry_shown laws code p at g found moves move target call) in
-    let returns = then.exits target taken exit in
-    short laws code p at g found moves move target returns.at returns.frame call returns.walk
+      let then : Stands code mid = first.stands code stands (entry_shown laws code p at g found moves move target call) in
+      let returns = then.exits target taken exit in
+      short laws code p at g found moves move target returns.at returns.frame call returns.walk
       (let t = taken_at_return code (Entry target) taken returns in
-       let h : room (role_of code p) g.words < taken = subst (λ (r : Role). room r g.words < taken) same_role less in omega arith);
+      let h : room (role_of code p) g.words < taken = subst (λ (r : Role). room r g.words < taken) same_role less in omega arith);
 }
 
 -- a call, and a conditional one
 pub steps_call : (old new : Known) (p : Procedure) (at next : ℕ) (role : Role) (g : StackFrame) (target : ℕ) (result : Result Bool Refusal) →
     CallsOut old new p at next role g target result → Steps old new p at next role (Call g target) result
 steps_call old new p at next role g target (Ok changed) calls = record {
-  small = calls.small; more = calls.more;
+  small = calls.small;
+  more = calls.more;
   stands = λ code f found stands move carries same_next same_role. calls.stands code found (Call g target) stands (subst (λ (x : StackFrame). AtMove code p at x found (Call g target)) (sym carries) move) refl same_next same_role;
   goes = calls.goes;
   follows = λ same f carries. record {
     on = λ to h leads. absurd leads;
     enters = λ to is. let e : target ≡ to = cc in subst (λ n. HasPoint new (Entry n) n entry_frame) e (calls.enters same);
     after = λ to taken is exit. let e : target ≡ to = cc in
-      subst (λ (x : StackFrame). HasPoint new p next (returned taken x)) carries (calls.after same taken (subst (λ n. exit_of new.exits n ≡ Some taken) (sym e) exit));
+        subst (λ (x : StackFrame). HasPoint new p next (returned taken x)) carries (calls.after same taken (subst (λ n. exit_of new.exits n ≡ Some taken) (sym e) exit));
     return = λ entry taken in_entry is. absurd (let e : None ≡ Some taken = is in cc);
   };
 }
 steps_call old new p at next role g target (Err r) calls =
     steps_refused old new p at next role (Call g target) r (λ code f found stands move carries same_next same_role.
-      calls.stands code found (Call g target) stands (subst (λ (x : StackFrame). AtMove code p at x found (Call g target)) (sym carries) move) refl same_next same_role)
+    calls.stands code found (Call g target) stands (subst (λ (x : StackFrame). AtMove code p at x found (Call g target)) (sym carries) move) refl same_next same_role)
 
 pub steps_maybe_call : FrameLaws → (old mid new : Known) (p : Procedure) (at next : ℕ) (role : Role) (g : StackFrame) (target : ℕ) (one x : Bool) →
     Flows old mid p next g (Ok one) → CallsOut mid new p at next role g target (Ok x) → Steps old new p at next role (MaybeCall g target) (Ok (one || x))
@@ -309,14 +326,14 @@ steps_maybe_call laws old mid new p at next role g target one x first calls = re
   small = calls.small;
   more = let a = first.more in let b = calls.more in omega arith;
   stands = λ code f found stands move carries same_next same_role.
-    calls.stands code found (MaybeCall g target) (first.stands code stands (leads_shown laws code p at f found (MaybeCall g target) move next next g same_next (refl, refl)))
+      calls.stands code found (MaybeCall g target) (first.stands code stands (leads_shown laws code p at f found (MaybeCall g target) move next next g same_next (refl, refl)))
       (subst (λ (y : StackFrame). AtMove code p at y found (MaybeCall g target)) (sym carries) move) refl same_next same_role;
   goes = goes_then old mid new one x first.goes calls.goes;
   follows = λ same f carries. record {
     on = λ a h leads. has_there new p next a g h (subst (λ (k : Known). HasPoint k p next g) (sym (calls.goes.same (second_false one x same))) (first.has (first_false one x same))) leads.0 leads.1;
     enters = λ to is. let e : target ≡ to = cc in subst (λ n. HasPoint new (Entry n) n entry_frame) e (calls.enters (second_false one x same));
     after = λ to taken is exit. let e : target ≡ to = cc in
-      subst (λ (y : StackFrame). HasPoint new p next (returned taken y)) carries (calls.after (second_false one x same) taken (subst (λ n. exit_of new.exits n ≡ Some taken) (sym e) exit));
+        subst (λ (y : StackFrame). HasPoint new p next (returned taken y)) carries (calls.after (second_false one x same) taken (subst (λ n. exit_of new.exits n ≡ Some taken) (sym e) exit));
     return = λ entry taken in_entry is. absurd (let e : None ≡ Some taken = is in cc);
   };
 }
@@ -325,5 +342,5 @@ pub steps_maybe_call_refused : FrameLaws → (old mid new : Known) (p : Procedur
     Flows old mid p next g (Ok one) → CallsOut mid new p at next role g target (Err r) → Steps old new p at next role (MaybeCall g target) (Err r)
 steps_maybe_call_refused laws old mid new p at next role g target one r first calls =
     steps_refused old new p at next role (MaybeCall g target) r (λ code f found stands move carries same_next same_role.
-      calls.stands code found (MaybeCall g target) (first.stands code stands (leads_shown laws code p at f found (MaybeCall g target) move next next g same_next (refl, refl)))
-        (subst (λ (y : StackFrame). AtMove code p at y found (MaybeCall g target)) (sym carries) move) refl same_next same_role)
+    calls.stands code found (MaybeCall g target) (first.stands code stands (leads_shown laws code p at f found (MaybeCall g target) move next next g same_next (refl, refl)))
+    (subst (λ (y : StackFrame). AtMove code p at y found (MaybeCall g target)) (sym carries) move) refl same_next same_role)

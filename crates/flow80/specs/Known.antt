@@ -124,7 +124,7 @@ pub record Steps (old new : Known) (p : Procedure) (at next : ℕ) (role : Role)
   pub small : OnOk result (IsSmall new)
   pub more : OnOk result (length old.points ≤ length new.points)
   pub stands : (code : Code) (f : StackFrame) (found : Fetched) → Stands code old → AtMove code p at f found moves → Carries moves f → found.next ≡ next → role ≡ role_of code p →
-    MatchResult result (λ _. Stands code new) (λ refusal. Refused code refusal)
+      MatchResult result (λ _. Stands code new) (λ refusal. Refused code refusal)
   pub goes : IfOk result (λ changed. Goes old new changed)
   pub follows : IfOk result (λ changed. changed ≡ false → (f : StackFrame) → Carries moves f → Follows new p f next moves)
 
@@ -133,7 +133,7 @@ pub record Exits (old new : Known) (p : Procedure) (at taken : ℕ) (result : Re
   pub small : OnOk result (IsSmall new)
   pub more : OnOk result (length old.points ≤ length new.points)
   pub stands : (code : Code) → Stands code old → (returns : ReturnsWith code p taken) → returns.at ≡ at →
-    MatchResult result (λ _. Stands code new) (λ refusal. Refused code refusal)
+      MatchResult result (λ _. Stands code new) (λ refusal. Refused code refusal)
   pub goes : IfOk result (λ changed. Goes old new changed)
   pub has : IfOk result (λ changed. changed ≡ false → (entry : ℕ) → p ≡ Entry entry → exit_of new.exits entry ≡ Some taken)
 
@@ -142,7 +142,7 @@ pub record CallsOut (old new : Known) (p : Procedure) (at next : ℕ) (role : Ro
   pub small : OnOk result (IsSmall new)
   pub more : OnOk result (length old.points ≤ length new.points)
   pub stands : (code : Code) (found : Fetched) (moves : Moves) → Stands code old → AtMove code p at g found moves → called moves ≡ Some target → found.next ≡ next → role ≡ role_of code p →
-    MatchResult result (λ _. Stands code new) (λ refusal. Refused code refusal)
+      MatchResult result (λ _. Stands code new) (λ refusal. Refused code refusal)
   pub goes : IfOk result (λ changed. Goes old new changed)
   pub enters : IfOk result (λ changed. changed ≡ false → HasPoint new (Entry target) target entry_frame)
   pub after : IfOk result (λ changed. changed ≡ false → (taken : ℕ) → exit_of new.exits target ≡ Some taken → HasPoint new p next (returned taken g))

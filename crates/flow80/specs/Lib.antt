@@ -9,3 +9,6 @@ pub mod Points
 pub mod Graph
 pub mod Shown
 pub mod Known
+pub mod Interned
+pub mod Pages
+pub mod PointStore

@@ -11,10 +11,14 @@
 mod callers;
 mod code;
 mod graph;
+mod interned;
 mod laws;
+mod pages;
+mod points;
 mod procedure;
 mod refusal;
 mod report;
+mod table;
 
 pub use code::{Code, LookFault};
 pub use procedure::Procedure;
