@@ -366,3 +366,7 @@ flows_differ known new p to i g at apart = record {
       subst (λ a. Differ code a) at.at_address
       (differ code at.point.procedure at.point.at at.point.frame g (stands.points i at.point at.stands) (shown_there code at.point p to g at.in_procedure at.at_address shown) apart);
 }
+
+pub not_agreed : (b : Bool) → (b ≡ true → false ≡ true) → b ≡ false
+not_agreed true absurd_if = absurd (true≢false (sym (absurd_if refl)))
+not_agreed false absurd_if = refl

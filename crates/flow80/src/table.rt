@@ -1,6 +1,6 @@
 //! The table of frames while it fills.
 
-ghost use Rattle.std.specs.Prelude.{◌≡◌, ◌+◌, ◌<◌, ◌≤◌, ◌↔◌, false, true, Some, None, Ok, Err, IfOk, OnOk, IfSome, length, slice_get};
+ghost use Rattle.std.specs.Prelude.{◌≡◌, ◌+◌, ◌<◌, ◌≤◌, ◌↔◌, false, true, Some, None, Ok, Err, IfOk, OnOk, IfSome, length, replicate, slice_get};
 ghost use Rattle.flow80.specs.declared.procedure.Procedure.TheVariants.{Entry};
 ghost use Rattle.flow80.specs.Points.{IsPointAt, IsNoPoint};
 ghost use Rattle.flow80.specs.Known.{IsSmall, IsWithin, Flows, exit_of, nothing_known};
@@ -47,7 +47,7 @@ impl Table {
     pub(crate) fn new(alloc: Global) -> Result<Table, AllocError>
         ensures { IfOk result (λ table. table ≡ nothing_known) }
     {
-        let exits = vec![in alloc; None; 65536]?;
+        let exits = no_exits(alloc)?;
         let callers = Callers::new(alloc)?;
         Ok(Table {
             points: Points::new(alloc)?,
@@ -127,4 +127,15 @@ impl Table {
         self.pending.push(point)?;
         Ok(())
     }
+}
+
+/// No return of any procedure was seen.
+fn no_exits(alloc: Global) -> Result<Vec<Option<u32>>, AllocError>
+    ensures { IfOk result (λ exits. exits.items ≡ replicate 65536 None) }
+{
+    let mut exits = Vec::new(alloc);
+    while exits.len() < 65536 {
+        exits.push(None)?;
+    }
+    Ok(exits)
 }
