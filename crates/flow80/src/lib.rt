@@ -18,6 +18,7 @@ mod points;
 mod procedure;
 mod refusal;
 mod report;
+mod site;
 mod table;
 
 pub use code::{Code, LookFault};

@@ -24,4 +24,4 @@ returns c =
     let grown : c.add.new.self ≡ c.args.self.now.points ++ point ∷ [] = c.in_ok-add.ensures.added ∙ ap (λ (ps : List Point). ps ++ point ∷ []) points in
     let after : c.look_again.new.self ≡ added c.args.self.now point = c.look_again.ensures ∙ (λ i. record { points = grown i; exits = exits i }) in
     subst (λ (k : Known). Flows c.args.self.now k c.args.procedure c.args.to c.args.frame (Ok true)) (sym after)
-      (flows_added c.args.self.now c.args.procedure c.args.to c.args.frame c.requires.small few c.requires.fits c.requires.new)
+    (flows_added c.args.self.now c.args.procedure c.args.to c.args.frame c.requires.small few c.requires.fits c.requires.new)

@@ -15,8 +15,8 @@ returns-in-Err c =
     let frame : c.frame.result.now ≡ at.point.frame = rw there at c.frame.ensures in
     let mine : c.in_ok-merged.merged ≡ at.point.frame = c.in_ok-merged.ensures ∙ frame in
     let apart : agree at.point.frame c.args.frame.now ≡ false =
-          not_agreed (agree at.point.frame c.args.frame.now)
-            (λ same. c.in-Err.ensures.agree.1 (subst (λ (f : StackFrame). agree f c.args.frame.now ≡ true) (sym mine) same)) in
+    not_agreed (agree at.point.frame c.args.frame.now)
+    (λ same. c.in-Err.ensures.agree.1 (subst (λ (f : StackFrame). agree f c.args.frame.now ≡ true) (sym mine) same)) in
     flows_differ c.args.self.now c.args.self.now c.args.procedure c.args.to c.args.i c.args.frame.now at apart
 
 pub returns-in_ok-look_again-in-Ok-true : goal.returns-in_ok-look_again-in-Ok-true
@@ -31,12 +31,12 @@ returns-in_ok-look_again-in-Ok-true c =
     let same : agree at.point.frame g ≡ true = subst (λ (f : StackFrame). agree f g ≡ true) mine (c.in-Ok-true.ensures.agree.0 refl) in
     let met : c.meet.new.frame ≡ merged at.point.frame g = c.in-Ok-true.ensures.merged ∙ ap (λ (f : StackFrame). merged f g) mine in
     let changed : merged at.point.frame g ≢ at.point.frame =
-          λ e. true≢false (sym c.in-Ok-true.field-0-test ∙ c.in-Ok-true.ensures.changed.1 (met ∙ e ∙ sym mine)) in
+    λ e. true≢false (sym c.in-Ok-true.field-0-test ∙ c.in-Ok-true.ensures.changed.1 (met ∙ e ∙ sym mine)) in
     let reframed : c.replace.new.self ≡ slice_set c.args.self.now.points c.args.i (with_frame (merged at.point.frame g) at.point) =
-          c.in_ok-replace-in-Ok-true.ensures.reframed.reframed at.point there
-            ∙ ap (λ (ps : List Point). slice_set ps c.args.i (with_frame c.meet.new.frame at.point)) points
-            ∙ ap (λ (f : StackFrame). slice_set c.args.self.now.points c.args.i (with_frame f at.point)) met in
+    c.in_ok-replace-in-Ok-true.ensures.reframed.reframed at.point there
+    ∙ ap (λ (ps : List Point). slice_set ps c.args.i (with_frame c.meet.new.frame at.point)) points
+    ∙ ap (λ (f : StackFrame). slice_set c.args.self.now.points c.args.i (with_frame f at.point)) met in
     let after : c.look_again.new.self ≡ replaced c.args.self.now c.args.i (merged at.point.frame g) at.point =
-          c.look_again.ensures ∙ (λ i. record { points = reframed i; exits = exits i }) in
+    c.look_again.ensures ∙ (λ i. record { points = reframed i; exits = exits i }) in
     subst (λ (k : Known). Flows c.args.self.now k c.args.procedure c.args.to g (Ok true)) (sym after)
-      (flows_replaced c.frame_laws.ensures c.args.self.now c.args.procedure c.args.to c.args.i g at c.requires.small same changed)
+    (flows_replaced c.frame_laws.ensures c.args.self.now c.args.procedure c.args.to c.args.i g at c.requires.small same changed)
