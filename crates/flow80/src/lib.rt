@@ -18,7 +18,6 @@ mod points;
 mod procedure;
 mod refusal;
 mod report;
-mod site;
 mod table;
 
 pub use code::{Code, LookFault};
