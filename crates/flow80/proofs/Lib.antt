@@ -5,3 +5,4 @@ pub mod Slices
 pub mod KnownLemmas
 pub mod StepLemmas
 pub mod PointLemmas
+pub mod PageLemmas

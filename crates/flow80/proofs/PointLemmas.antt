@@ -8,10 +8,9 @@ use Rattle.frames80.specs.StackFrame.{StackFrame, entry_frame}
 use Rattle.flow80.specs.declared.procedure.Procedure.{Procedure}
 use Rattle.flow80.specs.declared.procedure.Procedure.TheVariants.{Main, Entry}
 use Rattle.flow80.specs.declared.points.StoredPoint.{StoredPoint}
-use Rattle.flow80.specs.declared.pages.Pages.{Pages}
 use Rattle.flow80.specs.Interned.{StayNumbered}
 use Rattle.flow80.specs.Points.{Point, with_frame, AreApart, IsPointAt, IsNoPoint, Reframes}
-use Rattle.flow80.specs.Pages.{procedure_number, number_at, same_place, SameNumbers, Puts}
+use Rattle.flow80.specs.Pages.{Numbers, procedure_number, number_at, same_place, SameNumbers, Puts}
 use Rattle.flow80.specs.PointStore.{frame_at, point_of, points_of, IsStoredAt, AreStored}
 
 module _ {X : Type 0} where
@@ -88,7 +87,7 @@ module _ (old new : List StackFrame) (s : StayNumbered old new) where
       let rest = points_of-stays stored (λ i q e. framed (suc i) q e) in
       λ j. here j ∷ rest j
 
-  pub AreStored-stays : (stored : List StoredPoint) (numbers : Pages) → AreStored old stored numbers → AreStored new stored numbers
+  pub AreStored-stays : (stored : List StoredPoint) (numbers : Numbers) → AreStored old stored numbers → AreStored new stored numbers
   AreStored-stays stored numbers h = record {
     framed = λ i point e. framed-stays point.frame (h.framed i point e);
     numbered = h.numbered;
@@ -104,8 +103,8 @@ stored_at frames [] i point e = absurd (none-some point e)
 stored_at frames (q ∷ stored) zero point e = (q, refl, same_Some (point_of frames q) point e)
 stored_at frames (q ∷ stored) (suc i) point e = stored_at frames stored i point e
 
-module _ (frames : List StackFrame) (stored : List StoredPoint) (numbers : Pages) (h : AreStored frames stored numbers) where
-  pub AreStored-same : (after : Pages) → SameNumbers numbers after → AreStored frames stored after
+module _ (frames : List StackFrame) (stored : List StoredPoint) (numbers : Numbers) (h : AreStored frames stored numbers) where
+  pub AreStored-same : (after : Numbers) → SameNumbers numbers after → AreStored frames stored after
   AreStored-same after s = record {
     framed = h.framed;
     numbered = λ i point e. s.same point.procedure point.at ∙ h.numbered i point e;
@@ -135,7 +134,7 @@ module _ (frames : List StackFrame) (stored : List StoredPoint) (numbers : Pages
         none-some i (sym e ∙ sym (ap (λ p. number_at numbers p point.at) ep ∙ ap (λ t. number_at numbers procedure t) et) ∙ number_of i point there);
   }
 
-  module _ (after : Pages) (point : StoredPoint) (framed : point.frame < length frames) (puts : Puts numbers after point.procedure point.at (length stored))
+  module _ (after : Numbers) (point : StoredPoint) (framed : point.frame < length frames) (puts : Puts numbers after point.procedure point.at (length stored))
       (new : IsNoPoint (points_of frames stored) point.procedure point.at) where
     pub AreStored-added : AreStored frames (stored ++ point ∷ []) after
     AreStored-added = record { framed = within; numbered = own; stands = found }

@@ -3,9 +3,8 @@ use Rattle.std.specs.Prelude.{◌≡◌, ◌<◌, ℕ, List, map, Option, Some, 
 use Rattle.frames80.specs.StackFrame.{StackFrame, entry_frame}
 use Rattle.flow80.specs.declared.procedure.Procedure.{Procedure}
 use Rattle.flow80.specs.declared.points.StoredPoint.{StoredPoint}
-use Rattle.flow80.specs.declared.pages.Pages.{Pages}
 use Rattle.flow80.specs.Points.{Point}
-use Rattle.flow80.specs.Pages.{number_at}
+use Rattle.flow80.specs.Pages.{Numbers, number_at}
 
 -- the frame that has a number
 abbrev pub frame_at : List StackFrame → ℕ → StackFrame
@@ -26,7 +25,7 @@ pub record IsStoredAt (stored : List StoredPoint) (procedure : Procedure) (at i 
   pub at_address : point.at ≡ at
 
 -- each point that is stored has a frame, and the number that is kept of its address is its own
-pub record AreStored (frames : List StackFrame) (stored : List StoredPoint) (numbers : Pages) : Type 0 where
+pub record AreStored (frames : List StackFrame) (stored : List StoredPoint) (numbers : Numbers) : Type 0 where
   pub framed : (i : ℕ) (point : StoredPoint) → slice_get stored i ≡ Some point → point.frame < length frames
   pub numbered : (i : ℕ) (point : StoredPoint) → slice_get stored i ≡ Some point → number_at numbers point.procedure point.at ≡ Some i
   pub stands : (procedure : Procedure) (at i : ℕ) → number_at numbers procedure at ≡ Some i → IsStoredAt stored procedure at i

@@ -2,7 +2,6 @@ use Rattle.std.proofs.Common.{◌≡◌, ◌<◌, ℕ, List, ◌++◌, ◌∷◌
 use Rattle.std.proofs.lemmas.Option.{slice_get_within}
 use Rattle.std.proofs.lemmas.Result.{err_from_is_err_and}
 use Rattle.flow80.specs.declared.points.StoredPoint.{StoredPoint}
-use Rattle.flow80.specs.declared.pages.Pages.{Pages}
 use Rattle.flow80.specs.Points.{Point, IsNoPoint}
 use Rattle.flow80.specs.Pages.{Puts}
 use Rattle.flow80.specs.PointStore.{AreStored, points_of}
