@@ -8,3 +8,4 @@ pub mod Rows
 pub mod Points
 pub mod Graph
 pub mod Shown
+pub mod Bounds

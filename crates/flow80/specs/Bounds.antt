@@ -1,0 +1,111 @@
+-- How many bytes each procedure uses, over the lists of a program's depths and calls. (This project's own.)
+use Rattle.std.specs.Prelude.{◌≡◌, ◌≢◌, ◌<◌, ◌≤◌, ◌+◌, ◌*◌, ◌⊎◌, ℕ, ℤ, pos, negsuc, ◌+ℤ◌, ◌≤ℤ◌, Bool, true, List, Contains, All, length, slice_index, slice_index_or}
+use Rattle.flow80.specs.declared.procedure.Procedure.{Procedure}
+use Rattle.flow80.specs.declared.procedure.Procedure.TheVariants.{Main, Entry}
+use Rattle.flow80.specs.declared.graph.Depth.{Depth}
+use Rattle.flow80.specs.declared.graph.CallSite.{CallSite}
+use Rattle.frames80.specs.StackFrame.{StackFrame}
+use Rattle.flow80.specs.Code.{Code}
+use Rattle.flow80.specs.Walks.{Walk}
+use Rattle.flow80.specs.Use.{IsBound}
+use Rattle.flow80.specs.Faults.{Recurs}
+
+-- where a table has a procedure, and the bytes that it has for it
+abbrev pub slot_of : Procedure → ℕ
+slot_of Main = 0
+slot_of (Entry entry) = entry + 1
+
+abbrev pub bytes_of : List ℕ → Procedure → ℕ
+bytes_of sums p = slice_index sums (slot_of p)
+
+-- the list has this depth for the procedure
+pub record HasLast (depths : List Depth) (p : Procedure) (bytes : ℤ) : Type 0 where
+  pub depth : Depth
+  pub there : Contains depths depth
+  pub procedure : depth.procedure ≡ p
+  pub is : bytes ≡ depth.depth
+
+-- the call is one of the list's, and the procedure's
+pub record CallsBy (calls : List CallSite) (p : Procedure) (call : CallSite) : Type 0 where
+  pub there : Contains calls call
+  pub caller : call.caller ≡ p
+
+-- what a chain uses that goes through a call, when the callee uses so much
+abbrev pub through_call : CallSite → ℤ → ℤ
+through_call call below = (call.depth +ℤ pos 2) +ℤ below
+
+-- the sums over chains of the lists' calls
+pub data Chain (depths : List Depth) (calls : List CallSite) : Procedure → ℤ → Type 0 where
+  last : (p : Procedure) (bytes : ℤ) → HasLast depths p bytes → Chain depths calls p bytes
+  through : (p : Procedure) (call : CallSite) (below bytes : ℤ) → CallsBy calls p call → Chain depths calls (Entry call.target) below →
+    bytes ≡ through_call call below → Chain depths calls p bytes
+
+-- every chain of the lists' calls from a procedure on ends
+pub data Ends (calls : List CallSite) : Procedure → Type 0 where
+  ends : (p : Procedure) → ((call : CallSite) → CallsBy calls p call → Ends calls (Entry call.target)) → Ends calls p
+
+-- the lists' calls lead from one procedure to another
+pub data Reaches (calls : List CallSite) : Procedure → Procedure → Type 0 where
+  here : (p q : Procedure) → p ≡ q → Reaches calls p q
+  further : (p q r : Procedure) (call : CallSite) → Reaches calls p q → CallsBy calls q call → r ≡ Entry call.target → Reaches calls p r
+
+-- a call at this address whose callee leads back to its caller
+pub record Cycles (calls : List CallSite) (at : ℕ) : Type 0 where
+  pub call : CallSite
+  pub there : Contains calls call
+  pub is : at ≡ call.at
+  pub back : Reaches calls (Entry call.target) call.caller
+
+-- each callee is entered, with no bytes yet
+pub record AreEntered (depths : List Depth) (calls : List CallSite) : Type 0 where
+  pub entered : (call : CallSite) → Contains calls call → HasLast depths (Entry call.target) (pos 0)
+
+-- no call of the list is one of the procedure's
+pub record IsSettled (pending : List CallSite) (p : Procedure) : Type 0 where
+  pub none : (call : CallSite) → CallsBy pending p call → ⊥
+
+-- the call is in the sums: its callee's sum stands, and the caller's is no less
+pub record IsAbsorbed (calls : List CallSite) (sums : List ℕ) (pending : List CallSite) (call : CallSite) : Type 0 where
+  pub settled : IsSettled pending (Entry call.target)
+  pub ends : Ends calls (Entry call.target)
+  pub above : through_call call (pos (bytes_of sums (Entry call.target))) ≤ℤ pos (bytes_of sums call.caller)
+
+-- how much more than its callee's a sum may be with each call, and at first
+abbrev pub most_step : ℕ
+most_step = 4194304
+
+-- the sums hold every depth and every call but those that are pending
+pub record AreSums (depths : List Depth) (calls : List CallSite) (sums : List ℕ) (open_calls : List CallSite) : Type 0 where
+  pub reached : AreEntered depths calls → (p : Procedure) → HasLast depths p (pos 0) → Chain depths calls p (pos (bytes_of sums p))
+  pub deep : (depth : Depth) → Contains depths depth → depth.depth ≤ℤ pos (bytes_of sums depth.procedure)
+  pub call : (call : CallSite) → Contains calls call → Contains open_calls call ⊎ IsAbsorbed calls sums open_calls call
+  pub of_list : (call : CallSite) → Contains open_calls call → Contains calls call
+  pub small : (slot : ℕ) → slice_index sums slot + most_step * length open_calls ≤ most_step * (length calls + 1)
+
+-- the depths that have been looked at are in the sums
+pub record AreDepths (seen : List Depth) (sums : List ℕ) : Type 0 where
+  pub reached : (slot : ℕ) → (slice_index sums slot ≡ 0) ⊎ ((p : Procedure) → slot_of p ≡ slot → HasLast seen p (pos (slice_index sums slot)))
+  pub deep : (depth : Depth) → Contains seen depth → depth.depth ≤ℤ pos (bytes_of sums depth.procedure)
+  pub small : (slot : ℕ) → slice_index sums slot ≤ most_step
+
+-- a depth that the analysis may meet
+pub record IsModest (depth : ℤ) : Type 0 where
+  pub low : negsuc 2097151 ≤ℤ depth
+  pub high : depth ≤ℤ pos 2097152
+
+-- the callers of the calls are marked, and no others
+pub record AreMarked (marks : List Bool) (pending : List CallSite) : Type 0 where
+  pub marked : (call : CallSite) → Contains pending call → slice_index_or marks (slot_of call.caller) true ≡ true
+  pub by : (p : Procedure) → slot_of p < length marks → slice_index_or marks (slot_of p) true ≡ true → (call : CallSite) × CallsBy pending p call
+
+-- each pending call's callee has a pending call itself
+pub record AreStuck (pending : List CallSite) : Type 0 where
+  pub next : (call : CallSite) → Contains pending call → (after : CallSite) × CallsBy pending (Entry call.target) after
+
+-- the bytes of each procedure that has a walk are its bound
+pub record AreBounds (code : Code) (bytes : List ℕ) : Type 0 where
+  pub bound : (p : Procedure) (at : ℕ) (frame : StackFrame) → Walk code p at frame → IsBound code p (bytes_of bytes p)
+
+-- no call of the program recurs
+pub record NoneRecurs (code : Code) : Type 0 where
+  pub none : (at : ℕ) → Recurs code at → ⊥
