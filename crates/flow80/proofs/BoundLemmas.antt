@@ -9,7 +9,7 @@ use Rattle.flow80.specs.declared.procedure.Procedure.{Procedure}
 use Rattle.flow80.specs.declared.procedure.Procedure.TheVariants.{Main, Entry}
 use Rattle.flow80.specs.declared.graph.Depth.{Depth}
 use Rattle.flow80.specs.declared.graph.CallSite.{CallSite}
-use Rattle.flow80.specs.Bounds.{slot_of, bytes_of, HasLast, CallsBy, through_call, Chain, last, through, Ends, ends, AreEntered, IsSettled, IsAbsorbed, most_step, AreSums, AreDepths, IsModest}
+use Rattle.flow80.specs.Bounds.{slot_of, bytes_of, HasLast, CallsBy, through_call, Chain, last, through, Ends, ends, AreEntered, IsSettled, IsAbsorbed, most_step, AreSums, AreDepths, IsModest, IsRaised, AreSmall}
 
 -- no two procedures have one slot
 pub slot_apart : (p q : Procedure) → slot_of p ≡ slot_of q → p ≡ q
@@ -54,19 +54,12 @@ settled_less : (kept : List CallSite) (call : CallSite) (rest : List CallSite) (
     IsSettled (kept ++ (call ∷ rest)) p → IsSettled (kept ++ rest) p
 settled_less kept call rest p settled = record { none = λ e by. settled.none e (record { there = contains_more kept call rest e by.there; caller = by.caller }) }
 
--- what a sum of a call's caller is raised to
-pub record IsRaised (old : ℕ) (bytes : ℤ) (new : ℕ) : Type 0 where
-  pub no_less : old ≤ new
-  pub above : bytes ≤ℤ pos new
-  pub one_of : (new ≡ old) ⊎ (pos new ≡ bytes)
-
 -- a call is absorbed
 pub record Absorbs (depths : List Depth) (calls : List CallSite) (sums : List ℕ) (kept : List CallSite) (call : CallSite) (rest : List CallSite) (n : ℕ) : Type 0 where
   pub are : AreSums depths calls sums (kept ++ (call ∷ rest))
   pub settled : IsSettled (kept ++ (call ∷ rest)) (Entry call.target)
   pub within : slot_of call.caller < length sums
   pub raise : IsRaised (bytes_of sums call.caller) (through_call call (pos (bytes_of sums (Entry call.target)))) n
-  pub modest : IsModest call.depth
 
 -- only the caller's sum is another
 other_sum : (depths : List Depth) (calls : List CallSite) (sums : List ℕ) (kept : List CallSite) (call : CallSite) (rest : List CallSite) (n : ℕ) →
@@ -128,28 +121,29 @@ reached_then depths calls sums kept call rest n a entered p first = elim (cases_
             (a.are.reached entered (Entry call.target) (entered.entered call (a.are.of_list call (contains_middle kept call rest)))) is ])
   | inr ne ↦ subst (λ (k : ℕ). Chain depths calls p (pos k)) (sym (get_or-set_other sums (slot_of call.caller) (slot_of p) n 0 ne)) (a.are.reached entered p first) ]
 
-small_then : (depths : List Depth) (calls : List CallSite) (sums : List ℕ) (kept : List CallSite) (call : CallSite) (rest : List CallSite) (n : ℕ) →
-    Absorbs depths calls sums kept call rest n → (slot : ℕ) →
-    slice_index (set sums (slot_of call.caller) n) slot + most_step * length (kept ++ rest) ≤ most_step * (length calls + 1)
-small_then depths calls sums kept call rest n a slot =
+-- and they stay small
+pub small_then : (sums : List ℕ) (kept : List CallSite) (call : CallSite) (rest : List CallSite) (n : ℕ) → slot_of call.caller < length sums →
+    IsRaised (bytes_of sums call.caller) (through_call call (pos (bytes_of sums (Entry call.target)))) n → IsModest call.depth →
+    AreSmall sums (length (kept ++ (call ∷ rest))) → AreSmall (set sums (slot_of call.caller) n) (length (kept ++ rest))
+small_then sums kept call rest n within raise modest are =
     let fewer : length (kept ++ (call ∷ rest)) ≡ length (kept ++ rest) + 1 = longer kept call rest in
-    elim (cases_eq slot (slot_of call.caller)) [
+    record { small = λ slot. elim (cases_eq slot (slot_of call.caller)) [
       inl e ↦
-        let now : slice_index (set sums (slot_of call.caller) n) slot ≡ n = ap (λ (k : ℕ). get_or (set sums (slot_of call.caller) n) k 0) e ∙ get_or-set_same sums (slot_of call.caller) n 0 a.within in
-        let callee = a.are.small (slot_of (Entry call.target)) in
-        let caller = a.are.small (slot_of call.caller) in
-        elim a.raise.one_of [
-          inl same ↦ within_caller _ _ _ _ _ _ now same fewer caller
-        | inr is ↦ within_callee call.depth _ _ _ _ _ _ now is fewer callee a.modest.high ]
+        let now : slice_index (set sums (slot_of call.caller) n) slot ≡ n = ap (λ (k : ℕ). get_or (set sums (slot_of call.caller) n) k 0) e ∙ get_or-set_same sums (slot_of call.caller) n 0 within in
+        let callee = are.small (slot_of (Entry call.target)) in
+        let caller = are.small (slot_of call.caller) in
+        elim raise.one_of [
+          inl same ↦ within_caller _ _ _ _ _ now same fewer caller
+        | inr is ↦ within_callee call.depth _ _ _ _ _ now is fewer callee modest.high ]
     | inr ne ↦
         let o = get_or-set_other sums (slot_of call.caller) slot n 0 ne in
-        within_caller _ _ _ _ _ _ o refl fewer (a.are.small slot) ]
+        within_caller _ _ _ _ _ o refl fewer (are.small slot) ] }
   where
-    within_caller : (v n s long short most : ℕ) → v ≡ n → n ≡ s → long ≡ short + 1 → s + 4194304 * long ≤ most → v + 4194304 * short ≤ most
-    within_caller v n s long short most e f g h = omega arith
-    within_callee : (d : ℤ) (v n s long short most : ℕ) → v ≡ n → pos n ≡ (d +ℤ pos 2) +ℤ pos s → long ≡ short + 1 → s + 4194304 * long ≤ most →
-        d ≤ℤ pos 2097152 → v + 4194304 * short ≤ most
-    within_callee d v n s long short most e f g h le = omega (arith, ints)
+    within_caller : (v n s long short : ℕ) → v ≡ n → n ≡ s → long ≡ short + 1 → s + 4194304 * long ≤ 4194304 * 262145 → v + 4194304 * short ≤ 4194304 * 262145
+    within_caller v n s long short e f g h = omega arith
+    within_callee : (d : ℤ) (v n s long short : ℕ) → v ≡ n → pos n ≡ (d +ℤ pos 2) +ℤ pos s → long ≡ short + 1 → s + 4194304 * long ≤ 4194304 * 262145 →
+        d ≤ℤ pos 2097152 → v + 4194304 * short ≤ 4194304 * 262145
+    within_callee d v n s long short e f g h le = omega (arith, ints)
 
 -- the sums after a call is absorbed
 pub absorbed : (depths : List Depth) (calls : List CallSite) (sums : List ℕ) (kept : List CallSite) (call : CallSite) (rest : List CallSite) (n : ℕ) →
@@ -163,7 +157,6 @@ absorbed depths calls sums kept call rest n a = record {
           | inr still ↦ inl still ]
       | inr was ↦ inr (absorbed_then depths calls sums kept call rest n a e was) ];
     of_list = λ e there. a.are.of_list e (contains_more kept call rest e there);
-    small = small_then depths calls sums kept call rest n a;
   }
   where
     le_then : (d : ℤ) (m k : ℕ) → d ≤ℤ pos m → m ≤ k → d ≤ℤ pos k

@@ -1,3 +1,4 @@
 pub mod MoveLemmas
 pub mod ShownLemmas
 pub mod BoundLemmas
+pub mod CycleLemmas

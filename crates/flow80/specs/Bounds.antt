@@ -80,7 +80,16 @@ pub record AreSums (depths : List Depth) (calls : List CallSite) (sums : List �
   pub deep : (depth : Depth) → Contains depths depth → depth.depth ≤ℤ pos (bytes_of sums depth.procedure)
   pub call : (call : CallSite) → Contains calls call → Contains open_calls call ⊎ IsAbsorbed calls sums open_calls call
   pub of_list : (call : CallSite) → Contains open_calls call → Contains calls call
-  pub small : (slot : ℕ) → slice_index sums slot + most_step * length open_calls ≤ most_step * (length calls + 1)
+
+-- the sums with so many calls to come: none can grow past what an i64 holds
+pub record AreSmall (sums : List ℕ) (to_come : ℕ) : Type 0 where
+  pub small : (slot : ℕ) → slice_index sums slot + most_step * to_come ≤ most_step * 262145
+
+-- a sum raised to a number of bytes
+pub record IsRaised (old : ℕ) (bytes : ℤ) (new : ℕ) : Type 0 where
+  pub no_less : old ≤ new
+  pub above : bytes ≤ℤ pos new
+  pub one_of : (new ≡ old) ⊎ (pos new ≡ bytes)
 
 -- the depths that have been looked at are in the sums
 pub record AreDepths (seen : List Depth) (sums : List ℕ) : Type 0 where
