@@ -19,7 +19,7 @@ slot_apart (Entry a) Main e = absurd (omega arith)
 slot_apart (Entry a) (Entry b) e = ap Entry (omega arith)
 
 -- one element more in the middle
-contains_more : {X : Type 0} (xs : List X) (y : X) (ys : List X) (x : X) → Contains (xs ++ ys) x → Contains (xs ++ (y ∷ ys)) x
+pub contains_more : {X : Type 0} (xs : List X) (y : X) (ys : List X) (x : X) → Contains (xs ++ ys) x → Contains (xs ++ (y ∷ ys)) x
 contains_more xs y ys x h = elim (Contains-append_cases xs ys x h) [
     inl a ↦ Contains-append_left xs (y ∷ ys) x a
   | inr b ↦ Contains-append_right xs (y ∷ ys) x (Contains-append_right (y ∷ []) ys x b) ]
@@ -31,10 +31,10 @@ contains_less xs y ys x h = elim (Contains-append_cases xs (y ∷ ys) x h) [
         inl s ↦ elim (Contains-push_cases [] y x s) [ inl n ↦ absurd (omega (arith, n.1)) | inr e ↦ inl e ]
       | inr c ↦ inr (Contains-append_right xs ys x c) ] ]
 
-contains_middle : {X : Type 0} (xs : List X) (y : X) (ys : List X) → Contains (xs ++ (y ∷ ys)) y
+pub contains_middle : {X : Type 0} (xs : List X) (y : X) (ys : List X) → Contains (xs ++ (y ∷ ys)) y
 contains_middle xs y ys = Contains-append_right xs (y ∷ ys) y (Contains-append_left (y ∷ []) ys y (Contains-push [] y))
 
-longer : {X : Type 0} (xs : List X) (y : X) (ys : List X) → length (xs ++ (y ∷ ys)) ≡ length (xs ++ ys) + 1
+pub longer : {X : Type 0} (xs : List X) (y : X) (ys : List X) → length (xs ++ (y ∷ ys)) ≡ length (xs ++ ys) + 1
 longer xs y ys = omega (arith, length-append xs (y ∷ ys), length-append xs ys)
 
 -- a sum that is raised

@@ -2,3 +2,4 @@ pub mod MoveLemmas
 pub mod ShownLemmas
 pub mod BoundLemmas
 pub mod CycleLemmas
+pub mod SumLemmas

@@ -1,5 +1,5 @@
 -- How many bytes each procedure uses, over the lists of a program's depths and calls. (This project's own.)
-use Rattle.std.specs.Prelude.{◌≡◌, ◌≢◌, ◌<◌, ◌≤◌, ◌+◌, ◌*◌, ◌⊎◌, ℕ, ℤ, pos, negsuc, ◌+ℤ◌, ◌≤ℤ◌, Bool, true, List, Contains, All, length, slice_index, slice_index_or}
+use Rattle.std.specs.Prelude.{◌≡◌, ◌≢◌, ◌<◌, ◌≤◌, ◌+◌, ◌*◌, ◌++◌, ◌⊎◌, ℕ, ℤ, pos, negsuc, ◌+ℤ◌, ◌≤ℤ◌, Bool, true, List, Contains, All, length, slice_index, slice_index_or, slice_set}
 use Rattle.flow80.specs.declared.procedure.Procedure.{Procedure}
 use Rattle.flow80.specs.declared.procedure.Procedure.TheVariants.{Main, Entry}
 use Rattle.flow80.specs.declared.graph.Depth.{Depth}
@@ -102,10 +102,30 @@ pub record IsModest (depth : ℤ) : Type 0 where
   pub low : negsuc 2097151 ≤ℤ depth
   pub high : depth ≤ℤ pos 2097152
 
+-- the procedure is marked
+pub record IsMarked (marks : List Bool) (p : Procedure) : Type 0 where
+  pub is : slice_index_or marks (slot_of p) true ≡ true
+
 -- the callers of the calls are marked, and no others
 pub record AreMarked (marks : List Bool) (pending : List CallSite) : Type 0 where
-  pub marked : (call : CallSite) → Contains pending call → slice_index_or marks (slot_of call.caller) true ≡ true
-  pub by : (p : Procedure) → slot_of p < length marks → slice_index_or marks (slot_of p) true ≡ true → (call : CallSite) × CallsBy pending p call
+  pub marked : (call : CallSite) → Contains pending call → IsMarked marks call.caller
+  pub by : (p : Procedure) → slot_of p < length marks → IsMarked marks p → (call : CallSite) × CallsBy pending p call
+
+-- of the pending calls so many have been looked at: they are kept where their callee is marked, and absorbed otherwise
+pub record AreRounded (marks : List Bool) (pending : List CallSite) (old sums : List ℕ) (kept rest : List CallSite) (looked : ℕ) : Type 0 where
+  pub hold : (depths : List Depth) (calls : List CallSite) → AreSums depths calls old pending → AreSums depths calls sums (kept ++ rest)
+  pub small : AreSmall sums (length (kept ++ rest))
+  pub of_list : (call : CallSite) → Contains (kept ++ rest) call → Contains pending call
+  pub marked : (call : CallSite) → Contains kept call → IsMarked marks (Entry call.target)
+  pub fewer : length kept ≤ looked
+  pub same : length kept ≡ looked → kept ++ rest ≡ pending
+
+-- the sum of a call's caller is raised to what goes through the call
+pub record IsSumAfter (sums : List ℕ) (call : CallSite) (after : List ℕ) : Type 0 where
+  pub bytes : ℕ
+  pub raised : IsRaised (bytes_of sums call.caller) (through_call call (pos (bytes_of sums (Entry call.target)))) bytes
+  pub is : after ≡ slice_set sums (slot_of call.caller) bytes
+  pub within : slot_of call.caller < length sums
 
 -- each pending call's callee has a pending call itself
 pub record AreStuck (pending : List CallSite) : Type 0 where
@@ -118,3 +138,7 @@ pub record AreBounds (code : Code) (bytes : List ℕ) : Type 0 where
 -- no call of the program recurs
 pub record NoneRecurs (code : Code) : Type 0 where
   pub none : (at : ℕ) → Recurs code at → ⊥
+
+-- for each procedure that has one of the calls that have been looked at, one of its pending calls
+pub record AreFollowed (pending seen table : List CallSite) : Type 0 where
+  pub next : (p : Procedure) (call : CallSite) → CallsBy seen p call → (d : CallSite) → CallsBy pending p (slice_index_or table (slot_of p) d)

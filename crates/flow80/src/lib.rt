@@ -8,11 +8,14 @@
 //! | [`Report`], [`ProcRow`] | what is found of a program that is accepted |
 #![tactic(auto)]
 
+mod bounds;
 mod code;
+mod cycles;
 mod graph;
 mod procedure;
 mod refusal;
 mod report;
+mod sums;
 
 pub use code::{Code, LookFault};
 pub use procedure::Procedure;
