@@ -3,3 +3,4 @@ pub mod ShownLemmas
 pub mod BoundLemmas
 pub mod CycleLemmas
 pub mod SumLemmas
+pub mod FollowLemmas

@@ -1,23 +1,23 @@
 -- The steps of the loops over depths and calls.
 use Rattle.std.proofs.Common.{◌≡◌, ◌≢◌, ◌<◌, ◌≤◌, ◌+◌, ◌*◌, ◌⊎◌, inl, inr, ℕ, Bool, true, false, List, [], ◌∷◌, ◌++◌, length, get_or, set, take, drop, refl, sym, ap, subst, ◌∙◌, arith, append_assoc}
-use Rattle.std.specs.Prelude.{ℤ, pos, negsuc, ◌+ℤ◌, ◌≤ℤ◌, Contains, slice_index}
+use Rattle.std.specs.Prelude.{ℤ, pos, negsuc, ◌+ℤ◌, ◌≤ℤ◌, Contains, All, slice_index}
 use Rattle.std.proofs.lemmas.List.{get_or-set_same, get_or-set_other, length-append, length-set, append-nil, take_more, drop_more, drop_all, get_or_default}
-use Rattle.std.proofs.lemmas.List.Elements.{Contains-append_left, Contains-append_right, Contains-append_cases, Contains-push_cases, Contains-push}
+use Rattle.std.proofs.lemmas.List.Elements.{All-contains, Contains-get_or, Contains-append_left, Contains-append_right, Contains-append_cases, Contains-push_cases, Contains-push}
 use Rattle.std.proofs.lemmas.Bool.{cases_eq, false≢true}
 use Rattle.std.proofs.lemmas.Int.{ints}
 use Rattle.flow80.specs.declared.procedure.Procedure.{Procedure}
 use Rattle.flow80.specs.declared.procedure.Procedure.TheVariants.{Main, Entry}
 use Rattle.flow80.specs.declared.graph.Depth.{Depth}
 use Rattle.flow80.specs.declared.graph.CallSite.{CallSite}
-use Rattle.flow80.specs.Bounds.{slot_of, bytes_of, HasLast, CallsBy, through_call, Chain, AreEntered, IsSettled, IsAbsorbed, most_step, AreSums, AreDepths, IsModest, IsRaised, IsSumAfter, AreSmall, IsMarked, AreMarked, AreRounded, AreStuck}
+use Rattle.flow80.specs.Bounds.{slot_of, bytes_of, HasLast, CallsBy, through_call, Chain, last, AreEntered, IsSettled, IsAbsorbed, most_step, AreSums, AreDepths, IsModest, IsRaised, IsSumAfter, AreSmall, IsMarked, AreMarked, AreRounded, AreStuck, IsSettling}
 use Rattle.flow80.proofs.BoundLemmas.{slot_apart, Absorbs, absorbed, small_then, contains_more, contains_middle, longer}
 
 -- marks
 
-pub none_marked : (marks : List Bool) → ((k : ℕ) → k < length marks → get_or marks k true ≡ false) → AreMarked marks []
+pub none_marked : (marks : List Bool) → ((k : ℕ) → get_or marks k false ≡ false) → AreMarked marks []
 none_marked marks each = record {
     marked = λ call there. absurd (omega (arith, there.1));
-    by = λ p within is. absurd (false≢true (sym (each (slot_of p) within) ∙ is.is));
+    by = λ p is. absurd (false≢true (sym (each (slot_of p)) ∙ is.is));
   }
 
 pub mark_more : (marks : List Bool) (seen : List CallSite) (call : CallSite) (i : ℕ) → i ≡ slot_of call.caller → i < length marks → AreMarked marks seen →
@@ -25,21 +25,20 @@ pub mark_more : (marks : List Bool) (seen : List CallSite) (call : CallSite) (i 
 mark_more marks seen call i at within are = record {
     marked = λ e there. elim (Contains-push_cases seen call e there) [
         inl before ↦ record { is = kept (slot_of e.caller) (are.marked e before).is }
-      | inr same ↦ record { is = ap (λ (x : CallSite). get_or (set marks i true) (slot_of x.caller) true) (sym same)
-            ∙ ap (λ (k : ℕ). get_or (set marks i true) k true) (sym at) ∙ get_or-set_same marks i true true within } ];
-    by = λ p inside is. elim (cases_eq (slot_of p) i) [
+      | inr same ↦ record { is = ap (λ (x : CallSite). get_or (set marks i true) (slot_of x.caller) false) (sym same)
+            ∙ ap (λ (k : ℕ). get_or (set marks i true) k false) (sym at) ∙ get_or-set_same marks i true false within } ];
+    by = λ p is. elim (cases_eq (slot_of p) i) [
         inl here ↦ (call, record { there = Contains-push seen call; caller = slot_apart call.caller p (sym at ∙ sym here) })
       | inr ne ↦
-          let was : get_or marks (slot_of p) true ≡ true = sym (get_or-set_other marks i (slot_of p) true true ne) ∙ is.is in
-          let inner : slot_of p < length marks = omega (arith, length-set marks i true) in
-          let before = are.by p inner (record { is = was }) in
+          let was : get_or marks (slot_of p) false ≡ true = sym (get_or-set_other marks i (slot_of p) true false ne) ∙ is.is in
+          let before = are.by p (record { is = was }) in
           (before.0, record { there = Contains-append_left seen (call ∷ []) before.0 before.1.there; caller = before.1.caller }) ];
   }
   where
-    kept : (k : ℕ) → get_or marks k true ≡ true → get_or (set marks i true) k true ≡ true
+    kept : (k : ℕ) → get_or marks k false ≡ true → get_or (set marks i true) k false ≡ true
     kept k h = elim (cases_eq k i) [
-        inl e ↦ ap (λ (j : ℕ). get_or (set marks i true) j true) e ∙ get_or-set_same marks i true true within
-      | inr ne ↦ get_or-set_other marks i k true true ne ∙ h ]
+        inl e ↦ ap (λ (j : ℕ). get_or (set marks i true) j false) e ∙ get_or-set_same marks i true false within
+      | inr ne ↦ get_or-set_other marks i k true false ne ∙ h ]
 
 -- depths
 
@@ -163,7 +162,7 @@ pub keep_at : (marks : List Bool) (pending : List CallSite) (old sums : List ℕ
 keep_at marks pending old sums kept i to within is inside marked are =
     keep_step marks pending old sums kept (get_or pending i no_call) (drop (i + 1) pending) i
       (subst (λ (l : List CallSite). AreRounded marks pending old sums kept l i) (drop_more pending i no_call within) are)
-      (record { is = ap (λ (k : ℕ). get_or marks k true) (sym is) ∙ get_or_default marks to true false inside ∙ marked })
+      (record { is = ap (λ (k : ℕ). get_or marks k false) (sym is) ∙ marked })
 
 pub absorb_at : (marks : List Bool) (pending : List CallSite) (old sums : List ℕ) (kept : List CallSite) (i to : ℕ) (after : List ℕ) → i < length pending →
     to ≡ slot_of (Entry (get_or pending i no_call).target) → to < length marks → get_or marks to false ≡ false →
@@ -174,7 +173,7 @@ pub absorb_at : (marks : List Bool) (pending : List CallSite) (old sums : List �
 absorb_at marks pending old sums kept i to after within is inside unmarked marks_are modest then are =
     absorb_step marks pending old sums kept (get_or pending i no_call) (drop (i + 1) pending) i after marks_are
       (subst (λ (l : List CallSite). AreRounded marks pending old sums kept l i) (drop_more pending i no_call within) are)
-      (λ marked. false≢true (sym (ap (λ (k : ℕ). get_or marks k true) (sym is) ∙ get_or_default marks to true false inside ∙ unmarked) ∙ marked.is))
+      (λ marked. false≢true (sym (ap (λ (k : ℕ). get_or marks k false) (sym is) ∙ unmarked) ∙ marked.is))
       modest then
 
 pub rounded_at_end : (marks : List Bool) (pending : List CallSite) (old sums : List ℕ) (kept : List CallSite) (i : ℕ) → length pending ≤ i → i ≤ length pending →
@@ -183,3 +182,43 @@ rounded_at_end marks pending old sums kept i over under are =
     let e : i ≡ length pending = omega arith in
     subst (λ (n : ℕ). AreRounded marks pending old sums kept [] n) e
       (subst (λ (l : List CallSite). AreRounded marks pending old sums kept l i) (drop_all i pending over) are)
+
+-- rounds
+
+pub settling_first : (depths : List Depth) (calls : List CallSite) (sums : List ℕ) (marks : List Bool) → AreDepths depths sums → length sums ≡ 65537 → length marks ≡ 65537 →
+    All (λ (call : CallSite). IsModest call.depth) calls → length calls ≤ 262144 → IsSettling depths calls sums marks calls true
+settling_first depths calls sums marks are places mark_places modest few = record {
+    hold = record {
+      reached = λ entered p first. elim (are.reached (slot_of p)) [
+          inl none ↦ last p _ (subst (λ (k : ℕ). HasLast depths p (pos k)) (sym none) first)
+        | inr has ↦ last p _ (has p refl) ];
+      deep = are.deep;
+      call = λ call there. inl there;
+      of_list = λ call there. there;
+    };
+    small = record { small = λ slot. first_small _ _ (are.small slot) few };
+    modest = modest; places = places; mark_places = mark_places;
+    stuck = λ no. absurd (false≢true (sym no));
+  }
+  where
+    first_small : (v n : ℕ) → v ≤ 4194304 → n ≤ 262144 → v + 4194304 * n ≤ 4194304 * 262145
+    first_small v n h few = omega arith
+
+pub settling_next : (depths : List Depth) (calls : List CallSite) (old sums : List ℕ) (before marks : List Bool) (pending kept : List CallSite) (absorbs : Bool) →
+    IsSettling depths calls old before pending true → AreMarked marks pending → AreRounded marks pending old sums kept [] (length pending) →
+    length sums ≡ 65537 → length marks ≡ 65537 → (absorbs ≡ false → length kept ≡ length pending) → IsSettling depths calls sums marks kept absorbs
+settling_next depths calls old sums before marks pending kept absorbs was marked are places mark_places stays = record {
+    hold = subst (λ (l : List CallSite). AreSums depths calls sums l) (append-nil kept) (are.hold depths calls was.hold);
+    small = subst (λ (l : List CallSite). AreSmall sums (length l)) (append-nil kept) are.small;
+    modest = λ k d within. All-contains (λ (call : CallSite). IsModest call.depth) pending (get_or kept k d) was.modest
+      (of_list (get_or kept k d) (Contains-get_or kept k d within));
+    places = places; mark_places = mark_places;
+    stuck = λ no.
+      let same : kept ≡ pending = sym (append-nil kept) ∙ are.same (stays no) in
+      record { next = λ call there.
+        let after = marked.by (Entry call.target) (are.marked call there) in
+        (after.0, subst (λ (l : List CallSite). CallsBy l (Entry call.target) after.0) (sym same) after.1) };
+  }
+  where
+    of_list : (call : CallSite) → Contains kept call → Contains pending call
+    of_list call there = are.of_list call (subst (λ (l : List CallSite). Contains l call) (sym (append-nil kept)) there)

@@ -1,5 +1,5 @@
 -- How many bytes each procedure uses, over the lists of a program's depths and calls. (This project's own.)
-use Rattle.std.specs.Prelude.{◌≡◌, ◌≢◌, ◌<◌, ◌≤◌, ◌+◌, ◌*◌, ◌++◌, ◌⊎◌, ℕ, ℤ, pos, negsuc, ◌+ℤ◌, ◌≤ℤ◌, Bool, true, List, Contains, All, length, slice_index, slice_index_or, slice_set}
+use Rattle.std.specs.Prelude.{◌≡◌, ◌≢◌, ◌<◌, ◌≤◌, ◌+◌, ◌*◌, ◌++◌, ◌⊎◌, ℕ, ℤ, pos, negsuc, ◌+ℤ◌, ◌≤ℤ◌, Bool, true, false, List, Contains, All, length, slice_index, slice_index_or, slice_set}
 use Rattle.flow80.specs.declared.procedure.Procedure.{Procedure}
 use Rattle.flow80.specs.declared.procedure.Procedure.TheVariants.{Main, Entry}
 use Rattle.flow80.specs.declared.graph.Depth.{Depth}
@@ -104,12 +104,12 @@ pub record IsModest (depth : ℤ) : Type 0 where
 
 -- the procedure is marked
 pub record IsMarked (marks : List Bool) (p : Procedure) : Type 0 where
-  pub is : slice_index_or marks (slot_of p) true ≡ true
+  pub is : slice_index_or marks (slot_of p) false ≡ true
 
 -- the callers of the calls are marked, and no others
 pub record AreMarked (marks : List Bool) (pending : List CallSite) : Type 0 where
   pub marked : (call : CallSite) → Contains pending call → IsMarked marks call.caller
-  pub by : (p : Procedure) → slot_of p < length marks → IsMarked marks p → (call : CallSite) × CallsBy pending p call
+  pub by : (p : Procedure) → IsMarked marks p → (call : CallSite) × CallsBy pending p call
 
 -- of the pending calls so many have been looked at: they are kept where their callee is marked, and absorbed otherwise
 pub record AreRounded (marks : List Bool) (pending : List CallSite) (old sums : List ℕ) (kept rest : List CallSite) (looked : ℕ) : Type 0 where
@@ -142,3 +142,25 @@ pub record NoneRecurs (code : Code) : Type 0 where
 -- for each procedure that has one of the calls that have been looked at, one of its pending calls
 pub record AreFollowed (pending seen table : List CallSite) : Type 0 where
   pub next : (p : Procedure) (call : CallSite) → CallsBy seen p call → (d : CallSite) → CallsBy pending p (slice_index_or table (slot_of p) d)
+
+-- while calls are absorbed in rounds
+pub record IsSettling (depths : List Depth) (calls : List CallSite) (sums : List ℕ) (marks : List Bool) (open_calls : List CallSite) (absorbs : Bool) : Type 0 where
+  pub hold : AreSums depths calls sums open_calls
+  pub small : AreSmall sums (length open_calls)
+  pub modest : All (λ (call : CallSite). IsModest call.depth) open_calls
+  pub places : length sums ≡ 65537
+  pub mark_places : length marks ≡ 65537
+  pub stuck : absorbs ≡ false → AreStuck open_calls
+
+-- a call that the table has for its caller
+pub record IsFollowed (calls table : List CallSite) (call : CallSite) : Type 0 where
+  pub by : CallsBy calls call.caller call
+  pub now : (d : CallSite) → slice_index_or table (slot_of call.caller) d ≡ call
+
+-- while calls are followed: the table's call of each procedure that was met leads on to the caller of the call that is looked at
+pub record IsFollowing (calls table : List CallSite) (met : List Bool) (call : CallSite) : Type 0 where
+  pub followed : AreFollowed calls calls table
+  pub at : IsFollowed calls table call
+  pub back : (p : Procedure) → slice_index_or met (slot_of p) false ≡ true → (d : CallSite) → Reaches calls (Entry (slice_index_or table (slot_of p) d).target) call.caller
+  pub places : length table ≡ 65537
+  pub met_places : length met ≡ 65537
