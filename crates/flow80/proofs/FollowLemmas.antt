@@ -88,3 +88,14 @@ fewer_unmet met i within is =
     let sum = sum_by-set unmet met i true false within in
     let one : unmet (get_or met i false) ≡ 1 = ap unmet is in
     omega arith
+
+-- what leads back among some of the calls leads back among all
+reaches_of : (calls some : List CallSite) → ((call : CallSite) → Contains some call → Contains calls call) → (p q : Procedure) → Reaches some p q → Reaches calls p q
+reaches_of calls some of _ _ (here p q same) = here p q same
+reaches_of calls some of _ _ (further p q r call before by is) =
+    further p q r call (reaches_of calls some of p q before) (record { there = of call by.there; caller = by.caller }) is
+
+pub cycles_of : (calls some : List CallSite) (at : ℕ) → ((call : CallSite) → Contains some call → Contains calls call) → Cycles some at → Cycles calls at
+cycles_of calls some at of cycle = record {
+    call = cycle.call; there = of cycle.call cycle.there; is = cycle.is;
+    back = reaches_of calls some of (Entry cycle.call.target) cycle.call.caller cycle.back }

@@ -1,9 +1,9 @@
 -- The steps of the loops over depths and calls.
-use Rattle.std.proofs.Common.{◌≡◌, ◌≢◌, ◌<◌, ◌≤◌, ◌+◌, ◌*◌, ◌⊎◌, inl, inr, ℕ, Bool, true, false, List, [], ◌∷◌, ◌++◌, length, get_or, set, take, drop, refl, sym, ap, subst, ◌∙◌, arith, append_assoc}
+use Rattle.std.proofs.Common.{◌≡◌, ◌≢◌, ◌<◌, ◌≤◌, ◌+◌, ◌-◌, ◌*◌, ◌⊎◌, eqb, inl, inr, ℕ, Bool, true, false, List, [], ◌∷◌, ◌++◌, length, get_or, set, take, drop, refl, sym, ap, subst, ◌∙◌, arith, append_assoc}
 use Rattle.std.specs.Prelude.{ℤ, pos, negsuc, ◌+ℤ◌, ◌≤ℤ◌, Contains, All, slice_index}
-use Rattle.std.proofs.lemmas.List.{get_or-set_same, get_or-set_other, length-append, length-set, append-nil, take_more, drop_more, drop_all, get_or_default}
+use Rattle.std.proofs.lemmas.List.{get_or-set_same, get_or-set_other, length-append, length-set, append-nil, take_more, drop_more, drop_all, get_or_default, get_or_past, nil_from_length}
 use Rattle.std.proofs.lemmas.List.Elements.{All-contains, Contains-get_or, Contains-append_left, Contains-append_right, Contains-append_cases, Contains-push_cases, Contains-push}
-use Rattle.std.proofs.lemmas.Bool.{cases_eq, false≢true}
+use Rattle.std.proofs.lemmas.Bool.{cases_eq, false≢true, eqb-true}
 use Rattle.std.proofs.lemmas.Int.{ints}
 use Rattle.flow80.specs.declared.procedure.Procedure.{Procedure}
 use Rattle.flow80.specs.declared.procedure.Procedure.TheVariants.{Main, Entry}
@@ -204,10 +204,10 @@ settling_first depths calls sums marks are places mark_places modest few = recor
     first_small : (v n : ℕ) → v ≤ 4194304 → n ≤ 262144 → v + 4194304 * n ≤ 4194304 * 262145
     first_small v n h few = omega arith
 
-pub settling_next : (depths : List Depth) (calls : List CallSite) (old sums : List ℕ) (before marks : List Bool) (pending kept : List CallSite) (absorbs : Bool) →
-    IsSettling depths calls old before pending true → AreMarked marks pending → AreRounded marks pending old sums kept [] (length pending) →
+pub settling_next : (depths : List Depth) (calls : List CallSite) (old sums : List ℕ) (before marks : List Bool) (pending kept : List CallSite) (was_absorbing absorbs : Bool) →
+    IsSettling depths calls old before pending was_absorbing → AreMarked marks pending → AreRounded marks pending old sums kept [] (length pending) →
     length sums ≡ 65537 → length marks ≡ 65537 → (absorbs ≡ false → length kept ≡ length pending) → IsSettling depths calls sums marks kept absorbs
-settling_next depths calls old sums before marks pending kept absorbs was marked are places mark_places stays = record {
+settling_next depths calls old sums before marks pending kept was_absorbing absorbs was marked are places mark_places stays = record {
     hold = subst (λ (l : List CallSite). AreSums depths calls sums l) (append-nil kept) (are.hold depths calls was.hold);
     small = subst (λ (l : List CallSite). AreSmall sums (length l)) (append-nil kept) are.small;
     modest = λ k d within. All-contains (λ (call : CallSite). IsModest call.depth) pending (get_or kept k d) was.modest
@@ -222,3 +222,32 @@ settling_next depths calls old sums before marks pending kept absorbs was marked
   where
     of_list : (call : CallSite) → Contains kept call → Contains pending call
     of_list call there = are.of_list call (subst (λ (l : List CallSite). Contains l call) (sym (append-nil kept)) there)
+
+pub none_of : (marks : List Bool) → All (λ (x : Bool). x ≡ false) marks → (k : ℕ) → get_or marks k false ≡ false
+none_of marks each k = elim (cases_eq (length marks - k) 0) [
+    inl past ↦ get_or_past marks k false (omega arith)
+  | inr inside ↦ each k false (omega arith) ]
+
+-- the same, where the code has the lists under other names
+pub settling_at : (depths : List Depth) (calls : List CallSite) (old sums sums_after sums_seen : List ℕ) (before marks marks_after marks_seen : List Bool)
+    (pending one two kept : List CallSite) (was_absorbing absorbs : Bool) →
+    IsSettling depths calls old before pending was_absorbing → AreMarked marks one → AreRounded marks_seen two sums_seen sums kept [] (length two) →
+    one ≡ pending → two ≡ pending → sums_seen ≡ old → marks_seen ≡ marks → sums_after ≡ sums → marks_after ≡ marks →
+    length sums ≡ length old → length marks ≡ length before → (absorbs ≡ false → length pending ≤ length kept) →
+    IsSettling depths calls sums_after marks_after kept absorbs
+settling_at depths calls old sums sums_after sums_seen before marks marks_after marks_seen pending one two kept was_absorbing absorbs was marked are
+    one_is two_is seen_is marks_is after_is marks_after_is same_length same_places stays =
+    let now : AreRounded marks pending old sums kept [] (length pending) =
+      subst (λ (m : List Bool). AreRounded m pending old sums kept [] (length pending)) marks_is
+        (subst (λ (o : List ℕ). AreRounded marks_seen pending o sums kept [] (length pending)) seen_is
+          (subst (λ (l : List CallSite). AreRounded marks_seen l sums_seen sums kept [] (length l)) two_is are)) in
+    let fewer = now.fewer in
+    let next = settling_next depths calls old sums before marks pending kept was_absorbing absorbs was
+      (subst (λ (l : List CallSite). AreMarked marks l) one_is marked) now (same_length ∙ was.places) (same_places ∙ was.mark_places)
+      (λ no. let more = stays no in omega arith) in
+    subst (λ (m : List Bool). IsSettling depths calls sums_after m kept absorbs) (sym marks_after_is)
+      (subst (λ (x : List ℕ). IsSettling depths calls x marks kept absorbs) (sym after_is) next)
+
+-- a Vec of no elements
+pub no_items : {X : Type 0} (items : List X) (n : ℕ) → n ≡ length items → eqb n 0 ≡ true → items ≡ []
+no_items items n is none = nil_from_length items (sym is ∙ eqb-true n 0 none)
