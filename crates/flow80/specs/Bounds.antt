@@ -1,5 +1,5 @@
 -- How many bytes each procedure uses, over the lists of a program's depths and calls. (This project's own.)
-use Rattle.std.specs.Prelude.{◌≡◌, ◌≢◌, ◌<◌, ◌≤◌, ◌+◌, ◌*◌, ◌++◌, ◌⊎◌, ℕ, ℤ, pos, negsuc, ◌+ℤ◌, ◌≤ℤ◌, Bool, true, false, List, Contains, All, length, slice_index, slice_index_or, slice_set}
+use Rattle.std.specs.Prelude.{◌≡◌, ◌<◌, ◌≤◌, ◌+◌, ◌*◌, ◌++◌, ◌⊎◌, ℕ, ℤ, pos, negsuc, ◌+ℤ◌, ◌≤ℤ◌, Bool, true, false, List, Contains, All, length, slice_index, slice_index_or, slice_set}
 use Rattle.flow80.specs.declared.procedure.Procedure.{Procedure}
 use Rattle.flow80.specs.declared.procedure.Procedure.TheVariants.{Main, Entry}
 use Rattle.flow80.specs.declared.graph.Depth.{Depth}
@@ -38,7 +38,7 @@ through_call call below = (call.depth +ℤ pos 2) +ℤ below
 pub data Chain (depths : List Depth) (calls : List CallSite) : Procedure → ℤ → Type 0 where
   last : (p : Procedure) (bytes : ℤ) → HasLast depths p bytes → Chain depths calls p bytes
   through : (p : Procedure) (call : CallSite) (below bytes : ℤ) → CallsBy calls p call → Chain depths calls (Entry call.target) below →
-    bytes ≡ through_call call below → Chain depths calls p bytes
+      bytes ≡ through_call call below → Chain depths calls p bytes
 
 -- every chain of the lists' calls from a procedure on ends
 pub data Ends (calls : List CallSite) : Procedure → Type 0 where

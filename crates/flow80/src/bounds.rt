@@ -10,13 +10,13 @@ use crate::cycles::cycle;
 use crate::graph::{CallSite, Depth};
 use crate::procedure::Procedure;
 use crate::refusal::Refusal;
-use crate::sums::{greatest_depths, mark, round, slot, table, SLOTS};
+use crate::sums::{SLOTS, greatest_depths, mark, round, slot, table};
 use std::alloc::{AllocError, Global};
 
 /// The most bytes of stack that each procedure needs below its return address.
 #[derive(Debug, Drop)]
 pub(crate) struct Bounds {
-    bytes: Vec<u64>,
+    pub(crate) bytes: Vec<u64>,
 }
 
 impl Bounds {
@@ -64,29 +64,29 @@ fn settle(alloc: Global, depths: &[Depth], calls: &[CallSite]) -> Result<Settled
 /// The most bytes of stack that each procedure needs below its return address, its callees' included, from the depths of the
 /// program's frames and its calls. `Recursion`, with the address of the call, where a call leads back to its own procedure;
 /// `Memory`.
-pub(crate) fn find_bounds(alloc: Global, depths: &[Depth], calls: &[CallSite]) -> Result<Bounds, Refusal>
+pub(crate) fn find_bounds(
+    alloc: Global,
+    depths: &[Depth],
+    calls: &[CallSite],
+) -> Result<Bounds, Refusal>
     requires depths { All (λ d. IsModest d.depth) depths.now }
     requires calls { All (λ c. IsModest c.depth) calls.now }
     requires few { length calls.now ≤ 262144 }
-    ensures bounds {
-        IfOk
-            result
-            (λ b. (code : CodeSeen) → IsGraph code depths.now calls.now → AreBounds code b.bytes.items)
-    }
-    ensures no_cycle {
-        IfOk
-            result
-            (λ b. (code : CodeSeen) → IsGraph code depths.now calls.now → NoneRecurs code)
-    }
-    ensures refused {
-        IfErr
-            result
-            (λ r. (code : CodeSeen) → IsGraph code depths.now calls.now → Holds code r)
-    }
+    ensures bounds { IfOk
+        result
+        (λ b. (code : CodeSeen) → IsGraph code depths.now calls.now → AreBounds code b.bytes.items) }
+    ensures no_cycle { IfOk
+        result
+        (λ b. (code : CodeSeen) → IsGraph code depths.now calls.now → NoneRecurs code) }
+    ensures refused { IfErr
+        result
+        (λ r. (code : CodeSeen) → IsGraph code depths.now calls.now → Holds code r) }
 {
     let settled = settle(alloc, depths, calls)?;
     if settled.pending.is_empty() {
-        Ok(Bounds { bytes: settled.bytes })
+        Ok(Bounds {
+            bytes: settled.bytes,
+        })
     } else {
         let at = cycle(alloc, &settled.pending)?;
         Err(Refusal::Recursion(at))

@@ -5,7 +5,7 @@ ghost use Rattle.flow80.specs.Bounds.{slot_of, CallsBy, Reaches, Cycles, AreStuc
 
 use crate::graph::CallSite;
 use crate::procedure::Procedure;
-use crate::sums::{slot, table, SLOTS};
+use crate::sums::{SLOTS, slot, table};
 use std::alloc::{AllocError, Global};
 
 /// A table of one call of each procedure that has any.

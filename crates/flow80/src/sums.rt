@@ -95,11 +95,9 @@ pub(crate) fn round(
     requires marked { AreMarked marks.now pending.now }
     requires modest { All (λ c. IsModest c.depth) pending.now }
     requires small { AreSmall sums.old (length pending.now) }
-    ensures {
-        IfOk
-            result
-            (λ kept. AreRounded marks.now pending.now sums.old sums.new kept.items [] (length pending.now))
-    }
+    ensures { IfOk
+        result
+        (λ kept. AreRounded marks.now pending.now sums.old sums.new kept.items [] (length pending.now)) }
 {
     let mut kept = Vec::new(alloc);
     for call in pending {

@@ -1,7 +1,7 @@
-use Rattle.std.proofs.Common.{arith, ◌≡◌, length, false, ◌∙◌, sym}
+use Rattle.std.proofs.Common.{arith, false, ◌∙◌, sym}
 use Rattle.std.proofs.lemmas.List.{get_or_read}
 use Rattle.std.proofs.lemmas.List.Elements.{Contains-get_or}
-use Rattle.flow80.proofs.FollowLemmas.{following_first, following_next, following_end, fewer_unmet}
+use Rattle.flow80.proofs.FollowLemmas.{following_first, following_next, following_end}
 use Rattle.flow80.proofs.SumLemmas.{no_call, none_of}
 use Rattle.flow80.proofs.cycles.cycle.Goals as goal
 
@@ -19,6 +19,6 @@ loop-caller-preserved c = following_next c.args.calls.now c.in_ok-next.next.item
 pub returns : goal.returns
 returns c =
     let read = get_or_read c.loop-caller.met.items c.slot-in-loop-caller.result c.index.result.now
-      (omega (arith, c.slot-in-loop-caller.ensures.within, c.loop-caller.invariant.met_places)) c.index.ensures false in
+    (omega (arith, c.slot-in-loop-caller.ensures.within, c.loop-caller.invariant.met_places)) c.index.ensures false in
     following_end c.args.calls.now c.in_ok-next.next.items c.loop-caller.met.items c.loop-caller.call c.slot-in-loop-caller.result c.loop-caller.invariant
-      c.slot-in-loop-caller.ensures.is (sym read ∙ c.loop-caller-test.false)
+    c.slot-in-loop-caller.ensures.is (sym read ∙ c.loop-caller-test.false)
