@@ -12,3 +12,4 @@ pub mod Known
 pub mod Interned
 pub mod Pages
 pub mod PointStore
+pub mod Bounds

@@ -9,7 +9,9 @@
 #![tactic(auto)]
 
 mod callers;
+mod bounds;
 mod code;
+mod cycles;
 mod graph;
 mod interned;
 mod laws;
@@ -19,6 +21,7 @@ mod procedure;
 mod refusal;
 mod report;
 mod table;
+mod sums;
 
 pub use code::{Code, LookFault};
 pub use procedure::Procedure;
