@@ -4,3 +4,4 @@ pub mod Operands
 pub mod Decoded
 pub mod Unused
 pub mod Spellings
+pub mod FetchLemmas

@@ -6,4 +6,5 @@ pub mod Rotation
 pub mod Restart
 pub mod Spelling
 pub mod Decoded
+pub mod Fetch
 pub mod Text

@@ -5,6 +5,8 @@
 //! | [`decode`] | the instruction that bytes begin with, and its length |
 //! | [`length_of`] | the length of the instructions with a first byte |
 //! | [`encode`] | the bytes of an instruction, and its length |
+//! | [`fetch`] | the instruction at an address of a [`Program`], and the address after it |
+//! | [`direct_bytes`] | the addresses that an instruction names to store to |
 //! | [`write_text`] | the text of an instruction, as `MOV A,M` |
 //! | [`spelling_laws`] | what holds of all spellings, as a contract |
 //! | [`Instr`] | one of the 244 instructions, with its operands |
@@ -16,6 +18,7 @@ mod condition;
 mod decoding;
 mod digits;
 mod encoding;
+mod fetching;
 mod instr;
 mod laws;
 mod mnemonics;
@@ -32,6 +35,7 @@ mod text;
 pub use condition::Condition;
 pub use decoding::{decode, length_of};
 pub use encoding::encode;
+pub use fetching::{FetchFault, Fetched, Program, ahead, behind, direct_bytes, fetch};
 pub use instr::Instr;
 pub use laws::spelling_laws;
 pub use operation::{Operand, Operation};

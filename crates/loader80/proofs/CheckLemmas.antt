@@ -6,7 +6,7 @@ use Rattle.place80.specs.declared.range.Range.{Range}
 use Rattle.place80.specs.Range.{in_ranges}
 use Rattle.place80.specs.Regions.{AreRegions, in_code}
 use Rattle.place80.specs.Image.{Located, memory_of}
-use Rattle.machine80.specs.Cpu.{ahead}
+use Rattle.decode80.specs.Fetch.{ahead}
 use Rattle.decode80.specs.Decoded.{decoded}
 use Rattle.loader80.specs.declared.refusal.Refusal.{Refusal}
 use Rattle.loader80.specs.declared.refusal.Refusal.TheVariants.{FetchOutside, Memory}

@@ -1,7 +1,7 @@
 -- A program whose reached points have no fault never goes wrong.
 use Rattle.std.specs.Prelude.{◌≡◌, ℕ, ◌<◌, Bool, true, false, not, List, [], ◌∷◌, Option, None, Some, Ok, Err, All, Contains, length, slice_index, slice_index_or, refl, if◌then◌else◌}
 use Rattle.std.specs.List.{list_all}
-use Rattle.std.specs.Option.{option_map_or}
+use Rattle.std.specs.Result.{result_ok}
 use Rattle.std.proofs.Common.{◌∙◌, ap, sym, subst, arith, cond, suc, zero, true≢false}
 use Rattle.decode80.specs.declared.instr.Instr.{Instr}
 use Rattle.decode80.specs.declared.instr.Instr.TheVariants.{Sta, Shld, Push, Pop, Call, CallIf, Ret, ReturnIf, Rst, Xthl, Jmp, JumpIf, Pchl, Sphl, Inx, Dcx, Ei, Hlt, In, Out}
@@ -12,15 +12,16 @@ use Rattle.place80.specs.Regions.{Areas, AreRegions, in_code, in_data, top_of}
 use Rattle.place80.specs.Image.{Located, memory_of}
 use Rattle.machine80.specs.declared.cpu.Cpu.{Cpu}
 use Rattle.machine80.specs.declared.flags.Flags.{Flags}
-use Rattle.machine80.specs.declared.fetching.Fetched.{Fetched}
+use Rattle.decode80.specs.declared.fetching.Fetched.{Fetched}
 use Rattle.machine80.specs.declared.end.End.{End}
 use Rattle.machine80.specs.declared.end.End.TheVariants.{StoreOutside, Stack, Direct}
 use Rattle.machine80.specs.Ports.{next_input}
 use Rattle.machine80.specs.Flags.{holds}
-use Rattle.machine80.specs.Cpu.{ahead}
-use Rattle.machine80.specs.Effects.{stack_bytes, direct_bytes, pointed_bytes, target, stores, stored}
-use Rattle.machine80.specs.Step.{Machine, Turn, Next, Stop, fetch, all_code, admitted, guard, guarded, execute, proceeded, with_input, step_on, first_outside, ends_at}
-use Rattle.machine80.specs.World.{World, world_at, world_at_start, turn_at, next_world, following, world_after, places_then, refuses, returns, IsJustBelow, IsRight, IsProperEnd, NeverGoesWrong}
+use Rattle.decode80.specs.Fetch.{ahead, direct_bytes, all_code, admitted, admitted_if_used, fetch as fetch_in}
+use Rattle.decode80.specs.declared.fetching.FetchFault.TheVariants.{Outside}
+use Rattle.machine80.specs.Effects.{stack_bytes, pointed_bytes, target, stores, stored}
+use Rattle.machine80.specs.Step.{Machine, Turn, Next, Stop, fetch, guard, guarded, execute, proceeded, with_input, step_on, first_outside, ends_at}
+use Rattle.machine80.specs.World.{World, world_at, world_at_start, turn_at, next_world, following, world_after, places_then, refuses, returns, IsJustBelow, IsWorldOf, fetched_by, FetchesInside, IsProperEnd, NeverGoesWrong}
 use Rattle.loader80.specs.declared.refusal.Refusal.{Refusal}
 use Rattle.loader80.specs.declared.refusal.Refusal.TheVariants.{NotYet, FetchOutside, EnablesInterrupts, DirectStore}
 use Rattle.loader80.specs.Check.{touches_stack, halt_at, allowed, fetched_at, decoded_at, look_at, successors, Reached, starts, leads, IsSound}
@@ -52,18 +53,18 @@ allowed_is regions memory at (Shld a) f found h = (chosen (list_all (in_data reg
 allowed_is regions memory at i f found h = cc
 
 admitted_fine : (b : Bool) (regions : Areas) (memory : List ℕ) (at : ℕ) (d : Instr × ℕ) (found : Fetched) → touches_stack d.0 ≡ false →
-    fetched_at regions memory at (if b then Some (record { instr = d.0; next = ahead at d.1 }) else None) ≡ Ok found →
-    ((if b then Some (record { instr = d.0; next = ahead at d.1 }) else None) ≡ Some found) × (touches_stack found.instr ≡ false) × (allowed regions memory at found.instr found ≡ Ok found)
+    fetched_at regions memory at (result_ok (if b then Ok (record { instr = d.0; next = ahead at d.1 }) else Err Outside)) ≡ Ok found →
+    ((result_ok (if b then Ok (record { instr = d.0; next = ahead at d.1 }) else Err Outside)) ≡ Some found) × (touches_stack found.instr ≡ false) × (allowed regions memory at found.instr found ≡ Ok found)
 admitted_fine true regions memory at d found quiet h =
     let f : Fetched = record { instr = d.0; next = ahead at d.1 } in
     let same : f ≡ found = allowed_is regions memory at d.0 f found h in
     (ap Some same, ap (λ (x : Fetched). touches_stack x.instr) (sym same) ∙ quiet, subst (λ (x : Fetched). allowed regions memory at x.instr x ≡ Ok found) same h)
 admitted_fine false regions memory at d found quiet h = cc
 
-fine_fetched : (regions : Areas) (memory : List ℕ) (at : ℕ) (d : Instr × ℕ) (found : Fetched) → touches_stack d.0 ≡ false → fetched_at regions memory at (admitted regions at d) ≡ Ok found → (admitted regions at d ≡ Some found) × (touches_stack found.instr ≡ false) × (allowed regions memory at found.instr found ≡ Ok found)
-fine_fetched regions memory at d found quiet h = admitted_fine (all_code regions at d.1) regions memory at d found quiet h
+fine_fetched : (regions : Areas) (memory : List ℕ) (at : ℕ) (d : Instr × ℕ) (found : Fetched) → touches_stack d.0 ≡ false → fetched_at regions memory at (result_ok (admitted (in_code regions) at d)) ≡ Ok found → (result_ok (admitted (in_code regions) at d) ≡ Some found) × (touches_stack found.instr ≡ false) × (allowed regions memory at found.instr found ≡ Ok found)
+fine_fetched regions memory at d found quiet h = admitted_fine (all_code (in_code regions) at d.1) regions memory at d found quiet h
 
-stack_tested : (b : Bool) (regions : Areas) (memory : List ℕ) (at : ℕ) (d : Instr × ℕ) (found : Fetched) → touches_stack d.0 ≡ b → fetch regions memory at ≡ admitted regions at d →
+stack_tested : (b : Bool) (regions : Areas) (memory : List ℕ) (at : ℕ) (d : Instr × ℕ) (found : Fetched) → touches_stack d.0 ≡ b → fetch regions memory at ≡ result_ok (admitted (in_code regions) at d) →
     (if b then Err (NotYet at) else fetched_at regions memory at (fetch regions memory at)) ≡ Ok found →
     (fetch regions memory at ≡ Some found) × (touches_stack found.instr ≡ false) × (allowed regions memory at found.instr found ≡ Ok found)
 stack_tested true regions memory at d found quiet f h = cc
@@ -71,12 +72,12 @@ stack_tested false regions memory at d found quiet f h =
     let parts = fine_fetched regions memory at d found quiet (ap (fetched_at regions memory at) (sym f) ∙ h) in
     (f ∙ parts.0, parts.1, parts.2)
 
-decoded_fine : (regions : Areas) (memory : List ℕ) (at : ℕ) (d : Option (Instr × ℕ)) (found : Fetched) → fetch regions memory at ≡ option_map_or (admitted regions at) d None → decoded_at regions memory at d ≡ Ok found →
+decoded_fine : (regions : Areas) (memory : List ℕ) (at : ℕ) (d : Option (Instr × ℕ)) (found : Fetched) → fetch regions memory at ≡ result_ok (admitted_if_used (in_code regions) at d) → decoded_at regions memory at d ≡ Ok found →
     (fetch regions memory at ≡ Some found) × (touches_stack found.instr ≡ false) × (allowed regions memory at found.instr found ≡ Ok found)
 decoded_fine regions memory at None found f h = cc
 decoded_fine regions memory at (Some d) found f h = stack_tested (touches_stack d.0) regions memory at d found refl f h
 
-begun_fine : (b : Bool) (regions : Areas) (memory : List ℕ) (at : ℕ) (d : Option (Instr × ℕ)) (found : Fetched) → in_code regions at ≡ b → fetch regions memory at ≡ option_map_or (admitted regions at) d None →
+begun_fine : (b : Bool) (regions : Areas) (memory : List ℕ) (at : ℕ) (d : Option (Instr × ℕ)) (found : Fetched) → in_code regions at ≡ b → fetch regions memory at ≡ result_ok (if b then admitted_if_used (in_code regions) at d else Err Outside) →
     (if b then decoded_at regions memory at d else Err (FetchOutside at)) ≡ Ok found → IsFine regions memory at found
 begun_fine true regions memory at d found here f h =
     let rest = decoded_fine regions memory at d found f h in
@@ -84,7 +85,7 @@ begun_fine true regions memory at d found here f h =
 begun_fine false regions memory at d found here f h = cc
 
 pub is_fine : (regions : Areas) (memory : List ℕ) (at : ℕ) (found : Fetched) → look_at regions memory at ≡ Ok found → IsFine regions memory at found
-unfolding fetch
+unfolding fetch fetch_in
 is_fine regions memory at found h =
     let d : Option (Instr × ℕ) = decoded (slice_index memory at) (slice_index memory (ahead at 1)) (slice_index memory (ahead at 2)) in
     begun_fine (in_code regions at) regions memory at d found refl refl h
@@ -293,7 +294,7 @@ followed : (image : Located) (most : Option ℕ) (w : World) (o : Option World) 
 followed image most w None sound before h = cc
 followed image most w (Some v) sound before h = stays_in_step image most v w sound (before v refl) h
 
--- every world of a run is in step
+-- every world after the start is in step
 pub always_in_step : (image : Located) (inputs : List (List ℕ)) (outputs : List (ℕ × ℕ)) (most : Option ℕ) → IsSound image → (n : ℕ) (w : World) → world_at image.regions most (world_at_start image inputs outputs) n ≡ Some w → InStep image w
 always_in_step image inputs outputs most sound zero w h =
     let begun : InStep image (world_at_start image inputs outputs) = record { reached = starts image.start refl; same = record { bytes = λ a c. refl } } in
@@ -301,19 +302,22 @@ always_in_step image inputs outputs most sound zero w h =
 always_in_step image inputs outputs most sound (suc n) w h =
     followed image most w (world_at image.regions most (world_at_start image inputs outputs) n) sound (always_in_step image inputs outputs most sound n) h
 
--- the next step of a world in step is right
-right_in_step : (image : Located) (w : World) → IsSound image → InStep image w → IsRight image.regions 0 w
-right_in_step image w sound step =
+-- the next step of a world in step: what it fetches and stores, that it touches no stack, and its end
+inside_in_step : (image : Located) (w : World) → IsSound image → InStep image w → FetchesInside image.regions w
+inside_in_step image w sound step =
     let f : Finds image w = finds image w sound step in
     record {
       found = f.found;
       fetched = f.fetched;
-      goes = record {
-        direct = all_pass (in_data image.regions) (direct_bytes f.found.instr) (direct_inside image.regions (memory_of image.chunks) w.machine.cpu.pc f.found.instr f.found f.fine.fine);
-        stack = none_fail (λ a. IsJustBelow (top_of image.regions) 0 a) (stack_bytes f.found.instr w.machine.cpu) (quiet_stack f.found.instr w.machine.cpu f.fine.quiet);
-        place = λ taken. absurd (true≢false (sym taken ∙ quiet_returns f.found.instr w.machine.cpu.registers.flags f.fine.quiet));
-      };
+      direct = all_pass (in_data image.regions) (direct_bytes f.found.instr) (direct_inside image.regions (memory_of image.chunks) w.machine.cpu.pc f.found.instr f.found f.fine.fine);
     }
+
+quiet_in_step : (image : Located) (w : World) (found : Fetched) → IsSound image → InStep image w → fetched_by image.regions w ≡ Some found → touches_stack found.instr ≡ false
+quiet_in_step image w found sound step fetched =
+    let f : Finds image w = finds image w sound step in
+    let there : fetch image.regions w.machine.memory w.machine.cpu.pc ≡ Some f.found = f.fetched in
+    let same : f.found ≡ found = cc (there, fetched) in
+    subst (λ (x : Fetched). touches_stack x.instr ≡ false) same f.fine.quiet
 
 proper_in_step : (image : Located) (most : Option ℕ) (w : World) (e : End) → IsSound image → InStep image w → turn_at image.regions most w ≡ Stop e → IsProperEnd e
 proper_in_step image most w e sound step h =
@@ -323,9 +327,15 @@ proper_in_step image most w e sound step h =
     guarded_ends (first_outside (in_data image.regions) (pointed_bytes f.found.instr w.machine.cpu.registers)) (refuses most w.machine.outputs) f.found w.machine e
     (ap (λ (o : Option End). guarded o (refuses most w.machine.outputs) f.found w.machine) (sym g) ∙ sym (turn_there image most w f) ∙ h)
 
+-- every world of a run is in step
+world_in_step : (image : Located) (most : Option ℕ) (w : World) → IsSound image → IsWorldOf image most w → InStep image w
+world_in_step image most w sound at = always_in_step image at.inputs at.outputs most sound at.steps w at.is
+
 -- a program whose reached points have no fault never goes wrong, and needs no byte of stack
 pub never_goes_wrong : (image : Located) → IsSound image → NeverGoesWrong image 0
 never_goes_wrong image sound = record {
-  steps = λ inputs outputs most n w h. right_in_step image w sound (always_in_step image inputs outputs most sound n w h);
-  ends = λ inputs outputs most n w e h stops. proper_in_step image most w e sound (always_in_step image inputs outputs most sound n w h) stops;
+  fetches_and_stores = λ most w at. inside_in_step image w sound (world_in_step image most w sound at);
+  returning = λ most w found at fetched taken. absurd (true≢false (sym taken ∙ quiet_returns found.instr w.machine.cpu.registers.flags (quiet_in_step image w found sound (world_in_step image most w sound at) fetched)));
+  stack = λ most w found at fetched. none_fail (λ a. IsJustBelow (top_of image.regions) 0 a) (stack_bytes found.instr w.machine.cpu) (quiet_stack found.instr w.machine.cpu (quiet_in_step image w found sound (world_in_step image most w sound at) fetched));
+  ends = λ most w e at stops. proper_in_step image most w e sound (world_in_step image most w sound at) stops;
 }

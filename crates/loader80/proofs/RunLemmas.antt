@@ -26,7 +26,7 @@ most_agrees false outputs = tt
 pub ends_properly : (image : Located) (inputs : List (List ℕ)) (outputs : List (ℕ × ℕ)) (most : Option ℕ) (limit steps : ℕ) (m : Machine) (ending : Option End) → IsSound image →
     IsRun image.regions most (world_at_start image inputs outputs) limit steps m ending → IfSome ending IsProperEnd
 ends_properly image inputs outputs most limit steps m None sound run = tt
-ends_properly image inputs outputs most limit steps m (Some e) sound run = (never_goes_wrong image sound).ends inputs outputs most run.1.before run.1.last e run.1.at run.1.stops
+ends_properly image inputs outputs most limit steps m (Some e) sound run = (never_goes_wrong image sound).ends most run.1.last e (record { inputs = inputs; outputs = outputs; steps = run.1.before; is = run.1.at }) run.1.stops
 
 -- the same from the parts of the start
 pub parts_end_properly : (image : Located) (regions : Areas) (cpu : Cpu) (memory : List ℕ) (inputs : List (List ℕ)) (outputs : List (ℕ × ℕ)) (most : Option ℕ) (limit steps : ℕ) (m : Machine) (ending : Option End) → IsSound image →

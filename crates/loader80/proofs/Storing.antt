@@ -12,7 +12,7 @@ use Rattle.place80.specs.Regions.{Areas, AreRegions, all_ranges, in_code, in_dat
 use Rattle.machine80.specs.declared.cpu.Cpu.{Cpu}
 use Rattle.machine80.specs.declared.end.End.{End}
 use Rattle.machine80.specs.declared.end.End.TheVariants.{Direct, StoreOutside}
-use Rattle.machine80.specs.Cpu.{ahead}
+use Rattle.decode80.specs.Fetch.{ahead}
 use Rattle.machine80.specs.Effects.{stores, stored}
 use Rattle.machine80.specs.Step.{guard, first_outside, ends_at}
 use Rattle.loader80.specs.Check.{touches_stack}

@@ -5,7 +5,7 @@ use Rattle.std.proofs.lemmas.Bool.{cases_Bool, eqb-false}
 use Rattle.std.proofs.lemmas.List.Elements.{Contains-append_left, Contains-append_right, Contains-append_cases}
 use Rattle.std.proofs.lemmas.List.Sums.{sum_by-set}
 use Rattle.place80.specs.Image.{Located, memory_of}
-use Rattle.machine80.specs.declared.fetching.Fetched.{Fetched}
+use Rattle.decode80.specs.declared.fetching.Fetched.{Fetched}
 use Rattle.loader80.specs.Check.{look_at, successors, Reached, starts, leads}
 use Rattle.loader80.specs.Walk.{is_marked, Marks, IsDone, IsWalk, IsFirst}
 

@@ -7,9 +7,8 @@ use Rattle.decode80.specs.declared.pair.Pair.TheVariants.{Sp}
 use Rattle.decode80.specs.Decoded.{decoded}
 use Rattle.place80.specs.Regions.{Areas, AreRegions, in_code, in_data}
 use Rattle.place80.specs.Image.{Located, memory_of}
-use Rattle.machine80.specs.declared.fetching.Fetched.{Fetched}
-use Rattle.machine80.specs.Cpu.{ahead}
-use Rattle.machine80.specs.Effects.{direct_bytes}
+use Rattle.decode80.specs.declared.fetching.Fetched.{Fetched}
+use Rattle.decode80.specs.Fetch.{ahead, direct_bytes}
 use Rattle.machine80.specs.Step.{fetch}
 use Rattle.loader80.specs.declared.refusal.Refusal.{Refusal}
 use Rattle.loader80.specs.declared.refusal.Refusal.TheVariants.{NotYet, FetchOutside, UnusedOpcode, EnablesInterrupts, Sphl as RefusesSphl, Pchl as RefusesPchl, StackByByte, DirectStore, Memory}

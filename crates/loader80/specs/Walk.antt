@@ -1,7 +1,7 @@
 -- How the check keeps the points that it has seen: a mark for each address, and a list of those to be looked at.
 use Rattle.std.specs.Prelude.{◌≡◌, ℕ, ◌+◌, ◌≤◌, ◌⊎◌, Bool, true, false, List, Ok, Contains, length, sum_by, slice_index_or, if◌then◌else◌}
 use Rattle.place80.specs.Image.{Located, memory_of}
-use Rattle.machine80.specs.declared.fetching.Fetched.{Fetched}
+use Rattle.decode80.specs.declared.fetching.Fetched.{Fetched}
 use Rattle.loader80.specs.Check.{look_at, successors, Reached}
 
 -- whether an address is marked

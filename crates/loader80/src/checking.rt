@@ -1,18 +1,18 @@
 //! The check goes over the points that a program reaches.
 
 ghost use Rattle.std.specs.Prelude.{◌≡◌, OnOk, IfErr};
-ghost use Rattle.machine80.specs.Cpu.{ahead};
+ghost use Rattle.decode80.specs.Fetch.{ahead};
 ghost use Rattle.loader80.specs.Check.{look_at, touches_stack, allowed, IsSound, Holds};
 
 use crate::refusal::Refusal;
 use crate::walk::Walk;
-use decode80::{Instr, Pair, decode};
-use machine80::{Bus, Fetched, FlatBus, fetch};
+use decode80::{Fetched, Instr, Pair, decode};
+use machine80::{Bus, FlatBus, fetch};
 use place80::{Image, Regions};
 use std::alloc::{AllocError, Global};
 
 /// The instruction at a point, or its first fault.
-#[tactic(auto, unfolding(machine80::specs::Cpu::ahead))]
+#[tactic(auto, unfolding(decode80::specs::Fetch::ahead))]
 fn look_at<B: Bus>(at: u16, bus: &B, regions: &Regions) -> Result<Fetched, Refusal>
     ensures { result ≡ look_at regions.now (B.memory bus.now) at }
 {
@@ -49,7 +49,7 @@ fn touches_stack(instr: Instr) -> bool
 }
 
 /// What was fetched, where its instruction has no fault of its own.
-#[tactic(auto, unfolding(machine80::specs::Cpu::ahead))]
+#[tactic(auto, unfolding(decode80::specs::Fetch::ahead))]
 fn allow<B: Bus>(at: u16, found: Fetched, bus: &B, regions: &Regions) -> Result<Fetched, Refusal>
     ensures { result ≡ allowed regions.now (B.memory bus.now) at found.instr found }
 {

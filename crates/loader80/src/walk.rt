@@ -4,8 +4,7 @@ ghost use Rattle.std.specs.Prelude.{◌≡◌, ℕ, ◌<◌, ◌≤◌, List, []
 ghost use Rattle.loader80.specs.Check.{successors};
 ghost use Rattle.loader80.specs.Walk.{Marks, is_marked, IsFirst};
 
-use decode80::Instr;
-use machine80::Fetched;
+use decode80::{Fetched, Instr};
 use std::alloc::{AllocError, Global};
 
 /// The points that are known to be reached, and those of them that are still to be looked at.

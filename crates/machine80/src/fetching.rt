@@ -1,56 +1,64 @@
-//! An instruction is fetched.
+//! An instruction is fetched from a processor's memory, inside the code.
 
-ghost use Rattle.std.specs.Prelude.{◌≡◌, ◌+◌, ◌-◌, ◌<◌, ◌≤◌, ◌&&◌, nat_le};
-ghost use Rattle.std.specs.List.{list_all, range_with_len};
+ghost use Rattle.std.specs.Prelude.{◌≡◌, ◌+◌, ◌&&◌, [], ◌∷◌, nat_le, slice_index};
+ghost use Rattle.decode80.specs.Fetch.{all_code};
+ghost use Rattle.place80.specs.Range.{in_ranges};
 ghost use Rattle.place80.specs.Regions.{in_code};
-ghost use Rattle.machine80.specs.Step.{fetch, all_code};
+ghost use Rattle.machine80.specs.Step.{fetch};
 
 use crate::bus::Bus;
-use crate::words::ahead;
-use decode80::{Instr, decode};
+use decode80::{Fetched, Program};
 use place80::{Range, Regions};
 
-/// An instruction and the address after it.
-#[derive(Clone, Copy, Debug, PartialEq, Eq)]
-pub struct Fetched {
-    pub instr: Instr,
-    pub next: u16,
+/// A memory whose code lies in regions.
+#[derive_where(Clone, Copy)]
+struct InRegions<'a, B> {
+    bus: &'a B,
+    regions: &'a Regions,
 }
 
-/// The instruction at an address; `None` where its first byte is unused, or where one of its bytes is no code or lies
-/// past FFFF.
-#[inline]
-#[tactic(auto, unfolding(crate::specs::Step::fetch))]
-pub fn fetch<B: Bus>(address: u16, bus: &B, regions: &Regions) -> Option<Fetched>
-    ensures { result ≡ fetch regions.now (B.memory bus.now) address }
-{
-    let bytes = [
-        bus.load(address),
-        bus.load(ahead(address, 1)),
-        bus.load(ahead(address, 2)),
-    ];
-    let (instr, length) = decode(bytes)?;
-    if !all_code(regions, address, length) {
-        return None;
+impl<'a, B: Bus> Program for InRegions<'a, B> {
+    ghost code = { λ p. in_code p.regions.now };
+
+    ghost held = { λ p address. slice_index (B.memory p.bus.now) address };
+
+    #[inline]
+    fn is_code(&self, address: u16) -> bool {
+        self.regions.in_code(address)
     }
-    Some(Fetched {
-        instr,
-        next: ahead(address, length as u16),
-    })
+
+    #[inline]
+    fn byte(&self, address: u16) -> u8 {
+        self.bus.load(address)
+    }
 }
 
-/// Whether one to three bytes from an address on are code, and none of them is past FFFF.
-#[inline]
-fn all_code(regions: &Regions, address: u16, count: usize) -> bool
-    requires some { 0 < count }
-    requires few { count ≤ 3 }
-    ensures { result ≡ all_code regions.now address count }
-{
-    let first = usize::from(address);
-    let end = first + count;
-    match regions.code() {
-        [only] => spans(*only, first, end),
-        _ => end <= 65536 && each_code(regions, first, end),
+/// A memory whose code is one range, as of most programs: whether an instruction lies in it is one test.
+#[derive_where(Clone, Copy)]
+struct InRange<'a, B> {
+    bus: &'a B,
+    code: Range,
+}
+
+impl<'a, B: Bus> Program for InRange<'a, B> {
+    ghost code = { λ p. in_ranges (p.code ∷ []) };
+
+    ghost held = { λ p address. slice_index (B.memory p.bus.now) address };
+
+    #[inline]
+    fn is_code(&self, address: u16) -> bool {
+        self.code.contains(address)
+    }
+
+    #[inline]
+    fn byte(&self, address: u16) -> u8 {
+        self.bus.load(address)
+    }
+
+    #[inline]
+    fn all_code(&self, address: u16, count: usize) -> bool {
+        let first = usize::from(address);
+        first + count <= 65536 && spans(self.code, first, first + count)
     }
 }
 
@@ -63,15 +71,15 @@ fn spans(range: Range, first: usize, end: usize) -> bool
     start <= first && end <= start + usize::from(range.length)
 }
 
-/// Whether each address from `first` up to `end` is code.
-fn each_code(regions: &Regions, first: usize, end: usize) -> bool
-    requires { end ≤ 65536 }
-    ensures { result ≡ list_all (in_code regions.now) (range_with_len first (end - first)) }
+/// The instruction at an address and the address after it; `None` where its first byte is unused, or where one of its
+/// bytes is no code or lies past FFFF.
+#[inline]
+#[tactic(auto, unfolding(crate::specs::Step::fetch))]
+pub fn fetch<B: Bus>(address: u16, bus: &B, regions: &Regions) -> Option<Fetched>
+    ensures { result ≡ fetch regions.now (B.memory bus.now) address }
 {
-    for address in first..end {
-        if !regions.in_code(address as u16) {
-            return false;
-        }
+    match regions.code() {
+        [only] => decode80::fetch(address, &InRange { bus, code: *only }).ok(),
+        _ => decode80::fetch(address, &InRegions { bus, regions }).ok(),
     }
-    true
 }

@@ -29,7 +29,7 @@ pub use alu::{
 pub use bus::Bus;
 pub use cpu::Cpu;
 pub use end::End;
-pub use fetching::{Fetched, fetch};
+pub use fetching::fetch;
 pub use flags::{Flags, condition_holds};
 pub use flat_bus::FlatBus;
 pub use inputs::Inputs;

@@ -8,9 +8,9 @@ use crate::bus::Bus;
 use crate::cpu::Cpu;
 use crate::end::End;
 use crate::execute::proceed;
-use crate::fetching::{Fetched, fetch};
+use crate::fetching::fetch;
 use crate::ports::Ports;
-use decode80::Instr;
+use decode80::{Fetched, Instr};
 use place80::Regions;
 
 /// Makes one step: the instruction at the program counter is fetched, guarded and executed.

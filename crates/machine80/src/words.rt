@@ -1,19 +1,11 @@
 //! Words in memory.
 
 ghost use Rattle.std.specs.Prelude.{◌≡◌, ◌/◌, ◌%◌};
+ghost use Rattle.decode80.specs.Fetch.{ahead};
 ghost use Rattle.machine80.specs.Effects.{word_in, stored, push_bytes};
-ghost use Rattle.machine80.specs.Cpu.{ahead};
 
 use crate::bus::Bus;
-
-/// The address so many bytes after another one, modulo 65536.
-#[inline]
-#[tactic(auto, unfolding(crate::specs::Cpu::ahead))]
-pub(crate) fn ahead(address: u16, bytes: u16) -> u16
-    ensures { result ≡ ahead address bytes }
-{
-    address.wrapping_add(bytes)
-}
+use decode80::{ahead, behind};
 
 /// The word at an address and the one after it, low byte first.
 #[inline]
@@ -28,8 +20,8 @@ pub(crate) fn load_word<B: Bus>(bus: &B, address: u16) -> u16
 pub(crate) fn push<B: Bus>(bus: &mut B, sp: u16, high: u8, low: u8)
     ensures { B.memory bus.new ≡ stored (B.memory bus.old) (push_bytes sp high low) }
 {
-    bus.store(ahead(sp, 65535), high);
-    bus.store(ahead(sp, 65534), low);
+    bus.store(behind(sp, 1), high);
+    bus.store(behind(sp, 2), low);
 }
 
 /// Writes a word below the stack pointer, the high byte first.
