@@ -2,7 +2,6 @@ pub mod ArithmeticLemmas
 pub mod ByteLemmas
 pub mod DecimalLemmas
 pub mod FlagsLemmas
-pub mod Placing
 pub mod PortsLemmas
 pub mod Queues
 pub mod RotationLemmas

@@ -1,6 +1,5 @@
 pub mod Ports
 pub mod ListPorts
-pub mod FlatBus
 pub mod Flags
 pub mod Arithmetic
 pub mod ArithmeticLaws

@@ -1,9 +1,8 @@
-ghost use Rattle.std.specs.Prelude.{◌≡◌, ℕ, ◌+◌, ◌<◌, ◌≤◌, List, length, slice_index, slice_set, IfOk, if◌then◌else◌};
+ghost use Rattle.std.specs.Prelude.{◌≡◌, IfOk};
 ghost use Rattle.place80.specs.Image.{memory_of};
-ghost use Rattle.machine80.specs.FlatBus.{Holds, AreZeros};
 
 use crate::bus::Bus;
-use place80::{Chunk, Image};
+use place80::Image;
 use std::alloc::{AllocError, Global};
 use std::marker::Model;
 
@@ -31,28 +30,10 @@ impl FlatBus {
     pub fn new(alloc: Global, image: &Image) -> Result<Self, AllocError>
         ensures { IfOk result (λ bus. bus ≡ memory_of image.now.chunks) }
     {
-        let mut bytes = zeros(alloc, 65536)?;
-        for chunk in &image.chunks {
-            place(&mut bytes, chunk);
-        }
-        Ok(FlatBus { bytes })
+        Ok(FlatBus {
+            bytes: image.memory(alloc)?,
+        })
     }
-}
-
-/// So many bytes of 0.
-fn zeros(alloc: Global, count: usize) -> Result<Vec<u8>, AllocError>
-    ensures { IfOk result (λ bytes. AreZeros bytes.items count) }
-{
-    Ok(vec![in alloc; 0; count]?)
-}
-
-/// Writes the chunk's bytes to their addresses.
-fn place(bytes: &mut Vec<u8>, chunk: &Chunk)
-    requires { length bytes.old.items ≡ 65536 }
-    ensures { Holds bytes.old.items chunk.now bytes.new.items }
-{
-    let first = usize::from(chunk.address);
-    bytes[first..first + chunk.bytes.len()].copy_from_slice(&chunk.bytes);
 }
 
 impl Bus for FlatBus {

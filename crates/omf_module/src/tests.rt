@@ -1,11 +1,10 @@
-//! Worked files, computed by hand from the record layouts, and each call once where it answers.
+//! Worked files, computed by hand from the record layouts, and each call once where it answers. Files that are refused are
+//! rows of the program's tests.
 
 use super::*;
 use omf_core::{Name, RecordFault};
 use std::alloc::Global;
 use std::test::Fail;
-
-mod bad_records;
 
 /// A main program `A` with one byte of code, and nothing else.
 const MAIN: [u8; 32] = [
@@ -39,20 +38,39 @@ const ALL_AGAIN: [u8; 132] = [
     0xF1, 0x01, 0x02, 0x03,
 ];
 
-fn main_parts(alloc: Global) -> Result<Parts, Fail> {
-    let code = Segment {
+/// CODE of one byte, and of four.
+const ONE: (u8, Segment) = (
+    1,
+    Segment {
         length: 1,
         paged: false,
-    };
+    },
+);
+
+const FOUR: (u8, Segment) = (
+    1,
+    Segment {
+        length: 4,
+        paged: false,
+    },
+);
+
+/// The parts of a main program `A` with these segments, these bytes of code and these references in them.
+fn parts(
+    alloc: Global,
+    segments: &[(u8, Segment)],
+    code: &[u8],
+    fixups: &[Fixup],
+) -> Result<Parts, Fail> {
     let content = Content {
         segment: 1,
         offset: 0,
-        bytes: vec![in alloc; 0x76]?,
-        fixups: Vec::new(alloc),
+        bytes: Vec::from_slice(alloc, code)?,
+        fixups: Vec::from_slice(alloc, fixups)?,
     };
     Ok(Parts {
         name: Name::new(alloc, b"A")?,
-        segments: vec![in alloc; (1u8, code)]?,
+        segments: Vec::from_slice(alloc, segments)?,
         commons: Vec::new(alloc),
         publics: Vec::new(alloc),
         externals: Vec::new(alloc),
@@ -61,96 +79,76 @@ fn main_parts(alloc: Global) -> Result<Parts, Fail> {
     })
 }
 
-fn made(alloc: Global, parts: Parts) -> Result<Module, PartsFault> {
-    match Module::from_parts(alloc, parts) {
-        Ok(module) => Ok(module),
-        Err((_, fault)) => Err(fault),
-    }
-}
-
-#[test]
-fn a_main_program_is_written(rt: HostRuntime) -> Result<(), Fail> {
-    let alloc = rt.alloc();
-    let module = made(alloc, main_parts(alloc)?)?;
-    let copied = module.copy(alloc)?;
-    assert_eq!(rt; copied.start(), Some((1, 0)));
-    assert_eq!(rt; copied.name().bytes(), b"A".as_slice());
-    assert_eq!(rt; copied.segment(1).map(|s| s.length), Some(1));
-    assert_eq!(rt; copied.segment(2).map(|s| s.length), Some(0));
-    assert_eq!(rt; copied.segment(6), None);
+/// The file that is written for a module.
+fn file_of(alloc: Global, module: Module) -> Result<Vec<u8>, Fail> {
     let mut out = Vec::new(alloc);
-    write_file(alloc, &[copied], &mut out)?;
-    assert_eq!(rt; out.as_slice(), MAIN.as_slice());
-    Ok(())
+    write_file(alloc, &[module], &mut out)?;
+    Ok(out)
 }
 
 #[test]
-fn a_segment_listed_twice(rt: HostRuntime) -> Result<(), Fail> {
-    let alloc = rt.alloc();
-    let mut parts = main_parts(alloc)?;
-    let code = Segment {
-        length: 1,
-        paged: false,
-    };
-    parts.segments.push((1, code))?;
-    let Err((back, fault)) = Module::from_parts(alloc, parts) else {
-        return Err(Fail::new("taken"));
-    };
-    assert_eq!(rt; fault, PartsFault::Rule);
-    assert_eq!(rt; fault.code(), 1);
-    assert_eq!(rt; back.segments.len(), 2);
+fn a_main_program_is_made_and_written(rt: HostRuntime) -> Result<(), Fail> {
+    let parts = parts(rt.alloc(), &[ONE], &[0x76], &[])?;
+    let module = Module::from_parts(rt.alloc(), parts).map_err(|(_, fault)| fault)?;
+    assert_eq!(rt; file_of(rt.alloc(), module)?.as_slice(), MAIN.as_slice());
     Ok(())
+}
+
+fn main_program(alloc: Global) -> Result<Module, Fail> {
+    let (module, _) = read_module(alloc, &MAIN, 0)?;
+    Ok(module)
 }
 
 #[test]
 fn a_main_program_is_read(rt: HostRuntime) -> Result<(), Fail> {
-    let alloc = rt.alloc();
-    let (module, after) = read_module(alloc, &MAIN, 0)?;
-    assert_eq!(rt; after, 28);
-    assert_eq!(rt; module.name().bytes(), b"A".as_slice());
+    let module = main_program(rt.alloc())?;
     assert_eq!(rt; module.start(), Some((1, 0)));
-    assert_eq!(rt; module.contents().len(), 1);
-    let modules = read_file(alloc, &MAIN)?;
-    assert_eq!(rt; modules.len(), 1);
-    let mut out = vec![in alloc; 0x11u8]?;
-    write_file(alloc, modules.as_slice(), &mut out)?;
-    assert_eq!(rt; out.get(1..), Some(MAIN.as_slice()));
+    assert_eq!(rt; module.segment(1), Some(ONE.1));
+    Ok(())
+}
+
+#[test]
+fn a_main_program_is_copied(rt: HostRuntime) -> Result<(), Fail> {
+    let copied = main_program(rt.alloc())?.copy(rt.alloc())?;
+    assert_eq!(rt; file_of(rt.alloc(), copied)?.as_slice(), MAIN.as_slice());
+    Ok(())
+}
+
+/// A segment listed twice, a byte that two references share, a reference outside the content, an unknown external.
+#[test]
+fn parts_that_break_a_rule(rt: HostRuntime) -> Result<(), Fail> {
+    let at = |offset: u16, target: Target| Fixup {
+        offset,
+        field: Field::Both,
+        target,
+    };
+    let own = Target::Segment(1);
+    let cases: [(&[(u8, Segment)], &[Fixup]); 4] = [
+        (&[FOUR, FOUR], &[]),
+        (&[FOUR], &[at(0, own), at(1, own)]),
+        (&[FOUR], &[at(3, own)]),
+        (&[FOUR], &[at(0, Target::External(0))]),
+    ];
+    for (segments, fixups) in cases {
+        let parts = parts(rt.alloc(), segments, &[0; 4], fixups)?;
+        let back = Module::from_parts(rt.alloc(), parts).map_err(|(back, fault)| (
+            back.segments.len(),
+            fault,
+        ));
+        assert_eq!(rt; back.err(), Some((segments.len(), PartsFault::Rule)));
+    }
     Ok(())
 }
 
 #[test]
 fn every_kind_of_record(rt: HostRuntime) -> Result<(), Fail> {
-    let alloc = rt.alloc();
     for file in [ALL.as_slice(), ALL_AGAIN.as_slice()] {
-        let modules = read_file(alloc, file)?;
-        let mut out = Vec::new(alloc);
-        if modules.is_empty() {
-            return Err(Fail::new("no module"));
-        }
-        write_file(alloc, modules.as_slice(), &mut out)?;
-        assert_eq!(rt; out.as_slice(), ALL.as_slice());
+        let (module, _) = read_module(rt.alloc(), file, 0)?;
+        assert_eq!(rt; module.name().bytes(), b"ALL".as_slice());
+        assert_eq!(rt; (module.commons().len(), module.publics().len()), (1, 1));
+        assert_eq!(rt; (module.externals().len(), module.contents().len()), (1, 2));
+        assert_eq!(rt; file_of(rt.alloc(), module)?.as_slice(), ALL.as_slice());
     }
-    let (module, _) = read_module(alloc, &ALL_AGAIN, 0)?;
-    let Some(content) = module.contents().first() else {
-        return Err(Fail::new("no content"));
-    };
-    let high = Fixup {
-        offset: 2,
-        field: Field::High,
-        target: Target::Segment(6),
-    };
-    assert_eq!(rt; content.fixups.len(), 3);
-    assert_eq!(rt; content.fixups.get(1).copied(), Some(high));
-    assert_eq!(rt; module.commons().len(), 1);
-    assert_eq!(rt; module.publics().len(), 1);
-    assert_eq!(rt; module.externals().len(), 1);
-    let named = Segment {
-        length: 4,
-        paged: false,
-    };
-    assert_eq!(rt; module.segment(6), Some(named));
-    assert_eq!(rt; module.segment(1).map(|s| s.paged), Some(true));
-    assert_eq!(rt; module.segment(0).map(|s| s.length), Some(0));
     Ok(())
 }
 
@@ -163,15 +161,18 @@ fn fault_of(alloc: Global, file: &[u8]) -> Option<(usize, Cause)> {
 
 #[test]
 fn a_file_cut_at_each_byte(rt: HostRuntime) {
-    for size in 0..MAIN.len() {
-        let truncated = |at: usize| Some((at, Cause::Record(RecordFault::Truncated(at))));
+    for size in 0..=MAIN.len() {
+        let begun = match size {
+            0..=12 => 0,
+            13..=20 => 12,
+            21..=28 => 20,
+            _ => 28,
+        };
         let want = match size {
             0 => Some((0, Cause::NoHeader)),
             12 | 20 | 28 => Some((size, Cause::NoEnd)),
-            1..=11 => truncated(0),
-            13..=19 => truncated(12),
-            21..=27 => truncated(20),
-            _ => truncated(28),
+            32 => None,
+            _ => Some((begun, Cause::Record(RecordFault::Truncated(begun)))),
         };
         assert_eq!(rt;
             fault_of(rt.alloc(), &MAIN[..size]),
@@ -181,7 +182,51 @@ fn a_file_cut_at_each_byte(rt: HostRuntime) {
     }
 }
 
-/// The file of the main program, with its bytes from one place up to another replaced.
+/// The place in the main program's file from which bytes are replaced, the place up to which they are, the record that
+/// stands there instead, and the fault.
+const CHANGES: [(usize, usize, &[u8], Cause); 9] = [
+    (
+        12,
+        12,
+        b"\x22\x04\x00\x03\x00\x00\xD7",
+        Cause::FixupBeforeContent,
+    ),
+    (20, 20, b"\x22\x04\x00\x03\x00\x00\xD7", Cause::FixupOutside),
+    (
+        20,
+        20,
+        b"\x22\x06\x00\x01\x00\x00\x00\x00\xD7",
+        Cause::FixupTwice,
+    ),
+    (
+        20,
+        20,
+        b"\x20\x06\x00\x01\x00\x00\x00\x00\xD9",
+        Cause::IndexUnknown,
+    ),
+    (
+        12,
+        20,
+        b"\x06\x05\x00\x03\x00\x00\x76\x7C",
+        Cause::SegmentUnknown(3),
+    ),
+    (
+        12,
+        20,
+        b"\x06\x05\x00\x01\x01\x00\x76\x7D",
+        Cause::OffsetOutside,
+    ),
+    (12, 12, b"\x30\x01\x00\xCF", Cause::UnknownKind(0x30)),
+    (
+        20,
+        28,
+        b"\x04\x05\x00\x02\x01\x00\x00\xF4",
+        Cause::BadBody(0x04),
+    ),
+    (0, 12, b"\x02\x04\x00\x00\x00\x00\xFA", Cause::BadName),
+];
+
+/// The main program's file with a record in place of the bytes from one place up to another.
 fn changed(alloc: Global, from: usize, to: usize, record: &[u8]) -> Result<Vec<u8>, Fail> {
     let mut file = Vec::new(alloc);
     file.extend_from_slice(MAIN.get(..from).ok_or("past the end")?)?;
@@ -192,56 +237,24 @@ fn changed(alloc: Global, from: usize, to: usize, record: &[u8]) -> Result<Vec<u
 
 #[test]
 fn faults_at_their_places(rt: HostRuntime) -> Result<(), Fail> {
-    let alloc = rt.alloc();
-    let far = [0x22, 0x04, 0x00, 0x03, 0x00, 0x00, 0xD7];
-    let twice = [0x22, 0x06, 0x00, 0x01, 0x00, 0x00, 0x00, 0x00, 0xD7];
-    let index = [0x20, 0x06, 0x00, 0x01, 0x00, 0x00, 0x00, 0x00, 0xD9];
-    let stack = [0x06, 0x05, 0x00, 0x03, 0x00, 0x00, 0x76, 0x7C];
-    let past = [0x06, 0x05, 0x00, 0x01, 0x01, 0x00, 0x76, 0x7D];
-    let kind = [0x30, 0x01, 0x00, 0xCF];
-    let main = [0x04, 0x05, 0x00, 0x02, 0x01, 0x00, 0x00, 0xF4];
-    let name = [0x02, 0x04, 0x00, 0x00, 0x00, 0x00, 0xFA];
-    let at = |from: usize, to: usize, record: &[u8]| changed(alloc, from, to, record);
-    let fault = |file: Vec<u8>| fault_of(alloc, file.as_slice());
-    assert_eq!(rt;
-        fault(at(12, 12, &far)?),
-        Some((12, Cause::FixupBeforeContent))
-    );
-    assert_eq!(rt; fault(at(20, 20, &far)?), Some((20, Cause::FixupOutside)));
-    assert_eq!(rt; fault(at(20, 20, &twice)?), Some((20, Cause::FixupTwice)));
-    assert_eq!(rt; fault(at(20, 20, &index)?), Some((20, Cause::IndexUnknown)));
-    assert_eq!(rt;
-        fault(at(12, 20, &stack)?),
-        Some((12, Cause::SegmentUnknown(3)))
-    );
-    assert_eq!(rt; fault(at(12, 20, &past)?), Some((12, Cause::OffsetOutside)));
-    assert_eq!(rt;
-        fault(at(12, 12, &kind)?),
-        Some((12, Cause::UnknownKind(0x30)))
-    );
-    assert_eq!(rt; fault(at(20, 28, &main)?), Some((20, Cause::BadBody(0x04))));
-    assert_eq!(rt; fault(at(0, 12, &name)?), Some((0, Cause::BadName)));
+    for (from, to, record, cause) in CHANGES {
+        let file = changed(rt.alloc(), from, to, record)?;
+        assert_eq!(rt;
+            fault_of(rt.alloc(), &file),
+            Some((from, cause)),
+            "{record:?}"
+        );
+    }
     Ok(())
 }
 
 #[test]
 fn faults_as_printed(rt: HostRuntime) -> Result<(), Fail> {
-    let alloc = rt.alloc();
-    let text = |at: usize, cause: Cause| format!(in alloc; "{}", ModuleFault { at, cause });
-    let sum = Cause::Record(RecordFault::BadSum(0));
-    assert_eq!(rt; text(0, sum)?.as_str(), "BadSum 0 AT 0");
-    assert_eq!(rt;
-        text(12, Cause::UnknownKind(0x26))?.as_str(),
-        "UnknownKind 26 AT 12"
-    );
-    assert_eq!(rt; text(20, Cause::BadBody(4))?.as_str(), "BadBody 04 AT 20");
-    assert_eq!(rt; text(57, Cause::NoEnd)?.as_str(), "NoEnd AT 57");
-    assert_eq!(rt; text(0, Cause::Memory)?.as_str(), "Memory");
-    let fault = ModuleFault {
-        at: 3,
-        cause: Cause::FixupTwice,
+    let memory = ModuleFault {
+        at: 0,
+        cause: Cause::Memory,
     };
-    assert_eq!(rt; fault.code(), 10);
-    assert_eq!(rt; format!(in alloc; "{}", PartsFault::Rule)?.as_str(), "Rule");
+    let text = format!(in rt.alloc(); "{memory} {} {}", PartsFault::Rule, PartsFault::Memory)?;
+    assert_eq!(rt; text.as_str(), "Memory Rule Memory");
     Ok(())
 }

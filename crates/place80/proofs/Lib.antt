@@ -25,3 +25,5 @@ pub mod ImageFileLemmas
 pub mod LaidOut
 pub mod FitLemmas
 pub mod LocatedRegions
+pub mod MemoryLemmas
+pub mod RegionMapLemmas

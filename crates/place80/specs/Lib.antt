@@ -2,8 +2,10 @@ pub mod Range
 pub mod Regions
 pub mod Image
 pub mod Memory
+pub mod Placing
 pub mod Lines
 pub mod Digits
+pub mod RegionMap
 pub mod RegionsFault
 pub mod RegionsText
 pub mod Layout

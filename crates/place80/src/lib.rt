@@ -7,7 +7,8 @@
 //! | [`locate`], [`Options`], [`PlaceFault`] | a program made an image, what is told of its places, and why it can't be |
 //! | [`Range`] | consecutive addresses |
 //! | [`Regions`] | the ranges of code and of data, and the one range of the stack |
-//! | [`Chunk`], [`Image`] | bytes at an address; a located program |
+//! | [`RegionMap`] | whether an address is in the code or in the data, at the same cost for any number of ranges |
+//! | [`Chunk`], [`Image`] | bytes at an address; a located program, and its memory |
 //! | [`write_regions`], [`read_regions`], [`RegionsFault`] | regions as a text, and why bytes are no regions text |
 //! | [`write_image`], [`read_image`], [`ImageFault`] | an image as an object file, and why bytes are no image |
 //! | [`lines`] | texts over whole lines |
@@ -28,6 +29,7 @@ pub mod lines;
 mod located_chunks;
 mod located_regions;
 mod locating;
+mod memory;
 mod options;
 mod ordered;
 mod outside;
@@ -37,6 +39,7 @@ mod placed;
 mod places;
 mod range;
 mod read;
+mod region_map;
 mod regions;
 mod write;
 
@@ -52,6 +55,7 @@ pub use place_fault::PlaceFault;
 pub use placed::{Layout, Placed};
 pub use range::Range;
 pub use read::read_regions;
+pub use region_map::RegionMap;
 pub use regions::Regions;
 pub use write::write_regions;
 
