@@ -13,7 +13,11 @@ fn answer_of(
     until_failure: usize,
     writer: &mut SlowWriter,
 ) -> Result<Outcome, SessionFault> {
-    let until = |number: usize| if number == failing { until_failure } else { usize::MAX };
+    let until = |number: usize| if number == failing {
+        until_failure
+    } else {
+        usize::MAX
+    };
     let mut image = Reading::new(SlowReader {
         left: image,
         until_failure: until(1),
@@ -50,7 +54,11 @@ fn three_texts_come_to_their_transcript(rt: HostRuntime) -> Result<(), Fail> {
             fails: full == 0,
         };
         let answer = answer_of(alloc, image.as_slice(), 0, 0, &mut writer);
-        let fault = if full < 64 { Some(SessionFault::Write) } else { None };
+        let fault = if full < 64 {
+            Some(SessionFault::Write)
+        } else {
+            None
+        };
         assert_eq!(rt; answer.err(), fault);
         let written = full.min(expected.len());
         assert_eq!(rt; writer.taken.as_slice(), &expected[..written]);

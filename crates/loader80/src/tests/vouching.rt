@@ -20,7 +20,10 @@ fn image(alloc: Global, digits: &[u8]) -> Result<Image, Fail> {
 fn a_vouched_image_runs(rt: HostRuntime) -> Result<(), Fail> {
     let alloc = rt.alloc();
     // INR A, HLT.
-    let image = image(alloc, b"02050001410000B70606000000303C761204050001000030C60E0100F1")?;
+    let image = image(
+        alloc,
+        b"02050001410000B70606000000303C761204050001000030C60E0100F1",
+    )?;
     let vouched = vouch(alloc, image).map_err(|(_, refusal)| refusal)?;
     assert_eq!(rt; vouched.stack_bytes(), 0);
     assert!(rt; vouched.rows().is_empty());
@@ -39,7 +42,10 @@ fn a_vouched_image_runs(rt: HostRuntime) -> Result<(), Fail> {
 fn a_refused_image_is_handed_back(rt: HostRuntime) -> Result<(), Fail> {
     let alloc = rt.alloc();
     // INR A, an unused byte.
-    let image = image(alloc, b"02050001410000B70606000000303C088004050001000030C60E0100F1")?;
+    let image = image(
+        alloc,
+        b"02050001410000B70606000000303C088004050001000030C60E0100F1",
+    )?;
     let (image, refusal) = vouch(alloc, image).err().ok_or("refused")?;
     assert_eq!(rt; refusal, Refusal::UnusedOpcode(0x3001));
     assert_eq!(rt; image.chunks.len(), 1);
