@@ -48,10 +48,12 @@ test: need-rt need-python3
 	rt ci
 	@tests/commands/run $(PROGRAM)
 	@tests/commands/walk $(PROGRAM)
+	@tests/commands/sums $(PROGRAM)
 
 commands: need-python3 build
 	@tests/commands/run $(PROGRAM)
 	@tests/commands/walk $(PROGRAM)
+	@tests/commands/sums $(PROGRAM)
 
 # FAULTS=".." tries that alone, as FAULTS="program", FAULTS="machine80" or FAULTS="place80=1..20".
 faults: need-cc build
