@@ -43,7 +43,7 @@ pub struct Reply {
 }
 
 /// Reads the texts, checks the image and runs it for at most `steps` steps, keeping at most `outputs` outputs: the next one
-/// is refused. Where an output below that limit finds no memory, the answer is `Memory`.
+/// is refused. If memory for an output below that limit runs out, the answer is `Memory`.
 pub fn answer_texts(alloc: Global, texts: SessionTexts<'_>, steps: u64, outputs: usize) -> Reply
     ensures { Says outputs steps (record { image = texts.entry.image.now; regions = texts.entry.regions.now; inputs = texts.entry.inputs.now }) result.answer (string_bytes result.text) }
 {
