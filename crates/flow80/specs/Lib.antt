@@ -13,3 +13,4 @@ pub mod Interned
 pub mod Pages
 pub mod PointStore
 pub mod Bounds
+pub mod FittingLaws
