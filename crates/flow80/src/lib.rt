@@ -22,6 +22,7 @@ mod points;
 mod procedure;
 mod refusal;
 mod report;
+mod site;
 mod sums;
 mod table;
 

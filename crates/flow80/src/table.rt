@@ -1,9 +1,11 @@
 //! The table of frames while it fills.
 
-ghost use Rattle.std.specs.Prelude.{◌≡◌, ◌+◌, ◌<◌, ◌≤◌, ◌↔◌, false, true, Some, None, Ok, Err, IfOk, OnOk, IfSome, length, replicate, slice_get};
+ghost use Rattle.std.specs.Prelude.{◌≡◌, ◌≢◌, ◌+◌, ◌<◌, ◌≤◌, ◌↔◌, false, true, Some, None, Ok, Err, IfOk, IfErr, OnOk, IfSome, length, replicate, slice_get};
 ghost use Rattle.flow80.specs.declared.procedure.Procedure.TheVariants.{Entry};
 ghost use Rattle.flow80.specs.Points.{IsPointAt, IsNoPoint};
-ghost use Rattle.flow80.specs.Known.{IsSmall, IsWithin, Flows, Exits, exit_of, nothing_known};
+ghost use Rattle.flow80.specs.Known.{IsSmall, IsWithin, Flows, Exits, CallsOut, Steps, AreWithin, exit_of, nothing_known};
+ghost use Rattle.frames80.specs.declared.moves.Moves.TheVariants.{Either, MaybeCall, MaybeReturn};
+ghost use Rattle.frames80.specs.Calls.{room, returned};
 ghost use Rattle.flow80.specs.Faults.{most_points};
 
 use crate::callers::Callers;
@@ -11,7 +13,8 @@ use crate::laws::frame_laws;
 use crate::points::Points;
 use crate::procedure::Procedure;
 use crate::refusal::Refusal;
-use frames80::{Frame, HeightsDiffer, meet};
+use crate::site::Site;
+use frames80::{CallFault, Frame, HeightsDiffer, Moves, after, meet};
 use std::alloc::{AllocError, Global};
 use std::marker::Model;
 
@@ -147,6 +150,116 @@ impl Table {
         }
     }
 
+    /// A call: the callee is entered, and where a return of it was seen, the caller goes on without the words that it takes.
+    ///
+    /// # Errors
+    /// A refusal that holds, or out of memory.
+    fn call(
+        &mut self,
+        alloc: Global,
+        site: &Site,
+        frame: &Frame,
+        target: u16,
+    ) -> Result<bool, Refusal>
+        requires small { IsSmall self.old }
+        requires fits { IsWithin (length self.old.points + 1) frame.now }
+        ensures { CallsOut self.old self.new site.now.procedure site.now.at site.now.next site.now.role frame.now target result }
+    {
+        frame_laws();
+        let entry = Frame::entry(alloc)?;
+        let entered = self.flow(alloc, Procedure::Entry(target), target, entry)?;
+        let Some(taken) = self.exit_of(target) else {
+            self.callers.add(target, site.point)?;
+            return Ok(entered);
+        };
+        let back = come_back(alloc, site, frame, taken)?;
+        let went_on = self.flow(alloc, site.procedure, site.next, back)?;
+        Ok(entered | went_on)
+    }
+
+    /// A conditional jump goes both ways.
+    fn branch(
+        &mut self,
+        alloc: Global,
+        site: &Site,
+        frame: Frame,
+        to: u16,
+    ) -> Result<bool, Refusal>
+        requires small { IsSmall self.old }
+        requires fits { IsWithin (length self.old.points + 1) frame }
+        ensures { Steps self.old self.new site.now.procedure site.now.at site.now.next site.now.role (Either frame to) result }
+    {
+        frame_laws();
+        let copy = frame.copy(alloc)?;
+        let one = self.flow(alloc, site.procedure, site.next, copy)?;
+        let other = self.flow(alloc, site.procedure, to, frame)?;
+        Ok(one | other)
+    }
+
+    /// A conditional call is taken, or it goes on.
+    fn call_if(
+        &mut self,
+        alloc: Global,
+        site: &Site,
+        frame: Frame,
+        target: u16,
+    ) -> Result<bool, Refusal>
+        requires small { IsSmall self.old }
+        requires fits { IsWithin (length self.old.points + 1) frame }
+        ensures { Steps self.old self.new site.now.procedure site.now.at site.now.next site.now.role (MaybeCall frame target) result }
+    {
+        frame_laws();
+        let copy = frame.copy(alloc)?;
+        let one = self.flow(alloc, site.procedure, site.next, copy)?;
+        let other = self.call(alloc, site, &frame, target)?;
+        Ok(one | other)
+    }
+
+    /// A conditional return is taken, or it goes on.
+    fn return_if(
+        &mut self,
+        alloc: Global,
+        site: &Site,
+        frame: Frame,
+        taken: u32,
+    ) -> Result<bool, Refusal>
+        requires small { IsSmall self.old }
+        requires fits { IsWithin (length self.old.points + 1) frame }
+        ensures { Steps self.old self.new site.now.procedure site.now.at site.now.next site.now.role (MaybeReturn frame taken) result }
+    {
+        frame_laws();
+        let one = self.flow(alloc, site.procedure, site.next, frame)?;
+        let other = self.exit(site.procedure, site.at, taken)?;
+        Ok(one | other)
+    }
+
+    /// Each way that a move leads.
+    ///
+    /// # Errors
+    /// A refusal that holds, or out of memory.
+    pub(crate) fn follow(
+        &mut self,
+        alloc: Global,
+        site: &Site,
+        moves: Moves,
+    ) -> Result<bool, Refusal>
+        requires small { IsSmall self.old }
+        requires fits { AreWithin (length self.old.points + 1) moves }
+        ensures { Steps self.old self.new site.now.procedure site.now.at site.now.next site.now.role moves result }
+    {
+        frame_laws();
+        match moves {
+            Moves::End => Ok(false),
+            Moves::On(frame) => self.flow(alloc, site.procedure, site.next, frame),
+            Moves::Jump(frame, to) => self.flow(alloc, site.procedure, to, frame),
+            Moves::Either(frame, to) => self.branch(alloc, site, frame, to),
+            Moves::Call(frame, target) => self.call(alloc, site, &frame, target),
+            Moves::MaybeCall(frame, target) => self.call_if(alloc, site, frame, target),
+            Moves::Return(taken) => self.exit(site.procedure, site.at, taken),
+            Moves::MaybeReturn(frame, taken) => self.return_if(alloc, site, frame, taken),
+        }
+    }
+
     /// How many words a procedure takes where it returns, once a return was seen.
     pub(crate) fn exit_of(&self, entry: u16) -> Option<u32>
         ensures { result ≡ exit_of self.now.exits entry }
@@ -172,4 +285,22 @@ fn no_exits(alloc: Global) -> Result<Vec<Option<u32>>, AllocError>
         exits.push(None)?;
     }
     Ok(exits)
+}
+
+/// The caller's frame after a call of a procedure that takes so many words.
+///
+/// # Errors
+/// `ShortArguments` where the caller has fewer words above its bottom word, or out of memory.
+fn come_back(alloc: Global, site: &Site, frame: &Frame, taken: u32) -> Result<Frame, Refusal>
+    requires few { frame.now.taken ≤ 1000000 }
+    requires words { length frame.now.words ≤ 1000000 }
+    ensures enough { OnOk result (taken ≤ room site.now.role frame.now.words) }
+    ensures back { IfOk result (λ back. back ≡ returned taken frame.now) }
+    ensures short { IfErr result (λ refusal. refusal ≢ Refusal.Memory → (refusal ≡ Refusal.ShortArguments site.now.at) × (room site.now.role frame.now.words < taken)) }
+{
+    match after(alloc, frame, site.role, taken, taken) {
+        Ok(back) => Ok(back),
+        Err(CallFault::ShortArguments) => Err(Refusal::ShortArguments(site.at)),
+        Err(CallFault::Memory) => Err(Refusal::Memory),
+    }
 }
