@@ -1,5 +1,5 @@
 -- Elements of a list by index after a push and after a write, and what the store of points keeps through each of its changes.
-use Rattle.std.proofs.Common.{◌≡◌, ◌<◌, ◌≤◌, ℕ, zero, suc, ◌+◌, Bool, true, false, ◌&&◌, nat_eq, ◌⊎◌, inl, inr, List, [], ◌∷◌, ◌++◌, Option, Some, None, length, map, slice_get, slice_set, refl, sym, ◌∙◌, ap, subst, arith, true≢false}
+use Rattle.std.proofs.Common.{◌≡◌, ◌<◌, ℕ, zero, suc, Bool, true, false, nat_eq, ◌⊎◌, inl, inr, List, [], ◌∷◌, ◌++◌, Some, None, length, slice_get, slice_set, refl, sym, ◌∙◌, ap, subst, arith}
 use Rattle.std.specs.Option.{option_map}
 use Rattle.std.specs.Cmp.{unsigned_Decides, first_so, second_so}
 use Rattle.std.proofs.lemmas.Option.{slice_get-map, slice_get_within, slice_get-get_or, get_or_from_slice_get, same_Some, none-some}
@@ -229,8 +229,3 @@ module _ (frames : List StackFrame) (stored : List StoredPoint) (next : StoredPo
         } in
         map-set (point_of frames) stored i next ∙ ap (λ l. slice_set l i (point_of frames next)) same ∙ ap (λ r. slice_set (points_of before stored) i r) now;
   }
-
--- there are as many stored points as points
-pub length-points : (frames : List StackFrame) (stored : List StoredPoint) → length (points_of frames stored) ≡ length stored
-length-points frames [] = refl
-length-points frames (point ∷ stored) = ap suc (length-points frames stored)

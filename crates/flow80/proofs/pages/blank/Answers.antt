@@ -1,5 +1,3 @@
-use Rattle.std.proofs.Common.{◌++◌, ◌∙◌, sym, ap, subst, List, ℕ}
-use Rattle.flow80.specs.Pages.{IsBlank}
 use Rattle.flow80.proofs.PageLemmas.{IsBlank-zeros}
 use Rattle.flow80.proofs.pages.blank.Goals as goal
 

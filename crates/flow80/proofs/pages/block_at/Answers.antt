@@ -1,5 +1,4 @@
-use Rattle.std.proofs.Common.{◌≡◌, ◌<◌, ◌*◌, ◌/◌, ◌+◌, ◌-◌, ℕ, suc, List, ◌++◌, length, vec_len, take, slice_set, slice_index_or, sym, ◌∙◌, ap, subst, arith}
-use Rattle.std.proofs.Math.ListN.{replicate}
+use Rattle.std.proofs.Common.{◌≡◌, ◌<◌, ◌*◌, ◌/◌, ◌+◌, ◌-◌, ℕ, suc, length, slice_set, slice_index_or, sym, ◌∙◌, subst, arith}
 use Rattle.std.proofs.lemmas.List.{take_all, get_or_default}
 use Rattle.flow80.specs.Pages.{LeadsTo, ReadsSame}
 use Rattle.flow80.proofs.PageLemmas.{ReadsSame-grown, LeadsTo-made}

@@ -1,5 +1,5 @@
-use Rattle.std.proofs.Common.{◌≡◌, ◌/◌, ◌%◌, length, ap, arith}
-use Rattle.flow80.specs.Pages.{procedure_number, decoded, code_in, number_at, HasNone, AreSeparate}
+use Rattle.std.proofs.Common.{◌/◌, ◌%◌, ap, arith}
+use Rattle.flow80.specs.Pages.{procedure_number, decoded, code_in, number_at}
 use Rattle.flow80.proofs.PageLemmas.{LeadApart-blank, LeadApart-nothing}
 use Rattle.flow80.proofs.pages.Pages.new.Goals as goal
 

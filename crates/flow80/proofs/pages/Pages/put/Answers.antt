@@ -1,7 +1,7 @@
-use Rattle.std.proofs.Common.{◌≡◌, ◌<◌, ◌≤◌, ◌*◌, ◌/◌, ◌%◌, ◌+◌, ℕ, suc, List, length, slice_set, slice_index_or, sym, ◌∙◌, ap, subst, arith}
+use Rattle.std.proofs.Common.{◌≡◌, ◌<◌, ◌*◌, ◌/◌, ◌%◌, ◌+◌, ℕ, suc, List, slice_set, slice_index_or, sym, ◌∙◌, ap, subst, arith}
 use Rattle.std.proofs.lemmas.List.{length-set}
 use Rattle.std.proofs.lemmas.Result.{err_from_is_err_and}
-use Rattle.flow80.specs.Pages.{Numbers, procedure_number, LeadsTo, AreSeparate, SameNumbers, Puts}
+use Rattle.flow80.specs.Pages.{Numbers, procedure_number, SameNumbers, Puts}
 use Rattle.flow80.proofs.PageLemmas.{LeadApart-reads, LeadApart-length, SameNumbers-then, SameNumbers-table, SameNumbers-page, Puts-then, Puts-written}
 use Rattle.flow80.proofs.pages.Pages.put.Goals as goal
 
