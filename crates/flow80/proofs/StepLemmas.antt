@@ -17,7 +17,7 @@ use Rattle.flow80.specs.Faults.{Holds as Refused}
 use Rattle.flow80.specs.Rows.{ReturnsWith}
 use Rattle.flow80.specs.Points.{Point}
 use Rattle.flow80.specs.Shown.{IsShown, AtMove, FrameLaws}
-use Rattle.flow80.specs.Known.{Known, IsSmall, IsWithin, Stands, weight, Goes, HasPoint, Flows, Follows, Carries, AreWithin, Steps, exit_of, Exits, CallsOut}
+use Rattle.flow80.specs.Known.{Known, IsSmall, IsWithin, Stands, weight, Goes, HasPoint, Flows, Follows, Carries, AreWithin, Steps, exit_of, Exits, CallsOut, IsShort}
 use Rattle.flow80.proofs.ShownLemmas.{shown_self, shown_on, shown_entry, shown_after, exit_shown, exit_shown_at, taken_at_return, short, uneven}
 use Rattle.flow80.proofs.KnownLemmas.{with_exit, stands_exit, goes_exit}
 
@@ -344,3 +344,14 @@ steps_maybe_call_refused laws old mid new p at next role g target one r first ca
     steps_refused old new p at next role (MaybeCall g target) r (λ code f found stands move carries same_next same_role.
     calls.stands code found (MaybeCall g target) (first.stands code stands (leads_shown laws code p at f found (MaybeCall g target) move next next g same_next (refl, refl)))
     (subst (λ (y : StackFrame). AtMove code p at y found (MaybeCall g target)) (sym carries) move) refl same_next same_role)
+
+pub calls_out_of_memory : (old new : Known) (p : Procedure) (at next : ℕ) (role : Role) (g : StackFrame) (target : ℕ) → CallsOut old new p at next role g target (Err Memory)
+calls_out_of_memory old new p at next role g target = record { small = tt; more = tt; goes = tt; enters = tt; after = tt; stands = λ code found moves stands move call same_next same_role. tt }
+
+pub calls_not_back : FrameLaws → (old mid new : Known) (p : Procedure) (at next : ℕ) (role : Role) (g : StackFrame) (target taken : ℕ) (entered : Bool) (r : Refusal) →
+    Flows old mid (Entry target) target entry_frame (Ok entered) → exit_of mid.exits target ≡ Some taken → IsShort at (room role g.words) taken r →
+    CallsOut old new p at next role g target (Err r)
+calls_not_back laws old mid new p at next role g target taken entered r first exit (inl memory) =
+    subst (λ (x : Refusal). CallsOut old new p at next role g target (Err x)) (sym memory) (calls_out_of_memory old new p at next role g target)
+calls_not_back laws old mid new p at next role g target taken entered r first exit (inr short_of) =
+    subst (λ (x : Refusal). CallsOut old new p at next role g target (Err x)) (sym short_of.0) (calls_short laws old mid new p at next role g target taken entered first exit short_of.1)

@@ -1,6 +1,6 @@
 -- What the verifier knows while it goes over the points: the points with their frames, and for each entry how many words
 -- its procedure takes where it returns, once a return was seen. (This project's own.)
-use Rattle.std.specs.Prelude.{◌≡◌, ◌≤◌, ◌<◌, ◌+◌, ◌*◌, ◌-◌, ℕ, Bool, true, false, List, [], ◌∷◌, length, sum_by, count_by, Option, Some, None, slice_get, is_none, replicate, Result, Ok, Err, OnOk, IfOk, MatchResult}
+use Rattle.std.specs.Prelude.{◌≡◌, ◌⊎◌, ◌≤◌, ◌<◌, ◌+◌, ◌*◌, ◌-◌, ℕ, Bool, true, false, List, [], ◌∷◌, length, sum_by, count_by, Option, Some, None, slice_get, is_none, replicate, Result, Ok, Err, OnOk, IfOk, MatchResult}
 use Rattle.decode80.specs.declared.fetching.Fetched.{Fetched}
 use Rattle.frames80.specs.declared.word.Word.{Word}
 use Rattle.frames80.specs.declared.word.Word.TheVariants.{Own, Any}
@@ -15,6 +15,7 @@ use Rattle.flow80.specs.declared.procedure.Procedure.TheVariants.{Main, Entry}
 use Rattle.flow80.specs.Code.{Code}
 use Rattle.flow80.specs.Walks.{Moving, LeadsTo, called, returning, role_of}
 use Rattle.flow80.specs.declared.refusal.Refusal.{Refusal}
+use Rattle.flow80.specs.declared.refusal.Refusal.TheVariants.{ShortArguments, Memory}
 use Rattle.flow80.specs.Faults.{most_points, Holds as Refused}
 use Rattle.flow80.specs.Rows.{ReturnsWith}
 use Rattle.flow80.specs.Points.{Point, AreApart}
@@ -147,12 +148,24 @@ pub record CallsOut (old new : Known) (p : Procedure) (at next : ℕ) (role : Ro
   pub enters : IfOk result (λ changed. changed ≡ false → HasPoint new (Entry target) target entry_frame)
   pub after : IfOk result (λ changed. changed ≡ false → (taken : ℕ) → exit_of new.exits target ≡ Some taken → HasPoint new p next (returned taken g))
 
+-- why a caller's frame does not come back: out of memory, or it has too few words
+abbrev pub IsShort : (at room taken : ℕ) → Refusal → Type 0
+IsShort at room taken refusal = (refusal ≡ Memory) ⊎ ((refusal ≡ ShortArguments at) × (room < taken))
+
 -- a point is closed: its instruction moves, and each way on is in the table
 pub record IsClosed (code : Code) (known : Known) (point : Point) : Type 0 where
   pub found : Fetched
   pub moves : Moves
   pub moving : Moving code point.procedure point.at point.frame found moves
   pub follows : Follows known point.procedure point.frame found.next moves
+
+-- what comes of a look at a point
+pub record Visits (code : Code) (old new : Known) (i : ℕ) (result : Result Bool Refusal) : Type 0 where
+  pub small : OnOk result (IsSmall new)
+  pub more : OnOk result (length old.points ≤ length new.points)
+  pub stands : Stands code old → MatchResult result (λ _. Stands code new) (λ refusal. Refused code refusal)
+  pub goes : IfOk result (λ changed. Goes old new changed)
+  pub closed : IfOk result (λ changed. changed ≡ false → (point : Point) → slice_get new.points i ≡ Some point → IsClosed code new point)
 
 -- all points are closed, and the start is among them
 pub record AllClosed (code : Code) (known : Known) : Type 0 where

@@ -1,9 +1,9 @@
 //! The table of frames while it fills.
 
-ghost use Rattle.std.specs.Prelude.{◌≡◌, ◌≢◌, ◌+◌, ◌<◌, ◌≤◌, ◌↔◌, false, true, Some, None, Ok, Err, IfOk, IfErr, OnOk, IfSome, length, replicate, slice_get};
+ghost use Rattle.std.specs.Prelude.{◌≡◌, ◌+◌, ◌<◌, ◌≤◌, ◌↔◌, false, true, Some, None, Ok, Err, IfOk, IfErr, OnOk, IfSome, length, replicate, slice_get};
 ghost use Rattle.flow80.specs.declared.procedure.Procedure.TheVariants.{Entry};
 ghost use Rattle.flow80.specs.Points.{IsPointAt, IsNoPoint};
-ghost use Rattle.flow80.specs.Known.{IsSmall, IsWithin, Flows, Exits, CallsOut, Steps, AreWithin, exit_of, nothing_known};
+ghost use Rattle.flow80.specs.Known.{IsSmall, IsWithin, Flows, Exits, CallsOut, Steps, AreWithin, IsShort, exit_of, nothing_known};
 ghost use Rattle.frames80.specs.declared.moves.Moves.TheVariants.{Either, MaybeCall, MaybeReturn};
 ghost use Rattle.frames80.specs.Calls.{room, returned};
 ghost use Rattle.flow80.specs.Faults.{most_points};
@@ -168,13 +168,17 @@ impl Table {
         frame_laws();
         let entry = Frame::entry(alloc)?;
         let entered = self.flow(alloc, Procedure::Entry(target), target, entry)?;
-        let Some(taken) = self.exit_of(target) else {
-            self.callers.add(target, site.point)?;
-            return Ok(entered);
-        };
-        let back = come_back(alloc, site, frame, taken)?;
-        let went_on = self.flow(alloc, site.procedure, site.next, back)?;
-        Ok(entered | went_on)
+        match self.exit_of(target) {
+            None => {
+                self.callers.add(target, site.point)?;
+                Ok(entered)
+            }
+            Some(taken) => {
+                let back = come_back(alloc, site, frame, taken)?;
+                let went_on = self.flow(alloc, site.procedure, site.next, back)?;
+                Ok(entered | went_on)
+            }
+        }
     }
 
     /// A conditional jump goes both ways.
@@ -296,7 +300,7 @@ fn come_back(alloc: Global, site: &Site, frame: &Frame, taken: u32) -> Result<Fr
     requires words { length frame.now.words ≤ 1000000 }
     ensures enough { OnOk result (taken ≤ room site.now.role frame.now.words) }
     ensures back { IfOk result (λ back. back ≡ returned taken frame.now) }
-    ensures short { IfErr result (λ refusal. refusal ≢ Refusal.Memory → (refusal ≡ Refusal.ShortArguments site.now.at) × (room site.now.role frame.now.words < taken)) }
+    ensures short { IfErr result (IsShort site.now.at (room site.now.role frame.now.words) taken) }
 {
     match after(alloc, frame, site.role, taken, taken) {
         Ok(back) => Ok(back),
