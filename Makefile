@@ -1,37 +1,63 @@
 # plm80: LINK, LOCATE and a verifying loader for 8080 programs.
 #
-#   make run       builds plm80 and runs it on the stored examples
+#   make run       proves every crate, builds plm80 and runs it on the stored examples; says how far it is
+#   make try       shows the transcript of a stored example within a minute or two: plm80 is built without any proof
+#   make install   puts plm80, as `make run` builds it, into PREFIX/bin: make install PREFIX=/usr/local
 #   make test      proves every crate from nothing and runs every test
 #   make commands  builds plm80 and runs the tests of its commands alone
 #   make faults    runs the tests, and plm80 on the examples, with one call for memory, a read or a write refused
 #   make bench     builds plm80 and prints million steps per second of four loops
 #   make help      prints this
 
-.PHONY: help run test commands faults bench build
+.PHONY: help run try install test commands faults bench build need-rt need-python3 need-cc
+
+PREFIX = /usr/local
+PROGRAM = crates/plm80/out/plm80
 
 help:
 	@sed -n 's/^#  //p' Makefile
+	@command -v rt > /dev/null || echo "Missing here: rt, of the Rattle kit. Everything needs it: put the kit's bin folder on PATH."
+	@command -v python3 > /dev/null || echo "Missing here: python3. make test and make commands need it."
+	@command -v cc > /dev/null || echo "Missing here: cc, a C compiler. make faults needs it, and make test passes over a few cases without it."
 
-build:
-	@mkdir -p crates/plm80/out
-	@cd crates/plm80 && rt run < stdin > out/build.log 2>&1 || { tail -20 out/build.log; exit 1; }
+need-rt:
+	@command -v rt > /dev/null || { echo "rt is missing: put the Rattle kit's bin folder on PATH." && exit 1; }
+
+need-python3:
+	@command -v python3 > /dev/null || { echo "python3 is missing: the tests of the commands are run by it." && exit 1; }
+
+need-cc:
+	@command -v cc > /dev/null || { echo "cc is missing: a C compiler makes what refuses the calls." && exit 1; }
+
+build: need-rt
+	@tools/build
 
 run: build
-	@examples/run crates/plm80/out/plm80
+	@examples/run $(PROGRAM)
+
+try: need-rt
+	@echo "plm80 < examples/echo.bundle, built without any proof (make run proves it):"
+	@cd crates/plm80 && rt try < ../../examples/echo.bundle 2>&1 | sed '/^checked: /,$$d'
+
+install: build
+	install -d $(DESTDIR)$(PREFIX)/bin
+	install -m 755 $(PROGRAM) $(DESTDIR)$(PREFIX)/bin/plm80
 
 # (rt ci has built the program that it proved.)
-test:
+test: need-rt need-python3
 	rt ci
-	@tests/commands/run crates/plm80/out/plm80
-	@tests/commands/walk crates/plm80/out/plm80
+	@tests/commands/run $(PROGRAM)
+	@tests/commands/walk $(PROGRAM)
+	@tests/commands/sums $(PROGRAM)
 
-commands: build
-	@tests/commands/run crates/plm80/out/plm80
-	@tests/commands/walk crates/plm80/out/plm80
+commands: need-python3 build
+	@tests/commands/run $(PROGRAM)
+	@tests/commands/walk $(PROGRAM)
+	@tests/commands/sums $(PROGRAM)
 
 # FAULTS=".." tries that alone, as FAULTS="program", FAULTS="machine80" or FAULTS="place80=1..20".
-faults: build
-	@tests/faults/run crates/plm80/out/plm80 $(FAULTS)
+faults: need-cc build
+	@tests/faults/run $(PROGRAM) $(FAULTS)
 
 bench: build
-	@bench/run crates/plm80/out/plm80
+	@bench/run $(PROGRAM)

@@ -2,7 +2,7 @@
 
 ghost use Rattle.std.specs.Prelude.{◌≡◌, ◌+◌, ◌<◌, ◌≤◌, ℕ, Bool};
 ghost use Rattle.std.specs.List.{filter_map};
-ghost use Rattle.decode80.specs.Fetch.{ahead, all_code, direct_bytes, fetch};
+ghost use Rattle.decode80.specs.Fetch.{ahead, all_code, behind, direct_bytes, fetch};
 
 use crate::decoding::decode;
 use crate::instr::Instr;
@@ -69,6 +69,15 @@ pub fn ahead(address: u16, bytes: u16) -> u16
     ensures { result ≡ ahead address bytes }
 {
     address.wrapping_add(bytes)
+}
+
+/// The address so many bytes before another one, modulo 65536.
+#[inline]
+#[tactic(auto, unfolding(crate::specs::Fetch::behind))]
+pub fn behind(address: u16, bytes: u16) -> u16
+    ensures { result ≡ behind address bytes }
+{
+    address.wrapping_sub(bytes)
 }
 
 /// The instruction at an address of a program, and the address after it.

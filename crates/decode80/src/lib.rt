@@ -35,7 +35,7 @@ mod text;
 pub use condition::Condition;
 pub use decoding::{decode, length_of};
 pub use encoding::encode;
-pub use fetching::{FetchFault, Fetched, Program, ahead, direct_bytes, fetch};
+pub use fetching::{FetchFault, Fetched, Program, ahead, behind, direct_bytes, fetch};
 pub use instr::Instr;
 pub use laws::spelling_laws;
 pub use operation::{Operand, Operation};

@@ -1,8 +1,7 @@
-//! The opcode table against outside disassemblers, and a listed program.
+//! The opcode table against outside disassemblers, and what addresses hold.
 
-use crate::{decode, encode, length_of, write_text};
+use crate::{FetchFault, Fetched, Instr, Program, Register, decode, fetch, write_text};
 use std::alloc::{AllocError, Global};
-use std::process::Abort;
 use std::test::Fail;
 
 // The text of each first byte before the bytes A5 12, on which the disassemblers dz80, simh (altairz80) and MAME agree;
@@ -266,38 +265,19 @@ const TEXTS: [&str; 256] = [
     "RST 7",
 ];
 
-// A program's bytes, each instruction filled with 00, its length and its text.
-const PROGRAM: [([u8; 3], usize, &str); 11] = [
-    ([0x31, 0x00, 0x32], 3, "LXI SP,3200"),
-    ([0x21, 0x05, 0x00], 3, "LXI H,0005"),
-    ([0xE5, 0x00, 0x00], 1, "PUSH H"),
-    ([0xCD, 0x0B, 0x30], 3, "CALL 300B"),
-    ([0x76, 0x00, 0x00], 1, "HLT"),
-    ([0xD1, 0x00, 0x00], 1, "POP D"),
-    ([0xC1, 0x00, 0x00], 1, "POP B"),
-    ([0xD5, 0x00, 0x00], 1, "PUSH D"),
-    ([0x79, 0x00, 0x00], 1, "MOV A,C"),
-    ([0xD3, 0x01, 0x00], 2, "OUT 01"),
-    ([0xC9, 0x00, 0x00], 1, "RET"),
-];
-
 // The text of the instruction that the bytes begin with, or ??, and its length, or 1.
 fn text_of(alloc: Global, bytes: [u8; 3]) -> Result<(Vec<u8>, usize), AllocError> {
     let mut text = Vec::new(alloc);
-    match decode(bytes) {
-        Some((instr, length)) => {
-            write_text(alloc, instr, &mut text)?;
-            Ok((text, length))
-        }
-        None => {
-            text.extend_from_slice(b"??")?;
-            Ok((text, 1))
-        }
-    }
+    let Some((instr, length)) = decode(bytes) else {
+        text.extend_from_slice(b"??")?;
+        return Ok((text, 1));
+    };
+    write_text(alloc, instr, &mut text)?;
+    Ok((text, length))
 }
 
-// The length that a text of the table tells: of its operand A5 or 12A5.
-fn told_length(text: &str) -> usize {
+// The length that a text of the table shows, by its operand A5 or 12A5.
+fn shown_length(text: &str) -> usize {
     if text.ends_with("12A5") {
         3
     } else if text.ends_with("A5") {
@@ -307,55 +287,66 @@ fn told_length(text: &str) -> usize {
     }
 }
 
-fn check_row(rt: &impl Abort, alloc: Global, first: u8, wanted: &str) -> Result<(), AllocError> {
-    let bytes = [first, 0xA5, 0x12];
-    let (text, length) = text_of(alloc, bytes)?;
-    assert_eq!(rt; text.as_slice(), wanted.as_bytes());
-    assert_eq!(rt; length, told_length(wanted));
-    assert_eq!(rt; decode(bytes).is_none(), wanted == "??");
-    assert_eq!(rt; length_of(first).is_none(), wanted == "??");
-    if let Some((instr, size)) = decode(bytes) {
-        let (low, high) = match size {
-            1 => (0, 0),
-            2 => (0xA5, 0),
-            _ => (0xA5, 0x12),
-        };
-        assert_eq!(rt; encode(instr), ([first, low, high], size));
-        assert_eq!(rt; length_of(first), Some(size));
-    }
-    Ok(())
-}
-
 #[test]
 fn every_first_byte_has_the_outside_text(rt: HostRuntime) -> Result<(), Fail> {
-    for first in 0..256usize {
-        check_row(&rt, rt.alloc(), first as u8, TEXTS[first])?;
+    for first in 0..=255u8 {
+        let wanted = TEXTS[usize::from(first)];
+        let (text, length) = text_of(rt.alloc(), [first, 0xA5, 0x12])?;
+        assert!(rt; text.as_slice() == wanted.as_bytes(), "{wanted}");
+        assert_eq!(rt; length, shown_length(wanted), "{wanted}");
     }
     Ok(())
 }
 
+// Run with each allocation refused in turn, this shows that a refused text leaves `out` as it was.
 #[test]
-fn the_program_is_listed(rt: HostRuntime) -> Result<(), Fail> {
-    for (bytes, length, wanted) in PROGRAM {
-        let (text, size) = text_of(rt.alloc(), bytes)?;
-        assert_eq!(rt; text.as_slice(), wanted.as_bytes());
-        assert_eq!(rt; size, length);
-    }
-    Ok(())
-}
-
-// Run with each allocation refused in turn, this shows that `out` is as it was; with ample memory that all is appended.
-#[test]
-fn a_refused_growth_leaves_the_text_as_it_was(rt: HostRuntime) -> Result<(), Fail> {
+fn a_refused_growth_leaves_the_text_as_it_was(rt: HostRuntime) {
     let mut out = Vec::new(rt.alloc());
-    for first in 0..256usize {
-        if let Some((instr, _)) = decode([first as u8, 0xA5, 0x12]) {
-            let before = out.len();
-            match write_text(rt.alloc(), instr, &mut out) {
-                Ok(()) => assert_eq!(rt; out.len() - before, TEXTS[first].len()),
-                Err(_) => assert_eq!(rt; out.len(), before),
-            }
-        }
+    for _ in 0..50u8 {
+        let before = out.len();
+        let done = write_text(rt.alloc(), Instr::Mvi(Register::A, 0xA5), &mut out);
+        let grown = if done.is_ok() { "MVI A,A5".len() } else { 0 };
+        assert!(rt; out.len() >= before && out.len() - before == grown);
     }
-    Ok(())
+}
+
+// A program whose addresses all hold one byte, of which FFFE and FFFF are code.
+#[derive(Drop)]
+struct Same {
+    byte: u8,
+}
+
+impl Program for Same {
+    ghost use Rattle.std.specs.Prelude.{nat_le};
+
+    ghost code = { λ _ address. nat_le 65534 address };
+
+    ghost held = { λ p _. p.byte };
+
+    fn is_code(&self, address: u16) -> bool {
+        address >= 0xFFFE
+    }
+
+    fn byte(&self, _address: u16) -> u8 {
+        self.byte
+    }
+}
+
+#[test]
+fn an_instruction_is_fetched_inside_code(rt: HostRuntime) {
+    let found = Fetched {
+        instr: Instr::Mvi(Register::A, 0x3E),
+        next: 0x0000,
+    };
+    let rows = [
+        (0xFFFE, 0x3E, Ok(found)),
+        (0xFFFF, 0x3E, Err(FetchFault::Outside)),
+        (0xFFFE, 0xC3, Err(FetchFault::Outside)),
+        (0xFFFD, 0x08, Err(FetchFault::Outside)),
+        (0xFFFE, 0x08, Err(FetchFault::Unused)),
+    ];
+    for (address, byte, wanted) in rows {
+        let program = Same { byte };
+        assert_eq!(rt; fetch(address, &program), wanted);
+    }
 }

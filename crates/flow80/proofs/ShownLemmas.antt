@@ -7,6 +7,8 @@ use Rattle.frames80.specs.declared.word.Word.{Word}
 use Rattle.frames80.specs.declared.word.Word.TheVariants.{Own, Any}
 use Rattle.frames80.specs.declared.fault.FrameFault.{FrameFault}
 use Rattle.frames80.specs.declared.effect.Change.{Change}
+use Rattle.frames80.specs.declared.effect.Effect.{Effect}
+use Rattle.frames80.specs.declared.effect.Effect.TheVariants.{Change as Changes, Halt, Jump, JumpIf, Call, CallIf, Return, ReturnIf, Refuse}
 use Rattle.frames80.specs.declared.moves.Moves.{Moves}
 use Rattle.frames80.specs.Word.{met}
 use Rattle.frames80.specs.StackFrame.{StackFrame, entry_frame, main_frame}
@@ -21,7 +23,7 @@ use Rattle.flow80.specs.Code.{Code}
 use Rattle.flow80.specs.Walks.{Walk, begins, goes_on, enters, comes_back, Begins, GoesOn, Calls, Enters, Returns, GoesOnAfter, Moving, LeadsTo, called, returning, role_of}
 use Rattle.flow80.specs.Faults.{LooksWrong, MovesWrong, Differ, Uneven, Short}
 use Rattle.flow80.specs.Rows.{ReturnsWith}
-use Rattle.flow80.specs.Shown.{Query, Whole, At, MayBeAny, Shows, IsShown, FrameLaws}
+use Rattle.flow80.specs.Shown.{Query, Whole, At, MayBeAny, Shows, IsShown, AtMove, FrameLaws}
 use Rattle.flow80.proofs.MoveLemmas.{change_of, frame_after, move_with, Moved, moved_is, covered_moves, LeadsAlong, leads_along, called_along, returning_along, query_of, asked, refused_along}
 
 pub counts_back : (f g : StackFrame) → SameCounts f g → SameCounts g f
@@ -39,12 +41,6 @@ shown_self code p at f walk = record { by = λ query may. record { frame = f; wa
 
 pub shown_start : (code : Code) → IsShown code Main code.start main_frame
 shown_start code = shown_self code Main code.start main_frame (begins Main code.start main_frame (record { procedure = refl; start = refl; frame = refl }))
-
--- at a shown frame an instruction moves
-pub record AtMove (code : Code) (p : Procedure) (at : ℕ) (f : StackFrame) (found : Fetched) (moves : Moves) : Type 0 where
-  pub shown : IsShown code p at f
-  pub looked : code.look at ≡ Ok found
-  pub moved : moves_of (role_of code p) (effect_of found.instr) f ≡ Ok moves
 
 -- with a frame that it covers it moves too
 pub moving_along : FrameLaws → (code : Code) (p : Procedure) (at : ℕ) (f : StackFrame) (found : Fetched) (moves : Moves) → AtMove code p at f found moves →
@@ -98,7 +94,8 @@ shown_on laws code p at f found moves move to g leads =
     let there : LeadsTo (move_with effect f) found.next to g = subst (λ m. LeadsTo m found.next to g) moved.move leads in
     let along = λ (w : StackFrame). leads_along effect f w found.next to g there in
     let after : frame_after effect f ≡ g = sym (along f).frame in
-    let here : IsShown code p to (frame_after effect f) = record { by = λ query may.
+    let here : IsShown code p to (frame_after effect f) = record {
+      by = λ query may.
           let s : Shows code p at f (before_change (change_of effect) query) = move.shown.by (before_change (change_of effect) query) (asks_change laws (change_of effect) f query may) in
           record {
             frame = frame_after effect s.frame;
@@ -110,7 +107,8 @@ shown_on laws code p at f found moves move to g leads =
             });
             covers = (laws.covered f s.frame s.covers).change (change_of effect);
             answers = answers_change laws (change_of effect) s.frame query s.answers;
-          } } in
+          };
+    } in
     subst (IsShown code p to) after here
 
 -- a call of a walk
@@ -133,27 +131,29 @@ pub shown_entry : FrameLaws → (code : Code) (p : Procedure) (at : ℕ) (f : St
 shown_entry laws code p at f found moves move target call =
     let s : Shows code p at f Whole = move.shown.by Whole tt in
     shown_self code (Entry target) target entry_frame
-      (enters p at s.frame target found.next (Entry target) target entry_frame s.walk
-        (calls_along laws code p at f found moves move target call s.frame s.covers)
-        (record { procedure = refl; start = refl; frame = refl }))
+    (enters p at s.frame target found.next (Entry target) target entry_frame s.walk
+    (calls_along laws code p at f found moves move target call s.frame s.covers)
+    (record { procedure = refl; start = refl; frame = refl }))
 
 -- and where the callee returns, the caller's frame after it is shown
 pub shown_after : FrameLaws → (code : Code) (p : Procedure) (at : ℕ) (f : StackFrame) (found : Fetched) (moves : Moves) → AtMove code p at f found moves →
     (target taken : ℕ) → called moves ≡ Some target → ReturnsWith code (Entry target) taken → taken ≤ room (role_of code p) f.words →
     IsShown code p found.next (returned taken f)
-shown_after laws code p at f found moves move target taken call exit enough = record { by = λ query may.
-    let s : Shows code p at f (before_return taken query) = move.shown.by (before_return taken query) (asks_return laws taken f query may) in
-    record {
-      frame = returned taken s.frame;
-      walk = comes_back p at s.frame target found.next exit.at exit.frame taken (returned taken s.frame) s.walk
-        (calls_along laws code p at f found moves move target call s.frame s.covers) exit.walk exit.returns
-        (record { enough = subst (λ n. taken ≤ n) ((laws.counts f s.frame s.covers.counts).room (role_of code p)) enough; frame = refl });
-      covers = (laws.covered f s.frame s.covers).return taken;
-      answers = answers_return laws taken s.frame query s.answers;
-    } }
+shown_after laws code p at f found moves move target taken call exit enough = record {
+  by = λ query may.
+      let s : Shows code p at f (before_return taken query) = move.shown.by (before_return taken query) (asks_return laws taken f query may) in
+      record {
+        frame = returned taken s.frame;
+        walk = comes_back p at s.frame target found.next exit.at exit.frame taken (returned taken s.frame) s.walk
+            (calls_along laws code p at f found moves move target call s.frame s.covers) exit.walk exit.returns
+            (record { enough = subst (λ n. taken ≤ n) ((laws.counts f s.frame s.covers.counts).room (role_of code p)) enough; frame = refl });
+        covers = (laws.covered f s.frame s.covers).return taken;
+        answers = answers_return laws taken s.frame query s.answers;
+      };
+}
 
 -- frames that meet where both are shown are shown
-met_other : (a b : Word) → met a b ≡ Own → b ≡ Own
+pub met_other : (a b : Word) → met a b ≡ Own → b ≡ Own
 met_other Own b own = own
 met_other Any b own = absurd (cc)
 
@@ -179,11 +179,14 @@ shown_merged laws code p at f g one other same = record { by = by }
   where
     mine : (query : Query) → Shows code p at f query → Shows code p at (merged f g) query
     mine query s = record { frame = s.frame; walk = s.walk; covers = (laws.covered f s.frame s.covers).meet g same; answers = s.answers }
+
     theirs : (query : Query) → Shows code p at g query → Shows code p at (merged f g) query
     theirs query s = record { frame = s.frame; walk = s.walk; covers = covers_other laws f g s.frame same (counts_agree f g same) s.covers; answers = s.answers }
+
     by_place : (place : Place) → (word_at f place ≡ Any) ⊎ (word_at g place ≡ Any) → Shows code p at (merged f g) (At place)
     by_place place (inl any) = mine (At place) (one.by (At place) any)
     by_place place (inr any) = theirs (At place) (other.by (At place) any)
+
     by : (query : Query) → MayBeAny (merged f g) query → Shows code p at (merged f g) query
     by Whole may = mine Whole (one.by Whole tt)
     by (At place) may = by_place place (any_of_met (word_at f place) (word_at g place) (sym (laws.meets f g place same) ∙ may))
@@ -196,7 +199,9 @@ exit_shown laws code p at f found moves move taken return =
     let moved = moved_is (role_of code p) effect f moves move.moved in
     let s : Shows code p at f Whole = move.shown.by Whole tt in
     record {
-      at = at; frame = s.frame; walk = s.walk;
+      at = at;
+      frame = s.frame;
+      walk = s.walk;
       returns = record {
         found = found;
         moves = move_with effect s.frame;
@@ -204,6 +209,29 @@ exit_shown laws code p at f found moves move taken return =
         return = sym (returning_along effect f s.frame s.covers.counts.taken) ∙ ap returning (sym moved.move) ∙ return;
       };
     }
+
+pub exit_shown_at : (laws : FrameLaws) (code : Code) (p : Procedure) (at : ℕ) (f : StackFrame) (found : Fetched) (moves : Moves) (move : AtMove code p at f found moves)
+    (taken : ℕ) (return : returning moves ≡ Some taken) → (exit_shown laws code p at f found moves move taken return).at ≡ at
+unfolding exit_shown
+exit_shown_at laws code p at f found moves move taken return = refl
+
+-- at a return the words taken are those of its frame
+taken_by : (effect : Effect) (f : StackFrame) (taken : ℕ) → returning (move_with effect f) ≡ Some taken → f.taken ≡ taken
+taken_by (Changes made) f taken is = absurd (let e : None ≡ Some taken = is in cc)
+taken_by Halt f taken is = absurd (let e : None ≡ Some taken = is in cc)
+taken_by (Jump to) f taken is = absurd (let e : None ≡ Some taken = is in cc)
+taken_by (JumpIf to) f taken is = absurd (let e : None ≡ Some taken = is in cc)
+taken_by (Call to) f taken is = absurd (let e : None ≡ Some taken = is in cc)
+taken_by (CallIf to) f taken is = absurd (let e : None ≡ Some taken = is in cc)
+taken_by Return f taken is = cc
+taken_by ReturnIf f taken is = cc
+taken_by (Refuse fault) f taken is = absurd (let e : None ≡ Some taken = is in cc)
+
+pub taken_at_return : (code : Code) (p : Procedure) (taken : ℕ) → (returns : ReturnsWith code p taken) → returns.frame.taken ≡ taken
+taken_at_return code p taken returns =
+    let r = returns.returns in
+    let effect = effect_of r.found.instr in
+    taken_by effect returns.frame taken (ap returning (sym (moved_is (role_of code p) effect returns.frame r.moves r.moving.moved).move) ∙ r.return)
 
 -- what is refused of a shown frame
 pub looks_wrong : (code : Code) (p : Procedure) (at : ℕ) (f : StackFrame) (fault : LookFault) → IsShown code p at f → code.look at ≡ Err fault → LooksWrong code at fault
@@ -217,11 +245,15 @@ moves_wrong laws code p at f found fault shown looked refused =
     let effect = effect_of found.instr in
     let s : Shows code p at f (query_of effect f) = shown.by (query_of effect f) (asked effect f) in
     record {
-      procedure = p; frame = s.frame; found = found; walk = s.walk; looked = looked;
+      procedure = p;
+      frame = s.frame;
+      found = found;
+      walk = s.walk;
+      looked = looked;
       moved = refused_along laws (role_of code p) effect f s.frame fault s.covers s.answers refused;
     }
 
-agree_same : (f g v w : StackFrame) → SameCounts f v → SameCounts g w → agree v w ≡ agree f g
+pub agree_same : (f g v w : StackFrame) → SameCounts f v → SameCounts g w → agree v w ≡ agree f g
 agree_same f g v w one other = rw (sym one.taken, sym one.words, sym other.taken, sym other.words) refl
 
 pub differ : (code : Code) (p : Procedure) (at : ℕ) (f g : StackFrame) → IsShown code p at f → IsShown code p at g → agree f g ≡ false → Differ code at
@@ -229,7 +261,11 @@ differ code p at f g one other apart =
     let s : Shows code p at f Whole = one.by Whole tt in
     let t : Shows code p at g Whole = other.by Whole tt in
     record {
-      procedure = p; one = s.frame; other = t.frame; walk_one = s.walk; walk_other = t.walk;
+      procedure = p;
+      one = s.frame;
+      other = t.frame;
+      walk_one = s.walk;
+      walk_other = t.walk;
       differ = agree_same f g s.frame t.frame s.covers.counts t.covers.counts ∙ apart;
     }
 
@@ -238,7 +274,13 @@ pub short : FrameLaws → (code : Code) (p : Procedure) (at : ℕ) (f : StackFra
 short laws code p at f found moves move target inside g call callee less =
     let s : Shows code p at f Whole = move.shown.by Whole tt in
     record {
-      procedure = p; frame = s.frame; target = target; next = found.next; inside = inside; callee = g; walk = s.walk;
+      procedure = p;
+      frame = s.frame;
+      target = target;
+      next = found.next;
+      inside = inside;
+      callee = g;
+      walk = s.walk;
       call = calls_along laws code p at f found moves move target call s.frame s.covers;
       walk_callee = callee;
       short = subst (λ n. n < g.taken) ((laws.counts f s.frame s.covers.counts).room (role_of code p)) less;
@@ -246,6 +288,15 @@ short laws code p at f found moves move target inside g call callee less =
 
 pub uneven : (code : Code) (p : Procedure) (taken other : ℕ) → (here : ReturnsWith code p taken) → ReturnsWith code p other → taken ≢ other → Uneven code here.at
 uneven code p taken other here there apart = record {
-  procedure = p; other = there.at; frame = here.frame; other_frame = there.frame; taken = taken; other_taken = other;
-  walk = here.walk; returns = here.returns; walk_other = there.walk; returns_other = there.returns; differ = apart;
+  procedure = p;
+  other = there.at;
+  frame = here.frame;
+  other_frame = there.frame;
+  taken = taken;
+  other_taken = other;
+  walk = here.walk;
+  returns = here.returns;
+  walk_other = there.walk;
+  returns_other = there.returns;
+  differ = apart;
 }

@@ -29,4 +29,4 @@ pub record IsGraph (code : Code) (depths : List Depth) (calls : List CallSite) :
   pub every_depth : (p : Procedure) (depth : ℤ) → HasDepth code p depth → Any (λ (d : Depth). (d.procedure ≡ p) × (d.depth ≡ depth)) depths
   pub call : All (λ (c : CallSite). HasCall code c.caller c.at c.depth c.target) calls
   pub every_call : (p : Procedure) (at : ℕ) (depth : ℤ) (target : ℕ) → HasCall code p at depth target →
-    Any (λ (c : CallSite). (c.caller ≡ p) × (c.target ≡ target) × (c.depth ≡ depth)) calls
+      Any (λ (c : CallSite). (c.caller ≡ p) × (c.target ≡ target) × (c.depth ≡ depth)) calls

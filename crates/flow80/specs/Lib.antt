@@ -8,4 +8,9 @@ pub mod Rows
 pub mod Points
 pub mod Graph
 pub mod Shown
+pub mod Known
+pub mod Interned
+pub mod Pages
+pub mod PointStore
 pub mod Bounds
+pub mod FittingLaws

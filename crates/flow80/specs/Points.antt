@@ -1,5 +1,5 @@
 -- The points that are known, each with what is known of its frame, in order of first sight. (This project's own.)
-use Rattle.std.specs.Prelude.{◌≡◌, ◌≤◌, ◌<◌, ℕ, Bool, true, false, ◌&&◌, nat_eq, List, Option, Some, None, slice_get}
+use Rattle.std.specs.Prelude.{◌≡◌, ◌≤◌, ◌<◌, ℕ, Bool, true, false, ◌&&◌, nat_eq, List, Option, Some, None, slice_get, slice_set}
 use Rattle.frames80.specs.StackFrame.{StackFrame}
 use Rattle.flow80.specs.declared.procedure.Procedure.{Procedure}
 use Rattle.flow80.specs.declared.procedure.Procedure.TheVariants.{Main, Entry}
@@ -28,3 +28,18 @@ with_frame frame point = record point { frame = frame }
 -- no address of a procedure stands twice
 pub record AreApart (points : List Point) : Type 0 where
   pub apart : (i j : ℕ) (a b : Point) → slice_get points i ≡ Some a → slice_get points j ≡ Some b → a.procedure ≡ b.procedure → a.at ≡ b.at → i ≡ j
+
+-- at i stands the point of that address of that procedure
+pub record IsPointAt (points : List Point) (procedure : Procedure) (at i : ℕ) : Type 0 where
+  pub point : Point
+  pub stands : slice_get points i ≡ Some point
+  pub in_procedure : point.procedure ≡ procedure
+  pub at_address : point.at ≡ at
+
+-- no point of that address of that procedure is there
+pub record IsNoPoint (points : List Point) (procedure : Procedure) (at : ℕ) : Type 0 where
+  pub none : (i : ℕ) (point : Point) → slice_get points i ≡ Some point → point.procedure ≡ procedure → point.at ≡ at → ⊥
+
+-- the point at i has another frame, and nothing else has changed
+pub record Reframes (old new : List Point) (i : ℕ) (frame : StackFrame) : Type 0 where
+  pub reframed : (point : Point) → slice_get old i ≡ Some point → new ≡ slice_set old i (with_frame frame point)

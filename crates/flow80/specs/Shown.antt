@@ -1,13 +1,17 @@
 -- What the verifier keeps true of its table while it fills: each frame in it is shown by walks. That is what makes its
 -- refusals hold. (This project's own.)
-use Rattle.std.specs.Prelude.{◌≡◌, ◌≤◌, ℕ, List, length, Option, Some, None, slice_get}
+use Rattle.std.specs.Prelude.{◌≡◌, ◌≤◌, ℕ, List, length, Option, Some, None, Result, Ok, slice_get}
+use Rattle.decode80.specs.declared.fetching.Fetched.{Fetched}
 use Rattle.frames80.specs.declared.word.Word.TheVariants.{Any}
+use Rattle.frames80.specs.declared.moves.Moves.{Moves}
 use Rattle.frames80.specs.StackFrame.{StackFrame}
+use Rattle.frames80.specs.Effects.{effect_of}
+use Rattle.frames80.specs.Moves.{moves_of}
 use Rattle.frames80.specs.Places.{Place, word_at, Covers, ChangesByPlaces, ReturnsByPlaces, MeetsByPlaces, CountsAlone, CoveredGoesAlong, ReturnRefused}
 use Rattle.flow80.specs.declared.procedure.Procedure.{Procedure}
 use Rattle.flow80.specs.declared.procedure.Procedure.TheVariants.{Entry}
 use Rattle.flow80.specs.Code.{Code}
-use Rattle.flow80.specs.Walks.{Walk, Returns}
+use Rattle.flow80.specs.Walks.{Walk, Returns, role_of}
 use Rattle.flow80.specs.Rows.{ReturnsWith}
 use Rattle.flow80.specs.Points.{Point, AreApart}
 
@@ -32,6 +36,12 @@ pub record Shows (code : Code) (p : Procedure) (at : ℕ) (f : StackFrame) (quer
 -- a frame is shown at a point: whatever may be asked of it, a walk shows it
 pub record IsShown (code : Code) (p : Procedure) (at : ℕ) (f : StackFrame) : Type 0 where
   pub by : (query : Query) → MayBeAny f query → Shows code p at f query
+
+-- at a shown frame an instruction moves
+pub record AtMove (code : Code) (p : Procedure) (at : ℕ) (f : StackFrame) (found : Fetched) (moves : Moves) : Type 0 where
+  pub shown : IsShown code p at f
+  pub looked : code.look at ≡ Ok found
+  pub moved : moves_of (role_of code p) (effect_of found.instr) f ≡ Ok moves
 
 -- the laws of frames that this rests on
 pub record FrameLaws : Type 0 where

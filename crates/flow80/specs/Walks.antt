@@ -100,9 +100,9 @@ pub record GoesOnAfter (code : Code) (p : Procedure) (f : StackFrame) (taken : �
 pub data Walk (code : Code) : Procedure → ℕ → StackFrame → Type 0 where
   begins : (p : Procedure) (at : ℕ) (f : StackFrame) → Begins code p at f → Walk code p at f
   goes_on : (p : Procedure) (at : ℕ) (f : StackFrame) (to : ℕ) (g : StackFrame) →
-    Walk code p at f → GoesOn code p at f to g → Walk code p to g
+      Walk code p at f → GoesOn code p at f to g → Walk code p to g
   enters : (p : Procedure) (at : ℕ) (f : StackFrame) (target next : ℕ) (q : Procedure) (start : ℕ) (g : StackFrame) →
-    Walk code p at f → Calls code p at f target next → Enters target q start g → Walk code q start g
+      Walk code p at f → Calls code p at f target next → Enters target q start g → Walk code q start g
   comes_back : (p : Procedure) (at : ℕ) (f : StackFrame) (target next : ℕ) (exit : ℕ) (h : StackFrame) (taken : ℕ) (g : StackFrame) →
-    Walk code p at f → Calls code p at f target next → Walk code (Entry target) exit h → Returns code (Entry target) exit h taken →
-    GoesOnAfter code p f taken g → Walk code p next g
+      Walk code p at f → Calls code p at f target next → Walk code (Entry target) exit h → Returns code (Entry target) exit h taken →
+      GoesOnAfter code p f taken g → Walk code p next g

@@ -5,19 +5,28 @@
 //! | [`Code`], [`LookFault`] | the program: the instruction at each address, the start and the stack |
 //! | [`Procedure`] | the main program, or one that a call reaches |
 //! | [`Refusal`] | why a program is refused |
+//! | [`fitting_tables_cover_walks`] | where a table of frames fits, no walk is at a fault, as a contract |
 //! | [`Report`], [`ProcRow`] | what is found of a program that is accepted |
 #![tactic(auto)]
 
 mod bounds;
+mod callers;
 mod code;
 mod cycles;
+mod fitting;
 mod graph;
+mod interned;
+mod laws;
+mod pages;
+mod points;
 mod procedure;
 mod refusal;
 mod report;
 mod sums;
+mod table;
 
 pub use code::{Code, LookFault};
+pub use fitting::fitting_tables_cover_walks;
 pub use procedure::Procedure;
 pub use refusal::Refusal;
 pub use report::{ProcRow, Report};

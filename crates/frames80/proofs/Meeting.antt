@@ -1,9 +1,8 @@
 -- Words that meet one after another.
-use Rattle.std.specs.Prelude.{◌≡◌, ℕ, ◌+◌, ◌<◌, ◌≤◌, Bool, true, false, ◌||◌, ◌↔◌, List, [], ◌∷◌, ◌++◌, zero, suc, length, reverse, slice_set, refl}
+use Rattle.std.specs.Prelude.{◌≡◌, ℕ, ◌<◌, Bool, true, false, ◌||◌, ◌↔◌, List, [], ◌∷◌, ◌++◌, zero, suc, length, reverse, slice_set, refl}
 use Rattle.std.proofs.Common.{sym, ◌∙◌, ap, arith, get_or}
 use Rattle.std.proofs.lemmas.List.{reverse-append, reverse-reverse, length-reverse}
 use Rattle.frames80.specs.declared.word.Word.{Word}
-use Rattle.frames80.specs.declared.word.Word.TheVariants.{Own, Any}
 use Rattle.frames80.specs.Word.{met}
 use Rattle.frames80.specs.StackFrame.{StackFrame}
 use Rattle.frames80.specs.Calls.{words_met}

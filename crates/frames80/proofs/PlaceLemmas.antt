@@ -1,6 +1,6 @@
 -- The laws of places.
-use Rattle.std.specs.Prelude.{◌≡◌, ℕ, ◌+◌, ◌-◌, ◌&&◌, zero, suc, Bool, true, false, List, [], ◌∷◌, length, drop, nat_eq, Option, None, Some, refl}
-use Rattle.std.proofs.Common.{ap, sym, ◌∙◌, arith, subst, true≢false}
+use Rattle.std.specs.Prelude.{◌≡◌, ℕ, ◌+◌, ◌-◌, zero, suc, Bool, true, false, List, [], ◌∷◌, length, drop, nat_eq, None, refl}
+use Rattle.std.proofs.Common.{ap, sym, ◌∙◌, arith, true≢false}
 use Rattle.std.specs.Cmp.{unsigned_Decides, first_so, second_so}
 use Rattle.std.proofs.lemmas.List.{length-drop}
 use Rattle.frames80.specs.declared.word.Word.{Word}
@@ -9,14 +9,13 @@ use Rattle.frames80.specs.declared.role.Role.{Role}
 use Rattle.frames80.specs.declared.role.Role.TheVariants.{Main, Entry}
 use Rattle.frames80.specs.declared.frame_pair.FramePair.{FramePair}
 use Rattle.frames80.specs.declared.frame_pair.FramePair.TheVariants.{Bc, De, Hl}
-use Rattle.frames80.specs.declared.fault.FrameFault.{FrameFault}
 use Rattle.frames80.specs.declared.effect.Change.{Change}
 use Rattle.frames80.specs.declared.effect.Change.TheVariants.{Keep, Push, PushAny, Pop, Drop, Swap, Exchange, Forget, SetStack}
 use Rattle.frames80.specs.Word.{met}
-use Rattle.frames80.specs.StackFrame.{StackFrame, Pairs, pair_in, with_pair, top_word, taken_after_pop}
-use Rattle.frames80.specs.Moves.{changed, change_fault, pop_fault, load_fault, return_fault, is_own_alone}
+use Rattle.frames80.specs.StackFrame.{StackFrame, pair_in, with_pair, top_word, taken_after_pop}
+use Rattle.frames80.specs.Moves.{changed, change_fault, pop_fault, return_fault, is_own_alone}
 use Rattle.frames80.specs.Calls.{room, returned, agree, words_met, merged}
-use Rattle.frames80.specs.Places.{Place, InPair, InWord, Source, From, Unknown, word_from_top, word_at, sourced, pair_source, source, source_after, ChangesByPlaces, ReturnsByPlaces, MeetsByPlaces, SameCounts, Covers, CountsDecide, CountsAlone, CoversOn, CoveredGoesAlong, ReturnRefused}
+use Rattle.frames80.specs.Places.{InPair, InWord, Source, From, Unknown, word_from_top, word_at, sourced, pair_source, source, source_after, ChangesByPlaces, ReturnsByPlaces, MeetsByPlaces, SameCounts, Covers, CountsAlone, CoveredGoesAlong}
 
 top_at : (words : List Word) → top_word words ≡ word_from_top words 0
 top_at [] = refl
@@ -173,6 +172,10 @@ met_own : (a b : Word) → met a b ≡ Own → a ≡ Own
 met_own Own b own = refl
 met_own Any b own = own
 
+met_other_own : (a b : Word) → met a b ≡ Own → b ≡ Own
+met_other_own Own b own = own
+met_other_own Any b own = absurd (let e : Any ≡ Own = own in cc)
+
 words_met-long : (xs ys : List Word) → length xs ≡ length ys → length (words_met xs ys) ≡ length xs
 words_met-long [] ys long = refl
 words_met-long (x ∷ xs) [] long = absurd (omega arith)
@@ -182,6 +185,12 @@ covers_meet : (f g : StackFrame) → Covers f g → (h : StackFrame) → agree f
 covers_meet f g covers h same = record {
   counts = record { taken = covers.counts.taken; words = words_met-long f.words h.words (counts_of_agree f h same).words ∙ covers.counts.words };
   own = λ place own. covers.own place (met_own (word_at f place) (word_at h place) (sym (meets_by_places f h place same) ∙ own));
+}
+
+covers_meet_other : (f g : StackFrame) → Covers f g → (h : StackFrame) → agree h f ≡ true → Covers (merged h f) g
+covers_meet_other f g covers h same = record {
+  counts = record { taken = (counts_of_agree h f same).taken ∙ covers.counts.taken; words = words_met-long h.words f.words (counts_of_agree h f same).words ∙ (counts_of_agree h f same).words ∙ covers.counts.words };
+  own = λ place own. covers.own place (met_other_own (word_at h place) (word_at f place) (sym (meets_by_places h f place same) ∙ own));
 }
 
 -- an entry's words are its return address alone where they are one word, and it is
@@ -215,4 +224,5 @@ covered_goes_along f g covers = record {
   return = covers_return f g covers;
   may_return = may_return f g covers;
   meet = covers_meet f g covers;
+  meet_other = covers_meet_other f g covers;
 }

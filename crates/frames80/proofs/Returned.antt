@@ -1,5 +1,5 @@
 -- A callee with enough words above the caller's bottom word comes back.
-use Rattle.std.specs.Prelude.{◌≡◌, ℕ, ◌≤◌, false, List, drop, nat_lt, Result, Ok, refl}
+use Rattle.std.specs.Prelude.{◌≡◌, ℕ, ◌≤◌, false, List, drop, nat_lt, Result, Ok}
 use Rattle.std.proofs.Common.{ap, arith}
 use Rattle.std.proofs.lemmas.Bool.Decides.{nat_tests}
 use Rattle.frames80.specs.declared.word.Word.{Word}

@@ -1,5 +1,5 @@
 -- Words are kept bottom to top, and seen top first.
-use Rattle.std.specs.Prelude.{◌≡◌, ℕ, ◌+◌, ◌-◌, List, ◌++◌, take, drop, length, reverse}
+use Rattle.std.specs.Prelude.{◌≡◌, ℕ, ◌+◌, List, ◌++◌, take, drop, length, reverse}
 use Rattle.frames80.specs.declared.word.Word.{Word}
 use Rattle.frames80.specs.Word.{word_eq, word_decides}
 use Rattle.std.specs.Bool.{one_answer}

@@ -1,6 +1,6 @@
 -- What becomes of a caller's frame when its callee returns, how frames meet at a point, and how deep a frame is. (This
 -- project's own; the convention is that of the PL/M-80 manuals: a callee takes its arguments from the stack.)
-use Rattle.std.specs.Prelude.{ℕ, ◌+◌, ◌-◌, ◌*◌, ℤ, pos, ◌*ℤ◌, ◌-ℤ◌, Bool, ◌&&◌, nat_eq, nat_lt, List, [], ◌∷◌, drop, length, Result, Ok, Err, if◌then◌else◌}
+use Rattle.std.specs.Prelude.{ℕ, ◌-◌, ◌*◌, ℤ, pos, ◌*ℤ◌, ◌-ℤ◌, Bool, ◌&&◌, nat_eq, nat_lt, List, [], ◌∷◌, drop, length, Result, Ok, Err, if◌then◌else◌}
 use Rattle.frames80.specs.declared.word.Word.{Word}
 use Rattle.frames80.specs.declared.role.Role.{Role}
 use Rattle.frames80.specs.declared.role.Role.TheVariants.{Main, Entry}
@@ -9,12 +9,12 @@ use Rattle.frames80.specs.declared.fault.CallFault.TheVariants.{ShortArguments}
 use Rattle.frames80.specs.Word.{met}
 use Rattle.frames80.specs.StackFrame.{StackFrame, Pairs, unknown}
 
--- how many words a callee may take: those above the bottom word, and all of the main program's
+-- how many words a callee may take: those above the bottom word, whatever that is; of the main program all
 abbrev pub room : Role → List Word → ℕ
 room (Main _) words = length words
 room Entry words = length words - 1
 
--- the caller's frame when the callee has taken so many words: they are gone, and nothing is known of the pairs
+-- the caller's frame when the callee has returned and taken so many words: they are gone, and the pairs may hold anything
 abbrev pub returned : ℕ → StackFrame → StackFrame
 returned taken f = record { taken = f.taken; words = drop taken f.words; pairs = unknown }
 
@@ -26,7 +26,7 @@ after_call role wants taken f = if nat_lt (room role f.words) wants then Err Sho
 abbrev pub agree : StackFrame → StackFrame → Bool
 agree f g = nat_eq f.taken g.taken && nat_eq (length f.words) (length g.words)
 
--- words that meet, and pairs that meet
+-- lists of words that meet word by word, and pairs that meet
 abbrev pub words_met : List Word → List Word → List Word
 words_met [] ys = []
 words_met (x ∷ xs) [] = []
@@ -39,8 +39,8 @@ pairs_met p q = record { bc = met p.bc q.bc; de = met p.de q.de; hl = met p.hl q
 abbrev pub merged : StackFrame → StackFrame → StackFrame
 merged f g = record { taken = f.taken; words = words_met f.words g.words; pairs = pairs_met f.pairs g.pairs }
 
--- the bytes that a procedure has on the stack beyond those that its caller counts: two for each word, but for the return
--- address and what it has taken. It is negative where it has taken more
+-- by how many bytes the stack has grown since the procedure's start; an entry starts with its return address on it. It is
+-- negative where the stack has shrunk
 abbrev pub depth_of : Role → StackFrame → ℤ
 depth_of (Main _) f = pos (2 * length f.words)
 depth_of Entry f = pos 2 *ℤ ((pos (length f.words) -ℤ pos 1) -ℤ pos f.taken)

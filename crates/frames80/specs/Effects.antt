@@ -1,6 +1,6 @@
--- What each instruction does to a frame. (The instructions are those of the Intel 8080 Assembly Language Programming
--- Manual; that the verifier gives up SPHL, PCHL, INX SP, DCX SP and most of LXI SP is this project's own.)
-use Rattle.std.specs.Prelude.{ℕ, ◌*◌}
+-- What each instruction does to a frame. (The instructions and the registers they write are those of the Intel 8080 Assembly
+-- Language Programming Manual; that SPHL, PCHL, INX SP, DCX SP and most of LXI SP are refused is this project's own.)
+use Rattle.std.specs.Prelude.{◌*◌}
 use Rattle.decode80.specs.declared.register.Register.{Register}
 use Rattle.decode80.specs.declared.register.Register.TheVariants.{A, B, C, D, E, H, L}
 use Rattle.decode80.specs.declared.pair.Pair.{Pair}
@@ -10,16 +10,14 @@ use Rattle.decode80.specs.declared.pair.StackPair.TheVariants.{Bc as StackBc, De
 use Rattle.decode80.specs.declared.instr.Instr.{Instr}
 use Rattle.decode80.specs.declared.instr.Instr.TheVariants.{Mov, Load, Mvi, Lxi, Dad, Inx, Dcx, Inr, Dcr, Jmp, JumpIf, Call, CallIf, Ret, ReturnIf, Rst, Push, Pop, Lhld, Xthl, Pchl, Xchg, Sphl, Hlt}
 use Rattle.decode80.specs.Restart.{restart_number}
-use Rattle.frames80.specs.declared.fault.FrameFault.{FrameFault}
 use Rattle.frames80.specs.declared.fault.FrameFault.TheVariants.{Sphl as SetsPointer, Pchl as JumpsByPair, StackByByte}
-use Rattle.frames80.specs.declared.frame_pair.FramePair.{FramePair}
 use Rattle.frames80.specs.declared.frame_pair.FramePair.TheVariants.{Bc as FrameBc, De as FrameDe, Hl as FrameHl}
 use Rattle.frames80.specs.declared.effect.Change.{Change}
 use Rattle.frames80.specs.declared.effect.Change.TheVariants.{Keep, Push as PushPair, PushAny, Pop as PopPair, Drop, Swap, Exchange, Forget, SetStack}
 use Rattle.frames80.specs.declared.effect.Effect.{Effect}
 use Rattle.frames80.specs.declared.effect.Effect.TheVariants.{Change as Changes, Halt, Jump, JumpIf as JumpsIf, Call as Calls, CallIf as CallsIf, Return, ReturnIf as ReturnsIf, Refuse}
 
--- a register is written: its pair holds no return address any more
+-- a register is written: its pair may hold any word from then on. A is in no pair that is followed
 abbrev pub written : Register → Change
 written B = Forget FrameBc
 written C = Forget FrameBc
@@ -29,26 +27,29 @@ written H = Forget FrameHl
 written L = Forget FrameHl
 written A = Keep
 
--- a pair is loaded, or counted up or down by one
+-- a pair is loaded, incremented or decremented: it may hold any word from then on; of SP the effect is the other one given
 abbrev pub loaded : Pair → Effect → Effect
 loaded Bc else_ = Changes (Forget FrameBc)
 loaded De else_ = Changes (Forget FrameDe)
 loaded Hl else_ = Changes (Forget FrameHl)
 loaded Sp else_ = else_
 
+-- PUSH: of PSW, A and the flags, it is any word
 abbrev pub pushed_by : StackPair → Change
 pushed_by StackBc = PushPair FrameBc
 pushed_by StackDe = PushPair FrameDe
 pushed_by StackHl = PushPair FrameHl
 pushed_by Psw = PushAny
 
+-- POP: into PSW, the word is lost
 abbrev pub popped_by : StackPair → Change
 popped_by StackBc = PopPair FrameBc
 popped_by StackDe = PopPair FrameDe
 popped_by StackHl = PopPair FrameHl
 popped_by Psw = Drop
 
--- the effect of each instruction
+-- the effect of each instruction. Those that aren't listed write neither a pair nor the stack: stores, what works on A alone,
+-- IN, OUT, EI, DI and NOP
 abbrev pub effect_of : Instr → Effect
 effect_of (Mov to _) = Changes (written to)
 effect_of (Load to) = Changes (written to)

@@ -1,5 +1,5 @@
--- Two frames are equal where all their parts are, and what is hashed of a frame is all its parts.
-use Rattle.std.specs.Prelude.{◌≡◌, ℕ, Bool, true, ◌&&◌, nat_eq, ◌++◌, List, reverse, refl}
+-- Two frames are equal where all their parts are, and what is hashed of a frame is all its parts. (This project's own.)
+use Rattle.std.specs.Prelude.{◌≡◌, Bool, true, ◌&&◌, nat_eq, ◌++◌, List, reverse, refl}
 use Rattle.std.proofs.Common.{ap, subst}
 use Rattle.std.specs.Bool.{Decides}
 use Rattle.std.specs.Cmp.{IsEquivalence, decided, unsigned_Decides, first_so, second_so}

@@ -1,4 +1,5 @@
--- The frame that a value of the program stands for: its words are kept from bottom to top there.
+-- The frame that a value of the program stands for. The program keeps the words from bottom to top, the definitions have them
+-- top first. (This project's own.)
 use Rattle.std.specs.Prelude.{reverse}
 use Rattle.frames80.specs.declared.frame.Frame.TheInside.{Inside}
 use Rattle.frames80.specs.StackFrame.{StackFrame}

@@ -1,12 +1,12 @@
--- What becomes of a frame at an instruction: the frame after it and where the procedure goes on, or why it may not be
--- executed there. (This project's own.)
+-- What becomes of a frame at an instruction: the frame after it and where the procedure goes on, or why it is refused there.
+-- (This project's own.)
 use Rattle.std.specs.Prelude.{ℕ, Bool, true, false, ◌==◌, List, [], ◌∷◌, Option, None, Some, Result, Ok, Err, if◌then◌else◌}
 use Rattle.frames80.specs.declared.word.Word.{Word}
 use Rattle.frames80.specs.declared.word.Word.TheVariants.{Own, Any}
 use Rattle.frames80.specs.declared.role.Role.{Role}
 use Rattle.frames80.specs.declared.role.Role.TheVariants.{Main, Entry}
 use Rattle.frames80.specs.declared.frame_pair.FramePair.{FramePair}
-use Rattle.frames80.specs.declared.frame_pair.FramePair.TheVariants.{Bc, De, Hl}
+use Rattle.frames80.specs.declared.frame_pair.FramePair.TheVariants.{Hl}
 use Rattle.frames80.specs.declared.fault.FrameFault.{FrameFault}
 use Rattle.frames80.specs.declared.fault.FrameFault.TheVariants.{SetsStack, PopsBelow, ReturnNotOwn, ReturnFromMain}
 use Rattle.frames80.specs.declared.effect.Change.{Change}
@@ -17,7 +17,7 @@ use Rattle.frames80.specs.declared.moves.Moves.{Moves}
 use Rattle.frames80.specs.declared.moves.Moves.TheVariants.{End, On, Jump as MovesTo, Either, Call as CallOf, MaybeCall, Return as Returns, MaybeReturn}
 use Rattle.frames80.specs.StackFrame.{StackFrame, pair_in, with_pair, top_word, pushed, popped, exchanged, cleared}
 
--- a frame with this in a pair
+-- the frame with this word in a pair
 abbrev pub holding : FramePair → Word → StackFrame → StackFrame
 holding pair word f = record f { pairs = with_pair f.pairs pair word }
 
@@ -33,18 +33,18 @@ changed Exchange f = exchanged f
 changed (Forget pair) f = holding pair Any f
 changed (SetStack _) f = cleared f
 
--- a pop where the words are empty: an entry takes a word from beneath, the main program has none
+-- why a pop is refused: where the words are empty the main program has none to pop; an entry takes one from beneath
 abbrev pub pop_fault : Role → List Word → Option FrameFault
 pop_fault (Main _) [] = Some PopsBelow
 pop_fault (Main _) (word ∷ words) = None
 pop_fault Entry words = None
 
--- a load of the stack pointer: the main program may, with the stack's top
+-- why a load of the stack pointer is refused: only the main program may, and only with the stack's top
 abbrev pub load_fault : Role → ℕ → Option FrameFault
 load_fault (Main top) address = if top == address then None else Some SetsStack
 load_fault Entry address = Some SetsStack
 
--- why a change may not be made
+-- why a change is refused
 abbrev pub change_fault : Role → Change → List Word → Option FrameFault
 change_fault role (Pop _) words = pop_fault role words
 change_fault role Drop words = pop_fault role words
@@ -57,7 +57,7 @@ abbrev pub is_own_alone : List Word → Bool
 is_own_alone (Own ∷ []) = true
 is_own_alone _ = false
 
--- why a return may not be made: an entry's words must be its return address alone
+-- why a return is refused: the main program has nowhere to return to; an entry's words must be its return address alone
 abbrev pub return_fault : Role → List Word → Option FrameFault
 return_fault (Main _) words = Some ReturnFromMain
 return_fault Entry words = if is_own_alone words then None else Some ReturnNotOwn

@@ -1,7 +1,7 @@
 -- The places of a frame, one by one: what each effect, each call and each meeting makes of them. The laws of this crate say
 -- that a place after an effect is one place from before, or a constant, and that frames of the same counts go the same way.
 -- (This project's own.)
-use Rattle.std.specs.Prelude.{◌≡◌, ◌≢◌, ℕ, ◌+◌, ◌<◌, ◌≤◌, zero, suc, true, List, [], ◌∷◌, length, Option, None, Some, Ok, Err, Result}
+use Rattle.std.specs.Prelude.{◌≡◌, ℕ, ◌+◌, zero, suc, true, List, [], ◌∷◌, length, None, Some}
 use Rattle.frames80.specs.declared.word.Word.{Word}
 use Rattle.frames80.specs.declared.word.Word.TheVariants.{Own, Any}
 use Rattle.frames80.specs.declared.role.Role.{Role}
@@ -9,9 +9,9 @@ use Rattle.frames80.specs.declared.frame_pair.FramePair.{FramePair}
 use Rattle.frames80.specs.declared.frame_pair.FramePair.TheVariants.{Bc, De, Hl}
 use Rattle.frames80.specs.declared.fault.FrameFault.{FrameFault}
 use Rattle.frames80.specs.declared.effect.Change.{Change}
-use Rattle.frames80.specs.declared.effect.Change.TheVariants.{Keep, Push, PushAny, Pop, Drop, Swap, Exchange, Forget, SetStack}
+use Rattle.frames80.specs.declared.effect.Change.TheVariants.{Push, PushAny, Pop, Drop, Swap, Exchange, Forget, SetStack}
 use Rattle.frames80.specs.Word.{met}
-use Rattle.frames80.specs.StackFrame.{StackFrame, Pairs, pair_in}
+use Rattle.frames80.specs.StackFrame.{StackFrame, pair_in}
 use Rattle.frames80.specs.Moves.{changed, change_fault, return_fault}
 use Rattle.frames80.specs.Calls.{room, returned, agree, merged}
 
@@ -102,12 +102,14 @@ pub record CountsDecide (f g : StackFrame) : Type 0 where
 abbrev pub CountsAlone : Type 0
 CountsAlone = (f g : StackFrame) → SameCounts f g → CountsDecide f g
 
--- a frame that is covered goes where the frame that covers it goes, and is covered there
+-- a frame that is covered goes where the frame that covers it goes, and is covered there; where that one meets another frame, on
+-- either side, it is covered by both together
 pub record CoversOn (f g : StackFrame) : Type 0 where
   pub change : (change : Change) → Covers (changed change f) (changed change g)
   pub return : (taken : ℕ) → Covers (returned taken f) (returned taken g)
   pub may_return : (role : Role) → return_fault role f.words ≡ None → return_fault role g.words ≡ None
   pub meet : (h : StackFrame) → agree f h ≡ true → Covers (merged f h) g
+  pub meet_other : (h : StackFrame) → agree h f ≡ true → Covers (merged h f) g
 
 abbrev pub CoveredGoesAlong : Type 0
 CoveredGoesAlong = (f g : StackFrame) → Covers f g → CoversOn f g

@@ -34,7 +34,7 @@ with_pair pairs Hl word = record pairs { hl = word }
 abbrev pub unknown : Pairs
 unknown = record { bc = Any; de = Any; hl = Any }
 
--- the frame at the start of a procedure that is called: its return address alone
+-- the frame at the start of an entry, a procedure that is called: its return address alone
 abbrev pub entry_frame : StackFrame
 entry_frame = record { taken = 0; words = Own ∷ []; pairs = unknown }
 

@@ -1,4 +1,4 @@
--- What may be known of a word: that it is the procedure's own return address, or nothing.
+-- What is known of a word: that it is the procedure's own return address, or nothing. (This project's own.)
 use Rattle.std.specs.Prelude.{◌≡◌, ℕ, Bool, true, nat_eq, refl}
 use Rattle.std.proofs.Common.{ap, subst, sym, true≢false}
 use Rattle.std.specs.Bool.{Decides}

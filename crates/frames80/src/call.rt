@@ -9,8 +9,9 @@ use crate::role::Role;
 use crate::word::Word;
 use std::alloc::Global;
 
-/// The caller's frame after a call of a procedure that takes up to `wants` words from beneath its return address on its
-/// ways, and `taken` of them where it returns: the top `taken` words are gone, and BC, DE and HL may hold anything.
+/// The caller's frame after a call of a procedure that takes up to `wants` words from beneath its return address on any of
+/// its walks, and `taken` of them where it returns: the top `taken` words are gone, and BC, DE and HL may hold anything. The
+/// frame has up to 1,000,000 words, and as many taken.
 ///
 /// # Errors
 /// `ShortArguments` exactly where the caller has fewer than `wants` words above its bottom word; in the main program, where

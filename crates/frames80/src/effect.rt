@@ -29,7 +29,7 @@ pub enum Change {
 /// What an instruction does: how it changes a frame, and where it goes on.
 #[derive(Clone, Copy, Debug, PartialEq, Eq)]
 pub enum Effect {
-    /// It goes on to the next instruction, with the frame so changed.
+    /// It goes on to the next instruction with a changed frame.
     Change(Change),
     /// HLT.
     Halt,
@@ -45,6 +45,6 @@ pub enum Effect {
     Return,
     /// A conditional return.
     ReturnIf,
-    /// It is not taken in any frame.
+    /// It is refused in every frame.
     Refuse(FrameFault),
 }

@@ -1,4 +1,4 @@
-//! Why a frame does not go on. The numbers are those of the verifier's refusals.
+//! Why an instruction, a call or a meeting of frames is refused. The numbers are those of the verifier's refusals.
 
 ghost use Rattle.std.specs.Prelude.{◌≡◌};
 ghost use Rattle.frames80.specs.Fault.{frame_fault_code, call_fault_code};
@@ -6,7 +6,7 @@ ghost use Rattle.frames80.specs.Fault.{frame_fault_code, call_fault_code};
 use std::alloc::AllocError;
 use thiserror::Error;
 
-/// Why an instruction may not be executed with a frame.
+/// Why an instruction is refused with a frame.
 #[derive(Clone, Copy, PartialEq, Eq, Debug, Error)]
 pub enum FrameFault {
     /// SPHL.
@@ -63,10 +63,10 @@ impl From<AllocError> for FrameFault {
     }
 }
 
-/// Why a call does not come back to its caller's frame.
+/// Why there is no frame after a call.
 #[derive(Clone, Copy, PartialEq, Eq, Debug, Error)]
 pub enum CallFault {
-    /// The caller has fewer words above its bottom word than the callee takes.
+    /// The caller has fewer words above its bottom word than the callee takes; in the main program, fewer words.
     #[error("ShortArguments")]
     ShortArguments,
     /// Out of memory.

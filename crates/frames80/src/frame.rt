@@ -69,7 +69,7 @@ impl Frame {
         })
     }
 
-    /// The same frame once more.
+    /// A copy of the frame.
     ///
     /// # Errors
     /// `AllocError` where memory runs out.
@@ -97,7 +97,7 @@ impl Frame {
         }
     }
 
-    /// The pair holds this.
+    /// Puts a word into a pair.
     pub(crate) fn set_pair(&mut self, pair: FramePair, word: Word)
         ensures { self.new ≡ record self.old { pairs = with_pair self.old.pairs pair word } }
     {
@@ -108,7 +108,7 @@ impl Frame {
         }
     }
 
-    /// A word goes on top.
+    /// Pushes a word.
     pub(crate) fn push(&mut self, word: Word) -> Result<(), AllocError>
         ensures { IfOk result (λ _. self.new ≡ pushed word self.old) }
     {
@@ -116,7 +116,7 @@ impl Frame {
         Ok(())
     }
 
-    /// The top is popped. Where the procedure has no word of its own left, one from beneath is: any word, and one more taken.
+    /// Pops the top. Where the procedure has no word of its own left, it takes one from beneath, which may be any word.
     pub(crate) fn pop(&mut self) -> Word
         requires { self.old.taken ≤ 1000000 }
         ensures word { result ≡ top_word self.old.words }
@@ -140,7 +140,7 @@ impl Frame {
         self.de = hl;
     }
 
-    /// No word is left.
+    /// Removes all words.
     pub(crate) fn clear(&mut self)
         ensures { self.new ≡ cleared self.old }
     {

@@ -7,21 +7,21 @@ ghost use Rattle.frames80.specs.FrameEquality.{EqualityIsExact};
 pub fn places_move()
     // Each effect takes each place from one place, or it is any word.
     ensures change { ChangesByPlaces }
-    // A call that came back takes each place from one place, or it is any word.
+    // After a call each place comes from one place, or it is any word.
     ensures call { ReturnsByPlaces }
     // A merged place is the return address exactly where both are.
     ensures meet { MeetsByPlaces }
 {}
 
-/// Whether an instruction but a return is refused, and the counts after it, are a matter of the counts before it alone.
+/// Whether an instruction other than a return is refused, and the counts after it, depend on the counts before it alone.
 pub fn counts_decide()
     ensures counts { CountsAlone }
-    // A return asks besides for the one word to be the return address.
+    // A return also needs the one word to be the return address.
     ensures refused { ReturnRefused }
 {}
 
-/// A frame that another covers (the same counts, and the return address at least where the other has it) is refused nothing
-/// that the other may do, and is covered after it.
+/// A frame that another covers (the same counts, and the return address at least where the other has it) is not refused where
+/// the other isn't, and is covered after each change, call and meeting.
 pub fn covered_goes_along()
     ensures { CoveredGoesAlong }
 {}

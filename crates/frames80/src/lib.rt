@@ -23,6 +23,8 @@ mod merge;
 mod moves;
 mod role;
 mod table;
+#[cfg(test)]
+mod tests;
 mod word;
 
 pub use call::after;

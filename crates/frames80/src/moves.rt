@@ -35,13 +35,14 @@ pub enum Moves {
     MaybeReturn(Frame, u32),
 }
 
-/// What becomes of a frame at an instruction. It takes up to 1,000,000 words in the frame and as many taken.
+/// What becomes of a frame at an instruction. The frame has up to 1,000,000 words, and as many taken.
 ///
 /// # Errors
-/// `Sphl`, `Pchl` and `StackByByte` for SPHL, PCHL, and INX SP or DCX SP; `SetsStack` for LXI SP but for the stack's top in
-/// the main program; `PopsBelow` for a pop or XTHL of the main program with no words; `ReturnFromMain` for a return of the
-/// main program; `ReturnNotOwn` for a return, conditional ones too, of an entry whose words are not its return address
-/// alone. `Memory` comes only where there is none of these and memory runs out.
+/// Each exactly where it says, and no two of them hold at once: `Sphl` and `Pchl` at SPHL and PCHL, `StackByByte` at INX SP and
+/// DCX SP; `SetsStack` at LXI SP, but for the main program with the stack's top; `PopsBelow` at a POP or XTHL of the main
+/// program with no words; `ReturnFromMain` at a return of the main program; `ReturnNotOwn` at a return of an entry whose words
+/// are not its return address alone. A conditional return is refused like any other. `Memory` comes only where none of these
+/// holds and memory runs out.
 pub fn next(alloc: Global, frame: &Frame, instr: Instr, role: Role) -> Result<Moves, FrameFault>
     requires taken { frame.now.taken ≤ 1000000 }
     requires words { length frame.now.words ≤ 1000000 }
@@ -71,7 +72,7 @@ pub fn next(alloc: Global, frame: &Frame, instr: Instr, role: Role) -> Result<Mo
     }
 }
 
-/// Why a change may not be made to a frame.
+/// Why a change of a frame is refused.
 fn change_fault(role: Role, change: Change, frame: &Frame) -> Option<FrameFault>
     ensures { result ≡ change_fault role change frame.now.words }
 {
@@ -82,7 +83,7 @@ fn change_fault(role: Role, change: Change, frame: &Frame) -> Option<FrameFault>
     }
 }
 
-/// Why a frame may not be popped.
+/// Why a pop is refused.
 fn pop_fault(role: Role, frame: &Frame) -> Option<FrameFault>
     ensures { result ≡ pop_fault role frame.now.words }
 {
@@ -92,7 +93,7 @@ fn pop_fault(role: Role, frame: &Frame) -> Option<FrameFault>
     }
 }
 
-/// Why the stack pointer may not be loaded with an address.
+/// Why a load of the stack pointer is refused.
 fn load_fault(role: Role, address: u16) -> Option<FrameFault>
     ensures { result ≡ load_fault role address }
 {
@@ -102,7 +103,7 @@ fn load_fault(role: Role, address: u16) -> Option<FrameFault>
     }
 }
 
-/// Why a procedure may not return with a frame.
+/// Why a return is refused.
 fn return_fault(role: Role, frame: &Frame) -> Option<FrameFault>
     ensures { result ≡ return_fault role frame.now.words }
 {

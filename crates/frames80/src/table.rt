@@ -46,7 +46,7 @@ pub fn effect_of(instr: Instr) -> Effect
     }
 }
 
-/// A register is written.
+/// The change by an instruction that writes a register.
 fn written(to: Register) -> Change
     ensures { result ≡ written to }
 {
@@ -58,7 +58,7 @@ fn written(to: Register) -> Change
     }
 }
 
-/// PUSH.
+/// The change by a PUSH.
 fn pushed_by(pair: StackPair) -> Change
     ensures { result ≡ pushed_by pair }
 {
@@ -70,7 +70,7 @@ fn pushed_by(pair: StackPair) -> Change
     }
 }
 
-/// POP.
+/// The change by a POP.
 fn popped_by(pair: StackPair) -> Change
     ensures { result ≡ popped_by pair }
 {

@@ -1,4 +1,4 @@
-//! What a word may be.
+//! What is known of a word.
 
 ghost use Rattle.std.specs.Cmp.{partial_equiv_from_equiv};
 ghost use Rattle.std.specs.Hash as fed;
@@ -9,7 +9,7 @@ use std::hash::{Hash, Hasher};
 /// What is known of a word on a procedure's stack, or in one of its register pairs.
 #[derive(Clone, Copy, Debug)]
 pub enum Word {
-    /// It is the procedure's own return address, in whole.
+    /// It is the procedure's own return address, both bytes of it.
     Own,
     /// It may be any word.
     Any,
@@ -18,7 +18,7 @@ pub enum Word {
 impl Word {
     ghost use Rattle.frames80.specs.Word.{met, word_rank};
 
-    /// A word that is one of the two: the return address only where both are.
+    /// What is known where it is one of the two words: the return address only where both are.
     pub(crate) fn meet(self, other: Word) -> Word
         ensures { result ≡ met self other }
     {

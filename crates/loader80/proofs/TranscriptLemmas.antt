@@ -1,5 +1,5 @@
 -- A run on list ports has a transcript.
-use Rattle.std.specs.Prelude.{◌≡◌, ℕ, ◌+◌, ◌≤◌, Bool, true, false, nat_lt, List, [], Option, Some, length, refl}
+use Rattle.std.specs.Prelude.{◌≡◌, ℕ, ◌+◌, ◌<◌, ◌≤◌, Bool, true, false, nat_lt, List, [], Option, Some, length, refl}
 use Rattle.std.proofs.Common.{ap, sym, subst, arith}
 use Rattle.std.proofs.lemmas.Bool.Decides.{nat_tests}
 use Rattle.place80.specs.Image.{Located}
@@ -8,7 +8,7 @@ use Rattle.machine80.specs.Ports.{Lists, has_room}
 use Rattle.machine80.specs.Step.{Machine, refusals_at}
 use Rattle.machine80.specs.World.{world_at_start}
 use Rattle.machine80.specs.Run.{IsRun, Agrees}
-use Rattle.loader80.specs.declared.replying.Outcome.{Outcome}
+use Rattle.loader80.specs.declared.replies.Outcome.{Outcome}
 use Rattle.loader80.specs.Session.{IsTranscript}
 use Rattle.loader80.specs.TranscriptText.{transcript}
 
@@ -31,27 +31,27 @@ kept_within inputs limit before after ending ports =
     let same : after.limit ≡ before.limit = cc ports.limit_after in
     omega (arith, ports.limit_before)
 
--- a count that stays has not risen
-not_risen : (a b : ℕ) → b ≡ a → nat_lt a b ≡ true → ⊥
-not_risen a b same rose = grind (arith, nat_tests, same, rose)
+-- a count that rose from none is above it
+risen : (a b : ℕ) → a ≡ 0 → nat_lt a b ≡ true → 0 < b
+risen a b none rose = grind (arith, nat_tests, none, rose)
 
 -- the transcript, whether or not an output was refused
 made : (b : Bool) (image : Located) (inputs : List (List ℕ)) (limit steps : ℕ) (o : Outcome) (text : List ℕ) (before after : Lists) (last : Machine) → nat_lt before.refused after.refused ≡ b → RanOn inputs limit before after o.end → last.outputs ≡ after.outputs →
+    (0 < after.refused → limit ≤ length after.outputs) →
     ((most : Option ℕ) → Agrees b most last.outputs → IsRun image.regions most (world_at_start image inputs []) steps o.steps last o.end) → o.at ≡ last.cpu.pc → text ≡ transcript o.stack_bytes last.outputs o.end o.at o.steps →
     IsTranscript image inputs limit steps o text
-made true image inputs limit steps o text before after last rose ports same run at spells = record {
-  most = length last.outputs;
-  within = subst (λ (l : List (ℕ × ℕ)). length l ≤ limit) (sym same) (kept_within inputs limit before after o.end ports);
-  whole = λ none. let equal : after.refused ≡ before.refused = omega (arith, ports.refusals, none) in absurd (not_risen before.refused after.refused equal rose);
-  last = last;
-  run = run (Some (length last.outputs)) refl;
-  at = at;
-  spells = spells;
-}
-made false image inputs limit steps o text before after last rose ports same run at spells = record {
-  most = limit;
-  within = omega arith;
-  whole = λ none. refl;
+made true image inputs limit steps o text before after last rose ports same full run at spells =
+    let above : limit ≤ length after.outputs = full (risen before.refused after.refused ports.refused_before rose) in
+    let within : length after.outputs ≤ limit = kept_within inputs limit before after o.end ports in
+    let as_many : length last.outputs ≡ length after.outputs = ap length same in
+    let equal : limit ≡ length last.outputs = omega (arith, above, within, as_many) in
+    record {
+      last = last;
+      run = run (Some limit) (ap Some equal);
+      at = at;
+      spells = spells;
+    }
+made false image inputs limit steps o text before after last rose ports same full run at spells = record {
   last = last;
   run = run (Some limit) (subst (λ (l : List (ℕ × ℕ)). length l ≤ limit) (sym same) (kept_within inputs limit before after o.end ports));
   at = at;
@@ -59,10 +59,11 @@ made false image inputs limit steps o text before after last rose ports same run
 }
 
 pub transcript_made : (image : Located) (inputs : List (List ℕ)) (limit steps : ℕ) (o : Outcome) (text : List ℕ) (before after : Lists) (last : Machine) → RanOn inputs limit before after o.end → last.outputs ≡ after.outputs →
+    (0 < after.refused → limit ≤ length after.outputs) →
     ((most : Option ℕ) → Agrees (nat_lt before.refused after.refused) most after.outputs → IsRun image.regions most (world_at_start image before.inputs before.outputs) steps o.steps last o.end) → o.at ≡ last.cpu.pc → text ≡ transcript o.stack_bytes last.outputs o.end o.at o.steps →
     IsTranscript image inputs limit steps o text
-transcript_made image inputs limit steps o text before after last ports same run at spells =
-    made (nat_lt before.refused after.refused) image inputs limit steps o text before after last refl ports same
+transcript_made image inputs limit steps o text before after last ports same full run at spells =
+    made (nat_lt before.refused after.refused) image inputs limit steps o text before after last refl ports same full
     (λ most agrees.
     subst (λ (i : List (List ℕ)). IsRun image.regions most (world_at_start image i []) steps o.steps last o.end) ports.inputs_before
     (subst (λ (l : List (ℕ × ℕ)). IsRun image.regions most (world_at_start image before.inputs l) steps o.steps last o.end) ports.outputs_before

@@ -1,5 +1,5 @@
 -- What a session answers and writes: a relation between the three texts, the answer and the text that is written.
-use Rattle.std.specs.Prelude.{◌≡◌, ◌≢◌, ℕ, ◌≤◌, ◌⊎◌, List, [], None, Some, Result, Ok, Err}
+use Rattle.std.specs.Prelude.{◌≡◌, ◌≢◌, ℕ, ◌⊎◌, List, [], None, Some, Result, Ok, Err}
 use Rattle.place80.specs.declared.fault.RegionsFault.TheVariants.{Memory as RegionsMemory}
 use Rattle.place80.specs.declared.image_fault.ImageFault.TheVariants.{Memory as ImageMemory}
 use Rattle.place80.specs.Regions.{Areas}
@@ -7,10 +7,10 @@ use Rattle.place80.specs.RegionsText.{Spells, Refuses}
 use Rattle.place80.specs.Image.{Located}
 use Rattle.place80.specs.ImageFile.{image_of, without_regions}
 use Rattle.machine80.specs.Ports.{lists_of}
-use Rattle.machine80.specs.Step.{Machine, refusals_at}
+use Rattle.machine80.specs.Step.{Machine}
 use Rattle.machine80.specs.World.{world_at_start}
 use Rattle.machine80.specs.Run.{IsRun}
-use Rattle.loader80.specs.declared.replying.Outcome.{Outcome}
+use Rattle.loader80.specs.declared.replies.Outcome.{Outcome}
 use Rattle.loader80.specs.declared.fault.SessionFault.{SessionFault}
 use Rattle.loader80.specs.declared.fault.SessionFault.TheVariants.{Read, Write, Image, Regions, Inputs, Refused, Memory, TooLong}
 use Rattle.loader80.specs.declared.refusal.Refusal.{Refusal}
@@ -25,14 +25,11 @@ pub record SpellsProgram (t : Texts) (image : Located) : Type 0 where
   pub contents : image_of t.image ≡ Ok (without_regions image)
   pub regions : Spells t.regions image.regions
 
--- the text is the transcript of a run of at most so many steps on these inputs. Of the outputs as many are taken as the
--- limit says, or fewer only where the last one is refused for want of memory
+-- the text is the transcript of a run of at most so many steps on these inputs. Exactly as many outputs are taken as the
+-- limit says, and the next one is refused
 pub record IsTranscript (image : Located) (inputs : List (List ℕ)) (limit steps : ℕ) (o : Outcome) (text : List ℕ) : Type 0 where
-  pub most : ℕ
-  pub within : most ≤ limit
-  pub whole : refusals_at o.end ≡ 0 → most ≡ limit
   pub last : Machine
-  pub run : IsRun image.regions (Some most) (world_at_start image inputs []) steps o.steps last o.end
+  pub run : IsRun image.regions (Some limit) (world_at_start image inputs []) steps o.steps last o.end
   pub at : o.at ≡ last.cpu.pc
   pub spells : text ≡ transcript o.stack_bytes last.outputs o.end o.at o.steps
 

@@ -1,6 +1,6 @@
 //! An image that was checked.
 
-ghost use Rattle.std.specs.Prelude.{◌≡◌, OnOk, IfOk, IfErr};
+ghost use Rattle.std.specs.Prelude.{◌≡◌, ◌≤◌, OnOk, IfOk, IfErr};
 ghost use Rattle.machine80.specs.World.{NeverGoesWrong};
 ghost use Rattle.loader80.specs.Check.{IsSound, Holds};
 
@@ -48,7 +48,7 @@ impl Model for Vouched {
 }
 
 impl Vouched {
-    ghost use Rattle.std.specs.Prelude.{◌≡◌, []};
+    ghost use Rattle.std.specs.Prelude.{◌≡◌, ◌≤◌, []};
     ghost use Rattle.machine80.specs.World.{NeverGoesWrong};
     ghost use Rattle.loader80.specs.Check.{IsSound};
 
@@ -69,6 +69,7 @@ impl Vouched {
     pub fn stack_bytes(&self) -> u64
         ensures bytes { result ≡ self.now.stack_bytes }
         ensures never_goes_wrong { NeverGoesWrong self.now.image result }
+        ensures within_stack { result ≤ self.now.image.regions.stack.length }
         // No instruction that touches the stack is accepted yet.
         ensures none { result ≡ 0 }
     {
@@ -92,6 +93,7 @@ pub fn vouch(alloc: Global, image: Image) -> Result<Vouched, (Image, Refusal)>
     ensures image { IfOk result (λ vouched. vouched.image ≡ image) }
     ensures sound { OnOk result (IsSound image) }
     ensures never_goes_wrong { IfOk result (λ vouched. NeverGoesWrong image vouched.stack_bytes) }
+    ensures within_stack { IfOk result (λ vouched. vouched.stack_bytes ≤ image.regions.stack.length) }
     ensures handed_back { IfErr result (λ refused. refused.0 ≡ image) }
     ensures refused { IfErr result (λ refused. Holds image refused.1) }
 {

@@ -1,10 +1,8 @@
 pub mod ArithmeticLemmas
-pub mod ByteLemmas
 pub mod DecimalLemmas
 pub mod FlagsLemmas
 pub mod PortsLemmas
 pub mod Queues
-pub mod RotationLemmas
 pub mod Running
 pub mod Spans
 pub mod Tables

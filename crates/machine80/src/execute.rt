@@ -1,6 +1,7 @@
 //! What an instruction does to the processor and its memory.
 
-ghost use Rattle.std.specs.Prelude.{◌≡◌, None, OnSome, IfNone};
+ghost use Rattle.std.specs.Prelude.{◌≡◌, OnSome, IfNone, OnOk, OnErr, IfOk};
+ghost use Rattle.std.specs.Result.{result_err};
 ghost use Rattle.machine80.specs.Effects.{target, changed, computed, operand_of, stores, stored};
 ghost use Rattle.machine80.specs.Kinds.{IsPlain};
 ghost use Rattle.machine80.specs.Step.{guard};
@@ -11,9 +12,9 @@ use crate::cpu::Cpu;
 use crate::end::End;
 use crate::flags::condition_holds;
 use crate::registers::Registers;
-use crate::stack::{call, come_back, exchange, pop_pair, push_pair};
-use crate::stores::{store_accumulator, store_answer, store_byte, store_word};
-use decode80::{Fetched, Instr, Operand, StackPair, ahead};
+use crate::stack::{exchange, pop_pair, pop_place, push_pair, push_place};
+use crate::stores::{store_byte, store_direct, store_word};
+use decode80::{Fetched, Instr, Operand, StackPair, ahead, behind};
 use place80::Regions;
 
 /// The byte that an operation on the accumulator takes.
@@ -64,7 +65,7 @@ fn change<B: Bus>(instr: Instr, cpu: &mut Cpu, bus: &B)
         Instr::Mvi(to, byte) => cpu.registers.assign(to, byte),
         Instr::Lxi(pair, word) => cpu.assign_pair(pair, word),
         Instr::Inx(pair) => cpu.assign_pair(pair, ahead(cpu.pair(pair), 1)),
-        Instr::Dcx(pair) => cpu.assign_pair(pair, ahead(cpu.pair(pair), 65535)),
+        Instr::Dcx(pair) => cpu.assign_pair(pair, behind(cpu.pair(pair), 1)),
         Instr::Ldax(pair) => cpu.registers.a = bus.load(r.index_pair(pair)),
         Instr::Lda(address) => cpu.registers.a = bus.load(address),
         Instr::Lhld(address) => cpu.registers.assign_stack_pair(
@@ -95,53 +96,99 @@ pub(crate) fn proceed<B: Bus>(
     ensures cpu { IfNone result (cpu.new ≡ record (changed found.instr (B.memory bus.old) cpu.old) { pc = target found.instr found.next (B.memory bus.old) cpu.old }) }
     ensures memory { IfNone result (B.memory bus.new ≡ stored (B.memory bus.old) (stores found.instr found.next (B.memory bus.old) cpu.old)) }
 {
-    let r = cpu.registers;
-    let next = found.next;
-    match found.instr {
-        Instr::Jmp(address) => jump(address, cpu),
-        Instr::JumpIf(condition, address) if condition_holds(condition, r.flags) => {
-            jump(address, cpu)
+    match go_on(found.instr, found.next, cpu, bus, regions) {
+        Ok(address) => {
+            cpu.pc = address;
+            None
         }
-        Instr::Pchl => jump(r.hl(), cpu),
-        Instr::Call(address) => call(address, next, cpu, bus, regions),
-        Instr::CallIf(condition, address) if condition_holds(condition, r.flags) => {
-            call(address, next, cpu, bus, regions)
-        }
-        Instr::Rst(number) => call(number.address(), next, cpu, bus, regions),
-        Instr::Ret => come_back(cpu, bus, regions),
-        Instr::ReturnIf(condition) if condition_holds(condition, r.flags) => {
-            come_back(cpu, bus, regions)
-        }
-        Instr::JumpIf(..) | Instr::CallIf(..) | Instr::ReturnIf(_) => jump(next, cpu),
-        Instr::Push(pair) => push_pair(pair, next, cpu, bus, regions),
-        Instr::Pop(pair) => pop_pair(pair, next, cpu, bus, regions),
-        Instr::Xthl => exchange(next, cpu, bus, regions),
-        Instr::Sta(address) => store_accumulator(address, next, cpu, bus, regions),
-        Instr::Shld(address) => store_word(address, next, cpu, bus, regions),
-        Instr::Store(from) => store_byte(r.hl(), r.value(from), next, cpu, bus, regions),
-        Instr::MviMemory(byte) => store_byte(r.hl(), byte, next, cpu, bus, regions),
-        Instr::Stax(pair) => store_byte(r.index_pair(pair), r.a, next, cpu, bus, regions),
-        Instr::InrMemory => {
-            let more = alu::increment(bus.load(r.hl()), r.flags);
-            store_answer(r.hl(), more, next, cpu, bus, regions)
-        }
-        Instr::DcrMemory => {
-            let less = alu::decrement(bus.load(r.hl()), r.flags);
-            store_answer(r.hl(), less, next, cpu, bus, regions)
-        }
-        plain => {
-            change(plain, cpu, bus);
-            jump(next, cpu)
-        }
+        Err(end) => Some(end),
     }
 }
 
-/// The run goes on at an address.
+/// What an instruction does but for the program counter, and the address of the next one.
 #[inline]
-fn jump(address: u16, cpu: &mut Cpu) -> Option<End>
-    ensures end { result ≡ None }
-    ensures cpu { cpu.new ≡ record cpu.old { pc = address } }
+fn go_on<B: Bus>(
+    instr: Instr,
+    next: u16,
+    cpu: &mut Cpu,
+    bus: &mut B,
+    regions: &Regions,
+) -> Result<u16, End>
+    ensures end { result_err result ≡ guard regions.now instr cpu.old }
+    ensures kept { OnErr result ((cpu.new ≡ cpu.old) × (B.memory bus.new ≡ B.memory bus.old)) }
+    ensures target { IfOk result (λ address. address ≡ target instr next (B.memory bus.old) cpu.old) }
+    ensures cpu { OnOk result (cpu.new ≡ changed instr (B.memory bus.old) cpu.old) }
+    ensures memory { OnOk result (B.memory bus.new ≡ stored (B.memory bus.old) (stores instr next (B.memory bus.old) cpu.old)) }
 {
-    cpu.pc = address;
-    None
+    let r = cpu.registers;
+    match instr {
+        Instr::Jmp(address) => Ok(address),
+        Instr::JumpIf(condition, address) if condition_holds(condition, r.flags) => Ok(address),
+        Instr::Pchl => Ok(r.hl()),
+        Instr::Call(address) => {
+            push_place(next, cpu, bus, regions)?;
+            Ok(address)
+        }
+        Instr::CallIf(condition, address) if condition_holds(condition, r.flags) => {
+            push_place(next, cpu, bus, regions)?;
+            Ok(address)
+        }
+        Instr::Rst(number) => {
+            push_place(next, cpu, bus, regions)?;
+            Ok(number.address())
+        }
+        Instr::Ret => pop_place(cpu, bus, regions),
+        Instr::ReturnIf(condition) if condition_holds(condition, r.flags) => {
+            pop_place(cpu, bus, regions)
+        }
+        Instr::JumpIf(..) | Instr::CallIf(..) | Instr::ReturnIf(_) => Ok(next),
+        Instr::Push(pair) => {
+            push_pair(pair, cpu, bus, regions)?;
+            Ok(next)
+        }
+        Instr::Pop(pair) => {
+            pop_pair(pair, cpu, bus, regions)?;
+            Ok(next)
+        }
+        Instr::Xthl => {
+            exchange(cpu, bus, regions)?;
+            Ok(next)
+        }
+        Instr::Sta(address) => {
+            store_direct(address, r.a, bus, regions)?;
+            Ok(next)
+        }
+        Instr::Shld(address) => {
+            store_word(address, r.l, r.h, bus, regions)?;
+            Ok(next)
+        }
+        Instr::Store(from) => {
+            store_byte(r.hl(), r.value(from), bus, regions)?;
+            Ok(next)
+        }
+        Instr::MviMemory(byte) => {
+            store_byte(r.hl(), byte, bus, regions)?;
+            Ok(next)
+        }
+        Instr::Stax(pair) => {
+            store_byte(r.index_pair(pair), r.a, bus, regions)?;
+            Ok(next)
+        }
+        Instr::InrMemory => {
+            let more = alu::increment(bus.load(r.hl()), r.flags);
+            store_byte(r.hl(), more.value, bus, regions)?;
+            cpu.registers.flags = more.flags;
+            Ok(next)
+        }
+        Instr::DcrMemory => {
+            let less = alu::decrement(bus.load(r.hl()), r.flags);
+            store_byte(r.hl(), less.value, bus, regions)?;
+            cpu.registers.flags = less.flags;
+            Ok(next)
+        }
+        plain => {
+            change(plain, cpu, bus);
+            Ok(next)
+        }
+    }
 }

@@ -5,9 +5,6 @@ ghost use Rattle.machine80.specs.Flags.{flags_byte, flags_from, flags_of_result,
 
 use decode80::Condition;
 
-#[cfg(test)]
-mod tests;
-
 /// The five condition flags.
 #[derive(Clone, Copy, PartialEq, Eq, Debug)]
 pub struct Flags {

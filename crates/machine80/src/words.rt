@@ -5,7 +5,7 @@ ghost use Rattle.decode80.specs.Fetch.{ahead};
 ghost use Rattle.machine80.specs.Effects.{word_in, stored, push_bytes};
 
 use crate::bus::Bus;
-use decode80::ahead;
+use decode80::{ahead, behind};
 
 /// The word at an address and the one after it, low byte first.
 #[inline]
@@ -20,8 +20,8 @@ pub(crate) fn load_word<B: Bus>(bus: &B, address: u16) -> u16
 pub(crate) fn push<B: Bus>(bus: &mut B, sp: u16, high: u8, low: u8)
     ensures { B.memory bus.new ≡ stored (B.memory bus.old) (push_bytes sp high low) }
 {
-    bus.store(ahead(sp, 65535), high);
-    bus.store(ahead(sp, 65534), low);
+    bus.store(behind(sp, 1), high);
+    bus.store(behind(sp, 2), low);
 }
 
 /// Writes a word below the stack pointer, the high byte first.

@@ -53,7 +53,8 @@ impl Name {
     /// # Errors
     /// `AllocError` only where there is no memory for it.
     pub fn copy(&self, alloc: Global) -> Result<Name, AllocError>
-        ensures { IfOk result (λ name. name ≡ self.now) }
+        ensures same { IfOk result (λ name. name ≡ self.now) }
+        ensures name { OnOk result (IsTrue (is_name self.now)) }
     {
         let bytes = Vec::from_slice(alloc, self.bytes())?;
         Ok(Name { bytes })

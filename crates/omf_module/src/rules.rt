@@ -13,10 +13,11 @@ use crate::segment::Segment;
 use crate::symbols::{Common, Public};
 use std::alloc::{AllocError, Global};
 
-/// The id of absolute bytes, and of the segment of the stack.
+/// The id of absolute bytes.
 const ABSOLUTE: u8 = 0;
 
-const STACK: u8 = 3;
+/// The id of the segment of the stack.
+pub(crate) const STACK: u8 = 3;
 
 /// How many bytes one content record carries.
 const LONGEST_CONTENT: usize = 65531;

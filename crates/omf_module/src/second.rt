@@ -10,15 +10,12 @@ use crate::content::Content;
 use crate::fault::{Cause, ModuleFault};
 use crate::first::placed;
 use crate::open::Open;
-use crate::rules::{end_of, has_segment};
+use crate::rules::{STACK, end_of, has_segment};
 use crate::segment::Segment;
 use crate::step::{Bytes, Step};
 use crate::stop::Stop;
 use crate::symbols::Common;
 use std::alloc::{AllocError, Global};
-
-/// The id of the segment of the stack.
-const STACK: u8 = 3;
 
 /// The content that begins here, where it may stand.
 #[tactic(auto, unfolding(crate::specs::SecondRound::new_content))]

@@ -94,15 +94,23 @@ fn a_main_program_is_made_and_written(rt: HostRuntime) -> Result<(), Fail> {
     Ok(())
 }
 
+fn main_program(alloc: Global) -> Result<Module, Fail> {
+    let (module, _) = read_module(alloc, &MAIN, 0)?;
+    Ok(module)
+}
+
 #[test]
-fn a_main_program_is_read_and_copied(rt: HostRuntime) -> Result<(), Fail> {
-    let (module, after) = read_module(rt.alloc(), &MAIN, 0)?;
-    assert_eq!(rt; (after, module.start()), (28, Some((1, 0))));
+fn a_main_program_is_read(rt: HostRuntime) -> Result<(), Fail> {
+    let module = main_program(rt.alloc())?;
+    assert_eq!(rt; module.start(), Some((1, 0)));
     assert_eq!(rt; module.segment(1), Some(ONE.1));
-    assert_eq!(rt;
-        file_of(rt.alloc(), module.copy(rt.alloc())?)?.as_slice(),
-        MAIN.as_slice()
-    );
+    Ok(())
+}
+
+#[test]
+fn a_main_program_is_copied(rt: HostRuntime) -> Result<(), Fail> {
+    let copied = main_program(rt.alloc())?.copy(rt.alloc())?;
+    assert_eq!(rt; file_of(rt.alloc(), copied)?.as_slice(), MAIN.as_slice());
     Ok(())
 }
 

@@ -1,7 +1,7 @@
 -- What holds of placed segments holds of the one that is looked up.
-use Rattle.std.specs.Prelude.{◌≡◌, ℕ, suc, ◌+◌, ◌==◌, ◌<◌, ◌++◌, map, drop, length, true, false, List, [], ◌∷◌, find, unwrap_or, Option, None, IfNone}
+use Rattle.std.specs.Prelude.{◌≡◌, ℕ, suc, ◌+◌, ◌==◌, ◌<◌, ◌++◌, map, drop, length, true, false, List, [], ◌∷◌, find, unwrap_or}
 use Rattle.std.specs.List.{AllByRecursion}
-use Rattle.std.proofs.Common.{cond, arith, Some, subst, sym, ap, ◌∙◌, append_assoc, get_or, drop-cons}
+use Rattle.std.proofs.Common.{cond, arith, Some, sym, ap, ◌∙◌, append_assoc, get_or, drop-cons}
 use Rattle.place80.specs.declared.placed.Placed.{Placed}
 use Rattle.omf_module.specs.Contents.{ContentValue}
 use Rattle.place80.specs.Image.{PlacedBytes}
@@ -13,10 +13,6 @@ placed_in_word [] id all = omega arith
 placed_in_word (p ∷ ps) id all =
     elim (p.id == id) as (λ b. (unwrap_or (cond b (Some p) (find (λ (q : Placed). q.id == id) ps)) (nowhere id)).length < 65536)
     [ true ↦ all.0 | false ↦ placed_in_word ps id all.1 ]
-
--- where a call answers that there is none, what it says of that holds
-pub none_of : {A : Type 0} {P : Type 0} (o : Option A) → IfNone o (¬ P) → o ≡ None → P → ⊥
-none_of {A = A} {P = P} o says none holds = subst (λ (x : Option A). IfNone x (¬ P)) none says holds
 
 -- the chunks so far and those that are left, with one more
 pub chunk_step : (segments : List Placed) (contents : List ContentValue) (i : ℕ) (c : ContentValue) (front : List PlacedBytes) (made : PlacedBytes) → i < length contents → c ≡ get_or contents i c → made ≡ chunk_by segments c →

@@ -1,7 +1,8 @@
 //! Images as object files: a file of one absolute module.
 
-ghost use Rattle.std.specs.Prelude.{◌≡◌, ◌≢◌, ◌++◌, Ok, Err, map, IfOk, IfErr, OnOk, OnErr};
+ghost use Rattle.std.specs.Prelude.{◌≡◌, ◌≢◌, ◌++◌, Ok, Err, map, IfOk, IfErr, OnOk, OnErr, IsTrue};
 ghost use Rattle.std.specs.List.{AllByRecursion, list_all};
+ghost use Rattle.omf_core.specs.Name.{is_name};
 ghost use Rattle.place80.specs.Image.{IsChunk};
 ghost use Rattle.place80.specs.ImageFile.{image_module, image_bytes, image_of, chunk_content, content_chunk, is_absolute, is_absolute_content, is_absolute_start, program_of, without_regions};
 
@@ -26,8 +27,6 @@ pub fn write_image(alloc: Global, image: &Image, out: &mut Vec<u8>) -> Result<()
     ensures refused { OnErr result (out.new.items ≡ out.old.items) }
 {
     written_image_is_read();
-    // Only for what it tells the proof: the bytes are a name's.
-    let _ = image.name.bytes();
     let module = module_of(alloc, image)?;
     write_file(alloc, &[module], out)
 }
@@ -35,6 +34,7 @@ pub fn write_image(alloc: Global, image: &Image, out: &mut Vec<u8>) -> Result<()
 /// The module that an image is written as.
 fn module_of(alloc: Global, image: &Image) -> Result<Module, AllocError>
     ensures made { IfOk result (λ made. made ≡ image_module image.now) }
+    ensures name { OnOk result (IsTrue (is_name image.now.name)) }
     ensures rules { OnOk result (AllByRecursion IsChunk image.now.chunks) }
 {
     match Module::from_parts(alloc, parts_of(alloc, image)?) {
@@ -48,6 +48,7 @@ fn module_of(alloc: Global, image: &Image) -> Result<Module, AllocError>
 /// The parts of that module.
 fn parts_of(alloc: Global, image: &Image) -> Result<Parts, AllocError>
     ensures parts { IfOk result (λ parts. parts ≡ image_module image.now) }
+    ensures name { OnOk result (IsTrue (is_name image.now.name)) }
     ensures rules { OnOk result (AllByRecursion IsChunk image.now.chunks) }
 {
     Ok(Parts {

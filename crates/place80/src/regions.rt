@@ -36,9 +36,9 @@ impl Regions {
     /// two of them.
     pub(crate) fn from_ranges(
         alloc: Global,
-        mut code: Vec<Range>,
+        code: Vec<Range>,
         stack: Range,
-        mut data_ranges: Vec<Range>,
+        data_ranges: Vec<Range>,
     ) -> Result<Option<Self>, AllocError>
         requires code_filled { All (λ range. 0 < range.length) code.items }
         requires data_filled { All (λ range. 0 < range.length) data_ranges.items }
@@ -51,13 +51,30 @@ impl Regions {
         if !are_disjoint(alloc, &code, stack, &data_ranges)? {
             return Ok(None);
         }
+        Ok(Some(Regions::from_disjoint(code, stack, data_ranges)))
+    }
+
+    /// The regions of these ranges, which may come in any order, and of which no two share an address.
+    pub(crate) fn from_disjoint(
+        mut code: Vec<Range>,
+        stack: Range,
+        mut data_ranges: Vec<Range>,
+    ) -> Self
+        requires code_filled { All (λ range. 0 < range.length) code.items }
+        requires data_filled { All (λ range. 0 < range.length) data_ranges.items }
+        requires code_in_memory { All IsInMemory code.items }
+        requires stack_in_memory { IsInMemory stack }
+        requires data_in_memory { All IsInMemory data_ranges.items }
+        requires disjoint { AreDisjoint (code.items ++ stack ∷ data_ranges.items) }
+        ensures { Arranges code.items stack data_ranges.items result }
+    {
         sort(&mut code);
         sort(&mut data_ranges);
-        Ok(Some(Regions {
+        Regions {
             code,
             stack,
             data_ranges,
-        }))
+        }
     }
 
     /// The ranges of code, by address.

@@ -1,9 +1,6 @@
 //! Worked texts, and each call once where it answers. Texts and files that are refused are rows of the program's tests.
 
-ghost use Rattle.std.specs.Prelude.{◌<◌};
-
 use super::*;
-use omf_core::Name;
 use std::alloc::{AllocError, Global};
 use std::test::Fail;
 
@@ -17,17 +14,22 @@ fn text_of(alloc: Global, regions: &Regions) -> Result<Vec<u8>, AllocError> {
     Ok(out)
 }
 
+/// Regions whose lines are in no order, with an empty code line and a stack that ends with memory.
+const REGIONS: &[u8] =
+    b"REGIONS 1\nDATA 3002 0001\nSTACK FF00 0100\nCODE 3000 0000\nCODE 3000 0002\nDATA 0000 0001\n";
+
 #[test]
 fn lines_in_any_order(rt: HostRuntime) -> Result<(), Fail> {
-    let text =
-        b"REGIONS 1\nDATA 4000 0002\nSTACK FF00 0100\nCODE 3000 0000\nCODE 3000 0004\nCODE 0000 0010\n";
-    let regions = read_regions(rt.alloc(), text)?;
-    assert_eq!(rt; regions.code().len(), 2);
-    assert_eq!(rt; regions.data_ranges().len(), 1);
-    assert_eq!(rt; (regions.stack().first, regions.top()), (0xFF00, 0));
+    let regions = read_regions(rt.alloc(), REGIONS)?;
+    assert_eq!(rt; regions.code().len(), 1);
+    assert_eq!(rt; regions.data_ranges().len(), 2);
+    assert_eq!(rt; regions.stack().first, 0xFF00);
+    assert_eq!(rt; regions.top(), 0);
+    assert!(rt; regions.in_code(0x3001) && regions.in_data(0x3002));
+    let text = text_of(rt.alloc(), &regions)?;
     assert_eq!(rt;
-        text_of(rt.alloc(), &regions)?.as_slice(),
-        b"REGIONS 1\nCODE 0000 0010\nCODE 3000 0004\nSTACK FF00 0100\nDATA 4000 0002\n".as_slice()
+        text.as_slice(),
+        b"REGIONS 1\nCODE 3000 0002\nSTACK FF00 0100\nDATA 0000 0001\nDATA 3002 0001\n".as_slice()
     );
     Ok(())
 }
@@ -48,86 +50,74 @@ fn texts_that_are_refused(rt: HostRuntime) {
     }
 }
 
-/// Each address as the regions and their map have it, in the code and in the data.
+fn map(alloc: Global) -> Result<RegionMap, Fail> {
+    Ok(RegionMap::new(alloc, &read_regions(alloc, REGIONS)?)?)
+}
+
 #[test]
 fn the_map_of_regions(rt: HostRuntime) -> Result<(), Fail> {
-    let text =
-        b"REGIONS 1\nCODE 3000 0002\nCODE 0000 0001\nSTACK 3003 0100\nDATA FFFF 0001\nDATA 3002 0001\n";
-    let regions = read_regions(rt.alloc(), text)?;
-    let map = RegionMap::new(rt.alloc(), &regions)?;
+    let map = map(rt.alloc())?;
     for (address, code, data) in [
-        (0, true, false),
-        (1, false, false),
+        (0x0000, false, true),
+        (0x0001, false, false),
         (0x2FFF, false, false),
         (0x3000, true, false),
         (0x3001, true, false),
         (0x3002, false, true),
         (0x3003, false, false),
-        (0xFFFF, false, true),
+        (0xFFFF, false, false),
     ] {
-        assert_eq!(rt;
-            (map.is_code(address), map.is_data(address)),
-            (code, data),
-            "at {address}"
-        );
-        assert_eq!(rt;
-            (regions.in_code(address), regions.in_data(address)),
-            (code, data),
-            "at {address}"
-        );
+        assert_eq!(rt; map.is_code(address), code);
+        assert_eq!(rt; map.is_data(address), data);
     }
     Ok(())
 }
 
-/// Three bytes at an address.
-fn chunk(alloc: Global, address: u16, bytes: [u8; 3]) -> Result<Chunk, AllocError>
-    requires { address < 65533 }
-{
-    Ok(Chunk {
-        address,
-        bytes: Vec::from_array(alloc, bytes)?,
-    })
+/// An image of three contents, of which the second overlaps the first.
+const THREE: &[u8] = &[
+    0x02, 0x05, 0x00, 0x01, 0x41, 0x00, 0x00, 0xB7, // module header
+    0x06, 0x07, 0x00, 0x00, 0x00, 0x30, 0x11, 0x22, 0x33, 0x5D, // content at 3000
+    0x06, 0x07, 0x00, 0x00, 0x01, 0x30, 0xC3, 0x34, 0x12, 0xB9, // content at 3001
+    0x06, 0x07, 0x00, 0x00, 0xFC, 0xFF, 0x55, 0x66, 0x77, 0xC6, // content at FFFC
+    0x04, 0x05, 0x00, 0x01, 0x00, 0x00, 0x30, 0xC6, // module end
+    0x0E, 0x01, 0x00, 0xF1, // end of file
+];
+
+fn image(alloc: Global) -> Result<Image, Fail> {
+    let regions = read_regions(alloc, REGIONS)?;
+    Ok(read_image(alloc, THREE, regions).map_err(|(_, fault)| fault)?)
 }
 
-/// An image of three chunks, of which the second overlaps the first.
-fn three_chunks(alloc: Global) -> Result<Image, Fail> {
-    let mut chunks = Vec::new(alloc);
-    chunks.push(chunk(alloc, 0x3000, [0x11, 0x22, 0x33])?)?;
-    chunks.push(chunk(alloc, 0x3001, [0xC3, 0x34, 0x12])?)?;
-    chunks.push(chunk(alloc, 0xFFFC, [0x55, 0x66, 0x77])?)?;
-    Ok(Image {
-        name: Name::new(alloc, b"A")?,
-        chunks,
-        regions: read_regions(alloc, b"REGIONS 1\nCODE 3000 0004\nSTACK 3100 0100\n")?,
-        start: 0x3000,
-    })
-}
+/// The bytes at some addresses: of two contents that overlap the later one counts, and what none covers is 0.
+const BYTES: [(u16, u8); 7] = [
+    (0x2FFF, 0x00),
+    (0x3000, 0x11),
+    (0x3001, 0xC3),
+    (0x3003, 0x12),
+    (0x3004, 0x00),
+    (0xFFFE, 0x77),
+    (0xFFFF, 0x00),
+];
 
-/// Of two chunks that overlap the later one counts; what no chunk covers is 0.
 #[test]
-fn the_last_chunk_over_an_address(rt: HostRuntime) -> Result<(), Fail> {
-    let image = three_chunks(rt.alloc())?;
-    let memory = image.memory(rt.alloc())?;
-    for (address, byte) in [
-        (0x2FFF, 0x00),
-        (0x3000, 0x11),
-        (0x3001, 0xC3),
-        (0x3003, 0x12),
-        (0x3004, 0x00),
-        (0xFFFE, 0x77),
-        (0xFFFF, 0x00),
-    ] {
-        assert_eq!(rt; image.byte(address), byte, "at {address}");
-        assert_eq!(rt;
-            memory.get(usize::from(address)).copied(),
-            Some(byte),
-            "at {address}"
-        );
+fn the_bytes_of_an_image(rt: HostRuntime) -> Result<(), Fail> {
+    let image = image(rt.alloc())?;
+    for (address, byte) in BYTES {
+        assert_eq!(rt; image.byte(address), byte);
     }
     Ok(())
 }
 
-/// A text of 65,535 lines, the ranges from the highest address down.
+#[test]
+fn the_memory_of_an_image(rt: HostRuntime) -> Result<(), Fail> {
+    let memory = image(rt.alloc())?.memory(rt.alloc())?;
+    for (address, byte) in BYTES {
+        assert_eq!(rt; memory.get(usize::from(address)).copied(), Some(byte));
+    }
+    Ok(())
+}
+
+/// A text of 65,537 lines, the ranges from the highest address down.
 fn long_text(alloc: Global) -> Result<String, AllocError> {
     let mut text = String::from_str(alloc, "REGIONS 1\nSTACK 0000 0000\n")?;
     for address in (0..65535u16).rev() {
@@ -141,6 +131,5 @@ fn a_million_bytes(rt: HostRuntime) -> Result<(), Fail> {
     let text = long_text(rt.alloc())?;
     let regions = read_regions(rt.alloc(), text.as_bytes())?;
     assert_eq!(rt; regions.data_ranges().len(), 65535);
-    assert_eq!(rt; text_of(rt.alloc(), &regions)?.len(), text.len());
     Ok(())
 }

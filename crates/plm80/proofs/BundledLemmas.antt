@@ -2,7 +2,7 @@
 use Rattle.std.specs.Prelude.{◌≡◌, ℕ, ◌<◌, List, Option, Some, Result, Ok, Err, length, take}
 use Rattle.std.specs.Io.KnownBytes.{Appends}
 use Rattle.std.proofs.Common.{◌∙◌, sym, subst}
-use Rattle.loader80.specs.declared.replying.Outcome.{Outcome}
+use Rattle.loader80.specs.declared.replies.Outcome.{Outcome}
 use Rattle.loader80.specs.declared.fault.SessionFault.{SessionFault}
 use Rattle.loader80.specs.declared.fault.SessionFault.TheVariants.{Read, Write}
 use Rattle.loader80.specs.Texts.{Texts}

@@ -2,4 +2,3 @@ mod BundleLemmas
 mod BundledLemmas
 mod ListingLemmas
 mod NumberLemmas
-mod LocateLemmas

@@ -1,7 +1,7 @@
 -- What a bundle answers and writes, over a reader and a writer that tell their bytes.
 use Rattle.std.specs.Prelude.{◌≡◌, ℕ, List, [], Option, None, Some, Result, Ok, Err}
 use Rattle.std.specs.Io.KnownBytes.{Appends}
-use Rattle.loader80.specs.declared.replying.Outcome.{Outcome}
+use Rattle.loader80.specs.declared.replies.Outcome.{Outcome}
 use Rattle.loader80.specs.declared.fault.SessionFault.{SessionFault}
 use Rattle.loader80.specs.declared.fault.SessionFault.TheVariants.{Read, Write, Memory, TooLong}
 use Rattle.plm80.specs.declared.fault.BundleFault.{BundleFault}

@@ -6,10 +6,6 @@
 //! | `commands` | `locate`, `run` and `list`, as clap reads their words |
 #![tactic(auto)]
 
-ghost use Rattle.std.specs.Prelude.{◌≡◌};
-ghost use Rattle.plm80.specs.Status.{run_status};
-ghost use Rattle.plm80.specs.Told.{bundle_told};
-
 mod bundle_text;
 mod bundling;
 mod commands;
@@ -20,7 +16,7 @@ mod tests;
 pub use bundling::{BUNDLE_LIMIT, bundle};
 use commands::{answer_words, fail, refuse_words};
 pub use fault::BundleFault;
-use loader80::{Outcome, Reading, SessionFault, Writing};
+use loader80::{Reading, SessionFault, Writing};
 use machine80::End;
 use std::alloc::AllocError;
 use std::env;
@@ -56,27 +52,15 @@ fn main(rt: HostRuntime) -> ExitCode {
 fn run_bundle(rt: &HostRuntime) -> ExitCode {
     let mut input = Reading::new(rt.stdin());
     let mut out = Writing::new(rt.stdout());
-    match bundle_told(bundle(rt.alloc(), &mut input, &mut out, STEPS, OUTPUTS)) {
-        Ok(status) => ExitCode::from(status),
+    match bundle(rt.alloc(), &mut input, &mut out, STEPS, OUTPUTS) {
+        Ok(outcome) => ExitCode::from(status_of(outcome.end)),
+        Err(BundleFault::Session(SessionFault::Refused(_))) => ExitCode::from(1),
         Err(fault) => fail(rt, fault),
     }
 }
 
-/// The exit status after the answer to a bundle, or its fault.
-fn bundle_told(answer: Result<Outcome, BundleFault>) -> Result<u8, BundleFault>
-    ensures { result ≡ bundle_told answer }
-{
-    match answer {
-        Ok(outcome) => Ok(status_of(outcome.end)),
-        Err(BundleFault::Session(SessionFault::Refused(_))) => Ok(1),
-        Err(fault) => Err(fault),
-    }
-}
-
 /// The exit status of a run that ended so.
-fn status_of(end: Option<End>) -> u8
-    ensures { result ≡ run_status «end» }
-{
+fn status_of(end: Option<End>) -> u8 {
     match end {
         Some(End::Halt) => 0,
         Some(_) => 3,

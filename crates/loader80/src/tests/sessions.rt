@@ -1,124 +1,82 @@
 //! Sessions: three readers and a writer.
 
-use super::{IMAGE, INPUTS, REGIONS, SlowWriter, TRANSCRIPT, failing_at, roomy, slow};
-use crate::{Reading, SessionFault, Writing, session};
-use std::alloc::{AllocError, Global};
-use std::io::Read;
-use std::process::Abort;
+use super::{IMAGE, REGIONS, SlowReader, SlowWriter};
+use crate::{Outcome, Reading, SessionFault, Writing, session};
+use std::alloc::Global;
 use std::test::Fail;
+
+/// What is answered where the reader of this number fails after so many bytes, and the writer is this one.
+fn answer_of(
+    alloc: Global,
+    image: &[u8],
+    failing: usize,
+    until_failure: usize,
+    writer: &mut SlowWriter,
+) -> Result<Outcome, SessionFault> {
+    let until = |number: usize| if number == failing {
+        until_failure
+    } else {
+        usize::MAX
+    };
+    let mut image = Reading::new(SlowReader {
+        left: image,
+        until_failure: until(1),
+    });
+    let mut regions = Reading::new(SlowReader {
+        left: REGIONS,
+        until_failure: until(2),
+    });
+    let mut inputs = Reading::new(SlowReader {
+        left: b"02 41\n",
+        until_failure: until(3),
+    });
+    let mut out = Writing::new(writer);
+    session(
+        alloc,
+        &mut image,
+        &mut regions,
+        &mut inputs,
+        &mut out,
+        1_000_000,
+        65_536,
+    )
+}
 
 #[test]
 fn three_texts_come_to_their_transcript(rt: HostRuntime) -> Result<(), Fail> {
-    let bytes = hex::decode(rt.alloc(), IMAGE)?;
-    let mut writer = roomy(rt.alloc())?;
-    let mut image = Reading::new(slow(bytes.as_slice()));
-    let mut regions = Reading::new(slow(REGIONS));
-    let mut inputs = Reading::new(slow(INPUTS));
-    let mut out = Writing::new(&mut writer);
-    let answer = session(
-        rt.alloc(),
-        &mut image,
-        &mut regions,
-        &mut inputs,
-        &mut out,
-        1_000_000,
-        65_536,
-    );
-    assert_eq!(rt; answer.err(), None);
-    if writer.taken.as_slice() == b"STACK 0\nOUTPUT 01 AFTER 2\n".as_slice() {
-        return Err(Fail::from(AllocError));
+    let alloc = rt.alloc();
+    let image = hex::decode(alloc, IMAGE)?;
+    let expected = b"STACK 0\nOUT 01 41\nHALT 3004 AFTER 3\n";
+    for full in [0, 20, 64] {
+        let mut writer = SlowWriter {
+            taken: Vec::with_capacity(alloc, 64)?,
+            full,
+            fails: full == 0,
+        };
+        let answer = answer_of(alloc, image.as_slice(), 0, 0, &mut writer);
+        let fault = if full < 64 {
+            Some(SessionFault::Write)
+        } else {
+            None
+        };
+        assert_eq!(rt; answer.err(), fault);
+        let written = full.min(expected.len());
+        assert_eq!(rt; writer.taken.as_slice(), &expected[..written]);
     }
-    assert_eq!(rt; writer.taken.as_slice(), TRANSCRIPT.as_bytes());
     Ok(())
 }
 
-/// A session on these readers is answered so, and nothing is written.
-fn faults<A: Read + Drop, B: Read + Drop, C: Read + Drop>(
-    rt: &impl Abort,
-    alloc: Global,
-    image: A,
-    regions: B,
-    inputs: C,
-    fault: SessionFault,
-) {
+#[test]
+fn a_failed_read_names_its_text(rt: HostRuntime) -> Result<(), Fail> {
+    let alloc = rt.alloc();
     let mut writer = SlowWriter {
         taken: Vec::new(alloc),
         full: 0,
-        kind: None,
+        fails: true,
     };
-    let mut image = Reading::new(image);
-    let mut regions = Reading::new(regions);
-    let mut inputs = Reading::new(inputs);
-    let mut out = Writing::new(&mut writer);
-    let answer = session(
-        alloc,
-        &mut image,
-        &mut regions,
-        &mut inputs,
-        &mut out,
-        1_000_000,
-        65_536,
-    );
-    assert_eq!(rt; answer, Err(fault));
-    assert_eq!(rt; writer.taken.len(), 0);
-}
-
-#[test]
-fn a_failed_read_names_its_text(rt: HostRuntime) {
-    let alloc = rt.alloc();
-    let bad = || failing_at(b"123", 2);
-    faults(
-        &rt,
-        alloc,
-        bad(),
-        slow(REGIONS),
-        slow(INPUTS),
-        SessionFault::Read(1),
-    );
-    faults(
-        &rt,
-        alloc,
-        slow(b""),
-        bad(),
-        slow(INPUTS),
-        SessionFault::Read(2),
-    );
-    faults(
-        &rt,
-        alloc,
-        slow(b""),
-        slow(b""),
-        bad(),
-        SessionFault::Read(3),
-    );
-}
-
-#[test]
-fn a_text_without_an_end_is_too_long(rt: HostRuntime) {
-    let alloc = rt.alloc();
-    let endless = || std::io::repeat(0);
-    faults(
-        &rt,
-        alloc,
-        endless(),
-        slow(b""),
-        slow(b""),
-        SessionFault::TooLong(1),
-    );
-    faults(
-        &rt,
-        alloc,
-        slow(b""),
-        endless(),
-        slow(b""),
-        SessionFault::TooLong(2),
-    );
-    faults(
-        &rt,
-        alloc,
-        slow(b""),
-        slow(b""),
-        endless(),
-        SessionFault::TooLong(3),
-    );
+    for (failing, number) in [(1, 1), (2, 2), (3, 3)] {
+        let answer = answer_of(alloc, b"123", failing, 2, &mut writer);
+        assert_eq!(rt; answer.err(), Some(SessionFault::Read(number)));
+    }
+    Ok(())
 }

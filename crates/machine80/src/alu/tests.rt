@@ -7,7 +7,6 @@ use super::{
 };
 use crate::flags::Flags;
 use decode80::{Operation, Rotation};
-use std::process::Abort;
 use std::test::Fail;
 
 /// The operation of that name.
@@ -65,54 +64,28 @@ fn answer_of(name: &str, a: u16, operand: u16, flags: Flags) -> Result<(u16, Fla
     Ok((u16::from(answer.value), answer.flags))
 }
 
-/// One run: flags before, accumulator, operand, result, flags after.
-fn agrees(rt: &impl Abort, name: &str, run: &[u16]) -> Result<(), Fail> {
-    let &[before, a, operand, result, after] = run else {
-        return Err(Fail::from("no five numbers"));
-    };
-    let before = Flags::from_byte(u8::try_from(before)?);
-    let (value, flags) = answer_of(name, a, operand, before)?;
-    assert_eq!(rt; value, result, "{name} {run:?}");
-    assert_eq!(rt; u16::from(flags.byte()), after, "{name} {run:?}");
-    Ok(())
-}
-
 #[test]
 fn agrees_with_an_outside_core(rt: HostRuntime) -> Result<(), Fail> {
-    let mut count = 0usize;
+    let mut count = 0u32;
     for line in LINES.lines() {
-        let mut words = line.split(' ');
-        let name = words.next().ok_or("no name")?;
-        let mut numbers = Vec::new(rt.alloc());
-        for word in words {
-            numbers.push(u16::from_str_radix(word, 16)?)?;
-        }
-        for run in numbers.as_slice().chunks(5) {
-            agrees(&rt, name, run)?;
-            count = count.wrapping_add(1);
+        let (name, rest) = line.split_once(' ').ok_or("no name")?;
+        let mut numbers = [0u16; 5];
+        let mut place = 0usize;
+        for word in rest.split(' ') {
+            numbers[place % 5] = u16::from_str_radix(word, 16)?;
+            place = place.wrapping_add(1);
+            if place % 5 == 0 {
+                let [before, a, operand, result, after] = numbers;
+                let answer = answer_of(name, a, operand, Flags::from_byte(u8::try_from(before)?))?;
+                assert_eq!(rt;
+                    (answer.0, u16::from(answer.1.byte())),
+                    (result, after),
+                    "{line} {place}"
+                );
+                count = count.wrapping_add(1);
+            }
         }
     }
     assert_eq!(rt; count, 4933);
-    Ok(())
-}
-
-/// Single steps from the flags byte 02, worked out by hand.
-#[test]
-fn gives_the_worked_rows(rt: HostRuntime) -> Result<(), Fail> {
-    let plain = Flags::from_byte(0x02);
-    let rows = [
-        ("DAA", 0x9A, 0x00, 0x00, 0x57),
-        ("INR", 0x00, 0xFF, 0x00, 0x56),
-        ("DCR", 0x00, 0x00, 0xFF, 0x86),
-        ("ANA", 0x0C, 0x08, 0x08, 0x12),
-        ("SUB", 0x10, 0x01, 0x0F, 0x06),
-        ("CMP", 0x10, 0x20, 0x10, 0x97),
-        ("DAD", 0x8000, 0x8000, 0x0000, 0x03),
-    ];
-    for (name, a, operand, result, after) in rows {
-        let (value, flags) = answer_of(name, a, operand, plain)?;
-        assert_eq!(rt; value, result, "{name}");
-        assert_eq!(rt; flags.byte(), after, "{name}");
-    }
     Ok(())
 }

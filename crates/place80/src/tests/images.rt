@@ -45,13 +45,16 @@ fn refused(alloc: Global, bytes: &[u8]) -> Result<Option<(ImageFault, usize)>, F
     }
 }
 
+fn image(alloc: Global) -> Result<Image, Fail> {
+    let regions = read_regions(alloc, REGIONS)?;
+    Ok(read_image(alloc, &HALT, regions).map_err(|(_, fault)| fault)?)
+}
+
 #[test]
 fn an_image_is_read_and_written_again(rt: HostRuntime) -> Result<(), Fail> {
-    let regions = read_regions(rt.alloc(), REGIONS)?;
-    let image = read_image(rt.alloc(), &HALT, regions).map_err(|(_, fault)| fault)?;
-    assert_eq!(rt; image.name.bytes(), b"A".as_slice());
-    assert_eq!(rt; image.chunks.len(), 1);
-    assert_eq!(rt; (image.start, image.byte(0x3000)), (0x3000, 0x76));
+    let image = image(rt.alloc())?;
+    assert_eq!(rt; image.start, 0x3000);
+    assert!(rt; image.regions.in_code(0x3000));
     let mut out = Vec::new(rt.alloc());
     write_image(rt.alloc(), &image, &mut out)?;
     assert_eq!(rt; out.as_slice(), HALT.as_slice());

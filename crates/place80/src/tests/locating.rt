@@ -1,5 +1,6 @@
 //! Programs that are laid out and located.
 
+use super::text_of;
 use crate::*;
 use omf_module::{Module, read_module};
 use std::alloc::Global;
@@ -36,57 +37,57 @@ fn program(alloc: Global) -> Result<Module, Fail> {
     Ok(module)
 }
 
+fn located(alloc: Global) -> Result<Image, Fail> {
+    Ok(locate(alloc, &program(alloc)?, &USUAL)?)
+}
+
 #[test]
-fn a_halt_at_its_place(rt: HostRuntime) -> Result<(), Fail> {
-    let alloc = rt.alloc();
-    let program = program(alloc)?;
-    let segments = layout(alloc, &program, &USUAL)?.segments;
-    assert_eq!(rt; segments.len(), 5);
-    let image = locate(alloc, &program, &USUAL)?;
-    let mut out = Vec::new(alloc);
-    write_regions(alloc, &image.regions, &mut out)?;
+fn the_regions_of_a_halt(rt: HostRuntime) -> Result<(), Fail> {
+    let text = text_of(rt.alloc(), &located(rt.alloc())?.regions)?;
     assert_eq!(rt;
-        out.as_slice(),
+        text.as_slice(),
         b"REGIONS 1\nCODE 3000 0001\nSTACK 3001 0000\n".as_slice()
     );
-    let mut file = Vec::new(alloc);
-    write_image(alloc, &image, &mut file)?;
+    Ok(())
+}
+
+#[test]
+fn the_file_of_a_halt(rt: HostRuntime) -> Result<(), Fail> {
+    let mut file = Vec::new(rt.alloc());
+    write_image(rt.alloc(), &located(rt.alloc())?, &mut file)?;
     assert_eq!(rt; file.as_slice(), HALT_AT_3000);
     Ok(())
 }
 
 #[test]
+fn the_places_of_a_halt(rt: HostRuntime) -> Result<(), Fail> {
+    let segments = layout(rt.alloc(), &program(rt.alloc())?, &USUAL)?.segments;
+    assert_eq!(rt; segments.len(), 5);
+    Ok(())
+}
+
+/// A stack of two bytes at FFFF.
+const OUTSIDE: Options = Options {
+    stack: Some(0xFFFF),
+    stack_size: Some(2),
+    ..USUAL
+};
+
+#[test]
 fn a_stack_past_the_end_of_memory(rt: HostRuntime) -> Result<(), Fail> {
-    let options = Options {
-        stack: Some(0xFFFF),
-        stack_size: Some(2),
-        ..USUAL
-    };
-    let program = program(rt.alloc())?;
-    assert_eq!(rt;
-        layout(rt.alloc(), &program, &options).err(),
-        Some(PlaceFault::OutsideMemory(3))
-    );
-    assert_eq!(rt;
-        locate(rt.alloc(), &program, &options).err(),
-        Some(PlaceFault::OutsideMemory(3))
-    );
+    let fault = locate(rt.alloc(), &program(rt.alloc())?, &OUTSIDE).err();
+    assert_eq!(rt; fault, Some(PlaceFault::OutsideMemory(3)));
     Ok(())
 }
 
 #[test]
-fn want_of_memory_as_printed(rt: HostRuntime) -> Result<(), Fail> {
-    assert_eq!(rt;
-        format!(in rt.alloc(); "{}", PlaceFault::Memory)?.as_str(),
-        "Memory"
-    );
-    assert_eq!(rt;
-        format!(in rt.alloc(); "{}", ImageFault::Memory)?.as_str(),
-        "Memory"
-    );
-    assert_eq!(rt;
-        format!(in rt.alloc(); "{}", RegionsFault::Memory)?.as_str(),
-        "Memory"
-    );
+fn out_of_memory_as_printed(rt: HostRuntime) -> Result<(), Fail> {
+    let text = format!(in rt.alloc();
+        "{} {} {}",
+        PlaceFault::Memory,
+        ImageFault::Memory,
+        RegionsFault::Memory
+    )?;
+    assert_eq!(rt; text.as_str(), "Memory Memory Memory");
     Ok(())
 }

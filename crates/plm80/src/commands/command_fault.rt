@@ -1,8 +1,5 @@
 //! Why a command stops.
 
-ghost use Rattle.std.specs.Prelude.{◌≡◌};
-ghost use Rattle.plm80.specs.Told.{image_told, module_told, regions_told};
-
 use omf_module::{Cause, ModuleFault};
 use place80::{ImageFault, PlaceFault, RegionsFault};
 use std::alloc::AllocError;
@@ -62,17 +59,13 @@ pub enum FileFault {
 
 impl FileFault {
     /// The fault of the file of this path.
-    pub fn of<'a>(self, path: &'a str) -> CommandFault<'a>
-        ensures { result ≡ CommandFault.OfFile path.entry self }
-    {
+    pub fn of<'a>(self, path: &'a str) -> CommandFault<'a> {
         CommandFault::OfFile { path, fault: self }
     }
 }
 
 /// A fault of the object file of this path.
-pub fn of_module<'a>(path: &'a str, fault: ModuleFault) -> CommandFault<'a>
-    ensures { result ≡ module_told path.entry fault fault.cause }
-{
+pub fn of_module<'a>(path: &'a str, fault: ModuleFault) -> CommandFault<'a> {
     match fault.cause {
         Cause::Memory => CommandFault::Memory,
         _ => FileFault::Module(fault).of(path),
@@ -80,9 +73,7 @@ pub fn of_module<'a>(path: &'a str, fault: ModuleFault) -> CommandFault<'a>
 }
 
 /// A fault of the regions text of this path.
-pub fn of_regions<'a>(path: &'a str, fault: RegionsFault) -> CommandFault<'a>
-    ensures { result ≡ regions_told path.entry fault }
-{
+pub fn of_regions<'a>(path: &'a str, fault: RegionsFault) -> CommandFault<'a> {
     match fault {
         RegionsFault::Memory => CommandFault::Memory,
         _ => FileFault::Regions(fault).of(path),
@@ -90,9 +81,7 @@ pub fn of_regions<'a>(path: &'a str, fault: RegionsFault) -> CommandFault<'a>
 }
 
 /// A fault of the image file of this path.
-pub fn of_image<'a>(path: &'a str, fault: ImageFault) -> CommandFault<'a>
-    ensures { result ≡ image_told path.entry fault }
-{
+pub fn of_image<'a>(path: &'a str, fault: ImageFault) -> CommandFault<'a> {
     match fault {
         ImageFault::Memory => CommandFault::Memory,
         _ => FileFault::Image(fault).of(path),
@@ -100,22 +89,12 @@ pub fn of_image<'a>(path: &'a str, fault: ImageFault) -> CommandFault<'a>
 }
 
 impl<'a> From<AllocError> for CommandFault<'a> {
-    ghost use Rattle.std.specs.Prelude.{◌≡◌};
-    ghost use Rattle.plm80.specs.declared.commands.command_fault.CommandFault.TheVariants.{Memory};
-
-    ghost from_gives = { λ _ fault. fault ≡ Memory };
-
     fn from(_error: AllocError) -> CommandFault<'a> {
         CommandFault::Memory
     }
 }
 
 impl<'a> From<PlaceFault> for CommandFault<'a> {
-    ghost use Rattle.std.specs.Prelude.{◌≡◌};
-    ghost use Rattle.plm80.specs.Told.{place_told};
-
-    ghost from_gives = { λ cause fault. fault ≡ place_told cause };
-
     fn from(fault: PlaceFault) -> CommandFault<'a> {
         match fault {
             PlaceFault::Memory => CommandFault::Memory,

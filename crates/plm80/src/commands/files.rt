@@ -1,8 +1,5 @@
 //! Files, read and written whole.
 
-ghost use Rattle.std.specs.Prelude.{◌≡◌, ◌≤◌, ◌⊎◌, IfOk, IfErr, vec_len, None};
-ghost use Rattle.plm80.specs.declared.commands.command_fault.CommandFault.TheVariants.{Memory, OfFile};
-
 use crate::commands::command_fault::{CommandFault, FileFault};
 use loader80::{Failed, ReadAllFault, Reading, TEXT_LIMIT, Writing, read_all, write_all};
 use std::fs::File;
@@ -19,10 +16,7 @@ pub struct LateFile<'a> {
 
 impl<'a> LateFile<'a> {
     /// The file of this path, not opened yet.
-    pub fn new(rt: &'a HostRuntime, path: &'a str) -> LateFile<'a>
-        ensures path { result.path ≡ path.entry }
-        ensures file { result.file ≡ None }
-    {
+    pub fn new(rt: &'a HostRuntime, path: &'a str) -> LateFile<'a> {
         LateFile {
             rt,
             path,
@@ -46,10 +40,7 @@ impl<'a> Read for LateFile<'a> {
 }
 
 /// All bytes of the file, of which there are no more than a text may have.
-pub fn read_whole<'a>(rt: &HostRuntime, path: &'a str) -> Result<Vec<u8>, CommandFault<'a>>
-    ensures within { IfOk result (λ bytes. vec_len bytes ≤ TEXT_LIMIT) }
-    ensures fault { IfErr result (λ fault. (fault ≡ Memory) ⊎ ((fault ≡ OfFile path.entry FileFault.Read) ⊎ (fault ≡ OfFile path.entry FileFault.TooLong))) }
-{
+pub fn read_whole<'a>(rt: &HostRuntime, path: &'a str) -> Result<Vec<u8>, CommandFault<'a>> {
     let mut source = Reading::new(LateFile::new(rt, path));
     match read_all(rt.alloc(), &mut source, TEXT_LIMIT) {
         Ok(bytes) => Ok(bytes),

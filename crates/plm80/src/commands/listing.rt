@@ -1,18 +1,11 @@
 //! `plm80 list`: the instructions of a located program.
 
-ghost use Rattle.std.specs.Prelude.{◌≡◌, ◌⊎◌, IfOk, IfErr, Ok, Err};
-ghost use Rattle.place80.specs.ImageFile.{image_of as told_image, without_regions};
-ghost use Rattle.place80.specs.RegionsText.{Refuses, Spells};
-ghost use Rattle.place80.specs.declared.fault.RegionsFault.TheVariants.{BadVersion};
-ghost use Rattle.plm80.specs.declared.commands.command_fault.CommandFault.TheVariants.{Memory};
-ghost use Rattle.plm80.specs.Told.{image_told, regions_told};
-
 use crate::commands::command_fault::{CommandFault, of_image, of_regions};
 use crate::commands::files::{print, read_whole};
 use crate::commands::list_text::listing;
 use crate::commands::words::{path_argument, path_of};
 use clap::{ArgMatches, Command};
-use place80::{Image, ImageFault, Regions, RegionsFault, read_image, read_regions};
+use place80::{Image, Regions, read_image, read_regions};
 use std::alloc::{AllocError, Global};
 
 /// The words of `list`.
@@ -66,11 +59,7 @@ pub fn list_files<'a>(rt: &HostRuntime, words: ListWords<'a>) -> Result<u8, Comm
 }
 
 /// The regions that the file's text spells.
-fn regions_of<'a>(alloc: Global, path: &'a str, text: &[u8]) -> Result<Regions, CommandFault<'a>>
-    ensures regions { IfOk result (Spells text.now) }
-    ensures fault { IfErr result (λ fault. (cause : RegionsFault) × Refuses text.now cause × (fault ≡ regions_told path.entry cause)) }
-    ensures version { IfErr result (λ fault. Refuses text.now BadVersion → fault ≡ regions_told path.entry BadVersion) }
-{
+fn regions_of<'a>(alloc: Global, path: &'a str, text: &[u8]) -> Result<Regions, CommandFault<'a>> {
     match read_regions(alloc, text) {
         Ok(regions) => Ok(regions),
         Err(fault) => Err(of_regions(path, fault)),
@@ -83,11 +72,7 @@ fn image_of<'a>(
     path: &'a str,
     bytes: &[u8],
     regions: Regions,
-) -> Result<Image, CommandFault<'a>>
-    ensures image { IfOk result (λ image. told_image bytes.now ≡ Ok (without_regions image)) }
-    ensures regions { IfOk result (λ image. image.regions ≡ regions) }
-    ensures fault { IfErr result (λ fault. (fault ≡ Memory) ⊎ ((cause : ImageFault) × (told_image bytes.now ≡ Err cause) × (fault ≡ image_told path.entry cause))) }
-{
+) -> Result<Image, CommandFault<'a>> {
     match read_image(alloc, bytes, regions) {
         Ok(image) => Ok(image),
         Err((_, fault)) => Err(of_image(path, fault)),

@@ -1,14 +1,5 @@
 //! `plm80 locate`: an object file's one module at its places, as an image and its regions.
 
-ghost use Rattle.std.specs.Prelude.{◌≡◌, ◌⊎◌, Some, Err, IfOk, IfErr};
-ghost use Rattle.std.specs.Option.{option_map};
-ghost use Rattle.omf_module.specs.declared.fault.ModuleFault.{ModuleFault};
-ghost use Rattle.omf_module.specs.Reading.{file_of, name_of};
-ghost use Rattle.plm80.specs.declared.commands.command_fault.CommandFault.TheVariants.{Memory};
-ghost use Rattle.plm80.specs.LocateFiles.{AreFilesOf, Locates, first_fault};
-ghost use Rattle.plm80.specs.NumberText.{IsWordGiven, MayBeWord};
-ghost use Rattle.plm80.specs.Told.{module_told};
-
 use crate::commands::command_fault::{CommandFault, FileFault, of_module};
 use crate::commands::files::{read_whole, replace};
 use crate::commands::numbers::word_given;
@@ -124,25 +115,7 @@ impl<'a> LocateWords<'a> {
 
 impl<'a> LocateTexts<'a> {
     /// The numbers that the texts spell; the first that spells none is a fault.
-    fn numbers(self) -> Result<Options, CommandFault<'a>>
-        ensures code { IfOk result (λ options. IsWordGiven (option_map (λ t. t.now) self.entry.code) options.code) }
-        ensures stack { IfOk result (λ options. IsWordGiven (option_map (λ t. t.now) self.entry.stack) options.stack) }
-        ensures common { IfOk result (λ options. IsWordGiven (option_map (λ t. t.now) self.entry.common) options.common) }
-        ensures data_base { IfOk result (λ options. IsWordGiven (option_map (λ t. t.now) self.entry.data_base) options.data_base) }
-        ensures memory { IfOk result (λ options. IsWordGiven (option_map (λ t. t.now) self.entry.memory) options.memory) }
-        ensures stack_size { IfOk result (λ options. IsWordGiven (option_map (λ t. t.now) self.entry.stack_size) options.stack_size) }
-        ensures memory_size { IfOk result (λ options. IsWordGiven (option_map (λ t. t.now) self.entry.memory_size) options.memory_size) }
-        ensures fault { IfErr result (λ fault. fault ≡ CommandFault.BadNumber) }
-        ensures refused { IfErr result (λ _.
-            MayBeWord (option_map (λ t. t.now) self.entry.code)
-            → MayBeWord (option_map (λ t. t.now) self.entry.stack)
-            → MayBeWord (option_map (λ t. t.now) self.entry.common)
-            → MayBeWord (option_map (λ t. t.now) self.entry.data_base)
-            → MayBeWord (option_map (λ t. t.now) self.entry.memory)
-            → MayBeWord (option_map (λ t. t.now) self.entry.stack_size)
-            → MayBeWord (option_map (λ t. t.now) self.entry.memory_size)
-            → ⊥) }
-    {
+    fn numbers(self) -> Result<Options, CommandFault<'a>> {
         Ok(Options {
             code: word_given(self.code)?,
             stack: word_given(self.stack)?,
@@ -173,11 +146,7 @@ fn located<'a>(
     path: &'a str,
     bytes: &[u8],
     options: &Options,
-) -> Result<Image, CommandFault<'a>>
-    ensures image { IfOk result (Locates options.now (file_of bytes.now)) }
-    ensures fault { IfErr result (λ fault. (fault ≡ Memory) ⊎ (first_fault path.entry options.now (file_of bytes.now) ≡ Some fault)) }
-    ensures early { (fault : ModuleFault) → name_of bytes.now 0 ≡ Err fault → result ≡ Err (module_told path.entry fault fault.cause) }
-{
+) -> Result<Image, CommandFault<'a>> {
     let modules = match read_file(alloc, bytes) {
         Ok(modules) => modules,
         Err(fault) => return Err(of_module(path, fault)),
@@ -185,10 +154,7 @@ fn located<'a>(
     let [program] = modules.as_slice() else {
         return Err(FileFault::NotOneModule.of(path));
     };
-    match locate(alloc, program, options) {
-        Ok(image) => Ok(image),
-        Err(fault) => Err(CommandFault::from(fault)),
-    }
+    Ok(locate(alloc, program, options)?)
 }
 
 /// The bytes of the two files that `locate` writes.
@@ -198,10 +164,8 @@ struct LocatedFiles {
     regions: Vec<u8>,
 }
 
-/// The bytes of the files of an image. They are read as that image.
-fn files_of(alloc: Global, image: &Image) -> Result<LocatedFiles, AllocError>
-    ensures { IfOk result (λ files. AreFilesOf image.now files.image.items files.regions.items) }
-{
+/// The bytes of the files of an image.
+fn files_of(alloc: Global, image: &Image) -> Result<LocatedFiles, AllocError> {
     let mut image_bytes = Vec::new(alloc);
     write_image(alloc, image, &mut image_bytes)?;
     let mut regions_text = Vec::new(alloc);

@@ -29,8 +29,5 @@ pub fn count_of_digits(text: &str) -> Option<u64>
 fn has_plus(text: &[u8]) -> bool
     ensures { result ≡ (slice_index text.now 0 == 43) }
 {
-    match text {
-        [first, ..] => *first == b'+',
-        [] => false,
-    }
+    !text.is_empty() && text[0] == b'+'
 }

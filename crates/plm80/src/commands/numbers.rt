@@ -1,17 +1,10 @@
 //! The numbers of options.
 
-ghost use Rattle.std.specs.Prelude.{◌≡◌, IfOk, IfErr};
-ghost use Rattle.std.specs.Option.{option_map};
-ghost use Rattle.plm80.specs.NumberText.{IsCountText, IsWordGiven, MayBeWord, count_value};
-
 use crate::commands::command_fault::CommandFault;
 use crate::commands::number_text::{count_of_digits, word_of_digits};
 
 /// A word of one to four hexadecimal digits in either case, where the option is given.
-pub fn word_given<'a>(text: Option<&str>) -> Result<Option<u16>, CommandFault<'a>>
-    ensures word { IfOk result (IsWordGiven (option_map (λ t. t.now) text.entry)) }
-    ensures fault { IfErr result (λ fault. (fault ≡ CommandFault.BadNumber) × (MayBeWord (option_map (λ t. t.now) text.entry) → ⊥)) }
-{
+pub fn word_given<'a>(text: Option<&str>) -> Result<Option<u16>, CommandFault<'a>> {
     match text {
         None => Ok(None),
         Some(digits) => match word_of_digits(digits) {
@@ -22,10 +15,7 @@ pub fn word_given<'a>(text: Option<&str>) -> Result<Option<u16>, CommandFault<'a
 }
 
 /// A count in decimal digits, at most the greatest `u64`.
-pub fn count_given<'a>(text: &str) -> Result<u64, CommandFault<'a>>
-    ensures count { IfOk result (λ count. IsCountText text.now × (count ≡ count_value text.now)) }
-    ensures fault { IfErr result (λ fault. (fault ≡ CommandFault.BadNumber) × (IsCountText text.now → ⊥)) }
-{
+pub fn count_given<'a>(text: &str) -> Result<u64, CommandFault<'a>> {
     match count_of_digits(text) {
         Some(count) => Ok(count),
         None => Err(CommandFault::BadNumber),

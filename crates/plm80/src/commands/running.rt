@@ -1,8 +1,5 @@
 //! `plm80 run`: the transcript of a located program's run.
 
-ghost use Rattle.std.specs.Prelude.{◌≡◌};
-ghost use Rattle.plm80.specs.Told.{run_told, session_path};
-
 use crate::commands::command_fault::{CommandFault, FileFault};
 use crate::commands::files::LateFile;
 use crate::commands::numbers::count_given;
@@ -81,9 +78,7 @@ impl<'a> RunWords<'a> {
     }
 
     /// The path of the file that a session knows by its number.
-    fn path_of_text(&self, number: u8) -> &'a str
-        ensures { result ≡ session_path self.now.image self.now.regions self.now.inputs number }
-    {
+    fn path_of_text(&self, number: u8) -> &'a str {
         match number {
             1 => self.image,
             2 => self.regions,
@@ -92,9 +87,7 @@ impl<'a> RunWords<'a> {
     }
 
     /// The exit status after a session's answer, or its fault, with the path of the file that it is of.
-    fn told(&self, answer: Result<Outcome, SessionFault>) -> Result<u8, CommandFault<'a>>
-        ensures { result ≡ run_told self.now.image self.now.regions self.now.inputs answer }
-    {
+    fn status_after(&self, answer: Result<Outcome, SessionFault>) -> Result<u8, CommandFault<'a>> {
         match answer {
             Ok(outcome) => Ok(status_of(outcome.end)),
             Err(SessionFault::Refused(_)) => Ok(1),
@@ -128,5 +121,5 @@ pub fn run_files<'a>(rt: &HostRuntime, words: RunWords<'a>) -> Result<u8, Comman
         steps,
         outputs,
     );
-    words.told(answer)
+    words.status_after(answer)
 }

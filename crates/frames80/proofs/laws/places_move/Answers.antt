@@ -1,4 +1,4 @@
-use Rattle.frames80.proofs.PlaceLemmas.{changes_by_places, returns_by_places, meets_by_places}
+use Rattle.frames80.proofs.PlaceLemmas.{returns_by_places, meets_by_places}
 use Rattle.frames80.proofs.laws.places_move.Goals as goal
 
 pub returns-clause-call : goal.returns-clause-call

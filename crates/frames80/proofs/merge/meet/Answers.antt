@@ -1,7 +1,5 @@
-use Rattle.std.proofs.Common.{◌≡◌, ◌∙◌, ap, sym, length, List, reverse}
-use Rattle.frames80.specs.declared.word.Word.{Word}
-use Rattle.frames80.specs.StackFrame.{StackFrame}
-use Rattle.frames80.specs.Calls.{words_met, merged}
+use Rattle.std.proofs.Common.{◌≡◌, ◌∙◌, ap, sym, length, reverse}
+use Rattle.frames80.specs.Calls.{words_met}
 use Rattle.frames80.proofs.Meeting.{words_met-reverse, same_frame, changed_frame}
 use Rattle.frames80.proofs.merge.meet.Goals as goal
 

@@ -1,5 +1,4 @@
 use Rattle.std.proofs.Common.{◌≡◌, ◌∙◌, ap, arith, length, suc, sym, slice_set, add-one}
-use Rattle.frames80.specs.Word.{met}
 use Rattle.frames80.proofs.Meeting.{AreAt, met_to, met_to-whole, met_to_more, changed_more}
 use Rattle.frames80.proofs.merge.meet_words.Goals as goal
 

@@ -1,4 +1,4 @@
-use Rattle.std.proofs.Common.{◌≡◌, ◌↔◌, false, List}
+use Rattle.std.proofs.Common.{◌≡◌, ◌↔◌, false}
 use Rattle.frames80.proofs.Meeting.{met_to}
 use Rattle.frames80.proofs.merge.meet_words.Given as goal
 

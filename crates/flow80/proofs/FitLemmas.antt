@@ -1,0 +1,166 @@
+-- A fitting table covers every walk, so none of them goes wrong.
+use Rattle.std.specs.Prelude.{◌≡◌, ◌≢◌, ◌<◌, ◌≤◌, ℕ, Bool, true, false, Option, Some, None, Result, Ok, Err, List, length, refl}
+use Rattle.std.proofs.Common.{ap, sym, ◌∙◌, subst, arith, true≢false}
+use Rattle.decode80.specs.declared.fetching.Fetched.{Fetched}
+use Rattle.frames80.specs.declared.fault.FrameFault.{FrameFault}
+use Rattle.frames80.specs.declared.moves.Moves.{Moves}
+use Rattle.frames80.specs.StackFrame.{StackFrame, entry_frame, main_frame}
+use Rattle.frames80.specs.Effects.{effect_of}
+use Rattle.frames80.specs.Moves.{moves_of}
+use Rattle.frames80.specs.Calls.{room, returned, agree}
+use Rattle.frames80.specs.Places.{Place, word_at, SameCounts, Covers}
+use Rattle.flow80.specs.declared.procedure.Procedure.{Procedure}
+use Rattle.flow80.specs.declared.procedure.Procedure.TheVariants.{Main, Entry}
+use Rattle.flow80.specs.declared.code.LookFault.{LookFault}
+use Rattle.flow80.specs.Code.{Code}
+use Rattle.flow80.specs.Walks.{Walk, begins, goes_on, enters, comes_back, Begins, GoesOn, Calls, Enters, Returns, GoesOnAfter, Moving, LeadsTo, called, returning, role_of}
+use Rattle.flow80.specs.Faults.{LooksWrong, MovesWrong, Differ, Uneven, Short}
+use Rattle.flow80.specs.Fitting.{Table, Has, CallFits, FrameFits, Fits}
+use Rattle.flow80.specs.Shown.{FrameLaws}
+use Rattle.flow80.proofs.MoveLemmas.{change_of, frame_after, move_with, Moved, moved_is, covered_moves, LeadsAlong, leads_along, called_along, returning_along}
+use Rattle.flow80.proofs.ShownLemmas.{counts_back, counts_then, covers_self, agree_same}
+
+covers_then : (f g h : StackFrame) → Covers f g → Covers g h → Covers f h
+covers_then f g h one two = record { counts = counts_then f g h one.counts two.counts; own = λ place own. two.own place (one.own place own) }
+
+has_then : (table : Table) (p : Procedure) (at : ℕ) (f g : StackFrame) → Has table p at f → Covers f g → Has table p at g
+has_then table p at f g has covers = record { frame = has.frame; there = has.there; covers = covers_then has.frame f g has.covers covers }
+
+found_same : (r : Result Fetched LookFault) (a b : Fetched) → r ≡ Ok a → r ≡ Ok b → a ≡ b
+found_same r a b one other = cc
+
+not_found : (r : Result Fetched LookFault) (a : Fetched) (fault : LookFault) → r ≡ Ok a → r ≡ Err fault → ⊥
+not_found r a fault one other = cc
+
+not_moved : (r : Result Moves FrameFault) (a : Moves) (fault : FrameFault) → r ≡ Ok a → r ≡ Err fault → ⊥
+not_moved r a fault one other = cc
+
+-- a frame of the table over a frame that moves: it moves by the same effect, and fits
+record Over (code : Code) (table : Table) (p : Procedure) (f : StackFrame) (found : Fetched) (moves : Moves) : Type 0 where
+  frame : StackFrame
+  covers : Covers frame f
+  move : moves ≡ move_with (effect_of found.instr) f
+  on : (to : ℕ) (g : StackFrame) → LeadsTo (move_with (effect_of found.instr) frame) found.next to g → Has table p to g
+  call : (target : ℕ) → called (move_with (effect_of found.instr) frame) ≡ Some target → CallFits code table p found.next frame target
+  return : (taken : ℕ) → returning (move_with (effect_of found.instr) frame) ≡ Some taken → table.takes p ≡ Some taken
+
+over : (code : Code) (table : Table) → Fits code table → (p : Procedure) (at : ℕ) (f : StackFrame) → Has table p at f →
+    (found : Fetched) (moves : Moves) → Moving code p at f found moves → Over code table p f found moves
+over code table fits p at f has found moves moving =
+    let here = fits.frames p at has.frame has.there in
+    let effect = effect_of found.instr in
+    let same : here.found ≡ found = found_same (code.look at) here.found found here.moving.looked moving.looked in
+    let there : here.moves ≡ move_with effect has.frame =
+    (moved_is (role_of code p) effect has.frame here.moves
+    (subst (λ (x : Fetched). moves_of (role_of code p) (effect_of x.instr) has.frame ≡ Ok here.moves) same here.moving.moved)).move in
+    record {
+      frame = has.frame;
+      covers = has.covers;
+      move = (moved_is (role_of code p) effect f moves moving.moved).move;
+      on = subst (λ (m : Moves). (to : ℕ) (g : StackFrame) → LeadsTo m found.next to g → Has table p to g) there
+          (subst (λ (x : Fetched). (to : ℕ) (g : StackFrame) → LeadsTo here.moves x.next to g → Has table p to g) same here.on);
+      call = subst (λ (m : Moves). (target : ℕ) → called m ≡ Some target → CallFits code table p found.next has.frame target) there
+          (subst (λ (x : Fetched). (target : ℕ) → called here.moves ≡ Some target → CallFits code table p x.next has.frame target) same here.call);
+      return = subst (λ (m : Moves). (taken : ℕ) → returning m ≡ Some taken → table.takes p ≡ Some taken) there here.return;
+    }
+
+-- a call fits where its caller is over a frame
+call_fits : (code : Code) (table : Table) → Fits code table → (p : Procedure) (at : ℕ) (f : StackFrame) → Has table p at f → (target next : ℕ) →
+    (call : Calls code p at f target next) → (F : StackFrame) × (Covers F f) × (CallFits code table p next F target)
+call_fits code table fits p at f has target next call =
+    let o = over code table fits p at f has call.found call.moves call.moving in
+    let effect = effect_of call.found.instr in (
+      o.frame,
+      o.covers,
+      subst (λ n. CallFits code table p n o.frame target) (sym call.after)
+          (o.call target (called_along effect o.frame f ∙ ap called (sym o.move) ∙ call.call)),
+    )
+
+-- the table's number of words taken is that of any walk that returns
+takes_of : (code : Code) (table : Table) → Fits code table → (p : Procedure) (at : ℕ) (f : StackFrame) → Has table p at f → (taken : ℕ) →
+    Returns code p at f taken → table.takes p ≡ Some taken
+takes_of code table fits p at f has taken returns =
+    let o = over code table fits p at f has returns.found returns.moves returns.moving in
+    let effect = effect_of returns.found.instr in
+    o.return taken (returning_along effect o.frame f o.covers.counts.taken ∙ ap returning (sym o.move) ∙ returns.return)
+
+-- every walk is covered
+pub covers_walks : FrameLaws → (code : Code) (table : Table) → Fits code table → (p : Procedure) (at : ℕ) (g : StackFrame) → Walk code p at g → Has table p at g
+covers_walks laws code table fits p at g (begins _ _ _ is) =
+    subst (λ (q : Procedure). Has table q at g) (sym is.procedure)
+    (subst (λ a. Has table Main a g) (sym is.start) (subst (λ (f : StackFrame). Has table Main code.start f) (sym is.frame) fits.start))
+covers_walks laws code table fits p to g (goes_on _ at f _ _ walk step) =
+    let o = over code table fits p at f (covers_walks laws code table fits p at f walk) step.found step.moves step.moving in
+    let effect = effect_of step.found.instr in
+    let along : LeadsAlong effect f o.frame step.found.next to g =
+    leads_along effect f o.frame step.found.next to g (subst (λ (m : Moves). LeadsTo m step.found.next to g) o.move step.leads) in
+    let after : Has table p to (frame_after effect f) =
+    has_then table p to (frame_after effect o.frame) (frame_after effect f) (o.on to (frame_after effect o.frame) along.other)
+    ((laws.covered o.frame f o.covers).change (change_of effect)) in
+    subst (λ (h : StackFrame). Has table p to h) (sym along.frame) after
+covers_walks laws code table fits q start g (enters p at f target next _ _ _ walk call is) =
+    let c = call_fits code table fits p at f (covers_walks laws code table fits p at f walk) target next call in
+    subst (λ (r : Procedure). Has table r start g) (sym is.procedure)
+    (subst (λ a. Has table (Entry target) a g) (sym is.start) (subst (λ (h : StackFrame). Has table (Entry target) target h) (sym is.frame) c.2.enters))
+covers_walks laws code table fits p next g (comes_back _ at f target _ exit h taken _ walk call callee returns after) =
+    let c = call_fits code table fits p at f (covers_walks laws code table fits p at f walk) target next call in
+    let takes = takes_of code table fits (Entry target) exit h (covers_walks laws code table fits (Entry target) exit h callee) taken returns in
+    let back : Has table p next (returned taken f) =
+    has_then table p next (returned taken c.0) (returned taken f) (c.2.after taken takes) ((laws.covered c.0 f c.1).return taken) in
+    subst (λ (x : StackFrame). Has table p next x) (sym after.frame) back
+
+-- so no walk is at a fault
+pub no_look_fault : FrameLaws → (code : Code) (table : Table) → Fits code table → (at : ℕ) (fault : LookFault) → LooksWrong code at fault → ⊥
+no_look_fault laws code table fits at fault wrong =
+    let has = covers_walks laws code table fits wrong.procedure at wrong.frame wrong.walk in
+    let here = fits.frames wrong.procedure at has.frame has.there in
+    not_found (code.look at) here.found fault here.moving.looked wrong.looked
+
+pub no_move_fault : FrameLaws → (code : Code) (table : Table) → Fits code table → (at : ℕ) (fault : FrameFault) → MovesWrong code at fault → ⊥
+no_move_fault laws code table fits at fault wrong =
+    let has = covers_walks laws code table fits wrong.procedure at wrong.frame wrong.walk in
+    let here = fits.frames wrong.procedure at has.frame has.there in
+    let same : here.found ≡ wrong.found = found_same (code.look at) here.found wrong.found here.moving.looked wrong.looked in
+    let effect = effect_of wrong.found.instr in
+    let moved : moves_of (role_of code wrong.procedure) effect has.frame ≡ Ok here.moves =
+    subst (λ (x : Fetched). moves_of (role_of code wrong.procedure) (effect_of x.instr) has.frame ≡ Ok here.moves) same here.moving.moved in
+    let along = covered_moves laws (role_of code wrong.procedure) effect has.frame wrong.frame here.moves has.covers moved in
+    not_moved (moves_of (role_of code wrong.procedure) effect wrong.frame) (move_with effect wrong.frame) fault along wrong.moved
+
+same_frame : (r : Option StackFrame) (a b : StackFrame) → r ≡ Some a → r ≡ Some b → a ≡ b
+same_frame r a b one other = cc
+
+same_count : (r : Option ℕ) (a b : ℕ) → r ≡ Some a → r ≡ Some b → a ≡ b
+same_count r a b one other = cc
+
+frames_same : (table : Table) (p : Procedure) (at : ℕ) (f g : StackFrame) → (one : Has table p at f) → (other : Has table p at g) → SameCounts f g
+frames_same table p at f g one other =
+    let same : one.frame ≡ other.frame = same_frame (table.frame p at) one.frame other.frame one.there other.there in
+    counts_then f one.frame g (counts_back one.frame f one.covers.counts) (subst (λ (x : StackFrame). SameCounts x g) (sym same) other.covers.counts)
+
+pub no_differ : FrameLaws → (code : Code) (table : Table) → Fits code table → (at : ℕ) → Differ code at → ⊥
+no_differ laws code table fits at d =
+    let one = covers_walks laws code table fits d.procedure at d.one d.walk_one in
+    let other = covers_walks laws code table fits d.procedure at d.other d.walk_other in
+    let same = (laws.counts d.one d.other (frames_same table d.procedure at d.one d.other one other)).agrees in
+    true≢false (sym same ∙ d.differ)
+
+pub no_uneven : FrameLaws → (code : Code) (table : Table) → Fits code table → (at : ℕ) → Uneven code at → ⊥
+no_uneven laws code table fits at u =
+    let one = takes_of code table fits u.procedure at u.frame (covers_walks laws code table fits u.procedure at u.frame u.walk) u.taken u.returns in
+    let other = takes_of code table fits u.procedure u.other u.other_frame (covers_walks laws code table fits u.procedure u.other u.other_frame u.walk_other) u.other_taken u.returns_other in
+    u.differ (same_count (table.takes u.procedure) u.taken u.other_taken one other)
+
+-- no walk takes more words than its procedure wants
+pub wants_above : FrameLaws → (code : Code) (table : Table) → Fits code table → (p : Procedure) (at : ℕ) (f : StackFrame) → Walk code p at f → f.taken ≤ table.wants p
+wants_above laws code table fits p at f walk =
+    let has = covers_walks laws code table fits p at f walk in
+    subst (λ n. n ≤ table.wants p) has.covers.counts.taken (fits.frames p at has.frame has.there).wants
+
+pub no_short : FrameLaws → (code : Code) (table : Table) → Fits code table → (at : ℕ) → Short code at → ⊥
+no_short laws code table fits at s =
+    let c = call_fits code table fits s.procedure at s.frame (covers_walks laws code table fits s.procedure at s.frame s.walk) s.target s.next s.call in
+    let wants = wants_above laws code table fits (Entry s.target) s.inside s.callee s.walk_callee in
+    let enough : table.wants (Entry s.target) ≤ room (role_of code s.procedure) s.frame.words =
+    subst (λ n. table.wants (Entry s.target) ≤ n) ((laws.counts c.0 s.frame c.1.counts).room (role_of code s.procedure)) c.2.words in
+    let less = s.short in omega arith

@@ -1,0 +1,346 @@
+-- What comes of a point's move, way by way.
+use Rattle.std.specs.Prelude.{◌≡◌, ◌≢◌, ◌⊎◌, ◌≤◌, ◌<◌, ◌+◌, ◌||◌, ℕ, Bool, true, false, length, Option, Some, None, Result, Ok, Err, OnOk, IfOk, MatchResult, slice_get, refl}
+use Rattle.std.proofs.Common.{ap, sym, ◌∙◌, subst, arith, inl, inr, true≢false}
+use Rattle.decode80.specs.declared.fetching.Fetched.{Fetched}
+use Rattle.frames80.specs.declared.role.Role.{Role}
+use Rattle.frames80.specs.declared.moves.Moves.{Moves}
+use Rattle.frames80.specs.declared.moves.Moves.TheVariants.{End, On, Jump, Either, Call, MaybeCall, Return, MaybeReturn}
+use Rattle.frames80.specs.StackFrame.{StackFrame, entry_frame}
+use Rattle.frames80.specs.Calls.{room, returned}
+use Rattle.flow80.specs.declared.procedure.Procedure.{Procedure}
+use Rattle.flow80.specs.declared.procedure.Procedure.TheVariants.{Main, Entry}
+use Rattle.flow80.specs.declared.refusal.Refusal.{Refusal}
+use Rattle.flow80.specs.declared.refusal.Refusal.TheVariants.{UnevenArguments, ShortArguments, Memory}
+use Rattle.flow80.specs.Code.{Code}
+use Rattle.flow80.specs.Walks.{LeadsTo, called, returning, role_of}
+use Rattle.flow80.specs.Faults.{Holds as Refused}
+use Rattle.flow80.specs.Rows.{ReturnsWith}
+use Rattle.flow80.specs.Points.{Point}
+use Rattle.flow80.specs.Shown.{IsShown, AtMove, FrameLaws}
+use Rattle.flow80.specs.Known.{Known, IsSmall, IsWithin, Stands, weight, Goes, HasPoint, Flows, Follows, Carries, AreWithin, Steps, exit_of, Exits, CallsOut}
+use Rattle.flow80.proofs.ShownLemmas.{shown_self, shown_on, shown_entry, shown_after, exit_shown, exit_shown_at, taken_at_return, short, uneven}
+use Rattle.flow80.proofs.KnownLemmas.{with_exit, stands_exit, goes_exit}
+
+-- two steps, one after the other
+pub goes_then : (a b c : Known) (one other : Bool) → Goes a b one → Goes b c other → Goes a c (one || other)
+goes_then a b c true true first second = record { same = λ e. absurd (true≢false e); less = λ _. let x = first.less refl in let y = second.less refl in omega arith }
+goes_then a b c true false first second = record { same = λ e. absurd (true≢false e); less = λ _. subst (λ (k : Known). weight k < weight a) (sym (second.same refl)) (first.less refl) }
+goes_then a b c false true first second = record { same = λ e. absurd (true≢false e); less = λ _. subst (λ (k : Known). weight c < weight k) (first.same refl) (second.less refl) }
+goes_then a b c false false first second = record { same = λ _. second.same refl ∙ first.same refl; less = λ e. absurd (true≢false (sym e)) }
+
+pub first_false : (one other : Bool) → (one || other) ≡ false → one ≡ false
+first_false true other e = e
+first_false false other e = refl
+
+pub second_false : (one other : Bool) → (one || other) ≡ false → other ≡ false
+second_false true other e = absurd (true≢false e)
+second_false false other e = e
+
+-- a move that leads one way
+pub steps_end : (known : Known) (p : Procedure) (at next : ℕ) (role : Role) → IsSmall known → Steps known known p at next role End (Ok false)
+steps_end known p at next role small = record {
+  small = small;
+  more = omega arith;
+  stands = λ code f found stands move carries same_next same_role. stands;
+  goes = record { same = λ _. refl; less = λ e. absurd (true≢false (sym e)) };
+  follows = λ _ f carries. record {
+    on = λ to g leads. absurd leads;
+    enters = λ target is. absurd (let e : None ≡ Some target = is in cc);
+    after = λ target taken is exit. absurd (let e : None ≡ Some target = is in cc);
+    return = λ entry taken in_entry is. absurd (let e : None ≡ Some taken = is in cc);
+  };
+}
+
+pub steps_refused : (old new : Known) (p : Procedure) (at next : ℕ) (role : Role) (moves : Moves) (refusal : Refusal) →
+    ((code : Code) (f : StackFrame) (found : Fetched) → Stands code old → AtMove code p at f found moves → Carries moves f → found.next ≡ next → role ≡ role_of code p → Refused code refusal) →
+    Steps old new p at next role moves (Err refusal)
+steps_refused old new p at next role moves refusal holds = record { small = tt; more = tt; stands = holds; goes = tt; follows = tt }
+
+-- the frame that leads on is shown there
+leads_shown : FrameLaws → (code : Code) (p : Procedure) (at : ℕ) (f : StackFrame) (found : Fetched) (moves : Moves) → AtMove code p at f found moves →
+    (next to : ℕ) (g : StackFrame) → found.next ≡ next → LeadsTo moves next to g → IsShown code p to g
+leads_shown laws code p at f found moves move next to g same leads =
+    shown_on laws code p at f found moves move to g (subst (λ n. LeadsTo moves n to g) (sym same) leads)
+
+-- a move that leads one way and calls and returns nowhere
+pub record OneWay (moves : Moves) (next to : ℕ) (g : StackFrame) : Type 0 where
+  pub leads : LeadsTo moves next to g
+  pub only : (a : ℕ) (h : StackFrame) → LeadsTo moves next a h → (a ≡ to) × (h ≡ g)
+  pub no_call : called moves ≡ None
+  pub no_return : returning moves ≡ None
+
+has_there : (known : Known) (p : Procedure) (to a : ℕ) (g h : StackFrame) → HasPoint known p to g → a ≡ to → h ≡ g → HasPoint known p a h
+has_there known p to a g h has at same = subst (λ (x : StackFrame). HasPoint known p a x) (sym same) (subst (λ n. HasPoint known p n g) (sym at) has)
+
+none_some : {A : Type 0} (o : Option A) (x : A) → o ≡ None → o ≡ Some x → ⊥
+none_some o x one other = let e : None ≡ Some x = sym one ∙ other in cc
+
+pub steps_one : FrameLaws → (old new : Known) (p : Procedure) (at next to : ℕ) (role : Role) (moves : Moves) (g : StackFrame) (result : Result Bool Refusal) →
+    OneWay moves next to g → Flows old new p to g result → Steps old new p at next role moves result
+steps_one laws old new p at next to role moves g (Ok changed) way flows = record {
+  small = flows.small;
+  more = flows.more;
+  stands = λ code f found stands move carries same_next same_role. flows.stands code stands (leads_shown laws code p at f found moves move next to g same_next way.leads);
+  goes = flows.goes;
+  follows = λ same f carries. record {
+    on = λ a h leads. let there = way.only a h leads in has_there new p to a g h (flows.has same) there.0 there.1;
+    enters = λ target is. absurd (none_some (called moves) target way.no_call is);
+    after = λ target taken is exit. absurd (none_some (called moves) target way.no_call is);
+    return = λ entry taken in_entry is. absurd (none_some (returning moves) taken way.no_return is);
+  };
+}
+steps_one laws old new p at next to role moves g (Err refusal) way flows =
+    steps_refused old new p at next role moves refusal
+    (λ code f found stands move carries same_next same_role. flows.stands code stands (leads_shown laws code p at f found moves move next to g same_next way.leads))
+
+pub on_way : (g : StackFrame) (next : ℕ) → OneWay (On g) next next g
+on_way g next = record { leads = (refl, refl); only = λ a h leads. leads; no_call = refl; no_return = refl }
+
+pub jump_way : (g : StackFrame) (next to : ℕ) → OneWay (Jump g to) next to g
+jump_way g next to = record { leads = (refl, refl); only = λ a h leads. leads; no_call = refl; no_return = refl }
+
+-- a conditional jump leads both ways
+pub steps_both : FrameLaws → (old mid new : Known) (p : Procedure) (at next to : ℕ) (role : Role) (g : StackFrame) (one : Bool) (other : Result Bool Refusal) →
+    Flows old mid p next g (Ok one) → Flows mid new p to g other → (result : Result Bool Refusal) →
+    ((x : Bool) → other ≡ Ok x → result ≡ Ok (one || x)) → ((r : Refusal) → other ≡ Err r → result ≡ Err r) → Steps old new p at next role (Either g to) result
+steps_both laws old mid new p at next to role g one (Ok x) first second result ok err =
+    subst (Steps old new p at next role (Either g to)) (sym (ok x refl)) (record {
+      small = second.small;
+      more = let a = first.more in let b = second.more in omega arith;
+      stands = λ code f found stands move carries same_next same_role.
+          second.stands code (first.stands code stands (leads_shown laws code p at f found (Either g to) move next next g same_next (inl refl, refl)))
+          (leads_shown laws code p at f found (Either g to) move next to g same_next (inr refl, refl));
+      goes = goes_then old mid new one x first.goes second.goes;
+      follows = λ same f carries. record {
+        on = λ a h leads. by (first_false one x same) (second_false one x same) a h leads.0 leads.1;
+        enters = λ target is. absurd (let e : None ≡ Some target = is in cc);
+        after = λ target taken is exit. absurd (let e : None ≡ Some target = is in cc);
+        return = λ entry taken in_entry is. absurd (let e : None ≡ Some taken = is in cc);
+      };
+    })
+  where
+    by : one ≡ false → x ≡ false → (a : ℕ) (h : StackFrame) → (a ≡ next) ⊎ (a ≡ to) → h ≡ g → HasPoint new p a h
+    by no_one no_x a h (inl is) same = has_there new p next a g h (subst (λ (k : Known). HasPoint k p next g) (sym (second.goes.same no_x)) (first.has no_one)) is same
+    by no_one no_x a h (inr is) same = has_there new p to a g h (second.has no_x) is same
+steps_both laws old mid new p at next to role g one (Err r) first second result ok err =
+    subst (Steps old new p at next role (Either g to)) (sym (err r refl))
+    (steps_refused old new p at next role (Either g to) r (λ code f found stands move carries same_next same_role.
+    second.stands code (first.stands code stands (leads_shown laws code p at f found (Either g to) move next next g same_next (inl refl, refl)))
+    (leads_shown laws code p at f found (Either g to) move next to g same_next (inr refl, refl))))
+
+-- a return
+pub steps_return : FrameLaws → (old new : Known) (p : Procedure) (at next : ℕ) (role : Role) (taken : ℕ) (result : Result Bool Refusal) →
+    Exits old new p at taken result → Steps old new p at next role (Return taken) result
+steps_return laws old new p at next role taken (Ok changed) exits = record {
+  small = exits.small;
+  more = exits.more;
+  stands = λ code f found stands move carries same_next same_role. exits.stands code stands (exit_shown laws code p at f found (Return taken) move taken refl) (exit_shown_at laws code p at f found (Return taken) move taken refl);
+  goes = exits.goes;
+  follows = λ same f carries. record {
+    on = λ to g leads. absurd leads;
+    enters = λ target is. absurd (let e : None ≡ Some target = is in cc);
+    after = λ target seen is exit. absurd (let e : None ≡ Some target = is in cc);
+    return = λ entry seen in_entry is. let e : taken ≡ seen = cc in subst (λ n. exit_of new.exits entry ≡ Some n) e (exits.has same entry in_entry);
+  };
+}
+steps_return laws old new p at next role taken (Err refusal) exits =
+    steps_refused old new p at next role (Return taken) refusal
+    (λ code f found stands move carries same_next same_role. exits.stands code stands (exit_shown laws code p at f found (Return taken) move taken refl) (exit_shown_at laws code p at f found (Return taken) move taken refl))
+
+pub steps_maybe_return : FrameLaws → (old mid new : Known) (p : Procedure) (at next : ℕ) (role : Role) (g : StackFrame) (taken : ℕ) (one x : Bool) →
+    Flows old mid p next g (Ok one) → Exits mid new p at taken (Ok x) → Steps old new p at next role (MaybeReturn g taken) (Ok (one || x))
+steps_maybe_return laws old mid new p at next role g taken one x first second = record {
+  small = second.small;
+  more = let a = first.more in let b = second.more in omega arith;
+  stands = λ code f found stands move carries same_next same_role.
+      second.stands code (first.stands code stands (leads_shown laws code p at f found (MaybeReturn g taken) move next next g same_next (refl, refl)))
+      (exit_shown laws code p at f found (MaybeReturn g taken) move taken refl) (exit_shown_at laws code p at f found (MaybeReturn g taken) move taken refl);
+  goes = goes_then old mid new one x first.goes second.goes;
+  follows = λ same f carries. record {
+    on = λ a h leads. has_there new p next a g h (subst (λ (k : Known). HasPoint k p next g) (sym (second.goes.same (second_false one x same))) (first.has (first_false one x same))) leads.0 leads.1;
+    enters = λ target is. absurd (let e : None ≡ Some target = is in cc);
+    after = λ target seen is exit. absurd (let e : None ≡ Some target = is in cc);
+    return = λ entry seen in_entry is. let e : taken ≡ seen = cc in subst (λ n. exit_of new.exits entry ≡ Some n) e (second.has (second_false one x same) entry in_entry);
+  };
+}
+
+pub steps_maybe_return_refused : FrameLaws → (old mid new : Known) (p : Procedure) (at next : ℕ) (role : Role) (g : StackFrame) (taken : ℕ) (one : Bool) (r : Refusal) →
+    Flows old mid p next g (Ok one) → Exits mid new p at taken (Err r) → Steps old new p at next role (MaybeReturn g taken) (Err r)
+steps_maybe_return_refused laws old mid new p at next role g taken one r first second =
+    steps_refused old new p at next role (MaybeReturn g taken) r (λ code f found stands move carries same_next same_role.
+    second.stands code (first.stands code stands (leads_shown laws code p at f found (MaybeReturn g taken) move next next g same_next (refl, refl)))
+    (exit_shown laws code p at f found (MaybeReturn g taken) move taken refl) (exit_shown_at laws code p at f found (MaybeReturn g taken) move taken refl))
+
+-- the frame that leads on where another way is taken first is refused
+pub steps_first_refused : FrameLaws → (old new : Known) (p : Procedure) (at next to : ℕ) (role : Role) (moves : Moves) (g : StackFrame) (r : Refusal) →
+    LeadsTo moves next to g → Flows old new p to g (Err r) → (last : Known) → Steps old last p at next role moves (Err r)
+steps_first_refused laws old new p at next to role moves g r leads flows last =
+    steps_refused old last p at next role moves r
+    (λ code f found stands move carries same_next same_role. flows.stands code stands (leads_shown laws code p at f found moves move next to g same_next leads))
+
+-- returns, case by case
+pub exits_main : (known : Known) (at taken : ℕ) → IsSmall known → Exits known known Main at taken (Ok false)
+exits_main known at taken small = record {
+  small = small;
+  more = omega arith;
+  stands = λ code stands returns same. stands;
+  goes = record { same = λ _. refl; less = λ e. absurd (true≢false (sym e)) };
+  has = λ _ entry is. absurd (let e : Main ≡ Entry entry = is in cc);
+}
+
+pub exits_same : (known : Known) (entry at taken : ℕ) → IsSmall known → exit_of known.exits entry ≡ Some taken → Exits known known (Entry entry) at taken (Ok false)
+exits_same known entry at taken small seen = record {
+  small = small;
+  more = omega arith;
+  stands = λ code stands returns same. stands;
+  goes = record { same = λ _. refl; less = λ e. absurd (true≢false (sym e)) };
+  has = λ _ other is. let e : entry ≡ other = cc in subst (λ n. exit_of known.exits n ≡ Some taken) e seen;
+}
+
+pub exits_uneven : (known new : Known) (entry at taken seen : ℕ) → exit_of known.exits entry ≡ Some seen → (taken ≢ seen) → Exits known new (Entry entry) at taken (Err (UnevenArguments at))
+exits_uneven known new entry at taken seen is apart = record {
+  small = tt;
+  more = tt;
+  goes = tt;
+  has = tt;
+  stands = λ code stands returns same. subst (λ a. Refused code (UnevenArguments a)) same (uneven code (Entry entry) taken seen returns (stands.exits entry seen is) apart);
+}
+
+pub exits_first : (known : Known) (entry at taken : ℕ) → IsSmall known → slice_get known.exits entry ≡ Some None → Exits known (with_exit known entry taken) (Entry entry) at taken (Ok true)
+exits_first known entry at taken small none = record {
+  small = record { points = small.points; frames = small.frames; apart = small.apart };
+  more = omega arith;
+  stands = λ code stands returns same. stands_exit code known entry taken stands returns;
+  goes = record { same = λ e. absurd (true≢false e); less = λ _. goes_exit known entry taken none };
+  has = λ e. absurd (true≢false e);
+}
+
+pub exits_out_of_memory : (old new : Known) (p : Procedure) (at taken : ℕ) → Exits old new p at taken (Err Memory)
+exits_out_of_memory old new p at taken = record { small = tt; more = tt; stands = λ code stands returns same. tt; goes = tt; has = tt }
+
+-- calls, case by case: the callee's entry first
+entry_shown : FrameLaws → (code : Code) (p : Procedure) (at : ℕ) (f : StackFrame) (found : Fetched) (moves : Moves) → AtMove code p at f found moves →
+    (target : ℕ) → called moves ≡ Some target → IsShown code (Entry target) target entry_frame
+entry_shown = shown_entry
+
+pub calls_refused : FrameLaws → (old mid new : Known) (p : Procedure) (at next : ℕ) (role : Role) (g : StackFrame) (target : ℕ) (r : Refusal) →
+    Flows old mid (Entry target) target entry_frame (Err r) → CallsOut old new p at next role g target (Err r)
+calls_refused laws old mid new p at next role g target r first = record {
+  small = tt;
+  more = tt;
+  goes = tt;
+  enters = tt;
+  after = tt;
+  stands = λ code found moves stands move call same_next same_role. first.stands code stands (entry_shown laws code p at g found moves move target call);
+}
+
+pub calls_waiting : FrameLaws → (old mid : Known) (p : Procedure) (at next : ℕ) (role : Role) (g : StackFrame) (target : ℕ) (entered : Bool) →
+    Flows old mid (Entry target) target entry_frame (Ok entered) → exit_of mid.exits target ≡ None → CallsOut old mid p at next role g target (Ok entered)
+calls_waiting laws old mid p at next role g target entered first none = record {
+  small = first.small;
+  more = first.more;
+  stands = λ code found moves stands move call same_next same_role. first.stands code stands (entry_shown laws code p at g found moves move target call);
+  goes = first.goes;
+  enters = first.has;
+  after = λ same taken exit. absurd (none_some (exit_of mid.exits target) taken none exit);
+}
+
+back_shown : FrameLaws → (code : Code) (mid : Known) (p : Procedure) (at next : ℕ) (role : Role) (g : StackFrame) (found : Fetched) (moves : Moves) → AtMove code p at g found moves →
+    (target taken : ℕ) → called moves ≡ Some target → Stands code mid → exit_of mid.exits target ≡ Some taken → taken ≤ room role g.words → found.next ≡ next → role ≡ role_of code p →
+    IsShown code p next (returned taken g)
+back_shown laws code mid p at next role g found moves move target taken call stands exit enough same_next same_role =
+    subst (λ n. IsShown code p n (returned taken g)) same_next
+    (shown_after laws code p at g found moves move target taken call (stands.exits target taken exit) (subst (λ (r : Role). taken ≤ room r g.words) same_role enough))
+
+pub calls_back : FrameLaws → (old mid new : Known) (p : Procedure) (at next : ℕ) (role : Role) (g : StackFrame) (target taken : ℕ) (entered x : Bool) →
+    Flows old mid (Entry target) target entry_frame (Ok entered) → exit_of mid.exits target ≡ Some taken → taken ≤ room role g.words →
+    Flows mid new p next (returned taken g) (Ok x) → CallsOut old new p at next role g target (Ok (entered || x))
+calls_back laws old mid new p at next role g target taken entered x first exit enough second = record {
+  small = second.small;
+  more = let a = first.more in let b = second.more in omega arith;
+  stands = λ code found moves stands move call same_next same_role.
+      let then : Stands code mid = first.stands code stands (entry_shown laws code p at g found moves move target call) in
+      second.stands code then (back_shown laws code mid p at next role g found moves move target taken call then exit enough same_next same_role);
+  goes = goes_then old mid new entered x first.goes second.goes;
+  enters = λ same. subst (λ (k : Known). HasPoint k (Entry target) target entry_frame) (sym (second.goes.same (second_false entered x same))) (first.has (first_false entered x same));
+  after = λ same seen is.
+      let there : exit_of mid.exits target ≡ Some seen = subst (λ (k : Known). exit_of k.exits target ≡ Some seen) (second.goes.same (second_false entered x same)) is in
+      let e : taken ≡ seen = cc in
+      subst (λ n. HasPoint new p next (returned n g)) e (second.has (second_false entered x same));
+}
+
+pub calls_back_refused : FrameLaws → (old mid new : Known) (p : Procedure) (at next : ℕ) (role : Role) (g : StackFrame) (target taken : ℕ) (entered : Bool) (r : Refusal) →
+    Flows old mid (Entry target) target entry_frame (Ok entered) → exit_of mid.exits target ≡ Some taken → taken ≤ room role g.words →
+    Flows mid new p next (returned taken g) (Err r) → CallsOut old new p at next role g target (Err r)
+calls_back_refused laws old mid new p at next role g target taken entered r first exit enough second = record {
+  small = tt;
+  more = tt;
+  goes = tt;
+  enters = tt;
+  after = tt;
+  stands = λ code found moves stands move call same_next same_role.
+      let then : Stands code mid = first.stands code stands (entry_shown laws code p at g found moves move target call) in
+      second.stands code then (back_shown laws code mid p at next role g found moves move target taken call then exit enough same_next same_role);
+}
+
+pub calls_short : FrameLaws → (old mid new : Known) (p : Procedure) (at next : ℕ) (role : Role) (g : StackFrame) (target taken : ℕ) (entered : Bool) →
+    Flows old mid (Entry target) target entry_frame (Ok entered) → exit_of mid.exits target ≡ Some taken → room role g.words < taken →
+    CallsOut old new p at next role g target (Err (ShortArguments at))
+calls_short laws old mid new p at next role g target taken entered first exit less = record {
+  small = tt;
+  more = tt;
+  goes = tt;
+  enters = tt;
+  after = tt;
+  stands = λ code found moves stands move call same_next same_role.
+      let then : Stands code mid = first.stands code stands (entry_shown laws code p at g found moves move target call) in
+      let returns = then.exits target taken exit in
+      short laws code p at g found moves move target returns.at returns.frame call returns.walk
+      (let t = taken_at_return code (Entry target) taken returns in
+      let h : room (role_of code p) g.words < taken = subst (λ (r : Role). room r g.words < taken) same_role less in omega arith);
+}
+
+-- a call, and a conditional one
+pub steps_call : (old new : Known) (p : Procedure) (at next : ℕ) (role : Role) (g : StackFrame) (target : ℕ) (result : Result Bool Refusal) →
+    CallsOut old new p at next role g target result → Steps old new p at next role (Call g target) result
+steps_call old new p at next role g target (Ok changed) calls = record {
+  small = calls.small;
+  more = calls.more;
+  stands = λ code f found stands move carries same_next same_role. calls.stands code found (Call g target) stands (subst (λ (x : StackFrame). AtMove code p at x found (Call g target)) (sym carries) move) refl same_next same_role;
+  goes = calls.goes;
+  follows = λ same f carries. record {
+    on = λ to h leads. absurd leads;
+    enters = λ to is. let e : target ≡ to = cc in subst (λ n. HasPoint new (Entry n) n entry_frame) e (calls.enters same);
+    after = λ to taken is exit. let e : target ≡ to = cc in
+        subst (λ (x : StackFrame). HasPoint new p next (returned taken x)) carries (calls.after same taken (subst (λ n. exit_of new.exits n ≡ Some taken) (sym e) exit));
+    return = λ entry taken in_entry is. absurd (let e : None ≡ Some taken = is in cc);
+  };
+}
+steps_call old new p at next role g target (Err r) calls =
+    steps_refused old new p at next role (Call g target) r (λ code f found stands move carries same_next same_role.
+    calls.stands code found (Call g target) stands (subst (λ (x : StackFrame). AtMove code p at x found (Call g target)) (sym carries) move) refl same_next same_role)
+
+pub steps_maybe_call : FrameLaws → (old mid new : Known) (p : Procedure) (at next : ℕ) (role : Role) (g : StackFrame) (target : ℕ) (one x : Bool) →
+    Flows old mid p next g (Ok one) → CallsOut mid new p at next role g target (Ok x) → Steps old new p at next role (MaybeCall g target) (Ok (one || x))
+steps_maybe_call laws old mid new p at next role g target one x first calls = record {
+  small = calls.small;
+  more = let a = first.more in let b = calls.more in omega arith;
+  stands = λ code f found stands move carries same_next same_role.
+      calls.stands code found (MaybeCall g target) (first.stands code stands (leads_shown laws code p at f found (MaybeCall g target) move next next g same_next (refl, refl)))
+      (subst (λ (y : StackFrame). AtMove code p at y found (MaybeCall g target)) (sym carries) move) refl same_next same_role;
+  goes = goes_then old mid new one x first.goes calls.goes;
+  follows = λ same f carries. record {
+    on = λ a h leads. has_there new p next a g h (subst (λ (k : Known). HasPoint k p next g) (sym (calls.goes.same (second_false one x same))) (first.has (first_false one x same))) leads.0 leads.1;
+    enters = λ to is. let e : target ≡ to = cc in subst (λ n. HasPoint new (Entry n) n entry_frame) e (calls.enters (second_false one x same));
+    after = λ to taken is exit. let e : target ≡ to = cc in
+        subst (λ (y : StackFrame). HasPoint new p next (returned taken y)) carries (calls.after (second_false one x same) taken (subst (λ n. exit_of new.exits n ≡ Some taken) (sym e) exit));
+    return = λ entry taken in_entry is. absurd (let e : None ≡ Some taken = is in cc);
+  };
+}
+
+pub steps_maybe_call_refused : FrameLaws → (old mid new : Known) (p : Procedure) (at next : ℕ) (role : Role) (g : StackFrame) (target : ℕ) (one : Bool) (r : Refusal) →
+    Flows old mid p next g (Ok one) → CallsOut mid new p at next role g target (Err r) → Steps old new p at next role (MaybeCall g target) (Err r)
+steps_maybe_call_refused laws old mid new p at next role g target one r first calls =
+    steps_refused old new p at next role (MaybeCall g target) r (λ code f found stands move carries same_next same_role.
+    calls.stands code found (MaybeCall g target) (first.stands code stands (leads_shown laws code p at f found (MaybeCall g target) move next next g same_next (refl, refl)))
+    (subst (λ (y : StackFrame). AtMove code p at y found (MaybeCall g target)) (sym carries) move) refl same_next same_role)

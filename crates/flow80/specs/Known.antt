@@ -1,0 +1,160 @@
+-- What the verifier knows while it goes over the points: the points with their frames, and for each entry how many words
+-- its procedure takes where it returns, once a return was seen. (This project's own.)
+use Rattle.std.specs.Prelude.{◌≡◌, ◌≤◌, ◌<◌, ◌+◌, ◌*◌, ◌-◌, ℕ, Bool, true, false, List, [], ◌∷◌, length, sum_by, count_by, Option, Some, None, slice_get, is_none, replicate, Result, Ok, Err, OnOk, IfOk, MatchResult}
+use Rattle.decode80.specs.declared.fetching.Fetched.{Fetched}
+use Rattle.frames80.specs.declared.word.Word.{Word}
+use Rattle.frames80.specs.declared.word.Word.TheVariants.{Own, Any}
+use Rattle.frames80.specs.declared.role.Role.{Role}
+use Rattle.frames80.specs.declared.moves.Moves.{Moves}
+use Rattle.frames80.specs.declared.moves.Moves.TheVariants.{End, On, Jump, Either, Call, MaybeCall, Return, MaybeReturn}
+use Rattle.frames80.specs.StackFrame.{StackFrame, entry_frame, main_frame}
+use Rattle.frames80.specs.Calls.{returned}
+use Rattle.frames80.specs.Places.{Covers}
+use Rattle.flow80.specs.declared.procedure.Procedure.{Procedure}
+use Rattle.flow80.specs.declared.procedure.Procedure.TheVariants.{Main, Entry}
+use Rattle.flow80.specs.Code.{Code}
+use Rattle.flow80.specs.Walks.{Moving, LeadsTo, called, returning, role_of}
+use Rattle.flow80.specs.declared.refusal.Refusal.{Refusal}
+use Rattle.flow80.specs.Faults.{most_points, Holds as Refused}
+use Rattle.flow80.specs.Rows.{ReturnsWith}
+use Rattle.flow80.specs.Points.{Point, AreApart}
+use Rattle.flow80.specs.Shown.{IsShown, AtMove}
+
+pub record Known : Type 0 where
+  pub points : List Point
+  pub exits : List (Option ℕ)
+
+-- nothing is known yet
+abbrev pub nothing_known : Known
+nothing_known = record { points = []; exits = replicate 65536 None }
+
+-- how many words a procedure takes where it returns, once a return was seen
+abbrev pub known_at : Option (Option ℕ) → Option ℕ
+known_at None = None
+known_at (Some exit) = exit
+
+abbrev pub exit_of : List (Option ℕ) → ℕ → Option ℕ
+exit_of exits entry = known_at (slice_get exits entry)
+
+abbrev pub takes_of : List (Option ℕ) → Procedure → Option ℕ
+takes_of exits Main = None
+takes_of exits (Entry entry) = exit_of exits entry
+
+-- a frame has no more words, and no more words taken, than so many
+pub record IsWithin (most : ℕ) (f : StackFrame) : Type 0 where
+  pub taken : f.taken ≤ most
+  pub words : length f.words ≤ most
+
+-- the table is small: there are no more points than are looked at, and no frame has more words than there are points
+pub record IsSmall (known : Known) : Type 0 where
+  pub points : length known.points ≤ most_points
+  pub frames : (i : ℕ) (point : Point) → slice_get known.points i ≡ Some point → IsWithin (length known.points) point.frame
+  pub apart : AreApart known.points
+
+-- all of it is shown by walks
+pub record Stands (code : Code) (known : Known) : Type 0 where
+  pub points : (i : ℕ) (point : Point) → slice_get known.points i ≡ Some point → IsShown code point.procedure point.at point.frame
+  pub exits : (entry taken : ℕ) → exit_of known.exits entry ≡ Some taken → ReturnsWith code (Entry entry) taken
+
+-- how far the table is from its end: a measure that falls with each change
+abbrev pub owns_word : Word → ℕ
+owns_word Own = 1
+owns_word Any = 0
+
+abbrev pub owns : StackFrame → ℕ
+owns f = sum_by owns_word f.words + owns_word f.pairs.bc + owns_word f.pairs.de + owns_word f.pairs.hl
+
+abbrev pub weight : Known → ℕ
+weight known = (sum_by (λ (p : Point). owns p.frame) known.points + (most_points - length known.points) * (most_points + 8)) + count_by is_none known.exits
+
+-- a step changes nothing, or the measure falls
+pub record Goes (old new : Known) (changed : Bool) : Type 0 where
+  pub same : changed ≡ false → new ≡ old
+  pub less : changed ≡ true → weight new < weight old
+
+-- the table has a frame at a point that covers this one
+pub record HasPoint (known : Known) (p : Procedure) (at : ℕ) (g : StackFrame) : Type 0 where
+  pub number : ℕ
+  pub point : Point
+  pub there : slice_get known.points number ≡ Some point
+  pub procedure : point.procedure ≡ p
+  pub address : point.at ≡ at
+  pub covers : Covers point.frame g
+
+-- each way that a move leads is in the table
+pub record Follows (known : Known) (p : Procedure) (f : StackFrame) (next : ℕ) (moves : Moves) : Type 0 where
+  pub on : (to : ℕ) (g : StackFrame) → LeadsTo moves next to g → HasPoint known p to g
+  pub enters : (target : ℕ) → called moves ≡ Some target → HasPoint known (Entry target) target entry_frame
+  pub after : (target taken : ℕ) → called moves ≡ Some target → exit_of known.exits target ≡ Some taken → HasPoint known p next (returned taken f)
+  pub return : (entry taken : ℕ) → p ≡ Entry entry → returning moves ≡ Some taken → exit_of known.exits entry ≡ Some taken
+
+-- what comes of a frame that leads to a point: the table stays small and shown, it changes nothing or is nearer to its end,
+-- and where it changes nothing the frame was covered; or a refusal holds
+pub record Flows (old new : Known) (p : Procedure) (to : ℕ) (g : StackFrame) (result : Result Bool Refusal) : Type 0 where
+  pub small : OnOk result (IsSmall new)
+  pub more : OnOk result (length old.points ≤ length new.points)
+  pub stands : (code : Code) → Stands code old → IsShown code p to g → MatchResult result (λ _. Stands code new) (λ refusal. Refused code refusal)
+  pub goes : IfOk result (λ changed. Goes old new changed)
+  pub has : IfOk result (λ changed. changed ≡ false → HasPoint new p to g)
+
+-- the frames that a move carries have no more words than so many
+abbrev pub AreWithin : ℕ → Moves → Type 0
+AreWithin most End = Unit {0}
+AreWithin most (On f) = IsWithin most f
+AreWithin most (Jump f _) = IsWithin most f
+AreWithin most (Either f _) = IsWithin most f
+AreWithin most (Call f _) = IsWithin most f
+AreWithin most (MaybeCall f _) = IsWithin most f
+AreWithin most (Return _) = Unit {0}
+AreWithin most (MaybeReturn f _) = IsWithin most f
+
+-- a call carries the caller's frame
+abbrev pub Carries : Moves → StackFrame → Type 0
+Carries (Call g _) f = g ≡ f
+Carries (MaybeCall g _) f = g ≡ f
+Carries End f = Unit {0}
+Carries (On _) f = Unit {0}
+Carries (Jump _ _) f = Unit {0}
+Carries (Either _ _) f = Unit {0}
+Carries (Return _) f = Unit {0}
+Carries (MaybeReturn _ _) f = Unit {0}
+
+-- what comes of a point's move: as of one frame, for each way that it leads
+pub record Steps (old new : Known) (p : Procedure) (at next : ℕ) (role : Role) (moves : Moves) (result : Result Bool Refusal) : Type 0 where
+  pub small : OnOk result (IsSmall new)
+  pub more : OnOk result (length old.points ≤ length new.points)
+  pub stands : (code : Code) (f : StackFrame) (found : Fetched) → Stands code old → AtMove code p at f found moves → Carries moves f → found.next ≡ next → role ≡ role_of code p →
+      MatchResult result (λ _. Stands code new) (λ refusal. Refused code refusal)
+  pub goes : IfOk result (λ changed. Goes old new changed)
+  pub follows : IfOk result (λ changed. changed ≡ false → (f : StackFrame) → Carries moves f → Follows new p f next moves)
+
+-- what comes of a return with so many words taken
+pub record Exits (old new : Known) (p : Procedure) (at taken : ℕ) (result : Result Bool Refusal) : Type 0 where
+  pub small : OnOk result (IsSmall new)
+  pub more : OnOk result (length old.points ≤ length new.points)
+  pub stands : (code : Code) → Stands code old → (returns : ReturnsWith code p taken) → returns.at ≡ at →
+      MatchResult result (λ _. Stands code new) (λ refusal. Refused code refusal)
+  pub goes : IfOk result (λ changed. Goes old new changed)
+  pub has : IfOk result (λ changed. changed ≡ false → (entry : ℕ) → p ≡ Entry entry → exit_of new.exits entry ≡ Some taken)
+
+-- what comes of a call
+pub record CallsOut (old new : Known) (p : Procedure) (at next : ℕ) (role : Role) (g : StackFrame) (target : ℕ) (result : Result Bool Refusal) : Type 0 where
+  pub small : OnOk result (IsSmall new)
+  pub more : OnOk result (length old.points ≤ length new.points)
+  pub stands : (code : Code) (found : Fetched) (moves : Moves) → Stands code old → AtMove code p at g found moves → called moves ≡ Some target → found.next ≡ next → role ≡ role_of code p →
+      MatchResult result (λ _. Stands code new) (λ refusal. Refused code refusal)
+  pub goes : IfOk result (λ changed. Goes old new changed)
+  pub enters : IfOk result (λ changed. changed ≡ false → HasPoint new (Entry target) target entry_frame)
+  pub after : IfOk result (λ changed. changed ≡ false → (taken : ℕ) → exit_of new.exits target ≡ Some taken → HasPoint new p next (returned taken g))
+
+-- a point is closed: its instruction moves, and each way on is in the table
+pub record IsClosed (code : Code) (known : Known) (point : Point) : Type 0 where
+  pub found : Fetched
+  pub moves : Moves
+  pub moving : Moving code point.procedure point.at point.frame found moves
+  pub follows : Follows known point.procedure point.frame found.next moves
+
+-- all points are closed, and the start is among them
+pub record AllClosed (code : Code) (known : Known) : Type 0 where
+  pub start : HasPoint known Main code.start main_frame
+  pub points : (i : ℕ) (point : Point) → slice_get known.points i ≡ Some point → IsClosed code known point

@@ -1,0 +1,69 @@
+//! The points that wait for a callee's return.
+
+use std::alloc::{AllocError, Global};
+
+/// No link.
+const NONE: usize = usize::MAX;
+
+/// A point at a call, and the link before it of the same callee.
+#[derive(Clone, Copy)]
+struct Link {
+    point: usize,
+    before: usize,
+}
+
+/// For each entry, the points at calls of it, the newest first: they are looked at again when the callee's return is seen.
+/// What the verifier answers doesn't rest on this list, only how soon.
+#[derive(Drop)]
+pub(crate) struct Callers {
+    newest: Vec<usize>,
+    links: Vec<Link>,
+}
+
+impl Callers {
+    /// No callers.
+    ///
+    /// # Errors
+    /// `AllocError` where memory runs out.
+    pub(crate) fn new(alloc: Global) -> Result<Callers, AllocError> {
+        Ok(Callers {
+            newest: vec![in alloc; NONE; 65536]?,
+            links: Vec::new(alloc),
+        })
+    }
+
+    /// A point waits for a callee.
+    ///
+    /// # Errors
+    /// `AllocError` where memory runs out.
+    pub(crate) fn add(&mut self, entry: u16, point: usize) -> Result<(), AllocError> {
+        let number = self.links.len();
+        if let Some(newest) = self.newest.get_mut(usize::from(entry)) {
+            self.links.push(Link {
+                point,
+                before: *newest,
+            })?;
+            *newest = number;
+        }
+        Ok(())
+    }
+
+    /// The points that wait for a callee are to be looked at again.
+    ///
+    /// # Errors
+    /// `AllocError` where memory runs out.
+    pub(crate) fn wake(&mut self, entry: u16, pending: &mut Vec<usize>) -> Result<(), AllocError> {
+        let mut at = match self.newest.get(usize::from(entry)) {
+            Some(newest) => *newest,
+            None => NONE,
+        };
+        for _ in 0..self.links.len() {
+            let Some(link) = self.links.get(at) else {
+                break;
+            };
+            pending.push(link.point)?;
+            at = link.before;
+        }
+        Ok(())
+    }
+}

@@ -1,0 +1,102 @@
+//! Procedures followed instruction by instruction: those that take words from beneath their return address, and their callers.
+
+use super::{MAIN, assert_frame, frame_of, kind, moved, stepped};
+use crate::Role::Entry;
+use crate::Word::{Any, Own};
+use crate::{Frame, Word, after, depth};
+use std::alloc::Global;
+use std::process::Abort;
+use std::test::Fail;
+
+/// The depth of a procedure's frame.
+fn deep(rt: &impl Abort, frame: &Frame, wanted: i64) {
+    assert!(rt; frame.taken <= 1_000_000);
+    assert!(rt; frame.words.len() <= 1_000_000);
+    assert_eq!(rt; depth(frame, Entry), wanted);
+}
+
+/// POP D, POP B, PUSH D, MOV A,C, OUT 01, RET: a procedure that takes one word.
+#[test]
+fn a_callee_takes_one_word(rt: HostRuntime) -> Result<(), Fail> {
+    let mut frame = Frame::entry(rt.alloc())?;
+    assert_frame(&rt, &frame, 0, &[Own], [Any, Any, Any]);
+    let none: &[Word] = &[];
+    let own: &[Word] = &[Own];
+    let rows = [
+        ([0xD1, 0x00, 0x00], 0, none, Own, -2),
+        ([0xC1, 0x00, 0x00], 1, none, Own, -4),
+        ([0xD5, 0x00, 0x00], 1, own, Own, -2),
+        ([0x79, 0x00, 0x00], 1, own, Own, -2),
+        ([0xD3, 0x01, 0x00], 1, own, Own, -2),
+    ];
+    for (bytes, taken, words, de, wanted) in rows {
+        frame = stepped(&rt, rt.alloc(), &frame, bytes, Entry)?;
+        assert_frame(&rt, &frame, taken, words, [Any, de, Any]);
+        deep(&rt, &frame, wanted);
+    }
+    let last = moved(&rt, rt.alloc(), &frame, [0xC9, 0x00, 0x00], Entry)?;
+    assert_eq!(rt; kind(&last), ("return", 1));
+    Ok(())
+}
+
+/// LXI SP,3200, LXI H,0005, PUSH H, CALL 300B of a procedure that takes one word, HLT.
+#[test]
+fn its_caller_loses_the_word(rt: HostRuntime) -> Result<(), Fail> {
+    let mut frame = Frame::main_entry(rt.alloc())?;
+    for bytes in [[0x31, 0x00, 0x32], [0x21, 0x05, 0x00], [0xE5, 0x00, 0x00]] {
+        frame = stepped(&rt, rt.alloc(), &frame, bytes, MAIN)?;
+    }
+    assert_frame(&rt, &frame, 0, &[Any], [Any, Any, Any]);
+    let call = moved(&rt, rt.alloc(), &frame, [0xCD, 0x0B, 0x30], MAIN)?;
+    assert_eq!(rt; kind(&call), ("call", 0x300B));
+    assert!(rt; frame.taken <= 1_000_000);
+    assert!(rt; frame.words.len() <= 1_000_000);
+    assert_eq!(rt; depth(&frame, MAIN), 2);
+    let back = after(rt.alloc(), &frame, MAIN, 1, 1)?;
+    assert_frame(&rt, &back, 0, &[], [Any, Any, Any]);
+    let last = moved(&rt, rt.alloc(), &back, [0x76, 0x00, 0x00], MAIN)?;
+    assert_eq!(rt; kind(&last), ("end", 0));
+    Ok(())
+}
+
+/// The return of an entry after instructions of one byte each.
+fn return_after(rt: &impl Abort, alloc: Global, walk: &[u8]) -> Result<(&'static str, u32), Fail> {
+    let mut frame = Frame::entry(alloc)?;
+    for first in walk {
+        frame = stepped(rt, alloc, &frame, [*first, 0x00, 0x00], Entry)?;
+    }
+    let last = moved(rt, alloc, &frame, [0xC9, 0x00, 0x00], Entry)?;
+    Ok(kind(&last))
+}
+
+/// POP D, POP B, and then either POP B, PUSH D, RET or PUSH D, RET: the returns take two words and one.
+#[test]
+fn two_returns_take_two_words_and_one(rt: HostRuntime) -> Result<(), Fail> {
+    let first = return_after(&rt, rt.alloc(), &[0xD1, 0xC1, 0xC1, 0xD5])?;
+    assert_eq!(rt; first, ("return", 2));
+    let second = return_after(&rt, rt.alloc(), &[0xD1, 0xC1, 0xD5])?;
+    assert_eq!(rt; second, ("return", 1));
+    Ok(())
+}
+
+/// JMP, JZ, CALL and CZ of 3210, RST 7, RET, RZ, HLT and NOP, in a procedure that has taken two words.
+#[test]
+fn each_move(rt: HostRuntime) -> Result<(), Fail> {
+    let frame = frame_of(rt.alloc(), 2, &[Own], [Any, Any, Any])?;
+    let rows = [
+        (0xC3, "jump", 0x3210),
+        (0xCA, "either", 0x3210),
+        (0xCD, "call", 0x3210),
+        (0xCC, "maybe call", 0x3210),
+        (0xFF, "call", 0x0038),
+        (0xC9, "return", 2),
+        (0xC8, "maybe return", 2),
+        (0x76, "end", 0),
+        (0x00, "on", 0),
+    ];
+    for (first, wanted, number) in rows {
+        let moves = moved(&rt, rt.alloc(), &frame, [first, 0x10, 0x32], Entry)?;
+        assert_eq!(rt; kind(&moves), (wanted, number));
+    }
+    Ok(())
+}

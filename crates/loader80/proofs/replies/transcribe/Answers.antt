@@ -1,0 +1,26 @@
+use Rattle.std.proofs.Common.{◌≡◌, ◌∙◌, ℕ, List, ap, refl}
+use Rattle.std.specs.Prelude.{string_bytes}
+use Rattle.machine80.specs.Ports.{lists_of}
+use Rattle.machine80.specs.Step.{Machine, machine}
+use Rattle.loader80.specs.declared.replies.Outcome.{Outcome}
+use Rattle.loader80.specs.TranscriptText.{transcript}
+use Rattle.loader80.proofs.TranscriptLemmas.{RanOn, transcript_made}
+use Rattle.loader80.proofs.replies.transcribe.Goals as goal
+
+pub returns-in-Ok-transcript_text : goal.returns-in-Ok-transcript_text
+returns-in-Ok-transcript_text c =
+    let last : Machine = machine c.run-ended.result.cpu c.run-ended.new.bus c.run-ended.new.ports.inputs c.run-ended.new.ports.outputs in
+    let o : Outcome = record { stack_bytes = c.stack_bytes.result; end = c.run-ended.result.end; steps = c.run-ended.result.steps; at = c.pc.result } in
+    let ports : RanOn (lists_of c.args.inputs.pairs.items) c.args.outputs c.new-ports.result c.run-ended.new.ports c.run-ended.result.end = record {
+      inputs_before = c.new-ports.ensures.inputs;
+      outputs_before = c.new-ports.ensures.outputs;
+      refused_before = c.new-ports.ensures.refused;
+      limit_before = c.new-ports.ensures.limit;
+      limit_after = c.run-ended.ensures.limit;
+      refusals = c.run-ended.ensures.refusals;
+      room = c.run-ended.ensures.room;
+    } in
+    let outputs : c.outputs.result.now ≡ c.run-ended.new.ports.outputs = c.outputs.ensures in
+    let text : string_bytes c.in-Ok-transcript_text.text ≡ transcript o.stack_bytes last.outputs o.end o.at o.steps =
+    c.in-Ok-transcript_text.ensures ∙ ap (λ (l : List (ℕ × ℕ)). transcript o.stack_bytes l o.end o.at o.steps) outputs in
+    (c.stack_bytes.ensures.none, transcript_made c.args.vouched.now.image (lists_of c.args.inputs.pairs.items) c.args.outputs c.args.steps o (string_bytes c.in-Ok-transcript_text.text) c.new-ports.result c.run-ended.new.ports last ports refl (c.was_out_of_memory.ensures c.if-was_out_of_memory.false) c.run-ended.ensures.run c.pc.ensures text)

@@ -1,0 +1,148 @@
+//! From three texts to an answer and a text.
+
+ghost use Rattle.std.specs.Prelude.{◌≡◌, ◌<◌, ◌≤◌, [], false, length, IfOk, IfErr, string_bytes};
+ghost use Rattle.machine80.specs.Ports.{lists_of};
+ghost use Rattle.loader80.specs.Session.{Says, SpellsProgram, Faults, IsRefused, Transcribes};
+
+use crate::fault::SessionFault;
+use crate::inputs::{InputsFault, read_inputs};
+use crate::refusal::Refusal;
+use crate::running::run;
+use crate::transcript::{refusal_text, transcript_text};
+use crate::vouched::{Vouched, vouch};
+use machine80::{End, FlatBus, Inputs, ListPorts, Ports};
+use place80::{Image, ImageFault, RegionsFault, read_image, read_regions};
+use std::alloc::{AllocError, Global};
+
+/// What a session came to.
+#[derive(Clone, Copy, Debug, PartialEq, Eq)]
+pub struct Outcome {
+    /// The number of bytes of stack that the program needs at most.
+    pub stack_bytes: u64,
+    /// How the run ended; `None` where the steps were used up.
+    pub end: Option<End>,
+    /// The steps that were made, the ending one counted.
+    pub steps: u64,
+    /// The program counter after the last step; at an end, before the ending step.
+    pub at: u16,
+}
+
+/// Three texts: an image as an object file, regions and inputs.
+#[derive(Clone, Copy)]
+pub struct SessionTexts<'a> {
+    pub image: &'a [u8],
+    pub regions: &'a [u8],
+    pub inputs: &'a [u8],
+}
+
+/// What is answered for three texts, and what is written.
+#[derive(Drop)]
+pub struct Reply {
+    pub answer: Result<Outcome, SessionFault>,
+    pub text: String,
+}
+
+/// Reads the texts, checks the image and runs it for at most `steps` steps, keeping at most `outputs` outputs: the next one
+/// is refused. If memory for an output below that limit runs out, the answer is `Memory`.
+pub fn answer_texts(alloc: Global, texts: SessionTexts<'_>, steps: u64, outputs: usize) -> Reply
+    ensures { Says outputs steps (record { image = texts.entry.image.now; regions = texts.entry.regions.now; inputs = texts.entry.inputs.now }) result.answer (string_bytes result.text) }
+{
+    let image = match load(alloc, texts) {
+        Ok(image) => image,
+        Err(fault) => return faulty(alloc, fault),
+    };
+    let inputs = match read_inputs(alloc, texts.inputs) {
+        Ok(inputs) => inputs,
+        Err(InputsFault::BadLine(number)) => return faulty(alloc, SessionFault::Inputs(number)),
+        Err(InputsFault::Memory) => return faulty(alloc, SessionFault::Memory),
+    };
+    match vouch(alloc, image) {
+        Ok(vouched) => transcribe(alloc, &vouched, inputs, steps, outputs),
+        Err((_, refusal)) => refuse(alloc, refusal),
+    }
+}
+
+/// The image that the texts spell.
+fn load(alloc: Global, texts: SessionTexts<'_>) -> Result<Image, SessionFault>
+    ensures image { IfOk result (SpellsProgram (record { image = texts.entry.image.now; regions = texts.entry.regions.now; inputs = texts.entry.inputs.now })) }
+    ensures fault { IfErr result (λ fault. Faults (record { image = texts.entry.image.now; regions = texts.entry.regions.now; inputs = texts.entry.inputs.now }) fault []) }
+{
+    let regions = match read_regions(alloc, texts.regions) {
+        Ok(regions) => regions,
+        Err(RegionsFault::Memory) => return Err(SessionFault::Memory),
+        Err(fault) => return Err(SessionFault::Regions(fault)),
+    };
+    match read_image(alloc, texts.image, regions) {
+        Ok(image) => Ok(image),
+        Err((_, ImageFault::Memory)) => Err(SessionFault::Memory),
+        Err((_, fault)) => Err(SessionFault::Image(fault)),
+    }
+}
+
+/// A fault, and no text.
+fn faulty(alloc: Global, fault: SessionFault) -> Reply
+    ensures answer { result.answer ≡ Err fault }
+    ensures text { string_bytes result.text ≡ [] }
+{
+    Reply {
+        answer: Err(fault),
+        text: String::new(alloc),
+    }
+}
+
+/// A refusal, and its line.
+fn refuse(alloc: Global, refusal: Refusal) -> Reply
+    ensures { IsRefused refusal result.answer (string_bytes result.text) }
+{
+    if refusal == Refusal::Memory {
+        return faulty(alloc, SessionFault::Memory);
+    }
+    match refusal_text(alloc, refusal) {
+        Ok(text) => Reply {
+            answer: Err(SessionFault::Refused(refusal)),
+            text,
+        },
+        Err(AllocError) => faulty(alloc, SessionFault::Memory),
+    }
+}
+
+/// A vouched image is run, and its transcript is made.
+fn transcribe(alloc: Global, vouched: &Vouched, inputs: Inputs, steps: u64, outputs: usize) -> Reply
+    ensures { Transcribes vouched.now.image (lists_of inputs.pairs.items) outputs steps result.answer (string_bytes result.text) }
+{
+    let Ok(mut bus) = FlatBus::new(alloc, vouched.image()) else {
+        return faulty(alloc, SessionFault::Memory);
+    };
+    let mut ports = ListPorts::new(alloc, inputs, outputs);
+    let ended = run(vouched, &mut bus, &mut ports, steps);
+    if was_out_of_memory(&ports, outputs) {
+        return faulty(alloc, SessionFault::Memory);
+    }
+    let outcome = Outcome {
+        stack_bytes: vouched.stack_bytes(),
+        end: ended.end,
+        steps: ended.steps,
+        at: ended.cpu.pc(),
+    };
+    match transcript_text(
+        alloc,
+        outcome.stack_bytes,
+        ports.outputs(),
+        outcome.end,
+        outcome.at,
+        outcome.steps,
+    ) {
+        Ok(text) => Reply {
+            answer: Ok(outcome),
+            text,
+        },
+        Err(AllocError) => faulty(alloc, SessionFault::Memory),
+    }
+}
+
+/// Whether an output was refused below the limit: no memory was there to keep it.
+fn was_out_of_memory(ports: &ListPorts, limit: usize) -> bool
+    ensures { result ≡ false → 0 < ports.now.refused → limit ≤ length ports.now.outputs }
+{
+    ports.refusals() > 0 && ports.outputs().len() < limit
+}

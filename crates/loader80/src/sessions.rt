@@ -1,0 +1,77 @@
+//! A session: three texts are read, and the transcript of the run is written.
+
+ghost use Rattle.std.specs.Prelude.{◌≡◌, ◌+◌, ◌<◌, ◌≤◌, Some, IfOk, IfErr, IfSome, OnOk, length, vec_len};
+ghost use Rattle.loader80.specs.Texts.{Texts};
+ghost use Rattle.loader80.specs.WholeText.{TakesAtMost};
+ghost use Rattle.loader80.specs.Sends.{Sends, read_failures_at, write_failures_of, TextFault, text_limit};
+
+use crate::fault::SessionFault;
+use crate::replies::{Outcome, SessionTexts, answer_texts};
+use crate::stream::{Failed, Sink, Source};
+use crate::whole::{ReadAllFault, read_all, write_all};
+use std::alloc::Global;
+
+/// The greatest number of bytes of a text.
+pub const TEXT_LIMIT: usize = 1_048_576;
+
+/// Reads an image, regions and inputs, each whole, in this order; checks the image and runs it for `steps` steps at most,
+/// keeping `outputs` outputs at most; and writes the transcript, or the line of the refusal.
+///
+/// # Errors
+/// The first of: `Read` and `TooLong` with the number of the text, 1 to 3, while it is read; `Regions`, `Image`,
+/// `Inputs` with the number of its line; `Refused`, after its line was written; `Write`, after which what went out is a
+/// prefix of the text. `Memory` comes where a growth was refused, also that of the outputs. After every other fault but
+/// `Refused` nothing was written.
+pub fn session<A: Source, B: Source, C: Source, K: Sink>(
+    alloc: Global,
+    image: &mut A,
+    regions: &mut B,
+    inputs: &mut C,
+    out: &mut K,
+    steps: u64,
+    outputs: usize,
+) -> Result<Outcome, SessionFault>
+    requires image { A.failed image.old < u64.MAX }
+    requires regions { B.failed regions.old < u64.MAX }
+    requires inputs { C.failed inputs.old < u64.MAX }
+    requires out { K.failed out.old < u64.MAX }
+    ensures sends { (t : Texts) → A.left image.old ≡ Some t.image → B.left regions.old ≡ Some t.regions → C.left inputs.old ≡ Some t.inputs → Sends outputs steps t result (K.written out.old) (K.written out.new) }
+    ensures image_failures { A.failed image.new ≡ A.failed image.old + read_failures_at 1 result }
+    ensures regions_failures { B.failed regions.new ≡ B.failed regions.old + read_failures_at 2 result }
+    ensures inputs_failures { C.failed inputs.new ≡ C.failed inputs.old + read_failures_at 3 result }
+    ensures out_failures { K.failed out.new ≡ K.failed out.old + write_failures_of result }
+    ensures image_taken { TakesAtMost (TEXT_LIMIT + 1) (A.left image.old) (A.left image.new) }
+    ensures regions_taken { TakesAtMost (TEXT_LIMIT + 1) (B.left regions.old) (B.left regions.new) }
+    ensures inputs_taken { TakesAtMost (TEXT_LIMIT + 1) (C.left inputs.old) (C.left inputs.new) }
+{
+    let image = read_text(alloc, image, 1)?;
+    let regions = read_text(alloc, regions, 2)?;
+    let inputs = read_text(alloc, inputs, 3)?;
+    let texts = SessionTexts {
+        image: &image,
+        regions: &regions,
+        inputs: &inputs,
+    };
+    let reply = answer_texts(alloc, texts, steps, outputs);
+    match write_all(out, reply.text.as_bytes()) {
+        Ok(()) => reply.answer,
+        Err(Failed) => Err(SessionFault::Write),
+    }
+}
+
+/// Reads the text of this number whole.
+fn read_text<S: Source>(alloc: Global, source: &mut S, number: u8) -> Result<Vec<u8>, SessionFault>
+    requires countable { S.failed source.old < u64.MAX }
+    ensures whole { IfOk result (λ bytes. IfSome (S.left source.old) (λ told. bytes.items ≡ told)) }
+    ensures within { IfOk result (λ bytes. vec_len bytes ≤ TEXT_LIMIT) }
+    ensures fault { IfErr result (TextFault number (S.left source.old)) }
+    ensures failures { S.failed source.new ≡ S.failed source.old + read_failures_at number result }
+    ensures taken { TakesAtMost (TEXT_LIMIT + 1) (S.left source.old) (S.left source.new) }
+{
+    match read_all(alloc, source, TEXT_LIMIT) {
+        Ok(bytes) => Ok(bytes),
+        Err(ReadAllFault::Read) => Err(SessionFault::Read(number)),
+        Err(ReadAllFault::TooLong) => Err(SessionFault::TooLong(number)),
+        Err(ReadAllFault::Memory) => Err(SessionFault::Memory),
+    }
+}
