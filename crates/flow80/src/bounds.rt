@@ -1,10 +1,10 @@
 //! How many bytes of stack each procedure uses at most, its callees' included.
 
-ghost use Rattle.std.specs.Prelude.{◌≡◌, ◌≢◌, ◌≤◌, ◌<◌, ◌+◌, ℕ, List, All, IfOk, IfErr, length, ◌++◌, []};
+ghost use Rattle.std.specs.Prelude.{◌≡◌, ◌≤◌, All, IfOk, IfErr, length};
 ghost use Rattle.flow80.specs.Code.{Code as CodeSeen};
 ghost use Rattle.flow80.specs.Graph.{IsGraph};
 ghost use Rattle.flow80.specs.Faults.{Holds};
-ghost use Rattle.flow80.specs.Bounds.{slot_of, bytes_of, IsModest, AreSums, AreStuck, AreBounds, NoneRecurs};
+ghost use Rattle.flow80.specs.Bounds.{bytes_of, IsModest, AreSums, AreStuck, AreBounds, NoneRecurs};
 
 use crate::cycles::cycle;
 use crate::graph::{CallSite, Depth};

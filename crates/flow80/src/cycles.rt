@@ -1,7 +1,7 @@
 //! Calls that lead back to their own procedure.
 
-ghost use Rattle.std.specs.Prelude.{◌≡◌, ◌≤◌, ◌<◌, ◌+◌, ℕ, List, IfOk, length};
-ghost use Rattle.flow80.specs.Bounds.{slot_of, CallsBy, Reaches, Cycles, AreStuck, AreFollowed};
+ghost use Rattle.std.specs.Prelude.{◌≡◌, ◌<◌, IfOk, length};
+ghost use Rattle.flow80.specs.Bounds.{Cycles, AreStuck, AreFollowed};
 
 use crate::graph::CallSite;
 use crate::procedure::Procedure;

@@ -1,9 +1,7 @@
 //! The greatest sums of bytes over chains of calls, while calls are absorbed into them.
 
-ghost use Rattle.std.specs.Prelude.{◌≡◌, ◌≤◌, ◌<◌, ◌+◌, ◌*◌, ℕ, List, All, IfOk, length, []};
-ghost use Rattle.flow80.specs.declared.graph.Depth.{Depth as DepthSeen};
-ghost use Rattle.flow80.specs.declared.graph.CallSite.{CallSite as CallSiteSeen};
-ghost use Rattle.flow80.specs.Bounds.{slot_of, bytes_of, most_step, IsModest, IsRaised, IsSumAfter, AreDepths, AreSmall, AreMarked, AreRounded, AreSums, AreStuck};
+ghost use Rattle.std.specs.Prelude.{◌≡◌, ◌<◌, All, IfOk, length, []};
+ghost use Rattle.flow80.specs.Bounds.{slot_of, IsModest, IsRaised, IsSumAfter, AreDepths, AreSmall, AreMarked, AreRounded};
 
 use crate::graph::{CallSite, Depth};
 use crate::procedure::Procedure;
@@ -83,7 +81,7 @@ pub(crate) fn mark(marks: &mut [bool], pending: &[CallSite])
     }
 }
 
-/// Absorbs the pending calls whose callees aren't marked, and answers the others.
+/// Absorbs the pending calls whose callees aren't marked, and returns the others.
 pub(crate) fn round(
     alloc: Global,
     sums: &mut [u64],
