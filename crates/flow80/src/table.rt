@@ -3,18 +3,20 @@
 ghost use Rattle.std.specs.Prelude.{◌≡◌, ◌+◌, ◌<◌, ◌≤◌, ◌↔◌, false, true, Some, None, Ok, Err, IfOk, IfErr, OnOk, IfSome, length, replicate, slice_get};
 ghost use Rattle.flow80.specs.declared.procedure.Procedure.TheVariants.{Entry};
 ghost use Rattle.flow80.specs.Points.{IsPointAt, IsNoPoint};
-ghost use Rattle.flow80.specs.Known.{IsSmall, IsWithin, Flows, Exits, CallsOut, Steps, AreWithin, IsShort, exit_of, nothing_known};
+ghost use Rattle.flow80.specs.Known.{IsSmall, IsWithin, Flows, Exits, CallsOut, Steps, Visits, AreWithin, IsShort, exit_of, nothing_known};
 ghost use Rattle.frames80.specs.declared.moves.Moves.TheVariants.{Either, MaybeCall, MaybeReturn};
 ghost use Rattle.frames80.specs.Calls.{room, returned};
 ghost use Rattle.flow80.specs.Faults.{most_points};
+ghost use Rattle.flow80.specs.Walks.{role_of};
 
 use crate::callers::Callers;
+use crate::code::Code;
 use crate::laws::frame_laws;
 use crate::points::Points;
 use crate::procedure::Procedure;
 use crate::refusal::Refusal;
 use crate::site::Site;
-use frames80::{CallFault, Frame, HeightsDiffer, Moves, after, meet};
+use frames80::{CallFault, Frame, HeightsDiffer, Moves, Role, after, meet, next};
 use std::alloc::{AllocError, Global};
 use std::marker::Model;
 
@@ -182,13 +184,7 @@ impl Table {
     }
 
     /// A conditional jump goes both ways.
-    fn branch(
-        &mut self,
-        alloc: Global,
-        site: &Site,
-        frame: Frame,
-        to: u16,
-    ) -> Result<bool, Refusal>
+    fn branch(&mut self, alloc: Global, site: &Site, frame: Frame, to: u16) -> Result<bool, Refusal>
         requires small { IsSmall self.old }
         requires fits { IsWithin (length self.old.points + 1) frame }
         ensures { Steps self.old self.new site.now.procedure site.now.at site.now.next site.now.role (Either frame to) result }
@@ -264,6 +260,41 @@ impl Table {
         }
     }
 
+    /// A point is looked at: its instruction, and each way that it leads.
+    ///
+    /// # Errors
+    /// A refusal that holds, or out of memory.
+    pub(crate) fn visit<C: Code>(
+        &mut self,
+        alloc: Global,
+        program: &C,
+        point: usize,
+    ) -> Result<bool, Refusal>
+        requires small { IsSmall self.old }
+        requires there { point < length self.old.points }
+        ensures { Visits (C.code program.now) self.old self.new point result }
+    {
+        frame_laws();
+        let (procedure, at) = self.points.place(point);
+        let found = match program.look(at) {
+            Ok(found) => found,
+            Err(fault) => return Err(Refusal::of_look(fault, at)),
+        };
+        let role = role_of(program, procedure);
+        let moves = match next(alloc, self.points.frame(point), found.instr, role) {
+            Ok(moves) => moves,
+            Err(fault) => return Err(Refusal::of(fault, at)),
+        };
+        let site = Site {
+            procedure,
+            role,
+            at,
+            next: found.next,
+            point,
+        };
+        self.follow(alloc, &site, moves)
+    }
+
     /// How many words a procedure takes where it returns, once a return was seen.
     pub(crate) fn exit_of(&self, entry: u16) -> Option<u32>
         ensures { result ≡ exit_of self.now.exits entry }
@@ -306,5 +337,15 @@ fn come_back(alloc: Global, site: &Site, frame: &Frame, taken: u32) -> Result<Fr
         Ok(back) => Ok(back),
         Err(CallFault::ShortArguments) => Err(Refusal::ShortArguments(site.at)),
         Err(CallFault::Memory) => Err(Refusal::Memory),
+    }
+}
+
+/// The role of a procedure.
+fn role_of<C: Code>(program: &C, procedure: Procedure) -> Role
+    ensures { result ≡ role_of (C.code program.now) procedure }
+{
+    match procedure {
+        Procedure::Main => Role::Main { top: program.top() },
+        Procedure::Entry(_) => Role::Entry,
     }
 }

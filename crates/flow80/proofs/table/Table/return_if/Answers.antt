@@ -10,7 +10,7 @@ use Rattle.flow80.proofs.table.Table.return_if.Goals as goal
 
 pub returns-in_err-one : goal.returns-in_err-one
 returns-in_err-one c =
-    let p = err_from_is_err_and c.from_residual-in_err-one.result c.from_residual-in_err-one.ensures.1 in
+    let p = err_from_is_err_and c.from_residual.result c.from_residual.ensures.1 in
     let laws = c.frame_laws.ensures in
     let known = c.args.self.now in
     let s = c.args.site.now in
