@@ -10,3 +10,4 @@ pub mod BoundLemmas
 pub mod CycleLemmas
 pub mod SumLemmas
 pub mod FollowLemmas
+pub mod VisitLemmas

@@ -1,0 +1,166 @@
+-- What comes of a look at a point.
+use Rattle.std.specs.Prelude.{◌≡◌, ◌≢◌, ◌≤◌, ◌<◌, ◌+◌, ℕ, zero, suc, Bool, true, false, List, [], ◌∷◌, length, Option, Some, None, Result, Ok, Err, OnOk, IfOk, MatchResult, slice_get, drop, refl}
+use Rattle.std.proofs.Common.{ap, sym, ◌∙◌, subst, arith}
+use Rattle.std.proofs.lemmas.List.{length-drop}
+use Rattle.decode80.specs.declared.fetching.Fetched.{Fetched}
+use Rattle.frames80.specs.declared.word.Word.{Word}
+use Rattle.frames80.specs.declared.role.Role.{Role}
+use Rattle.frames80.specs.declared.fault.FrameFault.{FrameFault}
+use Rattle.frames80.specs.declared.fault.FrameFault.TheVariants.{Sphl, Pchl, StackByByte, SetsStack, PopsBelow, ReturnNotOwn, ReturnFromMain, Memory}
+use Rattle.frames80.specs.declared.effect.Change.{Change}
+use Rattle.frames80.specs.declared.effect.Change.TheVariants.{Keep, Push, PushAny, Pop, Drop, Swap, Exchange, Forget, SetStack}
+use Rattle.frames80.specs.declared.effect.Effect.{Effect}
+use Rattle.frames80.specs.declared.effect.Effect.TheVariants.{Change as Changes, Halt, Jump, JumpIf, Call, CallIf, Return, ReturnIf, Refuse}
+use Rattle.frames80.specs.declared.moves.Moves.{Moves}
+use Rattle.frames80.specs.StackFrame.{StackFrame, taken_after_pop}
+use Rattle.frames80.specs.Effects.{effect_of}
+use Rattle.frames80.specs.Moves.{moves_of, changed}
+use Rattle.flow80.specs.declared.procedure.Procedure.{Procedure}
+use Rattle.flow80.specs.declared.code.LookFault.{LookFault}
+use Rattle.flow80.specs.declared.code.LookFault.TheVariants.{Outside, Unused, EnablesInterrupts, DirectStore}
+use Rattle.flow80.specs.declared.refusal.Refusal.{Refusal}
+use Rattle.flow80.specs.Refusal.{refusal_of, look_refusal}
+use Rattle.flow80.specs.Code.{Code}
+use Rattle.flow80.specs.Walks.{role_of}
+use Rattle.flow80.specs.Faults.{Holds as Refused, LooksWrong, MovesWrong}
+use Rattle.flow80.specs.Points.{Point}
+use Rattle.flow80.specs.Shown.{IsShown, AtMove, FrameLaws}
+use Rattle.flow80.specs.Known.{Known, IsSmall, IsWithin, Stands, Goes, AreWithin, Carries, Steps, Follows, IsClosed, Visits}
+use Rattle.flow80.proofs.MoveLemmas.{move_with, Moved, moved_is}
+use Rattle.flow80.proofs.ShownLemmas.{looks_wrong, moves_wrong}
+
+pub some_at : {A : Type 0} (xs : List A) (i : ℕ) → i < length xs → (x : A) × (slice_get xs i ≡ Some x)
+some_at [] i less = absurd (omega arith)
+some_at (x ∷ xs) zero less = (x, refl)
+some_at (x ∷ xs) (suc i) less = some_at xs i (omega arith)
+
+refused_look : (code : Code) (at : ℕ) (fault : LookFault) → LooksWrong code at fault → Refused code (look_refusal fault at)
+refused_look code at Outside wrong = wrong
+refused_look code at Unused wrong = wrong
+refused_look code at EnablesInterrupts wrong = wrong
+refused_look code at DirectStore wrong = wrong
+
+pub visits_look_fault : (code : Code) (known new : Known) (i at : ℕ) (point : Point) (fault : LookFault) → slice_get known.points i ≡ Some point → point.at ≡ at →
+    code.look at ≡ Err fault → Visits code known new i (Err (look_refusal fault at))
+visits_look_fault code known new i at point fault there address looked = record {
+  small = tt; more = tt; goes = tt; closed = tt;
+  stands = λ stands. refused_look code at fault
+    (looks_wrong code point.procedure at point.frame fault (subst (λ a. IsShown code point.procedure a point.frame) address (stands.points i point there)) looked);
+}
+
+-- what a frame's fault is refused by
+refused_move : FrameLaws → (code : Code) (p : Procedure) (at : ℕ) (f : StackFrame) (found : Fetched) (fault : FrameFault) → IsShown code p at f →
+    code.look at ≡ Ok found → ((fault ≢ Memory) → moves_of (role_of code p) (effect_of found.instr) f ≡ Err fault) → Refused code (refusal_of fault at)
+refused_move laws code p at f found Sphl shown looked moved = moves_wrong laws code p at f found Sphl shown looked (moved (λ e. cc))
+refused_move laws code p at f found Pchl shown looked moved = moves_wrong laws code p at f found Pchl shown looked (moved (λ e. cc))
+refused_move laws code p at f found StackByByte shown looked moved = moves_wrong laws code p at f found StackByByte shown looked (moved (λ e. cc))
+refused_move laws code p at f found SetsStack shown looked moved = moves_wrong laws code p at f found SetsStack shown looked (moved (λ e. cc))
+refused_move laws code p at f found PopsBelow shown looked moved = moves_wrong laws code p at f found PopsBelow shown looked (moved (λ e. cc))
+refused_move laws code p at f found ReturnNotOwn shown looked moved = moves_wrong laws code p at f found ReturnNotOwn shown looked (moved (λ e. cc))
+refused_move laws code p at f found ReturnFromMain shown looked moved = moves_wrong laws code p at f found ReturnFromMain shown looked (moved (λ e. cc))
+refused_move laws code p at f found Memory shown looked moved = tt
+
+-- the point that is looked at
+pub record AtPoint (code : Code) (known : Known) (i : ℕ) (p : Procedure) (at : ℕ) (f : StackFrame) : Type 0 where
+  pub point : Point
+  pub there : slice_get known.points i ≡ Some point
+  pub procedure : point.procedure ≡ p
+  pub address : point.at ≡ at
+  pub frame : point.frame ≡ f
+
+shown_at : (code : Code) (known : Known) (i : ℕ) (p : Procedure) (at : ℕ) (f : StackFrame) → AtPoint code known i p at f → Stands code known → IsShown code p at f
+shown_at code known i p at f here stands =
+    subst (λ (q : Procedure). IsShown code q at f) here.procedure
+      (subst (λ a. IsShown code here.point.procedure a f) here.address
+        (subst (λ (g : StackFrame). IsShown code here.point.procedure here.point.at g) here.frame (stands.points i here.point here.there)))
+
+pub visits_move_fault : FrameLaws → (code : Code) (known new : Known) (i : ℕ) (p : Procedure) (at : ℕ) (f : StackFrame) (found : Fetched) (fault : FrameFault) →
+    AtPoint code known i p at f → code.look at ≡ Ok found → ((fault ≢ Memory) → moves_of (role_of code p) (effect_of found.instr) f ≡ Err fault) →
+    Visits code known new i (Err (refusal_of fault at))
+visits_move_fault laws code known new i p at f found fault here looked moved = record {
+  small = tt; more = tt; goes = tt; closed = tt;
+  stands = λ stands. refused_move laws code p at f found fault (shown_at code known i p at f here stands) looked moved;
+}
+
+same_point : (o : Option Point) (x y : Point) → o ≡ Some x → o ≡ Some y → x ≡ y
+same_point o x y one other = cc
+
+carries_by : (effect : Effect) (f : StackFrame) → Carries (move_with effect f) f
+carries_by (Changes made) f = tt
+carries_by Halt f = tt
+carries_by (Jump to) f = tt
+carries_by (JumpIf to) f = tt
+carries_by (Call to) f = refl
+carries_by (CallIf to) f = refl
+carries_by Return f = tt
+carries_by ReturnIf f = tt
+carries_by (Refuse fault) f = tt
+
+pub visits_follow : (code : Code) (known new : Known) (i : ℕ) (p : Procedure) (at next : ℕ) (role : Role) (f : StackFrame) (found : Fetched) (moves : Moves) (result : Result Bool Refusal) →
+    AtPoint code known i p at f → code.look at ≡ Ok found → found.next ≡ next → role ≡ role_of code p → moves_of role (effect_of found.instr) f ≡ Ok moves →
+    Steps known new p at next role moves result → Visits code known new i result
+visits_follow code known new i p at next role f found moves result here looked same_next same_role moved steps = record {
+  small = steps.small;
+  more = steps.more;
+  stands = λ stands. steps.stands code f found stands (record { shown = shown_at code known i p at f here stands; looked = looked; moved = moved_here }) carries same_next same_role;
+  goes = steps.goes;
+  closed = by result steps.goes steps.follows;
+  }
+  where
+    moved_here : moves_of (role_of code p) (effect_of found.instr) f ≡ Ok moves
+    moved_here = subst (λ (r : Role). moves_of r (effect_of found.instr) f ≡ Ok moves) same_role moved
+    carries : Carries moves f
+    carries = subst (λ (m : Moves). Carries m f) (sym (moved_is role (effect_of found.instr) f moves moved).move) (carries_by (effect_of found.instr) f)
+    close : Follows new p f next moves → new ≡ known → (point : Point) → slice_get new.points i ≡ Some point → IsClosed code new point
+    close follows same point there =
+      let e : point ≡ here.point = same_point (slice_get known.points i) point here.point (subst (λ (k : Known). slice_get k.points i ≡ Some point) same there) here.there in
+      let q : point.procedure ≡ p = ap (λ (x : Point). x.procedure) e ∙ here.procedure in
+      let a : point.at ≡ at = ap (λ (x : Point). x.at) e ∙ here.address in
+      let g : point.frame ≡ f = ap (λ (x : Point). x.frame) e ∙ here.frame in
+      record {
+        found = found; moves = moves;
+        moving = record {
+          looked = subst (λ n. code.look n ≡ Ok found) (sym a) looked;
+          moved = subst (λ (x : Procedure). moves_of (role_of code x) (effect_of found.instr) point.frame ≡ Ok moves) (sym q)
+            (subst (λ (x : StackFrame). moves_of (role_of code p) (effect_of found.instr) x ≡ Ok moves) (sym g) moved_here);
+        };
+        follows = subst (λ (x : Procedure). Follows new x point.frame found.next moves) (sym q)
+          (subst (λ (x : StackFrame). Follows new p x found.next moves) (sym g) (subst (λ n. Follows new p f n moves) (sym same_next) follows));
+      }
+    by : (r : Result Bool Refusal) → IfOk r (λ flag. Goes known new flag) → IfOk r (λ flag. flag ≡ false → (g : StackFrame) → Carries moves g → Follows new p g next moves) →
+      IfOk r (λ flag. flag ≡ false → (point : Point) → slice_get new.points i ≡ Some point → IsClosed code new point)
+    by (Ok flag) goes follows = λ same. close (follows same f carries) (goes.same same)
+    by (Err refusal) goes follows = tt
+
+-- the frames that a move carries are within bounds
+popped_within : (words : List Word) (taken n : ℕ) → taken ≤ n → taken_after_pop words taken ≤ n + 1
+popped_within [] taken n less = omega arith
+popped_within (word ∷ words) taken n less = omega arith
+
+changed_within : (n : ℕ) (change : Change) (f : StackFrame) → IsWithin n f → IsWithin (n + 1) (changed change f)
+changed_within n Keep f is = record { taken = let t = is.taken in omega arith; words = let w = is.words in omega arith }
+changed_within n (Push pair) f is = record { taken = let t = is.taken in omega arith; words = let w = is.words in omega arith }
+changed_within n PushAny f is = record { taken = let t = is.taken in omega arith; words = let w = is.words in omega arith }
+changed_within n (Pop pair) f is = record { taken = popped_within f.words f.taken n is.taken; words = let w = is.words in let d = length-drop 1 f.words in omega arith }
+changed_within n Drop f is = record { taken = popped_within f.words f.taken n is.taken; words = let w = is.words in let d = length-drop 1 f.words in omega arith }
+changed_within n Swap f is = record { taken = popped_within f.words f.taken n is.taken; words = let w = is.words in let d = length-drop 1 f.words in omega arith }
+changed_within n Exchange f is = record { taken = let t = is.taken in omega arith; words = let w = is.words in omega arith }
+changed_within n (Forget pair) f is = record { taken = let t = is.taken in omega arith; words = let w = is.words in omega arith }
+changed_within n (SetStack address) f is = record { taken = let t = is.taken in omega arith; words = omega arith }
+
+same_within : (n : ℕ) (f : StackFrame) → IsWithin n f → IsWithin (n + 1) f
+same_within n f is = record { taken = let t = is.taken in omega arith; words = let w = is.words in omega arith }
+
+move_within : (n : ℕ) (effect : Effect) (f : StackFrame) → IsWithin n f → AreWithin (n + 1) (move_with effect f)
+move_within n (Changes made) f is = changed_within n made f is
+move_within n Halt f is = tt
+move_within n (Jump to) f is = same_within n f is
+move_within n (JumpIf to) f is = same_within n f is
+move_within n (Call to) f is = same_within n f is
+move_within n (CallIf to) f is = same_within n f is
+move_within n Return f is = tt
+move_within n ReturnIf f is = same_within n f is
+move_within n (Refuse fault) f is = tt
+
+pub moves_within : (n : ℕ) (role : Role) (effect : Effect) (f : StackFrame) (moves : Moves) → IsWithin n f → moves_of role effect f ≡ Ok moves → AreWithin (n + 1) moves
+moves_within n role effect f moves is moved = subst (λ (m : Moves). AreWithin (n + 1) m) (sym (moved_is role effect f moves moved).move) (move_within n effect f is)
