@@ -11,3 +11,4 @@ pub mod CycleLemmas
 pub mod SumLemmas
 pub mod FollowLemmas
 pub mod VisitLemmas
+pub mod LookLemmas

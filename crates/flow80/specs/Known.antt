@@ -1,6 +1,6 @@
 -- What the verifier knows while it goes over the points: the points with their frames, and for each entry how many words
 -- its procedure takes where it returns, once a return was seen. (This project's own.)
-use Rattle.std.specs.Prelude.{◌≡◌, ◌⊎◌, ◌≤◌, ◌<◌, ◌+◌, ◌*◌, ◌-◌, ℕ, Bool, true, false, List, [], ◌∷◌, length, sum_by, count_by, Option, Some, None, slice_get, is_none, replicate, Result, Ok, Err, OnOk, IfOk, MatchResult}
+use Rattle.std.specs.Prelude.{◌≡◌, ◌⊎◌, ◌≤◌, ◌<◌, ◌+◌, ◌*◌, ◌-◌, ℕ, Bool, true, false, List, [], ◌∷◌, length, sum_by, count_by, Option, Some, None, slice_get, is_none, replicate, Result, Ok, Err, OnOk, IfOk, IfErr, MatchResult}
 use Rattle.decode80.specs.declared.fetching.Fetched.{Fetched}
 use Rattle.frames80.specs.declared.word.Word.{Word}
 use Rattle.frames80.specs.declared.word.Word.TheVariants.{Own, Any}
@@ -171,3 +171,25 @@ pub record Visits (code : Code) (old new : Known) (i : ℕ) (result : Result Boo
 pub record AllClosed (code : Code) (known : Known) : Type 0 where
   pub start : HasPoint known Main code.start main_frame
   pub points : (i : ℕ) (point : Point) → slice_get known.points i ≡ Some point → IsClosed code known point
+
+-- how far a step of many looks has come: what was shown stays shown, and it changed nothing or is nearer to its end
+pub record Ongoing (code : Code) (old now : Known) (changed : Bool) : Type 0 where
+  pub small : IsSmall now
+  pub more : length old.points ≤ length now.points
+  pub stands : Stands code old → Stands code now
+  pub goes : Goes old now changed
+
+-- what comes of many looks
+pub record Looks (code : Code) (old new : Known) (result : Result Bool Refusal) : Type 0 where
+  pub ongoing : IfOk result (Ongoing code old new)
+  pub refused : IfErr result (λ refusal. Stands code old → Refused code refusal)
+
+-- the first points are closed
+pub record AreClosed (code : Code) (known : Known) (count : ℕ) : Type 0 where
+  pub closed : (i : ℕ) (point : Point) → i < count → slice_get known.points i ≡ Some point → IsClosed code known point
+
+-- the table is filled: small, shown, and closed
+pub record IsFilled (code : Code) (known : Known) : Type 0 where
+  pub small : IsSmall known
+  pub stands : Stands code known
+  pub closed : AllClosed code known

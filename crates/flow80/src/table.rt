@@ -3,7 +3,7 @@
 ghost use Rattle.std.specs.Prelude.{◌≡◌, ◌+◌, ◌<◌, ◌≤◌, ◌↔◌, false, true, Some, None, Ok, Err, IfOk, IfErr, OnOk, IfSome, length, replicate, slice_get};
 ghost use Rattle.flow80.specs.declared.procedure.Procedure.TheVariants.{Entry};
 ghost use Rattle.flow80.specs.Points.{IsPointAt, IsNoPoint};
-ghost use Rattle.flow80.specs.Known.{IsSmall, IsWithin, Flows, Exits, CallsOut, Steps, Visits, AreWithin, IsShort, exit_of, nothing_known};
+ghost use Rattle.flow80.specs.Known.{IsSmall, IsWithin, Flows, Exits, CallsOut, Steps, Visits, Looks, AreClosed, AreWithin, IsShort, exit_of, nothing_known};
 ghost use Rattle.frames80.specs.declared.moves.Moves.TheVariants.{Either, MaybeCall, MaybeReturn};
 ghost use Rattle.frames80.specs.Calls.{room, returned};
 ghost use Rattle.flow80.specs.Faults.{most_points};
@@ -293,6 +293,54 @@ impl Table {
             point,
         };
         self.follow(alloc, &site, moves)
+    }
+
+    /// The points that are to be looked at are looked at, and those that come of it.
+    fn drain<C: Code>(&mut self, alloc: Global, program: &C) -> Result<bool, Refusal>
+        requires { IsSmall self.old }
+        ensures { Looks (C.code program.now) self.old self.new result }
+    {
+        let mut changed = false;
+        for _ in 0..u64::MAX {
+            let Some(point) = self.next_pending() else {
+                break;
+            };
+            let here = self.visit(alloc, program, point)?;
+            changed |= here;
+        }
+        Ok(changed)
+    }
+
+    /// The next point that is to be looked at.
+    fn next_pending(&mut self) -> Option<usize>
+        ensures same { self.new ≡ self.old }
+        ensures there { IfSome result (λ point. point < length self.new.points) }
+    {
+        match self.pending.pop() {
+            Some(point) if point < self.points.len() => Some(point),
+            _ => None,
+        }
+    }
+
+    /// Every point is looked at once.
+    fn pass<C: Code>(&mut self, alloc: Global, program: &C) -> Result<bool, Refusal>
+        requires { IsSmall self.old }
+        ensures looks { Looks (C.code program.now) self.old self.new result }
+        ensures closed { IfOk result (λ changed. changed ≡ false → AreClosed (C.code program.now) self.new (length self.new.points)) }
+    {
+        let mut changed = false;
+        for point in 0..self.len() {
+            let here = self.visit(alloc, program, point)?;
+            changed |= here;
+        }
+        Ok(changed)
+    }
+
+    /// How many points there are.
+    pub(crate) fn len(&self) -> usize
+        ensures { result ≡ length self.now.points }
+    {
+        self.points.len()
     }
 
     /// How many words a procedure takes where it returns, once a return was seen.
