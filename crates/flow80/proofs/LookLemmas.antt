@@ -1,11 +1,16 @@
 -- Many looks, one after another.
-use Rattle.std.specs.Prelude.{◌≡◌, ◌≤◌, ◌<◌, ◌+◌, ◌⊎◌, ◌||◌, ℕ, zero, suc, Bool, true, false, List, length, Option, Some, None, Result, Ok, Err, OnOk, IfOk, slice_get, refl}
+use Rattle.std.specs.Prelude.{◌≡◌, ◌≤◌, ◌<◌, ◌+◌, ◌⊎◌, ◌||◌, ℕ, zero, suc, Bool, true, false, List, [], length, replicate, Option, Some, None, Result, Ok, Err, OnOk, IfOk, slice_get, refl}
 use Rattle.std.proofs.Common.{ap, sym, ◌∙◌, subst, arith, inl, inr, true≢false}
 use Rattle.flow80.specs.declared.refusal.Refusal.{Refusal}
 use Rattle.flow80.specs.Code.{Code}
 use Rattle.flow80.specs.Faults.{Holds as Refused}
-use Rattle.flow80.specs.Points.{Point}
-use Rattle.flow80.specs.Known.{Known, IsSmall, Stands, Goes, IsClosed, Visits, Ongoing, Looks, AreClosed}
+use Rattle.frames80.specs.StackFrame.{StackFrame, main_frame}
+use Rattle.flow80.specs.declared.procedure.Procedure.{Procedure}
+use Rattle.flow80.specs.declared.procedure.Procedure.TheVariants.{Main}
+use Rattle.flow80.specs.Points.{Point, AreApart}
+use Rattle.flow80.specs.Shown.{IsShown}
+use Rattle.flow80.specs.Known.{Known, nothing_known, exit_of, IsSmall, IsWithin, Stands, Goes, HasPoint, Flows, IsClosed, Visits, Ongoing, Looks, AreClosed, AllClosed}
+use Rattle.flow80.proofs.Slices.{within}
 use Rattle.flow80.proofs.StepLemmas.{goes_then, first_false, second_false}
 
 pub ongoing_start : (code : Code) (known : Known) → IsSmall known → Ongoing code known known false
@@ -41,7 +46,64 @@ closed_then code old now new i changed here so_far visits closed none = record {
   where
     by : (j : ℕ) (point : Point) → slice_get new.points j ≡ Some point → (j < i) ⊎ (j ≡ i) → IsClosed code new point
     by j point there (inl before) =
-      let same : new ≡ now = visits.goes.same (second_false changed here none) in
-      subst (λ (k : Known). IsClosed code k point) (sym same)
+        let same : new ≡ now = visits.goes.same (second_false changed here none) in
+        subst (λ (k : Known). IsClosed code k point) (sym same)
         ((closed (first_false changed here none)).closed j point before (subst (λ (k : Known). slice_get k.points j ≡ Some point) same there))
     by j point there (inr at) = visits.closed (second_false changed here none) point (subst (λ n. slice_get new.points n ≡ Some point) at there)
+
+-- one step of many looks, and then another
+pub ongoing_more : (code : Code) (old mid new : Known) (one other : Bool) → Ongoing code old mid one → Ongoing code mid new other → Ongoing code old new (one || other)
+ongoing_more code old mid new one other first second = record {
+  small = second.small;
+  more = let a = first.more in let b = second.more in omega arith;
+  stands = λ stands. second.stands (first.stands stands);
+  goes = goes_then old mid new one other first.goes second.goes;
+}
+
+pub ongoing_flow : (code : Code) (old new : Known) (p : Procedure) (to : ℕ) (g : StackFrame) (changed : Bool) → IsShown code p to g → Flows old new p to g (Ok changed) → Ongoing code old new changed
+ongoing_flow code old new p to g changed shown flows = record { small = flows.small; more = flows.more; stands = λ stands. flows.stands code stands shown; goes = flows.goes }
+
+pub flow_refused : (code : Code) (old new last : Known) (p : Procedure) (to : ℕ) (g : StackFrame) (refusal : Refusal) → IsShown code p to g → Flows old new p to g (Err refusal) → Looks code old last (Err refusal)
+flow_refused code old new last p to g refusal shown flows = record { ongoing = tt; refused = λ stands. flows.stands code stands shown }
+
+pub more_refused : (code : Code) (old mid new : Known) (one : Bool) (refusal : Refusal) → Ongoing code old mid one → Looks code mid new (Err refusal) → (last : Known) → Looks code old last (Err refusal)
+more_refused code old mid new one refusal first looks last = record { ongoing = tt; refused = λ stands. looks.refused (first.stands stands) }
+
+main_within : (n : ℕ) → IsWithin (n + 1) main_frame
+main_within n = record { taken = omega arith; words = omega arith }
+
+pub main_is_within : (n : ℕ) (f : StackFrame) → f ≡ main_frame → IsWithin (n + 1) f
+main_is_within n f is = subst (λ (g : StackFrame). IsWithin (n + 1) g) (sym is) (main_within n)
+
+-- where nothing changes the table is closed
+pub all_closed : (code : Code) (old mid then_ new : Known) (begun drained passed : Bool) → Flows old mid Main code.start main_frame (Ok begun) → Ongoing code mid then_ drained → Ongoing code then_ new passed →
+    (passed ≡ false → AreClosed code new (length new.points)) → ((begun || drained) || passed) ≡ false → AllClosed code new
+all_closed code old mid then_ new begun drained passed flows drain pass closed none =
+    let no_two : (begun || drained) ≡ false = first_false (begun || drained) passed none in
+    let no_pass : passed ≡ false = second_false (begun || drained) passed none in
+    let no_begun : begun ≡ false = first_false begun drained no_two in
+    let no_drain : drained ≡ false = second_false begun drained no_two in
+    let same : new ≡ mid = pass.goes.same no_pass ∙ drain.goes.same no_drain in
+    record {
+      start = subst (λ (k : Known). HasPoint k Main code.start main_frame) (sym same) (flows.has no_begun);
+      points = λ i point there. (closed no_pass).closed i point (within new.points i point there) there;
+    }
+
+-- nothing is known, and all of it is shown
+none_known : (n entry taken : ℕ) → exit_of (replicate n None) entry ≡ Some taken → ⊥
+none_known zero entry taken is = let e : None ≡ Some taken = is in cc
+none_known (suc n) zero taken is = let e : None ≡ Some taken = is in cc
+none_known (suc n) (suc entry) taken is = none_known n entry taken is
+
+no_points : {B : Type 0} (i : ℕ) (point : Point) → slice_get [] i ≡ Some point → B
+no_points i point is = absurd (let e : None ≡ Some point = is in cc)
+
+pub nothing_stands : (code : Code) (known : Known) → known ≡ nothing_known → Stands code known
+nothing_stands code known is = subst (Stands code) (sym is) (record { points = λ i point there. no_points i point there; exits = λ entry taken seen. absurd (none_known 65536 entry taken seen) })
+
+pub nothing_small : (known : Known) → known ≡ nothing_known → IsSmall known
+nothing_small known is = subst IsSmall (sym is) (record {
+  points = omega arith;
+  frames = λ i point there. no_points i point there;
+  apart = record { apart = λ i j a b one other p at. no_points i a one };
+})

@@ -43,9 +43,12 @@ refused_look code at DirectStore wrong = wrong
 pub visits_look_fault : (code : Code) (known new : Known) (i at : ℕ) (point : Point) (fault : LookFault) → slice_get known.points i ≡ Some point → point.at ≡ at →
     code.look at ≡ Err fault → Visits code known new i (Err (look_refusal fault at))
 visits_look_fault code known new i at point fault there address looked = record {
-  small = tt; more = tt; goes = tt; closed = tt;
+  small = tt;
+  more = tt;
+  goes = tt;
+  closed = tt;
   stands = λ stands. refused_look code at fault
-    (looks_wrong code point.procedure at point.frame fault (subst (λ a. IsShown code point.procedure a point.frame) address (stands.points i point there)) looked);
+      (looks_wrong code point.procedure at point.frame fault (subst (λ a. IsShown code point.procedure a point.frame) address (stands.points i point there)) looked);
 }
 
 -- what a frame's fault is refused by
@@ -71,14 +74,17 @@ pub record AtPoint (code : Code) (known : Known) (i : ℕ) (p : Procedure) (at :
 shown_at : (code : Code) (known : Known) (i : ℕ) (p : Procedure) (at : ℕ) (f : StackFrame) → AtPoint code known i p at f → Stands code known → IsShown code p at f
 shown_at code known i p at f here stands =
     subst (λ (q : Procedure). IsShown code q at f) here.procedure
-      (subst (λ a. IsShown code here.point.procedure a f) here.address
-        (subst (λ (g : StackFrame). IsShown code here.point.procedure here.point.at g) here.frame (stands.points i here.point here.there)))
+    (subst (λ a. IsShown code here.point.procedure a f) here.address
+    (subst (λ (g : StackFrame). IsShown code here.point.procedure here.point.at g) here.frame (stands.points i here.point here.there)))
 
 pub visits_move_fault : FrameLaws → (code : Code) (known new : Known) (i : ℕ) (p : Procedure) (at : ℕ) (f : StackFrame) (found : Fetched) (fault : FrameFault) →
     AtPoint code known i p at f → code.look at ≡ Ok found → ((fault ≢ Memory) → moves_of (role_of code p) (effect_of found.instr) f ≡ Err fault) →
     Visits code known new i (Err (refusal_of fault at))
 visits_move_fault laws code known new i p at f found fault here looked moved = record {
-  small = tt; more = tt; goes = tt; closed = tt;
+  small = tt;
+  more = tt;
+  goes = tt;
+  closed = tt;
   stands = λ stands. refused_move laws code p at f found fault (shown_at code known i p at f here stands) looked moved;
 }
 
@@ -105,30 +111,34 @@ visits_follow code known new i p at next role f found moves result here looked s
   stands = λ stands. steps.stands code f found stands (record { shown = shown_at code known i p at f here stands; looked = looked; moved = moved_here }) carries same_next same_role;
   goes = steps.goes;
   closed = by result steps.goes steps.follows;
-  }
+}
   where
     moved_here : moves_of (role_of code p) (effect_of found.instr) f ≡ Ok moves
     moved_here = subst (λ (r : Role). moves_of r (effect_of found.instr) f ≡ Ok moves) same_role moved
+
     carries : Carries moves f
     carries = subst (λ (m : Moves). Carries m f) (sym (moved_is role (effect_of found.instr) f moves moved).move) (carries_by (effect_of found.instr) f)
+
     close : Follows new p f next moves → new ≡ known → (point : Point) → slice_get new.points i ≡ Some point → IsClosed code new point
     close follows same point there =
-      let e : point ≡ here.point = same_point (slice_get known.points i) point here.point (subst (λ (k : Known). slice_get k.points i ≡ Some point) same there) here.there in
-      let q : point.procedure ≡ p = ap (λ (x : Point). x.procedure) e ∙ here.procedure in
-      let a : point.at ≡ at = ap (λ (x : Point). x.at) e ∙ here.address in
-      let g : point.frame ≡ f = ap (λ (x : Point). x.frame) e ∙ here.frame in
-      record {
-        found = found; moves = moves;
-        moving = record {
-          looked = subst (λ n. code.look n ≡ Ok found) (sym a) looked;
-          moved = subst (λ (x : Procedure). moves_of (role_of code x) (effect_of found.instr) point.frame ≡ Ok moves) (sym q)
-            (subst (λ (x : StackFrame). moves_of (role_of code p) (effect_of found.instr) x ≡ Ok moves) (sym g) moved_here);
-        };
-        follows = subst (λ (x : Procedure). Follows new x point.frame found.next moves) (sym q)
-          (subst (λ (x : StackFrame). Follows new p x found.next moves) (sym g) (subst (λ n. Follows new p f n moves) (sym same_next) follows));
-      }
+        let e : point ≡ here.point = same_point (slice_get known.points i) point here.point (subst (λ (k : Known). slice_get k.points i ≡ Some point) same there) here.there in
+        let q : point.procedure ≡ p = ap (λ (x : Point). x.procedure) e ∙ here.procedure in
+        let a : point.at ≡ at = ap (λ (x : Point). x.at) e ∙ here.address in
+        let g : point.frame ≡ f = ap (λ (x : Point). x.frame) e ∙ here.frame in
+        record {
+          found = found;
+          moves = moves;
+          moving = record {
+            looked = subst (λ n. code.look n ≡ Ok found) (sym a) looked;
+            moved = subst (λ (x : Procedure). moves_of (role_of code x) (effect_of found.instr) point.frame ≡ Ok moves) (sym q)
+                (subst (λ (x : StackFrame). moves_of (role_of code p) (effect_of found.instr) x ≡ Ok moves) (sym g) moved_here);
+          };
+          follows = subst (λ (x : Procedure). Follows new x point.frame found.next moves) (sym q)
+              (subst (λ (x : StackFrame). Follows new p x found.next moves) (sym g) (subst (λ n. Follows new p f n moves) (sym same_next) follows));
+        }
+
     by : (r : Result Bool Refusal) → IfOk r (λ flag. Goes known new flag) → IfOk r (λ flag. flag ≡ false → (g : StackFrame) → Carries moves g → Follows new p g next moves) →
-      IfOk r (λ flag. flag ≡ false → (point : Point) → slice_get new.points i ≡ Some point → IsClosed code new point)
+        IfOk r (λ flag. flag ≡ false → (point : Point) → slice_get new.points i ≡ Some point → IsClosed code new point)
     by (Ok flag) goes follows = λ same. close (follows same f carries) (goes.same same)
     by (Err refusal) goes follows = tt
 

@@ -13,6 +13,7 @@ mod bounds;
 mod callers;
 mod code;
 mod cycles;
+mod fill;
 mod fitting;
 mod graph;
 mod interned;

@@ -3,7 +3,7 @@
 ghost use Rattle.std.specs.Prelude.{◌≡◌, ◌+◌, ◌<◌, ◌≤◌, ◌↔◌, false, true, Some, None, Ok, Err, IfOk, IfErr, OnOk, IfSome, length, replicate, slice_get};
 ghost use Rattle.flow80.specs.declared.procedure.Procedure.TheVariants.{Entry};
 ghost use Rattle.flow80.specs.Points.{IsPointAt, IsNoPoint};
-ghost use Rattle.flow80.specs.Known.{IsSmall, IsWithin, Flows, Exits, CallsOut, Steps, Visits, Looks, AreClosed, AreWithin, IsShort, exit_of, nothing_known};
+ghost use Rattle.flow80.specs.Known.{IsSmall, IsWithin, Flows, Exits, CallsOut, Steps, Visits, Looks, AreClosed, AllClosed, AreWithin, IsShort, exit_of, nothing_known};
 ghost use Rattle.frames80.specs.declared.moves.Moves.TheVariants.{Either, MaybeCall, MaybeReturn};
 ghost use Rattle.frames80.specs.Calls.{room, returned};
 ghost use Rattle.flow80.specs.Faults.{most_points};
@@ -334,6 +334,23 @@ impl Table {
             changed |= here;
         }
         Ok(changed)
+    }
+
+    /// The main program begins, what is to be looked at is looked at, and then every point. Where that changes nothing the table
+    /// is closed.
+    ///
+    /// # Errors
+    /// A refusal that holds, or out of memory.
+    pub(crate) fn sweep<C: Code>(&mut self, alloc: Global, program: &C) -> Result<bool, Refusal>
+        requires { IsSmall self.old }
+        ensures looks { Looks (C.code program.now) self.old self.new result }
+        ensures closed { IfOk result (λ changed. changed ≡ false → AllClosed (C.code program.now) self.new) }
+    {
+        let start = Frame::main_entry(alloc)?;
+        let begun = self.flow(alloc, Procedure::Main, program.start(), start)?;
+        let drained = self.drain(alloc, program)?;
+        let passed = self.pass(alloc, program)?;
+        Ok(begun | drained | passed)
     }
 
     /// How many points there are.

@@ -63,10 +63,10 @@ returns-in-Err-next g c =
     let frame : c.frame.result.now ≡ pt.0.frame = rw there at c.frame.ensures in
     let within : IsWithin (length known.points) c.frame.result.now = subst (λ (f : StackFrame). IsWithin (length known.points) f) (sym frame) (c.requires.small.frames i pt.0 pt.1) in
     let here : AtPoint code known i c.place-procedure.result.0 c.place-procedure.result.1 c.frame.result.now =
-          record { point = pt.0; there = pt.1; procedure = placed.0; address = placed.1; frame = sym frame } in
+    record { point = pt.0; there = pt.1; procedure = placed.0; address = placed.1; frame = sym frame } in
     let looked : code.look c.place-procedure.result.1 ≡ Ok c.in-Ok.found = sym c.look.ensures ∙ c.in-Ok.is in
     rw c.of.ensures (visits_move_fault c.frame_laws.ensures code known known i c.place-procedure.result.0 c.place-procedure.result.1 c.frame.result.now c.in-Ok.found c.in-Err-next.fault here looked
-      (λ (apart : c.in-Err-next.fault ≢ Memory). subst (λ (r : Role). moves_of r (effect_of c.in-Ok.found.instr) c.frame.result.now ≡ Err c.in-Err-next.fault) c.role_of-role.ensures (c.in-Err-next.ensures.fault apart)))
+    (λ (apart : c.in-Err-next.fault ≢ Memory). subst (λ (r : Role). moves_of r (effect_of c.in-Ok.found.instr) c.frame.result.now ≡ Err c.in-Err-next.fault) c.role_of-role.ensures (c.in-Err-next.ensures.fault apart)))
 
 pub follow-requires-clause-fits : goal.follow-requires-clause-fits
 follow-requires-clause-fits g c =
@@ -93,7 +93,7 @@ returns g c =
     let frame : c.frame.result.now ≡ pt.0.frame = rw there at c.frame.ensures in
     let within : IsWithin (length known.points) c.frame.result.now = subst (λ (f : StackFrame). IsWithin (length known.points) f) (sym frame) (c.requires.small.frames i pt.0 pt.1) in
     let here : AtPoint code known i c.place-procedure.result.0 c.place-procedure.result.1 c.frame.result.now =
-          record { point = pt.0; there = pt.1; procedure = placed.0; address = placed.1; frame = sym frame } in
+    record { point = pt.0; there = pt.1; procedure = placed.0; address = placed.1; frame = sym frame } in
     let looked : code.look c.place-procedure.result.1 ≡ Ok c.in-Ok.found = sym c.look.ensures ∙ c.in-Ok.is in
     visits_follow code known c.follow.new.self i c.place-procedure.result.0 c.place-procedure.result.1 c.in-Ok.found.next c.role_of-role.result c.frame.result.now c.in-Ok.found c.in-Ok-next.moves c.follow.result
-      here looked refl c.role_of-role.ensures c.in-Ok-next.ensures.moved c.follow.ensures
+    here looked refl c.role_of-role.ensures c.in-Ok-next.ensures.moved c.follow.ensures

@@ -1,0 +1,13 @@
+use Rattle.std.proofs.Common.{◌≡◌, ◌+◌, false, cond}
+use Rattle.flow80.specs.Known.{IsSmall, Stands, AllClosed, weight}
+use Rattle.flow80.proofs.fill.fill.Given as goal
+
+abbrev pub invariant-loop-changes : goal.invariant-loop-changes
+invariant-loop-changes g l = record {
+  small : IsSmall l.table;
+  stands : Stands (g.C.Code.code l.program) l.table;
+  closed : l.changes ≡ false → AllClosed (g.C.Code.code l.program) l.table;
+}
+
+abbrev pub decreases-loop-changes : goal.decreases-loop-changes
+decreases-loop-changes g l = weight l.table + cond l.changes 1 0
