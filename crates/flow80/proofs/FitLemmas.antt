@@ -1,24 +1,24 @@
 -- A fitting table covers every walk, so none of them goes wrong.
-use Rattle.std.specs.Prelude.{◌≡◌, ◌≢◌, ◌<◌, ◌≤◌, ℕ, Bool, true, false, Option, Some, None, Result, Ok, Err, List, length, refl}
+use Rattle.std.specs.Prelude.{◌≡◌, ◌≤◌, ℕ, Option, Some, Result, Ok, Err}
 use Rattle.std.proofs.Common.{ap, sym, ◌∙◌, subst, arith, true≢false}
 use Rattle.decode80.specs.declared.fetching.Fetched.{Fetched}
 use Rattle.frames80.specs.declared.fault.FrameFault.{FrameFault}
 use Rattle.frames80.specs.declared.moves.Moves.{Moves}
-use Rattle.frames80.specs.StackFrame.{StackFrame, entry_frame, main_frame}
+use Rattle.frames80.specs.StackFrame.{StackFrame}
 use Rattle.frames80.specs.Effects.{effect_of}
 use Rattle.frames80.specs.Moves.{moves_of}
-use Rattle.frames80.specs.Calls.{room, returned, agree}
-use Rattle.frames80.specs.Places.{Place, word_at, SameCounts, Covers}
+use Rattle.frames80.specs.Calls.{room, returned}
+use Rattle.frames80.specs.Places.{SameCounts, Covers}
 use Rattle.flow80.specs.declared.procedure.Procedure.{Procedure}
 use Rattle.flow80.specs.declared.procedure.Procedure.TheVariants.{Main, Entry}
 use Rattle.flow80.specs.declared.code.LookFault.{LookFault}
 use Rattle.flow80.specs.Code.{Code}
-use Rattle.flow80.specs.Walks.{Walk, begins, goes_on, enters, comes_back, Begins, GoesOn, Calls, Enters, Returns, GoesOnAfter, Moving, LeadsTo, called, returning, role_of}
+use Rattle.flow80.specs.Walks.{Walk, begins, goes_on, enters, comes_back, Calls, Returns, Moving, LeadsTo, called, returning, role_of}
 use Rattle.flow80.specs.Faults.{LooksWrong, MovesWrong, Differ, Uneven, Short}
-use Rattle.flow80.specs.Fitting.{Table, Has, CallFits, FrameFits, Fits}
+use Rattle.flow80.specs.Fitting.{Table, Has, CallFits, Fits}
 use Rattle.flow80.specs.Shown.{FrameLaws}
-use Rattle.flow80.proofs.MoveLemmas.{change_of, frame_after, move_with, Moved, moved_is, covered_moves, LeadsAlong, leads_along, called_along, returning_along}
-use Rattle.flow80.proofs.ShownLemmas.{counts_back, counts_then, covers_self, agree_same}
+use Rattle.flow80.proofs.MoveLemmas.{change_of, frame_after, move_with, moved_is, covered_moves, LeadsAlong, leads_along, called_along, returning_along}
+use Rattle.flow80.proofs.ShownLemmas.{counts_back, counts_then}
 
 covers_then : (f g h : StackFrame) → Covers f g → Covers g h → Covers f h
 covers_then f g h one two = record { counts = counts_then f g h one.counts two.counts; own = λ place own. two.own place (one.own place own) }

@@ -1,24 +1,23 @@
 -- What is known stays shown, small and on its way to its end when a point is added, a frame changes or a return is seen.
-use Rattle.std.specs.Prelude.{◌≡◌, ◌≢◌, ◌⊎◌, ◌≤◌, ◌<◌, ◌+◌, ◌*◌, ◌-◌, ℕ, zero, suc, Bool, true, false, List, [], ◌∷◌, ◌++◌, length, sum_by, count_by, Option, Some, None, slice_get, slice_set, is_none, cond, Result, Ok, Err, refl}
+use Rattle.std.specs.Prelude.{◌≡◌, ◌≢◌, ◌⊎◌, ◌≤◌, ◌<◌, ◌+◌, ◌*◌, ◌-◌, ℕ, zero, suc, Bool, true, false, List, [], ◌∷◌, ◌++◌, length, sum_by, count_by, Option, Some, None, slice_get, slice_set, is_none, cond, Ok, Err, refl}
 use Rattle.std.proofs.Common.{ap, sym, ◌∙◌, subst, arith, inl, inr, true≢false}
 use Rattle.std.proofs.lemmas.List.Sums.{sum_by-cons, sum_by_push}
 use Rattle.frames80.specs.declared.word.Word.{Word}
 use Rattle.frames80.specs.declared.word.Word.TheVariants.{Own, Any}
 use Rattle.frames80.specs.Word.{met}
-use Rattle.frames80.specs.StackFrame.{StackFrame, Pairs}
-use Rattle.frames80.specs.Calls.{words_met, pairs_met, merged, agree}
-use Rattle.frames80.specs.Places.{Place, word_at, SameCounts, Covers, MeetsByPlaces}
+use Rattle.frames80.specs.StackFrame.{StackFrame}
+use Rattle.frames80.specs.Calls.{words_met, merged, agree}
+use Rattle.frames80.specs.Places.{word_at, SameCounts, Covers}
 use Rattle.flow80.specs.declared.procedure.Procedure.{Procedure}
-use Rattle.flow80.specs.declared.procedure.Procedure.TheVariants.{Main, Entry}
+use Rattle.flow80.specs.declared.procedure.Procedure.TheVariants.{Entry}
 use Rattle.flow80.specs.Code.{Code}
-use Rattle.flow80.specs.declared.refusal.Refusal.{Refusal}
 use Rattle.flow80.specs.declared.refusal.Refusal.TheVariants.{HeightsDiffer, TooManyPoints, Memory}
 use Rattle.flow80.specs.Faults.{most_points, Many, Differ}
 use Rattle.flow80.specs.Rows.{ReturnsWith}
 use Rattle.flow80.specs.Points.{Point, AreApart, IsPointAt, IsNoPoint, with_frame}
-use Rattle.flow80.specs.Shown.{Query, Whole, Shows, IsShown, FrameLaws}
-use Rattle.flow80.specs.Known.{Known, known_at, exit_of, IsWithin, IsSmall, Stands, owns_word, owns, weight, Goes, HasPoint, Flows}
-use Rattle.flow80.proofs.Slices.{IsLast, grown, grown_last, grown_before, length_grown, IsOther, changed_at, changed_here, length_changed, within, sum_changed}
+use Rattle.flow80.specs.Shown.{Whole, Shows, IsShown, FrameLaws}
+use Rattle.flow80.specs.Known.{Known, exit_of, IsWithin, IsSmall, Stands, owns_word, owns, weight, Flows}
+use Rattle.flow80.proofs.Slices.{IsLast, grown, length_grown, IsOther, changed_at, length_changed, sum_changed}
 use Rattle.flow80.proofs.ShownLemmas.{covers_self, counts_agree, met_other, shown_merged, differ}
 
 -- a point is added

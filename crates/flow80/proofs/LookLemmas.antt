@@ -1,15 +1,14 @@
 -- Many looks, one after another.
-use Rattle.std.specs.Prelude.{◌≡◌, ◌≤◌, ◌<◌, ◌+◌, ◌⊎◌, ◌||◌, ℕ, zero, suc, Bool, true, false, List, [], length, replicate, Option, Some, None, Result, Ok, Err, OnOk, IfOk, slice_get, refl}
+use Rattle.std.specs.Prelude.{◌≡◌, ◌<◌, ◌+◌, ◌⊎◌, ◌||◌, ℕ, zero, suc, Bool, false, [], length, replicate, Some, None, Ok, Err, slice_get, refl}
 use Rattle.std.proofs.Common.{ap, sym, ◌∙◌, subst, arith, inl, inr, true≢false}
 use Rattle.flow80.specs.declared.refusal.Refusal.{Refusal}
 use Rattle.flow80.specs.Code.{Code}
-use Rattle.flow80.specs.Faults.{Holds as Refused}
 use Rattle.frames80.specs.StackFrame.{StackFrame, main_frame}
 use Rattle.flow80.specs.declared.procedure.Procedure.{Procedure}
 use Rattle.flow80.specs.declared.procedure.Procedure.TheVariants.{Main}
-use Rattle.flow80.specs.Points.{Point, AreApart}
+use Rattle.flow80.specs.Points.{Point}
 use Rattle.flow80.specs.Shown.{IsShown}
-use Rattle.flow80.specs.Known.{Known, nothing_known, exit_of, IsSmall, IsWithin, Stands, Goes, HasPoint, Flows, IsClosed, Visits, Ongoing, Looks, AreClosed, AllClosed}
+use Rattle.flow80.specs.Known.{Known, nothing_known, exit_of, IsSmall, IsWithin, Stands, HasPoint, Flows, IsClosed, Visits, Ongoing, Looks, AreClosed, AllClosed}
 use Rattle.flow80.proofs.Slices.{within}
 use Rattle.flow80.proofs.StepLemmas.{goes_then, first_false, second_false}
 

@@ -1,6 +1,6 @@
 -- What becomes of frames with the same counts at one instruction, by its effect.
-use Rattle.std.specs.Prelude.{◌≡◌, ◌⊎◌, ℕ, Option, Some, None, Result, Ok, Err, List, [], ◌∷◌, refl}
-use Rattle.std.proofs.Common.{ap, sym, ◌∙◌, subst, inl, inr}
+use Rattle.std.specs.Prelude.{◌≡◌, ℕ, Option, Some, None, Ok, Err, refl}
+use Rattle.std.proofs.Common.{ap, sym, ◌∙◌}
 use Rattle.frames80.specs.declared.word.Word.{Word}
 use Rattle.frames80.specs.declared.word.Word.TheVariants.{Own, Any}
 use Rattle.frames80.specs.declared.role.Role.{Role}
@@ -13,7 +13,7 @@ use Rattle.frames80.specs.declared.moves.Moves.{Moves}
 use Rattle.frames80.specs.declared.moves.Moves.TheVariants.{End, On, Jump as MovesTo, Either, Call as CallOf, MaybeCall, Return as ReturnOf, MaybeReturn}
 use Rattle.frames80.specs.StackFrame.{StackFrame}
 use Rattle.frames80.specs.Moves.{moves_of, changed, change_fault, return_fault, unless}
-use Rattle.frames80.specs.Places.{Place, InWord, word_at, SameCounts, Covers, CountsDecide, CoversOn}
+use Rattle.frames80.specs.Places.{InWord, word_at, Covers}
 use Rattle.flow80.specs.Walks.{LeadsTo, called, returning}
 use Rattle.flow80.specs.Shown.{Query, Whole, At, MayBeAny, FrameLaws}
 

@@ -1,5 +1,5 @@
 -- What is shown by walks stays shown along each rule, and what is refused of a shown frame is refused of a walk.
-use Rattle.std.specs.Prelude.{◌≡◌, ◌≢◌, ◌⊎◌, ◌<◌, ◌≤◌, ◌&&◌, ℕ, Bool, true, false, nat_eq, Option, Some, None, Result, Ok, Err, List, length, refl}
+use Rattle.std.specs.Prelude.{◌≡◌, ◌≢◌, ◌⊎◌, ◌<◌, ◌≤◌, ℕ, true, false, nat_eq, Some, None, Ok, Err, length, refl}
 use Rattle.std.proofs.Common.{ap, sym, ◌∙◌, subst, inl, inr}
 use Rattle.std.specs.Cmp.{unsigned_Decides, first_so, second_so}
 use Rattle.decode80.specs.declared.fetching.Fetched.{Fetched}
@@ -20,11 +20,11 @@ use Rattle.flow80.specs.declared.procedure.Procedure.{Procedure}
 use Rattle.flow80.specs.declared.procedure.Procedure.TheVariants.{Main, Entry}
 use Rattle.flow80.specs.declared.code.LookFault.{LookFault}
 use Rattle.flow80.specs.Code.{Code}
-use Rattle.flow80.specs.Walks.{Walk, begins, goes_on, enters, comes_back, Begins, GoesOn, Calls, Enters, Returns, GoesOnAfter, Moving, LeadsTo, called, returning, role_of}
+use Rattle.flow80.specs.Walks.{Walk, begins, goes_on, enters, comes_back, Calls, Moving, LeadsTo, called, returning, role_of}
 use Rattle.flow80.specs.Faults.{LooksWrong, MovesWrong, Differ, Uneven, Short}
 use Rattle.flow80.specs.Rows.{ReturnsWith}
 use Rattle.flow80.specs.Shown.{Query, Whole, At, MayBeAny, Shows, IsShown, AtMove, FrameLaws}
-use Rattle.flow80.proofs.MoveLemmas.{change_of, frame_after, move_with, Moved, moved_is, covered_moves, LeadsAlong, leads_along, called_along, returning_along, query_of, asked, refused_along}
+use Rattle.flow80.proofs.MoveLemmas.{change_of, frame_after, move_with, moved_is, covered_moves, leads_along, called_along, returning_along, query_of, asked, refused_along}
 
 pub counts_back : (f g : StackFrame) → SameCounts f g → SameCounts g f
 counts_back f g same = record { taken = sym same.taken; words = sym same.words }

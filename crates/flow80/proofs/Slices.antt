@@ -1,7 +1,7 @@
 -- Lists that grow at their end or change at one place.
-use Rattle.std.specs.Prelude.{◌≡◌, ◌≢◌, ◌⊎◌, ◌≤◌, ◌<◌, ◌+◌, ◌-◌, ℕ, zero, suc, Bool, true, false, List, [], ◌∷◌, ◌++◌, length, sum_by, count_by, Option, Some, None, slice_get, slice_set, refl}
-use Rattle.std.proofs.Common.{ap, sym, ◌∙◌, subst, arith, inl, inr}
-use Rattle.std.proofs.lemmas.List.Sums.{sum_by-cons, sum_by_push}
+use Rattle.std.specs.Prelude.{◌≡◌, ◌≢◌, ◌⊎◌, ◌<◌, ◌+◌, ℕ, zero, suc, List, [], ◌∷◌, ◌++◌, length, sum_by, Some, None, slice_get, slice_set, refl}
+use Rattle.std.proofs.Common.{ap, ◌∙◌, arith, inl, inr}
+use Rattle.std.proofs.lemmas.List.Sums.{sum_by-cons}
 
 -- an element of a list that grew is the new one at its end, or one from before
 pub record IsLast {A : Type 0} (xs : List A) (y : A) (i : ℕ) (x : A) : Type 0 where

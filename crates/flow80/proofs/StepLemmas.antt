@@ -1,6 +1,6 @@
 -- What comes of a point's move, way by way.
-use Rattle.std.specs.Prelude.{◌≡◌, ◌≢◌, ◌⊎◌, ◌≤◌, ◌<◌, ◌+◌, ◌||◌, ℕ, Bool, true, false, length, Option, Some, None, Result, Ok, Err, OnOk, IfOk, MatchResult, slice_get, refl}
-use Rattle.std.proofs.Common.{ap, sym, ◌∙◌, subst, arith, inl, inr, true≢false}
+use Rattle.std.specs.Prelude.{◌≡◌, ◌≢◌, ◌⊎◌, ◌≤◌, ◌<◌, ◌||◌, ℕ, Bool, true, false, Option, Some, None, Result, Ok, Err, slice_get, refl}
+use Rattle.std.proofs.Common.{sym, ◌∙◌, subst, arith, inl, inr, true≢false}
 use Rattle.decode80.specs.declared.fetching.Fetched.{Fetched}
 use Rattle.frames80.specs.declared.role.Role.{Role}
 use Rattle.frames80.specs.declared.moves.Moves.{Moves}
@@ -14,11 +14,9 @@ use Rattle.flow80.specs.declared.refusal.Refusal.TheVariants.{UnevenArguments, S
 use Rattle.flow80.specs.Code.{Code}
 use Rattle.flow80.specs.Walks.{LeadsTo, called, returning, role_of}
 use Rattle.flow80.specs.Faults.{Holds as Refused}
-use Rattle.flow80.specs.Rows.{ReturnsWith}
-use Rattle.flow80.specs.Points.{Point}
 use Rattle.flow80.specs.Shown.{IsShown, AtMove, FrameLaws}
-use Rattle.flow80.specs.Known.{Known, IsSmall, IsWithin, Stands, weight, Goes, HasPoint, Flows, Follows, Carries, AreWithin, Steps, exit_of, Exits, CallsOut, IsShort}
-use Rattle.flow80.proofs.ShownLemmas.{shown_self, shown_on, shown_entry, shown_after, exit_shown, exit_shown_at, taken_at_return, short, uneven}
+use Rattle.flow80.specs.Known.{Known, IsSmall, Stands, weight, Goes, HasPoint, Flows, Carries, Steps, exit_of, Exits, CallsOut, IsShort}
+use Rattle.flow80.proofs.ShownLemmas.{shown_on, shown_entry, shown_after, exit_shown, exit_shown_at, taken_at_return, short, uneven}
 use Rattle.flow80.proofs.KnownLemmas.{with_exit, stands_exit, goes_exit}
 
 -- two steps, one after the other

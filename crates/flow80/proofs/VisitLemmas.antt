@@ -1,5 +1,5 @@
 -- What comes of a look at a point.
-use Rattle.std.specs.Prelude.{◌≡◌, ◌≢◌, ◌≤◌, ◌<◌, ◌+◌, ℕ, zero, suc, Bool, true, false, List, [], ◌∷◌, length, Option, Some, None, Result, Ok, Err, OnOk, IfOk, MatchResult, slice_get, drop, refl}
+use Rattle.std.specs.Prelude.{◌≡◌, ◌≢◌, ◌≤◌, ◌<◌, ◌+◌, ℕ, zero, suc, Bool, false, List, [], ◌∷◌, length, Option, Some, Result, Ok, Err, IfOk, slice_get, refl}
 use Rattle.std.proofs.Common.{ap, sym, ◌∙◌, subst, arith}
 use Rattle.std.proofs.lemmas.List.{length-drop}
 use Rattle.decode80.specs.declared.fetching.Fetched.{Fetched}
@@ -22,11 +22,11 @@ use Rattle.flow80.specs.declared.refusal.Refusal.{Refusal}
 use Rattle.flow80.specs.Refusal.{refusal_of, look_refusal}
 use Rattle.flow80.specs.Code.{Code}
 use Rattle.flow80.specs.Walks.{role_of}
-use Rattle.flow80.specs.Faults.{Holds as Refused, LooksWrong, MovesWrong}
+use Rattle.flow80.specs.Faults.{Holds as Refused, LooksWrong}
 use Rattle.flow80.specs.Points.{Point}
-use Rattle.flow80.specs.Shown.{IsShown, AtMove, FrameLaws}
-use Rattle.flow80.specs.Known.{Known, IsSmall, IsWithin, Stands, Goes, AreWithin, Carries, Steps, Follows, IsClosed, Visits}
-use Rattle.flow80.proofs.MoveLemmas.{move_with, Moved, moved_is}
+use Rattle.flow80.specs.Shown.{IsShown, FrameLaws}
+use Rattle.flow80.specs.Known.{Known, IsWithin, Stands, Goes, AreWithin, Carries, Steps, Follows, IsClosed, Visits}
+use Rattle.flow80.proofs.MoveLemmas.{move_with, moved_is}
 use Rattle.flow80.proofs.ShownLemmas.{looks_wrong, moves_wrong}
 
 pub some_at : {A : Type 0} (xs : List A) (i : ℕ) → i < length xs → (x : A) × (slice_get xs i ≡ Some x)

@@ -1,5 +1,5 @@
 -- When a refusal holds of a program: over its walks, which are never merged. (This project's own.)
-use Rattle.std.specs.Prelude.{◌≡◌, ◌≢◌, ◌<◌, ◌+◌, ℕ, true, false, List, length, Result, Ok, Err}
+use Rattle.std.specs.Prelude.{◌≡◌, ◌≢◌, ◌<◌, ◌+◌, ℕ, false, Ok, Err}
 use Rattle.decode80.specs.declared.fetching.Fetched.{Fetched}
 use Rattle.frames80.specs.declared.fault.FrameFault.{FrameFault}
 use Rattle.frames80.specs.declared.fault.FrameFault.TheVariants.{Sphl as FrameSphl, Pchl as FramePchl, StackByByte as FrameStackByByte, SetsStack as FrameSetsStack, PopsBelow as FramePopsBelow, ReturnNotOwn as FrameReturnNotOwn, ReturnFromMain as FrameReturnFromMain}

@@ -1,7 +1,7 @@
 -- A table of frames that fits a program: one frame for each point that is reached, such that each way on leads to a frame of
 -- the table with the same counts, where only a return address may have become any word. The runs of an accepted program
 -- are followed along such a table. (This project's own.)
-use Rattle.std.specs.Prelude.{◌≡◌, ◌≤◌, ℕ, ℤ, pos, ◌+ℤ◌, ◌≤ℤ◌, Option, Some, None}
+use Rattle.std.specs.Prelude.{◌≡◌, ◌≤◌, ℕ, pos, ◌+ℤ◌, ◌≤ℤ◌, Option, Some}
 use Rattle.decode80.specs.declared.fetching.Fetched.{Fetched}
 use Rattle.frames80.specs.declared.moves.Moves.{Moves}
 use Rattle.frames80.specs.StackFrame.{StackFrame, entry_frame, main_frame}

@@ -1,5 +1,5 @@
 -- What a fitting table says of all walks. (This project's own.)
-use Rattle.std.specs.Prelude.{◌≡◌, ◌≤◌, ℕ}
+use Rattle.std.specs.Prelude.{◌≤◌, ℕ}
 use Rattle.frames80.specs.declared.fault.FrameFault.{FrameFault}
 use Rattle.frames80.specs.StackFrame.{StackFrame}
 use Rattle.flow80.specs.declared.procedure.Procedure.{Procedure}

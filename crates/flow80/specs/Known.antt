@@ -1,6 +1,6 @@
 -- What the verifier knows while it goes over the points: the points with their frames, and for each entry how many words
 -- its procedure takes where it returns, once a return was seen. (This project's own.)
-use Rattle.std.specs.Prelude.{◌≡◌, ◌⊎◌, ◌≤◌, ◌<◌, ◌+◌, ◌*◌, ◌-◌, ℕ, Bool, true, false, List, [], ◌∷◌, length, sum_by, count_by, Option, Some, None, slice_get, is_none, replicate, Result, Ok, Err, OnOk, IfOk, IfErr, MatchResult}
+use Rattle.std.specs.Prelude.{◌≡◌, ◌⊎◌, ◌≤◌, ◌<◌, ◌+◌, ◌*◌, ◌-◌, ℕ, Bool, true, false, List, [], length, sum_by, count_by, Option, Some, None, slice_get, is_none, replicate, Result, OnOk, IfOk, IfErr, MatchResult}
 use Rattle.decode80.specs.declared.fetching.Fetched.{Fetched}
 use Rattle.frames80.specs.declared.word.Word.{Word}
 use Rattle.frames80.specs.declared.word.Word.TheVariants.{Own, Any}

@@ -1,6 +1,6 @@
 -- What the verifier keeps true of its table while it fills: each frame in it is shown by walks. That is what makes its
 -- refusals hold. (This project's own.)
-use Rattle.std.specs.Prelude.{◌≡◌, ◌≤◌, ℕ, List, length, Option, Some, None, Result, Ok, slice_get}
+use Rattle.std.specs.Prelude.{◌≡◌, ℕ, Ok}
 use Rattle.decode80.specs.declared.fetching.Fetched.{Fetched}
 use Rattle.frames80.specs.declared.word.Word.TheVariants.{Any}
 use Rattle.frames80.specs.declared.moves.Moves.{Moves}
@@ -9,11 +9,8 @@ use Rattle.frames80.specs.Effects.{effect_of}
 use Rattle.frames80.specs.Moves.{moves_of}
 use Rattle.frames80.specs.Places.{Place, word_at, Covers, ChangesByPlaces, ReturnsByPlaces, MeetsByPlaces, CountsAlone, CoveredGoesAlong, ReturnRefused}
 use Rattle.flow80.specs.declared.procedure.Procedure.{Procedure}
-use Rattle.flow80.specs.declared.procedure.Procedure.TheVariants.{Entry}
 use Rattle.flow80.specs.Code.{Code}
-use Rattle.flow80.specs.Walks.{Walk, Returns, role_of}
-use Rattle.flow80.specs.Rows.{ReturnsWith}
-use Rattle.flow80.specs.Points.{Point, AreApart}
+use Rattle.flow80.specs.Walks.{Walk, role_of}
 
 -- what may be asked of a frame: nothing, or one place that may be any word
 pub data Query : Type 0 where

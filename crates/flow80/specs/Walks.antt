@@ -1,6 +1,6 @@
 -- The walks of a program's procedures: every way that a procedure may be gone through, with the frame that it has at each
 -- point. Frames are never merged here, and there is no order in which points are looked at. (This project's own.)
-use Rattle.std.specs.Prelude.{◌≡◌, ◌≤◌, ◌⊎◌, ℕ, Option, Some, None, Result, Ok}
+use Rattle.std.specs.Prelude.{◌≡◌, ◌≤◌, ◌⊎◌, ℕ, Option, Some, None, Ok}
 use Rattle.decode80.specs.declared.fetching.Fetched.{Fetched}
 use Rattle.frames80.specs.declared.role.Role.{Role}
 use Rattle.frames80.specs.declared.role.Role.TheVariants.{Main as MainRole, Entry as EntryRole}

@@ -1,4 +1,4 @@
-use Rattle.std.proofs.Common.{◌≡◌, sym, true≢false}
+use Rattle.std.proofs.Common.{true≢false}
 use Rattle.flow80.proofs.LookLemmas.{nothing_stands, nothing_small}
 use Rattle.flow80.proofs.fill.fill.Goals as goal
 

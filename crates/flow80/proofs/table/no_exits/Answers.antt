@@ -1,4 +1,4 @@
-use Rattle.std.proofs.Common.{◌≡◌, ◌≤◌, ◌∙◌, ap, arith, None, replicate, length}
+use Rattle.std.proofs.Common.{◌≡◌, ◌∙◌, ap, arith, None, replicate, length}
 use Rattle.flow80.proofs.table.no_exits.Goals as goal
 
 pub returns : goal.returns

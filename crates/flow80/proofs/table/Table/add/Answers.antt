@@ -1,4 +1,4 @@
-use Rattle.std.proofs.Common.{◌≡◌, ◌+◌, ◌<◌, ◌≤◌, ◌∙◌, ap, arith, sym, subst, length, ◌++◌, ◌∷◌, [], List, Ok, Err, true}
+use Rattle.std.proofs.Common.{◌≡◌, ◌<◌, ◌≤◌, ◌∙◌, ap, arith, sym, subst, length, ◌++◌, ◌∷◌, [], List, Ok, true}
 use Rattle.flow80.specs.Points.{Point}
 use Rattle.flow80.specs.Known.{Known, Flows}
 use Rattle.flow80.specs.Faults.{most_points}

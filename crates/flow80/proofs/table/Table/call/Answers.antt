@@ -1,11 +1,9 @@
-use Rattle.std.proofs.Common.{◌≡◌, ◌∙◌, ap, sym, subst, inl, inr, Ok, Err, Some, None}
-use Rattle.std.specs.Prelude.{refl}
+use Rattle.std.proofs.Common.{◌≡◌, ◌∙◌, sym, subst, Ok, Err, Some, None}
 use Rattle.std.proofs.lemmas.Result.{err_from_is_err_and}
 use Rattle.frames80.specs.StackFrame.{StackFrame, entry_frame}
-use Rattle.frames80.specs.declared.moves.Moves.TheVariants.{Either, MaybeCall, MaybeReturn}
 use Rattle.flow80.specs.declared.procedure.Procedure.TheVariants.{Entry}
 use Rattle.frames80.specs.Calls.{returned}
-use Rattle.flow80.specs.Known.{Known, Flows, Exits, CallsOut, exit_of}
+use Rattle.flow80.specs.Known.{Known, Flows, CallsOut, exit_of}
 use Rattle.flow80.proofs.StepLemmas.{calls_refused, calls_waiting, calls_back, calls_back_refused, calls_not_back}
 use Rattle.flow80.proofs.table.Table.call.Goals as goal
 

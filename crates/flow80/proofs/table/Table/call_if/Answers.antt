@@ -1,10 +1,9 @@
-use Rattle.std.proofs.Common.{◌≡◌, ◌∙◌, ap, sym, subst, inl, inr, Ok, Err, Some, None}
+use Rattle.std.proofs.Common.{subst, Ok, Err}
 use Rattle.std.specs.Prelude.{refl}
 use Rattle.std.proofs.lemmas.Result.{err_from_is_err_and}
-use Rattle.frames80.specs.StackFrame.{StackFrame, entry_frame}
-use Rattle.frames80.specs.declared.moves.Moves.TheVariants.{Either, MaybeCall, MaybeReturn}
-use Rattle.flow80.specs.declared.procedure.Procedure.TheVariants.{Entry}
-use Rattle.flow80.specs.Known.{Known, Flows, Exits, CallsOut, exit_of}
+use Rattle.frames80.specs.StackFrame.{StackFrame}
+use Rattle.frames80.specs.declared.moves.Moves.TheVariants.{MaybeCall}
+use Rattle.flow80.specs.Known.{Flows}
 use Rattle.flow80.proofs.StepLemmas.{steps_first_refused, steps_maybe_call, steps_maybe_call_refused}
 use Rattle.flow80.proofs.table.Table.call_if.Goals as goal
 

@@ -1,7 +1,7 @@
-use Rattle.std.proofs.Common.{◌≡◌, sym, subst}
+use Rattle.std.proofs.Common.{sym, subst}
 use Rattle.frames80.specs.declared.moves.Moves.{Moves}
-use Rattle.frames80.specs.declared.moves.Moves.TheVariants.{On, Jump, Call, Return}
-use Rattle.flow80.specs.Known.{Known, Steps}
+use Rattle.frames80.specs.declared.moves.Moves.TheVariants.{On, Jump}
+use Rattle.flow80.specs.Known.{Steps}
 use Rattle.flow80.proofs.StepLemmas.{steps_one, on_way, jump_way, steps_call, steps_return}
 use Rattle.flow80.proofs.table.Table.follow.Goals as goal
 

@@ -1,10 +1,10 @@
-use Rattle.std.proofs.Common.{◌≡◌, ◌≢◌, ◌∙◌, ap, arith, sym, subst, List, Ok, Err, Some, true, false, true≢false}
+use Rattle.std.proofs.Common.{◌≡◌, ◌≢◌, ◌∙◌, ap, sym, subst, List, Ok, Some, true, false, true≢false}
 use Rattle.std.specs.Prelude.{slice_get, slice_set, refl}
 use Rattle.frames80.specs.StackFrame.{StackFrame}
 use Rattle.frames80.specs.Calls.{agree, merged}
 use Rattle.flow80.specs.Points.{Point, with_frame}
 use Rattle.flow80.specs.Known.{Known, Flows}
-use Rattle.flow80.proofs.KnownLemmas.{replaced, flows_same, flows_replaced, flows_differ, not_agreed}
+use Rattle.flow80.proofs.KnownLemmas.{replaced, flows_replaced, flows_differ, not_agreed}
 use Rattle.flow80.proofs.table.Table.merge.Goals as goal
 
 pub returns-in-Err : goal.returns-in-Err

@@ -1,4 +1,4 @@
-use Rattle.std.proofs.Common.{◌≡◌, ◌||◌, ap, sym, subst, Ok, Err, ℕ}
+use Rattle.std.proofs.Common.{◌≡◌, ◌||◌, subst, Ok, Err, ℕ}
 use Rattle.std.specs.Prelude.{Result, Bool}
 use Rattle.std.proofs.lemmas.Result.{err_from_is_err_and}
 use Rattle.frames80.specs.StackFrame.{StackFrame, main_frame}
@@ -21,7 +21,7 @@ returns-in_err-begun-clause-looks g c =
     let known = c.args.self.now in
     let mid = c.flow.new.self in
     let flows : Flows known mid Main code.start main_frame (Err c.in_err-begun.field-0.0) =
-          begun_at known mid code.start c.start.result c.in_ok-start.start (Err c.in_err-begun.field-0.0) c.start.ensures c.in_ok-start.ensures c.in_err-begun.ensures in
+    begun_at known mid code.start c.start.result c.in_ok-start.start (Err c.in_err-begun.field-0.0) c.start.ensures c.in_ok-start.ensures c.in_err-begun.ensures in
     rw (p.1, p.2) (flow_refused code known mid mid Main code.start main_frame c.in_err-begun.field-0.0 (shown_start code) flows)
 
 pub returns-in_err-drained-clause-looks : goal.returns-in_err-drained-clause-looks
@@ -31,7 +31,7 @@ returns-in_err-drained-clause-looks g c =
     let known = c.args.self.now in
     let mid = c.flow.new.self in
     let flows : Flows known mid Main code.start main_frame (Ok c.in_ok-begun.begun) =
-          begun_at known mid code.start c.start.result c.in_ok-start.start (Ok c.in_ok-begun.begun) c.start.ensures c.in_ok-start.ensures c.in_ok-begun.ensures in
+    begun_at known mid code.start c.start.result c.in_ok-start.start (Ok c.in_ok-begun.begun) c.start.ensures c.in_ok-start.ensures c.in_ok-begun.ensures in
     let first : Ongoing code known mid c.in_ok-begun.begun = ongoing_flow code known mid Main code.start main_frame c.in_ok-begun.begun (shown_start code) flows in
     rw (p.1, p.2) (more_refused code known mid c.drain.new.self c.in_ok-begun.begun c.in_err-drained.field-0.0 first c.in_err-drained.ensures c.drain.new.self)
 
@@ -42,10 +42,10 @@ returns-in_err-passed-clause-looks g c =
     let known = c.args.self.now in
     let mid = c.flow.new.self in
     let flows : Flows known mid Main code.start main_frame (Ok c.in_ok-begun.begun) =
-          begun_at known mid code.start c.start.result c.in_ok-start.start (Ok c.in_ok-begun.begun) c.start.ensures c.in_ok-start.ensures c.in_ok-begun.ensures in
+    begun_at known mid code.start c.start.result c.in_ok-start.start (Ok c.in_ok-begun.begun) c.start.ensures c.in_ok-start.ensures c.in_ok-begun.ensures in
     let first : Ongoing code known mid c.in_ok-begun.begun = ongoing_flow code known mid Main code.start main_frame c.in_ok-begun.begun (shown_start code) flows in
     let both : Ongoing code known c.drain.new.self (c.in_ok-begun.begun || c.in_ok-drained.drained) =
-          ongoing_more code known mid c.drain.new.self c.in_ok-begun.begun c.in_ok-drained.drained first c.in_ok-drained.ensures.ongoing in
+    ongoing_more code known mid c.drain.new.self c.in_ok-begun.begun c.in_ok-drained.drained first c.in_ok-drained.ensures.ongoing in
     rw (p.1, p.2) (more_refused code known c.drain.new.self c.pass.new.self (c.in_ok-begun.begun || c.in_ok-drained.drained) c.in_err-passed.field-0.0 both c.in_err-passed.ensures.looks c.pass.new.self)
 
 pub returns-clause-looks : goal.returns-clause-looks
@@ -54,12 +54,12 @@ returns-clause-looks g c =
     let known = c.args.self.now in
     let mid = c.flow.new.self in
     let flows : Flows known mid Main code.start main_frame (Ok c.in_ok-begun.begun) =
-          begun_at known mid code.start c.start.result c.in_ok-start.start (Ok c.in_ok-begun.begun) c.start.ensures c.in_ok-start.ensures c.in_ok-begun.ensures in
+    begun_at known mid code.start c.start.result c.in_ok-start.start (Ok c.in_ok-begun.begun) c.start.ensures c.in_ok-start.ensures c.in_ok-begun.ensures in
     let first : Ongoing code known mid c.in_ok-begun.begun = ongoing_flow code known mid Main code.start main_frame c.in_ok-begun.begun (shown_start code) flows in
     let both : Ongoing code known c.drain.new.self (c.in_ok-begun.begun || c.in_ok-drained.drained) =
-          ongoing_more code known mid c.drain.new.self c.in_ok-begun.begun c.in_ok-drained.drained first c.in_ok-drained.ensures.ongoing in
+    ongoing_more code known mid c.drain.new.self c.in_ok-begun.begun c.in_ok-drained.drained first c.in_ok-drained.ensures.ongoing in
     looks_done code known c.pass.new.self ((c.in_ok-begun.begun || c.in_ok-drained.drained) || c.in_ok-passed.passed)
-      (ongoing_more code known c.drain.new.self c.pass.new.self (c.in_ok-begun.begun || c.in_ok-drained.drained) c.in_ok-passed.passed both c.in_ok-passed.ensures.looks.ongoing)
+    (ongoing_more code known c.drain.new.self c.pass.new.self (c.in_ok-begun.begun || c.in_ok-drained.drained) c.in_ok-passed.passed both c.in_ok-passed.ensures.looks.ongoing)
 
 pub returns-clause-closed : goal.returns-clause-closed
 returns-clause-closed g c =
@@ -67,7 +67,7 @@ returns-clause-closed g c =
     let known = c.args.self.now in
     let mid = c.flow.new.self in
     let flows : Flows known mid Main code.start main_frame (Ok c.in_ok-begun.begun) =
-          begun_at known mid code.start c.start.result c.in_ok-start.start (Ok c.in_ok-begun.begun) c.start.ensures c.in_ok-start.ensures c.in_ok-begun.ensures in
+    begun_at known mid code.start c.start.result c.in_ok-start.start (Ok c.in_ok-begun.begun) c.start.ensures c.in_ok-start.ensures c.in_ok-begun.ensures in
     let first : Ongoing code known mid c.in_ok-begun.begun = ongoing_flow code known mid Main code.start main_frame c.in_ok-begun.begun (shown_start code) flows in
     all_closed code known mid c.drain.new.self c.pass.new.self c.in_ok-begun.begun c.in_ok-drained.drained c.in_ok-passed.passed flows
-      c.in_ok-drained.ensures.ongoing c.in_ok-passed.ensures.looks.ongoing c.in_ok-passed.ensures.closed
+    c.in_ok-drained.ensures.ongoing c.in_ok-passed.ensures.looks.ongoing c.in_ok-passed.ensures.closed

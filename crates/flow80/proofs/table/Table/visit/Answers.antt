@@ -1,4 +1,4 @@
-use Rattle.std.proofs.Common.{◌≡◌, ◌≢◌, ◌∙◌, ◌≤◌, ap, arith, sym, subst, length, Ok, Err, Some, List}
+use Rattle.std.proofs.Common.{◌≡◌, ◌≢◌, ◌∙◌, ap, arith, sym, subst, length, Ok, Err, Some, List}
 use Rattle.std.specs.Prelude.{slice_get, refl}
 use Rattle.frames80.specs.declared.fault.FrameFault.TheVariants.{Memory}
 use Rattle.frames80.specs.declared.role.Role.{Role}
