@@ -26,6 +26,21 @@ pub record Has (table : Table) (p : Procedure) (at : ℕ) (g : StackFrame) : Typ
   pub there : table.frame p at ≡ Some frame
   pub covers : Covers frame g
 
+-- a frame of the table closes: its instruction may be executed, and each way on leads into the table, through calls too
+pub record FrameCloses (code : Code) (table : Table) (p : Procedure) (at : ℕ) (f : StackFrame) : Type 0 where
+  pub found : Fetched
+  pub moves : Moves
+  pub moving : Moving code p at f found moves
+  pub on : (to : ℕ) (g : StackFrame) → LeadsTo moves found.next to g → Has table p to g
+  pub enters : (target : ℕ) → called moves ≡ Some target → Has table (Entry target) target entry_frame
+  pub after : (target taken : ℕ) → called moves ≡ Some target → table.takes (Entry target) ≡ Some taken → Has table p found.next (returned taken f)
+  pub return : (taken : ℕ) → returning moves ≡ Some taken → table.takes p ≡ Some taken
+
+-- the table closes: the start is in it, and each of its frames closes
+pub record Closes (code : Code) (table : Table) : Type 0 where
+  pub start : Has table Main code.start main_frame
+  pub frames : (p : Procedure) (at : ℕ) (f : StackFrame) → table.frame p at ≡ Some f → FrameCloses code table p at f
+
 -- a call fits: the callee is entered in the table, the caller has the words that it wants and the stack that it needs, and
 -- where the callee returns, the caller goes on without the words that it takes
 pub record CallFits (code : Code) (table : Table) (p : Procedure) (next : ℕ) (f : StackFrame) (target : ℕ) : Type 0 where

@@ -1,8 +1,8 @@
-use Rattle.flow80.proofs.FitLemmas.{covers_walks, wants_above, no_look_fault, no_move_fault, no_differ, no_uneven, no_short}
+use Rattle.flow80.proofs.FitLemmas.{covers_walks, fits_close, wants_above, no_look_fault, no_move_fault, no_differ, no_uneven, no_short}
 use Rattle.flow80.proofs.fitting.fitting_tables_cover_walks.Goals as goal
 
 pub returns-clause-covers : goal.returns-clause-covers
-returns-clause-covers c = covers_walks c.frame_laws.ensures
+returns-clause-covers c = λ code table fits. covers_walks c.frame_laws.ensures code table (fits_close code table fits)
 
 pub returns-clause-wants : goal.returns-clause-wants
 returns-clause-wants c = wants_above c.frame_laws.ensures
