@@ -15,7 +15,7 @@ use Rattle.flow80.specs.declared.code.LookFault.{LookFault}
 use Rattle.flow80.specs.Code.{Code}
 use Rattle.flow80.specs.Walks.{Walk, begins, goes_on, enters, comes_back, Calls, Returns, Moving, LeadsTo, called, returning, role_of}
 use Rattle.flow80.specs.Faults.{LooksWrong, MovesWrong, Differ, Uneven, Short}
-use Rattle.flow80.specs.Fitting.{Table, Has, FrameCloses, Closes, CallFits, Fits}
+use Rattle.flow80.specs.Fitting.{Table, Has, Closes, CallFits, Fits}
 use Rattle.flow80.specs.Shown.{FrameLaws}
 use Rattle.flow80.proofs.MoveLemmas.{change_of, frame_after, move_with, moved_is, covered_moves, LeadsAlong, leads_along, called_along, returning_along}
 use Rattle.flow80.proofs.ShownLemmas.{counts_back, counts_then}
@@ -40,7 +40,11 @@ pub fits_close : (code : Code) (table : Table) → Fits code table → Closes co
 fits_close code table fits = record {
   start = fits.start;
   frames = λ p at f there. let here = fits.frames p at f there in record {
-    found = here.found; moves = here.moves; moving = here.moving; on = here.on; return = here.return;
+    found = here.found;
+    moves = here.moves;
+    moving = here.moving;
+    on = here.on;
+    return = here.return;
     enters = λ target is. (here.call target is).enters;
     after = λ target taken is takes. (here.call target is).after taken takes;
   };
@@ -61,7 +65,7 @@ moves_there : (code : Code) (p : Procedure) (at : ℕ) (frame : StackFrame) (her
     moves ≡ move_with (effect_of found.instr) frame
 moves_there code p at frame here found moves moving same =
     (moved_is (role_of code p) (effect_of found.instr) frame moves
-      (subst (λ (x : Fetched). moves_of (role_of code p) (effect_of x.instr) frame ≡ Ok moves) same moving.moved)).move
+    (subst (λ (x : Fetched). moves_of (role_of code p) (effect_of x.instr) frame ≡ Ok moves) same moving.moved)).move
 
 over : (code : Code) (table : Table) → Closes code table → (p : Procedure) (at : ℕ) (f : StackFrame) → Has table p at f →
     (found : Fetched) (moves : Moves) → Moving code p at f found moves → Over code table p f found moves
@@ -99,28 +103,28 @@ takes_of code table closes p at f has taken returns =
 pub covers_walks : FrameLaws → (code : Code) (table : Table) → Closes code table → (p : Procedure) (at : ℕ) (g : StackFrame) → Walk code p at g → Has table p at g
 covers_walks laws code table closes p at g (begins _ _ _ is) =
     subst (λ (q : Procedure). Has table q at g) (sym is.procedure)
-      (subst (λ a. Has table Main a g) (sym is.start) (subst (λ (f : StackFrame). Has table Main code.start f) (sym is.frame) closes.start))
+    (subst (λ a. Has table Main a g) (sym is.start) (subst (λ (f : StackFrame). Has table Main code.start f) (sym is.frame) closes.start))
 covers_walks laws code table closes p to g (goes_on _ at f _ _ walk step) =
     let o = over code table closes p at f (covers_walks laws code table closes p at f walk) step.found step.moves step.moving in
     let effect = effect_of step.found.instr in
     let along : LeadsAlong effect f o.frame step.found.next to g =
-          leads_along effect f o.frame step.found.next to g (subst (λ (m : Moves). LeadsTo m step.found.next to g) o.move step.leads) in
+    leads_along effect f o.frame step.found.next to g (subst (λ (m : Moves). LeadsTo m step.found.next to g) o.move step.leads) in
     let after : Has table p to (frame_after effect f) =
-          has_then table p to (frame_after effect o.frame) (frame_after effect f) (o.on to (frame_after effect o.frame) along.other)
-            ((laws.covered o.frame f o.covers).change (change_of effect)) in
+    has_then table p to (frame_after effect o.frame) (frame_after effect f) (o.on to (frame_after effect o.frame) along.other)
+    ((laws.covered o.frame f o.covers).change (change_of effect)) in
     subst (λ (h : StackFrame). Has table p to h) (sym along.frame) after
 covers_walks laws code table closes q start g (enters p at f target next _ _ _ walk call is) =
     let o = over code table closes p at f (covers_walks laws code table closes p at f walk) call.found call.moves call.moving in
     subst (λ (r : Procedure). Has table r start g) (sym is.procedure)
-      (subst (λ a. Has table (Entry target) a g) (sym is.start)
-        (subst (λ (h : StackFrame). Has table (Entry target) target h) (sym is.frame) (o.enters target (called_over code table p at f target next call o))))
+    (subst (λ a. Has table (Entry target) a g) (sym is.start)
+    (subst (λ (h : StackFrame). Has table (Entry target) target h) (sym is.frame) (o.enters target (called_over code table p at f target next call o))))
 covers_walks laws code table closes p next g (comes_back _ at f target _ exit h taken _ walk call callee returns after) =
     let o = over code table closes p at f (covers_walks laws code table closes p at f walk) call.found call.moves call.moving in
     let takes = takes_of code table closes (Entry target) exit h (covers_walks laws code table closes (Entry target) exit h callee) taken returns in
     let there : Has table p next (returned taken o.frame) =
-          subst (λ n. Has table p n (returned taken o.frame)) (sym call.after) (o.after target taken (called_over code table p at f target next call o) takes) in
+    subst (λ n. Has table p n (returned taken o.frame)) (sym call.after) (o.after target taken (called_over code table p at f target next call o) takes) in
     let back : Has table p next (returned taken f) =
-          has_then table p next (returned taken o.frame) (returned taken f) there ((laws.covered o.frame f o.covers).return taken) in
+    has_then table p next (returned taken o.frame) (returned taken f) there ((laws.covered o.frame f o.covers).return taken) in
     subst (λ (x : StackFrame). Has table p next x) (sym after.frame) back
 
 -- a call fits where its caller is covered
@@ -132,9 +136,11 @@ call_fits code table fits p at f has target next call =
     let same : here.found ≡ call.found = found_same (code.look at) here.found call.found here.moving.looked call.moving.looked in
     let there : here.moves ≡ move_with effect has.frame = moves_there code p at has.frame here.found call.found here.moves here.moving same in
     let mine : call.moves ≡ move_with effect f = (moved_is (role_of code p) effect f call.moves call.moving.moved).move in
-    let is : called here.moves ≡ Some target = ap called there ∙ called_along effect has.frame f ∙ ap called (sym mine) ∙ call.call in
-    (has.frame, has.covers,
-     subst (λ n. CallFits code table p n has.frame target) (ap (λ (x : Fetched). x.next) same ∙ sym call.after) (here.call target is))
+    let is : called here.moves ≡ Some target = ap called there ∙ called_along effect has.frame f ∙ ap called (sym mine) ∙ call.call in (
+      has.frame,
+      has.covers,
+      subst (λ n. CallFits code table p n has.frame target) (ap (λ (x : Fetched). x.next) same ∙ sym call.after) (here.call target is),
+    )
 
 -- so no walk is at a fault
 pub no_look_fault : FrameLaws → (code : Code) (table : Table) → Fits code table → (at : ℕ) (fault : LookFault) → LooksWrong code at fault → ⊥

@@ -12,3 +12,4 @@ pub mod SumLemmas
 pub mod FollowLemmas
 pub mod VisitLemmas
 pub mod LookLemmas
+pub mod KnownTable
