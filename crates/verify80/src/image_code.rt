@@ -1,0 +1,126 @@
+//! An image as the verifier goes by it.
+
+ghost use Rattle.std.specs.Prelude.{◌≡◌, IfOk, slice_index, true};
+ghost use Rattle.std.specs.Option.{option_map_or};
+ghost use Rattle.place80.specs.Image.{memory_of};
+ghost use Rattle.place80.specs.Regions.{in_code, in_data};
+ghost use Rattle.verify80.specs.Looking.{admitted, code_of, halt_follows, stores_in_data};
+
+use decode80::{FetchFault, Fetched, Instr, Program, ahead, direct_bytes, fetch};
+use flow80::{Code, LookFault};
+use place80::{Image, RegionMap};
+use std::alloc::{AllocError, Global};
+use std::marker::Model;
+
+/// An image, with its memory and its regions by address: a look at an address takes the same time for any number of chunks and
+/// ranges.
+#[derive(Drop)]
+pub(crate) struct ImageCode<'a> {
+    image: &'a Image,
+    memory: Vec<u8>,
+    map: RegionMap,
+}
+
+impl<'a> Model for ImageCode<'a> {
+    ghost use Rattle.place80.specs.Image.{Located};
+    ghost use Rattle.verify80.specs.Kept.{IsKept};
+
+    ghost Value = { Located };
+
+    ghost view = { λ c. c.image.now };
+
+    ghost invariant = { λ c. IsKept c.image.now c.memory.items c.map };
+}
+
+impl<'a> ImageCode<'a> {
+    /// An image as the verifier goes by it.
+    ///
+    /// # Errors
+    /// `AllocError` where memory runs out.
+    pub(crate) fn new(alloc: Global, image: &'a Image) -> Result<Self, AllocError>
+        ensures { IfOk result (λ code. code ≡ image.now) }
+    {
+        let memory = image.memory(alloc)?;
+        let map = RegionMap::new(alloc, &image.regions)?;
+        Ok(ImageCode { image, memory, map })
+    }
+
+    /// Whether an address that an instruction may name is data; it is fine to name none.
+    fn is_data_if_named(&self, named: Option<u16>) -> bool
+        ensures { result ≡ option_map_or (in_data self.now.regions) named true }
+    {
+        match named {
+            Some(address) => self.map.is_data(address),
+            None => true,
+        }
+    }
+
+    /// Whether the byte after an address is a HLT in the code.
+    fn halt_follows(&self, at: u16) -> bool
+        ensures { result ≡ halt_follows self.now.regions (memory_of self.now.chunks) at }
+    {
+        let next = ahead(at, 1);
+        self.is_code(next) && self.byte(next) == 0x76
+    }
+
+    /// Whether each byte that an instruction stores to by its address is data.
+    fn stores_in_data(&self, instr: Instr) -> bool
+        ensures { result ≡ stores_in_data self.now.regions instr }
+    {
+        let [first, second] = direct_bytes(instr);
+        self.is_data_if_named(first) && self.is_data_if_named(second)
+    }
+
+    /// What was fetched at an address, where its instruction is admitted.
+    fn admit(&self, at: u16, found: Fetched) -> Result<Fetched, LookFault>
+        ensures { result ≡ admitted self.now.regions (memory_of self.now.chunks) at found }
+    {
+        match found.instr {
+            Instr::Ei if !self.halt_follows(at) => Err(LookFault::EnablesInterrupts),
+            instr if !self.stores_in_data(instr) => Err(LookFault::DirectStore),
+            _ => Ok(found),
+        }
+    }
+}
+
+impl<'a> Program for ImageCode<'a> {
+    ghost code = { λ image. in_code image.regions };
+
+    ghost held = { λ image address. slice_index (memory_of image.chunks) address };
+
+    fn is_code(&self, address: u16) -> bool {
+        self.map.is_code(address)
+    }
+
+    fn byte(&self, address: u16) -> u8 {
+        self.memory[usize::from(address)]
+    }
+}
+
+impl<'a> Code for ImageCode<'a> {
+    ghost code = { code_of };
+
+    #[tactic(auto, unfolding(crate::specs::Looking::look_at))]
+    fn look(&self, at: u16) -> Result<Fetched, LookFault> {
+        match fetch(at, self) {
+            Ok(found) => self.admit(at, found),
+            Err(FetchFault::Outside) => Err(LookFault::Outside),
+            Err(FetchFault::Unused) => Err(LookFault::Unused),
+        }
+    }
+
+    fn start(&self) -> u16 {
+        let image = self.image;
+        image.start
+    }
+
+    fn top(&self) -> u16 {
+        let image = self.image;
+        image.regions.top()
+    }
+
+    fn stack(&self) -> u16 {
+        let image = self.image;
+        image.regions.stack().length
+    }
+}
