@@ -5,10 +5,14 @@
 //! | [`verify`] | a report on an image, or why it is refused |
 //! | [`Report`], [`ProcRow`] | what is found of an image that is accepted |
 //! | [`Refusal`] | why an image is refused |
+//! | [`looks_are_exact`] | what is looked at in an image, as a contract |
 #![tactic(auto)]
 
 mod image_code;
+mod laws;
 mod verifying;
 
 pub use flow80::{ProcRow, Refusal, Report};
+pub use laws::looks_are_exact;
+
 pub use verifying::verify;
