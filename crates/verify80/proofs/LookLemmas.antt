@@ -102,9 +102,10 @@ admitted_found regions memory at found a =
 
 pub finds : LooksFindWhatIsAdmitted
 unfolding look_at
-finds regions memory at found =
-    (found_admitted regions memory at (fetch_at regions memory at) found refl,
-    λ (a : IsAdmitted regions memory at found). ap (λ (r : Result Fetched FetchFault). looked regions memory at r) a.fetched ∙ admitted_found regions memory at found a)
+finds regions memory at found = (
+  found_admitted regions memory at (fetch_at regions memory at) found refl,
+  λ (a : IsAdmitted regions memory at found). ap (λ (r : Result Fetched FetchFault). looked regions memory at r) a.fetched ∙ admitted_found regions memory at found a,
+)
 
 -- a fault that is answered holds
 fault_holds : (regions : Areas) (memory : List ℕ) (at : ℕ) (r : Result Fetched FetchFault) (fault : LookFault) → fetch_at regions memory at ≡ r → looked regions memory at r ≡ Err fault → IsFaultAt regions memory at fault

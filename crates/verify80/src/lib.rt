@@ -10,9 +10,10 @@
 
 mod image_code;
 mod laws;
+#[cfg(test)]
+mod tests;
 mod verifying;
 
 pub use flow80::{ProcRow, Refusal, Report};
 pub use laws::looks_are_exact;
-
 pub use verifying::verify;
