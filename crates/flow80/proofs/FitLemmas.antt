@@ -26,7 +26,7 @@ covers_then f g h one two = record { counts = counts_then f g h one.counts two.c
 has_then : (table : Table) (p : Procedure) (at : ℕ) (f g : StackFrame) → Has table p at f → Covers f g → Has table p at g
 has_then table p at f g has covers = record { frame = has.frame; there = has.there; covers = covers_then has.frame f g has.covers covers }
 
-found_same : (r : Result Fetched LookFault) (a b : Fetched) → r ≡ Ok a → r ≡ Ok b → a ≡ b
+pub found_same : (r : Result Fetched LookFault) (a b : Fetched) → r ≡ Ok a → r ≡ Ok b → a ≡ b
 found_same r a b one other = cc
 
 not_found : (r : Result Fetched LookFault) (a : Fetched) (fault : LookFault) → r ≡ Ok a → r ≡ Err fault → ⊥
@@ -61,7 +61,7 @@ record Over (code : Code) (table : Table) (p : Procedure) (f : StackFrame) (foun
   return : (taken : ℕ) → returning (move_with (effect_of found.instr) frame) ≡ Some taken → table.takes p ≡ Some taken
 
 -- the moves of a frame that covers another one, by the effect of what is found there
-moves_there : (code : Code) (p : Procedure) (at : ℕ) (frame : StackFrame) (here found : Fetched) (moves : Moves) → Moving code p at frame here moves → here ≡ found →
+pub moves_there : (code : Code) (p : Procedure) (at : ℕ) (frame : StackFrame) (here found : Fetched) (moves : Moves) → Moving code p at frame here moves → here ≡ found →
     moves ≡ move_with (effect_of found.instr) frame
 moves_there code p at frame here found moves moving same =
     (moved_is (role_of code p) (effect_of found.instr) frame moves
@@ -92,7 +92,7 @@ called_over : (code : Code) (table : Table) (p : Procedure) (at : ℕ) (f : Stac
 called_over code table p at f target next call o = called_along (effect_of call.found.instr) o.frame f ∙ ap called (sym o.move) ∙ call.call
 
 -- the table's number of words taken is that of any walk that returns
-takes_of : (code : Code) (table : Table) → Closes code table → (p : Procedure) (at : ℕ) (f : StackFrame) → Has table p at f → (taken : ℕ) →
+pub takes_of : (code : Code) (table : Table) → Closes code table → (p : Procedure) (at : ℕ) (f : StackFrame) → Has table p at f → (taken : ℕ) →
     Returns code p at f taken → table.takes p ≡ Some taken
 takes_of code table closes p at f has taken returns =
     let o = over code table closes p at f has returns.found returns.moves returns.moving in

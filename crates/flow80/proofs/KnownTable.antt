@@ -34,13 +34,13 @@ is_same : (p : Procedure) → same_procedure p p ≡ true
 is_same Main = refl
 is_same (Entry a) = (unsigned_Decides a a).1 refl
 
-at_is : (p : Procedure) (at : ℕ) (point : Point) → is_at p at point ≡ true → (point.procedure ≡ p) × (point.at ≡ at)
+pub at_is : (p : Procedure) (at : ℕ) (point : Point) → is_at p at point ≡ true → (point.procedure ≡ p) × (point.at ≡ at)
 at_is p at point same = (
   sym (same_is p point.procedure (first_so (same_procedure p point.procedure) (nat_eq at point.at) same)),
   sym ((unsigned_Decides at point.at).0 (second_so (same_procedure p point.procedure) (nat_eq at point.at) same)),
 )
 
-is_there : (point : Point) → is_at point.procedure point.at point ≡ true
+pub is_there : (point : Point) → is_at point.procedure point.at point ≡ true
 is_there point = rw (is_same point.procedure, (unsigned_Decides point.at point.at).1 refl) refl
 
 -- a point that stands somewhere in the list
@@ -125,7 +125,7 @@ main_stays code at f found moves taken moving returns =
     no_return ReturnIf none is = let e : Some ReturnFromMain ≡ None = none in cc
     no_return (Refuse fault) none is = let e : None ≡ Some taken = is in cc
 
-closes_return : (code : Code) (known : Known) (wants bound : Procedure → ℕ) (p : Procedure) (at : ℕ) (f : StackFrame) (found : Fetched) (moves : Moves) →
+pub closes_return : (code : Code) (known : Known) (wants bound : Procedure → ℕ) (p : Procedure) (at : ℕ) (f : StackFrame) (found : Fetched) (moves : Moves) →
     Moving code p at f found moves → Follows known p f found.next moves → (taken : ℕ) → returning moves ≡ Some taken → takes_of known.exits p ≡ Some taken
 closes_return code known wants bound Main at f found moves moving follows taken is = absurd (main_stays code at f found moves taken moving is)
 closes_return code known wants bound (Entry entry) at f found moves moving follows taken is = follows.return entry taken refl is

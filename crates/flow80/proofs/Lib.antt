@@ -13,3 +13,7 @@ pub mod FollowLemmas
 pub mod VisitLemmas
 pub mod LookLemmas
 pub mod KnownTable
+pub mod SurveyLemmas
+pub mod PigeonLemmas
+pub mod GraphLemmas
+pub mod AcceptLemmas

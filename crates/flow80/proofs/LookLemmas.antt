@@ -29,7 +29,7 @@ looks_refused code old now new i changed refusal so_far visits = record { ongoin
 pub looks_done : (code : Code) (old new : Known) (changed : Bool) → Ongoing code old new changed → Looks code old new (Ok changed)
 looks_done code old new changed so_far = record { ongoing = so_far; refused = tt }
 
-split : (j k : ℕ) → j < k + 1 → (j < k) ⊎ (j ≡ k)
+pub split : (j k : ℕ) → j < k + 1 → (j < k) ⊎ (j ≡ k)
 split j zero less = inr (omega arith)
 split zero (suc k) less = inl (omega arith)
 split (suc j) (suc k) less = by (split j k (omega arith))

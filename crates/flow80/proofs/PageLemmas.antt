@@ -148,6 +148,21 @@ LeadApart-length codes blocks after e h = record {
   whole = subst (λ k. k % 256 ≡ 0) (sym e) h.whole;
 }
 
+-- a number is kept of addresses of memory alone
+from_decoded : (code i : ℕ) → decoded code ≡ Some i → code ≡ suc i
+from_decoded zero i e = absurd (let none : None ≡ Some i = e in cc)
+from_decoded (suc number) i e = ap suc (let some : Some number ≡ Some i = e in cc)
+
+pub number_below : (numbers : Numbers) (procedure : Procedure) (at i : ℕ) → number_at numbers procedure at ≡ Some i → at < 65536
+unfolding number_at
+number_below numbers procedure at i e =
+    let table = slice_index_or numbers.procedures (procedure_number procedure) 0 in
+    let page = is_in numbers.pages (code_in numbers.tables table (at / 256)) (at % 256) i
+    (from_decoded (code_in numbers.pages (code_in numbers.tables table (at / 256)) (at % 256)) i e) in
+    let here = is_in numbers.tables table (at / 256) page.block page.leads in
+    let below = here.below in
+    omega arith
+
 pub SameNumbers-then : (a b c : Numbers) → SameNumbers a b → SameNumbers b c → SameNumbers a c
 SameNumbers-then a b c s t = record { same = λ procedure at. t.same procedure at ∙ s.same procedure at }
 

@@ -9,8 +9,9 @@ use Rattle.flow80.specs.declared.procedure.Procedure.{Procedure}
 use Rattle.flow80.specs.declared.procedure.Procedure.TheVariants.{Main, Entry}
 use Rattle.flow80.specs.declared.points.StoredPoint.{StoredPoint}
 use Rattle.flow80.specs.Interned.{StayNumbered}
-use Rattle.flow80.specs.Points.{Point, with_frame, AreApart, IsPointAt, IsNoPoint, Reframes}
+use Rattle.flow80.specs.Points.{Point, with_frame, AreApart, AreAddresses, IsPointAt, IsNoPoint, Reframes}
 use Rattle.flow80.specs.Pages.{Numbers, procedure_number, number_at, same_place, SameNumbers, Puts}
+use Rattle.flow80.proofs.PageLemmas.{number_below}
 use Rattle.flow80.specs.PointStore.{frame_at, point_of, points_of, IsStoredAt, AreStored}
 
 module _ {X : Type 0} where
@@ -122,6 +123,9 @@ module _ (frames : List StackFrame) (stored : List StoredPoint) (numbers : Numbe
     apart = λ i j a b ea eb ep et.
         same_Some i j (sym (number_of i a ea) ∙ ap (λ p. number_at numbers p a.at) ep ∙ ap (λ t. number_at numbers b.procedure t) et ∙ number_of j b eb);
   }
+
+  pub AreAddresses-stored : AreAddresses (points_of frames stored)
+  AreAddresses-stored = record { within = λ i point there. number_below numbers point.procedure point.at i (number_of i point there) }
 
   pub IsPointAt-number : (procedure : Procedure) (at i : ℕ) → number_at numbers procedure at ≡ Some i → IsPointAt (points_of frames stored) procedure at i
   IsPointAt-number procedure at i e =

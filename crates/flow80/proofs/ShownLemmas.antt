@@ -112,7 +112,7 @@ shown_on laws code p at f found moves move to g leads =
     subst (IsShown code p to) after here
 
 -- a call of a walk
-calls_along : FrameLaws → (code : Code) (p : Procedure) (at : ℕ) (f : StackFrame) (found : Fetched) (moves : Moves) → AtMove code p at f found moves →
+pub calls_along : FrameLaws → (code : Code) (p : Procedure) (at : ℕ) (f : StackFrame) (found : Fetched) (moves : Moves) → AtMove code p at f found moves →
     (target : ℕ) → called moves ≡ Some target → (w : StackFrame) → Covers f w → Calls code p at w target found.next
 calls_along laws code p at f found moves move target call w covers =
     let effect = effect_of found.instr in

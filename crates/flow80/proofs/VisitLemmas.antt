@@ -24,6 +24,8 @@ use Rattle.flow80.specs.Code.{Code}
 use Rattle.flow80.specs.Walks.{role_of}
 use Rattle.flow80.specs.Faults.{Holds as Refused, LooksWrong}
 use Rattle.flow80.specs.Points.{Point}
+use Rattle.flow80.specs.declared.site.Site.{Site}
+use Rattle.flow80.specs.Survey.{IsMoveAt}
 use Rattle.flow80.specs.Shown.{IsShown, FrameLaws}
 use Rattle.flow80.specs.Known.{Known, IsWithin, Stands, Goes, AreWithin, Carries, Steps, Follows, IsClosed, Visits}
 use Rattle.flow80.proofs.MoveLemmas.{move_with, moved_is}
@@ -40,16 +42,11 @@ refused_look code at Unused wrong = wrong
 refused_look code at EnablesInterrupts wrong = wrong
 refused_look code at DirectStore wrong = wrong
 
-pub visits_look_fault : (code : Code) (known new : Known) (i at : ℕ) (point : Point) (fault : LookFault) → slice_get known.points i ≡ Some point → point.at ≡ at →
-    code.look at ≡ Err fault → Visits code known new i (Err (look_refusal fault at))
-visits_look_fault code known new i at point fault there address looked = record {
-  small = tt;
-  more = tt;
-  goes = tt;
-  closed = tt;
-  stands = λ stands. refused_look code at fault
-      (looks_wrong code point.procedure at point.frame fault (subst (λ a. IsShown code point.procedure a point.frame) address (stands.points i point there)) looked);
-}
+pub look_refused : (code : Code) (known : Known) (i at : ℕ) (point : Point) (fault : LookFault) → slice_get known.points i ≡ Some point → point.at ≡ at →
+    code.look at ≡ Err fault → Stands code known → Refused code (look_refusal fault at)
+look_refused code known i at point fault there address looked stands =
+    refused_look code at fault
+    (looks_wrong code point.procedure at point.frame fault (subst (λ a. IsShown code point.procedure a point.frame) address (stands.points i point there)) looked)
 
 -- what a frame's fault is refused by
 refused_move : FrameLaws → (code : Code) (p : Procedure) (at : ℕ) (f : StackFrame) (found : Fetched) (fault : FrameFault) → IsShown code p at f →
@@ -77,15 +74,30 @@ shown_at code known i p at f here stands =
     (subst (λ a. IsShown code here.point.procedure a f) here.address
     (subst (λ (g : StackFrame). IsShown code here.point.procedure here.point.at g) here.frame (stands.points i here.point here.there)))
 
-pub visits_move_fault : FrameLaws → (code : Code) (known new : Known) (i : ℕ) (p : Procedure) (at : ℕ) (f : StackFrame) (found : Fetched) (fault : FrameFault) →
+pub move_refused : FrameLaws → (code : Code) (known : Known) (i : ℕ) (p : Procedure) (at : ℕ) (f : StackFrame) (found : Fetched) (fault : FrameFault) →
     AtPoint code known i p at f → code.look at ≡ Ok found → ((fault ≢ Memory) → moves_of (role_of code p) (effect_of found.instr) f ≡ Err fault) →
-    Visits code known new i (Err (refusal_of fault at))
-visits_move_fault laws code known new i p at f found fault here looked moved = record {
-  small = tt;
-  more = tt;
-  goes = tt;
-  closed = tt;
-  stands = λ stands. refused_move laws code p at f found fault (shown_at code known i p at f here stands) looked moved;
+    Stands code known → Refused code (refusal_of fault at)
+move_refused laws code known i p at f found fault here looked moved stands = refused_move laws code p at f found fault (shown_at code known i p at f here stands) looked moved
+
+-- the move at a point
+pub moves_at_point : (code : Code) (known : Known) (i : ℕ) (p : Procedure) (at : ℕ) (f : StackFrame) (found : Fetched) (role : Role) (moves : Moves) →
+    AtPoint code known i p at f → code.look at ≡ Ok found → role ≡ role_of code p → moves_of role (effect_of found.instr) f ≡ Ok moves → AreWithin (length known.points + 1) moves →
+    IsMoveAt code known i (record { procedure = p; role = role; at = at; next = found.next; point = i }) moves
+moves_at_point code known i p at f found role moves here looked same moved within = record {
+  point = here.point;
+  there = here.there;
+  found = found;
+  moving = record {
+    looked = subst (λ n. code.look n ≡ Ok found) (sym here.address) looked;
+    moved = subst (λ (x : Procedure). moves_of (role_of code x) (effect_of found.instr) here.point.frame ≡ Ok moves) (sym here.procedure)
+        (subst (λ (x : StackFrame). moves_of (role_of code p) (effect_of found.instr) x ≡ Ok moves) (sym here.frame)
+        (subst (λ (r : Role). moves_of r (effect_of found.instr) f ≡ Ok moves) same moved));
+  };
+  procedure = sym here.procedure;
+  address = sym here.address;
+  next = refl;
+  role = same ∙ ap (role_of code) (sym here.procedure);
+  within = within;
 }
 
 same_point : (o : Option Point) (x y : Point) → o ≡ Some x → o ≡ Some y → x ≡ y
@@ -102,7 +114,7 @@ carries_by Return f = tt
 carries_by ReturnIf f = tt
 carries_by (Refuse fault) f = tt
 
-pub visits_follow : (code : Code) (known new : Known) (i : ℕ) (p : Procedure) (at next : ℕ) (role : Role) (f : StackFrame) (found : Fetched) (moves : Moves) (result : Result Bool Refusal) →
+visits_follow : (code : Code) (known new : Known) (i : ℕ) (p : Procedure) (at next : ℕ) (role : Role) (f : StackFrame) (found : Fetched) (moves : Moves) (result : Result Bool Refusal) →
     AtPoint code known i p at f → code.look at ≡ Ok found → found.next ≡ next → role ≡ role_of code p → moves_of role (effect_of found.instr) f ≡ Ok moves →
     Steps known new p at next role moves result → Visits code known new i result
 visits_follow code known new i p at next role f found moves result here looked same_next same_role moved steps = record {
@@ -141,6 +153,17 @@ visits_follow code known new i p at next role f found moves result here looked s
         IfOk r (λ flag. flag ≡ false → (point : Point) → slice_get new.points i ≡ Some point → IsClosed code new point)
     by (Ok flag) goes follows = λ same. close (follows same f carries) (goes.same same)
     by (Err refusal) goes follows = tt
+
+pub visits_moves : (code : Code) (known new : Known) (i : ℕ) (site : Site) (moves : Moves) (result : Result Bool Refusal) → IsMoveAt code known i site moves →
+    Steps known new site.procedure site.at site.next site.role moves result → Visits code known new i result
+visits_moves code known new i site moves result m steps =
+    visits_follow code known new i site.procedure site.at site.next site.role m.point.frame m.found moves result
+    (record { point = m.point; there = m.there; procedure = sym m.procedure; address = sym m.address; frame = refl })
+    (subst (λ n. code.look n ≡ Ok m.found) (sym m.address) m.moving.looked) (sym m.next) (m.role ∙ ap (role_of code) (sym m.procedure))
+    (subst (λ (r : Role). moves_of r (effect_of m.found.instr) m.point.frame ≡ Ok moves) (sym m.role) m.moving.moved) steps
+
+pub visits_refused : (code : Code) (known new : Known) (i : ℕ) (refusal : Refusal) → (Stands code known → Refused code refusal) → Visits code known new i (Err refusal)
+visits_refused code known new i refusal holds = record { small = tt; more = tt; goes = tt; closed = tt; stands = holds }
 
 -- the frames that a move carries are within bounds
 popped_within : (words : List Word) (taken n : ℕ) → taken ≤ n → taken_after_pop words taken ≤ n + 1

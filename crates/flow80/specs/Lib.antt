@@ -14,3 +14,5 @@ pub mod Pages
 pub mod PointStore
 pub mod Bounds
 pub mod FittingLaws
+pub mod Survey
+pub mod Accepted

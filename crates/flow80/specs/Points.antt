@@ -1,5 +1,5 @@
 -- The points that are known, each with what is known of its frame, in order of first sight. (This project's own.)
-use Rattle.std.specs.Prelude.{◌≡◌, ℕ, Bool, true, false, ◌&&◌, nat_eq, List, Some, slice_get, slice_set}
+use Rattle.std.specs.Prelude.{◌≡◌, ◌<◌, ℕ, Bool, true, false, ◌&&◌, nat_eq, List, Some, slice_get, slice_set}
 use Rattle.frames80.specs.StackFrame.{StackFrame}
 use Rattle.flow80.specs.declared.procedure.Procedure.{Procedure}
 use Rattle.flow80.specs.declared.procedure.Procedure.TheVariants.{Main, Entry}
@@ -28,6 +28,10 @@ with_frame frame point = record point { frame = frame }
 -- no address of a procedure stands twice
 pub record AreApart (points : List Point) : Type 0 where
   pub apart : (i j : ℕ) (a b : Point) → slice_get points i ≡ Some a → slice_get points j ≡ Some b → a.procedure ≡ b.procedure → a.at ≡ b.at → i ≡ j
+
+-- each address is one of memory
+pub record AreAddresses (points : List Point) : Type 0 where
+  pub within : (i : ℕ) (point : Point) → slice_get points i ≡ Some point → point.at < 65536
 
 -- at i stands the point of that address of that procedure
 pub record IsPointAt (points : List Point) (procedure : Procedure) (at i : ℕ) : Type 0 where

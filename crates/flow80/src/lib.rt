@@ -2,6 +2,7 @@
 //!
 //! | Item | What it is |
 //! |---|---|
+//! | [`analyze`] | the whole analysis of a program |
 //! | [`Code`], [`LookFault`] | the program: the instruction at each address, the start and the stack |
 //! | [`Procedure`] | the main program, or one that a call reaches |
 //! | [`Refusal`] | why a program is refused |
@@ -9,6 +10,7 @@
 //! | [`Report`], [`ProcRow`] | what is found of a program that is accepted |
 #![tactic(auto)]
 
+mod analysis;
 mod bounds;
 mod callers;
 mod code;
@@ -23,10 +25,14 @@ mod points;
 mod procedure;
 mod refusal;
 mod report;
+mod rows;
 mod site;
 mod sums;
+mod survey;
 mod table;
+mod wants;
 
+pub use analysis::analyze;
 pub use code::{Code, LookFault};
 pub use fitting::fitting_tables_cover_walks;
 pub use procedure::Procedure;

@@ -1,7 +1,7 @@
 //! The points that are known, each with what is known of its frame.
 
 ghost use Rattle.std.specs.Prelude.{◌≡◌, ◌<◌, [], ◌∷◌, ◌++◌, length, slice_get, IfSome, IfNone, IfOk, OnOk, OnErr};
-ghost use Rattle.flow80.specs.Points.{AreApart, IsPointAt, IsNoPoint, Reframes};
+ghost use Rattle.flow80.specs.Points.{AreAddresses, AreApart, IsPointAt, IsNoPoint, Reframes};
 
 use crate::interned::Interned;
 use crate::pages::Pages;
@@ -59,6 +59,7 @@ impl Points {
     pub(crate) fn len(&self) -> usize
         ensures count { result ≡ length self.now }
         ensures apart { AreApart self.now }
+        ensures addresses { AreAddresses self.now }
     {
         self.stored.len()
     }

@@ -2,11 +2,12 @@
 
 ghost use Rattle.std.specs.Prelude.{◌≡◌, ◌+◌, ◌<◌, ◌≤◌, ◌↔◌, false, true, Some, None, Ok, Err, IfOk, IfErr, OnOk, IfSome, length, replicate, slice_get};
 ghost use Rattle.flow80.specs.declared.procedure.Procedure.TheVariants.{Entry};
-ghost use Rattle.flow80.specs.Points.{IsPointAt, IsNoPoint};
-ghost use Rattle.flow80.specs.Known.{IsSmall, IsWithin, Flows, Exits, CallsOut, Steps, Visits, Looks, AreClosed, AllClosed, AreWithin, IsShort, exit_of, nothing_known};
+ghost use Rattle.flow80.specs.Points.{AreAddresses, IsPointAt, IsNoPoint};
+ghost use Rattle.flow80.specs.Known.{IsSmall, IsWithin, Stands, Flows, Exits, CallsOut, Steps, Visits, Looks, AreClosed, AllClosed, AreWithin, IsShort, exit_of, nothing_known};
 ghost use Rattle.frames80.specs.declared.moves.Moves.TheVariants.{Either, MaybeCall, MaybeReturn};
 ghost use Rattle.frames80.specs.Calls.{room, returned};
-ghost use Rattle.flow80.specs.Faults.{most_points};
+ghost use Rattle.flow80.specs.Faults.{most_points, Holds};
+ghost use Rattle.flow80.specs.Survey.{IsMoveAt, IsEntered};
 ghost use Rattle.flow80.specs.Walks.{role_of};
 
 use crate::callers::Callers;
@@ -260,19 +261,20 @@ impl Table {
         }
     }
 
-    /// A point is looked at: its instruction, and each way that it leads.
+    /// Where the instruction at a point stands, and how it moves.
     ///
     /// # Errors
     /// A refusal that holds, or out of memory.
-    pub(crate) fn visit<C: Code>(
-        &mut self,
+    pub(crate) fn moves_at<C: Code>(
+        &self,
         alloc: Global,
         program: &C,
         point: usize,
-    ) -> Result<bool, Refusal>
-        requires small { IsSmall self.old }
-        requires there { point < length self.old.points }
-        ensures { Visits (C.code program.now) self.old self.new point result }
+    ) -> Result<(Site, Moves), Refusal>
+        requires small { IsSmall self.now }
+        requires there { point < length self.now.points }
+        ensures moves { IfOk result (λ r. IsMoveAt (C.code program.now) self.now point r.0 r.1) }
+        ensures refused { IfErr result (λ refusal. Stands (C.code program.now) self.now → Holds (C.code program.now) refusal) }
     {
         frame_laws();
         let (procedure, at) = self.points.place(point);
@@ -292,6 +294,24 @@ impl Table {
             next: found.next,
             point,
         };
+        Ok((site, moves))
+    }
+
+    /// A point is looked at: its instruction, and each way that it leads.
+    ///
+    /// # Errors
+    /// A refusal that holds, or out of memory.
+    pub(crate) fn visit<C: Code>(
+        &mut self,
+        alloc: Global,
+        program: &C,
+        point: usize,
+    ) -> Result<bool, Refusal>
+        requires small { IsSmall self.old }
+        requires there { point < length self.old.points }
+        ensures { Visits (C.code program.now) self.old self.new point result }
+    {
+        let (site, moves) = self.moves_at(alloc, program, point)?;
         self.follow(alloc, &site, moves)
     }
 
@@ -355,9 +375,36 @@ impl Table {
 
     /// How many points there are.
     pub(crate) fn len(&self) -> usize
-        ensures { result ≡ length self.now.points }
+        ensures count { result ≡ length self.now.points }
+        ensures addresses { AreAddresses self.now.points }
     {
         self.points.len()
+    }
+
+    /// The procedure of the point that stands at `i`.
+    pub(crate) fn procedure(&self, i: usize) -> Procedure
+        requires { i < length self.now.points }
+        ensures { IfSome (slice_get self.now.points i) (λ point. point.procedure ≡ result) }
+    {
+        self.points.place(i).0
+    }
+
+    /// The frame of the point that stands at `i`.
+    pub(crate) fn frame(&self, i: usize) -> &Frame
+        requires { i < length self.now.points }
+        ensures { IfSome (slice_get self.now.points i) (λ point. result.now ≡ point.frame) }
+    {
+        self.points.frame(i)
+    }
+
+    /// Whether a call reaches the procedure that is entered at an address.
+    pub(crate) fn is_entered(&self, entry: u16) -> bool
+        ensures yes { result ≡ true → IsEntered self.now entry }
+        ensures no { result ≡ false → IsNoPoint self.now.points (Entry entry) entry }
+    {
+        self.points
+            .position(Procedure::Entry(entry), entry)
+            .is_some()
     }
 
     /// How many words a procedure takes where it returns, once a return was seen.
@@ -391,7 +438,12 @@ fn no_exits(alloc: Global) -> Result<Vec<Option<u32>>, AllocError>
 ///
 /// # Errors
 /// `ShortArguments` where the caller has fewer words above its bottom word, or out of memory.
-fn come_back(alloc: Global, site: &Site, frame: &Frame, taken: u32) -> Result<Frame, Refusal>
+pub(crate) fn come_back(
+    alloc: Global,
+    site: &Site,
+    frame: &Frame,
+    taken: u32,
+) -> Result<Frame, Refusal>
     requires few { frame.now.taken ≤ 1000000 }
     requires words { length frame.now.words ≤ 1000000 }
     ensures enough { OnOk result (taken ≤ room site.now.role frame.now.words) }

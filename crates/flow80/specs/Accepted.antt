@@ -1,0 +1,20 @@
+-- What is known of a program that is accepted. (This project's own.)
+use Rattle.std.specs.Prelude.{◌≢◌, ◌≤◌, ℕ, List}
+use Rattle.flow80.specs.declared.procedure.Procedure.TheVariants.{Main}
+use Rattle.flow80.specs.declared.refusal.Refusal.{Refusal}
+use Rattle.flow80.specs.declared.refusal.Refusal.TheVariants.{Memory}
+use Rattle.flow80.specs.declared.report.ProcRow.{ProcRow}
+use Rattle.flow80.specs.Code.{Code}
+use Rattle.flow80.specs.Use.{IsBound}
+use Rattle.flow80.specs.Faults.{Holds}
+use Rattle.flow80.specs.Fitting.{IsFitted}
+use Rattle.flow80.specs.Rows.{AreRows}
+
+-- a table of frames fits the program with so many bytes of stack, which are the most that a chain of its calls uses and no more
+-- than there are; the rows are those of its procedures; and no refusal holds of it
+pub record IsAccepted (code : Code) (listed : List ProcRow) (bytes : ℕ) : Type 0 where
+  pub fitted : IsFitted code bytes
+  pub bound : IsBound code Main bytes
+  pub within : bytes ≤ code.stack
+  pub rows : AreRows code listed
+  pub none_holds : (refusal : Refusal) → refusal ≢ Memory → Holds code refusal → ⊥

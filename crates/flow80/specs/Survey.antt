@@ -1,0 +1,113 @@
+-- What a filled table says of each procedure and each call. (This project's own.)
+use Rattle.std.specs.Prelude.{◌≡◌, ◌⊎◌, ◌≤◌, ◌<◌, ◌+◌, ℕ, Bool, true, false, List, AllPairs, Contains, length, Option, Some, None, slice_get}
+use Rattle.decode80.specs.declared.fetching.Fetched.{Fetched}
+use Rattle.frames80.specs.declared.moves.Moves.{Moves}
+use Rattle.frames80.specs.Calls.{room, depth_of}
+use Rattle.flow80.specs.declared.procedure.Procedure.{Procedure}
+use Rattle.flow80.specs.declared.procedure.Procedure.TheVariants.{Entry}
+use Rattle.flow80.specs.declared.graph.Depth.{Depth}
+use Rattle.flow80.specs.declared.graph.CallSite.{CallSite}
+use Rattle.flow80.specs.declared.report.ProcRow.{ProcRow}
+use Rattle.flow80.specs.declared.site.Site.{Site}
+use Rattle.flow80.specs.Code.{Code}
+use Rattle.flow80.specs.Walks.{Moving, Calls, role_of}
+use Rattle.flow80.specs.Points.{Point, AreAddresses}
+use Rattle.flow80.specs.Bounds.{bytes_of}
+use Rattle.flow80.specs.Known.{Known, AreWithin, exit_of}
+
+-- the instruction of the point at i moves so, and stands there
+pub record IsMoveAt (code : Code) (known : Known) (i : ℕ) (site : Site) (moves : Moves) : Type 0 where
+  pub point : Point
+  pub there : slice_get known.points i ≡ Some point
+  pub found : Fetched
+  pub moving : Moving code point.procedure point.at point.frame found moves
+  pub procedure : site.procedure ≡ point.procedure
+  pub address : site.at ≡ point.at
+  pub next : site.next ≡ found.next
+  pub role : site.role ≡ role_of code point.procedure
+  pub within : AreWithin (length known.points + 1) moves
+
+-- a procedure's entry is one of the points
+pub record IsEntered (known : Known) (entry : ℕ) : Type 0 where
+  pub number : ℕ
+  pub point : Point
+  pub there : slice_get known.points number ≡ Some point
+  pub procedure : point.procedure ≡ Entry entry
+  pub address : point.at ≡ entry
+
+-- a point of the procedure has so many words taken
+pub record TakesAt (points : List Point) (p : Procedure) (taken : ℕ) : Type 0 where
+  pub number : ℕ
+  pub point : Point
+  pub there : slice_get points number ≡ Some point
+  pub procedure : point.procedure ≡ p
+  pub is : point.frame.taken ≡ taken
+
+-- for each procedure the most words that are taken at one of its first points
+pub record AreWants (points : List Point) (wants : List ℕ) (count : ℕ) : Type 0 where
+  pub above : (i : ℕ) (point : Point) → i < count → slice_get points i ≡ Some point → point.frame.taken ≤ bytes_of wants point.procedure
+  pub reached : (p : Procedure) → (bytes_of wants p ≡ 0) ⊎ TakesAt points p (bytes_of wants p)
+
+-- the depth at a point
+abbrev pub depth_at : Code → Point → Depth
+depth_at code point = record { procedure = point.procedure; depth = depth_of (role_of code point.procedure) point.frame }
+
+-- a call at a point
+abbrev pub call_at : Code → Point → ℕ → CallSite
+call_at code point target = record { caller = point.procedure; at = point.at; depth = depth_of (role_of code point.procedure) point.frame; target = target }
+
+pub record IsDepthAt (code : Code) (known : Known) (depth : Depth) : Type 0 where
+  pub number : ℕ
+  pub point : Point
+  pub there : slice_get known.points number ≡ Some point
+  pub is : depth ≡ depth_at code point
+
+pub record IsCallAt (code : Code) (known : Known) (call : CallSite) : Type 0 where
+  pub number : ℕ
+  pub point : Point
+  pub target : ℕ
+  pub next : ℕ
+  pub there : slice_get known.points number ≡ Some point
+  pub calls : Calls code point.procedure point.at point.frame target next
+  pub is : call ≡ call_at code point target
+
+-- the depths and the calls of the first points; each caller has the words that its callee wants
+pub record IsSurvey (code : Code) (known : Known) (wants : List ℕ) (count : ℕ) (depths : List Depth) (calls : List CallSite) : Type 0 where
+  pub depth : (d : Depth) → Contains depths d → IsDepthAt code known d
+  pub every_depth : (i : ℕ) (point : Point) → i < count → slice_get known.points i ≡ Some point → Contains depths (depth_at code point)
+  pub call : (c : CallSite) → Contains calls c → IsCallAt code known c
+  pub every_call : (i : ℕ) (point : Point) (target next : ℕ) → i < count → slice_get known.points i ≡ Some point →
+      Calls code point.procedure point.at point.frame target next → Contains calls (call_at code point target)
+  pub words : (i : ℕ) (point : Point) (target next : ℕ) → i < count → slice_get known.points i ≡ Some point →
+      Calls code point.procedure point.at point.frame target next → bytes_of wants (Entry target) ≤ room (role_of code point.procedure) point.frame.words
+  pub few : length calls ≤ count
+  pub addresses : AreAddresses known.points
+
+-- the row of a procedure
+abbrev pub takes_in_row : Option ℕ → ℕ
+takes_in_row None = 0
+takes_in_row (Some taken) = taken
+
+abbrev pub returns_in_row : Option ℕ → Bool
+returns_in_row None = false
+returns_in_row (Some taken) = true
+
+abbrev pub row_of : Known → (wants bytes : List ℕ) → ℕ → ProcRow
+row_of known wants bytes entry = record {
+  entry = entry;
+  takes = takes_in_row (exit_of known.exits entry);
+  wants = bytes_of wants (Entry entry);
+  bound = bytes_of bytes (Entry entry);
+  returns = returns_in_row (exit_of known.exits entry);
+}
+
+pub record IsRowIn (known : Known) (wants bytes : List ℕ) (count : ℕ) (row : ProcRow) : Type 0 where
+  pub entered : IsEntered known row.entry
+  pub is : row ≡ row_of known wants bytes row.entry
+  pub before : row.entry < count
+
+-- the rows of the procedures whose entries are below an address
+pub record AreListed (known : Known) (wants bytes : List ℕ) (count : ℕ) (rows : List ProcRow) : Type 0 where
+  pub each : (row : ProcRow) → Contains rows row → IsRowIn known wants bytes count row
+  pub all : (entry : ℕ) → entry < count → IsEntered known entry → Contains rows (row_of known wants bytes entry)
+  pub by_entry : AllPairs (λ (a b : ProcRow). a.entry < b.entry) rows

@@ -1,0 +1,27 @@
+//! How many words each procedure takes at most.
+
+ghost use Rattle.std.specs.Prelude.{◌≡◌, IfOk, length};
+ghost use Rattle.flow80.specs.Survey.{AreWants};
+
+use crate::sums::{SLOTS, slot, table as slots};
+use crate::table::Table;
+use std::alloc::{AllocError, Global};
+
+/// The most words that each procedure takes from beneath its entry, by slot; 0 where it isn't reached.
+///
+/// # Errors
+/// `AllocError` where memory runs out.
+pub(crate) fn find_wants(alloc: Global, table: &Table) -> Result<Vec<u32>, AllocError>
+    ensures slots { IfOk result (λ wants. length wants.items ≡ 65537) }
+    ensures wants { IfOk result (λ wants. AreWants table.now.points wants.items (length table.now.points)) }
+{
+    let mut wants = slots(alloc, 0, SLOTS)?;
+    for point in 0..table.len() {
+        let place = slot(table.procedure(point));
+        let taken = table.frame(point).taken;
+        if taken > wants[place] {
+            wants[place] = taken;
+        }
+    }
+    Ok(wants)
+}
