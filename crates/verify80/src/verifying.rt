@@ -14,6 +14,15 @@ use std::alloc::Global;
 ///
 /// An image is accepted where no refusal holds of it. Where several hold, one of them is answered.
 ///
+/// # Example
+/// ```
+/// let report = verify(rt.alloc(), &image)?;
+/// println!(rt; "{} bytes of stack", report.stack_bytes)?;
+/// for row in &report.procedures {
+///     println!(rt; "{:04X} takes {} words", row.entry, row.takes)?;
+/// }
+/// ```
+///
 /// # Errors
 /// A refusal that holds of the image, or [`Refusal::Memory`] where memory runs out.
 pub fn verify(alloc: Global, image: &Image) -> Result<Report, Refusal>
