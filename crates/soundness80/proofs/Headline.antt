@@ -1,0 +1,215 @@
+-- A program that a table of frames fits never goes wrong.
+use Rattle.std.specs.Prelude.{◌≡◌, ℕ, zero, suc, ◌+◌, ◌-◌, ◌*◌, ◌%◌, ◌<◌, ◌≤◌, ◌↔◌, Bool, true, false, not, ◌&&◌, List, [], ◌∷◌, Option, None, Some, Result, Ok, Err, All, length, map, slice_index, slice_index_or, refl}
+use Rattle.std.specs.List.{list_all, range_with_len}
+use Rattle.std.specs.Result.{result_ok}
+use Rattle.std.proofs.Common.{◌∙◌, ap, sym, subst, arith, cond}
+use Rattle.std.proofs.lemmas.List.{length-map}
+use Rattle.decode80.specs.declared.instr.Instr.{Instr}
+use Rattle.decode80.specs.declared.instr.Instr.TheVariants.{Hlt, In, Out}
+use Rattle.decode80.specs.declared.fetching.Fetched.{Fetched}
+use Rattle.decode80.specs.Fetch.{direct_bytes, fetch as fetch_in}
+use Rattle.frames80.specs.declared.word.Word.TheVariants.{Own, Any}
+use Rattle.frames80.specs.declared.frame_pair.FramePair.{FramePair}
+use Rattle.frames80.specs.declared.frame_pair.FramePair.TheVariants.{Bc, De, Hl}
+use Rattle.frames80.specs.StackFrame.{main_frame, pair_in, unknown}
+use Rattle.frames80.specs.Places.{word_from_top, ChangesByPlaces, ReturnsByPlaces}
+use Rattle.place80.specs.Range.{in_range}
+use Rattle.place80.specs.Regions.{AreRegions, in_code, in_data}
+use Rattle.place80.specs.Image.{Located, memory_of, byte_at}
+use Rattle.machine80.specs.declared.end.End.{End}
+use Rattle.machine80.specs.declared.end.End.TheVariants.{StoreOutside, Stack, Direct}
+use Rattle.machine80.specs.Ports.{next_input}
+use Rattle.machine80.specs.Effects.{stack_bytes, pointed_bytes, target}
+use Rattle.machine80.specs.Step.{Machine, Turn, Next, Stop, fetch, guard, guarded, execute, with_input, step_on, first_outside, ends_at}
+use Rattle.machine80.specs.World.{World, world_at, world_at_start, turn_at, next_world, following, world_after, places_then, places_after, refuses, returns, IsJustBelow, IsWorldOf, fetched_by, FetchesInside, IsNewest, IsProperEnd, NeverGoesWrong}
+use Rattle.flow80.specs.declared.procedure.Procedure.TheVariants.{Main}
+use Rattle.flow80.specs.Walks.{role_of}
+use Rattle.flow80.specs.Fitting.{Table, Fits, IsFitted}
+use Rattle.verify80.specs.Looking.{code_of, look_at, stores_in_data}
+use Rattle.verify80.specs.LookLaws.{fetch_at, IsAdmitted, LooksFindWhatIsAdmitted}
+use Rattle.soundness80.proofs.StackLemmas.{pointer, stack_word, Touches}
+use Rattle.soundness80.proofs.StoreLemmas.{SameCode}
+use Rattle.soundness80.proofs.FetchLemmas.{fetch_same, fetched_inside, both}
+use Rattle.soundness80.proofs.ChainLemmas.{HasRoom, in_main, Watched, Arrives, arrived}
+use Rattle.soundness80.proofs.SafeLemmas.{Leads, Safe, is_safe}
+
+-- tests that hold of each item
+passes_on : (f : ℕ → Bool) (x : ℕ) (xs : List ℕ) → f x ≡ true → All (λ y. f y ≡ true) xs → All (λ y. f y ≡ true) (x ∷ xs)
+passes_on f x xs first rest = go where
+  go : (k d : ℕ) → k < length (x ∷ xs) → f (slice_index_or (x ∷ xs) k d) ≡ true
+  go zero d inside = first
+  go (suc k) d inside = rest k d (omega arith)
+
+all_pass : (f : ℕ → Bool) (xs : List ℕ) → list_all f xs ≡ true → All (λ x. f x ≡ true) xs
+all_pass f [] h = λ k d inside. absurd (omega arith)
+all_pass f (x ∷ xs) h = passes_on f x xs (both (f x) (list_all f xs) h).0 (all_pass f xs (both (f x) (list_all f xs) h).1)
+
+none_outside : (f : ℕ → Bool) (xs : List ℕ) → list_all f xs ≡ true → first_outside f xs ≡ None
+none_outside f [] h = refl
+none_outside f (x ∷ xs) h =
+    let parts = both (f x) (list_all f xs) h in
+    ap (λ (b : Bool). cond (not b) (Some x) (first_outside f xs)) parts.0 ∙ none_outside f xs parts.1
+
+-- what a turn leads to
+abbrev end_of_turn : End → Turn → End
+end_of_turn otherwise (Next m) = otherwise
+end_of_turn otherwise (Stop e) = e
+
+end_in : {e f : End} → Stop e ≡ Stop f → e ≡ f
+end_in {e} h = ap (end_of_turn e) h
+
+abbrev world_or : World → Option World → World
+world_or otherwise None = otherwise
+world_or otherwise (Some w) = w
+
+world_in : {w v : World} → Some w ≡ Some v → w ≡ v
+world_in {w} h = ap (world_or w) h
+
+-- an end of an instruction that is executed
+input_ends : (next port : ℕ) (m : Machine) (byte : Option ℕ) (e : End) → with_input m next port byte ≡ Stop e → IsProperEnd e
+input_ends next port m None e h = subst IsProperEnd (end_in h) tt
+input_ends next port m (Some byte) e h = cc
+
+output_ends : (refused : Bool) (next port : ℕ) (m : Machine) (e : End) → execute refused (Out port) next m ≡ Stop e → IsProperEnd e
+output_ends true next port m e h = subst IsProperEnd (end_in h) tt
+output_ends false next port m e h = cc
+
+execute_ends : (refused : Bool) (i : Instr) (next : ℕ) (m : Machine) (e : End) → execute refused i next m ≡ Stop e → IsProperEnd e
+execute_ends refused Hlt next m e h = subst IsProperEnd (end_in h) tt
+execute_ends refused (In port) next m e h = input_ends next port m (next_input m.inputs port) e h
+execute_ends refused (Out port) next m e h = output_ends refused next port m e h
+execute_ends refused i next m e h = cc
+
+guarded_ends : (o : Option ℕ) (refused : Bool) (found : Fetched) (m : Machine) (e : End) → guarded (ends_at o StoreOutside None) refused found m ≡ Stop e → IsProperEnd e
+guarded_ends None refused found m e h = execute_ends refused found.instr found.next m e h
+guarded_ends (Some a) refused found m e h = subst IsProperEnd (end_in h) tt
+
+-- what is fetched of the image is fetched of a memory with its code
+fetch_here : (image : Located) (memory : List ℕ) (at : ℕ) (found : Fetched) → SameCode image.regions (memory_of image.chunks) memory → fetch_at image.regions (memory_of image.chunks) at ≡ Ok found →
+    fetch image.regions memory at ≡ Some found
+unfolding fetch
+fetch_here image memory at found same is =
+    let there : fetch image.regions (memory_of image.chunks) at ≡ Some found = ap result_ok is in
+    fetch_same image.regions (memory_of image.chunks) memory at found (fetched_inside image.regions (memory_of image.chunks) at found there) same there
+
+range_length : (first count : ℕ) → length (range_with_len first count) ≡ count
+range_length first zero = refl
+range_length first (suc count) = ap suc (range_length (first + 1) count)
+
+full : (image : Located) → length (memory_of image.chunks) ≡ 65536
+unfolding memory_of
+full image = length-map (range_with_len 0 65536) (byte_at image.chunks) ∙ range_length 0 65536
+
+-- the instruction at a watched world is the image's
+module _ (image : Located) (table : Table) (most : ℕ) (rules : AreRegions image.regions) (fits : Fits (code_of image) table) (printed : table.bound Main ≡ most) (within : most ≤ image.regions.stack.length)
+    (changes : ChangesByPlaces) (returns_law : ReturnsByPlaces) (looks : LooksFindWhatIsAdmitted) where
+  record Finds (w : World) : Type 0 where
+    found : Fetched
+    fetched : fetched_by image.regions w ≡ Some found
+    stores : list_all (in_data image.regions) (direct_bytes found.instr) ≡ true
+    safe : Safe image table most w found.instr found.next
+
+  finds : (w : World) → Watched image table most w → Finds w
+  finds w s =
+      let fit = fits.frames s.procedure w.machine.cpu.pc s.frame s.there in
+      let admitted : IsAdmitted image.regions (memory_of image.chunks) w.machine.cpu.pc fit.found =
+      (looks image.regions (memory_of image.chunks) w.machine.cpu.pc fit.found).0 fit.moving.looked in
+      record {
+        found = fit.found;
+        fetched = fetch_here image w.machine.memory w.machine.cpu.pc fit.found s.code admitted.fetched;
+        stores = admitted.stores;
+        safe = is_safe image table most rules fits within changes returns_law w s fit.found.next fit.moves (record { on = fit.on; call = fit.call; return = fit.return }) fit.found.instr fit.moving.moved;
+      }
+
+  -- the turn of what is fetched
+  turn_there : (limit : Option ℕ) (w : World) (f : Finds w) → turn_at image.regions limit w ≡ guarded (guard image.regions f.found.instr w.machine.cpu) (refuses limit w.machine.outputs) f.found w.machine
+  turn_there limit w f = ap (λ (o : Option Fetched). step_on image.regions (refuses limit w.machine.outputs) o w.machine) f.fetched
+
+  -- the next world is watched too
+  turned : (w after : World) (f : Finds w) (t : Turn) (places : List ℕ) → places ≡ places_after f.found.instr f.found.next w.machine.cpu.registers.flags w.places →
+      ((m : Machine) → t ≡ Next m → Watched image table most (record { machine = m; places = places_after f.found.instr f.found.next w.machine.cpu.registers.flags w.places })) →
+      world_after t places ≡ Some after → Watched image table most after
+  turned w after f (Next m) places same watched h =
+      subst (λ (x : World). Watched image table most x) (world_in h)
+      (subst (λ (ps : List ℕ). Watched image table most (record { machine = m; places = ps })) (sym same) (watched m refl))
+  turned w after f (Stop e) places same watched h = cc
+
+  guarded_turn : (limit : Option ℕ) (w after : World) (f : Finds w) (g : Option End) (places : List ℕ) → guard image.regions f.found.instr w.machine.cpu ≡ g →
+      places ≡ places_after f.found.instr f.found.next w.machine.cpu.registers.flags w.places →
+      world_after (guarded g (refuses limit w.machine.outputs) f.found w.machine) places ≡ Some after → Watched image table most after
+  guarded_turn limit w after f (Some e) places pass same h = cc
+  guarded_turn limit w after f None places pass same h =
+      turned w after f (execute (refuses limit w.machine.outputs) f.found.instr f.found.next w.machine) places same (λ m e. f.safe.goes_on (refuses limit w.machine.outputs) m pass e) h
+
+  stays_watched : (limit : Option ℕ) (w after : World) → Watched image table most w → next_world image.regions limit w ≡ Some after → Watched image table most after
+  stays_watched limit w after s h =
+      let f : Finds w = finds w s in
+      let places : List ℕ = places_then (fetch image.regions w.machine.memory w.machine.cpu.pc) w.machine.cpu.registers.flags w.places in
+      guarded_turn limit w after f (guard image.regions f.found.instr w.machine.cpu) places refl
+      (ap (λ (o : Option Fetched). places_then o w.machine.cpu.registers.flags w.places) f.fetched)
+      (ap (λ (t : Turn). world_after t places) (sym (turn_there limit w f)) ∙ h)
+
+  followed : (limit : Option ℕ) (w : World) (o : Option World) → ((v : World) → o ≡ Some v → Watched image table most v) → following image.regions limit o ≡ Some w → Watched image table most w
+  followed limit w None before h = cc
+  followed limit w (Some v) before h = stays_watched limit v w (before v refl) h
+
+  -- the start is watched
+  begins_watched : (inputs : List (List ℕ)) (outputs : List (ℕ × ℕ)) → Watched image table most (world_at_start image inputs outputs)
+  begins_watched inputs outputs =
+      arrived image table most (world_at_start image inputs outputs).machine [] Main main_frame 0 0 (record {
+        has = fits.start;
+        pointer = (let e : (image.regions.stack.first + image.regions.stack.length) % 65536 ≡ pointer (image.regions.stack.first + image.regions.stack.length) (0 + 0) = ap (λ n. n % 65536) (let d : image.regions.stack.first + image.regions.stack.length ≡ image.regions.stack.first + image.regions.stack.length - 2 * (0 + 0) = omega arith in d) in e);
+        words = λ i own. absurd (let e : Any ≡ Own = own in cc);
+        pairs = λ pair own. absurd (none_known pair own);
+        chain = in_main Main 0 0 0 [] (record { procedure = refl; ground = refl; none = refl }) (record { fits = omega (arith, printed) });
+        code = record { bytes = λ a here. refl };
+        size = full image;
+      })
+    where
+      none_known : (pair : FramePair) → pair_in unknown pair ≡ Own → ⊥
+      none_known Bc own = let e : Any ≡ Own = own in cc
+      none_known De own = let e : Any ≡ Own = own in cc
+      none_known Hl own = let e : Any ≡ Own = own in cc
+
+  always_watched : (inputs : List (List ℕ)) (outputs : List (ℕ × ℕ)) (limit : Option ℕ) (n : ℕ) (w : World) → world_at image.regions limit (world_at_start image inputs outputs) n ≡ Some w → Watched image table most w
+  always_watched inputs outputs limit zero w h = subst (λ (x : World). Watched image table most x) (world_in h) (begins_watched inputs outputs)
+  always_watched inputs outputs limit (suc n) w h =
+      followed limit w (world_at image.regions limit (world_at_start image inputs outputs) n) (always_watched inputs outputs limit n) h
+
+  watched_of : (limit : Option ℕ) (w : World) → IsWorldOf image limit w → Watched image table most w
+  watched_of limit w at = always_watched at.inputs at.outputs limit at.steps w at.is
+
+  same_found : (w : World) (f : Finds w) (found : Fetched) → fetched_by image.regions w ≡ Some found → f.found ≡ found
+  same_found w f found fetched = let there = f.fetched in cc (there, fetched)
+
+  -- the guard finds a store through a pair alone
+  passes_guard : (w : World) (f : Finds w) → guard image.regions f.found.instr w.machine.cpu ≡ ends_at (first_outside (in_data image.regions) (pointed_bytes f.found.instr w.machine.cpu.registers)) StoreOutside None
+  passes_guard w f =
+      let last_one : Option End = ends_at (first_outside (in_data image.regions) (pointed_bytes f.found.instr w.machine.cpu.registers)) StoreOutside None in
+      let direct : first_outside (in_data image.regions) (direct_bytes f.found.instr) ≡ None = none_outside (in_data image.regions) (direct_bytes f.found.instr) f.stores in
+      ap (λ (o : Option ℕ). ends_at o Stack (ends_at (first_outside (in_data image.regions) (direct_bytes f.found.instr)) Direct last_one)) f.safe.touches.inside
+      ∙ ap (λ (o : Option ℕ). ends_at o Direct last_one) direct
+
+  pub never_goes_wrong : NeverGoesWrong image most
+  never_goes_wrong = record {
+    fetches_and_stores = λ limit w at.
+        let f = finds w (watched_of limit w at) in
+        record { found = f.found; fetched = f.fetched; direct = all_pass (in_data image.regions) (direct_bytes f.found.instr) f.stores };
+    returning = λ limit w found at fetched taken.
+        let f = finds w (watched_of limit w at) in
+        let same = same_found w f found fetched in
+        subst (λ (x : Fetched). returns x.instr w.machine.cpu.registers.flags ≡ true → IsNewest (target x.instr x.next w.machine.memory w.machine.cpu) w.places) same f.safe.returning taken;
+    stack = λ limit w found at fetched.
+        let f = finds w (watched_of limit w at) in
+        let same = same_found w f found fetched in
+        subst (λ (x : Fetched). All (IsJustBelow ((image.regions.stack.first + image.regions.stack.length) % 65536) most) (stack_bytes x.instr w.machine.cpu)) same f.safe.touches.below;
+    ends = λ limit w e at stops.
+        let f = finds w (watched_of limit w at) in
+        guarded_ends (first_outside (in_data image.regions) (pointed_bytes f.found.instr w.machine.cpu.registers)) (refuses limit w.machine.outputs) f.found w.machine e
+        (ap (λ (o : Option End). guarded o (refuses limit w.machine.outputs) f.found w.machine) (sym (passes_guard w f)) ∙ sym (turn_there limit w f) ∙ stops);
+  }
+
+-- an image that is fitted never goes wrong
+pub fitted_never_goes_wrong : ChangesByPlaces → ReturnsByPlaces → LooksFindWhatIsAdmitted → (image : Located) (bytes : ℕ) → AreRegions image.regions → IsFitted (code_of image) bytes → bytes ≤ image.regions.stack.length → NeverGoesWrong image bytes
+fitted_never_goes_wrong changes returns_law looks image bytes rules fitted enough =
+    never_goes_wrong image fitted.table bytes rules fitted.fits fitted.printed enough changes returns_law looks

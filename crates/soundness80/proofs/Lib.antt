@@ -1,0 +1,9 @@
+pub mod StackLemmas
+pub mod StoreLemmas
+pub mod FetchLemmas
+pub mod PairLemmas
+pub mod ChainLemmas
+pub mod StepLemmas
+pub mod ArriveLemmas
+pub mod SafeLemmas
+pub mod Headline

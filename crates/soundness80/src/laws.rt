@@ -1,0 +1,19 @@
+//! From a table of frames that fits an image to all runs of it.
+
+ghost use Rattle.soundness80.specs.Soundness.{FittedImagesNeverGoWrong};
+
+use frames80::{counts_decide, places_move};
+use verify80::looks_are_exact;
+
+/// Where a table of frames fits an image, and the stack has the bytes that the table says, then whatever waits at the ports,
+/// however many outputs are taken and however long the program runs, each of its steps fetches only inside code and stores by
+/// address only to data, touches as stack only so many bytes below the stack's top, and returns only to the place after the
+/// newest call that hasn't returned; and it ends, if at all, by HLT, at an empty port, at a refused output or at a store through
+/// a register pair outside data.
+pub fn fitted_images_never_go_wrong()
+    ensures { FittedImagesNeverGoWrong }
+{
+    places_move();
+    counts_decide();
+    looks_are_exact();
+}
