@@ -1,5 +1,5 @@
 -- What the verifier's tables say of runs. (This project's own.)
-use Rattle.std.specs.Prelude.{ℕ, ◌-◌, ◌≤◌}
+use Rattle.std.specs.Prelude.{ℕ, ◌≤◌}
 use Rattle.place80.specs.Regions.{AreRegions}
 use Rattle.place80.specs.Image.{Located}
 use Rattle.machine80.specs.World.{NeverGoesWrong}
