@@ -13,21 +13,18 @@ use programs::{PLAIN, PROGRAMS, Program};
 /// Why an output is refused where fewer are kept than the limit says.
 const NO_MEMORY: &str = "no memory for an output";
 
-/// A processor at its start, with its memory and ports.
+/// A processor at its start, with its memory.
 #[derive(Drop)]
 struct Board {
     cpu: Cpu,
     bus: FlatBus,
-    ports: ListPorts,
     regions: Regions,
 }
 
-/// Ports with no input that keep so many outputs.
-fn outputs_of(alloc: Global, limit: usize) -> ListPorts {
-    let inputs = Inputs {
+fn no_inputs(alloc: Global) -> Inputs {
+    Inputs {
         pairs: Vec::new(alloc),
-    };
-    ListPorts::new(alloc, inputs, limit)
+    }
 }
 
 /// A memory with bytes from an address on.
@@ -53,7 +50,6 @@ fn new_board(alloc: Global, regions: &[u8], start: u16, bytes: &[u8]) -> Result<
     Ok(Board {
         cpu: Cpu::start(start, &regions),
         bus: memory_with(alloc, start, bytes)?,
-        ports: outputs_of(alloc, 8),
         regions,
     })
 }
@@ -62,18 +58,19 @@ fn new_board(alloc: Global, regions: &[u8], start: u16, bytes: &[u8]) -> Result<
 /// only where there is no memory for it.
 fn goes_as_said(alloc: Global, program: &Program) -> Result<bool, Fail> {
     let mut board = new_board(alloc, program.regions, program.start, program.bytes)?;
+    let mut ports = ListPorts::new(alloc, no_inputs(alloc), 8);
     let advanced = advance(
         &mut board.cpu,
         &mut board.bus,
-        &mut board.ports,
+        &mut ports,
         &board.regions,
         100,
     );
-    if board.ports.refusals() > 0 {
+    if ports.refusals() > 0 {
         return Err(Fail::from(NO_MEMORY));
     }
     let ends = (advanced.end, advanced.steps, board.cpu.pc(), board.cpu.sp());
-    Ok(ends == program.ends && board.ports.outputs() == program.shows)
+    Ok(ends == program.ends && ports.outputs() == program.shows)
 }
 
 #[test]
@@ -87,13 +84,9 @@ fn programs_go_as_worked_out(rt: HostRuntime) -> Result<(), Fail> {
 /// One step of an instruction from flags byte 02: A and the flags byte after it.
 fn stepped(alloc: Global, bytes: &[u8], a: u8) -> Result<(Option<End>, u8, u8), Fail> {
     let mut board = new_board(alloc, PLAIN, 0x3000, bytes)?;
+    let mut ports = ListPorts::new(alloc, no_inputs(alloc), 0);
     board.cpu.registers.a = a;
-    let end = step(
-        &mut board.cpu,
-        &mut board.bus,
-        &mut board.ports,
-        &board.regions,
-    );
+    let end = step(&mut board.cpu, &mut board.bus, &mut ports, &board.regions);
     Ok((end, board.cpu.registers.a, board.cpu.flags_byte()))
 }
 
@@ -123,7 +116,7 @@ fn answers_and_flags(rt: HostRuntime) -> Result<(), Fail> {
 /// Of two outputs one is kept, and the other is refused and counted.
 #[test]
 fn an_output_past_the_limit(rt: HostRuntime) -> Result<(), Fail> {
-    let mut ports = outputs_of(rt.alloc(), 1);
+    let mut ports = ListPorts::new(rt.alloc(), no_inputs(rt.alloc()), 1);
     if ports.give(0xFF, 0x41).is_err() {
         return Err(Fail::from(NO_MEMORY));
     }
