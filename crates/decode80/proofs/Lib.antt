@@ -5,3 +5,4 @@ pub mod Decoded
 pub mod Unused
 pub mod Spellings
 pub mod FetchLemmas
+pub mod CodeAlone

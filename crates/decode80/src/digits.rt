@@ -12,7 +12,7 @@ pub(crate) fn digit(n: u8) -> [u8; 1]
 }
 
 /// A byte in two digits.
-pub(crate) fn byte_digits(byte: u8) -> [u8; 2]
+pub fn byte_digits(byte: u8) -> [u8; 2]
     ensures { result ≡ byte_text byte }
 {
     let [high] = digit(byte / 16);
@@ -21,7 +21,7 @@ pub(crate) fn byte_digits(byte: u8) -> [u8; 2]
 }
 
 /// A word in four digits.
-pub(crate) fn word_digits(word: u16) -> [u8; 4]
+pub fn word_digits(word: u16) -> [u8; 4]
     ensures { result ≡ word_text word }
 {
     let [high, low] = word.to_be_bytes();

@@ -1,8 +1,9 @@
-//! What holds of all spellings.
+//! What holds of all spellings, and of what is fetched.
 
 ghost use Rattle.std.specs.Prelude.{◌≡◌, ◌≢◌, ◌≤◌, ◌<◌, ◌↔◌, ◌⊎◌, ◌++◌, ◌∷◌, [], ℕ, List, Some, Contains, length, slice_index};
 ghost use Rattle.decode80.specs.declared.instr.Instr.{Instr};
 ghost use Rattle.decode80.specs.Decoded.{decoded, instructions, length_at};
+ghost use Rattle.decode80.specs.Fetch.{FetchReadsCodeAlone};
 ghost use Rattle.decode80.specs.Spelling.{padded, spelling, unused_bytes, BeginsWith, HasOperandInRange};
 
 /// The laws of spellings: a caller reads them off this function's contract. It does nothing.
@@ -33,4 +34,10 @@ pub fn spelling_laws()
         decoded first second third ≡ Some (i, n) → length_at first ≡ Some n }
     ensures decoded_in_range { (first second third : ℕ) → second < 256 → third < 256 → (i : Instr) (n : ℕ) →
         decoded first second third ≡ Some (i, n) → HasOperandInRange i }
+{}
+
+/// What is fetched depends on the bytes of code alone: a store outside code changes no instruction. It does nothing.
+#[inline]
+pub fn fetch_reads_code_alone()
+    ensures { FetchReadsCodeAlone }
 {}

@@ -8,7 +8,8 @@
 //! | [`fetch`] | the instruction at an address of a [`Program`], and the address after it |
 //! | [`direct_bytes`] | the addresses that an instruction names to store to |
 //! | [`write_text`] | the text of an instruction, as `MOV A,M` |
-//! | [`spelling_laws`] | what holds of all spellings, as a contract |
+//! | [`spelling_laws`], [`fetch_reads_code_alone`] | what holds of all spellings and of what is fetched, as contracts |
+//! | [`byte_digits`], [`word_digits`] | upper case hexadecimal digits |
 //! | [`Instr`] | one of the 244 instructions, with its operands |
 //! | [`Register`], [`Pair`], [`StackPair`], [`IndexPair`] | the registers and register pairs that an operand names |
 //! | [`Condition`], [`Operation`], [`Operand`], [`Rotation`], [`Restart`] | what else an instruction names |
@@ -34,10 +35,11 @@ mod text;
 
 pub use condition::Condition;
 pub use decoding::{decode, length_of};
+pub use digits::{byte_digits, word_digits};
 pub use encoding::encode;
 pub use fetching::{FetchFault, Fetched, Program, ahead, behind, direct_bytes, fetch};
 pub use instr::Instr;
-pub use laws::spelling_laws;
+pub use laws::{fetch_reads_code_alone, spelling_laws};
 pub use operation::{Operand, Operation};
 pub use pair::{IndexPair, Pair, StackPair};
 pub use register::Register;

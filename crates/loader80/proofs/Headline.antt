@@ -17,7 +17,7 @@ use Rattle.machine80.specs.declared.end.End.{End}
 use Rattle.machine80.specs.declared.end.End.TheVariants.{StoreOutside, Stack, Direct}
 use Rattle.machine80.specs.Ports.{next_input}
 use Rattle.machine80.specs.Flags.{holds}
-use Rattle.decode80.specs.Fetch.{ahead, direct_bytes, all_code, admitted, admitted_if_used, fetch as fetch_in}
+use Rattle.decode80.specs.Fetch.{ahead, direct_bytes, all_code, admitted, admitted_if_used, fetch as fetch_in, FetchReadsCodeAlone}
 use Rattle.decode80.specs.declared.fetching.FetchFault.TheVariants.{Outside}
 use Rattle.machine80.specs.Effects.{stack_bytes, pointed_bytes, target, stores, stored}
 use Rattle.machine80.specs.Step.{Machine, Turn, Next, Stop, fetch, guard, guarded, execute, proceeded, with_input, step_on, first_outside, ends_at}
@@ -245,6 +245,7 @@ guarded_ends (Some a) refused found m e h = subst IsProperEnd (end_in h) tt
 pub record InStep (image : Located) (w : World) : Type 0 where
   pub reached : Reached image w.machine.cpu.pc
   pub same : SameCode image.regions (memory_of image.chunks) w.machine.memory
+  pub law : FetchReadsCodeAlone
 
 -- what is fetched there
 pub record Finds (image : Located) (w : World) : Type 0 where
@@ -257,7 +258,7 @@ finds : (image : Located) (w : World) → IsSound image → InStep image w → F
 finds image w sound step =
     let each = sound.each w.machine.cpu.pc step.reached in
     let fine : IsFine image.regions (memory_of image.chunks) w.machine.cpu.pc each.0 = is_fine image.regions (memory_of image.chunks) w.machine.cpu.pc each.0 each.1 in
-    record { found = each.0; look = each.1; fine = fine; fetched = fetch_same image.regions (memory_of image.chunks) w.machine.memory w.machine.cpu.pc each.0 fine.here step.same fine.fetched }
+    record { found = each.0; look = each.1; fine = fine; fetched = fetch_same step.law image.regions (memory_of image.chunks) w.machine.memory w.machine.cpu.pc each.0 step.same fine.fetched }
 
 -- the turn of what is fetched
 turn_there : (image : Located) (most : Option ℕ) (w : World) (f : Finds image w) → turn_at image.regions most w ≡ guarded (guard image.regions f.found.instr w.machine.cpu) (refuses most w.machine.outputs) f.found w.machine
@@ -268,6 +269,7 @@ next_in_step : (image : Located) (w after : World) (f : Finds image w) → IsSou
 next_in_step image w after f sound step follows = record {
   reached = leads w.machine.cpu.pc after.machine.cpu.pc f.found step.reached f.look follows.leads_to;
   same = record { bytes = λ a c. step.same.bytes a c ∙ sym (follows.code a c) };
+  law = step.law;
 }
 
 turned_in_step : (image : Located) (w after : World) (f : Finds image w) (t : Turn) (places : List ℕ) → IsSound image → InStep image w →
@@ -295,12 +297,12 @@ followed image most w None sound before h = cc
 followed image most w (Some v) sound before h = stays_in_step image most v w sound (before v refl) h
 
 -- every world after the start is in step
-pub always_in_step : (image : Located) (inputs : List (List ℕ)) (outputs : List (ℕ × ℕ)) (most : Option ℕ) → IsSound image → (n : ℕ) (w : World) → world_at image.regions most (world_at_start image inputs outputs) n ≡ Some w → InStep image w
-always_in_step image inputs outputs most sound zero w h =
-    let begun : InStep image (world_at_start image inputs outputs) = record { reached = starts image.start refl; same = record { bytes = λ a c. refl } } in
+pub always_in_step : FetchReadsCodeAlone → (image : Located) (inputs : List (List ℕ)) (outputs : List (ℕ × ℕ)) (most : Option ℕ) → IsSound image → (n : ℕ) (w : World) → world_at image.regions most (world_at_start image inputs outputs) n ≡ Some w → InStep image w
+always_in_step law image inputs outputs most sound zero w h =
+    let begun : InStep image (world_at_start image inputs outputs) = record { reached = starts image.start refl; same = record { bytes = λ a c. refl }; law = law } in
     subst (λ (x : World). InStep image x) (world_in h) begun
-always_in_step image inputs outputs most sound (suc n) w h =
-    followed image most w (world_at image.regions most (world_at_start image inputs outputs) n) sound (always_in_step image inputs outputs most sound n) h
+always_in_step law image inputs outputs most sound (suc n) w h =
+    followed image most w (world_at image.regions most (world_at_start image inputs outputs) n) sound (always_in_step law image inputs outputs most sound n) h
 
 -- the next step of a world in step: what it fetches and stores, that it touches no stack, and its end
 inside_in_step : (image : Located) (w : World) → IsSound image → InStep image w → FetchesInside image.regions w
@@ -328,14 +330,14 @@ proper_in_step image most w e sound step h =
     (ap (λ (o : Option End). guarded o (refuses most w.machine.outputs) f.found w.machine) (sym g) ∙ sym (turn_there image most w f) ∙ h)
 
 -- every world of a run is in step
-world_in_step : (image : Located) (most : Option ℕ) (w : World) → IsSound image → IsWorldOf image most w → InStep image w
-world_in_step image most w sound at = always_in_step image at.inputs at.outputs most sound at.steps w at.is
+world_in_step : FetchReadsCodeAlone → (image : Located) (most : Option ℕ) (w : World) → IsSound image → IsWorldOf image most w → InStep image w
+world_in_step law image most w sound at = always_in_step law image at.inputs at.outputs most sound at.steps w at.is
 
 -- a program whose reached points have no fault never goes wrong, and needs no byte of stack
-pub never_goes_wrong : (image : Located) → IsSound image → NeverGoesWrong image 0
-never_goes_wrong image sound = record {
-  fetches_and_stores = λ most w at. inside_in_step image w sound (world_in_step image most w sound at);
-  returning = λ most w found at fetched taken. absurd (true≢false (sym taken ∙ quiet_returns found.instr w.machine.cpu.registers.flags (quiet_in_step image w found sound (world_in_step image most w sound at) fetched)));
-  stack = λ most w found at fetched. none_fail (λ a. IsJustBelow (top_of image.regions) 0 a) (stack_bytes found.instr w.machine.cpu) (quiet_stack found.instr w.machine.cpu (quiet_in_step image w found sound (world_in_step image most w sound at) fetched));
-  ends = λ most w e at stops. proper_in_step image most w e sound (world_in_step image most w sound at) stops;
+pub never_goes_wrong : FetchReadsCodeAlone → (image : Located) → IsSound image → NeverGoesWrong image 0
+never_goes_wrong law image sound = record {
+  fetches_and_stores = λ most w at. inside_in_step image w sound (world_in_step law image most w sound at);
+  returning = λ most w found at fetched taken. absurd (true≢false (sym taken ∙ quiet_returns found.instr w.machine.cpu.registers.flags (quiet_in_step image w found sound (world_in_step law image most w sound at) fetched)));
+  stack = λ most w found at fetched. none_fail (λ a. IsJustBelow (top_of image.regions) 0 a) (stack_bytes found.instr w.machine.cpu) (quiet_stack found.instr w.machine.cpu (quiet_in_step image w found sound (world_in_step law image most w sound at) fetched));
+  ends = λ most w e at stops. proper_in_step image most w e sound (world_in_step law image most w sound at) stops;
 }

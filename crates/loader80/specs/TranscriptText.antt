@@ -4,7 +4,7 @@ use Rattle.std.specs.Fmt.{decimal}
 use Rattle.std.specs.List.{flat_map}
 use Rattle.machine80.specs.declared.end.End.{End}
 use Rattle.machine80.specs.declared.end.End.TheVariants.{Halt, InputEnd, OutputRefused, StoreOutside, Fetch, Stack, Direct}
-use Rattle.loader80.specs.HexText.{byte_digits, word_digits}
+use Rattle.decode80.specs.Text.{byte_text, word_text}
 use Rattle.loader80.specs.declared.refusal.Refusal.{Refusal}
 use Rattle.loader80.specs.declared.refusal.Refusal.TheVariants.{NotYet, FetchOutside, UnusedOpcode, EnablesInterrupts, Sphl, Pchl, StackByByte, DirectStore, Memory}
 
@@ -14,7 +14,7 @@ stack_line bytes = codes "STACK " ++ decimal bytes ++ 10 ∷ []
 
 -- one output: the port and the byte
 abbrev pub output_line : ℕ × ℕ → List ℕ
-output_line output = codes "OUT " ++ byte_digits output.0 ++ 32 ∷ byte_digits output.1 ++ 10 ∷ []
+output_line output = codes "OUT " ++ byte_text output.0 ++ 32 ∷ byte_text output.1 ++ 10 ∷ []
 
 -- how many steps were made, the ending one too
 abbrev pub after_steps : ℕ → List ℕ
@@ -23,10 +23,10 @@ after_steps steps = codes " AFTER " ++ decimal steps ++ 10 ∷ []
 -- how the run ended, None where the steps were used up; a verified program has none of the wrong ends, and no line is for them
 abbrev pub end_line : Option End → ℕ → ℕ → List ℕ
 end_line None at steps = codes "STEPS" ++ after_steps steps
-end_line (Some Halt) at steps = codes "HALT " ++ word_digits at ++ after_steps steps
-end_line (Some (InputEnd port)) at steps = codes "INPUT " ++ byte_digits port ++ after_steps steps
-end_line (Some (OutputRefused port)) at steps = codes "OUTPUT " ++ byte_digits port ++ after_steps steps
-end_line (Some (StoreOutside address)) at steps = codes "STORE " ++ word_digits address ++ after_steps steps
+end_line (Some Halt) at steps = codes "HALT " ++ word_text at ++ after_steps steps
+end_line (Some (InputEnd port)) at steps = codes "INPUT " ++ byte_text port ++ after_steps steps
+end_line (Some (OutputRefused port)) at steps = codes "OUTPUT " ++ byte_text port ++ after_steps steps
+end_line (Some (StoreOutside address)) at steps = codes "STORE " ++ word_text address ++ after_steps steps
 end_line (Some (Fetch address)) at steps = []
 end_line (Some (Stack address)) at steps = []
 end_line (Some (Direct address)) at steps = []
@@ -37,7 +37,7 @@ transcript stack_bytes outputs «end» at steps = stack_line stack_bytes ++ flat
 
 -- the line for an image that is refused: the refusal's number and name, and the address
 abbrev pub refused_at : List ℕ → ℕ → List ℕ
-refused_at name at = codes "REFUSED " ++ (name ++ (codes " AT " ++ (word_digits at ++ 10 ∷ [])))
+refused_at name at = codes "REFUSED " ++ (name ++ (codes " AT " ++ (word_text at ++ 10 ∷ [])))
 
 abbrev pub refusal_line : Refusal → List ℕ
 refusal_line (NotYet at) = refused_at (codes "0 NotYet") at

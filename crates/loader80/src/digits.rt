@@ -1,8 +1,7 @@
 //! Hexadecimal digits, read and written.
-ghost use Rattle.std.specs.Prelude.{◌≡◌, ◌<◌, true, IfOk, vec_items};
-ghost use Rattle.std.specs.Fmt.{digit_glyph};
+ghost use Rattle.std.specs.Prelude.{◌≡◌, IfOk, vec_items};
 ghost use Rattle.std.specs.Option.{option_map};
-ghost use Rattle.loader80.specs.HexText.{byte_digits, bytes_spelled, word_digits};
+ghost use Rattle.loader80.specs.HexText.{bytes_spelled};
 
 use hex::FromHexError;
 use std::alloc::{AllocError, Global};
@@ -20,44 +19,15 @@ pub fn bytes_of_digits(alloc: Global, digits: &[u8]) -> Result<Option<Vec<u8>>, 
     }
 }
 
-/// A byte as two hexadecimal digits in upper case.
-pub fn digits_of_byte(byte: u8) -> [u8; 2]
-    ensures { result ≡ byte_digits byte }
-{
-    [digit_of(byte / 16), digit_of(byte % 16)]
-}
-
-/// A word as four hexadecimal digits in upper case.
-pub fn digits_of_word(word: u16) -> [u8; 4]
-    ensures { result ≡ word_digits word }
-{
-    let [high, low] = word.to_be_bytes();
-    let [first, second] = digits_of_byte(high);
-    let [third, fourth] = digits_of_byte(low);
-    [first, second, third, fourth]
-}
-
-/// The hexadecimal digit of a value below 16, in upper case.
-fn digit_of(value: u8) -> u8
-    requires { value < 16 }
-    ensures { result ≡ digit_glyph true value }
-{
-    if value < 10 {
-        b'0' + value
-    } else {
-        b'A' + (value - 10)
-    }
-}
-
 /// A byte that is printed as two hexadecimal digits in upper case.
 #[derive(Clone, Copy, Debug)]
 pub struct ByteDigits(pub u8);
 
 impl fmt::Display for ByteDigits {
     ghost use Rattle.std.specs.Prelude.{Some};
-    ghost use Rattle.loader80.specs.HexText.{byte_digits};
+    ghost use Rattle.decode80.specs.Text.{byte_text};
 
-    ghost output = { λ byte. Some (byte_digits byte.0) };
+    ghost output = { λ byte. Some (byte_text byte.0) };
 
     fn fmt<W: fmt::Write>(&self, f: &mut fmt::Formatter<W>) -> fmt::Result {
         let byte = self.0;
@@ -71,9 +41,9 @@ pub struct WordDigits(pub u16);
 
 impl fmt::Display for WordDigits {
     ghost use Rattle.std.specs.Prelude.{Some};
-    ghost use Rattle.loader80.specs.HexText.{word_digits};
+    ghost use Rattle.decode80.specs.Text.{word_text};
 
-    ghost output = { λ word. Some (word_digits word.0) };
+    ghost output = { λ word. Some (word_text word.0) };
 
     fn fmt<W: fmt::Write>(&self, f: &mut fmt::Formatter<W>) -> fmt::Result {
         let word = self.0;

@@ -6,6 +6,7 @@ ghost use Rattle.loader80.specs.Check.{IsSound, Holds};
 
 use crate::checking::check;
 use crate::refusal::Refusal;
+use decode80::fetch_reads_code_alone;
 use place80::Image;
 use std::alloc::Global;
 use std::marker::Model;
@@ -73,6 +74,7 @@ impl Vouched {
         // No instruction that touches the stack is accepted yet.
         ensures none { result ≡ 0 }
     {
+        fetch_reads_code_alone();
         self.stack_bytes
     }
 
@@ -97,6 +99,7 @@ pub fn vouch(alloc: Global, image: Image) -> Result<Vouched, (Image, Refusal)>
     ensures handed_back { IfErr result (λ refused. refused.0 ≡ image) }
     ensures refused { IfErr result (λ refused. Holds image refused.1) }
 {
+    fetch_reads_code_alone();
     match check(alloc, &image) {
         Ok(()) => Ok(Vouched {
             image,

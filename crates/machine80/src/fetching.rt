@@ -73,13 +73,23 @@ fn spans(range: Range, first: usize, end: usize) -> bool
 
 /// The instruction at an address and the address after it; `None` where its first byte is unused, or where one of its
 /// bytes is no code or lies past FFFF.
-#[inline]
+#[inline(always)]
 #[tactic(auto, unfolding(crate::specs::Step::fetch))]
 pub fn fetch<B: Bus>(address: u16, bus: &B, regions: &Regions) -> Option<Fetched>
     ensures { result ≡ fetch regions.now (B.memory bus.now) address }
 {
     match regions.code() {
         [only] => decode80::fetch(address, &InRange { bus, code: *only }).ok(),
-        _ => decode80::fetch(address, &InRegions { bus, regions }).ok(),
+        _ => fetch_in_regions(address, bus, regions),
     }
+}
+
+/// The same for any number of ranges, which few programs have: it stands apart, so that [`fetch`] stays short enough to become
+/// a part of each step.
+#[inline(never)]
+#[tactic(auto, unfolding(crate::specs::Step::fetch))]
+fn fetch_in_regions<B: Bus>(address: u16, bus: &B, regions: &Regions) -> Option<Fetched>
+    ensures { result ≡ fetch regions.now (B.memory bus.now) address }
+{
+    decode80::fetch(address, &InRegions { bus, regions }).ok()
 }

@@ -34,19 +34,20 @@ fn lines_in_any_order(rt: HostRuntime) -> Result<(), Fail> {
     Ok(())
 }
 
+static REFUSED: [(&[u8], RegionsFault); 4] = [
+    (
+        b"REGIONS 1\nCODE 3000 0010\nSTACK 300F 0002\n",
+        RegionsFault::RegionsOverlap,
+    ),
+    (b"REGIONS 1\nCODE 3000 0010\n", RegionsFault::NoStack),
+    (b"REGIONS 1\nCODE FFFF 0002\n", RegionsFault::BadLine(2)),
+    (b"REGIONS 9\n", RegionsFault::BadVersion),
+];
+
 #[test]
 fn texts_that_are_refused(rt: HostRuntime) {
-    let cases: [(&[u8], RegionsFault); 4] = [
-        (
-            b"REGIONS 1\nCODE 3000 0010\nSTACK 300F 0002\n",
-            RegionsFault::RegionsOverlap,
-        ),
-        (b"REGIONS 1\nCODE 3000 0010\n", RegionsFault::NoStack),
-        (b"REGIONS 1\nCODE FFFF 0002\n", RegionsFault::BadLine(2)),
-        (b"REGIONS 9\n", RegionsFault::BadVersion),
-    ];
-    for (text, fault) in cases {
-        assert_eq!(rt; read_regions(rt.alloc(), text).err(), Some(fault));
+    for (text, fault) in &REFUSED {
+        assert_eq!(rt; read_regions(rt.alloc(), text).err(), Some(*fault));
     }
 }
 
@@ -54,27 +55,30 @@ fn map(alloc: Global) -> Result<RegionMap, Fail> {
     Ok(RegionMap::new(alloc, &read_regions(alloc, REGIONS)?)?)
 }
 
+/// Which addresses are code and data.
+static MAP: [(u16, bool, bool); 8] = [
+    (0x0000, false, true),
+    (0x0001, false, false),
+    (0x2FFF, false, false),
+    (0x3000, true, false),
+    (0x3001, true, false),
+    (0x3002, false, true),
+    (0x3003, false, false),
+    (0xFFFF, false, false),
+];
+
 #[test]
 fn the_map_of_regions(rt: HostRuntime) -> Result<(), Fail> {
     let map = map(rt.alloc())?;
-    for (address, code, data) in [
-        (0x0000, false, true),
-        (0x0001, false, false),
-        (0x2FFF, false, false),
-        (0x3000, true, false),
-        (0x3001, true, false),
-        (0x3002, false, true),
-        (0x3003, false, false),
-        (0xFFFF, false, false),
-    ] {
-        assert_eq!(rt; map.is_code(address), code);
-        assert_eq!(rt; map.is_data(address), data);
+    for (address, code, data) in &MAP {
+        assert_eq!(rt; map.is_code(*address), *code);
+        assert_eq!(rt; map.is_data(*address), *data);
     }
     Ok(())
 }
 
 /// An image of three contents, of which the second overlaps the first.
-const THREE: &[u8] = &[
+static THREE: [u8; 50] = [
     0x02, 0x05, 0x00, 0x01, 0x41, 0x00, 0x00, 0xB7, // module header
     0x06, 0x07, 0x00, 0x00, 0x00, 0x30, 0x11, 0x22, 0x33, 0x5D, // content at 3000
     0x06, 0x07, 0x00, 0x00, 0x01, 0x30, 0xC3, 0x34, 0x12, 0xB9, // content at 3001
@@ -85,11 +89,11 @@ const THREE: &[u8] = &[
 
 fn image(alloc: Global) -> Result<Image, Fail> {
     let regions = read_regions(alloc, REGIONS)?;
-    Ok(read_image(alloc, THREE, regions).map_err(|(_, fault)| fault)?)
+    Ok(read_image(alloc, &THREE, regions).map_err(|(_, fault)| fault)?)
 }
 
 /// The bytes at some addresses: of two contents that overlap the later one counts, and what none covers is 0.
-const BYTES: [(u16, u8); 7] = [
+static BYTES: [(u16, u8); 7] = [
     (0x2FFF, 0x00),
     (0x3000, 0x11),
     (0x3001, 0xC3),
@@ -102,8 +106,8 @@ const BYTES: [(u16, u8); 7] = [
 #[test]
 fn the_bytes_of_an_image(rt: HostRuntime) -> Result<(), Fail> {
     let image = image(rt.alloc())?;
-    for (address, byte) in BYTES {
-        assert_eq!(rt; image.byte(address), byte);
+    for (address, byte) in &BYTES {
+        assert_eq!(rt; image.byte(*address), *byte);
     }
     Ok(())
 }
@@ -111,8 +115,8 @@ fn the_bytes_of_an_image(rt: HostRuntime) -> Result<(), Fail> {
 #[test]
 fn the_memory_of_an_image(rt: HostRuntime) -> Result<(), Fail> {
     let memory = image(rt.alloc())?.memory(rt.alloc())?;
-    for (address, byte) in BYTES {
-        assert_eq!(rt; memory.get(usize::from(address)).copied(), Some(byte));
+    for (address, byte) in &BYTES {
+        assert_eq!(rt; memory.get(usize::from(*address)).copied(), Some(*byte));
     }
     Ok(())
 }

@@ -7,7 +7,7 @@ use Rattle.decode80.specs.Decoded.{decoded}
 use Rattle.decode80.specs.Text.{text}
 use Rattle.place80.specs.declared.range.Range.{Range}
 use Rattle.place80.specs.Image.{Located, memory_of}
-use Rattle.loader80.specs.HexText.{byte_digits, word_digits}
+use Rattle.decode80.specs.Text.{byte_text, word_text}
 
 -- three bytes from an address on; 0000 follows FFFF
 abbrev pub bytes_from : List ℕ → ℕ → List ℕ
@@ -33,7 +33,7 @@ line_text None = codes "??"
 
 -- the columns before the text: the address, and the digits of the bytes, filled to six places
 abbrev pub columns : ℕ → List ℕ → List ℕ
-columns at bytes = word_digits at ++ 32 ∷ (flat_map byte_digits bytes ++ drop (2 * length bytes) (codes "      ")) ++ 32 ∷ []
+columns at bytes = word_text at ++ 32 ∷ (flat_map byte_text bytes ++ drop (2 * length bytes) (codes "      ")) ++ 32 ∷ []
 
 -- a line
 abbrev pub list_line : ℕ → List ℕ → Option (Instr × ℕ) → List ℕ

@@ -10,7 +10,7 @@ use place80::lines::first_line;
 use std::alloc::{AllocError, Global};
 
 /// The three texts of a bundle: the bytes of the image, the regions and the inputs.
-#[derive(Debug, Drop)]
+#[derive(Drop)]
 pub struct BundleTexts<'a> {
     pub image: Vec<u8>,
     pub regions: &'a [u8],

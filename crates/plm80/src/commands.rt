@@ -1,16 +1,16 @@
 //! The commands of the program: what the words ask for, done with files. Tests show what they print.
 
-mod command_fault;
+mod fault_line;
 mod files;
 pub mod list_text;
 mod listing;
 mod locating;
 pub mod number_text;
-mod numbers;
 mod running;
+mod syntax;
 mod words;
 
-use command_fault::CommandFault;
+use fault_line::{Reported, report, report_memory};
 use std::fmt::Display;
 use std::process::ExitCode;
 use words::{Request, read_words};
@@ -24,7 +24,7 @@ pub fn answer_words(rt: &HostRuntime, words: &[String]) -> ExitCode {
     };
     match perform(rt, request) {
         Ok(status) => ExitCode::from(status),
-        Err(fault) => fail(rt, fault),
+        Err(Reported) => ExitCode::from(2),
     }
 }
 
@@ -35,24 +35,25 @@ pub fn refuse_words(rt: &HostRuntime) -> ExitCode {
 
 /// Prints a fault on standard error, and gives its exit status.
 pub fn fail(rt: &HostRuntime, fault: impl Display + Drop) -> ExitCode {
-    let _ = eprintln!(rt; "plm80: {fault}");
+    let Reported = report(rt, fault);
     ExitCode::from(2)
 }
 
 /// Does what is asked for, and gives the exit status.
-fn perform<'a>(rt: &HostRuntime, request: Request<'a>) -> Result<u8, CommandFault<'a>> {
+fn perform(rt: &HostRuntime, request: Request<'_>) -> Result<u8, Reported> {
     match request {
         Request::Locate(words) => locating::locate_file(rt, words),
         Request::Run(words) => running::run_files(rt, words),
         Request::List(words) => listing::list_files(rt, words),
-        Request::Later => Err(CommandFault::NotYet),
+        Request::Later => Err(report(rt, "NotYet")),
     }
 }
 
 /// Prints what clap says of the words, a mistake or help, on standard error, and gives the exit status.
 fn tell_words(rt: &HostRuntime, error: &clap::Error) -> ExitCode {
     if error.kind() == clap::error::ErrorKind::OutOfMemory {
-        return fail(rt, CommandFault::Memory);
+        let Reported = report_memory(rt);
+        return ExitCode::from(2);
     }
     let _ = eprint!(rt; "{error}");
     ExitCode::from(2)

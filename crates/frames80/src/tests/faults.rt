@@ -31,24 +31,26 @@ fn refused(
 }
 
 /// SPHL, PCHL, INX SP, DCX SP, LXI SP,3100, pops of no words, returns.
+#[rattlefmt::skip]
+static IN_MAIN: [(u8, FrameFault, u8); 10] = [
+    (0xF9, FrameFault::Sphl, 4),
+    (0xE9, FrameFault::Pchl, 5),
+    (0x33, FrameFault::StackByByte, 6),
+    (0x3B, FrameFault::StackByByte, 6),
+    (0x31, FrameFault::SetsStack, 7),
+    (0xC1, FrameFault::PopsBelow, 9),
+    (0xF1, FrameFault::PopsBelow, 9),
+    (0xE3, FrameFault::PopsBelow, 9),
+    (0xC9, FrameFault::ReturnFromMain, 11),
+    (0xC8, FrameFault::ReturnFromMain, 11),
+];
+
 #[test]
 fn the_main_program_is_refused(rt: HostRuntime) -> Result<(), Fail> {
     let frame = Frame::main_entry(rt.alloc())?;
-    let rows = [
-        (0xF9, FrameFault::Sphl, 4),
-        (0xE9, FrameFault::Pchl, 5),
-        (0x33, FrameFault::StackByByte, 6),
-        (0x3B, FrameFault::StackByByte, 6),
-        (0x31, FrameFault::SetsStack, 7),
-        (0xC1, FrameFault::PopsBelow, 9),
-        (0xF1, FrameFault::PopsBelow, 9),
-        (0xE3, FrameFault::PopsBelow, 9),
-        (0xC9, FrameFault::ReturnFromMain, 11),
-        (0xC8, FrameFault::ReturnFromMain, 11),
-    ];
-    for (first, fault, code) in rows {
-        refused(&rt, rt.alloc(), &frame, [first, 0x00, 0x31], MAIN, fault)?;
-        assert_eq!(rt; fault.code(), code);
+    for (first, fault, code) in &IN_MAIN {
+        refused(&rt, rt.alloc(), &frame, [*first, 0x00, 0x31], MAIN, *fault)?;
+        assert_eq!(rt; fault.code(), *code);
     }
     Ok(())
 }
@@ -67,40 +69,39 @@ fn an_entry_sets_no_stack(rt: HostRuntime) -> Result<(), Fail> {
     )
 }
 
-/// RET and RZ where the words are not the return address alone: none, one that may be any, the address under another word.
+/// Words that are not the return address alone: none, one that may be any, the address under another word.
+static NOT_THE_ADDRESS_ALONE: [&[Word]; 4] = [&[], &[Any], &[Own, Any], &[Own, Own]];
+
+/// RET and RZ.
 #[test]
 fn a_return_needs_the_address_alone(rt: HostRuntime) -> Result<(), Fail> {
-    let rows: [&[Word]; 4] = [&[], &[Any], &[Own, Any], &[Own, Own]];
-    for words in rows {
+    for words in &NOT_THE_ADDRESS_ALONE {
         let frame = frame_of(rt.alloc(), 1, words, [Any, Own, Any])?;
-        for first in [0xC9, 0xC8] {
-            refused(
-                &rt,
-                rt.alloc(),
-                &frame,
-                [first, 0x00, 0x00],
-                Entry,
-                FrameFault::ReturnNotOwn,
-            )?;
-        }
+        return_refused(&rt, rt.alloc(), &frame, 0xC9)?;
+        return_refused(&rt, rt.alloc(), &frame, 0xC8)?;
     }
     assert_eq!(rt; FrameFault::ReturnNotOwn.code(), 10);
     assert_eq!(rt; FrameFault::Memory.code(), 18);
     Ok(())
 }
 
-/// A callee that wants a word: the main program needs one, a procedure one above its bottom word, whatever that is.
+fn return_refused(rt: &impl Abort, alloc: Global, frame: &Frame, first: u8) -> Result<(), Fail> {
+    let bytes = [first, 0x00, 0x00];
+    refused(rt, alloc, frame, bytes, Entry, FrameFault::ReturnNotOwn)
+}
+
+/// Roles and words of callers that are short of the word that a callee wants: the main program needs one, a procedure one
+/// above its bottom word, whatever that is.
+static SHORT: [(Role, &[Word]); 3] = [(MAIN, &[]), (Entry, &[]), (Entry, &[Any])];
+
 #[test]
 fn a_caller_is_short(rt: HostRuntime) -> Result<(), Fail> {
-    let rows: [(Role, &[Word]); 3] = [(MAIN, &[]), (Entry, &[]), (Entry, &[Any])];
-    for (role, words) in rows {
+    for (role, words) in &SHORT {
         let frame = frame_of(rt.alloc(), 0, words, [Any, Any, Any])?;
         assert!(rt; frame.taken <= 1_000_000);
         assert!(rt; frame.words.len() <= 1_000_000);
-        match after(rt.alloc(), &frame, role, 1, 0) {
-            Ok(_) => assert!(rt; false, "it isn't refused"),
-            Err(fault) => assert_eq!(rt; fault, CallFault::ShortArguments),
-        }
+        let fault = after(rt.alloc(), &frame, *role, 1, 0).err();
+        assert!(rt; fault == Some(CallFault::ShortArguments));
     }
     assert_eq!(rt; CallFault::ShortArguments.code(), 14);
     assert_eq!(rt; CallFault::Memory.code(), 18);

@@ -15,36 +15,40 @@ fn deep(rt: &impl Abort, frame: &Frame, wanted: i64) {
     assert_eq!(rt; depth(frame, Entry), wanted);
 }
 
-/// POP D, POP B, PUSH D, MOV A,C, OUT 01, RET: a procedure that takes one word.
+/// POP D, POP B, PUSH D, MOV A,C, OUT 01: words taken, own words, DE and the depth after each.
+#[rattlefmt::skip]
+static STEPS: [([u8; 3], u32, &[Word], Word, i64); 5] = [
+    ([0xD1, 0x00, 0x00], 0, &[], Own, -2),
+    ([0xC1, 0x00, 0x00], 1, &[], Own, -4),
+    ([0xD5, 0x00, 0x00], 1, &[Own], Own, -2),
+    ([0x79, 0x00, 0x00], 1, &[Own], Own, -2),
+    ([0xD3, 0x01, 0x00], 1, &[Own], Own, -2),
+];
+
+/// Those steps and RET: a procedure that takes one word.
 #[test]
 fn a_callee_takes_one_word(rt: HostRuntime) -> Result<(), Fail> {
     let mut frame = Frame::entry(rt.alloc())?;
     assert_frame(&rt, &frame, 0, &[Own], [Any, Any, Any]);
-    let none: &[Word] = &[];
-    let own: &[Word] = &[Own];
-    let rows = [
-        ([0xD1, 0x00, 0x00], 0, none, Own, -2),
-        ([0xC1, 0x00, 0x00], 1, none, Own, -4),
-        ([0xD5, 0x00, 0x00], 1, own, Own, -2),
-        ([0x79, 0x00, 0x00], 1, own, Own, -2),
-        ([0xD3, 0x01, 0x00], 1, own, Own, -2),
-    ];
-    for (bytes, taken, words, de, wanted) in rows {
-        frame = stepped(&rt, rt.alloc(), &frame, bytes, Entry)?;
-        assert_frame(&rt, &frame, taken, words, [Any, de, Any]);
-        deep(&rt, &frame, wanted);
+    for (bytes, taken, words, de, wanted) in &STEPS {
+        frame = stepped(&rt, rt.alloc(), &frame, *bytes, Entry)?;
+        assert_frame(&rt, &frame, *taken, words, [Any, *de, Any]);
+        deep(&rt, &frame, *wanted);
     }
     let last = moved(&rt, rt.alloc(), &frame, [0xC9, 0x00, 0x00], Entry)?;
     assert_eq!(rt; kind(&last), ("return", 1));
     Ok(())
 }
 
-/// LXI SP,3200, LXI H,0005, PUSH H, CALL 300B of a procedure that takes one word, HLT.
+/// LXI SP,3200, LXI H,0005, PUSH H.
+static BEFORE_THE_CALL: [[u8; 3]; 3] = [[0x31, 0x00, 0x32], [0x21, 0x05, 0x00], [0xE5, 0x00, 0x00]];
+
+/// Those steps, CALL 300B of a procedure that takes one word, HLT.
 #[test]
 fn its_caller_loses_the_word(rt: HostRuntime) -> Result<(), Fail> {
     let mut frame = Frame::main_entry(rt.alloc())?;
-    for bytes in [[0x31, 0x00, 0x32], [0x21, 0x05, 0x00], [0xE5, 0x00, 0x00]] {
-        frame = stepped(&rt, rt.alloc(), &frame, bytes, MAIN)?;
+    for bytes in &BEFORE_THE_CALL {
+        frame = stepped(&rt, rt.alloc(), &frame, *bytes, MAIN)?;
     }
     assert_frame(&rt, &frame, 0, &[Any], [Any, Any, Any]);
     let call = moved(&rt, rt.alloc(), &frame, [0xCD, 0x0B, 0x30], MAIN)?;
@@ -80,23 +84,25 @@ fn two_returns_take_two_words_and_one(rt: HostRuntime) -> Result<(), Fail> {
 }
 
 /// JMP, JZ, CALL and CZ of 3210, RST 7, RET, RZ, HLT and NOP, in a procedure that has taken two words.
+#[rattlefmt::skip]
+static MOVES: [(u8, &str, u32); 9] = [
+    (0xC3, "jump", 0x3210),
+    (0xCA, "either", 0x3210),
+    (0xCD, "call", 0x3210),
+    (0xCC, "maybe call", 0x3210),
+    (0xFF, "call", 0x0038),
+    (0xC9, "return", 2),
+    (0xC8, "maybe return", 2),
+    (0x76, "end", 0),
+    (0x00, "on", 0),
+];
+
 #[test]
 fn each_move(rt: HostRuntime) -> Result<(), Fail> {
     let frame = frame_of(rt.alloc(), 2, &[Own], [Any, Any, Any])?;
-    let rows = [
-        (0xC3, "jump", 0x3210),
-        (0xCA, "either", 0x3210),
-        (0xCD, "call", 0x3210),
-        (0xCC, "maybe call", 0x3210),
-        (0xFF, "call", 0x0038),
-        (0xC9, "return", 2),
-        (0xC8, "maybe return", 2),
-        (0x76, "end", 0),
-        (0x00, "on", 0),
-    ];
-    for (first, wanted, number) in rows {
-        let moves = moved(&rt, rt.alloc(), &frame, [first, 0x10, 0x32], Entry)?;
-        assert_eq!(rt; kind(&moves), (wanted, number));
+    for (first, wanted, number) in &MOVES {
+        let moves = moved(&rt, rt.alloc(), &frame, [*first, 0x10, 0x32], Entry)?;
+        assert_eq!(rt; kind(&moves), (*wanted, *number));
     }
     Ok(())
 }

@@ -4,10 +4,11 @@ use crate::*;
 use omf_core::RecordFault;
 use omf_module::{Cause, ModuleFault};
 use std::alloc::Global;
+use std::process::Abort;
 use std::test::Fail;
 
 /// The image of a module A: a halt at 3000, where it starts.
-const HALT: [u8; 28] = [
+static HALT: [u8; 28] = [
     0x02, 0x05, 0x00, 0x01, 0x41, 0x00, 0x00, 0xB7, // module header
     0x06, 0x05, 0x00, 0x00, 0x00, 0x30, 0x76, 0x4F, // content
     0x04, 0x05, 0x00, 0x01, 0x00, 0x00, 0x30, 0xC6, // module end
@@ -15,13 +16,13 @@ const HALT: [u8; 28] = [
 ];
 
 /// A module A that is not located: the same halt in CODE.
-const UNPLACED: &[u8] = &[
+static UNPLACED: [u8; 32] = [
     0x02, 0x09, 0x00, 0x01, 0x41, 0x00, 0x00, 0x01, 0x01, 0x00, 0x03, 0xAE, 0x06, 0x05, 0x00, 0x01,
     0x00, 0x00, 0x76, 0x7E, 0x04, 0x05, 0x00, 0x01, 0x01, 0x00, 0x00, 0xF5, 0x0E, 0x01, 0x00, 0xF1,
 ];
 
 /// The image's module twice.
-const TWICE: &[u8] = &[
+static TWICE: [u8; 52] = [
     0x02, 0x05, 0x00, 0x01, 0x41, 0x00, 0x00, 0xB7, 0x06, 0x05, 0x00, 0x00, 0x00, 0x30, 0x76, 0x4F,
     0x04, 0x05, 0x00, 0x01, 0x00, 0x00, 0x30, 0xC6, 0x02, 0x05, 0x00, 0x01, 0x41, 0x00, 0x00, 0xB7,
     0x06, 0x05, 0x00, 0x00, 0x00, 0x30, 0x76, 0x4F, 0x04, 0x05, 0x00, 0x01, 0x00, 0x00, 0x30, 0xC6,
@@ -29,7 +30,7 @@ const TWICE: &[u8] = &[
 ];
 
 /// The image as no main program.
-const NO_MAIN: &[u8] = &[
+static NO_MAIN: [u8; 28] = [
     0x02, 0x05, 0x00, 0x01, 0x41, 0x00, 0x00, 0xB7, 0x06, 0x05, 0x00, 0x00, 0x00, 0x30, 0x76, 0x4F,
     0x04, 0x05, 0x00, 0x00, 0x00, 0x00, 0x00, 0xF7, 0x0E, 0x01, 0x00, 0xF1,
 ];
@@ -43,6 +44,17 @@ fn refused(alloc: Global, bytes: &[u8]) -> Result<Option<(ImageFault, usize)>, F
         Ok(_) => Ok(None),
         Err((back, fault)) => Ok(Some((fault, back.code().len()))),
     }
+}
+
+/// These bytes have this fault, and the regions are handed back with it.
+fn assert_fault(
+    rt: &impl Abort,
+    alloc: Global,
+    bytes: &[u8],
+    fault: ImageFault,
+) -> Result<(), Fail> {
+    assert_eq!(rt; refused(alloc, bytes)?, Some((fault, 1)));
+    Ok(())
 }
 
 fn image(alloc: Global) -> Result<Image, Fail> {
@@ -63,31 +75,26 @@ fn an_image_is_read_and_written_again(rt: HostRuntime) -> Result<(), Fail> {
 
 #[test]
 fn other_than_one_absolute_main_program(rt: HostRuntime) -> Result<(), Fail> {
-    for (bytes, fault) in [
-        (UNPLACED, ImageFault::NotAbsolute),
-        (TWICE, ImageFault::NotOneModule),
-        (NO_MAIN, ImageFault::NoStart),
-    ] {
-        assert_eq!(rt; refused(rt.alloc(), bytes)?, Some((fault, 1)));
-    }
-    Ok(())
+    assert_fault(&rt, rt.alloc(), &UNPLACED, ImageFault::NotAbsolute)?;
+    assert_fault(&rt, rt.alloc(), &TWICE, ImageFault::NotOneModule)?;
+    assert_fault(&rt, rt.alloc(), &NO_MAIN, ImageFault::NoStart)
+}
+
+/// The fault of the image's first bytes, so many of them.
+fn fault_of_cut(length: usize) -> ImageFault {
+    let begun = length.saturating_sub(1) / 8 * 8;
+    let (at, cause) = match length {
+        0 => (0, Cause::NoHeader),
+        8 | 16 | 24 => (length, Cause::NoEnd),
+        _ => (begun, Cause::Record(RecordFault::Truncated(begun))),
+    };
+    ImageFault::Module(ModuleFault { at, cause })
 }
 
 #[test]
 fn an_image_that_is_cut(rt: HostRuntime) -> Result<(), Fail> {
     for length in 0..HALT.len() {
-        let begun = length.saturating_sub(1) / 8 * 8;
-        let (at, cause) = match length {
-            0 => (0, Cause::NoHeader),
-            8 | 16 | 24 => (length, Cause::NoEnd),
-            _ => (begun, Cause::Record(RecordFault::Truncated(begun))),
-        };
-        let fault = ImageFault::Module(ModuleFault { at, cause });
-        assert_eq!(rt;
-            refused(rt.alloc(), &HALT[..length])?,
-            Some((fault, 1)),
-            "{length}"
-        );
+        assert_fault(&rt, rt.alloc(), &HALT[..length], fault_of_cut(length))?;
     }
     Ok(())
 }

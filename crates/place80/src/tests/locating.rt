@@ -7,14 +7,14 @@ use std::alloc::Global;
 use std::test::Fail;
 
 /// A module A: one byte of CODE, a halt, where it starts.
-const HALT: &[u8] = &[
+static HALT: [u8; 28] = [
     0x02, 0x09, 0x00, 0x01, 0x41, 0x00, 0x00, 0x01, 0x01, 0x00, 0x03, 0xAE, // module header
     0x06, 0x05, 0x00, 0x01, 0x00, 0x00, 0x76, 0x7E, // content
     0x04, 0x05, 0x00, 0x01, 0x01, 0x00, 0x00, 0xF5, // module end
 ];
 
 /// Its image at 3000.
-const HALT_AT_3000: &[u8] = &[
+static HALT_AT_3000: [u8; 28] = [
     0x02, 0x05, 0x00, 0x01, 0x41, 0x00, 0x00, 0xB7, // module header
     0x06, 0x05, 0x00, 0x00, 0x00, 0x30, 0x76, 0x4F, // content
     0x04, 0x05, 0x00, 0x01, 0x00, 0x00, 0x30, 0xC6, // module end
@@ -22,7 +22,7 @@ const HALT_AT_3000: &[u8] = &[
 ];
 
 /// No option.
-const USUAL: Options = Options {
+static USUAL: Options = Options {
     code: None,
     stack: None,
     common: None,
@@ -33,7 +33,7 @@ const USUAL: Options = Options {
 };
 
 fn program(alloc: Global) -> Result<Module, Fail> {
-    let (module, _) = read_module(alloc, HALT, 0)?;
+    let (module, _) = read_module(alloc, &HALT, 0)?;
     Ok(module)
 }
 
@@ -55,7 +55,7 @@ fn the_regions_of_a_halt(rt: HostRuntime) -> Result<(), Fail> {
 fn the_file_of_a_halt(rt: HostRuntime) -> Result<(), Fail> {
     let mut file = Vec::new(rt.alloc());
     write_image(rt.alloc(), &located(rt.alloc())?, &mut file)?;
-    assert_eq!(rt; file.as_slice(), HALT_AT_3000);
+    assert_eq!(rt; file.as_slice(), HALT_AT_3000.as_slice());
     Ok(())
 }
 
@@ -67,10 +67,14 @@ fn the_places_of_a_halt(rt: HostRuntime) -> Result<(), Fail> {
 }
 
 /// A stack of two bytes at FFFF.
-const OUTSIDE: Options = Options {
+static OUTSIDE: Options = Options {
+    code: None,
     stack: Some(0xFFFF),
+    common: None,
+    data_base: None,
+    memory: None,
     stack_size: Some(2),
-    ..USUAL
+    memory_size: None,
 };
 
 #[test]

@@ -1,6 +1,6 @@
 //! Files, read and written whole.
 
-use crate::commands::command_fault::{CommandFault, FileFault};
+use crate::commands::fault_line::{Reported, report, report_file, report_memory};
 use loader80::{Failed, ReadAllFault, Reading, TEXT_LIMIT, Writing, read_all, write_all};
 use std::fs::File;
 use std::io::Read;
@@ -40,29 +40,29 @@ impl<'a> Read for LateFile<'a> {
 }
 
 /// All bytes of the file, of which there are no more than a text may have.
-pub fn read_whole<'a>(rt: &HostRuntime, path: &'a str) -> Result<Vec<u8>, CommandFault<'a>> {
+pub fn read_whole(rt: &HostRuntime, path: &str) -> Result<Vec<u8>, Reported> {
     let mut source = Reading::new(LateFile::new(rt, path));
     match read_all(rt.alloc(), &mut source, TEXT_LIMIT) {
         Ok(bytes) => Ok(bytes),
-        Err(ReadAllFault::Read) => Err(FileFault::Read.of(path)),
-        Err(ReadAllFault::TooLong) => Err(FileFault::TooLong.of(path)),
-        Err(ReadAllFault::Memory) => Err(CommandFault::Memory),
+        Err(ReadAllFault::Read) => Err(report_file(rt, path, "Read")),
+        Err(ReadAllFault::TooLong) => Err(report_file(rt, path, "TooLong")),
+        Err(ReadAllFault::Memory) => Err(report_memory(rt)),
     }
 }
 
 /// Makes these bytes all that the file has.
-pub fn replace<'a>(rt: &HostRuntime, path: &'a str, bytes: &[u8]) -> Result<(), CommandFault<'a>> {
+pub fn replace(rt: &HostRuntime, path: &str, bytes: &[u8]) -> Result<(), Reported> {
     match fs::write(rt, path, bytes) {
         Ok(()) => Ok(()),
-        Err(_) => Err(FileFault::Write.of(path)),
+        Err(_) => Err(report_file(rt, path, "Write")),
     }
 }
 
 /// Prints bytes on standard output.
-pub fn print<'a>(rt: &HostRuntime, bytes: &[u8]) -> Result<(), CommandFault<'a>> {
+pub fn print(rt: &HostRuntime, bytes: &[u8]) -> Result<(), Reported> {
     let mut out = Writing::new(rt.stdout());
     match write_all(&mut out, bytes) {
         Ok(()) => Ok(()),
-        Err(Failed) => Err(CommandFault::Write),
+        Err(Failed) => Err(report(rt, "Write")),
     }
 }

@@ -2,11 +2,10 @@
 
 ghost use Rattle.std.specs.Prelude.{◌≡◌, ◌+◌, ◌<◌, ◌≤◌, ◌++◌, [], ◌∷◌, length, drop, take, codes, IfOk, IfSome, OnOk};
 ghost use Rattle.std.specs.List.{flat_map};
-ghost use Rattle.loader80.specs.HexText.{byte_digits};
+ghost use Rattle.decode80.specs.Text.{byte_text};
 ghost use Rattle.plm80.specs.Listing.{bytes_from, columns, instruction_of, line_length, list_line, listing_of, range_lines};
 
-use decode80::{Instr, decode, spelling_laws, write_text};
-use loader80::digits::{digits_of_byte, digits_of_word};
+use decode80::{Instr, byte_digits, decode, spelling_laws, word_digits, write_text};
 use machine80::{Bus, FlatBus};
 use place80::{Image, Range};
 use std::alloc::{AllocError, Global};
@@ -118,7 +117,7 @@ fn append_columns(at: u16, bytes: &[u8], text: &mut Vec<u8>) -> Result<(), Alloc
     requires { length bytes.now ≤ 3 }
     ensures { OnOk result (text.new.items ≡ text.old.items ++ columns at bytes.now) }
 {
-    text.extend_from_slice(&digits_of_word(at))?;
+    text.extend_from_slice(&word_digits(at))?;
     text.push(b' ')?;
     append_digits(bytes, text)?;
     let blanks = b"      ".as_slice();
@@ -129,10 +128,10 @@ fn append_columns(at: u16, bytes: &[u8], text: &mut Vec<u8>) -> Result<(), Alloc
 
 /// Appends two digits for each byte.
 fn append_digits(bytes: &[u8], text: &mut Vec<u8>) -> Result<(), AllocError>
-    ensures { OnOk result (text.new.items ≡ text.old.items ++ flat_map byte_digits bytes.now) }
+    ensures { OnOk result (text.new.items ≡ text.old.items ++ flat_map byte_text bytes.now) }
 {
     for byte in bytes {
-        text.extend_from_slice(&digits_of_byte(*byte))?;
+        text.extend_from_slice(&byte_digits(*byte))?;
     }
     Ok(())
 }

@@ -1,12 +1,12 @@
 //! `plm80 list`: the instructions of a located program.
 
-use crate::commands::command_fault::{CommandFault, of_image, of_regions};
+use crate::commands::fault_line::{Reported, report_file, report_memory};
 use crate::commands::files::{print, read_whole};
 use crate::commands::list_text::listing;
-use crate::commands::words::{path_argument, path_of};
-use clap::{ArgMatches, Command};
-use place80::{Image, Regions, read_image, read_regions};
-use std::alloc::{AllocError, Global};
+use crate::commands::syntax::{Argument, Kind, Syntax};
+use crate::commands::words::path_of;
+use clap::ArgMatches;
+use place80::{Image, ImageFault, Regions, RegionsFault, read_image, read_regions};
 
 /// The words of `list`.
 #[derive(Clone, Copy)]
@@ -24,18 +24,24 @@ or whose instruction leaves the range, stands alone with the text ??.
 
 Example: plm80 list readings.img readings.regions";
 
-/// `list`, as clap is told of it.
-pub fn list_command<'a>(alloc: Global) -> Result<Command<'a>, AllocError> {
-    Command::new(alloc, "list")
-        .about(ABOUT)
-        .after_help(AFTER_HELP)
-        .arg(path_argument(alloc, "IMAGE", "The image, an absolute object file"))?
-        .arg(path_argument(
-            alloc,
-            "REGIONS",
-            "The text of its code, data and stack ranges",
-        ))
-}
+/// `list` and its arguments.
+pub const LIST: Syntax<'static> = Syntax {
+    name: "list",
+    about: ABOUT,
+    after_help: AFTER_HELP,
+    arguments: &[
+        Argument {
+            name: "IMAGE",
+            kind: Kind::Path,
+            help: "The image, an absolute object file",
+        },
+        Argument {
+            name: "REGIONS",
+            kind: Kind::Path,
+            help: "The text of its code, data and stack ranges",
+        },
+    ],
+};
 
 impl<'a> ListWords<'a> {
     /// The words that clap has read.
@@ -48,33 +54,42 @@ impl<'a> ListWords<'a> {
 }
 
 /// Prints the listing of the image.
-pub fn list_files<'a>(rt: &HostRuntime, words: ListWords<'a>) -> Result<u8, CommandFault<'a>> {
-    let image_bytes = read_whole(rt, words.image)?;
-    let regions_text = read_whole(rt, words.regions)?;
-    let regions = regions_of(rt.alloc(), words.regions, &regions_text)?;
-    let image = image_of(rt.alloc(), words.image, &image_bytes, regions)?;
-    let text = listing(rt.alloc(), &image)?;
+pub fn list_files(rt: &HostRuntime, words: ListWords<'_>) -> Result<u8, Reported> {
+    let image = read_program(rt, words)?;
+    let Ok(text) = listing(rt.alloc(), &image) else {
+        return Err(report_memory(rt));
+    };
     print(rt, &text)?;
     Ok(0)
 }
 
+/// The image with its regions, as the two files have them.
+fn read_program(rt: &HostRuntime, words: ListWords<'_>) -> Result<Image, Reported> {
+    let bytes = read_whole(rt, words.image)?;
+    let text = read_whole(rt, words.regions)?;
+    let regions = regions_of(rt, words.regions, &text)?;
+    image_of(rt, words.image, &bytes, regions)
+}
+
 /// The regions that the file's text spells.
-fn regions_of<'a>(alloc: Global, path: &'a str, text: &[u8]) -> Result<Regions, CommandFault<'a>> {
-    match read_regions(alloc, text) {
+fn regions_of(rt: &HostRuntime, path: &str, text: &[u8]) -> Result<Regions, Reported> {
+    match read_regions(rt.alloc(), text) {
         Ok(regions) => Ok(regions),
-        Err(fault) => Err(of_regions(path, fault)),
+        Err(RegionsFault::Memory) => Err(report_memory(rt)),
+        Err(fault) => Err(report_file(rt, path, fault)),
     }
 }
 
 /// The image that the file's bytes spell, with these regions.
-fn image_of<'a>(
-    alloc: Global,
-    path: &'a str,
+fn image_of(
+    rt: &HostRuntime,
+    path: &str,
     bytes: &[u8],
     regions: Regions,
-) -> Result<Image, CommandFault<'a>> {
-    match read_image(alloc, bytes, regions) {
+) -> Result<Image, Reported> {
+    match read_image(rt.alloc(), bytes, regions) {
         Ok(image) => Ok(image),
-        Err((_, fault)) => Err(of_image(path, fault)),
+        Err((_, ImageFault::Memory)) => Err(report_memory(rt)),
+        Err((_, fault)) => Err(report_file(rt, path, fault)),
     }
 }

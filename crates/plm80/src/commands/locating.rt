@@ -1,11 +1,12 @@
 //! `plm80 locate`: an object file's one module at its places, as an image and its regions.
 
-use crate::commands::command_fault::{CommandFault, FileFault, of_module};
+use crate::commands::fault_line::{Reported, report, report_file, report_memory};
 use crate::commands::files::{read_whole, replace};
-use crate::commands::numbers::word_given;
-use crate::commands::words::{number_option, path_argument, path_of};
-use clap::{ArgMatches, Command};
-use omf_module::read_file;
+use crate::commands::number_text::word_of_digits;
+use crate::commands::syntax::{Argument, Kind, Syntax};
+use crate::commands::words::path_of;
+use clap::ArgMatches;
+use omf_module::{Cause, ModuleFault, read_file};
 use place80::{Image, Options, locate, write_image, write_regions};
 use std::alloc::{AllocError, Global};
 
@@ -45,53 +46,64 @@ byte.
 
 Example: plm80 locate readings.obj readings.img readings.regions --data 4000";
 
-/// `locate`, as clap is told of it.
-pub fn locate_command<'a>(alloc: Global) -> Result<Command<'a>, AllocError> {
-    let input = path_argument(
-        alloc,
-        "IN",
-        "The object file to read, of one module with a start and no external",
-    );
-    let image = path_argument(
-        alloc,
-        "IMAGE",
-        "The file to write the image to, an absolute object file",
-    );
-    let regions = path_argument(
-        alloc,
-        "REGIONS",
-        "The file to write the regions to, a text of code, data and stack ranges",
-    );
-    let command = Command::new(alloc, "locate")
-        .about(ABOUT)
-        .after_help(AFTER_HELP)
-        .arg(input)?
-        .arg(image)?
-        .arg(regions)?;
-    with_options(alloc, command)
-}
-
-/// The command with the options of `locate`.
-fn with_options<'a>(alloc: Global, command: Command<'a>) -> Result<Command<'a>, AllocError> {
-    command
-        .arg(number_option(alloc, "code", "BASE", "Base of CODE [default: 3000]"))?
-        .arg(number_option(alloc, "stack", "BASE", "Base of STACK, its lowest address"))?
-        .arg(number_option(alloc, "common", "BASE", "Base of the unnamed common"))?
-        .arg(number_option(alloc, "data", "BASE", "Base of DATA"))?
-        .arg(number_option(alloc, "memory", "BASE", "Base of MEMORY"))?
-        .arg(number_option(
-            alloc,
-            "stack-size",
-            "SIZE",
-            "Length of STACK, in place of the module's",
-        ))?
-        .arg(number_option(
-            alloc,
-            "memory-size",
-            "SIZE",
-            "Length of MEMORY, in place of the module's",
-        ))
-}
+/// `locate` and its arguments.
+pub const LOCATE: Syntax<'static> = Syntax {
+    name: "locate",
+    about: ABOUT,
+    after_help: AFTER_HELP,
+    arguments: &[
+        Argument {
+            name: "IN",
+            kind: Kind::Path,
+            help: "The object file to read, of one module with a start and no external",
+        },
+        Argument {
+            name: "IMAGE",
+            kind: Kind::Path,
+            help: "The file to write the image to, an absolute object file",
+        },
+        Argument {
+            name: "REGIONS",
+            kind: Kind::Path,
+            help: "The file to write the regions to, a text of code, data and stack ranges",
+        },
+        Argument {
+            name: "code",
+            kind: Kind::Number("BASE"),
+            help: "Base of CODE [default: 3000]",
+        },
+        Argument {
+            name: "stack",
+            kind: Kind::Number("BASE"),
+            help: "Base of STACK, its lowest address",
+        },
+        Argument {
+            name: "common",
+            kind: Kind::Number("BASE"),
+            help: "Base of the unnamed common",
+        },
+        Argument {
+            name: "data",
+            kind: Kind::Number("BASE"),
+            help: "Base of DATA",
+        },
+        Argument {
+            name: "memory",
+            kind: Kind::Number("BASE"),
+            help: "Base of MEMORY",
+        },
+        Argument {
+            name: "stack-size",
+            kind: Kind::Number("SIZE"),
+            help: "Length of STACK, in place of the module's",
+        },
+        Argument {
+            name: "memory-size",
+            kind: Kind::Number("SIZE"),
+            help: "Length of MEMORY, in place of the module's",
+        },
+    ],
+};
 
 impl<'a> LocateWords<'a> {
     /// The words that clap has read.
@@ -113,9 +125,13 @@ impl<'a> LocateWords<'a> {
     }
 }
 
+/// The value of an option is no number of its form.
+#[derive(Clone, Copy)]
+struct BadNumber;
+
 impl<'a> LocateTexts<'a> {
-    /// The numbers that the texts spell; the first that spells none is a fault.
-    fn numbers(self) -> Result<Options, CommandFault<'a>> {
+    /// The numbers that the texts spell.
+    fn numbers(self) -> Result<Options, BadNumber> {
         Ok(Options {
             code: word_given(self.code)?,
             stack: word_given(self.stack)?,
@@ -128,33 +144,59 @@ impl<'a> LocateTexts<'a> {
     }
 }
 
+/// A word of one to four hexadecimal digits in either case, where the option is given.
+fn word_given(text: Option<&str>) -> Result<Option<u16>, BadNumber> {
+    match text {
+        None => Ok(None),
+        Some(digits) => match word_of_digits(digits) {
+            Some(word) => Ok(Some(word)),
+            None => Err(BadNumber),
+        },
+    }
+}
+
 /// Locates the module of the object file, and writes its image and regions. No file is created or changed before every
 /// other fault is excluded.
-pub fn locate_file<'a>(rt: &HostRuntime, words: LocateWords<'a>) -> Result<u8, CommandFault<'a>> {
-    let options = words.options.numbers()?;
-    let bytes = read_whole(rt, words.object)?;
-    let image = located(rt.alloc(), words.object, &bytes, &options)?;
-    let files = files_of(rt.alloc(), &image)?;
-    replace(rt, words.image, &files.image)?;
-    replace(rt, words.regions, &files.regions)?;
+pub fn locate_file(rt: &HostRuntime, words: LocateWords<'_>) -> Result<u8, Reported> {
+    let Ok(options) = words.options.numbers() else {
+        return Err(report(rt, "BadNumber"));
+    };
+    let image = located(rt, words.object, &options)?;
+    write_files(rt, words, &image)?;
     Ok(0)
 }
 
 /// The one module of the object file of this path at its places, as an image.
-fn located<'a>(
-    alloc: Global,
-    path: &'a str,
-    bytes: &[u8],
-    options: &Options,
-) -> Result<Image, CommandFault<'a>> {
-    let modules = match read_file(alloc, bytes) {
+fn located(rt: &HostRuntime, path: &str, options: &Options) -> Result<Image, Reported> {
+    let bytes = read_whole(rt, path)?;
+    let modules = match read_file(rt.alloc(), &bytes) {
         Ok(modules) => modules,
-        Err(fault) => return Err(of_module(path, fault)),
+        Err(fault) => return Err(report_module(rt, path, fault)),
     };
     let [program] = modules.as_slice() else {
-        return Err(FileFault::NotOneModule.of(path));
+        return Err(report_file(rt, path, "NotOneModule"));
     };
-    Ok(locate(alloc, program, options)?)
+    match locate(rt.alloc(), program, options) {
+        Ok(image) => Ok(image),
+        Err(fault) => Err(report(rt, fault)),
+    }
+}
+
+/// Reports a fault of the object file of this path.
+fn report_module(rt: &HostRuntime, path: &str, fault: ModuleFault) -> Reported {
+    match fault.cause {
+        Cause::Memory => report_memory(rt),
+        _ => report_file(rt, path, fault),
+    }
+}
+
+/// Writes the files of an image.
+fn write_files(rt: &HostRuntime, words: LocateWords<'_>, image: &Image) -> Result<(), Reported> {
+    let Ok(files) = files_of(rt.alloc(), image) else {
+        return Err(report_memory(rt));
+    };
+    replace(rt, words.image, &files.image)?;
+    replace(rt, words.regions, &files.regions)
 }
 
 /// The bytes of the two files that `locate` writes.

@@ -1,13 +1,13 @@
 //! `plm80 run`: the transcript of a located program's run.
 
-use crate::commands::command_fault::{CommandFault, FileFault};
+use crate::commands::fault_line::{Reported, report, report_file};
 use crate::commands::files::LateFile;
-use crate::commands::numbers::count_given;
-use crate::commands::words::{number_option, path_argument, path_of};
+use crate::commands::number_text::count_of_digits;
+use crate::commands::syntax::{Argument, Kind, Syntax};
+use crate::commands::words::path_of;
 use crate::status_of;
-use clap::{ArgMatches, Command};
+use clap::ArgMatches;
 use loader80::{Outcome, Reading, SessionFault, Writing, session};
-use std::alloc::{AllocError, Global};
 
 /// The words of `run`.
 #[derive(Clone, Copy)]
@@ -33,37 +33,39 @@ many steps.
 
 Example: plm80 run readings.img readings.regions readings.inputs --steps 5000";
 
-/// `run`, as clap is told of it.
-pub fn run_command<'a>(alloc: Global) -> Result<Command<'a>, AllocError> {
-    let steps = number_option(
-        alloc,
-        "steps",
-        "N",
-        "Steps that the run makes at most, each one instruction",
-    );
-    let outputs = number_option(
-        alloc,
-        "outputs",
-        "N",
-        "Outputs that are taken at most; the next one is refused",
-    );
-    Command::new(alloc, "run")
-        .about(ABOUT)
-        .after_help(AFTER_HELP)
-        .arg(path_argument(alloc, "IMAGE", "The image, an absolute object file"))?
-        .arg(path_argument(
-            alloc,
-            "REGIONS",
-            "The text of its code, data and stack ranges",
-        ))?
-        .arg(path_argument(
-            alloc,
-            "INPUTS",
-            "The text of the bytes that it reads from ports",
-        ))?
-        .arg(steps.default_value("1000000"))?
-        .arg(outputs.default_value("65536"))
-}
+/// `run` and its arguments.
+pub const RUN: Syntax<'static> = Syntax {
+    name: "run",
+    about: ABOUT,
+    after_help: AFTER_HELP,
+    arguments: &[
+        Argument {
+            name: "IMAGE",
+            kind: Kind::Path,
+            help: "The image, an absolute object file",
+        },
+        Argument {
+            name: "REGIONS",
+            kind: Kind::Path,
+            help: "The text of its code, data and stack ranges",
+        },
+        Argument {
+            name: "INPUTS",
+            kind: Kind::Path,
+            help: "The text of the bytes that it reads from ports",
+        },
+        Argument {
+            name: "steps",
+            kind: Kind::Count("1000000"),
+            help: "Steps that the run makes at most, each one instruction",
+        },
+        Argument {
+            name: "outputs",
+            kind: Kind::Count("65536"),
+            help: "Outputs that are taken at most; the next one is refused",
+        },
+    ],
+};
 
 impl<'a> RunWords<'a> {
     /// The words that clap has read.
@@ -86,33 +88,56 @@ impl<'a> RunWords<'a> {
         }
     }
 
-    /// The exit status after a session's answer, or its fault, with the path of the file that it is of.
-    fn status_after(&self, answer: Result<Outcome, SessionFault>) -> Result<u8, CommandFault<'a>> {
+    /// The exit status after a session's answer; its fault is reported with the path of the file that it is of.
+    fn status_after(
+        &self,
+        rt: &HostRuntime,
+        answer: Result<Outcome, SessionFault>,
+    ) -> Result<u8, Reported> {
         match answer {
             Ok(outcome) => Ok(status_of(outcome.end)),
             Err(SessionFault::Refused(_)) => Ok(1),
-            Err(SessionFault::Read(number)) => Err(FileFault::Read.of(self.path_of_text(number))),
-            Err(SessionFault::TooLong(number)) => {
-                Err(FileFault::TooLong.of(self.path_of_text(number)))
+            Err(fault) => Err(self.report_session(rt, fault)),
+        }
+    }
+
+    fn report_session(&self, rt: &HostRuntime, fault: SessionFault) -> Reported {
+        match fault {
+            SessionFault::Read(number) => report_file(rt, self.path_of_text(number), "Read"),
+            SessionFault::TooLong(number) => report_file(rt, self.path_of_text(number), "TooLong"),
+            SessionFault::Image(_) => report_file(rt, self.image, fault),
+            SessionFault::Regions(_) => report_file(rt, self.regions, fault),
+            SessionFault::Inputs(_) => report_file(rt, self.inputs, fault),
+            SessionFault::Write | SessionFault::Memory | SessionFault::Refused(_) => {
+                report(rt, fault)
             }
-            Err(SessionFault::Image(fault)) => Err(FileFault::Image(fault).of(self.image)),
-            Err(SessionFault::Regions(fault)) => Err(FileFault::Regions(fault).of(self.regions)),
-            Err(SessionFault::Inputs(line)) => Err(FileFault::Inputs(line).of(self.inputs)),
-            Err(SessionFault::Write) => Err(CommandFault::Write),
-            Err(SessionFault::Memory) => Err(CommandFault::Memory),
         }
     }
 }
 
 /// Runs a session on the files, and gives the exit status.
-pub fn run_files<'a>(rt: &HostRuntime, words: RunWords<'a>) -> Result<u8, CommandFault<'a>> {
-    let steps = count_given(words.steps)?;
-    let outputs = count_given(words.outputs)? as usize;
+pub fn run_files(rt: &HostRuntime, words: RunWords<'_>) -> Result<u8, Reported> {
+    let (Some(steps), Some(outputs)) = (
+        count_of_digits(words.steps),
+        count_of_digits(words.outputs),
+    ) else {
+        return Err(report(rt, "BadNumber"));
+    };
+    words.status_after(rt, session_of(rt, words, steps, outputs as usize))
+}
+
+/// The answer of a session on the files, with its transcript on standard output.
+fn session_of(
+    rt: &HostRuntime,
+    words: RunWords<'_>,
+    steps: u64,
+    outputs: usize,
+) -> Result<Outcome, SessionFault> {
     let mut image = Reading::new(LateFile::new(rt, words.image));
     let mut regions = Reading::new(LateFile::new(rt, words.regions));
     let mut inputs = Reading::new(LateFile::new(rt, words.inputs));
     let mut out = Writing::new(rt.stdout());
-    let answer = session(
+    session(
         rt.alloc(),
         &mut image,
         &mut regions,
@@ -120,6 +145,5 @@ pub fn run_files<'a>(rt: &HostRuntime, words: RunWords<'a>) -> Result<u8, Comman
         &mut out,
         steps,
         outputs,
-    );
-    words.status_after(answer)
+    )
 }

@@ -1,10 +1,11 @@
 //! The words of the command line, read by clap.
 
-use crate::commands::listing::{ListWords, list_command};
-use crate::commands::locating::{LocateWords, locate_command};
-use crate::commands::running::{RunWords, run_command};
+use crate::commands::listing::{LIST, ListWords};
+use crate::commands::locating::{LOCATE, LocateWords};
+use crate::commands::running::{RUN, RunWords};
+use crate::commands::syntax::Syntax;
 use clap::error::ErrorKind;
-use clap::{Arg, ArgMatches, Command, Error};
+use clap::{ArgMatches, Command, Error};
 use std::alloc::{AllocError, Global};
 
 /// What the words ask for.
@@ -32,33 +33,44 @@ data, and 4 where its steps are used up.
 Example: plm80 locate readings.obj readings.img readings.regions
          plm80 run readings.img readings.regions readings.inputs";
 
+/// The commands that are there.
+static COMMANDS: [Syntax<'static>; 3] = [LOCATE, RUN, LIST];
+
 /// The request that the words spell; the first word is the program's own name.
 pub fn read_words<'a>(alloc: Global, words: &'a [String]) -> Result<Request<'a>, Error> {
     if names_later(words) {
         return Ok(Request::Later);
     }
-    let mut command = program(alloc)?;
-    let matches = command.try_get_matches_from_mut(words)?;
-    match asked_for(&matches) {
+    match asked_for(&matches_of(alloc, words)?) {
         Some(request) => Ok(request),
-        None => Err(command.error(ErrorKind::MissingSubcommand, "no command")?),
+        None => Err(refusal(alloc, ErrorKind::MissingSubcommand, "no command")),
     }
+}
+
+/// What clap reads of the words.
+fn matches_of<'a>(alloc: Global, words: &'a [String]) -> Result<ArgMatches<'a>, Error> {
+    program(alloc)?.try_get_matches_from(words)
 }
 
 /// What is said of words that no text spells.
 pub fn no_text(alloc: Global) -> Error {
-    match refuse_bytes(alloc) {
+    refusal(
+        alloc,
+        ErrorKind::InvalidValue,
+        "invalid UTF-8 was detected in one or more arguments",
+    )
+}
+
+/// An error of the command line, as clap prints it.
+fn refusal(alloc: Global, kind: ErrorKind, text: &str) -> Error {
+    match refuse(alloc, kind, text) {
         Ok(error) => error,
         Err(refused) => Error::from(refused),
     }
 }
 
-fn refuse_bytes(alloc: Global) -> Result<Error, AllocError> {
-    let mut command = program(alloc)?;
-    command.error(
-        ErrorKind::InvalidValue,
-        "invalid UTF-8 was detected in one or more arguments",
-    )
+fn refuse(alloc: Global, kind: ErrorKind, text: &str) -> Result<Error, AllocError> {
+    program(alloc)?.error(kind, text)
 }
 
 /// Whether the first word after the program's name is a command that is to come.
@@ -71,14 +83,20 @@ fn names_later(words: &[String]) -> bool {
 
 /// The program, as clap is told of it.
 fn program<'a>(alloc: Global) -> Result<Command<'a>, AllocError> {
+    let mut program = bare_program(alloc)?;
+    for command in &COMMANDS {
+        program = command.add_to(alloc, program)?;
+    }
+    Ok(program)
+}
+
+/// The program before its commands are added.
+fn bare_program<'a>(alloc: Global) -> Result<Command<'a>, AllocError> {
     Command::new(alloc, "plm80")
         .about(ABOUT)
         .after_help(AFTER_HELP)
-        .bin_name("plm80")?
         .subcommand_required(true)
-        .subcommand(locate_command(alloc)?)?
-        .subcommand(run_command(alloc)?)?
-        .subcommand(list_command(alloc)?)
+        .bin_name("plm80")
 }
 
 /// The request of a command line that clap has read.
@@ -90,20 +108,6 @@ fn asked_for<'a>(matches: &ArgMatches<'a>) -> Option<Request<'a>> {
         "list" => Some(Request::List(ListWords::of(words))),
         _ => None,
     }
-}
-
-/// An argument that is a file's path.
-pub fn path_argument<'a>(alloc: Global, name: &'a str, help: &'a str) -> Arg<'a> {
-    Arg::new(alloc, name).help(help).required(true)
-}
-
-/// An option whose value is a number. Whatever word stands after it is its value, and the program reads it.
-pub fn number_option<'a>(alloc: Global, name: &'a str, value: &'a str, help: &'a str) -> Arg<'a> {
-    Arg::new(alloc, name)
-        .long(name)
-        .value_name(value)
-        .help(help)
-        .allow_hyphen_values(true)
 }
 
 /// The path of an argument that clap requires.

@@ -1,0 +1,66 @@
+//! What clap is told of a command: its name, its help text and its arguments, as a table.
+
+use clap::{Arg, Command};
+use std::alloc::{AllocError, Global};
+
+/// A command of the program.
+#[derive(Clone, Copy)]
+pub struct Syntax<'a> {
+    pub name: &'a str,
+    pub about: &'a str,
+    pub after_help: &'a str,
+    pub arguments: &'a [Argument<'a>],
+}
+
+/// An argument of a command.
+#[derive(Clone, Copy)]
+pub struct Argument<'a> {
+    pub name: &'a str,
+    pub kind: Kind<'a>,
+    pub help: &'a str,
+}
+
+/// What an argument is.
+#[derive(Clone, Copy)]
+pub enum Kind<'a> {
+    /// The path of a file, which is required.
+    Path,
+    /// An option with a number, which the help text calls by this word. Any argument after the option is its value, and
+    /// the program reads it.
+    Number(&'a str),
+    /// An option with a number N and this default.
+    Count(&'a str),
+}
+
+impl<'a> Syntax<'a> {
+    /// The program with this command.
+    pub fn add_to(&self, alloc: Global, program: Command<'a>) -> Result<Command<'a>, AllocError> {
+        program.subcommand(self.command(alloc)?)
+    }
+
+    fn command(&self, alloc: Global) -> Result<Command<'a>, AllocError> {
+        let mut command = Command::new(alloc, self.name)
+            .about(self.about)
+            .after_help(self.after_help);
+        for argument in self.arguments {
+            command = command.arg(argument.arg(alloc))?;
+        }
+        Ok(command)
+    }
+}
+
+impl<'a> Argument<'a> {
+    fn arg(&self, alloc: Global) -> Arg<'a> {
+        let arg = Arg::new(alloc, self.name).help(self.help);
+        match self.kind {
+            Kind::Path => arg.required(true),
+            Kind::Number(value) => number(arg, self.name, value),
+            Kind::Count(default) => number(arg, self.name, "N").default_value(default),
+        }
+    }
+}
+
+/// An option of this name, whose value the help text calls by this word.
+fn number<'a>(arg: Arg<'a>, name: &'a str, value: &'a str) -> Arg<'a> {
+    arg.long(name).value_name(value).allow_hyphen_values(true)
+}
