@@ -1,3 +1,2 @@
-pub mod EntryLaws
-pub mod FieldsAgain
+pub mod Bodies
 pub mod Rows

@@ -127,13 +127,19 @@ next_by layout laws bytes [] e rest are s some read = absurd (omega (arith, some
 next_by layout laws bytes (x ∷ xs) e rest are s some read =
     let parts = and_parts (layout.is_sound x) (list_all layout.is_sound xs) s.sound in
     let first : layout.read bytes ≡ Ok (x, flat_map layout.bytes xs) = ap layout.read s.joined ∙ laws.again x (flat_map layout.bytes xs) parts.0 in
-    let same : (e ≡ x) × (rest ≡ flat_map layout.bytes xs) = same_ok (sym read ∙ first) in
+    let same : (e ≡ x) × (rest ≡ flat_map layout.bytes xs) = same_ok (layout.read bytes) e x rest (flat_map layout.bytes xs) read first in
     let others : SpellsRow layout rest xs = record { joined = same.1; sound = parts.1 } in
     let shows_rest : entries_of layout rest ≡ xs = shown layout laws rest xs others in
     record { shows = cc; spelled = shown_spelled layout laws rest xs others }
   where
-  same_ok : {A : Type 0} {e x : A} {r s : List ℕ} → Ok {E = FieldFault} (e, r) ≡ Ok (x, s) → (e ≡ x) × (r ≡ s)
-  same_ok p = (cc, cc)
+  same_ok : {A : Type 0} (r : Result (A × List ℕ) FieldFault) (e x : A) (s t : List ℕ) → r ≡ Ok (e, s) → r ≡ Ok (x, t) → (e ≡ x) × (s ≡ t)
+  same_ok {A} r e x s t p q =
+      let same : (e, s) ≡ (x, t) = ap (pair_of (e, s)) (sym p ∙ q) in
+      (ap (λ (v : A × List ℕ). v.0) same, ap (λ (v : A × List ℕ). v.1) same)
+    where
+    pair_of : {A : Type 0} → A × List ℕ → Result (A × List ℕ) FieldFault → A × List ℕ
+    pair_of d (Ok p) = p
+    pair_of d (Err f) = d
 
 pub next : {E : Type 0} (layout : Layout E) → IsLayout E layout → (bytes : List ℕ) (e : E) (rest : List ℕ)
     → SpellsRow layout bytes (entries_of layout bytes) → 0 < length bytes → layout.read bytes ≡ Ok (e, rest) → Next layout bytes e rest

@@ -5,7 +5,7 @@ ghost use Rattle.std.specs.Prelude.{◌≡◌, ◌++◌, OnOk, IsTrue};
 ghost use Rattle.omf_core.specs.Name.{name_spelling};
 ghost use Rattle.omf_body.specs.Fields.{word_bytes};
 ghost use Rattle.omf_body.specs.Entries.{is_paged, segment_layout, common_layout, public_layout, external_layout, offset_layout, index_layout};
-ghost use Rattle.omf_body.proofs.EntryLaws.{segment_laws, common_laws, public_laws, external_laws, offset_laws, index_laws};
+ghost use Rattle.omf_body.specs.EntryLaws.{segment_laws, common_laws, public_laws, external_laws, offset_laws, index_laws};
 
 use crate::cursor::Cursor;
 use crate::entry::{Entry, ReadEntry};

@@ -1,12 +1,12 @@
 //! The one way in which each body is read.
 
-ghost use Rattle.std.specs.Prelude.{◌≡◌, ◌++◌, Ok, Err, IfOk, IfErr};
+ghost use Rattle.std.specs.Prelude.{◌≡◌, ◌≢◌, ◌++◌, Ok, Err, IfOk, IfErr, IfSome, IfNone};
 ghost use Rattle.omf_core.specs.Kind.{kind_byte};
 ghost use Rattle.omf_core.specs.declared.kind.RecordKind.TheVariants as kind;
 ghost use Rattle.omf_body.specs.declared.body.Body.{Body as BodyValue};
 ghost use Rattle.omf_body.specs.declared.fault.BodyFault.{BodyFault as BodyFaultValue};
 ghost use Rattle.omf_body.specs.declared.body.Body.TheVariants as body_of;
-ghost use Rattle.omf_body.specs.Bodies.{place_bytes, Spells};
+ghost use Rattle.omf_body.specs.Bodies.{place_bytes, body_kind, Spells};
 ghost use Rattle.omf_body.specs.FirstFault.{read_place, FaultsBody, FirstFault};
 
 use crate::body::{
@@ -139,6 +139,38 @@ fn intersegment_in<'a>(bytes: &'a [u8]) -> Result<IntersegmentBody<'a>, FieldFau
     })
 }
 
+/// The body of a record of this kind, or its first fault; `None` where no record of this kind stands in an object file.
+fn body_in<'a>(kind: RecordKind, bytes: &'a [u8]) -> Option<Result<Body<'a>, FieldFault>>
+    ensures spelled { IfSome result (λ r. IfOk r (λ body. Spells (kind_byte kind) bytes.now body)) }
+    ensures fault { IfSome result (λ r. IfErr r (λ f. FaultsBody kind bytes.now f)) }
+    ensures none { IfNone result ((body : BodyValue) → body_kind body ≢ kind) }
+{
+    let unread = Bytes { bytes };
+    match kind {
+        RecordKind::ModuleHeader => Some(header_in(bytes).map(Body::ModuleHeader)),
+        RecordKind::ModuleEnd => Some(end_in(bytes).map(Body::ModuleEnd)),
+        RecordKind::Content => Some(content_in(bytes).map(Body::Content)),
+        RecordKind::LineNumbers => Some(Ok(Body::LineNumbers(unread))),
+        RecordKind::EndOfFile => Some(Ok(Body::EndOfFile(unread))),
+        RecordKind::Ancestor => Some(Ok(Body::Ancestor(unread))),
+        RecordKind::LocalSymbols => Some(Ok(Body::LocalSymbols(unread))),
+        RecordKind::PublicDeclarations => Some(publics_in(bytes).map(Body::PublicDeclarations)),
+        RecordKind::ExternalNames => Some(externals_in(bytes).map(Body::ExternalNames)),
+        RecordKind::ExternalReferences => {
+            Some(external_references_in(bytes).map(Body::ExternalReferences))
+        }
+        RecordKind::Relocation => Some(relocation_in(bytes).map(Body::Relocation)),
+        RecordKind::IntersegmentReferences => {
+            Some(intersegment_in(bytes).map(Body::IntersegmentReferences))
+        }
+        RecordKind::NamedCommons => Some(commons_in(bytes).map(Body::NamedCommons)),
+        RecordKind::LibraryModuleLocations
+        | RecordKind::LibraryModuleNames
+        | RecordKind::LibraryDictionary
+        | RecordKind::LibraryHeader => None,
+    }
+}
+
 /// The body of a record. It borrows from the file and takes no memory.
 ///
 /// # Errors
@@ -160,32 +192,9 @@ pub fn parse<'a>(source: Record<'a>) -> Result<Body<'a>, BodyFault>
     let Some(kind) = RecordKind::from_byte(source.kind) else {
         return Err(BodyFault::UnknownKind(source.kind));
     };
-    body_in(kind, source.body)
-}
-
-fn body_in<'a>(kind: RecordKind, bytes: &'a [u8]) -> Result<Body<'a>, BodyFault>
-    ensures read { IfOk result (λ body. Spells (kind_byte kind) bytes.now body) }
-    ensures fault { IfErr result (λ fault. FirstFault (kind_byte kind) bytes.now fault) }
-{
-    let unread = Bytes { bytes };
-    let body = match kind {
-        RecordKind::ModuleHeader => header_in(bytes).map(Body::ModuleHeader),
-        RecordKind::ModuleEnd => end_in(bytes).map(Body::ModuleEnd),
-        RecordKind::Content => content_in(bytes).map(Body::Content),
-        RecordKind::LineNumbers => Ok(Body::LineNumbers(unread)),
-        RecordKind::EndOfFile => Ok(Body::EndOfFile(unread)),
-        RecordKind::Ancestor => Ok(Body::Ancestor(unread)),
-        RecordKind::LocalSymbols => Ok(Body::LocalSymbols(unread)),
-        RecordKind::PublicDeclarations => publics_in(bytes).map(Body::PublicDeclarations),
-        RecordKind::ExternalNames => externals_in(bytes).map(Body::ExternalNames),
-        RecordKind::ExternalReferences => external_references_in(bytes).map(Body::ExternalReferences),
-        RecordKind::Relocation => relocation_in(bytes).map(Body::Relocation),
-        RecordKind::IntersegmentReferences => intersegment_in(bytes).map(Body::IntersegmentReferences),
-        RecordKind::NamedCommons => commons_in(bytes).map(Body::NamedCommons),
-        RecordKind::LibraryModuleLocations
-        | RecordKind::LibraryModuleNames
-        | RecordKind::LibraryDictionary
-        | RecordKind::LibraryHeader => return Err(BodyFault::UnknownKind(kind.byte())),
-    };
-    body.map_err(|fault| fault.of(kind))
+    match body_in(kind, source.body) {
+        None => Err(BodyFault::UnknownKind(source.kind)),
+        Some(Ok(body)) => Ok(body),
+        Some(Err(fault)) => Err(fault.of(kind)),
+    }
 }

@@ -14,7 +14,7 @@ use Rattle.omf_body.specs.declared.entries.IndexEntry.{IndexEntry}
 use Rattle.omf_body.specs.Fields.{◌>>=◌, word_bytes, read_byte, read_word, read_name}
 use Rattle.omf_body.specs.Layouts.{IsLayout}
 use Rattle.omf_body.specs.Entries.{is_common_id, segment_layout, common_layout, public_layout, external_layout, offset_layout, index_layout}
-use Rattle.omf_body.proofs.FieldsAgain.{word_again, name_again}
+use Rattle.omf_body.specs.FieldsAgain.{word_again, name_again}
 
 whole : (word : ℕ) → word % 256 + 256 * (word / 256) ≡ word
 whole word = omega arith
@@ -40,7 +40,6 @@ common_laws = record { again = common_again; some = λ e. omega arith }
 
 public_again : (e : PublicEntry) (rest : List ℕ) → IsTrue (is_name e.name) → public_layout.read (public_layout.bytes e ++ rest) ≡ Ok (e, rest)
 public_again e rest sound =
-    let after = λ (w : ℕ) (r : Result (List ℕ × List ℕ) FieldFault). r >>= λ name. read_byte name.1 >>= λ unread. Ok (record { offset = w; name = name.0; unread = unread.0 }, unread.1) in
     ap (λ (w : ℕ). read_name (name_spelling e.name ++ e.unread ∷ [] ++ rest) >>= λ name. read_byte name.1 >>= λ unread. Ok (record { offset = w; name = name.0; unread = unread.0 }, unread.1)) (whole e.offset)
     ∙ (ap (λ (bytes : List ℕ). read_name bytes >>= λ name. read_byte name.1 >>= λ unread. Ok (record { offset = e.offset; name = name.0; unread = unread.0 }, unread.1)) (append_assoc (name_spelling e.name) (e.unread ∷ []) rest)
     ∙ ap (λ (r : Result (List ℕ × List ℕ) FieldFault). r >>= λ name. read_byte name.1 >>= λ unread. Ok (record { offset = e.offset; name = name.0; unread = unread.0 }, unread.1)) (name_again e.name (e.unread ∷ rest) sound))
