@@ -51,6 +51,10 @@ read_target bytes = do
 
 -- ---- the first fault
 
+-- of the fields at the front, where any bytes may follow
+pub record FaultsHead {A : Type 0} (read : List ℕ → Result A FieldFault) (bytes : List ℕ) (fault : FieldFault) : Type 0 where
+  pub here : read bytes ≡ Err fault
+
 -- of what stands before the row, or of the row after it
 abbrev pub FaultsHeaded : {H E : Type 0} → (List ℕ → Result (H × List ℕ) FieldFault) → Layout E → List ℕ → FieldFault → Type 0
 FaultsHeaded {H} {E} read layout bytes fault =
@@ -69,8 +73,8 @@ pub record ListsTwice (bytes : List ℕ) : Type 0 where
 -- the first fault in the body of a record of this kind
 abbrev pub FaultsBody : RecordKind → List ℕ → FieldFault → Type 0
 FaultsBody kind.ModuleHeader bytes f = FaultsHeaded read_header segment_layout bytes f ⊎ (ListsTwice bytes × (f ≡ field.BadBody))
-FaultsBody kind.ModuleEnd bytes f = read_end bytes ≡ Err f
-FaultsBody kind.Content bytes f = read_place bytes ≡ Err f
+FaultsBody kind.ModuleEnd bytes f = FaultsHead read_end bytes f
+FaultsBody kind.Content bytes f = FaultsHead read_place bytes f
 FaultsBody kind.PublicDeclarations bytes f = FaultsHeaded read_byte public_layout bytes f
 FaultsBody kind.ExternalNames bytes f = FaultsRow external_layout bytes f
 FaultsBody kind.ExternalReferences bytes f = FaultsHeaded read_field index_layout bytes f

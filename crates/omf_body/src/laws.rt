@@ -9,6 +9,7 @@ pub fn one_body()
 {}
 
 /// Bytes have one first fault at most, and none where they spell a body.
+#[tactic(auto, using(crate::proofs::Bodies::one_fault, crate::proofs::Bodies::never_both))]
 pub fn one_fault()
     ensures one { OneFault }
     ensures never_both { NeverBoth }
