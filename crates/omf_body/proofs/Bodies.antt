@@ -101,7 +101,7 @@ written_read : (b : Body) → IsTrue (is_sound_body b) → read_kind (body_kind 
 written_read (ModuleHeader b) sound =
     let parts = and_parts (is_name b.name) (are_distinct b.segments) sound in
     ap (λ (r : Result ((List ℕ × ℕ × ℕ) × List _) FieldFault). r >>= λ h.
-        if are_distinct h.1 then Ok (ModuleHeader (record { name = h.0.0; translator = h.0.1; version = h.0.2; segments = h.1 })) else Err BadBody)
+    if are_distinct h.1 then Ok (ModuleHeader (record { name = h.0.0; translator = h.0.1; version = h.0.2; segments = h.1 })) else Err BadBody)
     (headed_read read_header segment_layout segment_laws (body_bytes (ModuleHeader b)) (b.name, b.translator, b.version) b.segments
     (header_again b.name b.translator b.version (flat_map segment_layout.bytes b.segments) parts.0) (all_sound b.segments))
     ∙ chosen (are_distinct b.segments) (Ok (ModuleHeader b)) (Err BadBody) parts.1
@@ -138,13 +138,13 @@ written_read (NamedCommons es) sound =
 fault_read_in : (k : RecordKind) (bytes : List ℕ) (f : FieldFault) → FaultsBody k bytes f → read_kind k bytes ≡ Err f
 fault_read_in kind.ModuleHeader bytes f (inl a) =
     ap (λ (r : Result ((List ℕ × ℕ × ℕ) × List _) FieldFault). r >>= λ h.
-        if are_distinct h.1 then Ok (ModuleHeader (record { name = h.0.0; translator = h.0.1; version = h.0.2; segments = h.1 })) else Err BadBody)
+    if are_distinct h.1 then Ok (ModuleHeader (record { name = h.0.0; translator = h.0.1; version = h.0.2; segments = h.1 })) else Err BadBody)
     (headed_fault read_header segment_layout segment_laws bytes f a)
 fault_read_in kind.ModuleHeader bytes f (inr (a, is)) =
     let spelled = a.spelled in
     let head : read_header bytes ≡ Ok (a.head, flat_map segment_layout.bytes a.entries) = a.before ∙ ap (λ (r : List ℕ). Ok (a.head, r)) spelled.joined in
     ap (λ (r : Result ((List ℕ × ℕ × ℕ) × List _) FieldFault). r >>= λ h.
-        if are_distinct h.1 then Ok (ModuleHeader (record { name = h.0.0; translator = h.0.1; version = h.0.2; segments = h.1 })) else Err BadBody)
+    if are_distinct h.1 then Ok (ModuleHeader (record { name = h.0.0; translator = h.0.1; version = h.0.2; segments = h.1 })) else Err BadBody)
     (headed_read read_header segment_layout segment_laws bytes a.head a.entries head (all_sound a.entries))
     ∙ (not_chosen (are_distinct a.entries) (Ok (ModuleHeader (record { name = a.head.0; translator = a.head.1; version = a.head.2; segments = a.entries }))) (Err BadBody) a.twice
     ∙ ap (λ (f : FieldFault). Err f) (sym is))

@@ -40,9 +40,9 @@ read_front {E} layout laws (suc n) (e ∷ es) rest r long sound others =
     ∙ (ap (λ (x : Result (List E) FieldFault). x >>= λ es. Ok (e ∷ es)) later
     ∙ twice r e es)))
   where
-  twice : (r : Result (List E) FieldFault) (e : E) (es : List E) → ((r >>= λ more. Ok (es ++ more)) >>= λ es. Ok (e ∷ es)) ≡ (r >>= λ more. Ok (e ∷ (es ++ more)))
-  twice (Ok more) e es = refl
-  twice (Err f) e es = refl
+    twice : (r : Result (List E) FieldFault) (e : E) (es : List E) → ((r >>= λ more. Ok (es ++ more)) >>= λ es. Ok (e ∷ es)) ≡ (r >>= λ more. Ok (e ∷ (es ++ more)))
+    twice (Ok more) e es = refl
+    twice (Err f) e es = refl
 
 read_none : {E : Type 0} (layout : Layout E) (m : ℕ) → read_row layout m [] ≡ Ok []
 read_none layout zero = refl
@@ -66,11 +66,11 @@ fault_read {E} layout laws bytes fault a =
     ap (λ (b : List ℕ). read_row layout (length bytes) b) a.joined
     ∙ read_front layout laws (length bytes) a.front a.rest (Err fault) (omega (arith, size)) a.sound (fault_first layout a.rest fault a.some a.here)
   where
-  fault_first : {E : Type 0} (layout : Layout E) (rest : List ℕ) (fault : FieldFault) → 0 < length rest → layout.read rest ≡ Err fault
-      → (m : ℕ) → length rest ≤ m → read_row layout m rest ≡ Err fault
-  fault_first layout rest fault some here zero long = absurd (omega (arith, some, long))
-  fault_first {E} layout rest fault some here (suc m) long =
-      read_more layout m rest some ∙ ap (λ (x : Result (E × List ℕ) FieldFault). x >>= λ e. read_row layout m e.1 >>= λ es. Ok (e.0 ∷ es)) here
+    fault_first : {E : Type 0} (layout : Layout E) (rest : List ℕ) (fault : FieldFault) → 0 < length rest → layout.read rest ≡ Err fault
+        → (m : ℕ) → length rest ≤ m → read_row layout m rest ≡ Err fault
+    fault_first layout rest fault some here zero long = absurd (omega (arith, some, long))
+    fault_first {E} layout rest fault some here (suc m) long =
+        read_more layout m rest some ∙ ap (λ (x : Result (E × List ℕ) FieldFault). x >>= λ e. read_row layout m e.1 >>= λ es. Ok (e.0 ∷ es)) here
 
 -- Bytes that spell a row show its entries.
 pub shown : {E : Type 0} (layout : Layout E) → IsLayout E layout → (bytes : List ℕ) (entries : List E) → SpellsRow layout bytes entries
@@ -103,8 +103,8 @@ one_more layout bytes rest after e a spelled sound =
       sound = list_all-append layout.is_sound a.front (e ∷ []) ∙ all_three (list_all layout.is_sound a.front) (layout.is_sound e) a.sound sound;
     }
   where
-  all_three : (a b : Bool) → a ≡ true → b ≡ true → (a && (b && true)) ≡ true
-  all_three a b p q = cc
+    all_three : (a b : Bool) → a ≡ true → b ≡ true → (a && (b && true)) ≡ true
+    all_three a b p q = cc
 
 pub all_read : {E : Type 0} (layout : Layout E) (bytes rest : List ℕ) (a : ReadSoFar layout bytes rest) → rest ≡ [] → SpellsRow layout bytes a.front
 all_read layout bytes rest a end = record {
@@ -132,14 +132,14 @@ next_by layout laws bytes (x ∷ xs) e rest are s some read =
     let shows_rest : entries_of layout rest ≡ xs = shown layout laws rest xs others in
     record { shows = cc; spelled = shown_spelled layout laws rest xs others }
   where
-  same_ok : {A : Type 0} (r : Result (A × List ℕ) FieldFault) (e x : A) (s t : List ℕ) → r ≡ Ok (e, s) → r ≡ Ok (x, t) → (e ≡ x) × (s ≡ t)
-  same_ok {A} r e x s t p q =
-      let same : (e, s) ≡ (x, t) = ap (pair_of (e, s)) (sym p ∙ q) in
-      (ap (λ (v : A × List ℕ). v.0) same, ap (λ (v : A × List ℕ). v.1) same)
-    where
-    pair_of : {A : Type 0} → A × List ℕ → Result (A × List ℕ) FieldFault → A × List ℕ
-    pair_of d (Ok p) = p
-    pair_of d (Err f) = d
+    same_ok : {A : Type 0} (r : Result (A × List ℕ) FieldFault) (e x : A) (s t : List ℕ) → r ≡ Ok (e, s) → r ≡ Ok (x, t) → (e ≡ x) × (s ≡ t)
+    same_ok {A} r e x s t p q =
+        let same : (e, s) ≡ (x, t) = ap (pair_of (e, s)) (sym p ∙ q) in
+        (ap (λ (v : A × List ℕ). v.0) same, ap (λ (v : A × List ℕ). v.1) same)
+      where
+        pair_of : {A : Type 0} → A × List ℕ → Result (A × List ℕ) FieldFault → A × List ℕ
+        pair_of d (Ok p) = p
+        pair_of d (Err f) = d
 
 pub next : {E : Type 0} (layout : Layout E) → IsLayout E layout → (bytes : List ℕ) (e : E) (rest : List ℕ)
     → SpellsRow layout bytes (entries_of layout bytes) → 0 < length bytes → layout.read bytes ≡ Ok (e, rest) → Next layout bytes e rest

@@ -7,3 +7,4 @@ pub mod FieldsAgain
 pub mod FirstFault
 pub mod Laws
 pub mod Layouts
+pub mod Writing

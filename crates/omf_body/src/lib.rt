@@ -26,7 +26,7 @@ mod name;
 mod parsing;
 mod row;
 pub mod segment_id;
-
+mod writing;
 
 pub use body::{
     Body, ContentBody, EndBody, ExternalReferencesBody, HeaderBody, IntersegmentBody, Place,
@@ -34,12 +34,17 @@ pub use body::{
 };
 pub use bytes::Bytes;
 pub use cursor::Cursor;
-pub use entries::{
-    CommonEntry, ExternalEntry, IndexEntry, OffsetEntry, PublicEntry, SegmentEntry,
-};
+pub use entries::{CommonEntry, ExternalEntry, IndexEntry, OffsetEntry, PublicEntry, SegmentEntry};
 pub use entry::{Entry, ReadEntry};
 pub use fault::{BodyFault, FieldFault};
 pub use field::Field;
 pub use name::NameBytes;
 pub use parsing::parse;
 pub use row::Row;
+pub use writing::{
+    put_commons, put_content, put_end, put_external_references, put_externals, put_header,
+    put_intersegment, put_publics, put_relocation,
+};
+
+#[cfg(test)]
+mod tests;
