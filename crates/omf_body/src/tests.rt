@@ -15,14 +15,13 @@ const MAIN: [u8; 32] = [
 ];
 
 /// One record of each kind that a module keeps, besides those above.
-const OTHERS: [u8; 52] = [
+const OTHERS: [u8; 50] = [
     0x2E, 0x06, 0x00, 0x06, 0x03, 0x42, 0x55, 0x46, 0xE6, // BUF is common 6
     0x16, 0x07, 0x00, 0x01, 0x02, 0x00, 0x01, 0x50, 0x00, 0x8F, // P at 0002 in CODE
     0x18, 0x04, 0x00, 0x01, 0x45, 0x00, 0x9E, // E is elsewhere
     0x22, 0x04, 0x00, 0x01, 0x01, 0x00, 0xD8, // the low byte at 0001
-    0x24, 0x05, 0x00, 0x06, 0x02, 0x02, 0x00, 0xCD, // the high byte at 0002, to BUF
+    0x24, 0x05, 0x00, 0x06, 0x02, 0x02, 0x00, 0xCD, // the high byte at 0002, to common 6
     0x20, 0x06, 0x00, 0x03, 0x00, 0x00, 0x03, 0x00, 0xD4, // the word at 0003, to external 0
-    0x08, 0x01, // begun
 ];
 
 const CODE_OF_ONE: SegmentEntry = SegmentEntry {
@@ -66,5 +65,230 @@ fn the_content_and_the_end_of_a_main_program(rt: HostRuntime) -> Result<(), Fail
             offset: 0,
         })
     );
+    Ok(())
+}
+
+#[test]
+fn names_in_rows(rt: HostRuntime) -> Result<(), Fail> {
+    let Body::NamedCommons(mut commons) = body_at(&OTHERS, 0)? else {
+        return Err("no commons".into());
+    };
+    let common = commons.next().ok_or("no common")?;
+    assert_eq!(rt; (common.id, common.name.bytes()), (6, b"BUF".as_slice()));
+    let Body::PublicDeclarations(mut body) = body_at(&OTHERS, 9)? else {
+        return Err("no publics".into());
+    };
+    let public = body.publics.next().ok_or("no public")?;
+    assert_eq!(rt;
+        (body.segment, public.offset, public.name.bytes()),
+        (1, 2, b"P".as_slice())
+    );
+    let Body::ExternalNames(mut externals) = body_at(&OTHERS, 19)? else {
+        return Err("no externals".into());
+    };
+    let external = externals.next().ok_or("no external")?;
+    assert_eq!(rt; external.name.bytes(), b"E".as_slice());
+    Ok(())
+}
+
+#[test]
+fn references_in_rows(rt: HostRuntime) -> Result<(), Fail> {
+    let Body::Relocation(mut own) = body_at(&OTHERS, 26)? else {
+        return Err("no relocation".into());
+    };
+    assert_eq!(rt; own.field, Field::Low);
+    assert_eq!(rt; own.references.next(), Some(OffsetEntry { offset: 1 }));
+    let Body::IntersegmentReferences(mut other) = body_at(&OTHERS, 33)? else {
+        return Err("no references to a segment".into());
+    };
+    assert_eq!(rt; (other.segment, other.field), (6, Field::High));
+    assert_eq!(rt; other.references.next(), Some(OffsetEntry { offset: 2 }));
+    let Body::ExternalReferences(mut outer) = body_at(&OTHERS, 41)? else {
+        return Err("no references to externals".into());
+    };
+    assert_eq!(rt; outer.field, Field::Both);
+    assert_eq!(rt;
+        outer.references.next(),
+        Some(IndexEntry {
+            index: 0,
+            offset: 3,
+        })
+    );
+    Ok(())
+}
+
+#[test]
+fn a_main_program_is_written(rt: HostRuntime) -> Result<(), Fail> {
+    let alloc = rt.alloc();
+    let name = Name::new(alloc, b"A")?;
+    let mut out = Vec::new(alloc);
+    put_header(alloc, &NameBytes::of(&name), &[CODE_OF_ONE], &mut out)?;
+    put_content(alloc, segment_id::CODE, 0, &[0x76], &mut out)?;
+    let start = Place {
+        segment: 1,
+        offset: 0,
+    };
+    put_end(alloc, Some(start), &mut out)?;
+    assert_eq!(rt; out.as_slice(), &MAIN[..28]);
+    Ok(())
+}
+
+#[test]
+fn other_records_are_written(rt: HostRuntime) -> Result<(), Fail> {
+    let alloc = rt.alloc();
+    let (buffer, public, external) = (
+        Name::new(alloc, b"BUF")?,
+        Name::new(alloc, b"P")?,
+        Name::new(alloc, b"E")?,
+    );
+    let mut out = Vec::new(alloc);
+    let name = NameBytes::of(&buffer);
+    put_commons(alloc, &[CommonEntry { id: 6, name }], &mut out)?;
+    let name = NameBytes::of(&public);
+    let entry = PublicEntry {
+        offset: 2,
+        name,
+        unread: 0,
+    };
+    put_publics(alloc, 1, &[entry], &mut out)?;
+    let name = NameBytes::of(&external);
+    put_externals(alloc, &[ExternalEntry { name, unread: 0 }], &mut out)?;
+    put_relocation(alloc, Field::Low, &[OffsetEntry { offset: 1 }], &mut out)?;
+    put_intersegment(
+        alloc,
+        6,
+        Field::High,
+        &[OffsetEntry { offset: 2 }],
+        &mut out,
+    )?;
+    let entry = IndexEntry {
+        index: 0,
+        offset: 3,
+    };
+    put_external_references(alloc, Field::Both, &[entry], &mut out)?;
+    assert_eq!(rt; out.as_slice(), OTHERS.as_slice());
+    Ok(())
+}
+
+#[test]
+fn a_body_that_is_too_long(rt: HostRuntime) -> Result<(), Fail> {
+    let bytes = vec![in rt.alloc(); 0u8; 65532]?;
+    let mut out = vec![in rt.alloc(); 0x11u8]?;
+    let refused = put_content(rt.alloc(), 1, 0, &bytes, &mut out);
+    assert_eq!(rt; refused.err(), Some(omf_core::PutFault::TooLong));
+    assert_eq!(rt; out.as_slice(), [0x11].as_slice());
+    Ok(())
+}
+
+/// A type byte, a body, and its fault; of two causes the first by place.
+const FAULTS: [(u8, &[u8], BodyFault); 33] = [
+    (0x30, b"", BodyFault::UnknownKind(0x30)),
+    (0x2C, b"\x01\x00", BodyFault::UnknownKind(0x2C)),
+    // a header: no name, a name cut off, an empty name, a blank, no version, a segment cut off, CODE twice
+    (0x02, b"", BodyFault::BadBody(0x02)),
+    (0x02, b"\x02A", BodyFault::BadBody(0x02)),
+    (0x02, b"\x00\x00\x00", BodyFault::BadName),
+    (0x02, b"\x01\x20\x00\x00", BodyFault::BadName),
+    (0x02, b"\x01A\x00", BodyFault::BadBody(0x02)),
+    (0x02, b"\x01A\x00\x00\x01\x01\x00", BodyFault::BadBody(0x02)),
+    (
+        0x02,
+        b"\x01A\x00\x00\x01\x01\x00\x03\x01\x01\x00\x03",
+        BodyFault::BadBody(0x02),
+    ),
+    // an end: no main byte, main byte 2, a start cut off
+    (0x04, b"", BodyFault::BadBody(0x04)),
+    (0x04, b"\x02\x01\x00\x00", BodyFault::BadBody(0x04)),
+    (0x04, b"\x01\x01\x00", BodyFault::BadBody(0x04)),
+    // content: an offset cut off
+    (0x06, b"\x01\x00", BodyFault::BadBody(0x06)),
+    // publics: no segment, the byte after the name missing, an empty name
+    (0x16, b"", BodyFault::BadBody(0x16)),
+    (0x16, b"\x01\x00\x00\x01P", BodyFault::BadBody(0x16)),
+    (0x16, b"\x01\x00\x00\x00\x00", BodyFault::BadName),
+    // externals: the byte after the name missing
+    (0x18, b"\x01E", BodyFault::BadBody(0x18)),
+    // commons: ids 5 and 255, an empty name
+    (0x2E, b"\x05\x01B", BodyFault::BadBody(0x2E)),
+    (0x2E, b"\xFF\x01B", BodyFault::BadBody(0x2E)),
+    (0x2E, b"\x06\x00", BodyFault::BadName),
+    // references: no field, field bytes 0 and 4, an entry cut off
+    (0x20, b"", BodyFault::BadBody(0x20)),
+    (0x20, b"\x03\x00\x00\x00", BodyFault::BadBody(0x20)),
+    (0x22, b"\x00", BodyFault::BadBody(0x22)),
+    (0x22, b"\x01\x01", BodyFault::BadBody(0x22)),
+    (0x24, b"\x01\x04", BodyFault::BadBody(0x24)),
+    // two causes: a blank in the name and CODE twice; a common's id and its name
+    (
+        0x02,
+        b"\x01\x7F\x00\x00\x01\x01\x00\x03\x01\x01\x00\x03",
+        BodyFault::BadName,
+    ),
+    (0x2E, b"\x05\x00", BodyFault::BadBody(0x2E)),
+    // two entries: a name and then an id, an id and then a name
+    (0x2E, b"\x06\x01\x20\x05\x01B", BodyFault::BadName),
+    (0x2E, b"\x05\x01B\x06\x01\x20", BodyFault::BadBody(0x2E)),
+    // a name and then the body's end, in the same entry and in the next one
+    (0x18, b"\x01\x20", BodyFault::BadName),
+    (0x16, b"\x01\x00\x00\x01\x20\x00\x07", BodyFault::BadName),
+    // the body's end in the name, which has a blank too
+    (0x18, b"\x02\x20", BodyFault::BadBody(0x18)),
+    // the second entry alone
+    (0x18, b"\x01E\x00\x00\x00", BodyFault::BadName),
+];
+
+#[test]
+fn first_faults(rt: HostRuntime) {
+    for (kind, body, fault) in FAULTS {
+        assert_eq!(rt;
+            parse(Record { kind, body }).err(),
+            Some(fault),
+            "{kind} {body:?}"
+        );
+    }
+}
+
+/// Bodies with nothing in their rows, with bytes that aren't looked at, and with what only a module can refuse.
+const TAKEN: [(RecordKind, &[u8]); 15] = [
+    (RecordKind::ModuleHeader, b"\x01A\x09\x09"),
+    (
+        RecordKind::ModuleHeader,
+        b"\x01A\x00\x00\x05\x00\x00\xFF\xFF\x00\x00\x00",
+    ),
+    (RecordKind::ModuleEnd, b"\x00"),
+    (RecordKind::ModuleEnd, b"\x00\x09\x09"),
+    (RecordKind::ModuleEnd, b"\x01\x63\xFF\xFF\x09"),
+    (RecordKind::Content, b"\x03\xFF\xFF"),
+    (RecordKind::PublicDeclarations, b"\x01"),
+    (RecordKind::ExternalNames, b""),
+    (RecordKind::ExternalReferences, b"\x03"),
+    (RecordKind::Relocation, b"\x01"),
+    (RecordKind::IntersegmentReferences, b"\x01\x02"),
+    (RecordKind::NamedCommons, b"\x06\x01B\x06\x01B"),
+    (RecordKind::LineNumbers, b"\x01\x02"),
+    (RecordKind::LocalSymbols, b"\x01\x02"),
+    (RecordKind::EndOfFile, b"\x01\x02"),
+];
+
+#[test]
+fn bodies_that_are_taken(rt: HostRuntime) {
+    for (kind, body) in TAKEN {
+        let record = Record {
+            kind: kind.byte(),
+            body,
+        };
+        assert_eq!(rt; parse(record).err(), None, "{kind:?} {body:?}");
+    }
+}
+
+#[test]
+fn faults_as_printed(rt: HostRuntime) -> Result<(), Fail> {
+    let printed = format!(in rt.alloc();
+        "{} {} {}",
+        BodyFault::UnknownKind(0x30),
+        BodyFault::BadBody(0x2E),
+        BodyFault::BadName
+    )?;
+    assert_eq!(rt; printed.as_str(), "UnknownKind 30 BadBody 2E BadName");
     Ok(())
 }
