@@ -4,7 +4,7 @@
 //! | Item | What it is |
 //! |---|---|
 //! | [`parse`], [`Body`] | a record's body, or its first fault; it borrows from the file and takes no memory |
-//! | [`Row`], [`Entry`] | the entries that a body repeats, one after another; the one way in which each is read and written |
+//! | [`Row`], [`Entry`], [`ReadEntry`] | the entries that a body repeats, one after another; the one way in which each is written, and read |
 //! | [`Cursor`] | what is left of a body, field by field |
 //! | [`Field`], [`segment_id`] | which bytes of a word a reference is to; the ids of segments |
 //! | [`put_header`], [`put_commons`], [`put_publics`], [`put_externals`], [`put_content`], [`put_external_references`], [`put_relocation`], [`put_intersegment`], [`put_end`] | a whole record appended to a file |
@@ -34,7 +34,9 @@ pub use body::{
 };
 pub use bytes::Bytes;
 pub use cursor::Cursor;
-pub use entries::{CommonEntry, ExternalEntry, IndexEntry, OffsetEntry, PublicEntry, SegmentEntry};
+pub use entries::{
+    ANY_BYTE, CommonEntry, ExternalEntry, IndexEntry, OffsetEntry, PublicEntry, SegmentEntry,
+};
 pub use entry::{Entry, ReadEntry};
 pub use fault::{BodyFault, FieldFault};
 pub use field::Field;

@@ -42,7 +42,7 @@ fn header_in<'a>(bytes: &'a [u8]) -> Result<HeaderBody<'a>, FieldFault>
     })
 }
 
-fn place(cursor: &mut Cursor) -> Result<Place, FieldFault>
+fn place_at(cursor: &mut Cursor) -> Result<Place, FieldFault>
     ensures read { IfOk result (λ p. read_place cursor.old ≡ Ok (p, cursor.new)) }
     ensures spelled { IfOk result (λ p. cursor.old ≡ place_bytes p ++ cursor.new) }
     ensures fault { IfErr result (λ f. read_place cursor.old ≡ Err f) }
@@ -59,7 +59,7 @@ fn end_in<'a>(bytes: &'a [u8]) -> Result<EndBody<'a>, FieldFault>
     let mut cursor = Cursor::new(bytes);
     let start = match cursor.byte()? {
         0 => None,
-        1 => Some(place(&mut cursor)?),
+        1 => Some(place_at(&mut cursor)?),
         _ => return Err(FieldFault::BadBody),
     };
     let unread = cursor.rest();
@@ -71,7 +71,7 @@ fn content_in<'a>(bytes: &'a [u8]) -> Result<ContentBody<'a>, FieldFault>
     ensures fault { IfErr result (λ f. FaultsBody kind.Content bytes.now f) }
 {
     let mut cursor = Cursor::new(bytes);
-    let Place { segment, offset } = place(&mut cursor)?;
+    let Place { segment, offset } = place_at(&mut cursor)?;
     let bytes = cursor.rest();
     Ok(ContentBody {
         segment,

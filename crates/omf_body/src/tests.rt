@@ -30,59 +30,74 @@ const CODE_OF_ONE: SegmentEntry = SegmentEntry {
     alignment: 3,
 };
 
+const CODE_START: Place = Place {
+    segment: 1,
+    offset: 0,
+};
+
+/// A reference at 0003 to external 0.
+const FIRST_EXTERNAL: IndexEntry = IndexEntry {
+    index: 0,
+    offset: 3,
+};
+
 fn body_at(bytes: &[u8], at: usize) -> Result<Body, Fail> {
     let (record, _) = next_record(bytes, at)?;
     Ok(parse(record)?)
 }
 
 #[test]
-fn the_header_of_a_main_program(rt: HostRuntime) -> Result<(), Fail> {
+fn a_header(rt: HostRuntime) -> Result<(), Fail> {
     let Body::ModuleHeader(mut header) = body_at(&MAIN, 0)? else {
         return Err("no header".into());
     };
     assert_eq!(rt; header.name.bytes(), b"A".as_slice());
-    assert_eq!(rt; (header.translator, header.version), (0, 0));
     assert_eq!(rt; header.segments.next(), Some(CODE_OF_ONE));
     assert_eq!(rt; header.segments.next(), None);
-    assert!(rt; !CODE_OF_ONE.is_paged());
     Ok(())
 }
 
 #[test]
-fn the_content_and_the_end_of_a_main_program(rt: HostRuntime) -> Result<(), Fail> {
+fn a_content(rt: HostRuntime) -> Result<(), Fail> {
     let Body::Content(content) = body_at(&MAIN, 12)? else {
         return Err("no content".into());
     };
     assert_eq!(rt; (content.segment, content.offset), (segment_id::CODE, 0));
     assert_eq!(rt; content.bytes.bytes, [0x76].as_slice());
-    let Body::ModuleEnd(end) = body_at(&MAIN, 20)? else {
-        return Err("no end".into());
-    };
-    assert_eq!(rt;
-        end.start,
-        Some(Place {
-            segment: 1,
-            offset: 0,
-        })
-    );
     Ok(())
 }
 
 #[test]
-fn names_in_rows(rt: HostRuntime) -> Result<(), Fail> {
+fn an_end(rt: HostRuntime) -> Result<(), Fail> {
+    let Body::ModuleEnd(end) = body_at(&MAIN, 20)? else {
+        return Err("no end".into());
+    };
+    assert_eq!(rt; end.start, Some(CODE_START));
+    Ok(())
+}
+
+#[test]
+fn a_common(rt: HostRuntime) -> Result<(), Fail> {
     let Body::NamedCommons(mut commons) = body_at(&OTHERS, 0)? else {
         return Err("no commons".into());
     };
     let common = commons.next().ok_or("no common")?;
     assert_eq!(rt; (common.id, common.name.bytes()), (6, b"BUF".as_slice()));
+    Ok(())
+}
+
+#[test]
+fn a_public(rt: HostRuntime) -> Result<(), Fail> {
     let Body::PublicDeclarations(mut body) = body_at(&OTHERS, 9)? else {
         return Err("no publics".into());
     };
     let public = body.publics.next().ok_or("no public")?;
-    assert_eq!(rt;
-        (body.segment, public.offset, public.name.bytes()),
-        (1, 2, b"P".as_slice())
-    );
+    assert_eq!(rt; (public.offset, public.name.bytes()), (2, b"P".as_slice()));
+    Ok(())
+}
+
+#[test]
+fn an_external(rt: HostRuntime) -> Result<(), Fail> {
     let Body::ExternalNames(mut externals) = body_at(&OTHERS, 19)? else {
         return Err("no externals".into());
     };
@@ -92,81 +107,135 @@ fn names_in_rows(rt: HostRuntime) -> Result<(), Fail> {
 }
 
 #[test]
-fn references_in_rows(rt: HostRuntime) -> Result<(), Fail> {
-    let Body::Relocation(mut own) = body_at(&OTHERS, 26)? else {
+fn a_relocation(rt: HostRuntime) -> Result<(), Fail> {
+    let Body::Relocation(mut body) = body_at(&OTHERS, 26)? else {
         return Err("no relocation".into());
     };
-    assert_eq!(rt; own.field, Field::Low);
-    assert_eq!(rt; own.references.next(), Some(OffsetEntry { offset: 1 }));
-    let Body::IntersegmentReferences(mut other) = body_at(&OTHERS, 33)? else {
+    assert_eq!(rt;
+        (body.field, body.references.next()),
+        (Field::Low, Some(OffsetEntry { offset: 1 }))
+    );
+    Ok(())
+}
+
+#[test]
+fn an_intersegment_reference(rt: HostRuntime) -> Result<(), Fail> {
+    let Body::IntersegmentReferences(mut body) = body_at(&OTHERS, 33)? else {
         return Err("no references to a segment".into());
     };
-    assert_eq!(rt; (other.segment, other.field), (6, Field::High));
-    assert_eq!(rt; other.references.next(), Some(OffsetEntry { offset: 2 }));
-    let Body::ExternalReferences(mut outer) = body_at(&OTHERS, 41)? else {
+    assert_eq!(rt; (body.segment, body.field), (6, Field::High));
+    assert_eq!(rt; body.references.next(), Some(OffsetEntry { offset: 2 }));
+    Ok(())
+}
+
+#[test]
+fn an_external_reference(rt: HostRuntime) -> Result<(), Fail> {
+    let Body::ExternalReferences(mut body) = body_at(&OTHERS, 41)? else {
         return Err("no references to externals".into());
     };
-    assert_eq!(rt; outer.field, Field::Both);
     assert_eq!(rt;
-        outer.references.next(),
-        Some(IndexEntry {
-            index: 0,
-            offset: 3,
-        })
+        (body.field, body.references.next()),
+        (Field::Both, Some(FIRST_EXTERNAL))
     );
     Ok(())
 }
 
 #[test]
-fn a_main_program_is_written(rt: HostRuntime) -> Result<(), Fail> {
-    let alloc = rt.alloc();
-    let name = Name::new(alloc, b"A")?;
-    let mut out = Vec::new(alloc);
-    put_header(alloc, &NameBytes::of(&name), &[CODE_OF_ONE], &mut out)?;
-    put_content(alloc, segment_id::CODE, 0, &[0x76], &mut out)?;
-    let start = Place {
-        segment: 1,
-        offset: 0,
-    };
-    put_end(alloc, Some(start), &mut out)?;
-    assert_eq!(rt; out.as_slice(), &MAIN[..28]);
+fn a_header_is_written(rt: HostRuntime) -> Result<(), Fail> {
+    let name = Name::new(rt.alloc(), b"A")?;
+    let mut out = Vec::new(rt.alloc());
+    put_header(rt.alloc(), &NameBytes::of(&name), &[CODE_OF_ONE], &mut out)?;
+    assert_eq!(rt; out.as_slice(), &MAIN[..12]);
     Ok(())
 }
 
 #[test]
-fn other_records_are_written(rt: HostRuntime) -> Result<(), Fail> {
-    let alloc = rt.alloc();
-    let (buffer, public, external) = (
-        Name::new(alloc, b"BUF")?,
-        Name::new(alloc, b"P")?,
-        Name::new(alloc, b"E")?,
-    );
-    let mut out = Vec::new(alloc);
-    let name = NameBytes::of(&buffer);
-    put_commons(alloc, &[CommonEntry { id: 6, name }], &mut out)?;
-    let name = NameBytes::of(&public);
-    let entry = PublicEntry {
-        offset: 2,
-        name,
-        unread: 0,
-    };
-    put_publics(alloc, 1, &[entry], &mut out)?;
-    let name = NameBytes::of(&external);
-    put_externals(alloc, &[ExternalEntry { name, unread: 0 }], &mut out)?;
-    put_relocation(alloc, Field::Low, &[OffsetEntry { offset: 1 }], &mut out)?;
+fn a_content_is_written(rt: HostRuntime) -> Result<(), Fail> {
+    let mut out = Vec::new(rt.alloc());
+    put_content(rt.alloc(), segment_id::CODE, 0, &[0x76], &mut out)?;
+    assert_eq!(rt; out.as_slice(), &MAIN[12..20]);
+    Ok(())
+}
+
+#[test]
+fn an_end_is_written(rt: HostRuntime) -> Result<(), Fail> {
+    let mut out = Vec::new(rt.alloc());
+    put_end(rt.alloc(), Some(CODE_START), &mut out)?;
+    assert_eq!(rt; out.as_slice(), &MAIN[20..28]);
+    Ok(())
+}
+
+#[test]
+fn a_common_is_written(rt: HostRuntime) -> Result<(), Fail> {
+    let name = Name::new(rt.alloc(), b"BUF")?;
+    let name = NameBytes::of(&name);
+    let mut out = Vec::new(rt.alloc());
+    put_commons(rt.alloc(), &[CommonEntry { id: 6, name }], &mut out)?;
+    assert_eq!(rt; out.as_slice(), &OTHERS[..9]);
+    Ok(())
+}
+
+#[test]
+fn a_public_is_written(rt: HostRuntime) -> Result<(), Fail> {
+    let name = Name::new(rt.alloc(), b"P")?;
+    let name = NameBytes::of(&name);
+    let mut out = Vec::new(rt.alloc());
+    put_publics(
+        rt.alloc(),
+        1,
+        &[PublicEntry {
+            offset: 2,
+            name,
+            unread: 0,
+        }],
+        &mut out,
+    )?;
+    assert_eq!(rt; out.as_slice(), &OTHERS[9..19]);
+    Ok(())
+}
+
+#[test]
+fn an_external_is_written(rt: HostRuntime) -> Result<(), Fail> {
+    let name = Name::new(rt.alloc(), b"E")?;
+    let name = NameBytes::of(&name);
+    let mut out = Vec::new(rt.alloc());
+    put_externals(rt.alloc(), &[ExternalEntry { name, unread: 0 }], &mut out)?;
+    assert_eq!(rt; out.as_slice(), &OTHERS[19..26]);
+    Ok(())
+}
+
+#[test]
+fn a_relocation_is_written(rt: HostRuntime) -> Result<(), Fail> {
+    let mut out = Vec::new(rt.alloc());
+    put_relocation(
+        rt.alloc(),
+        Field::Low,
+        &[OffsetEntry { offset: 1 }],
+        &mut out,
+    )?;
+    assert_eq!(rt; out.as_slice(), &OTHERS[26..33]);
+    Ok(())
+}
+
+#[test]
+fn an_intersegment_reference_is_written(rt: HostRuntime) -> Result<(), Fail> {
+    let mut out = Vec::new(rt.alloc());
     put_intersegment(
-        alloc,
+        rt.alloc(),
         6,
         Field::High,
         &[OffsetEntry { offset: 2 }],
         &mut out,
     )?;
-    let entry = IndexEntry {
-        index: 0,
-        offset: 3,
-    };
-    put_external_references(alloc, Field::Both, &[entry], &mut out)?;
-    assert_eq!(rt; out.as_slice(), OTHERS.as_slice());
+    assert_eq!(rt; out.as_slice(), &OTHERS[33..41]);
+    Ok(())
+}
+
+#[test]
+fn an_external_reference_is_written(rt: HostRuntime) -> Result<(), Fail> {
+    let mut out = Vec::new(rt.alloc());
+    put_external_references(rt.alloc(), Field::Both, &[FIRST_EXTERNAL], &mut out)?;
+    assert_eq!(rt; out.as_slice(), &OTHERS[41..]);
     Ok(())
 }
 
