@@ -1,0 +1,10 @@
+pub mod Bodies
+pub mod Entries
+pub mod EntryLaws
+pub mod Faults
+pub mod Fields
+pub mod FieldsAgain
+pub mod FirstFault
+pub mod Laws
+pub mod Layouts
+pub mod Writing

@@ -1,0 +1,15 @@
+use std::marker::Model;
+
+/// Bytes where they lie in a file. A contract sees the list of them.
+#[derive(Debug, Drop)]
+pub struct Bytes<'a> {
+    pub bytes: &'a [u8],
+}
+
+impl<'a> Model for Bytes<'a> {
+    ghost use Rattle.std.specs.Prelude.{List, ℕ};
+
+    ghost Value = { List ℕ };
+
+    ghost view = { λ b. b.bytes.now };
+}

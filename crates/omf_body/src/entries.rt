@@ -1,0 +1,215 @@
+//! The entries that bodies repeat. A byte that isn't looked at is kept as `unread`; it is written as 00.
+//! (8080 Object Module Formats, record formats.)
+
+ghost use Rattle.std.specs.Prelude.{◌≡◌, ◌++◌, OnOk, IsTrue};
+ghost use Rattle.omf_core.specs.Name.{name_spelling};
+ghost use Rattle.omf_body.specs.Fields.{word_bytes};
+ghost use Rattle.omf_body.specs.Entries.{is_paged, segment_layout, common_layout, public_layout, external_layout, offset_layout, index_layout};
+ghost use Rattle.omf_body.specs.EntryLaws.{segment_laws, common_laws, public_laws, external_laws, offset_laws, index_laws};
+
+use crate::cursor::Cursor;
+use crate::entry::{Entry, ReadEntry};
+use crate::fault::FieldFault;
+use crate::name::NameBytes;
+use crate::segment_id::{FIRST_COMMON, LAST_COMMON};
+use std::alloc::AllocError;
+
+/// The alignment byte of a part that may start at any byte.
+pub const ANY_BYTE: u8 = 3;
+
+/// A segment in a module header: its id, the length of the module's part, and its alignment byte.
+#[derive(Clone, Copy, PartialEq, Eq, Debug)]
+pub struct SegmentEntry {
+    pub id: u8,
+    pub length: u16,
+    pub alignment: u8,
+}
+
+/// A named common: its segment id, from 6 to 254, and its name.
+#[derive(Debug, Drop)]
+pub struct CommonEntry<'a> {
+    pub id: u8,
+    pub name: NameBytes<'a>,
+}
+
+/// A public: its offset in the record's segment, and its name.
+#[derive(Debug, Drop)]
+pub struct PublicEntry<'a> {
+    pub offset: u16,
+    pub name: NameBytes<'a>,
+    pub unread: u8,
+}
+
+/// A name that is declared elsewhere.
+#[derive(Debug, Drop)]
+pub struct ExternalEntry<'a> {
+    pub name: NameBytes<'a>,
+    pub unread: u8,
+}
+
+/// A reference to the target that its record names: its offset.
+#[derive(Clone, Copy, PartialEq, Eq, Debug)]
+pub struct OffsetEntry {
+    pub offset: u16,
+}
+
+/// A reference to an external: the external's index in the module, and the reference's offset.
+#[derive(Clone, Copy, PartialEq, Eq, Debug)]
+pub struct IndexEntry {
+    pub index: u16,
+    pub offset: u16,
+}
+
+impl SegmentEntry {
+    /// Whether the part starts at a multiple of 256: its alignment byte isn't 3.
+    pub fn is_paged(self) -> bool
+        ensures { result ≡ is_paged self }
+    {
+        self.alignment != ANY_BYTE
+    }
+}
+
+pub(crate) fn push_word(word: u16, out: &mut Vec<u8>) -> Result<(), AllocError>
+    ensures { OnOk result (out.new.items ≡ out.old.items ++ word_bytes word) }
+{
+    out.extend_from_slice(&[(word % 256) as u8, (word / 256) as u8])
+}
+
+/// Appends the name's length byte and its bytes.
+pub(crate) fn push_name(name: &NameBytes, out: &mut Vec<u8>) -> Result<(), AllocError>
+    ensures { OnOk result (out.new.items ≡ out.old.items ++ name_spelling name.now) }
+{
+    let bytes = name.bytes();
+    out.push(bytes.len() as u8)?;
+    out.extend_from_slice(bytes)
+}
+
+impl Entry for SegmentEntry {
+    ghost layout = { segment_layout };
+
+    fn write(&self, out: &mut Vec<u8>) -> Result<(), AllocError> {
+        out.push(self.id)?;
+        push_word(self.length, out)?;
+        out.push(self.alignment)?;
+        Ok(())
+    }
+
+    ghost laws = { segment_laws };
+}
+
+impl<'a> ReadEntry<'a> for SegmentEntry {
+    fn read(cursor: &mut Cursor<'a>) -> Result<SegmentEntry, FieldFault> {
+        let id = cursor.byte()?;
+        let length = cursor.word()?;
+        let alignment = cursor.byte()?;
+        Ok(SegmentEntry {
+            id,
+            length,
+            alignment,
+        })
+    }
+}
+
+impl<'a> Entry for CommonEntry<'a> {
+    ghost layout = { common_layout };
+
+    fn write(&self, out: &mut Vec<u8>) -> Result<(), AllocError> {
+        out.push(self.id)?;
+        push_name(&self.name, out)
+    }
+
+    ghost laws = { common_laws };
+}
+
+impl<'a> ReadEntry<'a> for CommonEntry<'a> {
+    fn read(cursor: &mut Cursor<'a>) -> Result<CommonEntry<'a>, FieldFault> {
+        let id = cursor.byte()?;
+        if !(FIRST_COMMON <= id && id <= LAST_COMMON) {
+            return Err(FieldFault::BadBody);
+        }
+        let name = cursor.name()?;
+        Ok(CommonEntry { id, name })
+    }
+}
+
+impl<'a> Entry for PublicEntry<'a> {
+    ghost layout = { public_layout };
+
+    fn write(&self, out: &mut Vec<u8>) -> Result<(), AllocError> {
+        push_word(self.offset, out)?;
+        push_name(&self.name, out)?;
+        out.push(self.unread)?;
+        Ok(())
+    }
+
+    ghost laws = { public_laws };
+}
+
+impl<'a> ReadEntry<'a> for PublicEntry<'a> {
+    fn read(cursor: &mut Cursor<'a>) -> Result<PublicEntry<'a>, FieldFault> {
+        let offset = cursor.word()?;
+        let name = cursor.name()?;
+        let unread = cursor.byte()?;
+        Ok(PublicEntry {
+            offset,
+            name,
+            unread,
+        })
+    }
+}
+
+impl<'a> Entry for ExternalEntry<'a> {
+    ghost layout = { external_layout };
+
+    fn write(&self, out: &mut Vec<u8>) -> Result<(), AllocError> {
+        push_name(&self.name, out)?;
+        out.push(self.unread)?;
+        Ok(())
+    }
+
+    ghost laws = { external_laws };
+}
+
+impl<'a> ReadEntry<'a> for ExternalEntry<'a> {
+    fn read(cursor: &mut Cursor<'a>) -> Result<ExternalEntry<'a>, FieldFault> {
+        let name = cursor.name()?;
+        let unread = cursor.byte()?;
+        Ok(ExternalEntry { name, unread })
+    }
+}
+
+impl Entry for OffsetEntry {
+    ghost layout = { offset_layout };
+
+    fn write(&self, out: &mut Vec<u8>) -> Result<(), AllocError> {
+        push_word(self.offset, out)
+    }
+
+    ghost laws = { offset_laws };
+}
+
+impl<'a> ReadEntry<'a> for OffsetEntry {
+    fn read(cursor: &mut Cursor<'a>) -> Result<OffsetEntry, FieldFault> {
+        let offset = cursor.word()?;
+        Ok(OffsetEntry { offset })
+    }
+}
+
+impl Entry for IndexEntry {
+    ghost layout = { index_layout };
+
+    fn write(&self, out: &mut Vec<u8>) -> Result<(), AllocError> {
+        push_word(self.index, out)?;
+        push_word(self.offset, out)
+    }
+
+    ghost laws = { index_laws };
+}
+
+impl<'a> ReadEntry<'a> for IndexEntry {
+    fn read(cursor: &mut Cursor<'a>) -> Result<IndexEntry, FieldFault> {
+        let index = cursor.word()?;
+        let offset = cursor.word()?;
+        Ok(IndexEntry { index, offset })
+    }
+}

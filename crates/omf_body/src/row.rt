@@ -1,0 +1,88 @@
+use crate::cursor::Cursor;
+use crate::entry::{Entry, ReadEntry};
+use crate::fault::FieldFault;
+use std::marker::{Model, PhantomData};
+
+/// Entries that lie one after another in a body, up to its end. It is an iterator over them: a contract sees the list of the
+/// entries that are left. It takes no memory.
+#[derive(Drop)]
+pub struct Row<'a, E: Entry> {
+    bytes: &'a [u8],
+    of: PhantomData<E>,
+}
+
+impl<'a, E: Entry> Model for Row<'a, E> {
+    ghost use Rattle.std.specs.Prelude.{List, ℕ};
+    ghost use Rattle.omf_body.specs.Layouts.{SpellsRow, entries_of};
+
+    ghost Value = { List E };
+
+    ghost view = { λ row. entries_of E.layout row.bytes.now };
+
+    ghost invariant = { λ row. SpellsRow E.layout row.bytes.now (entries_of E.layout row.bytes.now) };
+}
+
+impl<'a, E: ReadEntry<'a>> Row<'a, E> {
+    ghost use Rattle.std.specs.Prelude.{◌≡◌, IfOk, IfErr};
+    ghost use Rattle.omf_body.specs.Layouts.{SpellsRow, FaultsRow};
+
+    /// Reads entries up to the end of the body, in order.
+    ///
+    /// # Errors
+    /// The fault of the first entry that can't be read.
+    pub(crate) fn read(bytes: &'a [u8]) -> Result<Row<'a, E>, FieldFault>
+        ensures spelled { IfOk result (λ row. SpellsRow E.layout bytes.now row) }
+        ensures fault { IfErr result (λ f. FaultsRow E.layout bytes.now f) }
+    {
+        let mut cursor = Cursor::new(bytes);
+        while !cursor.is_empty() {
+            let _ = E::read(&mut cursor)?;
+        }
+        Ok(Row {
+            bytes,
+            of: PhantomData,
+        })
+    }
+
+    /// The same entries once more.
+    pub fn again(&self) -> Row<'a, E>
+        ensures { result ≡ self.now }
+    {
+        Row {
+            bytes: self.bytes,
+            of: PhantomData,
+        }
+    }
+
+    /// The bytes of the entries that are left.
+    pub fn bytes(&self) -> &'a [u8]
+        ensures { SpellsRow E.layout result.now self.now }
+    {
+        self.bytes
+    }
+}
+
+impl<'a, E: ReadEntry<'a>> Iterator for Row<'a, E> {
+    ghost use Rattle.std.specs.Array.{list_steps};
+    ghost use Rattle.std.specs.Iterator.{item_count};
+
+    type Item = E;
+
+    ghost next_gives = { list_steps };
+
+    ghost remaining = { item_count (λ entries. entries) };
+
+    fn next(&mut self) -> Option<E> {
+        if self.bytes.is_empty() {
+            return None;
+        }
+        let mut cursor = Cursor::new(self.bytes);
+        match E::read(&mut cursor) {
+            Ok(entry) => {
+                self.bytes = cursor.rest().bytes;
+                Some(entry)
+            }
+            Err(_) => unreachable!(),
+        }
+    }
+}
