@@ -1,9 +1,9 @@
 -- What is fetched is the same in memories with the same code.
-use Rattle.std.specs.Prelude.{◌≡◌, ℕ, Bool, true, false, ◌&&◌, List, Option, Some, slice_index, refl}
+use Rattle.std.specs.Prelude.{◌≡◌, ℕ, Bool, true, false, ◌&&◌, List, Some, slice_index, refl}
 use Rattle.std.specs.Result.{result_ok}
 use Rattle.std.proofs.Common.{◌∙◌, ap, sym}
 use Rattle.decode80.specs.declared.fetching.Fetched.{Fetched}
-use Rattle.decode80.specs.Fetch.{fetch as fetch_in, FetchReadsCodeAlone}
+use Rattle.decode80.specs.Fetch.{FetchReadsCodeAlone}
 use Rattle.place80.specs.Regions.{Areas, in_code}
 use Rattle.machine80.specs.Step.{fetch}
 
