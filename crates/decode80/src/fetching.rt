@@ -85,7 +85,7 @@ pub fn behind(address: u16, bytes: u16) -> u16
 /// # Errors
 /// [`FetchFault::Outside`] where the address is no code. Else [`FetchFault::Unused`] where its byte begins no instruction,
 /// and [`FetchFault::Outside`] where another byte of the instruction is no code or lies past FFFF.
-#[inline]
+#[inline(always)]
 #[tactic(auto, unfolding(crate::specs::Fetch::fetch))]
 pub fn fetch<P: Program>(address: u16, program: &P) -> Result<Fetched, FetchFault>
     ensures { result ≡ fetch (P.code program.now) (P.held program.now) address }

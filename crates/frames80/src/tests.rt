@@ -76,3 +76,14 @@ fn kind(moves: &Moves) -> (&'static str, u32) {
         Moves::MaybeReturn(_, taken) => ("maybe return", *taken),
     }
 }
+
+/// The kind of move at the instruction that these bytes begin with.
+fn kind_at(
+    rt: &impl Abort,
+    alloc: Global,
+    frame: &Frame,
+    bytes: [u8; 3],
+    role: Role,
+) -> Result<(&'static str, u32), Fail> {
+    Ok(kind(&moved(rt, alloc, frame, bytes, role)?))
+}

@@ -1,17 +1,14 @@
 -- A run of a vouched image.
 use Rattle.std.specs.Prelude.{◌≡◌, ℕ, Bool, true, false, List, Option, None, Some, IfSome, length, refl}
 use Rattle.std.proofs.Common.{subst}
-use Rattle.decode80.specs.Fetch.{FetchReadsCodeAlone}
 use Rattle.place80.specs.Regions.{Areas}
 use Rattle.place80.specs.Image.{Located, memory_of}
 use Rattle.machine80.specs.declared.cpu.Cpu.{Cpu}
 use Rattle.machine80.specs.Cpu.{started}
 use Rattle.machine80.specs.declared.end.End.{End}
 use Rattle.machine80.specs.Step.{Machine, machine}
-use Rattle.machine80.specs.World.{world_at_start, IsProperEnd}
+use Rattle.machine80.specs.World.{world_at_start, IsProperEnd, NeverGoesWrong}
 use Rattle.machine80.specs.Run.{IsRun, Agrees, world_of}
-use Rattle.loader80.specs.Check.{IsSound}
-use Rattle.loader80.proofs.Headline.{never_goes_wrong}
 
 -- some number of outputs agrees with each run
 pub most_for : Bool → List (ℕ × ℕ) → Option ℕ
@@ -24,17 +21,17 @@ most_agrees true outputs = refl
 most_agrees false outputs = tt
 
 -- a run ends properly, if it ends
-pub ends_properly : FetchReadsCodeAlone → (image : Located) (inputs : List (List ℕ)) (outputs : List (ℕ × ℕ)) (most : Option ℕ) (limit steps : ℕ) (m : Machine) (ending : Option End) → IsSound image →
+pub ends_properly : (bytes : ℕ) (image : Located) (inputs : List (List ℕ)) (outputs : List (ℕ × ℕ)) (most : Option ℕ) (limit steps : ℕ) (m : Machine) (ending : Option End) → NeverGoesWrong image bytes →
     IsRun image.regions most (world_at_start image inputs outputs) limit steps m ending → IfSome ending IsProperEnd
-ends_properly law image inputs outputs most limit steps m None sound run = tt
-ends_properly law image inputs outputs most limit steps m (Some e) sound run = (never_goes_wrong law image sound).ends most run.1.last e (record { inputs = inputs; outputs = outputs; steps = run.1.before; is = run.1.at }) run.1.stops
+ends_properly bytes image inputs outputs most limit steps m None never run = tt
+ends_properly bytes image inputs outputs most limit steps m (Some e) never run = never.ends most run.1.last e (record { inputs = inputs; outputs = outputs; steps = run.1.before; is = run.1.at }) run.1.stops
 
 -- the same from the parts of the start
-pub parts_end_properly : FetchReadsCodeAlone → (image : Located) (regions : Areas) (cpu : Cpu) (memory : List ℕ) (inputs : List (List ℕ)) (outputs : List (ℕ × ℕ)) (most : Option ℕ) (limit steps : ℕ) (m : Machine) (ending : Option End) → IsSound image →
+pub parts_end_properly : (bytes : ℕ) (image : Located) (regions : Areas) (cpu : Cpu) (memory : List ℕ) (inputs : List (List ℕ)) (outputs : List (ℕ × ℕ)) (most : Option ℕ) (limit steps : ℕ) (m : Machine) (ending : Option End) → NeverGoesWrong image bytes →
     regions ≡ image.regions → cpu ≡ started image.start image.regions → memory ≡ memory_of image.chunks →
     IsRun regions most (world_of (machine cpu memory inputs outputs)) limit steps m ending → IfSome ending IsProperEnd
-parts_end_properly law image regions cpu memory inputs outputs most limit steps m ending sound e f g run =
+parts_end_properly bytes image regions cpu memory inputs outputs most limit steps m ending never e f g run =
     let run₁ : IsRun image.regions most (world_of (machine cpu memory inputs outputs)) limit steps m ending = subst (λ (r : Areas). IsRun r most (world_of (machine cpu memory inputs outputs)) limit steps m ending) e run in
     let run₂ : IsRun image.regions most (world_of (machine (started image.start image.regions) memory inputs outputs)) limit steps m ending = subst (λ (x : Cpu). IsRun image.regions most (world_of (machine x memory inputs outputs)) limit steps m ending) f run₁ in
     let run₃ : IsRun image.regions most (world_at_start image inputs outputs) limit steps m ending = subst (λ (x : List ℕ). IsRun image.regions most (world_of (machine (started image.start image.regions) x inputs outputs)) limit steps m ending) g run₂ in
-    ends_properly law image inputs outputs most limit steps m ending sound run₃
+    ends_properly bytes image inputs outputs most limit steps m ending never run₃

@@ -4,9 +4,6 @@ pub mod HexText
 pub mod InputsText
 pub mod Texts
 pub mod TranscriptText
-pub mod Refusal
-pub mod Check
-pub mod Walk
 pub mod Vouched
 pub mod Fault
 pub mod Session

@@ -13,12 +13,15 @@ use Rattle.machine80.specs.Run.{IsRun}
 use Rattle.loader80.specs.declared.replies.Outcome.{Outcome}
 use Rattle.loader80.specs.declared.fault.SessionFault.{SessionFault}
 use Rattle.loader80.specs.declared.fault.SessionFault.TheVariants.{Read, Write, Image, Regions, Inputs, Refused, Memory, TooLong}
-use Rattle.loader80.specs.declared.refusal.Refusal.{Refusal}
-use Rattle.loader80.specs.declared.refusal.Refusal.TheVariants.{Memory as NoMemory}
+use Rattle.flow80.specs.declared.refusal.Refusal.{Refusal}
+use Rattle.flow80.specs.declared.refusal.Refusal.TheVariants.{Memory as NoMemory}
 use Rattle.loader80.specs.Texts.{Texts}
 use Rattle.loader80.specs.InputsText.{inputs_of, bad_line}
 use Rattle.loader80.specs.TranscriptText.{transcript, refusal_line}
-use Rattle.loader80.specs.Check.{IsSound, IsFault}
+use Rattle.flow80.specs.declared.report.ProcRow.{ProcRow}
+use Rattle.flow80.specs.Faults.{Holds}
+use Rattle.verify80.specs.Looking.{code_of}
+use Rattle.loader80.specs.Vouched.{IsVouched}
 
 -- the image's bytes tell the image but for its regions, and the regions' text spells those
 pub record SpellsProgram (t : Texts) (image : Located) : Type 0 where
@@ -33,13 +36,13 @@ pub record IsTranscript (image : Located) (inputs : List (List ℕ)) (limit step
   pub at : o.at ≡ last.cpu.pc
   pub spells : text ≡ transcript o.stack_bytes last.outputs o.end o.at o.steps
 
--- the texts spell a program and its inputs, and no point that the program reaches has a fault
+-- the texts spell a program and its inputs, and the verifier accepts the program with the bytes that are printed
 pub record Runs (limit steps : ℕ) (t : Texts) (o : Outcome) (text : List ℕ) : Type 0 where
   pub image : Located
   pub program : SpellsProgram t image
   pub inputs : bad_line t.inputs ≡ None
-  pub sound : IsSound image
-  pub no_stack : o.stack_bytes ≡ 0
+  pub rows : List ProcRow
+  pub vouched : IsVouched image rows o.stack_bytes
   pub ran : IsTranscript image (lists_of (inputs_of t.inputs)) limit steps o text
 
 -- the first fault of the texts, in the order regions, image, inputs, check
@@ -47,7 +50,7 @@ abbrev pub Faults : Texts → SessionFault → List ℕ → Type 0
 Faults t (Regions f) text = Refuses t.regions f × (f ≢ RegionsMemory) × (text ≡ [])
 Faults t (Image f) text = ((areas : Areas) × Spells t.regions areas) × (image_of t.image ≡ Err f) × (f ≢ ImageMemory) × (text ≡ [])
 Faults t (Inputs n) text = ((image : Located) × SpellsProgram t image) × (bad_line t.inputs ≡ Some n) × (text ≡ [])
-Faults t (Refused r) text = ((image : Located) × SpellsProgram t image × IsFault image r) × (bad_line t.inputs ≡ None) × (text ≡ refusal_line r)
+Faults t (Refused r) text = ((image : Located) × SpellsProgram t image × Holds (code_of image) r) × (bad_line t.inputs ≡ None) × (text ≡ refusal_line r)
 Faults t Memory text = text ≡ []
 Faults t (Read k) text = ⊥
 Faults t Write text = ⊥
@@ -62,7 +65,7 @@ Says limit steps t (Err f) text = Faults t f text
 abbrev pub IsRefused : Refusal → Result Outcome SessionFault → List ℕ → Type 0
 IsRefused refusal answer text = ((answer ≡ Err Memory) × (text ≡ [])) ⊎ ((answer ≡ Err (Refused refusal)) × (refusal ≢ NoMemory) × (text ≡ refusal_line refusal))
 
--- the transcript of a run of the image, or want of memory
-abbrev pub Transcribes : Located → List (List ℕ) → (limit steps : ℕ) → Result Outcome SessionFault → List ℕ → Type 0
-Transcribes image inputs limit steps (Ok o) text = (o.stack_bytes ≡ 0) × IsTranscript image inputs limit steps o text
-Transcribes image inputs limit steps (Err fault) text = (fault ≡ Memory) × (text ≡ [])
+-- the transcript of a run of the image with the bytes that were found, or want of memory
+abbrev pub Transcribes : Located → (bytes : ℕ) → List (List ℕ) → (limit steps : ℕ) → Result Outcome SessionFault → List ℕ → Type 0
+Transcribes image bytes inputs limit steps (Ok o) text = (o.stack_bytes ≡ bytes) × IsTranscript image inputs limit steps o text
+Transcribes image bytes inputs limit steps (Err fault) text = (fault ≡ Memory) × (text ≡ [])

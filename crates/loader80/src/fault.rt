@@ -3,9 +3,9 @@
 ghost use Rattle.std.specs.Prelude.{◌≡◌};
 ghost use Rattle.loader80.specs.Fault.{session_code};
 
-use crate::refusal::Refusal;
 use place80::{ImageFault, RegionsFault};
 use thiserror::Error;
+use verify80::Refusal;
 
 /// Why a session has no outcome.
 #[derive(Clone, Copy, Debug, PartialEq, Eq, Error)]

@@ -3,7 +3,8 @@
 //! | Item | What it is |
 //! |---|---|
 //! | [`vouch`], [`Vouched`], [`run`] | an image is checked, and runs |
-//! | [`Refusal`] | why the check refuses an image |
+//! | [`Refusal`], [`ProcRow`] | why the verifier refuses an image; what it says of a procedure |
+//! | [`refusal_text`] | the line that is printed of a refusal |
 //! | [`session`] | three inputs to the transcript of a run |
 //! | [`answer_texts`] | the same of three texts that were read |
 //! | [`Source`], [`Sink`] | what gives and takes bytes, and counts the calls that failed |
@@ -13,12 +14,10 @@
 //! | [`digits`] | hexadecimal digits, read and written |
 #![tactic(auto)]
 
-mod checking;
 pub mod digits;
 mod fault;
 mod inputs;
 mod reading;
-mod refusal;
 mod replies;
 mod running;
 mod sessions;
@@ -27,18 +26,18 @@ mod stream;
 mod tests;
 mod transcript;
 mod vouched;
-mod walk;
 mod whole;
 mod writing;
 
 pub use fault::SessionFault;
 pub use inputs::{InputsFault, read_inputs};
 pub use reading::Reading;
-pub use refusal::Refusal;
 pub use replies::{Outcome, Reply, SessionTexts, answer_texts};
 pub use running::{Ended, run};
 pub use sessions::{TEXT_LIMIT, session};
 pub use stream::{Failed, Sink, Source};
-pub use vouched::{ProcRow, Vouched, vouch};
+pub use transcript::refusal_text;
+pub use verify80::{ProcRow, Refusal};
+pub use vouched::{Vouched, vouch};
 pub use whole::{ReadAllFault, read_all, write_all};
 pub use writing::Writing;

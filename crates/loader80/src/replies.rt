@@ -6,13 +6,13 @@ ghost use Rattle.loader80.specs.Session.{Says, SpellsProgram, Faults, IsRefused,
 
 use crate::fault::SessionFault;
 use crate::inputs::{InputsFault, read_inputs};
-use crate::refusal::Refusal;
 use crate::running::run;
 use crate::transcript::{refusal_text, transcript_text};
 use crate::vouched::{Vouched, vouch};
 use machine80::{End, FlatBus, Inputs, ListPorts, Ports};
 use place80::{Image, ImageFault, RegionsFault, read_image, read_regions};
 use std::alloc::{AllocError, Global};
+use verify80::Refusal;
 
 /// What a session came to.
 #[derive(Clone, Copy, Debug, PartialEq, Eq)]
@@ -108,7 +108,7 @@ fn refuse(alloc: Global, refusal: Refusal) -> Reply
 
 /// A vouched image is run, and its transcript is made.
 fn transcribe(alloc: Global, vouched: &Vouched, inputs: Inputs, steps: u64, outputs: usize) -> Reply
-    ensures { Transcribes vouched.now.image (lists_of inputs.pairs.items) outputs steps result.answer (string_bytes result.text) }
+    ensures { Transcribes vouched.now.image vouched.now.stack_bytes (lists_of inputs.pairs.items) outputs steps result.answer (string_bytes result.text) }
 {
     let Ok(mut bus) = FlatBus::new(alloc, vouched.image()) else {
         return faulty(alloc, SessionFault::Memory);

@@ -8,7 +8,6 @@ ghost use Rattle.machine80.specs.World.{world_at_start, IsProperEnd};
 ghost use Rattle.machine80.specs.Run.{IsRun, Agrees};
 
 use crate::vouched::Vouched;
-use decode80::fetch_reads_code_alone;
 use machine80::{Bus, Cpu, End, Ports, advance};
 
 /// How a run ended.
@@ -37,7 +36,6 @@ pub fn run<B: Bus, P: Ports>(vouched: &Vouched, bus: &mut B, ports: &mut P, step
     ensures limit { P.limit ports.new ≡ P.limit ports.old }
     ensures room { has_room (P.limit ports.old) (P.outputs ports.old) → has_room (P.limit ports.new) (P.outputs ports.new) }
 {
-    fetch_reads_code_alone();
     let image = vouched.image();
     let mut cpu = Cpu::start(image.start, &image.regions);
     let advanced = advance(&mut cpu, bus, ports, &image.regions, steps);

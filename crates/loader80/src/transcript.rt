@@ -3,10 +3,10 @@ ghost use Rattle.std.specs.Prelude.{◌≡◌, ◌++◌, IfOk, OnOk, string_byte
 ghost use Rattle.loader80.specs.TranscriptText.{end_line, output_line, refusal_line, refused_at, transcript};
 
 use crate::digits::{ByteDigits, WordDigits};
-use crate::refusal::Refusal;
 use machine80::End;
 use std::alloc::{AllocError, Global};
 use std::fmt::Write;
+use verify80::Refusal;
 
 /// The transcript of a run: a line for the bytes of stack, one for each output, and one for the end.
 pub fn transcript_text(
@@ -63,14 +63,25 @@ pub fn refusal_text(alloc: Global, refusal: Refusal) -> Result<String, AllocErro
     ensures { IfOk result (λ text. string_bytes text ≡ refusal_line refusal) }
 {
     match refusal {
-        Refusal::NotYet(at) => refused_text(alloc, "0 NotYet", at),
         Refusal::FetchOutside(at) => refused_text(alloc, "1 FetchOutside", at),
         Refusal::UnusedOpcode(at) => refused_text(alloc, "2 UnusedOpcode", at),
         Refusal::EnablesInterrupts(at) => refused_text(alloc, "3 EnablesInterrupts", at),
         Refusal::Sphl(at) => refused_text(alloc, "4 Sphl", at),
         Refusal::Pchl(at) => refused_text(alloc, "5 Pchl", at),
         Refusal::StackByByte(at) => refused_text(alloc, "6 StackByByte", at),
+        Refusal::SetsStack(at) => refused_text(alloc, "7 SetsStack", at),
         Refusal::DirectStore(at) => refused_text(alloc, "8 DirectStore", at),
+        Refusal::PopsBelow(at) => refused_text(alloc, "9 PopsBelow", at),
+        Refusal::ReturnNotOwn(at) => refused_text(alloc, "10 ReturnNotOwn", at),
+        Refusal::ReturnFromMain(at) => refused_text(alloc, "11 ReturnFromMain", at),
+        Refusal::HeightsDiffer(at) => refused_text(alloc, "12 HeightsDiffer", at),
+        Refusal::UnevenArguments(at) => refused_text(alloc, "13 UnevenArguments", at),
+        Refusal::ShortArguments(at) => refused_text(alloc, "14 ShortArguments", at),
+        Refusal::Recursion(at) => refused_text(alloc, "15 Recursion", at),
+        Refusal::StackTooSmall(need, has) => {
+            format!(in alloc; "REFUSED 16 StackTooSmall {need} {has}\n")
+        }
+        Refusal::TooManyPoints => String::from_str(alloc, "REFUSED 17 TooManyPoints\n"),
         Refusal::Memory => String::from_str(alloc, "REFUSED 18 Memory\n"),
     }
 }

@@ -1,32 +1,19 @@
-//! An image that was checked.
+//! An image that the verifier has accepted.
 
-ghost use Rattle.std.specs.Prelude.{◌≡◌, ◌≤◌, OnOk, IfOk, IfErr};
+ghost use Rattle.std.specs.Prelude.{◌≡◌, ◌≤◌, ℕ, IfOk, IfErr};
+ghost use Rattle.flow80.specs.Faults.{Holds};
+ghost use Rattle.flow80.specs.Fitting.{IsFitted};
 ghost use Rattle.machine80.specs.World.{NeverGoesWrong};
-ghost use Rattle.loader80.specs.Check.{IsSound, Holds};
+ghost use Rattle.verify80.specs.Looking.{code_of};
+ghost use Rattle.loader80.specs.Vouched.{IsVouched};
 
-use crate::checking::check;
-use crate::refusal::Refusal;
-use decode80::fetch_reads_code_alone;
 use place80::Image;
+use soundness80::fitted_images_never_go_wrong;
 use std::alloc::Global;
 use std::marker::Model;
+use verify80::{ProcRow, Refusal, verify};
 
-/// What the check found out of a procedure that calls reach.
-#[derive(Clone, Copy, Debug, PartialEq, Eq)]
-pub struct ProcRow {
-    /// The address where the procedure is entered.
-    pub entry: u16,
-    /// How many words beneath the return address it takes, 0 where it doesn't return.
-    pub takes: u32,
-    /// How many words beneath the return address it asks for.
-    pub wants: u32,
-    /// The greatest number of bytes of stack that it needs below its return address.
-    pub bound: u64,
-    /// Whether it returns.
-    pub returns: bool,
-}
-
-/// An image that was vouched for: none of the points that it reaches has a fault.
+/// An image that was vouched for: the verifier accepts it, so no run of it goes wrong.
 ///
 /// Only [`vouch`] makes one.
 #[derive(Drop)]
@@ -37,26 +24,24 @@ pub struct Vouched {
 }
 
 impl Model for Vouched {
-    ghost use Rattle.std.specs.Prelude.{◌≡◌, []};
-    ghost use Rattle.loader80.specs.Check.{IsSound};
-    ghost use Rattle.loader80.specs.Vouched.{Voucher};
+    ghost use Rattle.loader80.specs.Vouched.{IsVouched, Voucher};
 
     ghost Value = { Voucher };
 
     ghost view = { λ v. record { image = v.image; stack_bytes = v.stack_bytes; rows = v.rows.items } };
 
-    ghost invariant = { λ v. IsSound v.image × (v.stack_bytes ≡ 0) × (v.rows.items ≡ []) };
+    ghost invariant = { λ v. IsVouched v.image v.rows.items v.stack_bytes };
 }
 
 impl Vouched {
-    ghost use Rattle.std.specs.Prelude.{◌≡◌, ◌≤◌, []};
+    ghost use Rattle.std.specs.Prelude.{◌≡◌, ◌≤◌};
     ghost use Rattle.machine80.specs.World.{NeverGoesWrong};
-    ghost use Rattle.loader80.specs.Check.{IsSound};
+    ghost use Rattle.loader80.specs.Vouched.{IsVouched};
 
     /// The image, as it was handed in.
     pub fn image(&self) -> &Image
         ensures image { result.now ≡ self.now.image }
-        ensures sound { IsSound self.now.image }
+        ensures vouched { IsVouched self.now.image self.now.rows self.now.stack_bytes }
     {
         &self.image
     }
@@ -71,41 +56,49 @@ impl Vouched {
         ensures bytes { result ≡ self.now.stack_bytes }
         ensures never_goes_wrong { NeverGoesWrong self.now.image result }
         ensures within_stack { result ≤ self.now.image.regions.stack.length }
-        // No instruction that touches the stack is accepted yet.
-        ensures none { result ≡ 0 }
     {
-        fetch_reads_code_alone();
         self.stack_bytes
     }
 
-    /// The procedures that calls reach, by their entry. No call is accepted yet.
+    /// The procedures that calls reach, by their entry.
     pub fn rows(&self) -> &[ProcRow]
         ensures rows { result.now ≡ self.now.rows }
-        ensures none { result.now ≡ [] }
+        ensures vouched { IsVouched self.now.image self.now.rows self.now.stack_bytes }
     {
         self.rows.as_slice()
     }
 }
 
-/// Checks an image.
+/// Verifies an image.
 ///
 /// # Errors
-/// The image, unchanged, and a fault that holds at a point that the program reaches, or want of memory.
+/// The image, unchanged, and a refusal that holds of it, or want of memory.
 pub fn vouch(alloc: Global, image: Image) -> Result<Vouched, (Image, Refusal)>
     ensures image { IfOk result (λ vouched. vouched.image ≡ image) }
-    ensures sound { OnOk result (IsSound image) }
+    ensures vouched { IfOk result (λ vouched. IsVouched image vouched.rows vouched.stack_bytes) }
     ensures never_goes_wrong { IfOk result (λ vouched. NeverGoesWrong image vouched.stack_bytes) }
     ensures within_stack { IfOk result (λ vouched. vouched.stack_bytes ≤ image.regions.stack.length) }
     ensures handed_back { IfErr result (λ refused. refused.0 ≡ image) }
-    ensures refused { IfErr result (λ refused. Holds image refused.1) }
+    ensures refused { IfErr result (λ refused. Holds (code_of image) refused.1) }
 {
-    fetch_reads_code_alone();
-    match check(alloc, &image) {
-        Ok(()) => Ok(Vouched {
-            image,
-            stack_bytes: 0,
-            rows: Vec::new(alloc),
-        }),
+    match verify(alloc, &image) {
+        Ok(report) => {
+            runs_as_verified(&image);
+            Ok(Vouched {
+                image,
+                stack_bytes: report.stack_bytes,
+                rows: report.procedures,
+            })
+        }
         Err(refusal) => Err((image, refusal)),
     }
+}
+
+/// What a fitting table of frames says of the image's runs. (It carries a law, and does nothing.)
+#[inline]
+fn runs_as_verified(image: &Image)
+    ensures { (bytes : ℕ) → IsFitted (code_of image.now) bytes → bytes ≤ image.now.regions.stack.length → NeverGoesWrong image.now bytes }
+{
+    fitted_images_never_go_wrong();
+    image.regions.stack();
 }

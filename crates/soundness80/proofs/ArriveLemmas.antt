@@ -53,7 +53,7 @@ use Rattle.flow80.specs.Walks.{LeadsTo, called, returning, role_of}
 use Rattle.flow80.specs.Fitting.{Table, Has, CallFits, FrameFits, Fits}
 use Rattle.verify80.specs.Looking.{code_of}
 use Rattle.soundness80.proofs.StackLemmas.{pointer, stack_word, SameWords, Written, Touches, touches_none, touches_pushed, touches_popped, popped_low, popped_high, after_pop, after_push, word_on_top, word_pushed, word_swapped}
-use Rattle.soundness80.proofs.StoreLemmas.{is_plain, StoresData, same_memory, plain_stores, SameCode, data_keeps_code, data_keeps_words, word_keeps_code}
+use Rattle.soundness80.proofs.StoreLemmas.{Ground, is_plain, StoresData, same_memory, plain_stores, SameCode, data_keeps_code, data_keeps_words, word_keeps_code}
 use Rattle.soundness80.proofs.PairLemmas.{pair_value, BringsPair, change_by, plain_pairs}
 use Rattle.soundness80.proofs.ChainLemmas.{HasRoom, AtMain, UnderCall, Chain, in_main, in_call, chain_room, height, callee_room, chain_kept, TakesOne, takes_one, Watched, Arrives, arrived}
 
@@ -61,9 +61,9 @@ use Rattle.soundness80.proofs.StepLemmas.{SameFrame, plain_effect, plain_frame, 
 
 
 -- the stack lies in memory
-pub stack_within : (regions : Areas) → AreRegions regions → regions.stack.first + regions.stack.length ≤ 65536
+pub stack_within : (regions : Areas) → Ground regions → regions.stack.first + regions.stack.length ≤ 65536
 stack_within regions rules =
-    (All-contains IsInMemory (all_ranges regions) regions.stack rules.in_memory
+    (All-contains IsInMemory (all_ranges regions) regions.stack rules.rules.in_memory
     (Contains-append_right regions.code (regions.stack ∷ regions.data_ranges) regions.stack
     (Contains-append_left (regions.stack ∷ []) regions.data_ranges regions.stack (Contains-push [] regions.stack)))).«end»
 
@@ -80,7 +80,7 @@ pub top_is : (words : List Word) → top_word words ≡ word_from_top words 0
 top_is [] = refl
 top_is (word ∷ words) = refl
 
-module _ (image : Located) (table : Table) (most : ℕ) (rules : AreRegions image.regions) (fits : Fits (code_of image) table) (within : most ≤ image.regions.stack.length) where
+module _ (image : Located) (table : Table) (most : ℕ) (rules : Ground image.regions) (fits : Fits (code_of image) table) (within : most ≤ image.regions.stack.length) where
   abbrev last : ℕ
   last = image.regions.stack.first + image.regions.stack.length
 

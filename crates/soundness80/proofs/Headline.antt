@@ -7,7 +7,7 @@ use Rattle.std.proofs.lemmas.List.{length-map}
 use Rattle.decode80.specs.declared.instr.Instr.{Instr}
 use Rattle.decode80.specs.declared.instr.Instr.TheVariants.{Hlt, In, Out}
 use Rattle.decode80.specs.declared.fetching.Fetched.{Fetched}
-use Rattle.decode80.specs.Fetch.{direct_bytes, fetch as fetch_in}
+use Rattle.decode80.specs.Fetch.{direct_bytes, FetchReadsCodeAlone}
 use Rattle.frames80.specs.declared.word.Word.TheVariants.{Own, Any}
 use Rattle.frames80.specs.declared.frame_pair.FramePair.{FramePair}
 use Rattle.frames80.specs.declared.frame_pair.FramePair.TheVariants.{Bc, De, Hl}
@@ -28,10 +28,15 @@ use Rattle.flow80.specs.Fitting.{Table, Fits, IsFitted}
 use Rattle.verify80.specs.Looking.{code_of, look_at, stores_in_data}
 use Rattle.verify80.specs.LookLaws.{fetch_at, IsAdmitted, LooksFindWhatIsAdmitted}
 use Rattle.soundness80.proofs.StackLemmas.{pointer, stack_word, Touches}
-use Rattle.soundness80.proofs.StoreLemmas.{SameCode}
-use Rattle.soundness80.proofs.FetchLemmas.{fetch_same, fetched_inside, both}
+use Rattle.soundness80.proofs.StoreLemmas.{Ground, SameCode}
+use Rattle.soundness80.proofs.FetchLemmas.{fetch_here}
 use Rattle.soundness80.proofs.ChainLemmas.{HasRoom, in_main, Watched, Arrives, arrived}
 use Rattle.soundness80.proofs.SafeLemmas.{Leads, Safe, is_safe}
+
+-- two tests that both hold
+both : (a b : Bool) → (a && b) ≡ true → (a ≡ true) × (b ≡ true)
+both true b h = (refl, h)
+both false b h = cc
 
 -- tests that hold of each item
 passes_on : (f : ℕ → Bool) (x : ℕ) (xs : List ℕ) → f x ≡ true → All (λ y. f y ≡ true) xs → All (λ y. f y ≡ true) (x ∷ xs)
@@ -84,14 +89,6 @@ guarded_ends : (o : Option ℕ) (refused : Bool) (found : Fetched) (m : Machine)
 guarded_ends None refused found m e h = execute_ends refused found.instr found.next m e h
 guarded_ends (Some a) refused found m e h = subst IsProperEnd (end_in h) tt
 
--- what is fetched of the image is fetched of a memory with its code
-fetch_here : (image : Located) (memory : List ℕ) (at : ℕ) (found : Fetched) → SameCode image.regions (memory_of image.chunks) memory → fetch_at image.regions (memory_of image.chunks) at ≡ Ok found →
-    fetch image.regions memory at ≡ Some found
-unfolding fetch
-fetch_here image memory at found same is =
-    let there : fetch image.regions (memory_of image.chunks) at ≡ Some found = ap result_ok is in
-    fetch_same image.regions (memory_of image.chunks) memory at found (fetched_inside image.regions (memory_of image.chunks) at found there) same there
-
 range_length : (first count : ℕ) → length (range_with_len first count) ≡ count
 range_length first zero = refl
 range_length first (suc count) = ap suc (range_length (first + 1) count)
@@ -101,8 +98,8 @@ unfolding memory_of
 full image = length-map (range_with_len 0 65536) (byte_at image.chunks) ∙ range_length 0 65536
 
 -- the instruction at a watched world is the image's
-module _ (image : Located) (table : Table) (most : ℕ) (rules : AreRegions image.regions) (fits : Fits (code_of image) table) (printed : table.bound Main ≡ most) (within : most ≤ image.regions.stack.length)
-    (changes : ChangesByPlaces) (returns_law : ReturnsByPlaces) (looks : LooksFindWhatIsAdmitted) where
+module _ (image : Located) (table : Table) (most : ℕ) (rules : Ground image.regions) (fits : Fits (code_of image) table) (printed : table.bound Main ≡ most) (within : most ≤ image.regions.stack.length)
+    (changes : ChangesByPlaces) (returns_law : ReturnsByPlaces) (looks : LooksFindWhatIsAdmitted) (fetches : FetchReadsCodeAlone) where
   record Finds (w : World) : Type 0 where
     found : Fetched
     fetched : fetched_by image.regions w ≡ Some found
@@ -116,7 +113,7 @@ module _ (image : Located) (table : Table) (most : ℕ) (rules : AreRegions imag
       (looks image.regions (memory_of image.chunks) w.machine.cpu.pc fit.found).0 fit.moving.looked in
       record {
         found = fit.found;
-        fetched = fetch_here image w.machine.memory w.machine.cpu.pc fit.found s.code admitted.fetched;
+        fetched = fetch_here fetches image w.machine.memory w.machine.cpu.pc fit.found s.code admitted.fetched;
         stores = admitted.stores;
         safe = is_safe image table most rules fits within changes returns_law w s fit.found.next fit.moves (record { on = fit.on; call = fit.call; return = fit.return }) fit.found.instr fit.moving.moved;
       }
@@ -210,6 +207,7 @@ module _ (image : Located) (table : Table) (most : ℕ) (rules : AreRegions imag
   }
 
 -- an image that is fitted never goes wrong
-pub fitted_never_goes_wrong : ChangesByPlaces → ReturnsByPlaces → LooksFindWhatIsAdmitted → (image : Located) (bytes : ℕ) → AreRegions image.regions → IsFitted (code_of image) bytes → bytes ≤ image.regions.stack.length → NeverGoesWrong image bytes
-fitted_never_goes_wrong changes returns_law looks image bytes rules fitted enough =
-    never_goes_wrong image fitted.table bytes rules fitted.fits fitted.printed enough changes returns_law looks
+pub fitted_never_goes_wrong : ChangesByPlaces → ReturnsByPlaces → LooksFindWhatIsAdmitted → FetchReadsCodeAlone → (image : Located) (bytes : ℕ) → Ground image.regions → IsFitted (code_of image) bytes →
+    bytes ≤ image.regions.stack.length → NeverGoesWrong image bytes
+fitted_never_goes_wrong changes returns_law looks fetches image bytes ground fitted enough =
+    never_goes_wrong image fitted.table bytes ground fitted.fits fitted.printed enough changes returns_law looks fetches

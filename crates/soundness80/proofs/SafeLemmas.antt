@@ -53,7 +53,7 @@ use Rattle.flow80.specs.Walks.{LeadsTo, called, returning, role_of}
 use Rattle.flow80.specs.Fitting.{Table, Has, CallFits, FrameFits, Fits}
 use Rattle.verify80.specs.Looking.{code_of}
 use Rattle.soundness80.proofs.StackLemmas.{pointer, stack_word, SameWords, Written, Touches, touches_none, touches_pushed, touches_popped, popped_low, popped_high, after_pop, after_push, word_on_top, word_pushed, word_swapped}
-use Rattle.soundness80.proofs.StoreLemmas.{is_plain, StoresData, same_memory, plain_stores, SameCode, data_keeps_code, data_keeps_words, word_keeps_code}
+use Rattle.soundness80.proofs.StoreLemmas.{Ground, is_plain, StoresData, same_memory, plain_stores, SameCode, data_keeps_code, data_keeps_words, word_keeps_code}
 use Rattle.soundness80.proofs.PairLemmas.{pair_value, BringsPair, change_by, plain_pairs}
 use Rattle.soundness80.proofs.ChainLemmas.{HasRoom, AtMain, UnderCall, Chain, in_main, in_call, chain_room, height, callee_room, chain_kept, TakesOne, takes_one, Watched, Arrives, arrived}
 
@@ -85,7 +85,7 @@ pub record Safe (image : Located) (table : Table) (most : ℕ) (w : World) (i : 
   pub goes_on : (refused : Bool) (m : Machine) → guard image.regions i w.machine.cpu ≡ None → execute refused i next w.machine ≡ Next m →
       Watched image table most (record { machine = m; places = places_after i next w.machine.cpu.registers.flags w.places })
 
-module _ (image : Located) (table : Table) (most : ℕ) (rules : AreRegions image.regions) (fits : Fits (code_of image) table) (within : most ≤ image.regions.stack.length)
+module _ (image : Located) (table : Table) (most : ℕ) (rules : Ground image.regions) (fits : Fits (code_of image) table) (within : most ≤ image.regions.stack.length)
     (changes : ChangesByPlaces) (returns_law : ReturnsByPlaces) (w : World) (s : Watched image table most w) where
   -- a frame's pairs after a change, where each has the word of the pair that it comes from
   pairs_kept : (change : Change) (registers : Registers) → ((pair : FramePair) → BringsPair w.machine.cpu.registers registers pair (source change (InPair pair))) →

@@ -42,58 +42,16 @@ is_plain (In _) = false
 is_plain (Out _) = false
 is_plain _ = true
 
--- an address in one of the ranges is counted
-counted_first : (b t : Bool) (n : ℕ) → (b || t) ≡ true → (t ≡ true → 1 ≤ n) → 1 ≤ cond b 1 0 + n
-counted_first true t n h k = omega arith
-counted_first false t n h k = let more : 1 ≤ n = k h in omega arith
+-- the rules of regions, and that code, data and stack share no address
+pub record Ground (regions : Areas) : Type 0 where
+  pub rules : AreRegions regions
+  pub code_or_data : (a : ℕ) → in_code regions a ≡ true → in_data regions a ≡ false
+  pub code_or_stack : (a : ℕ) → in_code regions a ≡ true → in_range regions.stack a ≡ false
+  pub data_or_stack : (a : ℕ) → in_data regions a ≡ true → in_range regions.stack a ≡ false
 
-counted : (ranges : List Range) (a : ℕ) → list_any (λ r. in_range r a) ranges ≡ true → 1 ≤ count_by (λ r. in_range r a) ranges
-counted [] a h = cc
-counted (r ∷ rs) a h =
-    rw (sum_by-cons (λ (x : Range). cond (in_range x a) 1 0) r rs)
-    (counted_first (in_range r a) (list_any (λ x. in_range x a) rs) (count_by (λ x. in_range x a) rs) h (λ k. counted rs a k))
-
--- of code, stack and data an address is in one at most
-record Shares (regions : Areas) (a : ℕ) : Type 0 where
-  few : count_by (λ r. in_range r a) regions.code + (cond (in_range regions.stack a) 1 0 + count_by (λ r. in_range r a) regions.data_ranges) ≤ 1
-
-shares : (regions : Areas) (a : ℕ) → AreRegions regions → Shares regions a
-shares regions a rules =
-    let weight : Range → ℕ = λ x. cond (in_range x a) 1 0 in
-    let all : count_by (λ r. in_range r a) (all_ranges regions) ≡ count_by (λ r. in_range r a) regions.code + count_by (λ r. in_range r a) (regions.stack ∷ regions.data_ranges) = sum_by-append weight regions.code (regions.stack ∷ regions.data_ranges) in
-    let rest : count_by (λ r. in_range r a) (regions.stack ∷ regions.data_ranges) ≡ weight regions.stack + count_by (λ r. in_range r a) regions.data_ranges = sum_by-cons weight regions.stack regions.data_ranges in
-    let most : count_by (λ r. in_range r a) (all_ranges regions) ≤ 1 = rules.disjoint a in
-    record { few = omega arith }
-
-one_at_most : (b : Bool) (c d : ℕ) → b ≡ true → c + (cond b 1 0 + d) ≤ 1 → (c ≡ 0) × (d ≡ 0)
-one_at_most true c d e h = (omega arith, omega arith)
-one_at_most false c d e h = absurd (true≢false (sym e))
-
-pub code_not_data : (regions : Areas) (a : ℕ) → AreRegions regions → in_code regions a ≡ true → in_data regions a ≡ false
-code_not_data regions a rules code = elim (cases_Bool (in_data regions a)) [
-  | inl e ↦
-      let one : 1 ≤ count_by (λ r. in_range r a) regions.code = counted regions.code a code in
-      let two : 1 ≤ count_by (λ r. in_range r a) regions.data_ranges = counted regions.data_ranges a e in
-      let few = (shares regions a rules).few in
-      absurd (omega arith)
-  | inr e ↦ e
-]
-
-pub stack_not_data : (regions : Areas) (a : ℕ) → AreRegions regions → in_range regions.stack a ≡ true → in_data regions a ≡ false
-stack_not_data regions a rules stack = elim (cases_Bool (in_data regions a)) [
-  | inl e ↦
-      let two : 1 ≤ count_by (λ r. in_range r a) regions.data_ranges = counted regions.data_ranges a e in
-      let none = (one_at_most (in_range regions.stack a) (count_by (λ r. in_range r a) regions.code) (count_by (λ r. in_range r a) regions.data_ranges) stack (shares regions a rules).few).1 in
-      absurd (omega arith)
-  | inr e ↦ e
-]
-
-pub code_not_stack : (regions : Areas) (a : ℕ) → AreRegions regions → in_code regions a ≡ true → in_range regions.stack a ≡ false
-code_not_stack regions a rules code = elim (cases_Bool (in_range regions.stack a)) [
-  | inl e ↦
-      let one : 1 ≤ count_by (λ r. in_range r a) regions.code = counted regions.code a code in
-      let none = (one_at_most (in_range regions.stack a) (count_by (λ r. in_range r a) regions.code) (count_by (λ r. in_range r a) regions.data_ranges) e (shares regions a rules).few).0 in
-      absurd (omega arith)
+stack_not_data : (regions : Areas) (a : ℕ) → Ground regions → in_range regions.stack a ≡ true → in_data regions a ≡ false
+stack_not_data regions a ground stack = elim (cases_Bool (in_data regions a)) [
+  | inl e ↦ absurd (true≢false (sym stack ∙ ground.data_or_stack a e))
   | inr e ↦ e
 ]
 
@@ -162,10 +120,10 @@ plain_stores regions i next m cpu plain pass = same_memory regions m
 pub record SameCode (regions : Areas) (memory memory' : List ℕ) : Type 0 where
   pub bytes : (a : ℕ) → in_code regions a ≡ true → slice_index memory a ≡ slice_index memory' a
 
-pub data_keeps_code : (regions : Areas) (old m m' : List ℕ) → AreRegions regions → StoresData regions m m' → SameCode regions old m → SameCode regions old m'
-data_keeps_code regions old m m' rules stored_data code = record { bytes = λ a here. code.bytes a here ∙ sym (stored_data.same a (code_not_data regions a rules here)) }
+pub data_keeps_code : (regions : Areas) (old m m' : List ℕ) → Ground regions → StoresData regions m m' → SameCode regions old m → SameCode regions old m'
+data_keeps_code regions old m m' rules stored_data code = record { bytes = λ a here. code.bytes a here ∙ sym (stored_data.same a (rules.code_or_data a here)) }
 
-pub data_keeps_words : (regions : Areas) (below : ℕ) (m m' : List ℕ) → AreRegions regions → 2 * below ≤ regions.stack.length → StoresData regions m m' →
+pub data_keeps_words : (regions : Areas) (below : ℕ) (m m' : List ℕ) → Ground regions → 2 * below ≤ regions.stack.length → StoresData regions m m' →
     SameWords (regions.stack.first + regions.stack.length) below m m'
 data_keeps_words regions below m m' rules room stored_data = record {
   same = λ k less.
@@ -175,11 +133,11 @@ data_keeps_words regions below m m' rules room stored_data = record {
       ∙ ap (λ l. 256 * slice_index m ((regions.stack.first + regions.stack.length) - (2 * k + 1)) + l) low;
 }
 
-pub word_keeps_code : (regions : Areas) (place high low : ℕ) (old m m' : List ℕ) → AreRegions regions → 2 * place + 2 ≤ regions.stack.length →
+pub word_keeps_code : (regions : Areas) (place high low : ℕ) (old m m' : List ℕ) → Ground regions → 2 * place + 2 ≤ regions.stack.length →
     Written (regions.stack.first + regions.stack.length) place high low m m' → SameCode regions old m → SameCode regions old m'
 word_keeps_code regions place high low old m m' rules room w code = record {
   bytes = λ a here. code.bytes a here ∙ sym (w.others a (not_at a here _ (inside regions.stack _ (omega arith) (omega arith))) (not_at a here _ (inside regions.stack _ (omega arith) (omega arith))));
 }
   where
     not_at : (a : ℕ) → in_code regions a ≡ true → (b : ℕ) → in_range regions.stack b ≡ true → a ≢ b
-    not_at a here b in_stack = λ e. true≢false (sym in_stack ∙ ap (in_range regions.stack) (sym e) ∙ code_not_stack regions a rules here)
+    not_at a here b in_stack = λ e. true≢false (sym in_stack ∙ ap (in_range regions.stack) (sym e) ∙ rules.code_or_stack a here)

@@ -2,7 +2,9 @@
 
 ghost use Rattle.soundness80.specs.Soundness.{FittedImagesNeverGoWrong};
 
-use frames80::{counts_decide, places_move};
+use decode80::fetch_reads_code_alone;
+use frames80::places_move;
+use place80::laws::code_data_and_stack_are_apart;
 use verify80::looks_are_exact;
 
 /// Where a table of frames fits an image, and the stack has the bytes that the table says, then whatever waits at the ports,
@@ -13,7 +15,8 @@ use verify80::looks_are_exact;
 pub fn fitted_images_never_go_wrong()
     ensures { FittedImagesNeverGoWrong }
 {
+    fetch_reads_code_alone();
     places_move();
-    counts_decide();
+    code_data_and_stack_are_apart();
     looks_are_exact();
 }

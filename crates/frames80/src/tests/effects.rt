@@ -62,13 +62,13 @@ static ROWS: [(Effect, &[u8]); 33] = [
 
 #[test]
 fn each_opcode_has_the_effect_of_its_row(rt: HostRuntime) -> Result<(), Fail> {
-    let mut opcodes = 0;
+    let mut opcodes = 0usize;
     for (effect, row) in &ROWS {
         for first in *row {
             let (instr, _) = decode([*first, 0x00, 0x32]).ok_or("an unused byte")?;
             assert!(rt; effect_of(instr) == *effect, "opcode {first:02X}");
         }
-        opcodes += row.len();
+        opcodes = opcodes.wrapping_add(row.len());
     }
     assert_eq!(rt; opcodes, 244);
     Ok(())

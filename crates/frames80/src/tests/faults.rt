@@ -21,13 +21,8 @@ fn refused(
     let (instr, _) = decode(bytes).ok_or("an unused byte")?;
     assert!(rt; frame.taken <= 1_000_000);
     assert!(rt; frame.words.len() <= 1_000_000);
-    match next(alloc, frame, instr, role) {
-        Ok(_) => Err(Fail::new("it isn't refused")),
-        Err(fault) => {
-            assert_eq!(rt; fault, wanted);
-            Ok(())
-        }
-    }
+    assert!(rt; next(alloc, frame, instr, role).err() == Some(wanted));
+    Ok(())
 }
 
 /// SPHL, PCHL, INX SP, DCX SP, LXI SP,3100, pops of no words, returns.

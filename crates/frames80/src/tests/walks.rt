@@ -1,6 +1,6 @@
 //! Procedures followed instruction by instruction: those that take words from beneath their return address, and their callers.
 
-use super::{MAIN, assert_frame, frame_of, kind, moved, stepped};
+use super::{MAIN, assert_frame, frame_of, kind_at, stepped};
 use crate::Role::Entry;
 use crate::Word::{Any, Own};
 use crate::{Frame, Word, after, depth};
@@ -35,31 +35,42 @@ fn a_callee_takes_one_word(rt: HostRuntime) -> Result<(), Fail> {
         assert_frame(&rt, &frame, *taken, words, [Any, *de, Any]);
         deep(&rt, &frame, *wanted);
     }
-    let last = moved(&rt, rt.alloc(), &frame, [0xC9, 0x00, 0x00], Entry)?;
-    assert_eq!(rt; kind(&last), ("return", 1));
+    let last = kind_at(&rt, rt.alloc(), &frame, [0xC9, 0x00, 0x00], Entry)?;
+    assert_eq!(rt; last, ("return", 1));
     Ok(())
 }
 
 /// LXI SP,3200, LXI H,0005, PUSH H.
 static BEFORE_THE_CALL: [[u8; 3]; 3] = [[0x31, 0x00, 0x32], [0x21, 0x05, 0x00], [0xE5, 0x00, 0x00]];
 
+/// The main program's frame after those steps.
+fn before_the_call(rt: &impl Abort, alloc: Global) -> Result<Frame, Fail> {
+    let mut frame = Frame::main_entry(alloc)?;
+    for bytes in &BEFORE_THE_CALL {
+        frame = stepped(rt, alloc, &frame, *bytes, MAIN)?;
+    }
+    assert_frame(rt, &frame, 0, &[Any], [Any, Any, Any]);
+    Ok(frame)
+}
+
+/// The main program's frame after a call of a procedure that wants and takes one word.
+fn after_the_call(rt: &impl Abort, alloc: Global, frame: &Frame) -> Result<Frame, Fail> {
+    assert!(rt; frame.taken <= 1_000_000);
+    assert!(rt; frame.words.len() <= 1_000_000);
+    assert_eq!(rt; depth(frame, MAIN), 2);
+    Ok(after(alloc, frame, MAIN, 1, 1)?)
+}
+
 /// Those steps, CALL 300B of a procedure that takes one word, HLT.
 #[test]
 fn its_caller_loses_the_word(rt: HostRuntime) -> Result<(), Fail> {
-    let mut frame = Frame::main_entry(rt.alloc())?;
-    for bytes in &BEFORE_THE_CALL {
-        frame = stepped(&rt, rt.alloc(), &frame, *bytes, MAIN)?;
-    }
-    assert_frame(&rt, &frame, 0, &[Any], [Any, Any, Any]);
-    let call = moved(&rt, rt.alloc(), &frame, [0xCD, 0x0B, 0x30], MAIN)?;
-    assert_eq!(rt; kind(&call), ("call", 0x300B));
-    assert!(rt; frame.taken <= 1_000_000);
-    assert!(rt; frame.words.len() <= 1_000_000);
-    assert_eq!(rt; depth(&frame, MAIN), 2);
-    let back = after(rt.alloc(), &frame, MAIN, 1, 1)?;
+    let frame = before_the_call(&rt, rt.alloc())?;
+    let call = kind_at(&rt, rt.alloc(), &frame, [0xCD, 0x0B, 0x30], MAIN)?;
+    assert_eq!(rt; call, ("call", 0x300B));
+    let back = after_the_call(&rt, rt.alloc(), &frame)?;
     assert_frame(&rt, &back, 0, &[], [Any, Any, Any]);
-    let last = moved(&rt, rt.alloc(), &back, [0x76, 0x00, 0x00], MAIN)?;
-    assert_eq!(rt; kind(&last), ("end", 0));
+    let last = kind_at(&rt, rt.alloc(), &back, [0x76, 0x00, 0x00], MAIN)?;
+    assert_eq!(rt; last, ("end", 0));
     Ok(())
 }
 
@@ -69,8 +80,7 @@ fn return_after(rt: &impl Abort, alloc: Global, walk: &[u8]) -> Result<(&'static
     for first in walk {
         frame = stepped(rt, alloc, &frame, [*first, 0x00, 0x00], Entry)?;
     }
-    let last = moved(rt, alloc, &frame, [0xC9, 0x00, 0x00], Entry)?;
-    Ok(kind(&last))
+    kind_at(rt, alloc, &frame, [0xC9, 0x00, 0x00], Entry)
 }
 
 /// POP D, POP B, and then either POP B, PUSH D, RET or PUSH D, RET: the returns take two words and one.
@@ -101,8 +111,8 @@ static MOVES: [(u8, &str, u32); 9] = [
 fn each_move(rt: HostRuntime) -> Result<(), Fail> {
     let frame = frame_of(rt.alloc(), 2, &[Own], [Any, Any, Any])?;
     for (first, wanted, number) in &MOVES {
-        let moves = moved(&rt, rt.alloc(), &frame, [*first, 0x10, 0x32], Entry)?;
-        assert_eq!(rt; kind(&moves), (*wanted, *number));
+        let moves = kind_at(&rt, rt.alloc(), &frame, [*first, 0x10, 0x32], Entry)?;
+        assert_eq!(rt; moves, (*wanted, *number));
     }
     Ok(())
 }

@@ -1,15 +1,15 @@
 //! `plm80 check`: the verifier's report on a located program, or its refusal.
 
-use crate::commands::check_text::{refusal_text, report_text};
+use crate::commands::check_text::report_text;
 use crate::commands::fault_line::{Reported, report_memory};
 use crate::commands::files::print;
 use crate::commands::listing::read_program;
 use crate::commands::syntax::{Argument, Kind, Syntax};
 use crate::commands::words::path_of;
 use clap::ArgMatches;
+use loader80::{Refusal, refusal_text, vouch};
 use place80::Image;
 use std::alloc::{AllocError, Global};
-use verify80::{Refusal, verify};
 
 /// The words of `check`.
 #[derive(Clone, Copy)]
@@ -60,21 +60,18 @@ impl<'a> CheckWords<'a> {
 /// Prints the report on the image, or its refusal, and gives the exit status.
 pub fn check_files(rt: &HostRuntime, words: CheckWords<'_>) -> Result<u8, Reported> {
     let image = read_program(rt, words.image, words.regions)?;
-    let Ok((text, status)) = verdict(rt.alloc(), &image) else {
+    let Ok((text, status)) = verdict(rt.alloc(), image) else {
         return Err(report_memory(rt));
     };
     print(rt, text.as_bytes())?;
     Ok(status)
 }
 
-/// What is printed of the image, and the exit status: 1 where it is refused.
-fn verdict(alloc: Global, image: &Image) -> Result<(String, u8), AllocError> {
-    match verify(alloc, image) {
-        Ok(report) => {
-            let stack = image.regions.stack().length;
-            Ok((report_text(alloc, &report, stack)?, 0))
-        }
-        Err(Refusal::Memory) => Err(AllocError),
-        Err(refusal) => Ok((refusal_text(alloc, refusal)?, 1)),
+/// What is printed of an image, and the exit status: 1 where it is refused.
+fn verdict(alloc: Global, image: Image) -> Result<(String, u8), AllocError> {
+    match vouch(alloc, image) {
+        Ok(vouched) => Ok((report_text(alloc, &vouched)?, 0)),
+        Err((_, Refusal::Memory)) => Err(AllocError),
+        Err((_, refusal)) => Ok((refusal_text(alloc, refusal)?, 1)),
     }
 }

@@ -23,4 +23,4 @@ returns-in-Ok-transcript_text c =
     let outputs : c.outputs.result.now ≡ c.run-ended.new.ports.outputs = c.outputs.ensures in
     let text : string_bytes c.in-Ok-transcript_text.text ≡ transcript o.stack_bytes last.outputs o.end o.at o.steps =
     c.in-Ok-transcript_text.ensures ∙ ap (λ (l : List (ℕ × ℕ)). transcript o.stack_bytes l o.end o.at o.steps) outputs in
-    (c.stack_bytes.ensures.none, transcript_made c.args.vouched.now.image (lists_of c.args.inputs.pairs.items) c.args.outputs c.args.steps o (string_bytes c.in-Ok-transcript_text.text) c.new-ports.result c.run-ended.new.ports last ports refl (c.was_out_of_memory.ensures c.if-was_out_of_memory.false) c.run-ended.ensures.run c.pc.ensures text)
+    (c.stack_bytes.ensures.bytes, transcript_made c.args.vouched.now.image (lists_of c.args.inputs.pairs.items) c.args.outputs c.args.steps o (string_bytes c.in-Ok-transcript_text.text) c.new-ports.result c.run-ended.new.ports last ports refl (c.was_out_of_memory.ensures c.if-was_out_of_memory.false) c.run-ended.ensures.run c.pc.ensures text)

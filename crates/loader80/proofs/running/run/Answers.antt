@@ -16,5 +16,5 @@ returns-clause-proper g c =
     let start : c.image.inside.start ≡ c.args.vouched.now.image.start = ap (λ (v : Located). v.start) whole in
     let cpu : c.start-cpu.result ≡ started c.args.vouched.now.image.start c.args.vouched.now.image.regions =
     c.start-cpu.ensures ∙ ap (λ (n : ℕ). started n c.image.inside.regions) start ∙ ap (λ (r : Areas). started c.args.vouched.now.image.start r) regions in
-    parts_end_properly c.fetch_reads_code_alone.ensures c.args.vouched.now.image c.image.inside.regions c.start-cpu.result _ _ _ most c.args.steps _ _ c.advance-advanced.result.end c.image-image.ensures.sound regions cpu c.requires.content
+    parts_end_properly c.args.vouched.now.stack_bytes c.args.vouched.now.image c.image.inside.regions c.start-cpu.result _ _ _ most c.args.steps _ _ c.advance-advanced.result.end c.image-image.ensures.vouched.never_goes_wrong regions cpu c.requires.content
     (c.advance-advanced.ensures.run most (most_agrees refused (g.P.Ports.outputs c.advance-advanced.new.ports)))
