@@ -61,4 +61,4 @@ faults: need-cc build
 
 bench: need-python3 build
 	@bench/run $(PROGRAM)
-	@bench/verify $(PROGRAM)
+	@bench/verifier $(PROGRAM)

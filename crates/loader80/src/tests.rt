@@ -2,7 +2,6 @@
 //!
 //! What the program shows of texts, images, refusals and transcripts stands in the tables of `tests/commands`.
 
-use std::alloc::{AllocError, Global};
 use std::io::{Error, ErrorKind, Read, Write};
 
 mod inputs;
@@ -10,17 +9,11 @@ mod sessions;
 mod streams;
 mod vouching;
 
-/// An image at 3000: a byte is taken from port 02 and given to port 01, and then the program halts.
-#[rattlefmt::skip]
-static IMAGE: [u8; 32] = [
-    0x02, 0x05, 0x00, 0x01, 0x41, 0x00, 0x00, 0xB7,
-    0x06, 0x09, 0x00, 0x00, 0x00, 0x30, 0xDB, 0x02, 0xD3, 0x01, 0x76, 0x9A,
-    0x04, 0x05, 0x00, 0x01, 0x00, 0x00, 0x30, 0xC6,
-    0x0E, 0x01, 0x00, 0xF1,
-];
+/// An image at 3000, in digits: a byte is taken from port 02 and given to port 01, and then the program halts.
+const IMAGE: &[u8] = b"02050001410000B7060900000030DB02D301769A04050001000030C60E0100F1";
 
 /// The regions of that program.
-static REGIONS: &[u8] = b"REGIONS 1\nCODE 3000 0005\nSTACK 3005 0000\n";
+const REGIONS: &[u8] = b"REGIONS 1\nCODE 3000 0005\nSTACK 3005 0000\n";
 
 /// A reader that gives one byte at a time, and fails once it has given so many.
 #[derive(Drop)]
@@ -50,16 +43,6 @@ struct SlowWriter {
     taken: Vec<u8>,
     full: usize,
     fails: bool,
-}
-
-impl SlowWriter {
-    fn new(alloc: Global, full: usize, fails: bool) -> Result<SlowWriter, AllocError> {
-        Ok(SlowWriter {
-            taken: Vec::with_capacity(alloc, 64)?,
-            full,
-            fails,
-        })
-    }
 }
 
 impl Write for SlowWriter {

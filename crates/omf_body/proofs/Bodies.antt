@@ -1,5 +1,5 @@
 -- Bodies: what is spelled is read, and the first fault is read; so bytes spell one body at most, or have one first fault.
-use Rattle.std.proofs.Common.{◌≡◌, ◌≢◌, ℕ, ◌+◌, Bool, true, false, ◌&&◌, ◌⊎◌, inl, inr, Option, Some, None, List, [], ◌∷◌, ◌++◌, length, Result, Ok, Err, refl, sym, ap, subst, ◌∙◌, arith, append_assoc, IsTrue}
+use Rattle.std.proofs.Common.{◌≡◌, ◌≢◌, ℕ, Bool, true, false, ◌⊎◌, inl, inr, Option, Some, None, List, [], ◌∷◌, ◌++◌, length, Result, Ok, Err, refl, sym, ap, subst, ◌∙◌, IsTrue}
 use Rattle.std.specs.Prelude.{if◌then◌else◌, ◌==◌}
 use Rattle.std.specs.List.{flat_map, list_all}
 use Rattle.std.proofs.lemmas.Bool.{and_parts}
@@ -17,13 +17,13 @@ use Rattle.omf_body.specs.declared.body.Place.{Place}
 use Rattle.omf_body.specs.declared.body.Body.{Body}
 use Rattle.omf_body.specs.declared.body.Body.TheVariants.{ModuleHeader, ModuleEnd, Content, LineNumbers, EndOfFile, Ancestor, LocalSymbols, PublicDeclarations, ExternalNames, ExternalReferences, Relocation, IntersegmentReferences, NamedCommons}
 use Rattle.omf_body.specs.Faults.{fault_of}
-use Rattle.omf_body.specs.Fields.{◌>>=◌, read_byte, read_word, read_name, read_field, word_bytes, field_byte}
+use Rattle.omf_body.specs.Fields.{◌>>=◌, read_byte, read_field, field_byte}
 use Rattle.omf_body.specs.FieldsAgain.{word_again, name_again, field_again}
-use Rattle.omf_body.specs.Layouts.{Layout, IsLayout, SpellsRow, FaultsRow, read_row}
+use Rattle.omf_body.specs.Layouts.{Layout, IsLayout, read_row}
 use Rattle.omf_body.specs.Entries.{segment_layout, common_layout, public_layout, external_layout, offset_layout, index_layout}
 use Rattle.omf_body.specs.EntryLaws.{segment_laws, common_laws, public_laws, external_laws, offset_laws, index_laws}
 use Rattle.omf_body.specs.Bodies.{start_bytes, place_bytes, body_bytes, body_kind, are_distinct, is_sound_body, Spells}
-use Rattle.omf_body.specs.FirstFault.{read_header, read_place, read_end, read_target, FaultsHeaded, ListsTwice, FaultsBody, FirstFault, unknown, in_body}
+use Rattle.omf_body.specs.FirstFault.{read_header, read_place, read_end, read_target, FaultsHeaded, FaultsBody, FirstFault, unknown, in_body}
 use Rattle.omf_body.specs.Laws.{OneBody, OneFault, NeverBoth}
 use Rattle.omf_body.proofs.Rows.{row_read, fault_read}
 

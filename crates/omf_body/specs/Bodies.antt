@@ -11,7 +11,7 @@ use Rattle.omf_body.specs.declared.body.Place.{Place}
 use Rattle.omf_body.specs.declared.body.Body.{Body}
 use Rattle.omf_body.specs.declared.body.Body.TheVariants.{ModuleHeader, ModuleEnd, Content, LineNumbers, EndOfFile, Ancestor, LocalSymbols, PublicDeclarations, ExternalNames, ExternalReferences, Relocation, IntersegmentReferences, NamedCommons}
 use Rattle.omf_body.specs.Fields.{word_bytes, field_byte}
-use Rattle.omf_body.specs.Entries.{segment_bytes, is_common_id, common_bytes, common_layout, public_bytes, public_layout, external_bytes, external_layout, offset_bytes, index_bytes}
+use Rattle.omf_body.specs.Entries.{segment_bytes, common_bytes, common_layout, public_bytes, public_layout, external_bytes, external_layout, offset_bytes, index_bytes}
 
 -- segment and offset
 abbrev pub place_bytes : Place → List ℕ

@@ -1,5 +1,5 @@
 -- What is written of an entry is read as that entry.
-use Rattle.std.proofs.Common.{◌≡◌, ℕ, ◌+◌, ◌*◌, ◌/◌, ◌%◌, ◌<◌, Bool, true, false, ◌&&◌, List, [], ◌∷◌, ◌++◌, length, Result, Ok, Err, refl, sym, ap, ◌∙◌, arith, append_assoc, IsTrue}
+use Rattle.std.proofs.Common.{◌≡◌, ℕ, ◌+◌, ◌*◌, ◌/◌, ◌%◌, Bool, true, false, ◌&&◌, List, [], ◌∷◌, ◌++◌, Result, Ok, Err, refl, ap, ◌∙◌, arith, append_assoc, IsTrue}
 use Rattle.std.specs.Prelude.{if◌then◌else◌}
 use Rattle.std.proofs.lemmas.Bool.{and_parts}
 use Rattle.omf_core.specs.Name.{is_name, name_spelling}
@@ -11,10 +11,10 @@ use Rattle.omf_body.specs.declared.entries.PublicEntry.{PublicEntry}
 use Rattle.omf_body.specs.declared.entries.ExternalEntry.{ExternalEntry}
 use Rattle.omf_body.specs.declared.entries.OffsetEntry.{OffsetEntry}
 use Rattle.omf_body.specs.declared.entries.IndexEntry.{IndexEntry}
-use Rattle.omf_body.specs.Fields.{◌>>=◌, word_bytes, read_byte, read_word, read_name}
+use Rattle.omf_body.specs.Fields.{◌>>=◌, read_byte, read_name}
 use Rattle.omf_body.specs.Layouts.{IsLayout}
 use Rattle.omf_body.specs.Entries.{is_common_id, segment_layout, common_layout, public_layout, external_layout, offset_layout, index_layout}
-use Rattle.omf_body.specs.FieldsAgain.{word_again, name_again}
+use Rattle.omf_body.specs.FieldsAgain.{name_again}
 
 whole : (word : ℕ) → word % 256 + 256 * (word / 256) ≡ word
 whole word = omega arith

@@ -55,7 +55,9 @@ pub fn put_header(
 ) -> Result<(), PutFault>
     ensures { Appends (body_of.ModuleHeader (record { name = name.now; translator = 0; version = 0; segments = segments.now })) out.old.items out.new.items result }
 {
-    let body = header_bytes(alloc, name, segments).map_err(|_| PutFault::Memory)?;
+    let Ok(body) = header_bytes(alloc, name, segments) else {
+        return Err(PutFault::Memory);
+    };
     put_record(alloc, RecordKind::ModuleHeader.byte(), &body, out)
 }
 
@@ -88,7 +90,9 @@ pub fn put_content(
 ) -> Result<(), PutFault>
     ensures { Appends (body_of.Content (record { segment = segment; offset = offset; bytes = bytes.now })) out.old.items out.new.items result }
 {
-    let body = content_bytes(alloc, segment, offset, bytes).map_err(|_| PutFault::Memory)?;
+    let Ok(body) = content_bytes(alloc, segment, offset, bytes) else {
+        return Err(PutFault::Memory);
+    };
     put_record(alloc, RecordKind::Content.byte(), &body, out)
 }
 
@@ -114,7 +118,9 @@ pub fn put_publics(
 ) -> Result<(), PutFault>
     ensures { Appends (body_of.PublicDeclarations (record { segment = segment; publics = publics.now })) out.old.items out.new.items result }
 {
-    let body = publics_bytes(alloc, segment, publics).map_err(|_| PutFault::Memory)?;
+    let Ok(body) = publics_bytes(alloc, segment, publics) else {
+        return Err(PutFault::Memory);
+    };
     put_record(alloc, RecordKind::PublicDeclarations.byte(), &body, out)
 }
 
@@ -138,7 +144,9 @@ pub fn put_externals(
 ) -> Result<(), PutFault>
     ensures { Appends (body_of.ExternalNames externals.now) out.old.items out.new.items result }
 {
-    let body = externals_bytes(alloc, externals).map_err(|_| PutFault::Memory)?;
+    let Ok(body) = externals_bytes(alloc, externals) else {
+        return Err(PutFault::Memory);
+    };
     put_record(alloc, RecordKind::ExternalNames.byte(), &body, out)
 }
 
@@ -162,7 +170,9 @@ pub fn put_commons(
 ) -> Result<(), PutFault>
     ensures { Appends (body_of.NamedCommons commons.now) out.old.items out.new.items result }
 {
-    let body = commons_bytes(alloc, commons).map_err(|_| PutFault::Memory)?;
+    let Ok(body) = commons_bytes(alloc, commons) else {
+        return Err(PutFault::Memory);
+    };
     put_record(alloc, RecordKind::NamedCommons.byte(), &body, out)
 }
 
@@ -192,7 +202,9 @@ pub fn put_external_references(
 ) -> Result<(), PutFault>
     ensures { Appends (body_of.ExternalReferences (record { field = field; references = references.now })) out.old.items out.new.items result }
 {
-    let body = external_references_bytes(alloc, field, references).map_err(|_| PutFault::Memory)?;
+    let Ok(body) = external_references_bytes(alloc, field, references) else {
+        return Err(PutFault::Memory);
+    };
     put_record(alloc, RecordKind::ExternalReferences.byte(), &body, out)
 }
 
@@ -222,7 +234,9 @@ pub fn put_relocation(
 ) -> Result<(), PutFault>
     ensures { Appends (body_of.Relocation (record { field = field; references = references.now })) out.old.items out.new.items result }
 {
-    let body = relocation_bytes(alloc, field, references).map_err(|_| PutFault::Memory)?;
+    let Ok(body) = relocation_bytes(alloc, field, references) else {
+        return Err(PutFault::Memory);
+    };
     put_record(alloc, RecordKind::Relocation.byte(), &body, out)
 }
 
@@ -255,7 +269,9 @@ pub fn put_intersegment(
 ) -> Result<(), PutFault>
     ensures { Appends (body_of.IntersegmentReferences (record { segment = segment; field = field; references = references.now })) out.old.items out.new.items result }
 {
-    let body = intersegment_bytes(alloc, segment, field, references).map_err(|_| PutFault::Memory)?;
+    let Ok(body) = intersegment_bytes(alloc, segment, field, references) else {
+        return Err(PutFault::Memory);
+    };
     put_record(alloc, RecordKind::IntersegmentReferences.byte(), &body, out)
 }
 
@@ -279,6 +295,8 @@ fn end_bytes(alloc: Global, start: Option<Place>) -> Result<Vec<u8>, AllocError>
 pub fn put_end(alloc: Global, start: Option<Place>, out: &mut Vec<u8>) -> Result<(), PutFault>
     ensures { Appends (body_of.ModuleEnd (record { start = start; unread = end_filling start })) out.old.items out.new.items result }
 {
-    let body = end_bytes(alloc, start).map_err(|_| PutFault::Memory)?;
+    let Ok(body) = end_bytes(alloc, start) else {
+        return Err(PutFault::Memory);
+    };
     put_record(alloc, RecordKind::ModuleEnd.byte(), &body, out)
 }

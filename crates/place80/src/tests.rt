@@ -18,19 +18,26 @@ fn text_of(alloc: Global, regions: &Regions) -> Result<Vec<u8>, AllocError> {
 const REGIONS: &[u8] =
     b"REGIONS 1\nDATA 3002 0001\nSTACK FF00 0100\nCODE 3000 0000\nCODE 3000 0002\nDATA 0000 0001\n";
 
+/// The text that is written for them.
+static IN_ORDER: &[u8] =
+    b"REGIONS 1\nCODE 3000 0002\nSTACK FF00 0100\nDATA 0000 0001\nDATA 3002 0001\n";
+
+/// Whether they have the parts of that text.
+fn has_its_parts(regions: &Regions) -> bool {
+    regions.code().len() == 1
+        && regions.data_ranges().len() == 2
+        && regions.stack().first == 0xFF00
+        && regions.top() == 0
+        && regions.in_code(0x3001)
+        && regions.in_data(0x3002)
+}
+
 #[test]
 fn lines_in_any_order(rt: HostRuntime) -> Result<(), Fail> {
     let regions = read_regions(rt.alloc(), REGIONS)?;
-    assert_eq!(rt; regions.code().len(), 1);
-    assert_eq!(rt; regions.data_ranges().len(), 2);
-    assert_eq!(rt; regions.stack().first, 0xFF00);
-    assert_eq!(rt; regions.top(), 0);
-    assert!(rt; regions.in_code(0x3001) && regions.in_data(0x3002));
+    assert!(rt; has_its_parts(&regions));
     let text = text_of(rt.alloc(), &regions)?;
-    assert_eq!(rt;
-        text.as_slice(),
-        b"REGIONS 1\nCODE 3000 0002\nSTACK FF00 0100\nDATA 0000 0001\nDATA 3002 0001\n".as_slice()
-    );
+    assert!(rt; text.as_slice() == IN_ORDER);
     Ok(())
 }
 

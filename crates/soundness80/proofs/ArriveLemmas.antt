@@ -1,64 +1,35 @@
 -- Where a step of a watched world arrives.
-use Rattle.std.specs.Prelude.{◌≡◌, ◌≢◌, ◌⊎◌, ℕ, zero, suc, ◌+◌, ◌-◌, ◌*◌, ◌/◌, ◌%◌, ◌<◌, ◌≤◌, Bool, true, false, ◌==◌, List, [], ◌∷◌, ◌++◌, Option, Some, None, Result, Ok, Err, All, Contains, drop, length, slice_index, refl, if◌then◌else◌}
-use Rattle.std.proofs.Common.{◌∙◌, ap, sym, subst, arith, inl, inr, true≢false}
-use Rattle.std.specs.Cmp.{unsigned_Decides}
+use Rattle.std.specs.Prelude.{◌≡◌, ◌≢◌, ℕ, zero, suc, ◌+◌, ◌-◌, ◌*◌, ◌/◌, ◌%◌, ◌<◌, ◌≤◌, List, [], ◌∷◌, Some, drop, length, refl}
+use Rattle.std.proofs.Common.{◌∙◌, ap, sym, subst, arith}
 use Rattle.std.proofs.lemmas.List.{length-drop}
 use Rattle.std.proofs.lemmas.List.Elements.{All-contains, Contains-append_left, Contains-append_right, Contains-push}
-use Rattle.decode80.specs.declared.register.Register.{Register}
-use Rattle.decode80.specs.declared.register.Register.TheVariants.{A, B, C, D, E, H, L}
-use Rattle.decode80.specs.declared.condition.Condition.{Condition}
-use Rattle.decode80.specs.declared.restart.Restart.{Restart}
-use Rattle.decode80.specs.declared.pair.Pair.TheVariants.{Bc as PairBc, De as PairDe, Hl as PairHl, Sp}
-use Rattle.decode80.specs.declared.pair.StackPair.{StackPair}
-use Rattle.decode80.specs.declared.pair.StackPair.TheVariants.{Bc as StackBc, De as StackDe, Hl as StackHl, Psw}
-use Rattle.decode80.specs.declared.instr.Instr.{Instr}
-use Rattle.decode80.specs.declared.instr.Instr.TheVariants.{Mov, Load, Mvi, Lxi, Inx, Dcx, Inr, Dcr, Push, Pop, Xthl, Sphl, Pchl, Jmp, JumpIf, Call, CallIf, Ret, ReturnIf, Rst, Hlt, In, Out}
-use Rattle.decode80.specs.Restart.{restart_number}
 use Rattle.decode80.specs.Fetch.{ahead, behind}
 use Rattle.frames80.specs.declared.word.Word.{Word}
 use Rattle.frames80.specs.declared.word.Word.TheVariants.{Own, Any}
 use Rattle.frames80.specs.declared.role.Role.{Role}
 use Rattle.frames80.specs.declared.role.Role.TheVariants.{Main as MainRole, Entry as EntryRole}
-use Rattle.frames80.specs.declared.fault.FrameFault.{FrameFault}
-use Rattle.frames80.specs.declared.fault.FrameFault.TheVariants.{SetsStack, PopsBelow, ReturnNotOwn, ReturnFromMain}
 use Rattle.frames80.specs.declared.frame_pair.FramePair.{FramePair}
 use Rattle.frames80.specs.declared.frame_pair.FramePair.TheVariants.{Bc, De, Hl}
-use Rattle.frames80.specs.declared.effect.Change.{Change}
-use Rattle.frames80.specs.declared.effect.Change.TheVariants.{Keep, Push as PushPair, PushAny, Pop as PopPair, Drop, Swap, Exchange, Forget, SetStack}
-use Rattle.frames80.specs.declared.effect.Effect.{Effect}
-use Rattle.frames80.specs.declared.effect.Effect.TheVariants.{Change as Changes}
-use Rattle.frames80.specs.declared.moves.Moves.{Moves}
-use Rattle.frames80.specs.declared.moves.Moves.TheVariants.{End, On, Jump as MovesTo, Either, Call as CallOf, MaybeCall, Return as ReturnOf, MaybeReturn}
-use Rattle.frames80.specs.StackFrame.{StackFrame, pair_in, with_pair as with_word, unknown, entry_frame, top_word, taken_after_pop, pushed, popped, cleared}
-use Rattle.frames80.specs.Effects.{effect_of, pushed_by, popped_by, written}
-use Rattle.frames80.specs.Moves.{moves_of, changed as changed_frame, change_fault, return_fault, pop_fault, load_fault, is_own_alone, unless}
+use Rattle.frames80.specs.StackFrame.{StackFrame, pair_in, unknown, entry_frame, top_word, taken_after_pop, pushed}
 use Rattle.frames80.specs.Calls.{room, returned}
-use Rattle.frames80.specs.Places.{Place, InPair, InWord, Source, From, Unknown, source, sourced, word_at, word_from_top, ChangesByPlaces, ReturnsByPlaces}
-use Rattle.place80.specs.declared.range.Range.{Range}
+use Rattle.frames80.specs.Places.{InWord, word_from_top, ReturnsByPlaces}
 use Rattle.place80.specs.Range.{IsInMemory}
-use Rattle.place80.specs.Regions.{Areas, AreRegions, all_ranges, top_of}
+use Rattle.place80.specs.Regions.{Areas, all_ranges}
 use Rattle.place80.specs.Image.{Located, memory_of}
-use Rattle.machine80.specs.declared.registers.Registers.{Registers}
-use Rattle.machine80.specs.declared.flags.Flags.{Flags}
-use Rattle.machine80.specs.declared.cpu.Cpu.{Cpu}
-use Rattle.machine80.specs.Flags.{holds}
-use Rattle.machine80.specs.Cpu.{word, high_of, low_of, with_stack_pair}
-use Rattle.machine80.specs.Ports.{next_input, without_next}
-use Rattle.machine80.specs.Effects.{stack_bytes, stores, stored, changed, target, word_in, pushed_bytes, popped_bytes, push_bytes}
-use Rattle.machine80.specs.Step.{Machine, Turn, Next, Stop, guard, execute, proceeded, with_input}
-use Rattle.machine80.specs.World.{World, places_after, returns, IsNewest}
+use Rattle.machine80.specs.Cpu.{word}
+use Rattle.machine80.specs.Effects.{stored, word_in, pushed_bytes, popped_bytes, push_bytes}
+use Rattle.machine80.specs.Step.{Machine}
+use Rattle.machine80.specs.World.{World}
 use Rattle.flow80.specs.declared.procedure.Procedure.{Procedure}
 use Rattle.flow80.specs.declared.procedure.Procedure.TheVariants.{Main, Entry}
-use Rattle.flow80.specs.Walks.{LeadsTo, called, returning, role_of}
-use Rattle.flow80.specs.Fitting.{Table, Has, CallFits, FrameFits, Fits}
+use Rattle.flow80.specs.Walks.{called, role_of}
+use Rattle.flow80.specs.Fitting.{Table, Has, CallFits, Fits}
 use Rattle.verify80.specs.Looking.{code_of}
-use Rattle.soundness80.proofs.StackLemmas.{pointer, stack_word, SameWords, Written, Touches, touches_none, touches_pushed, touches_popped, popped_low, popped_high, after_pop, after_push, word_on_top, word_pushed, word_swapped}
-use Rattle.soundness80.proofs.StoreLemmas.{Ground, is_plain, StoresData, same_memory, plain_stores, SameCode, data_keeps_code, data_keeps_words, word_keeps_code}
-use Rattle.soundness80.proofs.PairLemmas.{pair_value, BringsPair, change_by, plain_pairs}
-use Rattle.soundness80.proofs.ChainLemmas.{HasRoom, AtMain, UnderCall, Chain, in_main, in_call, chain_room, height, callee_room, chain_kept, TakesOne, takes_one, Watched, Arrives, arrived}
-
-use Rattle.soundness80.proofs.StepLemmas.{SameFrame, plain_effect, plain_frame, PlainStep, plain_step}
-
+use Rattle.soundness80.proofs.StackLemmas.{pointer, stack_word, Written, Touches, touches_pushed, touches_popped, after_pop, after_push, word_on_top, word_pushed, word_swapped}
+use Rattle.soundness80.proofs.StoreLemmas.{Ground, StoresData, same_memory, SameCode, data_keeps_code, data_keeps_words, word_keeps_code}
+use Rattle.soundness80.proofs.PairLemmas.{pair_value}
+use Rattle.soundness80.proofs.ChainLemmas.{HasRoom, Chain, in_main, in_call, chain_room, height, callee_room, chain_kept, takes_one, Watched, Arrives, arrived}
+use Rattle.soundness80.proofs.StepLemmas.{SameFrame}
 
 -- the stack lies in memory
 pub stack_within : (regions : Areas) → Ground regions → regions.stack.first + regions.stack.length ≤ 65536

@@ -1,21 +1,14 @@
 -- The open calls of a run, and a world whose stack is as the table of frames says.
-use Rattle.std.specs.Prelude.{◌≡◌, ◌≢◌, ℕ, zero, suc, ◌+◌, ◌-◌, ◌*◌, ◌<◌, ◌≤◌, ℤ, pos, ◌+ℤ◌, ◌*ℤ◌, ◌-ℤ◌, ◌≤ℤ◌, List, [], ◌∷◌, Option, Some, None, drop, length, refl}
+use Rattle.std.specs.Prelude.{◌≡◌, ◌≢◌, ℕ, zero, suc, ◌+◌, ◌-◌, ◌*◌, ◌<◌, ◌≤◌, pos, ◌+ℤ◌, ◌*ℤ◌, ◌-ℤ◌, ◌≤ℤ◌, List, [], ◌∷◌, Some, length}
 use Rattle.std.proofs.Common.{◌∙◌, ap, sym, subst, arith}
 use Rattle.std.proofs.lemmas.Int.{ints}
-use Rattle.std.proofs.lemmas.List.{length-drop}
 use Rattle.frames80.specs.declared.word.Word.{Word}
 use Rattle.frames80.specs.declared.word.Word.TheVariants.{Own, Any}
-use Rattle.frames80.specs.declared.role.Role.{Role}
-use Rattle.frames80.specs.declared.role.Role.TheVariants.{Main as MainRole, Entry as EntryRole}
 use Rattle.frames80.specs.declared.frame_pair.FramePair.{FramePair}
-use Rattle.frames80.specs.declared.effect.Change.{Change}
-use Rattle.frames80.specs.StackFrame.{StackFrame, pair_in, taken_after_pop}
-use Rattle.frames80.specs.Moves.{changed}
+use Rattle.frames80.specs.StackFrame.{StackFrame, pair_in}
 use Rattle.frames80.specs.Calls.{room, returned, depth_of}
-use Rattle.frames80.specs.Places.{Place, InPair, InWord, Source, From, Unknown, source, sourced, word_at, word_from_top, ChangesByPlaces}
-use Rattle.place80.specs.Regions.{AreRegions}
+use Rattle.frames80.specs.Places.{InPair, InWord, word_from_top}
 use Rattle.place80.specs.Image.{Located, memory_of}
-use Rattle.machine80.specs.declared.registers.Registers.{Registers}
 use Rattle.machine80.specs.Step.{Machine}
 use Rattle.machine80.specs.World.{World}
 use Rattle.flow80.specs.declared.procedure.Procedure.{Procedure}
@@ -25,7 +18,7 @@ use Rattle.flow80.specs.Walks.{role_of}
 use Rattle.flow80.specs.Fitting.{Table, Has}
 use Rattle.soundness80.proofs.StackLemmas.{pointer, stack_word, SameWords}
 use Rattle.soundness80.proofs.StoreLemmas.{SameCode}
-use Rattle.soundness80.proofs.PairLemmas.{pair_value, BringsPair}
+use Rattle.soundness80.proofs.PairLemmas.{pair_value}
 
 -- the bytes of a procedure's own return address
 abbrev pub return_bytes : Procedure → ℕ

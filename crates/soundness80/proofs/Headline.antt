@@ -1,7 +1,6 @@
 -- A program that a table of frames fits never goes wrong.
-use Rattle.std.specs.Prelude.{◌≡◌, ℕ, zero, suc, ◌+◌, ◌-◌, ◌*◌, ◌%◌, ◌<◌, ◌≤◌, ◌↔◌, Bool, true, false, not, ◌&&◌, List, [], ◌∷◌, Option, None, Some, Result, Ok, Err, All, length, map, slice_index, slice_index_or, refl}
+use Rattle.std.specs.Prelude.{◌≡◌, ℕ, zero, suc, ◌+◌, ◌-◌, ◌*◌, ◌%◌, ◌<◌, ◌≤◌, Bool, true, false, not, ◌&&◌, List, [], ◌∷◌, Option, None, Some, All, length, slice_index_or, refl}
 use Rattle.std.specs.List.{list_all, range_with_len}
-use Rattle.std.specs.Result.{result_ok}
 use Rattle.std.proofs.Common.{◌∙◌, ap, sym, subst, arith, cond}
 use Rattle.std.proofs.lemmas.List.{length-map}
 use Rattle.decode80.specs.declared.instr.Instr.{Instr}
@@ -12,26 +11,24 @@ use Rattle.frames80.specs.declared.word.Word.TheVariants.{Own, Any}
 use Rattle.frames80.specs.declared.frame_pair.FramePair.{FramePair}
 use Rattle.frames80.specs.declared.frame_pair.FramePair.TheVariants.{Bc, De, Hl}
 use Rattle.frames80.specs.StackFrame.{main_frame, pair_in, unknown}
-use Rattle.frames80.specs.Places.{word_from_top, ChangesByPlaces, ReturnsByPlaces}
-use Rattle.place80.specs.Range.{in_range}
-use Rattle.place80.specs.Regions.{AreRegions, in_code, in_data}
+use Rattle.frames80.specs.Places.{ChangesByPlaces, ReturnsByPlaces}
+use Rattle.place80.specs.Regions.{in_data}
 use Rattle.place80.specs.Image.{Located, memory_of, byte_at}
 use Rattle.machine80.specs.declared.end.End.{End}
 use Rattle.machine80.specs.declared.end.End.TheVariants.{StoreOutside, Stack, Direct}
 use Rattle.machine80.specs.Ports.{next_input}
 use Rattle.machine80.specs.Effects.{stack_bytes, pointed_bytes, target}
 use Rattle.machine80.specs.Step.{Machine, Turn, Next, Stop, fetch, guard, guarded, execute, with_input, step_on, first_outside, ends_at}
-use Rattle.machine80.specs.World.{World, world_at, world_at_start, turn_at, next_world, following, world_after, places_then, places_after, refuses, returns, IsJustBelow, IsWorldOf, fetched_by, FetchesInside, IsNewest, IsProperEnd, NeverGoesWrong}
+use Rattle.machine80.specs.World.{World, world_at, world_at_start, turn_at, next_world, following, world_after, places_then, places_after, refuses, returns, IsJustBelow, IsWorldOf, fetched_by, IsNewest, IsProperEnd, NeverGoesWrong}
 use Rattle.flow80.specs.declared.procedure.Procedure.TheVariants.{Main}
-use Rattle.flow80.specs.Walks.{role_of}
 use Rattle.flow80.specs.Fitting.{Table, Fits, IsFitted}
-use Rattle.verify80.specs.Looking.{code_of, look_at, stores_in_data}
-use Rattle.verify80.specs.LookLaws.{fetch_at, IsAdmitted, LooksFindWhatIsAdmitted}
-use Rattle.soundness80.proofs.StackLemmas.{pointer, stack_word, Touches}
-use Rattle.soundness80.proofs.StoreLemmas.{Ground, SameCode}
+use Rattle.verify80.specs.Looking.{code_of}
+use Rattle.verify80.specs.LookLaws.{IsAdmitted, LooksFindWhatIsAdmitted}
+use Rattle.soundness80.proofs.StackLemmas.{pointer}
+use Rattle.soundness80.proofs.StoreLemmas.{Ground}
 use Rattle.soundness80.proofs.FetchLemmas.{fetch_here}
-use Rattle.soundness80.proofs.ChainLemmas.{HasRoom, in_main, Watched, Arrives, arrived}
-use Rattle.soundness80.proofs.SafeLemmas.{Leads, Safe, is_safe}
+use Rattle.soundness80.proofs.ChainLemmas.{in_main, Watched, arrived}
+use Rattle.soundness80.proofs.SafeLemmas.{Safe, is_safe}
 
 -- two tests that both hold
 both : (a b : Bool) → (a && b) ≡ true → (a ≡ true) × (b ≡ true)

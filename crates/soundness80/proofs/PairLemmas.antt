@@ -1,19 +1,18 @@
 -- The register pairs after an instruction: each has the word from where the instruction's effect takes it.
-use Rattle.std.specs.Prelude.{◌≡◌, ℕ, Bool, true, false, List, refl}
+use Rattle.std.specs.Prelude.{◌≡◌, ℕ, true, List, refl}
 use Rattle.decode80.specs.declared.register.Register.{Register}
 use Rattle.decode80.specs.declared.register.Register.TheVariants.{A, B, C, D, E, H, L}
-use Rattle.decode80.specs.declared.pair.Pair.{Pair}
 use Rattle.decode80.specs.declared.pair.Pair.TheVariants.{Bc as PairBc, De as PairDe, Hl as PairHl, Sp}
 use Rattle.decode80.specs.declared.instr.Instr.{Instr}
 use Rattle.decode80.specs.declared.instr.Instr.TheVariants.{Mov, Load, Mvi, Lxi, Inx, Dcx, Inr, Dcr, Dad, Lhld, Xchg, Push, Pop, Xthl, Sphl, Pchl, Jmp, JumpIf, Call, CallIf, Ret, ReturnIf, Rst, Hlt, In, Out}
 use Rattle.frames80.specs.declared.frame_pair.FramePair.{FramePair}
 use Rattle.frames80.specs.declared.frame_pair.FramePair.TheVariants.{Bc, De, Hl}
 use Rattle.frames80.specs.declared.effect.Change.{Change}
-use Rattle.frames80.specs.declared.effect.Change.TheVariants.{Keep, Forget, Exchange}
+use Rattle.frames80.specs.declared.effect.Change.TheVariants.{Keep}
 use Rattle.frames80.specs.declared.effect.Effect.{Effect}
 use Rattle.frames80.specs.declared.effect.Effect.TheVariants.{Change as Changes}
 use Rattle.frames80.specs.Effects.{effect_of, written}
-use Rattle.frames80.specs.Places.{Place, InPair, InWord, Source, From, Unknown, source}
+use Rattle.frames80.specs.Places.{InPair, InWord, Source, From, Unknown, source}
 use Rattle.machine80.specs.declared.flags.Flags.{Flags}
 use Rattle.machine80.specs.declared.registers.Registers.{Registers}
 use Rattle.machine80.specs.declared.cpu.Cpu.{Cpu}

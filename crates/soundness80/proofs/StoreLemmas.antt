@@ -1,18 +1,14 @@
 -- What an instruction that touches no byte of the stack stores, once the guard lets it pass, goes to data alone.
-use Rattle.std.specs.Prelude.{◌≡◌, ◌≢◌, ℕ, ◌+◌, ◌-◌, ◌*◌, ◌≤◌, ◌<◌, Bool, true, false, not, ◌||◌, ◌&&◌, nat_le, nat_lt, List, [], ◌∷◌, Option, None, Some, length, slice_index, slice_set, count_by, refl}
-use Rattle.std.specs.List.{list_any}
-use Rattle.std.proofs.Common.{◌∙◌, ap, sym, subst, arith, cond, inl, inr, get_or-set_other, true≢false}
+use Rattle.std.specs.Prelude.{◌≡◌, ◌≢◌, ℕ, ◌+◌, ◌-◌, ◌*◌, ◌≤◌, Bool, true, false, not, List, [], ◌∷◌, Option, None, Some, length, slice_index, slice_set, refl}
+use Rattle.std.proofs.Common.{◌∙◌, ap, sym, arith, cond, inl, inr, get_or-set_other, true≢false}
 use Rattle.std.proofs.lemmas.List.{length-set}
 use Rattle.std.proofs.lemmas.Bool.{cases_Bool}
-use Rattle.std.proofs.lemmas.Bool.Decides.{nat_tests}
-use Rattle.std.proofs.lemmas.List.Sums.{sum_by-cons, sum_by-append}
 use Rattle.decode80.specs.declared.instr.Instr.{Instr}
 use Rattle.decode80.specs.declared.instr.Instr.TheVariants.{Store, MviMemory, InrMemory, DcrMemory, Stax, Sta, Shld, Push, Pop, Call, CallIf, Ret, ReturnIf, Rst, Xthl, Lxi, Inx, Dcx, Jmp, JumpIf, Pchl, Sphl, Hlt, In, Out}
 use Rattle.decode80.specs.declared.pair.Pair.TheVariants.{Sp}
 use Rattle.decode80.specs.Fetch.{ahead}
-use Rattle.place80.specs.declared.range.Range.{Range}
 use Rattle.place80.specs.Range.{in_range}
-use Rattle.place80.specs.Regions.{Areas, AreRegions, all_ranges, in_code, in_data}
+use Rattle.place80.specs.Regions.{Areas, AreRegions, in_code, in_data}
 use Rattle.machine80.specs.declared.cpu.Cpu.{Cpu}
 use Rattle.machine80.specs.declared.end.End.{End}
 use Rattle.machine80.specs.declared.end.End.TheVariants.{Direct, StoreOutside}

@@ -1,26 +1,37 @@
 //! Sessions: three readers and a writer.
 
 use super::{IMAGE, REGIONS, SlowReader, SlowWriter};
-use crate::{Reading, SessionFault, Writing, session};
+use crate::{Outcome, Reading, SessionFault, Writing, session};
 use std::alloc::Global;
 use std::test::Fail;
 
-/// The reader of this number, which fails after two bytes where it is the failing one.
-fn reader(text: &[u8], number: usize, failing: usize) -> Reading<SlowReader<'_>> {
-    let until_failure = if number == failing { 2 } else { usize::MAX };
-    Reading::new(SlowReader {
-        left: text,
-        until_failure,
-    })
-}
-
-/// The fault where the reader of this number fails after two bytes, and the writer is this one.
-fn fault_of(alloc: Global, failing: usize, writer: &mut SlowWriter) -> Option<SessionFault> {
-    let mut image = reader(&IMAGE, 1, failing);
-    let mut regions = reader(REGIONS, 2, failing);
-    let mut inputs = reader(b"02 41\n", 3, failing);
+/// What is answered where the reader of this number fails after so many bytes, and the writer is this one.
+fn answer_of(
+    alloc: Global,
+    image: &[u8],
+    failing: usize,
+    until_failure: usize,
+    writer: &mut SlowWriter,
+) -> Result<Outcome, SessionFault> {
+    let until = |number: usize| if number == failing {
+        until_failure
+    } else {
+        usize::MAX
+    };
+    let mut image = Reading::new(SlowReader {
+        left: image,
+        until_failure: until(1),
+    });
+    let mut regions = Reading::new(SlowReader {
+        left: REGIONS,
+        until_failure: until(2),
+    });
+    let mut inputs = Reading::new(SlowReader {
+        left: b"02 41\n",
+        until_failure: until(3),
+    });
     let mut out = Writing::new(writer);
-    let answer = session(
+    session(
         alloc,
         &mut image,
         &mut regions,
@@ -28,37 +39,44 @@ fn fault_of(alloc: Global, failing: usize, writer: &mut SlowWriter) -> Option<Se
         &mut out,
         1_000_000,
         65_536,
-    );
-    answer.err()
+    )
 }
-
-/// How many bytes a writer takes, whether it fails then, and the fault.
-static WRITERS: [(usize, bool, Option<SessionFault>); 3] = [
-    (0, true, Some(SessionFault::Write)),
-    (20, false, Some(SessionFault::Write)),
-    (64, false, None),
-];
-
-/// The transcript of the program.
-static TRANSCRIPT: &[u8] = b"STACK 0\nOUT 01 41\nHALT 3004 AFTER 3\n";
 
 #[test]
 fn three_texts_come_to_their_transcript(rt: HostRuntime) -> Result<(), Fail> {
-    for (full, fails, fault) in &WRITERS {
-        let mut writer = SlowWriter::new(rt.alloc(), *full, *fails)?;
-        assert!(rt; fault_of(rt.alloc(), 0, &mut writer) == *fault);
-        let written = TRANSCRIPT.len().min(*full);
-        assert!(rt; writer.taken.as_slice() == &TRANSCRIPT[..written]);
+    let alloc = rt.alloc();
+    let image = hex::decode(alloc, IMAGE)?;
+    let expected = b"STACK 0\nOUT 01 41\nHALT 3004 AFTER 3\n";
+    for full in [0, 20, 64] {
+        let mut writer = SlowWriter {
+            taken: Vec::with_capacity(alloc, 64)?,
+            full,
+            fails: full == 0,
+        };
+        let answer = answer_of(alloc, image.as_slice(), 0, 0, &mut writer);
+        let fault = if full < 64 {
+            Some(SessionFault::Write)
+        } else {
+            None
+        };
+        assert_eq!(rt; answer.err(), fault);
+        let written = full.min(expected.len());
+        assert_eq!(rt; writer.taken.as_slice(), &expected[..written]);
     }
     Ok(())
 }
 
 #[test]
 fn a_failed_read_names_its_text(rt: HostRuntime) -> Result<(), Fail> {
-    let mut writer = SlowWriter::new(rt.alloc(), 0, true)?;
-    for number in 1..4u8 {
-        let fault = fault_of(rt.alloc(), usize::from(number), &mut writer);
-        assert!(rt; fault == Some(SessionFault::Read(number)));
+    let alloc = rt.alloc();
+    let mut writer = SlowWriter {
+        taken: Vec::new(alloc),
+        full: 0,
+        fails: true,
+    };
+    for (failing, number) in [(1, 1), (2, 2), (3, 3)] {
+        let answer = answer_of(alloc, b"123", failing, 2, &mut writer);
+        assert_eq!(rt; answer.err(), Some(SessionFault::Read(number)));
     }
     Ok(())
 }

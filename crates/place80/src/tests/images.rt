@@ -62,14 +62,24 @@ fn image(alloc: Global) -> Result<Image, Fail> {
     Ok(read_image(alloc, &HALT, regions).map_err(|(_, fault)| fault)?)
 }
 
+/// The file that is written for the image.
+fn written(alloc: Global) -> Result<Vec<u8>, Fail> {
+    let mut out = Vec::new(alloc);
+    write_image(alloc, &image(alloc)?, &mut out)?;
+    Ok(out)
+}
+
 #[test]
-fn an_image_is_read_and_written_again(rt: HostRuntime) -> Result<(), Fail> {
+fn an_image_is_read(rt: HostRuntime) -> Result<(), Fail> {
     let image = image(rt.alloc())?;
-    assert_eq!(rt; image.start, 0x3000);
-    assert!(rt; image.regions.in_code(0x3000));
-    let mut out = Vec::new(rt.alloc());
-    write_image(rt.alloc(), &image, &mut out)?;
-    assert_eq!(rt; out.as_slice(), HALT.as_slice());
+    assert!(rt; image.start == 0x3000 && image.regions.in_code(0x3000));
+    Ok(())
+}
+
+#[test]
+fn an_image_is_written_again(rt: HostRuntime) -> Result<(), Fail> {
+    let out = written(rt.alloc())?;
+    assert!(rt; out.as_slice() == HALT.as_slice());
     Ok(())
 }
 

@@ -1,4 +1,4 @@
-use Rattle.std.proofs.Common.{◌≡◌, ℕ, List, Ok, Err, refl, sym, ap, subst, ◌∙◌}
+use Rattle.std.proofs.Common.{ℕ, Ok, Err, refl, sym, subst, ◌∙◌}
 use Rattle.omf_core.specs.Kind.{kind_byte}
 use Rattle.omf_body.specs.declared.body.Body.{Body}
 use Rattle.omf_body.specs.declared.fault.BodyFault.{BodyFault}

@@ -1,5 +1,4 @@
 use Rattle.std.proofs.Common.{◌≡◌, [], rules}
-use Rattle.omf_body.specs.Layouts.{SpellsRow}
 use Rattle.omf_body.proofs.Rows.{one_more, all_read, shown_spelled}
 use Rattle.omf_body.proofs.row.Row.read.Goals as goal
 

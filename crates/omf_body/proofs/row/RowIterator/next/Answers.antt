@@ -1,7 +1,7 @@
-use Rattle.std.proofs.Common.{◌≡◌, ◌<◌, ◌∷◌, [], length, Ok, refl, sym, ap, ◌∙◌, arith, rules}
+use Rattle.std.proofs.Common.{◌≡◌, ◌<◌, ◌∷◌, length, Ok, sym, ap, ◌∙◌, arith, rules}
 use Rattle.std.proofs.lemmas.List.{nil_from_length}
 use Rattle.std.proofs.lemmas.Bool.Decides.{nat_tests}
-use Rattle.omf_body.specs.Layouts.{entries_of, SpellsRow}
+use Rattle.omf_body.specs.Layouts.{entries_of}
 use Rattle.omf_body.proofs.Rows.{next, no_fault, shows_none}
 use Rattle.omf_body.proofs.row.RowIterator.next.Goals as goal
 
