@@ -1,5 +1,7 @@
 //! The commands of the program: what the words ask for, done with files. Tests show what they print.
 
+mod check_text;
+mod checking;
 mod fault_line;
 mod files;
 pub mod list_text;
@@ -45,6 +47,7 @@ fn perform(rt: &HostRuntime, request: Request<'_>) -> Result<u8, Reported> {
         Request::Locate(words) => locating::locate_file(rt, words),
         Request::Run(words) => running::run_files(rt, words),
         Request::List(words) => listing::list_files(rt, words),
+        Request::Check(words) => checking::check_files(rt, words),
         Request::Later => Err(report(rt, "NotYet")),
     }
 }

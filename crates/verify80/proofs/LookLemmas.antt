@@ -1,6 +1,6 @@
 -- What a look at an address says, case by case.
-use Rattle.std.specs.Prelude.{◌≡◌, ◌↔◌, ℕ, Bool, true, false, not, ◌&&◌, List, Result, Ok, Err, refl, if◌then◌else◌}
-use Rattle.std.proofs.Common.{◌∙◌, ap, sym, subst}
+use Rattle.std.specs.Prelude.{◌≡◌, ℕ, Bool, true, false, not, ◌&&◌, List, Result, Ok, Err, refl, if◌then◌else◌}
+use Rattle.std.proofs.Common.{◌∙◌, ap, subst}
 use Rattle.decode80.specs.declared.fetching.FetchFault.{FetchFault}
 use Rattle.decode80.specs.declared.fetching.FetchFault.TheVariants.{Outside as FetchOutside, Unused as FetchUnused}
 use Rattle.decode80.specs.declared.fetching.Fetched.{Fetched}
@@ -10,7 +10,7 @@ use Rattle.place80.specs.Regions.{Areas}
 use Rattle.flow80.specs.declared.code.LookFault.{LookFault}
 use Rattle.flow80.specs.declared.code.LookFault.TheVariants.{Outside, Unused, EnablesInterrupts, DirectStore}
 use Rattle.verify80.specs.Looking.{is_ei, halt_follows, stores_in_data, admitted, looked, look_at}
-use Rattle.verify80.specs.LookLaws.{fetch_at, IsAdmitted, IsEiAlone, IsStoreOutside, IsFaultAt, LooksFindWhatIsAdmitted, LooksAnswerFaultsThatHold}
+use Rattle.verify80.specs.LookLaws.{fetch_at, IsAdmitted, IsFaultAt, LooksFindWhatIsAdmitted, LooksAnswerFaultsThatHold}
 
 is_the_ei : (i : Instr) → is_ei i ≡ true → i ≡ Ei
 is_the_ei Ei h = refl

@@ -55,7 +55,7 @@ impl<'a> ListWords<'a> {
 
 /// Prints the listing of the image.
 pub fn list_files(rt: &HostRuntime, words: ListWords<'_>) -> Result<u8, Reported> {
-    let image = read_program(rt, words)?;
+    let image = read_program(rt, words.image, words.regions)?;
     let Ok(text) = listing(rt.alloc(), &image) else {
         return Err(report_memory(rt));
     };
@@ -63,12 +63,12 @@ pub fn list_files(rt: &HostRuntime, words: ListWords<'_>) -> Result<u8, Reported
     Ok(0)
 }
 
-/// The image with its regions, as the two files have them.
-fn read_program(rt: &HostRuntime, words: ListWords<'_>) -> Result<Image, Reported> {
-    let bytes = read_whole(rt, words.image)?;
-    let text = read_whole(rt, words.regions)?;
-    let regions = regions_of(rt, words.regions, &text)?;
-    image_of(rt, words.image, &bytes, regions)
+/// The image with its regions, as the files of these paths have them. Both are read before one is looked at.
+pub fn read_program(rt: &HostRuntime, image: &str, regions: &str) -> Result<Image, Reported> {
+    let bytes = read_whole(rt, image)?;
+    let text = read_whole(rt, regions)?;
+    let regions = regions_of(rt, regions, &text)?;
+    image_of(rt, image, &bytes, regions)
 }
 
 /// The regions that the file's text spells.

@@ -1,5 +1,6 @@
 //! The words of the command line, read by clap.
 
+use crate::commands::checking::{CHECK, CheckWords};
 use crate::commands::listing::{LIST, ListWords};
 use crate::commands::locating::{LOCATE, LocateWords};
 use crate::commands::running::{RUN, RunWords};
@@ -14,6 +15,7 @@ pub enum Request<'a> {
     Locate(LocateWords<'a>),
     Run(RunWords<'a>),
     List(ListWords<'a>),
+    Check(CheckWords<'a>),
     /// A command that is to come.
     Later,
 }
@@ -34,7 +36,7 @@ Example: plm80 locate readings.obj readings.img readings.regions
          plm80 run readings.img readings.regions readings.inputs";
 
 /// The commands that are there.
-static COMMANDS: [Syntax<'static>; 3] = [LOCATE, RUN, LIST];
+static COMMANDS: [Syntax<'static>; 4] = [LOCATE, RUN, LIST, CHECK];
 
 /// The request that the words spell; the first word is the program's own name.
 pub fn read_words<'a>(alloc: Global, words: &'a [String]) -> Result<Request<'a>, Error> {
@@ -76,7 +78,7 @@ fn refuse(alloc: Global, kind: ErrorKind, text: &str) -> Result<Error, AllocErro
 /// Whether the first word after the program's name is a command that is to come.
 fn names_later(words: &[String]) -> bool {
     match words.get(1) {
-        Some(word) => matches!(word.as_str(), "link" | "check" | "lib"),
+        Some(word) => matches!(word.as_str(), "link" | "lib"),
         None => false,
     }
 }
@@ -106,6 +108,7 @@ fn asked_for<'a>(matches: &ArgMatches<'a>) -> Option<Request<'a>> {
         "locate" => Some(Request::Locate(LocateWords::of(words))),
         "run" => Some(Request::Run(RunWords::of(words))),
         "list" => Some(Request::List(ListWords::of(words))),
+        "check" => Some(Request::Check(CheckWords::of(words))),
         _ => None,
     }
 }
