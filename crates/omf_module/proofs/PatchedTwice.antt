@@ -3,8 +3,8 @@ use Rattle.std.specs.Prelude.{◌≡◌, ◌⊎◌, ℕ, ◌+◌, ◌*◌, ◌/�
 use Rattle.std.proofs.Common.{◌∙◌, ap, sym, arith, inl, inr, eq-eqb}
 use Rattle.std.proofs.lemmas.Bool.{cases_Bool}
 use Rattle.std.proofs.lemmas.Bool.Decides.{nat_tests}
-use Rattle.omf_module.specs.declared.fixup.Field.{Field}
-use Rattle.omf_module.specs.declared.fixup.Field.TheVariants.{Low, High, Both}
+use Rattle.omf_body.specs.declared.field.Field.{Field}
+use Rattle.omf_body.specs.declared.field.Field.TheVariants.{Low, High, Both}
 use Rattle.omf_module.specs.Patches.{patches_at, word_in_bytes, patched, with_patches, is_inside_bytes}
 use Rattle.omf_module.specs.PatchLaws.{patch_by, PatchedTwice}
 use Rattle.omf_module.proofs.PatchLemmas.{low_twice, both_twice, high_twice}

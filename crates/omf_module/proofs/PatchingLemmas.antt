@@ -7,8 +7,8 @@ use Rattle.std.proofs.lemmas.List.{get_or_past, drop_all}
 use Rattle.std.proofs.lemmas.Bool.{cases_Bool, eqb-false}
 use Rattle.std.proofs.lemmas.Bool.Decides.{nat_tests}
 use Rattle.std.proofs.lemmas.List.FromFn.{length-map-range_with_len, get_or-map-range_with_len, fill_by_all}
-use Rattle.omf_module.specs.declared.fixup.Field.{Field}
-use Rattle.omf_module.specs.declared.fixup.Field.TheVariants.{Low, High, Both}
+use Rattle.omf_body.specs.declared.field.Field.{Field}
+use Rattle.omf_body.specs.declared.field.Field.TheVariants.{Low, High, Both}
 use Rattle.omf_module.specs.declared.patching.Patch.{Patch}
 use Rattle.omf_module.specs.Contents.{offsets_by}
 use Rattle.omf_module.specs.Patches.{patches_at, word_in_bytes, patched, byte_with, with_patches, is_inside_bytes, are_inside, meets, are_apart}

@@ -1,7 +1,7 @@
 -- The definitions of places and bytes, computed on small modules.
 use Rattle.std.specs.Prelude.{◌≡◌, ℕ, List, [], ◌∷◌, true, false, None, map, refl}
 use Rattle.std.specs.List.{range_with_len}
-use Rattle.omf_module.specs.declared.fixup.Field.TheVariants.{High, Both}
+use Rattle.omf_body.specs.declared.field.Field.TheVariants.{High, Both}
 use Rattle.omf_module.specs.declared.fixup.Fixup.{Fixup}
 use Rattle.omf_module.specs.declared.fixup.Target.TheVariants as target
 use Rattle.omf_module.specs.Modules.{ModuleValue}

@@ -2,8 +2,8 @@
 -- (8080 Object Module Formats: content, relocation, intersegment reference and external reference records.)
 use Rattle.std.specs.Prelude.{ℕ, ◌+◌, ◌==◌, Bool, ◌&&◌, nat_lt, nat_le, List, [], ◌∷◌}
 use Rattle.std.specs.List.{list_all, list_any}
-use Rattle.omf_module.specs.declared.fixup.Field.{Field}
-use Rattle.omf_module.specs.declared.fixup.Field.TheVariants.{Low, High, Both}
+use Rattle.omf_body.specs.declared.field.Field.{Field}
+use Rattle.omf_body.specs.declared.field.Field.TheVariants.{Low, High, Both}
 use Rattle.omf_module.specs.declared.fixup.Fixup.{Fixup}
 
 -- a content record with the references in it, by offsets in its segment

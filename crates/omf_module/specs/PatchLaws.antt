@@ -1,8 +1,8 @@
 -- Adding a part's start and then a base is adding their sum.
 -- (ISIS-II User's Guide: LINK adds the one, LOCATE the other.)
 use Rattle.std.specs.Prelude.{◌≡◌, ◌⊎◌, ℕ, ◌+◌, ◌/◌, ◌%◌, List, [], ◌∷◌, length, IsTrue}
-use Rattle.omf_module.specs.declared.fixup.Field.{Field}
-use Rattle.omf_module.specs.declared.fixup.Field.TheVariants.{High}
+use Rattle.omf_body.specs.declared.field.Field.{Field}
+use Rattle.omf_body.specs.declared.field.Field.TheVariants.{High}
 use Rattle.omf_module.specs.declared.patching.Patch.{Patch}
 use Rattle.omf_module.specs.Patches.{with_patches, is_inside_bytes}
 

@@ -1,128 +1,135 @@
--- How records spell a module: what holds of the whole list of them, and nothing of the bytes around them.
--- (8080 Object Module Formats: a module is a header, records in any order, and an end.)
-use Rattle.std.specs.Prelude.{◌≡◌, ℕ, ◌<◌, ◌==◌, Bool, ◌||◌, not, if◌then◌else◌, List, [], ◌∷◌, ◌++◌, length, slice_index, map, IsTrue, Ok}
-use Rattle.std.specs.List.{list_all, list_any, filter, flat_map}
-use Rattle.omf_core.specs.Records.{RecordValue, SpellsRecords}
-use Rattle.omf_module.specs.declared.segment.Segment.{Segment}
+-- How bytes spell modules and object files, and why they spell none: the first fault.
+-- (8080 Object Module Formats, module and object file. The faults and their order are this project's own.)
+use Rattle.std.specs.Prelude.{◌≡◌, ◌≢◌, ℕ, ◌≤◌, ◌<◌, not, ◌==◌, ◌&&◌, Bool, Option, Some, None, List, [], ◌∷◌, ◌++◌, length, drop, Result, Ok, Err, if◌then◌else◌, IsTrue}
+use Rattle.std.specs.List.{list_any}
+use Rattle.std.specs.Cmp.Lexicographic.{pointwise}
+use Rattle.std.specs.Prelude.{nat_eq}
+use Rattle.omf_core.specs.declared.fault.RecordFault.{RecordFault}
+use Rattle.omf_core.specs.Record.{SpellsRecord, fault_at}
+use Rattle.omf_body.specs.declared.fault.FieldFault.{FieldFault}
+use Rattle.omf_body.specs.declared.fault.FieldFault.TheVariants as field
+use Rattle.omf_body.specs.declared.fault.BodyFault.{BodyFault}
+use Rattle.omf_body.specs.declared.fault.BodyFault.TheVariants as of_body
+use Rattle.omf_body.specs.declared.body.HeaderBody.{HeaderBody}
+use Rattle.omf_body.specs.declared.body.Body.TheVariants.{ModuleHeader}
+use Rattle.omf_body.specs.Fields.{◌>>=◌, read_byte, read_name}
+use Rattle.omf_body.specs.Entries.{is_common_id}
+use Rattle.omf_body.specs.FirstFault.{FirstFault}
+use Rattle.omf_module.specs.declared.fault.Cause.{Cause}
+use Rattle.omf_module.specs.declared.fault.Cause.TheVariants as cause
+use Rattle.omf_module.specs.declared.fault.ModuleFault.{ModuleFault}
 use Rattle.omf_module.specs.declared.symbols.Common.{Common}
-use Rattle.omf_module.specs.Contents.{ContentValue}
-use Rattle.omf_module.specs.Segments.{has_segment, in_one_form}
-use Rattle.omf_module.specs.Modules.{ModuleValue}
-use Rattle.omf_module.specs.Rules.{each_after, is_new_entry, is_new_common, is_sound_content, is_start}
-use Rattle.omf_module.specs.Writing.{record_of}
-use Rattle.omf_module.specs.SpelledBodies.{SpellsEach, SpellsHeader, SpellsCommon, SpellsPublics, SpellsExternal, SpellsBytes, SpellsReferences, SpellsEnd}
-use Rattle.omf_module.specs.Reading.{module_at, file_of}
+use Rattle.omf_module.specs.declared.records.PlacedBody.{PlacedBody}
+use Rattle.omf_module.specs.Modules.{ModuleValue, made_of}
+use Rattle.omf_module.specs.Records.{SpellsBody, SpellsBodies, commons_of, each_follows, ModuleRecords, SpellsModuleRecords}
+use Rattle.omf_module.specs.Gathered.{parts_of}
+use Rattle.omf_module.specs.Uses.{fault_by, use_fault}
 
--- ---- lists of records
+-- ---- a module
 
--- content, line numbers, ancestor, local symbols, publics, externals, the three records of references, named commons:
--- they may stand between a header and an end
-abbrev pub may_stand_within : RecordValue → Bool
-may_stand_within r = list_any (λ kind. r.kind == kind) (0x06 ∷ 0x08 ∷ 0x10 ∷ 0x12 ∷ 0x16 ∷ 0x18 ∷ 0x20 ∷ 0x22 ∷ 0x24 ∷ 0x2E ∷ [])
+-- The bytes from place `at` up to the place `after` spell the module: its records stand there, they use nothing that isn't
+-- there, and the module is what they say.
+pub record SpellsModule (bytes : List ℕ) (at after : ℕ) (m : ModuleValue) : Type 0 where
+  pub records : ModuleRecords
+  pub begins : records.at ≡ at
+  pub spelled : SpellsModuleRecords bytes after records
+  pub used : use_fault records ≡ None
+  pub says : m ≡ made_of (parts_of records)
 
--- the bodies of the records of this kind
-abbrev pub bodies_of : ℕ → List RecordValue → List (List ℕ)
-bodies_of kind records = map (λ r. r.body) (filter (λ r. r.kind == kind) records)
+-- ---- the first fault by place
 
--- Each of them tells some items, and these are all of the items, joined in order.
-abbrev pub Joins : {X A : Type 0} → (X → List A → Type 0) → List X → List A → Type 0
-Joins Tells [] items = items ≡ []
-Joins Tells (x ∷ xs) items = (first others : List _) × (items ≡ first ++ others) × Tells x first × Joins Tells xs others
+-- a fault of a body as a cause
+abbrev pub cause_of : BodyFault → Cause
+cause_of (of_body.UnknownKind kind) = cause.UnknownKind kind
+cause_of (of_body.BadBody kind) = cause.BadBody kind
+cause_of of_body.BadName = cause.BadName
 
--- Each item of one list has one of the other, in order.
-abbrev pub Pairs : {X Y : Type 0} → (X → Y → Type 0) → List X → List Y → Type 0
-Pairs R [] [] = Unit {0}
-Pairs R [] (y ∷ ys) = ⊥
-Pairs R (x ∷ xs) [] = ⊥
-Pairs R (x ∷ xs) (y ∷ ys) = R x y × Pairs R xs ys
+-- no header stands at a place, or it has a fault
+pub data FaultsHeader (bytes : List ℕ) (at : ℕ) : Cause → Type 0 where
+  no_byte : length bytes ≤ at → FaultsHeader bytes at cause.NoHeader
+  no_record : (fault : RecordFault) → at < length bytes → fault_at (drop at bytes) at ≡ Some fault → FaultsHeader bytes at (cause.Record fault)
+  other_kind : (next kind : ℕ) (body : List ℕ) → SpellsRecord bytes at next kind body → kind ≢ 0x02 → FaultsHeader bytes at cause.NoHeader
+  in_body : (next : ℕ) (body : List ℕ) (fault : BodyFault) → SpellsRecord bytes at next 0x02 body → FirstFault 0x02 body fault → FaultsHeader bytes at (cause_of fault)
 
-abbrev pub is_content_record : RecordValue → Bool
-is_content_record r = r.kind == 0x06
+-- a common, after those that stand before: its id is one for commons and new, and so is its name
+abbrev pub has_id : List Common → ℕ → Bool
+has_id commons id = list_any (λ c. c.id == id) commons
 
--- the record tells of references in a content
-abbrev pub is_reference_record : RecordValue → Bool
-is_reference_record r = r.kind == 0x20 || r.kind == 0x22 || r.kind == 0x24
+abbrev pub has_name : List Common → List ℕ → Bool
+has_name commons name = list_any (λ c. pointwise nat_eq c.name name) commons
 
--- the records before the first content
-abbrev pub up_to_content : List RecordValue → List RecordValue
-up_to_content [] = []
-up_to_content (r ∷ rs) = if is_content_record r then [] else (r ∷ up_to_content rs)
+abbrev pub read_new_common : List Common → List ℕ → Result (Common × List ℕ) FieldFault
+read_new_common before bytes = do
+  id ← read_byte bytes
+  if is_common_id id.0 && not (has_id before id.0)
+      then (read_name id.1 >>= λ name. if has_name before name.0 then Err field.BadBody else Ok (record { id = id.0; name = name.0 }, name.1))
+      else Err field.BadBody
 
--- the contents, each with the records after it up to the next one
-abbrev pub with_followers : List RecordValue → List (RecordValue × List RecordValue)
-with_followers [] = []
-with_followers (r ∷ rs) = if is_content_record r then ((r, up_to_content rs) ∷ with_followers rs) else with_followers rs
+-- the first fault of the commons of a record, after those that stand before it
+pub data FaultsCommons : List Common → List ℕ → FieldFault → Type 0 where
+  here : (before : List Common) (bytes : List ℕ) (fault : FieldFault) → 0 < length bytes → read_new_common before bytes ≡ Err fault → FaultsCommons before bytes fault
+  later : (before : List Common) (common : Common) (bytes rest : List ℕ) (fault : FieldFault)
+      → read_new_common before bytes ≡ Ok (common, rest) → FaultsCommons (before ++ common ∷ []) rest fault → FaultsCommons before bytes fault
 
--- a content: its bytes, and the references of the records that follow it
-pub record SpellsContent (records : RecordValue × List RecordValue) (c : ContentValue) : Type 0 where
-  pub bytes : SpellsBytes records.0.body c.segment c.offset c.bytes
-  pub fixups : Joins (SpellsReferences c.segment) (filter is_reference_record records.1) c.fixups
+abbrev pub commons_cause : FieldFault → Cause
+commons_cause field.BadBody = cause.BadBody 0x2E
+commons_cause field.BadName = cause.BadName
 
--- the body of publics and of intersegment references begins with a segment id: there is such a segment
-abbrev pub names_a_segment : List Common → RecordValue → Bool
-names_a_segment commons r = not (r.kind == 0x16 || r.kind == 0x24) || has_segment commons (slice_index r.body 0)
+-- the kinds of which no more is asked than a body: not a header, which may not stand here, the end of a file, or commons
+abbrev pub stands_alone : ℕ → Bool
+stands_alone kind = not (kind == 0x02) && not (kind == 0x0E) && not (kind == 0x2E)
 
--- ---- modules
+-- after a header and records that declare these commons, no record that may stand there stands at a place
+pub data FaultsWithin (bytes : List ℕ) (at : ℕ) (commons : List Common) : Cause → Type 0 where
+  no_byte : length bytes ≤ at → FaultsWithin bytes at commons cause.NoEnd
+  no_record : (fault : RecordFault) → at < length bytes → fault_at (drop at bytes) at ≡ Some fault → FaultsWithin bytes at commons (cause.Record fault)
+  file_ends : (next : ℕ) (body : List ℕ) → SpellsRecord bytes at next 0x0E body → FaultsWithin bytes at commons cause.NoEnd
+  second_header : (next : ℕ) (body : List ℕ) → SpellsRecord bytes at next 0x02 body → FaultsWithin bytes at commons (cause.UnknownKind 0x02)
+  in_body : (next kind : ℕ) (body : List ℕ) (fault : BodyFault) → SpellsRecord bytes at next kind body → IsTrue (stands_alone kind) → FirstFault kind body fault
+      → FaultsWithin bytes at commons (cause_of fault)
+  in_commons : (next : ℕ) (body : List ℕ) (fault : FieldFault) → SpellsRecord bytes at next 0x2E body → FaultsCommons commons body fault
+      → FaultsWithin bytes at commons (commons_cause fault)
 
--- The records spell the module: a header, records of the kinds that may stand within, and an end.
-pub record SpellsModule (records : List RecordValue) (m : ModuleValue) : Type 0 where
-  pub header : List ℕ
-  pub within : List RecordValue
-  pub end : List ℕ
-  pub whole : records ≡ record_of 0x02 header ∷ (within ++ record_of 0x04 end ∷ [])
-  pub kinds : IsTrue (list_all may_stand_within within)
-  -- what they tell
-  pub entries : List (ℕ × Segment)
-  pub begins : SpellsHeader header m.name entries
-  pub segments : m.segments ≡ in_one_form entries m.commons
-  pub commons : Joins (SpellsEach SpellsCommon) (bodies_of 0x2E within) m.commons
-  pub publics : Joins SpellsPublics (bodies_of 0x16 within) m.publics
-  pub externals : Joins (SpellsEach SpellsExternal) (bodies_of 0x18 within) m.externals
-  pub contents : Pairs SpellsContent (with_followers within) m.contents
-  pub ends : SpellsEnd end m.start
-  -- no references stand before the first content
-  pub none_before : IsTrue (list_all (λ r. not (is_reference_record r)) (up_to_content within))
-  -- the rules: nothing is listed twice, and all that is named or used is there
-  pub new_entries : IsTrue (each_after (is_new_entry m.commons) [] entries)
-  pub new_commons : IsTrue (each_after is_new_common [] m.commons)
-  pub named : IsTrue (list_all (names_a_segment m.commons) within)
-  pub sound : IsTrue (list_all (is_sound_content entries m.commons (length m.externals)) m.contents)
-  pub starts : IsTrue (is_start m.commons m.start)
+-- The first fault of the module that should begin at a place: of its header, of a record after it, or, where all of its
+-- records are there, of what they use.
+pub data FaultsModule (bytes : List ℕ) (at : ℕ) : ModuleFault → Type 0 where
+  in_header : (why : Cause) → FaultsHeader bytes at why → FaultsModule bytes at (fault_by at why)
+  in_records : (first here : ℕ) (header : HeaderBody) (before : List PlacedBody) (why : Cause)
+      → SpellsBody bytes at first (ModuleHeader header)
+      → SpellsBodies bytes first here before
+      → IsTrue (each_follows [] before)
+      → FaultsWithin bytes here (commons_of before) why
+      → FaultsModule bytes at (fault_by here why)
+  in_uses : (after : ℕ) (records : ModuleRecords) (fault : ModuleFault)
+      → records.at ≡ at
+      → SpellsModuleRecords bytes after records
+      → use_fault records ≡ Some fault
+      → FaultsModule bytes at fault
 
--- The bytes spell the modules as an object file: the records of one module after another, of one at least, and the record
--- that ends a file (0E). What stands after it isn't looked at.
+-- ---- a file
+
+-- The bytes from place `from` up to place `to` spell the modules, one after another.
+abbrev pub SpellsModules : List ℕ → ℕ → ℕ → List ModuleValue → Type 0
+SpellsModules bytes from to [] = from ≡ to
+SpellsModules bytes from to (m ∷ ms) = (next : ℕ) × SpellsModule bytes from next m × SpellsModules bytes next to ms
+
+-- an end-of-file record stands at a place
+pub record EndsFile (bytes : List ℕ) (at : ℕ) : Type 0 where
+  pub next : ℕ
+  pub body : List ℕ
+  pub spelled : SpellsRecord bytes at next 0x0E body
+
+-- The bytes spell the modules as an object file: one at least, and an end-of-file record. What stands after it isn't looked at.
 pub record SpellsFile (bytes : List ℕ) (modules : List ModuleValue) : Type 0 where
-  pub lists : List (List RecordValue)
-  pub last : List ℕ
-  pub after : ℕ
-  pub spelled : SpellsRecords bytes 0 after (flat_map (λ records. records) lists ++ record_of 0x0E last ∷ [])
-  pub each : Pairs SpellsModule lists modules
   pub some : 0 < length modules
+  pub end : ℕ
+  pub spelled : SpellsModules bytes 0 end modules
+  pub ends : EndsFile bytes end
 
--- ---- laws
-
--- What is read is spelled: the bytes of the module are its records, one after another.
-abbrev pub ReadIsSpelled : Type 0
-ReadIsSpelled =
-    (bytes : List ℕ) (at after : ℕ) (m : ModuleValue)
-    → module_at bytes at ≡ Ok (m, after)
-    → (records : List RecordValue) × SpellsRecords bytes at after records × SpellsModule records m
-
--- What is spelled is read: where bytes are records that spell a module, it is read, with the place after its end.
-abbrev pub SpelledIsRead : Type 0
-SpelledIsRead =
-    (bytes : List ℕ) (at after : ℕ) (records : List RecordValue) (m : ModuleValue)
-    → SpellsRecords bytes at after records
-    → SpellsModule records m
-    → module_at bytes at ≡ Ok (m, after)
-
--- Records spell one module at most.
-abbrev pub SpelledIsOne : Type 0
-SpelledIsOne = (records : List RecordValue) (m n : ModuleValue) → SpellsModule records m → SpellsModule records n → m ≡ n
-
--- A file that is read is spelled, and one that is spelled is read.
-abbrev pub ReadFileIsSpelled : Type 0
-ReadFileIsSpelled = (bytes : List ℕ) (modules : List ModuleValue) → file_of bytes ≡ Ok modules → SpellsFile bytes modules
-
-abbrev pub SpelledFileIsRead : Type 0
-SpelledFileIsRead = (bytes : List ℕ) (modules : List ModuleValue) → SpellsFile bytes modules → file_of bytes ≡ Ok modules
+-- the first fault of a file: of its first module, of a later one, or no byte stands where it should go on
+pub data FaultsFile (bytes : List ℕ) : ModuleFault → Type 0 where
+  first_module : (fault : ModuleFault) → FaultsModule bytes 0 fault → FaultsFile bytes fault
+  later_module : (at : ℕ) (before : List ModuleValue) (fault : ModuleFault)
+      → 0 < length before → SpellsModules bytes 0 at before → at < length bytes → (EndsFile bytes at → ⊥) → FaultsModule bytes at fault → FaultsFile bytes fault
+  no_end : (at : ℕ) (before : List ModuleValue)
+      → 0 < length before → SpellsModules bytes 0 at before → length bytes ≤ at → FaultsFile bytes (fault_by at cause.NoEnd)

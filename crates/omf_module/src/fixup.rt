@@ -1,10 +1,4 @@
-/// The bytes of a reference: the low byte of a word, its high byte, or both.
-#[derive(Clone, Copy, PartialEq, Eq, Debug)]
-pub enum Field {
-    Low,
-    High,
-    Both,
-}
+use omf_body::Field;
 
 /// What a reference is to: a segment of the module by its id, or one of its externals by its index from 0.
 #[derive(Clone, Copy, PartialEq, Eq, Debug)]

@@ -14,44 +14,31 @@
 //! | [`ModuleFault`], [`Cause`], [`PartsFault`] | why bytes, or parts, make no module |
 #![tactic(auto)]
 
-mod bodies;
 mod content;
 mod copies;
 mod distinct;
-mod entries;
 mod fault;
-mod fields;
-mod first;
 mod fixup;
 pub mod laws;
 mod listing;
 mod marks;
 mod modules;
 mod names;
-mod open;
 mod parts;
 mod patching;
-mod reading;
+mod records;
 mod rules;
-mod second;
 mod segment;
-mod step;
-mod stop;
 mod symbols;
-mod told;
-mod writing;
 
 pub use content::Content;
 pub use fault::{Cause, ModuleFault, PartsFault};
-pub use fixup::{Field, Fixup, Target};
+pub use fixup::{Fixup, Target};
 pub use modules::Module;
+pub use omf_body::Field;
 pub use parts::Parts;
 pub use patching::{Patch, apply_patches};
-pub use reading::{read_file, read_module};
 pub use rules::names_common;
 pub use segment::Segment;
 pub use symbols::{Common, Public};
-pub use writing::write_file;
 
-#[cfg(test)]
-mod tests;

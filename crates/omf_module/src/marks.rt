@@ -6,9 +6,10 @@ ghost use Rattle.omf_module.specs.Contents.{is_taken, is_inside, shares_a_byte};
 ghost use Rattle.omf_module.specs.Marks.{AreMarks};
 ghost use Rattle.omf_module.specs.Rules.{each_after, is_fitting, has_target};
 
-use crate::fixup::{Field, Fixup, Target};
+use crate::fixup::{Fixup, Target};
 use crate::rules::has_segment;
 use crate::symbols::Common;
+use omf_body::Field;
 use std::alloc::{AllocError, Global};
 
 fn has_target(commons: &[Common], externals: usize, target: Target) -> bool

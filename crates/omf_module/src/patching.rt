@@ -3,7 +3,8 @@
 ghost use Rattle.std.specs.Prelude.{◌≡◌, IsTrue, length, [], ◌∷◌, ◌+◌, ◌*◌, ◌/◌, ◌%◌};
 ghost use Rattle.omf_module.specs.Patches.{with_patches, are_inside, are_apart, is_inside_bytes};
 
-use crate::fixup::Field;
+
+use omf_body::Field;
 
 /// A word to be added to a byte or to two bytes at a place.
 #[derive(Clone, Copy, Debug, PartialEq, Eq)]

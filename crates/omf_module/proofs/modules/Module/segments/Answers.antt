@@ -1,7 +1,7 @@
 use Rattle.std.proofs.Common.{◌≤◌, ℕ, List, length, subst, sym, ap, ◌∙◌}
 use Rattle.omf_module.specs.declared.segment.Segment.{Segment}
 use Rattle.omf_module.specs.Modules.{ModuleValue}
-use Rattle.omf_module.proofs.WritingLemmas.{one_form_few}
+use Rattle.omf_module.proofs.ShortLemmas.{one_form_few}
 use Rattle.omf_module.proofs.modules.Module.segments.Goals as goal
 
 pub returns-clause-few : goal.returns-clause-few

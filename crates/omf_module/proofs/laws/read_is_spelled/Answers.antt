@@ -1,5 +1,0 @@
-use Rattle.omf_module.proofs.FilesSpelled.{read_is_spelled}
-use Rattle.omf_module.proofs.laws.read_is_spelled.Goals as goal
-
-pub returns : goal.returns
-returns c = read_is_spelled

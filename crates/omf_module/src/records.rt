@@ -1,0 +1,22 @@
+//! The records of a module as they lie in a file.
+
+use crate::symbols::Common;
+use omf_body::{Body, EndBody, HeaderBody};
+
+/// The body of a record, and the place of the record in the file.
+#[derive(Drop)]
+pub struct PlacedBody<'a> {
+    pub at: usize,
+    pub body: Body<'a>,
+}
+
+/// The records of a module: its header at `at`, those within and the commons that they declare, and its end at `end_at`.
+#[derive(Drop)]
+pub struct ModuleFile<'a> {
+    pub at: usize,
+    pub header: HeaderBody<'a>,
+    pub within: Vec<PlacedBody<'a>>,
+    pub commons: Vec<Common>,
+    pub end_at: usize,
+    pub end: EndBody<'a>,
+}
