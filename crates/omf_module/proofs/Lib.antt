@@ -2,6 +2,9 @@ pub mod ListingLemmas
 pub mod MarkLemmas
 pub mod OneForm
 pub mod ShortLemmas
+pub mod ListLemmas
+pub mod CommonLemmas
+pub mod FollowLemmas
 pub mod RuleLemmas
 pub mod PatchLemmas
 pub mod WorkedPlaces

@@ -3,6 +3,7 @@ use Rattle.std.specs.Prelude.{ℕ}
 use Rattle.omf_module.specs.declared.fault.PartsFault.{PartsFault}
 use Rattle.omf_module.specs.declared.fault.PartsFault.TheVariants.{Rule, Memory}
 use Rattle.omf_module.specs.declared.fault.Cause.{Cause}
+use Rattle.omf_module.specs.declared.fault.ModuleFault.{ModuleFault}
 use Rattle.omf_module.specs.declared.fault.Cause.TheVariants.{Record, NoHeader, UnknownKind, BadBody, BadName, SegmentUnknown, OffsetOutside, FixupBeforeContent, FixupOutside, FixupTwice, IndexUnknown, NoEnd, Memory as CauseMemory}
 
 abbrev pub parts_fault_code : PartsFault → ℕ
@@ -23,3 +24,12 @@ cause_code FixupTwice = 10
 cause_code IndexUnknown = 11
 cause_code NoEnd = 12
 cause_code CauseMemory = 13
+
+-- out of memory has no place, and stands at 0
+abbrev pub no_memory : ModuleFault
+no_memory = record { at = 0; cause = CauseMemory }
+
+-- the fault of the record at a place
+abbrev pub fault_of : ℕ → Cause → ModuleFault
+fault_of at CauseMemory = no_memory
+fault_of at cause = record { at = at; cause = cause }

@@ -8,6 +8,7 @@ pub mod Records
 pub mod Gathered
 pub mod Uses
 pub mod Spelled
+pub mod Reading
 pub mod Place
 pub mod Patches
 pub mod ImageByte

@@ -46,10 +46,10 @@ cause_of of_body.BadName = cause.BadName
 
 -- no header stands at a place, or it has a fault
 pub data FaultsHeader (bytes : List ℕ) (at : ℕ) : Cause → Type 0 where
-  no_byte : length bytes ≤ at → FaultsHeader bytes at cause.NoHeader
-  no_record : (fault : RecordFault) → at < length bytes → fault_at (drop at bytes) at ≡ Some fault → FaultsHeader bytes at (cause.Record fault)
+  no_header_byte : length bytes ≤ at → FaultsHeader bytes at cause.NoHeader
+  no_header_record : (fault : RecordFault) → at < length bytes → fault_at (drop at bytes) at ≡ Some fault → FaultsHeader bytes at (cause.Record fault)
   other_kind : (next kind : ℕ) (body : List ℕ) → SpellsRecord bytes at next kind body → kind ≢ 0x02 → FaultsHeader bytes at cause.NoHeader
-  in_body : (next : ℕ) (body : List ℕ) (fault : BodyFault) → SpellsRecord bytes at next 0x02 body → FirstFault 0x02 body fault → FaultsHeader bytes at (cause_of fault)
+  in_header_body : (next : ℕ) (body : List ℕ) (fault : BodyFault) → SpellsRecord bytes at next 0x02 body → FirstFault 0x02 body fault → FaultsHeader bytes at (cause_of fault)
 
 -- a common, after those that stand before: its id is one for commons and new, and so is its name
 abbrev pub has_id : List Common → ℕ → Bool

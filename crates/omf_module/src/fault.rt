@@ -1,9 +1,13 @@
 //! The refusals of this crate. Each prints as its name, then its values with one space before each.
 
 ghost use Rattle.std.specs.Prelude.{◌≡◌};
-ghost use Rattle.omf_module.specs.Fault.{parts_fault_code, cause_code};
+ghost use Rattle.omf_module.specs.Fault.{parts_fault_code, cause_code, no_memory, fault_of};
+ghost use Rattle.omf_module.specs.Spelled.{cause_of, commons_cause};
+ghost use Rattle.omf_module.specs.declared.fault.Cause.TheVariants.{Memory as OutOfMemory, Record as OfRecord};
 
+use omf_body::{BodyFault, FieldFault};
 use omf_core::RecordFault;
+use std::alloc::{AllocError, AllocFailed};
 use std::{error, fmt};
 use thiserror::Error;
 
@@ -33,7 +37,7 @@ impl PartsFault {
 /// What is wrong with a record of a module. (8080 Object Module Formats, and the rules of this project.)
 #[derive(Clone, Copy, PartialEq, Eq, Debug, Error)]
 pub enum Cause {
-    /// The bytes are no record, by the fault that is told.
+    /// The bytes are no record.
     #[error("{0}")]
     Record(RecordFault),
     /// No byte stands where a module should start, or a record that isn't a module header.
@@ -75,12 +79,89 @@ pub enum Cause {
     Memory,
 }
 
+impl From<AllocError> for Cause {
+    ghost from_gives = { λ _ cause. cause ≡ OutOfMemory };
+
+    fn from(_e: AllocError) -> Cause {
+        Cause::Memory
+    }
+}
+
+impl<T: Drop> From<AllocFailed<T>> for Cause {
+    ghost from_gives = { λ _ cause. cause ≡ OutOfMemory };
+
+    fn from(_e: AllocFailed<T>) -> Cause {
+        Cause::Memory
+    }
+}
+
+impl From<RecordFault> for Cause {
+    ghost from_gives = { λ fault cause. cause ≡ OfRecord fault };
+
+    fn from(fault: RecordFault) -> Cause {
+        Cause::Record(fault)
+    }
+}
+
+impl From<BodyFault> for Cause {
+    ghost from_gives = { λ fault cause. cause ≡ cause_of fault };
+
+    fn from(fault: BodyFault) -> Cause {
+        match fault {
+            BodyFault::UnknownKind(kind) => Cause::UnknownKind(kind),
+            BodyFault::BadBody(kind) => Cause::BadBody(kind),
+            BodyFault::BadName => Cause::BadName,
+        }
+    }
+}
+
+impl Cause {
+    /// A fault of a named commons record (2E).
+    pub(crate) fn of_commons(fault: FieldFault) -> Cause
+        ensures { result ≡ commons_cause fault }
+    {
+        match fault {
+            FieldFault::BadBody => Cause::BadBody(0x2E),
+            FieldFault::BadName => Cause::BadName,
+        }
+    }
+
+    /// The fault of the record at this place; out of memory has no place, and stands at 0.
+    pub(crate) fn at(self, place: usize) -> ModuleFault
+        ensures { result ≡ fault_of place self }
+    {
+        match self {
+            Cause::Memory => ModuleFault {
+                at: 0,
+                cause: Cause::Memory,
+            },
+            cause => ModuleFault { at: place, cause },
+        }
+    }
+}
+
 /// Why no module is read: what is wrong with the record at place `at`, in bytes from the start of the file.
-/// Want of memory is told with place 0.
+/// Out of memory stands at place 0.
 #[derive(Clone, Copy, PartialEq, Eq, Debug)]
 pub struct ModuleFault {
     pub at: usize,
     pub cause: Cause,
+}
+
+impl From<AllocError> for ModuleFault {
+    ghost from_gives = { λ _ fault. fault ≡ no_memory };
+
+    fn from(_e: AllocError) -> ModuleFault {
+        Cause::Memory.at(0)
+    }
+}
+
+impl<T: Drop> From<AllocFailed<T>> for ModuleFault {
+    ghost from_gives = { λ _ fault. fault ≡ no_memory };
+
+    fn from(_e: AllocFailed<T>) -> ModuleFault {
+        Cause::Memory.at(0)
+    }
 }
 
 impl ModuleFault {

@@ -14,6 +14,7 @@
 //! | [`ModuleFault`], [`Cause`], [`PartsFault`] | why bytes, or parts, make no module |
 #![tactic(auto)]
 
+mod commons;
 mod content;
 mod copies;
 mod distinct;
@@ -30,6 +31,7 @@ mod records;
 mod rules;
 mod segment;
 mod symbols;
+mod within;
 
 pub use content::Content;
 pub use fault::{Cause, ModuleFault, PartsFault};

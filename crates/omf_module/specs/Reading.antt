@@ -1,0 +1,54 @@
+-- What the steps of reading come to. (They say no more than the definitions of a module's records and of its first fault.)
+use Rattle.std.specs.Prelude.{◌≡◌, ◌⊎◌, ℕ, ◌<◌, ◌≤◌, Bool, true, false, List, ◌++◌, length, IsTrue}
+use Rattle.omf_body.specs.declared.entries.CommonEntry.{CommonEntry}
+use Rattle.omf_body.specs.declared.fault.FieldFault.{FieldFault}
+use Rattle.omf_body.specs.declared.body.HeaderBody.{HeaderBody}
+use Rattle.omf_body.specs.declared.body.Body.{Body}
+use Rattle.omf_body.specs.declared.body.Body.TheVariants.{ModuleHeader, ModuleEnd, NamedCommons}
+use Rattle.omf_body.specs.Entries.{common_layout}
+use Rattle.omf_body.specs.Layouts.{SpellsRow}
+use Rattle.omf_module.specs.declared.fault.Cause.{Cause}
+use Rattle.omf_module.specs.declared.records.ModuleFile.{ModuleFile}
+use Rattle.omf_module.specs.declared.symbols.Common.{Common}
+use Rattle.omf_module.specs.Rules.{each_after, is_new_common}
+use Rattle.omf_module.specs.Records.{SpellsBody, commons_in, may_follow, ModuleRecords}
+use Rattle.omf_module.specs.Spelled.{commons_cause, FaultsCommons}
+
+-- the common of an entry
+abbrev pub common_of : CommonEntry → Common
+common_of e = record { id = e.id; name = e.name }
+
+-- the bytes are commons that are new after those before, and these are all of them
+pub record TakesCommons (before : List Common) (bytes : List ℕ) (after : List Common) : Type 0 where
+  pub entries : List CommonEntry
+  pub spelled : SpellsRow common_layout bytes entries
+  pub all : after ≡ before ++ commons_in (NamedCommons entries)
+  pub new : IsTrue (each_after is_new_common before (commons_in (NamedCommons entries)))
+
+-- why they aren't
+pub record RefusesCommons (before : List Common) (bytes : List ℕ) (why : Cause) : Type 0 where
+  pub fault : FieldFault
+  pub is : why ≡ commons_cause fault
+  pub faults : FaultsCommons before bytes fault
+
+abbrev pub is_end : Body → Bool
+is_end (ModuleEnd b) = true
+is_end _ = false
+
+-- a header at a place
+pub record BeginsModule (bytes : List ℕ) (at next : ℕ) (header : HeaderBody) : Type 0 where
+  pub spelled : SpellsBody bytes at next (ModuleHeader header)
+  pub further : at < next
+  pub inside : next ≤ length bytes
+
+-- a record after those that declare some commons: an end, or one that may follow
+pub record Follows (bytes : List ℕ) (at next : ℕ) (before after : List Common) (body : Body) : Type 0 where
+  pub spelled : SpellsBody bytes at next body
+  pub stands : IsTrue (is_end body) ⊎ IsTrue (may_follow before body)
+  pub commons : after ≡ before ++ commons_in body
+  pub further : at < next
+  pub inside : next ≤ length bytes
+
+-- the records of a module, as they were read
+abbrev pub records_of : ModuleFile → ModuleRecords
+records_of m = record { at = m.at; header = m.header; within = m.within.items; end_at = m.end_at; end = m.end }

@@ -1,0 +1,76 @@
+//! Named commons: no id and no name of them stands twice in a module.
+
+ghost use Rattle.std.specs.Prelude.{◌≡◌, ◌≢◌, ◌++◌, Ok, Err, IfOk, IfErr, OnOk, IsTrue};
+ghost use Rattle.omf_core.specs.Name.{is_name};
+ghost use Rattle.omf_body.specs.Entries.{common_bytes};
+ghost use Rattle.omf_module.specs.Rules.{is_new_common};
+ghost use Rattle.omf_module.specs.Spelled.{has_id, has_name, read_new_common};
+ghost use Rattle.omf_module.specs.Reading.{common_of, TakesCommons, RefusesCommons};
+
+use crate::fault::Cause;
+use crate::symbols::Common;
+use omf_body::segment_id::{FIRST_COMMON, LAST_COMMON};
+use omf_body::{CommonEntry, Cursor, FieldFault, NameBytes};
+use omf_core::{Name, NameFault};
+use std::alloc::{AllocError, Global};
+
+/// A copy of a name that stands in a file.
+pub(crate) fn kept(alloc: Global, name: &NameBytes) -> Result<Name, AllocError>
+    ensures { IfOk result (λ kept. kept ≡ name.now) }
+{
+    match Name::new(alloc, name.bytes()) {
+        Ok(name) => Ok(name),
+        Err(NameFault::BadName) => unreachable!(),
+        Err(NameFault::Memory) => Err(AllocError),
+    }
+}
+
+fn has_id(commons: &[Common], id: u8) -> bool
+    ensures { result ≡ has_id commons.now id }
+{
+    commons.iter().any(|common| common.id == id)
+}
+
+fn has_name(commons: &[Common], name: &[u8]) -> bool
+    ensures { result ≡ has_name commons.now name.now }
+{
+    commons.iter().any(|common| common.name.bytes() == name)
+}
+
+/// Reads a common that is new after those before: first its id is looked at, then its name.
+fn new_common<'a>(cursor: &mut Cursor<'a>, before: &[Common]) -> Result<CommonEntry<'a>, FieldFault>
+    ensures read { IfOk result (λ common. read_new_common before.now cursor.old ≡ Ok (common_of common, cursor.new)) }
+    ensures spelled { IfOk result (λ common. cursor.old ≡ common_bytes common ++ cursor.new) }
+    ensures named { IfOk result (λ common. IsTrue (is_name common.name)) }
+    ensures new { IfOk result (λ common. IsTrue (is_new_common before.now (common_of common))) }
+    ensures fault { IfErr result (λ fault. read_new_common before.now cursor.old ≡ Err fault) }
+{
+    let id = cursor.byte()?;
+    if !(FIRST_COMMON <= id && id <= LAST_COMMON) || has_id(before, id) {
+        return Err(FieldFault::BadBody);
+    }
+    let name = cursor.name()?;
+    if has_name(before, name.bytes()) {
+        return Err(FieldFault::BadBody);
+    }
+    Ok(CommonEntry { id, name })
+}
+
+/// Takes the commons of a record, where each is new.
+pub(crate) fn take_commons(alloc: Global, body: &[u8], commons: &mut Vec<Common>) -> Result<(), Cause>
+    ensures taken { OnOk result (TakesCommons commons.old.items body.now commons.new.items) }
+    ensures fault { IfErr result (λ why. why ≢ Cause.Memory → RefusesCommons commons.old.items body.now why) }
+{
+    let mut cursor = Cursor::new(body);
+    while !cursor.is_empty() {
+        let common = match new_common(&mut cursor, commons.as_slice()) {
+            Ok(common) => common,
+            Err(fault) => return Err(Cause::of_commons(fault)),
+        };
+        commons.push(Common {
+            id: common.id,
+            name: kept(alloc, &common.name)?,
+        })?;
+    }
+    Ok(())
+}

@@ -1,0 +1,69 @@
+//! The records of a module, read by place up to its end.
+
+ghost use Rattle.std.specs.Prelude.{◌≡◌, ◌≢◌, ◌<◌, ◌≤◌, length, IfOk, IfErr, IsTrue};
+ghost use Rattle.omf_core.specs.Record.{SpellsRecord};
+ghost use Rattle.omf_body.specs.declared.body.Body.TheVariants as body_of;
+ghost use Rattle.omf_module.specs.Fault.{fault_of};
+ghost use Rattle.omf_module.specs.Records.{SpellsBody, SpellsModuleRecords, commons_of};
+ghost use Rattle.omf_module.specs.Spelled.{FaultsHeader, FaultsWithin, FaultsModule};
+ghost use Rattle.omf_module.specs.Reading.{Follows, BeginsModule};
+
+use crate::commons::take_commons;
+use crate::fault::{Cause, ModuleFault};
+use crate::records::{ModuleFile, PlacedBody};
+use crate::symbols::Common;
+use omf_body::{Body, HeaderBody, parse};
+use omf_core::next_record;
+use std::alloc::Global;
+
+/// The type bytes of a module header, of the end of a file, and of named commons.
+const MODULE_HEADER: u8 = 0x02;
+const END_OF_FILE: u8 = 0x0E;
+const NAMED_COMMONS: u8 = 0x2E;
+
+/// The module header at a place, and the place after it. It takes no memory.
+fn header_at<'a>(bytes: &'a [u8], at: usize) -> Result<(HeaderBody<'a>, usize), Cause>
+    ensures spelled { IfOk result (λ r. BeginsModule bytes.now at r.1 r.0) }
+    ensures fault { IfErr result (λ why. FaultsHeader bytes.now at why) }
+    ensures memory { IfErr result (λ why. why ≢ Cause.Memory) }
+{
+    if bytes.len() <= at {
+        return Err(Cause::NoHeader);
+    }
+    let (record, after) = next_record(bytes, at)?;
+    if record.kind != MODULE_HEADER {
+        return Err(Cause::NoHeader);
+    }
+    match parse(record)? {
+        Body::ModuleHeader(header) => Ok((header, after)),
+        _ => unreachable!(),
+    }
+}
+
+/// The body of the record at a place after a header and records that declare these commons, and the place after it.
+fn next_body<'a>(
+    alloc: Global,
+    bytes: &'a [u8],
+    at: usize,
+    commons: &mut Vec<Common>,
+) -> Result<(Body<'a>, usize), Cause>
+    ensures follows { IfOk result (λ r. Follows bytes.now at r.1 commons.old.items commons.new.items r.0) }
+    ensures fault { IfErr result (λ why. why ≢ Cause.Memory → FaultsWithin bytes.now at commons.old.items why) }
+{
+    if bytes.len() <= at {
+        return Err(Cause::NoEnd);
+    }
+    let (record, after) = next_record(bytes, at)?;
+    match record.kind {
+        MODULE_HEADER => Err(Cause::UnknownKind(MODULE_HEADER)),
+        END_OF_FILE => Err(Cause::NoEnd),
+        NAMED_COMMONS => {
+            take_commons(alloc, record.body, commons)?;
+            match parse(record) {
+                Ok(body) => Ok((body, after)),
+                Err(_) => unreachable!(),
+            }
+        }
+        _ => Ok((parse(record)?, after)),
+    }
+}
