@@ -5,6 +5,7 @@ pub mod ShortLemmas
 pub mod ListLemmas
 pub mod CommonLemmas
 pub mod FollowLemmas
+pub mod WithinLemmas
 pub mod RuleLemmas
 pub mod PatchLemmas
 pub mod WorkedPlaces

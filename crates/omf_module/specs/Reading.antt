@@ -1,5 +1,5 @@
 -- What the steps of reading come to. (They say no more than the definitions of a module's records and of its first fault.)
-use Rattle.std.specs.Prelude.{◌≡◌, ◌⊎◌, ℕ, ◌<◌, ◌≤◌, Bool, true, false, List, ◌++◌, length, IsTrue}
+use Rattle.std.specs.Prelude.{◌≡◌, ◌⊎◌, ℕ, ◌<◌, ◌≤◌, Bool, true, false, List, [], ◌++◌, length, IsTrue}
 use Rattle.omf_body.specs.declared.entries.CommonEntry.{CommonEntry}
 use Rattle.omf_body.specs.declared.fault.FieldFault.{FieldFault}
 use Rattle.omf_body.specs.declared.body.HeaderBody.{HeaderBody}
@@ -8,10 +8,13 @@ use Rattle.omf_body.specs.declared.body.Body.TheVariants.{ModuleHeader, ModuleEn
 use Rattle.omf_body.specs.Entries.{common_layout}
 use Rattle.omf_body.specs.Layouts.{SpellsRow}
 use Rattle.omf_module.specs.declared.fault.Cause.{Cause}
+use Rattle.omf_module.specs.declared.fault.ModuleFault.{ModuleFault}
 use Rattle.omf_module.specs.declared.records.ModuleFile.{ModuleFile}
+use Rattle.omf_module.specs.declared.records.Within.{Within}
 use Rattle.omf_module.specs.declared.symbols.Common.{Common}
+use Rattle.omf_module.specs.Fault.{no_memory}
 use Rattle.omf_module.specs.Rules.{each_after, is_new_common}
-use Rattle.omf_module.specs.Records.{SpellsBody, commons_in, may_follow, ModuleRecords}
+use Rattle.omf_module.specs.Records.{SpellsBody, SpellsBodies, commons_in, commons_of, may_follow, each_follows, ModuleRecords}
 use Rattle.omf_module.specs.Spelled.{commons_cause, FaultsCommons}
 
 -- the common of an entry
@@ -49,6 +52,17 @@ pub record Follows (bytes : List ℕ) (at next : ℕ) (before after : List Commo
   pub further : at < next
   pub inside : next ≤ length bytes
 
+-- records that follow a header at a place, up to the end of the module and the place after it
+pub record ReadsWithin (bytes : List ℕ) (first after : ℕ) (w : Within) : Type 0 where
+  pub spelled : SpellsBodies bytes first w.end_at w.bodies.items
+  pub follow : IsTrue (each_follows [] w.bodies.items)
+  pub commons : w.commons.items ≡ commons_of w.bodies.items
+  pub end : SpellsBody bytes w.end_at after (ModuleEnd w.end)
+
 -- the records of a module, as they were read
 abbrev pub records_of : ModuleFile → ModuleRecords
-records_of m = record { at = m.at; header = m.header; within = m.within.items; end_at = m.end_at; end = m.end }
+records_of m = record { at = m.at; header = m.header; within = m.within.bodies.items; end_at = m.within.end_at; end = m.within.end }
+
+-- out of memory, or a fault
+abbrev pub OrNoMemory : (ModuleFault → Type 0) → ModuleFault → Type 0
+OrNoMemory Faults fault = (fault ≡ no_memory) ⊎ Faults fault

@@ -90,21 +90,24 @@ pub data FaultsWithin (bytes : List ℕ) (at : ℕ) (commons : List Common) : Ca
   in_commons : (next : ℕ) (body : List ℕ) (fault : FieldFault) → SpellsRecord bytes at next 0x2E body → FaultsCommons commons body fault
       → FaultsWithin bytes at commons (commons_cause fault)
 
+-- records stand from a place on, each of which may follow, and then none does
+pub record FaultsRecords (bytes : List ℕ) (first : ℕ) (fault : ModuleFault) : Type 0 where
+  pub here : ℕ
+  pub before : List PlacedBody
+  pub why : Cause
+  pub spelled : SpellsBodies bytes first here before
+  pub follow : IsTrue (each_follows [] before)
+  pub faults : FaultsWithin bytes here (commons_of before) why
+  pub is : fault ≡ fault_by here why
+
 -- The first fault of the module that should begin at a place: of its header, of a record after it, or, where all of its
 -- records are there, of what they use.
 pub data FaultsModule (bytes : List ℕ) (at : ℕ) : ModuleFault → Type 0 where
   in_header : (why : Cause) → FaultsHeader bytes at why → FaultsModule bytes at (fault_by at why)
-  in_records : (first here : ℕ) (header : HeaderBody) (before : List PlacedBody) (why : Cause)
-      → SpellsBody bytes at first (ModuleHeader header)
-      → SpellsBodies bytes first here before
-      → IsTrue (each_follows [] before)
-      → FaultsWithin bytes here (commons_of before) why
-      → FaultsModule bytes at (fault_by here why)
+  in_records : (first : ℕ) (header : HeaderBody) (fault : ModuleFault)
+      → SpellsBody bytes at first (ModuleHeader header) → FaultsRecords bytes first fault → FaultsModule bytes at fault
   in_uses : (after : ℕ) (records : ModuleRecords) (fault : ModuleFault)
-      → records.at ≡ at
-      → SpellsModuleRecords bytes after records
-      → use_fault records ≡ Some fault
-      → FaultsModule bytes at fault
+      → records.at ≡ at → SpellsModuleRecords bytes after records → use_fault records ≡ Some fault → FaultsModule bytes at fault
 
 -- ---- a file
 

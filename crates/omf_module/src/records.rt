@@ -10,13 +10,19 @@ pub struct PlacedBody<'a> {
     pub body: Body<'a>,
 }
 
-/// The records of a module: its header at `at`, those within and the commons that they declare, and its end at `end_at`.
+/// The records that follow a module's header, the commons that they declare, and the module's end at `end_at`.
+#[derive(Drop)]
+pub struct Within<'a> {
+    pub bodies: Vec<PlacedBody<'a>>,
+    pub commons: Vec<Common>,
+    pub end_at: usize,
+    pub end: EndBody<'a>,
+}
+
+/// The records of a module: its header at `at`, and those that follow it.
 #[derive(Drop)]
 pub struct ModuleFile<'a> {
     pub at: usize,
     pub header: HeaderBody<'a>,
-    pub within: Vec<PlacedBody<'a>>,
-    pub commons: Vec<Common>,
-    pub end_at: usize,
-    pub end: EndBody<'a>,
+    pub within: Within<'a>,
 }

@@ -5,12 +5,12 @@ ghost use Rattle.omf_core.specs.Record.{SpellsRecord};
 ghost use Rattle.omf_body.specs.declared.body.Body.TheVariants as body_of;
 ghost use Rattle.omf_module.specs.Fault.{fault_of};
 ghost use Rattle.omf_module.specs.Records.{SpellsBody, SpellsModuleRecords, commons_of};
-ghost use Rattle.omf_module.specs.Spelled.{FaultsHeader, FaultsWithin, FaultsModule};
-ghost use Rattle.omf_module.specs.Reading.{Follows, BeginsModule};
+ghost use Rattle.omf_module.specs.Spelled.{FaultsHeader, FaultsWithin, FaultsRecords, FaultsModule};
+ghost use Rattle.omf_module.specs.Reading.{Follows, BeginsModule, ReadsWithin, OrNoMemory, records_of};
 
 use crate::commons::take_commons;
 use crate::fault::{Cause, ModuleFault};
-use crate::records::{ModuleFile, PlacedBody};
+use crate::records::{ModuleFile, PlacedBody, Within};
 use crate::symbols::Common;
 use omf_body::{Body, HeaderBody, parse};
 use omf_core::next_record;
@@ -66,4 +66,58 @@ fn next_body<'a>(
         }
         _ => Ok((parse(record)?, after)),
     }
+}
+
+/// The records that follow a header, from a place on, and the place after the end of the module.
+fn within_at<'a>(
+    alloc: Global,
+    bytes: &'a [u8],
+    first: usize,
+) -> Result<(Within<'a>, usize), ModuleFault>
+    requires { first ≤ length bytes.now }
+    ensures read { IfOk result (λ r. ReadsWithin bytes.now first r.1 r.0) }
+    ensures fault { IfErr result (OrNoMemory (FaultsRecords bytes.now first)) }
+{
+    let mut bodies = Vec::new(alloc);
+    let mut commons = Vec::new(alloc);
+    let mut here = first;
+    loop {
+        let (body, next) = match next_body(alloc, bytes, here, &mut commons) {
+            Ok(read) => read,
+            Err(why) => return Err(why.at(here)),
+        };
+        match body {
+            Body::ModuleEnd(end) => {
+                let within = Within {
+                    bodies,
+                    commons,
+                    end_at: here,
+                    end,
+                };
+                return Ok((within, next));
+            }
+            body => bodies.push(PlacedBody { at: here, body })?,
+        }
+        here = next;
+    }
+}
+
+/// The records of the module that should begin at a place, and the place after them.
+pub(crate) fn records_at<'a>(
+    alloc: Global,
+    bytes: &'a [u8],
+    at: usize,
+) -> Result<(ModuleFile<'a>, usize), ModuleFault>
+    ensures read { IfOk result (λ r. SpellsModuleRecords bytes.now r.1 (records_of r.0)) }
+    ensures begins { IfOk result (λ r. r.0.at ≡ at) }
+    ensures commons { IfOk result (λ r. r.0.within.commons.items ≡ commons_of r.0.within.bodies.items) }
+    ensures fault { IfErr result (OrNoMemory (FaultsModule bytes.now at)) }
+{
+    let (header, first) = match header_at(bytes, at) {
+        Ok(read) => read,
+        Err(why) => return Err(why.at(at)),
+    };
+    let (within, after) = within_at(alloc, bytes, first)?;
+    let module = ModuleFile { at, header, within };
+    Ok((module, after))
 }
