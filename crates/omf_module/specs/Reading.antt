@@ -1,5 +1,6 @@
 -- What the steps of reading come to. (They say no more than the definitions of a module's records and of its first fault.)
-use Rattle.std.specs.Prelude.{◌≡◌, ◌⊎◌, ℕ, ◌<◌, ◌≤◌, Bool, true, false, List, [], ◌++◌, length, IsTrue}
+use Rattle.std.specs.Prelude.{◌≡◌, ◌⊎◌, ℕ, ◌<◌, ◌≤◌, Bool, true, false, if◌then◌else◌, Option, Some, None, List, [], ◌++◌, length, IsTrue}
+use Rattle.std.specs.Option.{option_to_list}
 use Rattle.omf_body.specs.declared.entries.CommonEntry.{CommonEntry}
 use Rattle.omf_body.specs.declared.fault.FieldFault.{FieldFault}
 use Rattle.omf_body.specs.declared.body.HeaderBody.{HeaderBody}
@@ -15,6 +16,10 @@ use Rattle.omf_module.specs.declared.symbols.Common.{Common}
 use Rattle.omf_module.specs.Fault.{no_memory}
 use Rattle.omf_module.specs.Rules.{each_after, is_new_common}
 use Rattle.omf_module.specs.Records.{SpellsBody, SpellsBodies, commons_in, commons_of, may_follow, each_follows, ModuleRecords}
+use Rattle.omf_module.specs.Contents.{ContentValue}
+use Rattle.omf_module.specs.Modules.{ModuleValue}
+use Rattle.omf_module.specs.Gathered.{content_after, is_content}
+use Rattle.omf_module.specs.Uses.{body_fault}
 use Rattle.omf_module.specs.Spelled.{commons_cause, FaultsCommons}
 
 -- the common of an entry
@@ -66,3 +71,14 @@ records_of m = record { at = m.at; header = m.header; within = m.within.bodies.i
 -- out of memory, or a fault
 abbrev pub OrNoMemory : (ModuleFault → Type 0) → ModuleFault → Type 0
 OrNoMemory Faults fault = (fault ≡ no_memory) ⊎ Faults fault
+
+-- parts with other contents: what a record uses is looked at while contents are still gathered
+abbrev pub with_contents : ModuleValue → List ContentValue → ModuleValue
+with_contents p contents = record p { contents = contents }
+
+-- A record was looked at, and what it says of contents was taken: it has no fault, `nearest` is the nearest content after it,
+-- and the one before stands among those that are whole where a new one begins.
+pub record TakesBody (p : ModuleValue) (before : Option ContentValue) (body : Body) (old new : List ContentValue) (after : Option ContentValue) : Type 0 where
+  pub sound : (cs : List ContentValue) → body_fault (with_contents p cs) before body ≡ None
+  pub nearest : after ≡ content_after before body
+  pub whole : new ≡ old ++ (if is_content body then option_to_list before else [])

@@ -1,0 +1,11 @@
+-- what was taken, and what is left
+use Rattle.std.proofs.Common.{◌≡◌, ◌++◌, length, map}
+use Rattle.omf_module.proofs.gathering.by_offset.Given as goal
+
+abbrev pub invariant-loop-entry : goal.invariant-loop-entry
+invariant-loop-entry l =
+    l.fixups.items ++ map (λ r. record { offset = r.offset; field = l.field; target = l.target }) l.rest
+    ≡ map (λ r. record { offset = r.offset; field = l.field; target = l.target }) l.initial.rest
+
+abbrev pub decreases-loop-entry : goal.decreases-loop-entry
+decreases-loop-entry l = length l.rest

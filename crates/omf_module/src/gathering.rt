@@ -1,0 +1,142 @@
+//! What the records of a module say, gathered from all of them in order.
+
+ghost use Rattle.std.specs.Prelude.{◌≡◌, ◌++◌, IfOk, OnOk, map};
+ghost use Rattle.std.specs.List.{flat_map};
+ghost use Rattle.omf_module.specs.declared.fixup.Target.TheVariants as target;
+ghost use Rattle.omf_module.specs.Gathered.{segments_in, publics_in, externals_in, fixups_in};
+
+use crate::commons::kept;
+use crate::fixup::{Fixup, Target};
+use crate::records::PlacedBody;
+use crate::segment::Segment;
+use crate::symbols::Public;
+use omf_body::{
+    Body, ExternalReferencesBody, Field, HeaderBody, OffsetEntry, Row,
+};
+use omf_core::Name;
+use std::alloc::{AllocError, Global};
+
+/// The segments of a header.
+pub(crate) fn segments_in(alloc: Global, header: &HeaderBody) -> Result<Vec<(u8, Segment)>, AllocError>
+    ensures { IfOk result (λ segments. segments.items ≡ segments_in header.now) }
+{
+    let mut segments = Vec::new(alloc);
+    let mut rest = header.segments.again();
+    while let Some(entry) = rest.next() {
+        let segment = Segment {
+            length: entry.length,
+            paged: entry.is_paged(),
+        };
+        segments.push((entry.id, segment))?;
+    }
+    Ok(segments)
+}
+
+/// Takes the publics of a record.
+fn take_publics(alloc: Global, body: &Body, publics: &mut Vec<Public>) -> Result<(), AllocError>
+    ensures { OnOk result (publics.new.items ≡ publics.old.items ++ publics_in body.now) }
+{
+    let Body::PublicDeclarations(declared) = body else {
+        return Ok(());
+    };
+    let mut rest = declared.publics.again();
+    while let Some(entry) = rest.next() {
+        publics.push(Public {
+            name: kept(alloc, &entry.name)?,
+            segment: declared.segment,
+            offset: entry.offset,
+        })?;
+    }
+    Ok(())
+}
+
+/// The publics of all records.
+pub(crate) fn publics_of(alloc: Global, bodies: &[PlacedBody]) -> Result<Vec<Public>, AllocError>
+    ensures { IfOk result (λ publics. publics.items ≡ flat_map (λ p. publics_in p.body) bodies.now) }
+{
+    let mut publics = Vec::new(alloc);
+    for placed in bodies {
+        take_publics(alloc, &placed.body, &mut publics)?;
+    }
+    Ok(publics)
+}
+
+/// Takes the externals of a record.
+fn take_externals(alloc: Global, body: &Body, externals: &mut Vec<Name>) -> Result<(), AllocError>
+    ensures { OnOk result (externals.new.items ≡ externals.old.items ++ externals_in body.now) }
+{
+    let Body::ExternalNames(entries) = body else {
+        return Ok(());
+    };
+    let mut rest = entries.again();
+    while let Some(entry) = rest.next() {
+        externals.push(kept(alloc, &entry.name)?)?;
+    }
+    Ok(())
+}
+
+/// The externals of all records.
+pub(crate) fn externals_of(alloc: Global, bodies: &[PlacedBody]) -> Result<Vec<Name>, AllocError>
+    ensures { IfOk result (λ externals. externals.items ≡ flat_map (λ p. externals_in p.body) bodies.now) }
+{
+    let mut externals = Vec::new(alloc);
+    for placed in bodies {
+        take_externals(alloc, &placed.body, &mut externals)?;
+    }
+    Ok(externals)
+}
+
+/// The fixups of entries that give offsets.
+fn by_offset(
+    alloc: Global,
+    field: Field,
+    target: Target,
+    entries: Row<OffsetEntry>,
+) -> Result<Vec<Fixup>, AllocError>
+    ensures { IfOk result (λ fixups. fixups.items ≡ map (λ r. record { offset = r.offset; field = field; target = target }) entries.entry) }
+{
+    let mut fixups = Vec::new(alloc);
+    let mut rest = entries;
+    while let Some(entry) = rest.next() {
+        let offset = entry.offset;
+        fixups.push(Fixup {
+            offset,
+            field,
+            target,
+        })?;
+    }
+    Ok(fixups)
+}
+
+/// The fixups of entries that give indices of externals.
+fn by_index(alloc: Global, body: &ExternalReferencesBody) -> Result<Vec<Fixup>, AllocError>
+    ensures { IfOk result (λ fixups. fixups.items ≡ map (λ r. record { offset = r.offset; field = body.now.field; target = target.External r.index }) body.now.references) }
+{
+    let mut fixups = Vec::new(alloc);
+    let mut rest = body.references.again();
+    while let Some(entry) = rest.next() {
+        fixups.push(Fixup {
+            offset: entry.offset,
+            field: body.field,
+            target: Target::External(entry.index),
+        })?;
+    }
+    Ok(fixups)
+}
+
+/// The fixups of a record, in a content of segment `own`.
+pub(crate) fn fixups_in(alloc: Global, own: u8, body: &Body) -> Result<Vec<Fixup>, AllocError>
+    ensures { IfOk result (λ fixups. fixups.items ≡ fixups_in own body.now) }
+{
+    match body {
+        Body::ExternalReferences(b) => by_index(alloc, b),
+        Body::Relocation(b) => by_offset(alloc, b.field, Target::Segment(own), b.references.again()),
+        Body::IntersegmentReferences(b) => by_offset(
+            alloc,
+            b.field,
+            Target::Segment(b.segment),
+            b.references.again(),
+        ),
+        _ => Ok(Vec::new(alloc)),
+    }
+}

@@ -1,0 +1,123 @@
+//! A content to which fixups may still come.
+
+use crate::content::Content;
+use crate::fault::Cause;
+use crate::fixup::{Fixup, Target};
+use crate::marks::{is_free, is_inside, mark, no_marks};
+use crate::parts::Parts;
+use std::alloc::{AllocError, Global};
+use std::marker::Model;
+
+#[derive(Debug, Drop)]
+pub(crate) struct Open<'a> {
+    segment: u8,
+    offset: u16,
+    bytes: &'a [u8],
+    fixups: Vec<Fixup>,
+    marks: Vec<bool>,
+}
+
+impl<'a> Model for Open<'a> {
+    ghost use Rattle.std.specs.Prelude.{length};
+    ghost use Rattle.omf_module.specs.Contents.{ContentValue};
+
+    ghost Value = { ContentValue };
+
+    ghost use Rattle.omf_module.specs.Marks.{IsMarked};
+
+    ghost view = { λ o. record { segment = o.segment; offset = o.offset; bytes = o.bytes.now; fixups = o.fixups.items } };
+
+    ghost invariant = { λ o. IsMarked o.marks.items o.offset (length o.bytes.now) o.fixups.items };
+}
+
+impl<'a> Open<'a> {
+    ghost use Rattle.std.specs.Prelude.{◌≡◌, ◌≢◌, List, [], ◌∷◌, None, Some, IfOk, IfErr, OnOk};
+    ghost use Rattle.omf_module.specs.Contents.{ContentValue};
+    ghost use Rattle.omf_module.specs.Gathered.{with_fixups};
+    ghost use Rattle.omf_module.specs.Uses.{fixup_fault, fixups_fault};
+    ghost use Rattle.omf_module.specs.Reading.{with_contents};
+
+    /// The content of these bytes, without fixups.
+    pub(crate) fn new(
+        alloc: Global,
+        segment: u8,
+        offset: u16,
+        bytes: &'a [u8],
+    ) -> Result<Open<'a>, AllocError>
+        ensures { IfOk result (λ o. o ≡ record { segment = segment; offset = offset; bytes = bytes.now; fixups = [] }) }
+    {
+        let marks = no_marks(alloc, offset, bytes.len())?;
+        Ok(Open {
+            segment,
+            offset,
+            bytes,
+            fixups: Vec::new(alloc),
+            marks,
+        })
+    }
+
+    /// The segment that it is in.
+    pub(crate) fn segment(&self) -> u8
+        ensures { result ≡ self.now.segment }
+    {
+        self.segment
+    }
+
+    /// Takes one fixup more.
+    fn take(&mut self, parts: &Parts, fixup: Fixup) -> Result<(), Cause>
+        ensures taken { OnOk result (self.new ≡ with_fixups self.old (fixup ∷ [])) }
+        ensures sound { OnOk result ((cs : List ContentValue) → fixup_fault (with_contents parts.now cs) self.old fixup ≡ None) }
+        ensures fault { IfErr result (λ why. why ≢ Cause.Memory → (cs : List ContentValue) → fixup_fault (with_contents parts.now cs) self.old fixup ≡ Some why) }
+    {
+        if !is_inside(self.offset, self.bytes.len(), fixup) {
+            return Err(Cause::FixupOutside);
+        }
+        if !is_free(&self.marks, self.offset, fixup) {
+            return Err(Cause::FixupTwice);
+        }
+        if lacks_external(parts, fixup.target) {
+            return Err(Cause::IndexUnknown);
+        }
+        self.fixups.push(fixup)?;
+        let _ = mark(&mut self.marks, self.offset, fixup);
+        Ok(())
+    }
+
+    /// Takes the fixups of a record.
+    pub(crate) fn take_all(&mut self, parts: &Parts, fixups: &[Fixup]) -> Result<(), Cause>
+        ensures taken { OnOk result (self.new ≡ with_fixups self.old fixups.now) }
+        ensures sound { OnOk result ((cs : List ContentValue) → fixups_fault (with_contents parts.now cs) self.old fixups.now ≡ None) }
+        ensures fault { IfErr result (λ why. why ≢ Cause.Memory → (cs : List ContentValue) → fixups_fault (with_contents parts.now cs) self.old fixups.now ≡ Some why) }
+    {
+        for fixup in fixups {
+            self.take(parts, *fixup)?;
+        }
+        Ok(())
+    }
+
+    /// The content, with its bytes copied.
+    pub(crate) fn close(self, alloc: Global) -> Result<Content, AllocError>
+        ensures { IfOk result (λ c. c ≡ self.entry) }
+    {
+        let bytes = Vec::from_slice(alloc, self.bytes)?;
+        Ok(Content {
+            segment: self.segment,
+            offset: self.offset,
+            bytes,
+            fixups: self.fixups,
+        })
+    }
+}
+
+ghost use Rattle.std.specs.Prelude.{◌≡◌};
+ghost use Rattle.omf_module.specs.Uses.{lacks_external};
+
+/// Whether the module has no external of a fixup's index.
+fn lacks_external(parts: &Parts, target: Target) -> bool
+    ensures { result ≡ lacks_external parts.now target }
+{
+    match target {
+        Target::Segment(_) => false,
+        Target::External(index) => parts.externals.len() <= index as usize,
+    }
+}

@@ -1,0 +1,122 @@
+//! What the records of a module use, looked at once all of them are read.
+
+ghost use Rattle.std.specs.Prelude.{◌≡◌, ◌≢◌, ◌++◌, List, [], ◌∷◌, None, Some, option_map, IfOk, IfErr, OnOk, map};
+ghost use Rattle.std.specs.Option.{option_to_list};
+ghost use Rattle.std.specs.Result.{result_err};
+ghost use Rattle.omf_module.specs.Contents.{ContentValue};
+ghost use Rattle.omf_module.specs.Gathered.{content_after, contents_from, fixups_in, with_fixups};
+ghost use Rattle.omf_module.specs.Uses.{unknown_id, ids_in, place_fault, is_reference, reference_fault, bodies_fault};
+ghost use Rattle.omf_module.specs.Reading.{with_contents, TakesBody, OrNoMemory};
+
+use crate::content::Content;
+use crate::fault::{Cause, ModuleFault};
+use crate::gathering::fixups_in;
+use crate::open::Open;
+use crate::parts::Parts;
+use crate::records::PlacedBody;
+use crate::rules::{end_of, has_segment};
+use omf_body::segment_id::STACK;
+use omf_body::{Body, Place};
+use std::alloc::{AllocError, Global};
+
+/// Whether the module has a segment of this id.
+fn look_at_id(parts: &Parts, id: u8) -> Result<(), Cause>
+    ensures { (cs : List ContentValue) → result_err result ≡ unknown_id (with_contents parts.now cs) (id ∷ []) }
+{
+    if has_segment(&parts.commons, id) {
+        Ok(())
+    } else {
+        Err(Cause::SegmentUnknown(id))
+    }
+}
+
+/// Whether the module has the segments that its header lists.
+pub(crate) fn look_at_header(parts: &Parts) -> Result<(), Cause>
+    ensures { (cs : List ContentValue) → result_err result ≡ unknown_id (with_contents parts.now cs) (map (λ s. s.0) parts.now.segments) }
+{
+    for entry in &parts.segments {
+        look_at_id(parts, entry.0)?;
+    }
+    Ok(())
+}
+
+/// Whether the module has the segment where it starts.
+pub(crate) fn look_at_start(parts: &Parts, start: Option<Place>) -> Result<(), Cause>
+    ensures { (cs : List ContentValue) → result_err result ≡ unknown_id (with_contents parts.now cs) (option_to_list (option_map (λ p. p.segment) start)) }
+{
+    match start {
+        Some(place) => look_at_id(parts, place.segment),
+        None => Ok(()),
+    }
+}
+
+/// Whether the module has the segments that a record speaks of.
+fn look_at_ids(parts: &Parts, body: &Body) -> Result<(), Cause>
+    ensures { (cs : List ContentValue) → result_err result ≡ unknown_id (with_contents parts.now cs) (ids_in body.now) }
+{
+    match body {
+        Body::Content(b) => look_at_id(parts, b.segment),
+        Body::PublicDeclarations(b) => look_at_id(parts, b.segment),
+        Body::IntersegmentReferences(b) => look_at_id(parts, b.segment),
+        _ => Ok(()),
+    }
+}
+
+/// Whether content lies within its segment, and isn't in STACK.
+fn look_at_place(parts: &Parts, body: &Body) -> Result<(), Cause>
+    ensures { (cs : List ContentValue) → result_err result ≡ place_fault (with_contents parts.now cs) body.now }
+{
+    let Body::Content(b) = body else {
+        return Ok(());
+    };
+    if b.segment == STACK {
+        return Err(Cause::SegmentUnknown(STACK));
+    }
+    if end_of(&parts.segments, b.segment) < b.offset as usize + b.bytes.bytes.len() {
+        return Err(Cause::OffsetOutside);
+    }
+    Ok(())
+}
+
+fn is_reference(body: &Body) -> bool
+    ensures { result ≡ is_reference body.now }
+{
+    match body {
+        Body::ExternalReferences(_) => true,
+        Body::Relocation(_) => true,
+        Body::IntersegmentReferences(_) => true,
+        _ => false,
+    }
+}
+
+/// Takes the fixups of a record that isn't content into the nearest content before it.
+fn take_fixups<'a>(
+    alloc: Global,
+    parts: &Parts,
+    body: &Body,
+    nearest: Option<Open<'a>>,
+) -> Result<Option<Open<'a>>, Cause>
+    ensures taken { IfOk result (λ after. after ≡ option_map (λ c. with_fixups c (fixups_in c.segment body.now)) nearest.entry) }
+    ensures sound { OnOk result ((cs : List ContentValue) → reference_fault (with_contents parts.now cs) nearest.entry body.now ≡ None) }
+    ensures fault { IfErr result (λ why. why ≢ Cause.Memory → (cs : List ContentValue) → reference_fault (with_contents parts.now cs) nearest.entry body.now ≡ Some why) }
+{
+    let Some(mut open) = nearest else {
+        if is_reference(body) {
+            return Err(Cause::FixupBeforeContent);
+        }
+        return Ok(None);
+    };
+    let fixups = fixups_in(alloc, open.segment(), body)?;
+    open.take_all(parts, &fixups)?;
+    Ok(Some(open))
+}
+
+/// Adds a content that is whole to the others.
+fn close(alloc: Global, nearest: Option<Open>, whole: &mut Vec<Content>) -> Result<(), AllocError>
+    ensures { OnOk result (whole.new.items ≡ whole.old.items ++ option_to_list nearest.entry) }
+{
+    if let Some(open) = nearest {
+        whole.push(open.close(alloc)?)?;
+    }
+    Ok(())
+}
