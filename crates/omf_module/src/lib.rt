@@ -29,6 +29,7 @@ mod names;
 mod open;
 mod parts;
 mod patching;
+mod reading;
 mod records;
 mod rules;
 mod segment;

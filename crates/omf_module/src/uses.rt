@@ -5,7 +5,7 @@ ghost use Rattle.std.specs.Option.{option_to_list};
 ghost use Rattle.std.specs.Result.{result_err};
 ghost use Rattle.omf_module.specs.Contents.{ContentValue};
 ghost use Rattle.omf_module.specs.Gathered.{content_after, contents_from, fixups_in, with_fixups};
-ghost use Rattle.omf_module.specs.Uses.{unknown_id, ids_in, place_fault, is_reference, reference_fault, bodies_fault};
+ghost use Rattle.omf_module.specs.Uses.{unknown_id, ids_in, place_fault, is_reference, reference_fault, body_fault, bodies_fault};
 ghost use Rattle.omf_module.specs.Reading.{with_contents, TakesBody, OrNoMemory};
 
 use crate::content::Content;
@@ -16,7 +16,7 @@ use crate::parts::Parts;
 use crate::records::PlacedBody;
 use crate::rules::{end_of, has_segment};
 use omf_body::segment_id::STACK;
-use omf_body::{Body, Place};
+use omf_body::{Body, HeaderBody, Place};
 use std::alloc::{AllocError, Global};
 
 /// Whether the module has a segment of this id.
@@ -31,11 +31,12 @@ fn look_at_id(parts: &Parts, id: u8) -> Result<(), Cause>
 }
 
 /// Whether the module has the segments that its header lists.
-pub(crate) fn look_at_header(parts: &Parts) -> Result<(), Cause>
-    ensures { (cs : List ContentValue) → result_err result ≡ unknown_id (with_contents parts.now cs) (map (λ s. s.0) parts.now.segments) }
+pub(crate) fn look_at_header(parts: &Parts, header: &HeaderBody) -> Result<(), Cause>
+    ensures { (cs : List ContentValue) → result_err result ≡ unknown_id (with_contents parts.now cs) (map (λ e. e.id) header.now.segments) }
 {
-    for entry in &parts.segments {
-        look_at_id(parts, entry.0)?;
+    let mut rest = header.segments.again();
+    while let Some(entry) = rest.next() {
+        look_at_id(parts, entry.id)?;
     }
     Ok(())
 }
@@ -119,4 +120,46 @@ fn close(alloc: Global, nearest: Option<Open>, whole: &mut Vec<Content>) -> Resu
         whole.push(open.close(alloc)?)?;
     }
     Ok(())
+}
+
+/// Looks at a record, and takes what it says of contents.
+fn take_body<'a>(
+    alloc: Global,
+    parts: &Parts,
+    body: &Body<'a>,
+    nearest: Option<Open<'a>>,
+    whole: &mut Vec<Content>,
+) -> Result<Option<Open<'a>>, Cause>
+    ensures taken { IfOk result (λ after. TakesBody parts.now nearest.entry body.now whole.old.items whole.new.items after) }
+    ensures fault { IfErr result (λ why. why ≢ Cause.Memory → (cs : List ContentValue) → body_fault (with_contents parts.now cs) nearest.entry body.now ≡ Some why) }
+{
+    look_at_ids(parts, body)?;
+    look_at_place(parts, body)?;
+    let Body::Content(b) = body else {
+        return take_fixups(alloc, parts, body, nearest);
+    };
+    close(alloc, nearest, whole)?;
+    Ok(Some(Open::new(alloc, b.segment, b.offset, b.bytes.bytes)?))
+}
+
+/// The contents of a module, each with the fixups of the records up to the next one.
+pub(crate) fn contents_of(
+    alloc: Global,
+    parts: &Parts,
+    bodies: &[PlacedBody],
+) -> Result<Vec<Content>, ModuleFault>
+    ensures contents { IfOk result (λ contents. contents.items ≡ contents_from None bodies.now) }
+    ensures sound { OnOk result ((cs : List ContentValue) → bodies_fault (with_contents parts.now cs) None bodies.now ≡ None) }
+    ensures fault { IfErr result (OrNoMemory (λ fault. (cs : List ContentValue) → bodies_fault (with_contents parts.now cs) None bodies.now ≡ Some fault)) }
+{
+    let mut whole = Vec::new(alloc);
+    let mut nearest = None;
+    for placed in bodies {
+        match take_body(alloc, parts, &placed.body, nearest, &mut whole) {
+            Ok(after) => nearest = after,
+            Err(why) => return Err(why.at(placed.at)),
+        }
+    }
+    close(alloc, nearest, &mut whole)?;
+    Ok(whole)
 }

@@ -1,0 +1,79 @@
+-- What records use is looked at one after another.
+use Rattle.std.proofs.Common.{◌≡◌, ◌≢◌, ◌⊎◌, inl, inr, ℕ, ◌<◌, ◌≤◌, ◌+◌, Bool, true, false, Option, Some, None, List, [], ◌∷◌, ◌++◌, length, map, drop, get_or, refl, sym, ap, subst, ◌∙◌, append_assoc}
+use Rattle.std.specs.Prelude.{if◌then◌else◌, option_map}
+use Rattle.std.specs.Option.{option_or, option_to_list}
+use Rattle.std.proofs.lemmas.List.{append-nil, drop_more, drop_all}
+use Rattle.omf_body.specs.declared.body.Body.{Body}
+use Rattle.omf_module.specs.declared.fault.Cause.{Cause}
+use Rattle.omf_module.specs.declared.fault.Cause.TheVariants.{SegmentUnknown, Memory}
+use Rattle.omf_module.specs.declared.fault.ModuleFault.{ModuleFault}
+use Rattle.omf_module.specs.declared.records.PlacedBody.{PlacedBody}
+use Rattle.omf_module.specs.declared.segment.Segment.{Segment}
+use Rattle.omf_module.specs.Fault.{no_memory, fault_of}
+use Rattle.omf_module.specs.Contents.{ContentValue}
+use Rattle.omf_module.specs.Modules.{ModuleValue}
+use Rattle.omf_module.specs.Segments.{has_segment}
+use Rattle.omf_module.specs.Gathered.{content_after, contents_from, is_content}
+use Rattle.omf_module.specs.Uses.{unknown_id, body_fault, bodies_fault, fault_by}
+use Rattle.omf_module.specs.Reading.{with_contents, TakesBody, OrNoMemory}
+use Rattle.omf_module.proofs.WithinLemmas.{by_cause}
+
+-- ---- ids
+
+by_test : (test : Bool) (f : Cause) (rest other : Option Cause) → Some f ≡ (if test then None else other) → (if test then rest else other) ≡ Some f
+by_test true f rest other e = absurd cc
+by_test false f rest other e = sym e
+
+pub unknown_first : (m : ModuleValue) (id : ℕ) (ids : List ℕ) (f : Cause) → Some f ≡ unknown_id m (id ∷ []) → unknown_id m (id ∷ ids) ≡ Some f
+unknown_first m id ids f e = by_test (has_segment m.commons id) f (unknown_id m ids) (Some (SegmentUnknown id)) e
+
+or_rest : (test : Bool) (rest : Option Cause) (f : Cause) → None ≡ (if test then None else Some f) → (if test then rest else Some f) ≡ rest
+or_rest true rest f e = refl
+or_rest false rest f e = absurd cc
+
+pub known_first : (m : ModuleValue) (id : ℕ) (ids : List ℕ) → None ≡ unknown_id m (id ∷ []) → unknown_id m (id ∷ ids) ≡ unknown_id m ids
+known_first m id ids e = or_rest (has_segment m.commons id) (unknown_id m ids) (SegmentUnknown id) e
+
+-- ---- bodies
+
+-- the first fault is that of the first record that has one
+pub fault_first : (m : ModuleValue) (nearest : Option ContentValue) (p : PlacedBody) (ps : List PlacedBody) (why : Cause)
+    → body_fault m nearest p.body ≡ Some why → bodies_fault m nearest (p ∷ ps) ≡ Some (fault_by p.at why)
+fault_first m nearest p ps why e = ap (λ (f : Option Cause). option_or (option_map (fault_by p.at) f) (bodies_fault m (content_after nearest p.body) ps)) e
+
+pub fault_later : (m : ModuleValue) (nearest : Option ContentValue) (p : PlacedBody) (ps : List PlacedBody)
+    → body_fault m nearest p.body ≡ None → bodies_fault m nearest (p ∷ ps) ≡ bodies_fault m (content_after nearest p.body) ps
+fault_later m nearest p ps e = ap (λ (f : Option Cause). option_or (option_map (fault_by p.at) f) (bodies_fault m (content_after nearest p.body) ps)) e
+
+-- what was looked at so far, and what is left
+pub record ContentsSoFar (parts : ModuleValue) (all : List PlacedBody) (rest : List PlacedBody) (nearest : Option ContentValue) (whole : List ContentValue) : Type 0 where
+  pub sound : (cs : List ContentValue) → bodies_fault (with_contents parts cs) nearest rest ≡ bodies_fault (with_contents parts cs) None all
+  pub contents : whole ++ contents_from nearest rest ≡ contents_from None all
+
+pub none_looked_at : (parts : ModuleValue) (all : List PlacedBody) → ContentsSoFar parts all all None []
+none_looked_at parts all = record { sound = λ cs. refl; contents = refl }
+
+pub one_looked_at : (parts : ModuleValue) (all : List PlacedBody) (p : PlacedBody) (ps : List PlacedBody) (nearest after : Option ContentValue) (old new : List ContentValue)
+    → ContentsSoFar parts all (p ∷ ps) nearest old → TakesBody parts nearest p.body old new after → ContentsSoFar parts all ps after new
+one_looked_at parts all p ps nearest after old new s t = record {
+  sound = λ cs. ap (λ (n : Option ContentValue). bodies_fault (with_contents parts cs) n ps) t.nearest ∙ (sym (fault_later (with_contents parts cs) nearest p ps (t.sound cs)) ∙ s.sound cs);
+  contents =
+      let begun = if is_content p.body then option_to_list nearest else [] in
+      ap (λ (n : Option ContentValue). new ++ contents_from n ps) t.nearest
+      ∙ (ap (λ (w : List ContentValue). w ++ contents_from (content_after nearest p.body) ps) t.whole
+      ∙ (append_assoc old begun (contents_from (content_after nearest p.body) ps) ∙ s.contents));
+}
+
+pub fault_here : (parts : ModuleValue) (all : List PlacedBody) (p : PlacedBody) (ps : List PlacedBody) (nearest : Option ContentValue) (old : List ContentValue) (why : Cause)
+    → ContentsSoFar parts all (p ∷ ps) nearest old
+    → (why ≢ Memory → (cs : List ContentValue) → body_fault (with_contents parts cs) nearest p.body ≡ Some why)
+    → OrNoMemory (λ fault. (cs : List ContentValue) → bodies_fault (with_contents parts cs) None all ≡ Some fault) (fault_of p.at why)
+fault_here parts all p ps nearest old why s f =
+    by_cause (λ fault. (cs : List ContentValue) → bodies_fault (with_contents parts cs) None all ≡ Some fault) p.at why
+    (λ real cs. sym (s.sound cs) ∙ fault_first (with_contents parts cs) nearest p ps why (f real cs))
+
+pub front : (all : List PlacedBody) (i : ℕ) (p : PlacedBody) → i < length all → p ≡ get_or all i p → drop i all ≡ p ∷ drop (i + 1) all
+front all i p within is = drop_more all i p within ∙ ap (λ (q : PlacedBody). q ∷ drop (i + 1) all) (sym is)
+
+pub front_entry : (all : List (ℕ × Segment)) (i : ℕ) (e : ℕ × Segment) → i < length all → e ≡ get_or all i e → map (λ s. s.0) (drop i all) ≡ e.0 ∷ map (λ s. s.0) (drop (i + 1) all)
+front_entry all i e within is = ap (λ (l : List (ℕ × Segment)). map (λ s. s.0) l) (drop_more all i e within ∙ ap (λ (q : ℕ × Segment). q ∷ drop (i + 1) all) (sym is))
