@@ -6,6 +6,7 @@ pub mod ListLemmas
 pub mod CommonLemmas
 pub mod FollowLemmas
 pub mod WithinLemmas
+pub mod KeepsLemmas
 pub mod RuleLemmas
 pub mod PatchLemmas
 pub mod WorkedPlaces
