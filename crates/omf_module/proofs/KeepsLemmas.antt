@@ -117,7 +117,7 @@ apart_one : (before : List (ℕ × Segment)) (e x : SegmentEntry) → list_any (
 apart_one before e x none other =
     list_any-append (has_id x.id) before (entry_of e ∷ [])
     ∙ or_both (list_any (has_id x.id) before) (list_any (has_id x.id) (entry_of e ∷ [])) none
-      (or_both (e.id == x.id) false (other_back x.id e.id other) refl)
+    (or_both (e.id == x.id) false (other_back x.id e.id other) refl)
 
 apart_push : (before : List (ℕ × Segment)) (e : SegmentEntry) (es : List SegmentEntry) → are_apart before es ≡ true → list_any (λ d. d.id == e.id) es ≡ false → are_apart (before ++ entry_of e ∷ []) es ≡ true
 apart_push before e [] apart new = refl
@@ -139,7 +139,7 @@ entries_new commons before (e ∷ es) known distinct apart =
     and_both (is_new_entry commons before (entry_of e)) (each_after (is_new_entry commons) (before ++ entry_of e ∷ []) (map entry_of es))
     (and_both (has_segment commons e.id) (not (list_any (has_id e.id) before)) k.0 a.0)
     (entries_new commons (before ++ entry_of e ∷ []) es k.1 d.1
-     (apart_push before e es a.1 (is_false (list_any (λ d. d.id == e.id) es) d.0)))
+    (apart_push before e es a.1 (is_false (list_any (λ d. d.id == e.id) es) d.0)))
 
 none_before : (es : List SegmentEntry) → are_apart [] es ≡ true
 none_before [] = refl
@@ -278,10 +278,10 @@ content_fits m b size known e =
     let c : ContentValue = content_of b in
     and_both (is_placed m.segments m.commons c) true
     (and_both (lies_within m.segments m.commons c) (nat_le (length b.bytes) 65531)
-     (and_both (has_segment m.commons b.segment && not (b.segment == 3)) (nat_le (b.offset + length b.bytes) (end_of m.segments b.segment))
-      (and_both (has_segment m.commons b.segment) (not (b.segment == 3)) (one_known m b.segment known) (not_false (b.segment == 3) stack.0))
-      (le-leb (b.offset + length b.bytes) (end_of m.segments b.segment) within))
-     (content_short b size))
+    (and_both (has_segment m.commons b.segment && not (b.segment == 3)) (nat_le (b.offset + length b.bytes) (end_of m.segments b.segment))
+    (and_both (has_segment m.commons b.segment) (not (b.segment == 3)) (one_known m b.segment known) (not_false (b.segment == 3) stack.0))
+    (le-leb (b.offset + length b.bytes) (end_of m.segments b.segment) within))
+    (content_short b size))
     refl
 
 abbrev all_fit : ModuleValue → Option ContentValue → Type 0
