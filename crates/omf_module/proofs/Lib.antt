@@ -7,6 +7,7 @@ pub mod CommonLemmas
 pub mod FollowLemmas
 pub mod WithinLemmas
 pub mod UseLemmas
+pub mod KeepsLemmas
 pub mod RuleLemmas
 pub mod PatchLemmas
 pub mod WorkedPlaces

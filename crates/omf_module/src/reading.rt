@@ -70,9 +70,9 @@ fn without_contents(
 /// The parts that the records of a module say, where they use nothing that isn't there.
 fn parts_of(alloc: Global, file: ModuleFile) -> Result<Parts, ModuleFault>
     requires { file.within.commons.items ≡ commons_of file.within.bodies.items }
-    ensures parts { IfOk result (λ parts. parts ≡ parts_of (records_of file)) }
-    ensures sound { OnOk result (use_fault (records_of file) ≡ None) }
-    ensures fault { IfErr result (OrNoMemory (λ fault. use_fault (records_of file) ≡ Some fault)) }
+    ensures parts { IfOk result (λ parts. parts ≡ parts_of (records_of file.entry)) }
+    ensures sound { OnOk result (use_fault (records_of file.entry) ≡ None) }
+    ensures fault { IfErr result (OrNoMemory (λ fault. use_fault (records_of file.entry) ≡ Some fault)) }
 {
     let within = file.within;
     let start = within.end.start;
