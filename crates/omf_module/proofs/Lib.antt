@@ -7,6 +7,8 @@ pub mod CommonLemmas
 pub mod FollowLemmas
 pub mod WithinLemmas
 pub mod UseLemmas
+pub mod UsedLemmas
+pub mod FileLemmas
 pub mod KeepsLemmas
 pub mod RuleLemmas
 pub mod PatchLemmas

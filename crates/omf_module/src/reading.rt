@@ -13,7 +13,7 @@ use crate::fault::{Cause, ModuleFault};
 use crate::gathering::{externals_of, publics_of, segments_in};
 use crate::modules::Module;
 use crate::parts::Parts;
-use crate::records::{ModuleFile, PlacedBody};
+use crate::records::{ModuleFile, PlacedBody, Within};
 use crate::symbols::Common;
 use crate::uses::{contents_of, look_at_header, look_at_start};
 use crate::within::records_at;
@@ -74,15 +74,20 @@ fn parts_of(alloc: Global, file: ModuleFile) -> Result<Parts, ModuleFault>
     ensures sound { OnOk result (use_fault (records_of file.entry) ≡ None) }
     ensures fault { IfErr result (OrNoMemory (λ fault. use_fault (records_of file.entry) ≡ Some fault)) }
 {
-    let within = file.within;
-    let start = within.end.start;
-    let parts = without_contents(alloc, &file.header, &within.bodies, within.commons, start)?;
-    if let Err(why) = look_at_header(&parts, &file.header) {
-        return Err(why.at(file.at));
+    let ModuleFile { at, header, within } = file;
+    let Within {
+        bodies,
+        commons,
+        end_at,
+        end,
+    } = within;
+    let parts = without_contents(alloc, &header, &bodies, commons, end.start)?;
+    if let Err(why) = look_at_header(&parts, &header) {
+        return Err(why.at(at));
     }
-    let contents = contents_of(alloc, &parts, &within.bodies)?;
-    if let Err(why) = look_at_start(&parts, start) {
-        return Err(why.at(within.end_at));
+    let contents = contents_of(alloc, &parts, &bodies)?;
+    if let Err(why) = look_at_start(&parts, end.start) {
+        return Err(why.at(end_at));
     }
     Ok(Parts { contents, ..parts })
 }
@@ -106,4 +111,24 @@ fn ends_file(bytes: &[u8], at: usize) -> bool
         Ok((record, _)) => record.kind == END_OF_FILE,
         Err(_) => false,
     }
+}
+
+/// The modules of a file, up to the record that ends it.
+fn modules_of(alloc: Global, bytes: &[u8]) -> Result<Vec<Module>, ModuleFault>
+    ensures read { IfOk result (λ modules. SpellsFile bytes.now modules.items) }
+    ensures fault { IfErr result (OrNoMemory (FaultsFile bytes.now)) }
+{
+    let (first, after) = module_at(alloc, bytes, 0)?;
+    let mut modules = Vec::new(alloc);
+    modules.push(first)?;
+    let mut at = after;
+    while !ends_file(bytes, at) {
+        if bytes.len() <= at {
+            return Err(Cause::NoEnd.at(at));
+        }
+        let (module, after) = module_at(alloc, bytes, at)?;
+        modules.push(module)?;
+        at = after;
+    }
+    Ok(modules)
 }
