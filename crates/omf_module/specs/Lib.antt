@@ -8,6 +8,8 @@ pub mod Records
 pub mod Gathered
 pub mod Uses
 pub mod Spelled
+pub mod Writing
+pub mod WritingLaws
 pub mod Place
 pub mod Patches
 pub mod ImageByte
