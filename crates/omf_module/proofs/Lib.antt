@@ -7,3 +7,5 @@ pub mod PatchLemmas
 pub mod WorkedPlaces
 pub mod PatchingLemmas
 pub mod PatchedTwice
+pub mod WrittenSpelled
+pub mod WrittenPasses

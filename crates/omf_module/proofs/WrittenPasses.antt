@@ -1,0 +1,140 @@
+-- Of the records that are written of a sound module each may follow those before it, uses nothing that isn't there, and its
+-- contents are said again.
+use Rattle.std.proofs.Common.{◌≡◌, ℕ, ◌+◌, Bool, true, false, ◌&&◌, List, [], ◌∷◌, ◌++◌, length, map, Option, Some, None, refl, sym, ap, ◌∙◌, subst, arith, append_assoc, inl, inr}
+use Rattle.std.specs.Prelude.{not, ◌==◌, nat_le, nat_lt, if◌then◌else◌, option_map}
+use Rattle.std.specs.List.{flat_map, list_all}
+use Rattle.std.specs.Option.{option_or, option_to_list}
+use Rattle.std.proofs.lemmas.Bool.{and_parts, le-ltb, leb-true}
+use Rattle.std.proofs.lemmas.Bool.Decides.{eqb_tells}
+use Rattle.std.proofs.lemmas.List.{append-nil}
+use Rattle.omf_body.specs.declared.field.Field.{Field}
+use Rattle.omf_body.specs.declared.body.Body.{Body}
+use Rattle.omf_body.specs.Bodies.{record_bytes}
+use Rattle.omf_module.specs.declared.symbols.Common.{Common}
+use Rattle.omf_module.specs.declared.symbols.Public.{Public}
+use Rattle.omf_module.specs.declared.fault.Cause.{Cause}
+use Rattle.omf_module.specs.declared.fault.Cause.TheVariants.{SegmentUnknown, OffsetOutside, FixupOutside, FixupTwice, IndexUnknown}
+use Rattle.omf_module.specs.declared.fault.ModuleFault.{ModuleFault}
+use Rattle.omf_module.specs.declared.fixup.Fixup.{Fixup}
+use Rattle.omf_module.specs.declared.fixup.Target.{Target}
+use Rattle.omf_module.specs.declared.fixup.Target.TheVariants as target
+use Rattle.omf_module.specs.Contents.{ContentValue, is_inside, shares_a_byte}
+use Rattle.omf_module.specs.Segments.{has_segment}
+use Rattle.omf_module.specs.Modules.{ModuleValue}
+use Rattle.omf_module.specs.Rules.{each_after, is_new_common, is_fitting, has_target, end_of, lies_within, is_placed, has_fitting, is_content as is_sound_content}
+use Rattle.omf_module.specs.Records.{commons_in, may_follow, each_follows}
+use Rattle.omf_module.specs.Gathered.{fixups_in, with_fixups, content_after, is_content, contents_from}
+use Rattle.omf_module.specs.Uses.{unknown_id, place_fault, lacks_external, fixup_fault, fixups_fault, body_fault, fault_by, bodies_fault}
+use Rattle.omf_module.specs.Writing.{common_body, public_body, external_body, fixup_by, fixup_body, content_body, content_bodies}
+use Rattle.omf_module.proofs.WrittenSpelled.{placed_after}
+
+-- What comes of bodies in a module, after records that declare these commons and have this nearest content: none of them has a
+-- fault, each may follow, and they say these contents.
+pub record Passes (m : ModuleValue) (commons : List Common) (nearest : Option ContentValue) (bodies : List Body) (contents : List ContentValue) : Type 0 where
+  pub used : (before : List ℕ) → bodies_fault m nearest (placed_after before bodies) ≡ None
+  pub follow : (before : List ℕ) → each_follows commons (placed_after before bodies) ≡ true
+  pub said : (before : List ℕ) → contents_from nearest (placed_after before bodies) ≡ contents
+
+-- what comes of one body
+record Passed (m : ModuleValue) (commons : List Common) (nearest : Option ContentValue) (body : Body) (declared : List Common) (after : Option ContentValue) : Type 0 where
+  pub used : body_fault m nearest body ≡ None
+  pub follow : may_follow commons body ≡ true
+  pub declares : commons ++ commons_in body ≡ declared
+  pub next : content_after nearest body ≡ after
+
+and_join : (a b : Bool) → a ≡ true → b ≡ true → (a && b) ≡ true
+and_join true b e f = f
+and_join false b e f = absurd cc
+
+pub passes_none : (m : ModuleValue) (commons : List Common) (nearest : Option ContentValue) → Passes m commons nearest [] (option_to_list nearest)
+passes_none m commons nearest = record { used = λ before. refl; follow = λ before. refl; said = λ before. refl }
+
+abbrev cut : Option ContentValue → Body → List ContentValue
+cut nearest body = if is_content body then option_to_list nearest else []
+
+passes_more : (m : ModuleValue) (commons declared : List Common) (nearest after : Option ContentValue) (body : Body) (bodies : List Body) (contents : List ContentValue)
+    → Passed m commons nearest body declared after → Passes m declared after bodies contents → Passes m commons nearest (body ∷ bodies) (cut nearest body ++ contents)
+passes_more m commons declared nearest after body bodies contents one others = record {
+  used = λ before.
+      let rest = placed_after (before ++ record_bytes body) bodies in
+      ap (λ (o : Option Cause). option_or (option_map (fault_by (length before)) o) (bodies_fault m (content_after nearest body) rest)) one.used
+      ∙ (ap (λ (c : Option ContentValue). bodies_fault m c rest) one.next ∙ others.used (before ++ record_bytes body));
+  follow = λ before.
+      let rest = placed_after (before ++ record_bytes body) bodies in
+      and_join (may_follow commons body) (each_follows (commons ++ commons_in body) rest) one.follow
+      (ap (λ (cs : List Common). each_follows cs rest) one.declares ∙ others.follow (before ++ record_bytes body));
+  said = λ before.
+      let rest = placed_after (before ++ record_bytes body) bodies in
+      ap (λ (c : Option ContentValue). cut nearest body ++ contents_from c rest) one.next
+      ∙ ap (λ (cs : List ContentValue). cut nearest body ++ cs) (others.said (before ++ record_bytes body));
+}
+
+-- ---- commons, publics and externals
+
+pub commons_pass : (m : ModuleValue) (before cs : List Common) (bodies : List Body) (contents : List ContentValue) → each_after is_new_common before cs ≡ true
+    → Passes m (before ++ cs) None bodies contents → Passes m before None (map common_body cs ++ bodies) contents
+commons_pass m before [] bodies contents new others = subst (λ (k : List Common). Passes m k None bodies contents) (append-nil before) others
+commons_pass m before (c ∷ cs) bodies contents new others =
+    let p = and_parts (is_new_common before c) (each_after is_new_common (before ++ c ∷ []) cs) new in
+    passes_more m before (before ++ c ∷ []) None None (common_body c) (map common_body cs ++ bodies) contents
+    record { used = refl; follow = and_join (is_new_common before c) true p.0 refl; declares = refl; next = refl }
+    (commons_pass m (before ++ c ∷ []) cs bodies contents p.1 (subst (λ (k : List Common). Passes m k None bodies contents) (sym (append_assoc before (c ∷ []) cs)) others))
+
+known : (m : ModuleValue) (id : ℕ) → has_segment m.commons id ≡ true → unknown_id m (id ∷ []) ≡ None
+known m id has = ap (λ (b : Bool). if b then None else Some (SegmentUnknown id)) has
+
+pub publics_pass : (m : ModuleValue) (commons : List Common) (ps : List Public) (bodies : List Body) (contents : List ContentValue) → list_all (λ p. has_segment m.commons p.segment) ps ≡ true
+    → Passes m commons None bodies contents → Passes m commons None (map public_body ps ++ bodies) contents
+publics_pass m commons [] bodies contents has others = others
+publics_pass m commons (p ∷ ps) bodies contents has others =
+    let q = and_parts (has_segment m.commons p.segment) (list_all (λ r. has_segment m.commons r.segment) ps) has in
+    passes_more m commons commons None None (public_body p) (map public_body ps ++ bodies) contents
+    record { used = ap (λ (o : Option Cause). option_or o None) (known m p.segment q.0); follow = refl; declares = append-nil commons; next = refl }
+    (publics_pass m commons ps bodies contents q.1 others)
+
+pub externals_pass : (m : ModuleValue) (commons : List Common) (xs : List (List ℕ)) (bodies : List Body) (contents : List ContentValue)
+    → Passes m commons None bodies contents → Passes m commons None (map external_body xs ++ bodies) contents
+externals_pass m commons [] bodies contents others = others
+externals_pass m commons (x ∷ xs) bodies contents others =
+    passes_more m commons commons None None (external_body x) (map external_body xs ++ bodies) contents
+    record { used = refl; follow = refl; declares = append-nil commons; next = refl }
+    (externals_pass m commons xs bodies contents others)
+
+-- ---- a fixup
+
+off_by_not : (b : Bool) → not b ≡ true → b ≡ false
+off_by_not true e = absurd cc
+off_by_not false e = refl
+
+test_on : {A : Type 0} (b : Bool) (x y : A) → b ≡ true → (if b then x else y) ≡ x
+test_on true x y e = refl
+test_on false x y e = absurd cc
+
+test_off : {A : Type 0} (b : Bool) (x y : A) → b ≡ false → (if b then x else y) ≡ y
+test_off true x y e = absurd cc
+test_off false x y e = refl
+
+lacks_none : (m : ModuleValue) (to : Target) → has_target m.commons (length m.externals) to ≡ true → lacks_external m to ≡ false
+lacks_none m (target.Segment id) has = refl
+lacks_none m (target.External index) has = ap not has
+
+fixup_fits : (m : ModuleValue) (c : ContentValue) (f : Fixup) → is_fitting m.commons (length m.externals) c.offset (length c.bytes) c.fixups f ≡ true → fixups_fault m c (f ∷ []) ≡ None
+fixup_fits m c f fit =
+    let p = and_parts (is_inside c.offset (length c.bytes) f && not (shares_a_byte c.fixups f)) (has_target m.commons (length m.externals) f.target) fit in
+    let q = and_parts (is_inside c.offset (length c.bytes) f) (not (shares_a_byte c.fixups f)) p.0 in
+    let inside : not (is_inside c.offset (length c.bytes) f) ≡ false = ap not q.0 in
+    let lacks = if lacks_external m f.target then Some IndexUnknown else None in
+    let twice = if shares_a_byte c.fixups f then Some FixupTwice else lacks in
+    ap (λ (o : Option Cause). option_or o None)
+    (test_off (not (is_inside c.offset (length c.bytes) f)) (Some FixupOutside) twice inside
+    ∙ (test_off (shares_a_byte c.fixups f) (Some FixupTwice) lacks (off_by_not (shares_a_byte c.fixups f) q.1)
+    ∙ test_off (lacks_external m f.target) (Some IndexUnknown) None (lacks_none m f.target p.1)))
+
+abbrev fixup_at : Field → ℕ → Target → Fixup
+fixup_at field offset to = record { offset = offset; field = field; target = to }
+
+-- what comes of a body that says one fixup in the nearest content
+record Fixed (m : ModuleValue) (commons : List Common) (c : ContentValue) (f : Fixup) (body : Body) : Type 0 where
+  pub passed : Passed m commons (Some c) body commons (Some (with_fixups c (f ∷ [])))
+  pub none : is_content body ≡ false
+
