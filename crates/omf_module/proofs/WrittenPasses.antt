@@ -9,6 +9,7 @@ use Rattle.std.proofs.lemmas.Bool.Decides.{eqb_tells}
 use Rattle.std.proofs.lemmas.List.{append-nil}
 use Rattle.omf_body.specs.declared.field.Field.{Field}
 use Rattle.omf_body.specs.declared.body.Body.{Body}
+use Rattle.omf_body.specs.declared.body.Body.TheVariants.{ExternalReferences, Relocation, IntersegmentReferences}
 use Rattle.omf_body.specs.Bodies.{record_bytes}
 use Rattle.omf_module.specs.declared.symbols.Common.{Common}
 use Rattle.omf_module.specs.declared.symbols.Public.{Public}
@@ -24,7 +25,7 @@ use Rattle.omf_module.specs.Modules.{ModuleValue}
 use Rattle.omf_module.specs.Rules.{each_after, is_new_common, is_fitting, has_target, end_of, lies_within, is_placed, has_fitting, is_content as is_sound_content}
 use Rattle.omf_module.specs.Records.{commons_in, may_follow, each_follows}
 use Rattle.omf_module.specs.Gathered.{fixups_in, with_fixups, content_after, is_content, contents_from}
-use Rattle.omf_module.specs.Uses.{unknown_id, place_fault, lacks_external, fixup_fault, fixups_fault, body_fault, fault_by, bodies_fault}
+use Rattle.omf_module.specs.Uses.{unknown_id, place_fault, lacks_external, fixup_fault, fixups_fault, reference_fault, body_fault, fault_by, bodies_fault}
 use Rattle.omf_module.specs.Writing.{common_body, public_body, external_body, fixup_by, fixup_body, content_body, content_bodies}
 use Rattle.omf_module.proofs.WrittenSpelled.{placed_after}
 
@@ -138,3 +139,103 @@ record Fixed (m : ModuleValue) (commons : List Common) (c : ContentValue) (f : F
   pub passed : Passed m commons (Some c) body commons (Some (with_fixups c (f ∷ [])))
   pub none : is_content body ≡ false
 
+
+own_fixed : (m : ModuleValue) (commons : List Common) (c : ContentValue) (field : Field) (offset id : ℕ) → c.segment ≡ id
+    → fixups_fault m c (fixup_at field offset (target.Segment id) ∷ []) ≡ None
+    → Fixed m commons c (fixup_at field offset (target.Segment id)) (Relocation (record { field = field; references = record { offset = offset } ∷ [] }))
+own_fixed m commons c field offset id same fit = record {
+  passed = record {
+    used = ap (λ (i : ℕ). fixups_fault m c (fixup_at field offset (target.Segment i) ∷ [])) same ∙ fit;
+    follow = refl;
+    declares = append-nil commons;
+    next = ap (λ (i : ℕ). Some (with_fixups c (fixup_at field offset (target.Segment i) ∷ []))) same;
+  };
+  none = refl;
+}
+
+other_fixed : (m : ModuleValue) (commons : List Common) (c : ContentValue) (field : Field) (offset id : ℕ) → has_segment m.commons id ≡ true
+    → fixups_fault m c (fixup_at field offset (target.Segment id) ∷ []) ≡ None
+    → Fixed m commons c (fixup_at field offset (target.Segment id)) (IntersegmentReferences (record { segment = id; field = field; references = record { offset = offset } ∷ [] }))
+other_fixed m commons c field offset id has fit = record {
+  passed = record {
+    used = ap (λ (o : Option Cause). option_or o (fixups_fault m c (fixup_at field offset (target.Segment id) ∷ []))) (known m id has) ∙ fit;
+    follow = refl;
+    declares = append-nil commons;
+    next = refl;
+  };
+  none = refl;
+}
+
+fixed_by : {A : Type 0} (P : A → Type 0) (b : Bool) (x y : A) → (b ≡ true → P x) → P y → P (if b then x else y)
+fixed_by P true x y own other = own refl
+fixed_by P false x y own other = other
+
+same_id : (id own : ℕ) → (id == own) ≡ true → own ≡ id
+same_id id own e =
+    elim (eqb_tells id own) [
+      | inl is ↦ sym is.1
+      | inr off ↦ absurd cc
+    ]
+
+fixed : (m : ModuleValue) (commons : List Common) (c : ContentValue) (field : Field) (offset : ℕ) (to : Target)
+    → is_fitting m.commons (length m.externals) c.offset (length c.bytes) c.fixups (fixup_at field offset to) ≡ true
+    → Fixed m commons c (fixup_at field offset to) (fixup_by c.segment field offset to)
+fixed m commons c field offset (target.Segment id) fits =
+    let f = fixup_at field offset (target.Segment id) in
+    let p = and_parts (is_inside c.offset (length c.bytes) f && not (shares_a_byte c.fixups f)) (has_segment m.commons id) fits in
+    fixed_by (Fixed m commons c f) (id == c.segment) (Relocation (record { field = field; references = record { offset = offset } ∷ [] })) (IntersegmentReferences (record { segment = id; field = field; references = record { offset = offset } ∷ [] }))
+    (λ same. own_fixed m commons c field offset id (same_id id c.segment same) (fixup_fits m c f fits)) (other_fixed m commons c field offset id p.1 (fixup_fits m c f fits))
+fixed m commons c field offset (target.External index) fits = record {
+  passed = record { used = fixup_fits m c (fixup_at field offset (target.External index)) fits; follow = refl; declares = append-nil commons; next = refl };
+  none = refl;
+}
+
+-- ---- contents
+
+fixups_pass : (m : ModuleValue) (commons : List Common) (c : ContentValue) (fs : List Fixup) (bodies : List Body) (contents : List ContentValue)
+    → each_after (is_fitting m.commons (length m.externals) c.offset (length c.bytes)) c.fixups fs ≡ true
+    → Passes m commons (Some (with_fixups c fs)) bodies contents → Passes m commons (Some c) (map (fixup_body c.segment) fs ++ bodies) contents
+fixups_pass m commons c [] bodies contents fit others =
+    subst (λ (fixups : List Fixup). Passes m commons (Some (record c { fixups = fixups })) bodies contents) (append-nil c.fixups) others
+fixups_pass m commons c (f ∷ fs) bodies contents fit others =
+    let fits = is_fitting m.commons (length m.externals) c.offset (length c.bytes) in
+    let p = and_parts (is_fitting m.commons (length m.externals) c.offset (length c.bytes) c.fixups f) (each_after (is_fitting m.commons (length m.externals) c.offset (length c.bytes)) (c.fixups ++ f ∷ []) fs) fit in
+    let one = fixed m commons c f.field f.offset f.target p.0 in
+    let last = fixups_pass m commons (with_fixups c (f ∷ [])) fs bodies contents p.1
+        (subst (λ (fixups : List Fixup). Passes m commons (Some (record c { fixups = fixups })) bodies contents) (sym (append_assoc c.fixups (f ∷ []) fs)) others) in
+    subst (λ (b : Bool). Passes m commons (Some c) (map (fixup_body c.segment) (f ∷ fs) ++ bodies) ((if b then c ∷ [] else []) ++ contents)) one.none
+    (passes_more m commons commons (Some c) (Some (with_fixups c (f ∷ []))) (fixup_body c.segment f) (map (fixup_body c.segment) fs ++ bodies) contents one.passed last)
+
+fits_within : (m : ModuleValue) (c : ContentValue) → lies_within m.segments m.commons c ≡ true → place_fault m (content_body c) ≡ None
+fits_within m c lies =
+    let b = and_parts (has_segment m.commons c.segment && not (c.segment == 3)) (nat_le (c.offset + length c.bytes) (end_of m.segments c.segment)) lies in
+    let d = and_parts (has_segment m.commons c.segment) (not (c.segment == 3)) b.0 in
+    let outside = if nat_lt (end_of m.segments c.segment) (c.offset + length c.bytes) then Some OffsetOutside else None in
+    test_off (c.segment == 3) (Some (SegmentUnknown 3)) outside (off_by_not (c.segment == 3) d.1)
+    ∙ test_off (nat_lt (end_of m.segments c.segment) (c.offset + length c.bytes)) (Some OffsetOutside) None
+      (le-ltb (end_of m.segments c.segment) (c.offset + length c.bytes) (leb-true (c.offset + length c.bytes) (end_of m.segments c.segment) b.1))
+
+refers_to_none : (m : ModuleValue) (nearest : Option ContentValue) (c : ContentValue) → reference_fault m nearest (content_body c) ≡ None
+refers_to_none m None c = refl
+refers_to_none m (Some d) c = refl
+
+content_used : (m : ModuleValue) (nearest : Option ContentValue) (c : ContentValue) → is_placed m.segments m.commons c ≡ true → body_fault m nearest (content_body c) ≡ None
+content_used m nearest c placed =
+    let a = and_parts (lies_within m.segments m.commons c) (nat_le (length c.bytes) 65531) placed in
+    let b = and_parts (has_segment m.commons c.segment && not (c.segment == 3)) (nat_le (c.offset + length c.bytes) (end_of m.segments c.segment)) a.0 in
+    let d = and_parts (has_segment m.commons c.segment) (not (c.segment == 3)) b.0 in
+    ap (λ (o : Option Cause). option_or o (option_or (place_fault m (content_body c)) (reference_fault m nearest (content_body c)))) (known m c.segment d.0)
+    ∙ (ap (λ (o : Option Cause). option_or o (reference_fault m nearest (content_body c))) (fits_within m c a.0) ∙ refers_to_none m nearest c)
+
+abbrev unreferred : ContentValue → ContentValue
+unreferred c = record c { fixups = [] }
+
+pub contents_pass : (m : ModuleValue) (commons : List Common) (nearest : Option ContentValue) (cs : List ContentValue) → list_all (is_sound_content m.segments m.commons (length m.externals)) cs ≡ true
+    → Passes m commons nearest (flat_map content_bodies cs) (option_to_list nearest ++ cs)
+contents_pass m commons nearest [] sound = subst (Passes m commons nearest []) (sym (append-nil (option_to_list nearest))) (passes_none m commons nearest)
+contents_pass m commons nearest (c ∷ cs) sound =
+    let p = and_parts (is_sound_content m.segments m.commons (length m.externals) c) (list_all (is_sound_content m.segments m.commons (length m.externals)) cs) sound in
+    let q = and_parts (is_placed m.segments m.commons c) (has_fitting m.commons (length m.externals) c) p.0 in
+    passes_more m commons commons nearest (Some (unreferred c)) (content_body c) (map (fixup_body c.segment) c.fixups ++ flat_map content_bodies cs) (c ∷ cs)
+    record { used = content_used m nearest c q.0; follow = refl; declares = append-nil commons; next = refl }
+    (fixups_pass m commons (unreferred c) c.fixups (flat_map content_bodies cs) (c ∷ cs) q.1 (contents_pass m commons (Some c) cs p.1))
