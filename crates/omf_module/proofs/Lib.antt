@@ -9,3 +9,4 @@ pub mod PatchingLemmas
 pub mod PatchedTwice
 pub mod WrittenSpelled
 pub mod WrittenPasses
+pub mod WrittenSound

@@ -43,7 +43,7 @@ record Passed (m : ModuleValue) (commons : List Common) (nearest : Option Conten
   pub declares : commons ++ commons_in body ≡ declared
   pub next : content_after nearest body ≡ after
 
-and_join : (a b : Bool) → a ≡ true → b ≡ true → (a && b) ≡ true
+pub and_join : (a b : Bool) → a ≡ true → b ≡ true → (a && b) ≡ true
 and_join true b e f = f
 and_join false b e f = absurd cc
 
@@ -166,7 +166,7 @@ other_fixed m commons c field offset id has fit = record {
   none = refl;
 }
 
-fixed_by : {A : Type 0} (P : A → Type 0) (b : Bool) (x y : A) → (b ≡ true → P x) → P y → P (if b then x else y)
+pub fixed_by : {A : Type 0} (P : A → Type 0) (b : Bool) (x y : A) → (b ≡ true → P x) → P y → P (if b then x else y)
 fixed_by P true x y own other = own refl
 fixed_by P false x y own other = other
 
