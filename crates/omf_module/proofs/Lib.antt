@@ -10,3 +10,4 @@ pub mod PatchedTwice
 pub mod WrittenSpelled
 pub mod WrittenPasses
 pub mod WrittenSound
+pub mod WrittenSays
