@@ -11,3 +11,4 @@ pub mod WrittenSpelled
 pub mod WrittenPasses
 pub mod WrittenSound
 pub mod WrittenSays
+pub mod WrittenModule

@@ -28,8 +28,8 @@ use Rattle.omf_module.specs.Contents.{ContentValue}
 use Rattle.omf_module.specs.Segments.{has_segment}
 use Rattle.omf_module.specs.Modules.{ModuleValue}
 use Rattle.omf_module.specs.Rules.{is_start, IsModule}
-use Rattle.omf_module.specs.Records.{commons_in, ModuleRecords}
-use Rattle.omf_module.specs.Gathered.{segments_in, publics_in, externals_in, start_in, parts_of}
+use Rattle.omf_module.specs.Records.{commons_in, commons_of, ModuleRecords}
+use Rattle.omf_module.specs.Gathered.{segments_in, publics_in, externals_in, contents_from, start_in, parts_of}
 use Rattle.omf_module.specs.Uses.{unknown_id, fault_by, header_fault, bodies_fault, end_fault, use_fault}
 use Rattle.omf_module.specs.Writing.{segment_entry, header_body, common_body, public_body, external_body, fixup_by, fixup_body, content_body, content_bodies, place_of, end_body, bodies_within}
 use Rattle.omf_module.proofs.WrittenSpelled.{placed_after}
@@ -58,8 +58,8 @@ record OfNone {A : Type 0} (f : Body → List A) : Type 0 where
 
 none_by : {A : Type 0} (f : Body → List A) (own : ℕ) (field : Field) (offset : ℕ) (to : Target) → OfNone f → f (fixup_by own field offset to) ≡ []
 none_by f own field offset (target.Segment id) none =
-    let relocation = record { field = field; references = record { offset = offset } ∷ [] } in
-    let intersegment = record { segment = id; field = field; references = record { offset = offset } ∷ [] } in
+    let relocation : RelocationBody = record { field = field; references = record { offset = offset } ∷ [] } in
+    let intersegment : IntersegmentBody = record { segment = id; field = field; references = record { offset = offset } ∷ [] } in
     fixed_by (λ (b : Body). f b ≡ []) (id == own) (Relocation relocation) (IntersegmentReferences intersegment) (λ same. none.own relocation) (none.other intersegment)
 none_by f own field offset (target.External index) none = none.external (record { field = field; references = record { index = index; offset = offset } ∷ [] })
 
@@ -116,6 +116,10 @@ externals_again m before =
 
 -- ---- all that the records say
 
+abbrev parts_by : List ℕ → List (ℕ × Segment) → List Common → List Public → List (List ℕ) → List ContentValue → Option (ℕ × ℕ) → ModuleValue
+parts_by name segments commons publics externals contents start =
+    record { name = name; segments = segments; commons = commons; publics = publics; externals = externals; contents = contents; start = start }
+
 -- the records of a module, where they stand after these bytes
 abbrev pub records_after : ModuleValue → List ℕ → ℕ → ℕ → ModuleRecords
 records_after m front at end_at = record { at = at; header = header_body m; within = placed_after front (bodies_within m); end_at = end_at; end = end_body m.start }
@@ -131,16 +135,22 @@ within_passes m is =
     (sym (append_assoc (map common_body m.commons) (map public_body m.publics) (map external_body m.externals ++ flat_map content_bodies m.contents))
     ∙ sym (append_assoc (map common_body m.commons ++ map public_body m.publics) (map external_body m.externals) (flat_map content_bodies m.contents))) all
 
+same_parts : (name : List ℕ) (start : Option (ℕ × ℕ)) (segments segments' : List (ℕ × Segment)) (commons commons' : List Common) (publics publics' : List Public) (externals externals' : List (List ℕ)) (contents contents' : List ContentValue) (start' : Option (ℕ × ℕ))
+    → segments ≡ segments' → commons ≡ commons' → publics ≡ publics' → externals ≡ externals' → contents ≡ contents' → start ≡ start'
+    → parts_by name segments commons publics externals contents start ≡ parts_by name segments' commons' publics' externals' contents' start'
+same_parts name start s s' c c' p p' x x' t t' start' es ec ep ex et e =
+    ap (λ v. parts_by name v c p x t start) es
+    ∙ (ap (λ v. parts_by name s' v p x t start) ec
+    ∙ (ap (λ v. parts_by name s' c' v x t start) ep
+    ∙ (ap (λ v. parts_by name s' c' p' v t start) ex
+    ∙ (ap (λ v. parts_by name s' c' p' x' v start) et
+    ∙ ap (λ v. parts_by name s' c' p' x' t' v) e))))
+
 pub says_module : (m : ModuleValue) (front : List ℕ) (at end_at : ℕ) → IsModule m → parts_of (records_after m front at end_at) ≡ m
 says_module m front at end_at is =
-    let name = m.name in
-    let segments = segments_again m.segments in
-    let commons = commons_again m front in
-    let publics = publics_again m front in
-    let externals = externals_again m front in
-    let contents = (within_passes m is).said front in
-    let start = start_again m.start in
-    cc
+    let r = records_after m front at end_at in
+    same_parts m.name (start_in r.end) (segments_in r.header) m.segments (commons_of r.within) m.commons (flat_map (λ p. publics_in p.body) r.within) m.publics (flat_map (λ p. externals_in p.body) r.within) m.externals (contents_from None r.within) m.contents m.start
+    (segments_again m.segments) (commons_again m front) (publics_again m front) (externals_again m front) ((within_passes m is).said front) (start_again m.start)
 
 -- ---- all that the records use
 
