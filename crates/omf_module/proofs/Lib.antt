@@ -11,4 +11,5 @@ pub mod WrittenSpelled
 pub mod WrittenPasses
 pub mod WrittenSound
 pub mod WrittenSays
+pub mod WritingLemmas
 pub mod WrittenModule

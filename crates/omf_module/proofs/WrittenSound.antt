@@ -72,13 +72,18 @@ name_short name is =
     let p = and_parts (nat_le 1 (length name) && nat_le (length name) 255) (list_all is_name_byte name) is in
     leb-true (length name) 255 (and_parts (nat_le 1 (length name)) (nat_le (length name) 255) p.0).1
 
+pub header_short : (name : List ℕ) (segments : List (ℕ × Segment)) → is_name name ≡ true → length segments ≤ 255
+    → length (name_spelling name ++ 0 ∷ 0 ∷ flat_map segment_bytes (map segment_entry segments)) ≤ 65534
+header_short name segments is few =
+    omega (arith, few, name_short name is, segments_length segments, length-append (name_spelling name) (0 ∷ 0 ∷ flat_map segment_bytes (map segment_entry segments)))
+
 header_fits : (m : ModuleValue) → m.segments ≡ in_one_form m.segments m.commons → is_name m.name ≡ true → Fits (ModuleHeader (header_body m))
 header_fits m form name =
     let few : length m.segments ≤ 255 = subst (λ (ss : List (ℕ × Segment)). length ss ≤ 255) (sym form) (one_form_few m.segments m.commons) in
     record {
       sound = and_join (is_name m.name) (are_distinct (map segment_entry m.segments)) name
           (subst (λ (ss : List (ℕ × Segment)). are_distinct (map segment_entry ss) ≡ true) (sym form) (one_form_distinct m.segments m.commons));
-      short = omega (arith, few, name_short m.name name, segments_length m.segments, length-append (name_spelling m.name) (0 ∷ 0 ∷ flat_map segment_bytes (map segment_entry m.segments)));
+      short = header_short m.name m.segments name few;
     }
 
 -- ---- one record

@@ -239,14 +239,15 @@ fn append_contents(
 /// Appends the records of the module, or some of them where memory ends.
 fn append_module(alloc: Global, source: &Module, out: &mut Vec<u8>) -> Result<(), AllocError>
     ensures written { OnOk result (out.new.items ≡ out.old.items ++ module_bytes source.now) }
-    ensures rules { IsModule source.now }
+    ensures rules { OnOk result (IsModule source.now) }
 {
     append_header(alloc, source, out)?;
     append_commons(alloc, source.commons(), out)?;
     append_publics(alloc, source.publics(), out)?;
     append_externals(alloc, source.externals(), out)?;
     append_contents(alloc, source.contents(), out)?;
-    append_end(alloc, source.start(), out)
+    append_end(alloc, source.start(), out)?;
+    Ok(())
 }
 
 /// Appends the records of one module to `out`, which grows by its own allocator: a header with its segments in ascending
@@ -257,13 +258,28 @@ fn append_module(alloc: Global, source: &Module, out: &mut Vec<u8>) -> Result<()
 /// `AllocError` only where there is no memory; `out` is then unchanged.
 pub fn write_module(alloc: Global, source: &Module, out: &mut Vec<u8>) -> Result<(), AllocError>
     ensures written { OnOk result (out.new.items ≡ out.old.items ++ module_bytes source.now) }
-    ensures read { IsReadAgain source.now }
+    ensures read { OnOk result (IsReadAgain source.now) }
     ensures refused { OnErr result (out.new.items ≡ out.old.items) }
 {
     written_module_is_spelled();
     let mut records = Vec::new(alloc);
     append_module(alloc, source, &mut records)?;
     out.extend_from_slice(&records)
+}
+
+/// The object file of these modules.
+#[tactic(auto, unfolding(crate::specs::Writing::file_bytes))]
+fn file_of(alloc: Global, modules: &[Module]) -> Result<Vec<u8>, AllocError>
+    ensures written { IfOk result (λ file. file.items ≡ file_bytes modules.now) }
+    ensures rules { OnOk result (AllByRecursion IsModule modules.now) }
+{
+    let mut file = Vec::new(alloc);
+    for module in modules {
+        append_module(alloc, module, &mut file)?;
+    }
+    let end = RecordKind::EndOfFile.byte();
+    of_fitting(put_record(alloc, end, &[], &mut file))?;
+    Ok(file)
 }
 
 /// Appends the object file of these modules to `out`, which grows by its own allocator: the records of each, as
@@ -278,15 +294,6 @@ pub fn write_file(alloc: Global, modules: &[Module], out: &mut Vec<u8>) -> Resul
     ensures refused { OnErr result (out.new.items ≡ out.old.items) }
 {
     written_file_is_spelled();
-    let mut file = Vec::new(alloc);
-    for module in modules {
-        append_module(alloc, module, &mut file)?;
-    }
-    of_fitting(put_record(
-        alloc,
-        RecordKind::EndOfFile.byte(),
-        &[],
-        &mut file,
-    ))?;
+    let file = file_of(alloc, modules)?;
     out.extend_from_slice(&file)
 }
