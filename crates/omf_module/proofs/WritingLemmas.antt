@@ -20,8 +20,8 @@ pub header_fits : (name own : List ℕ) (entries : List SegmentEntry) (listed se
 header_fits name own entries listed segments en is ee el few long =
     let es : entries ≡ map segment_entry segments = ee ∙ ap (λ (l : List (ℕ × Segment)). map segment_entry l) el in
     let short : length (name_spelling name ++ 0 ∷ 0 ∷ flat_map segment_bytes entries) ≤ 65534 =
-        subst (λ (n : List ℕ). length (name_spelling n ++ 0 ∷ 0 ∷ flat_map segment_bytes entries) ≤ 65534) (sym en)
-        (subst (λ (xs : List SegmentEntry). length (name_spelling own ++ 0 ∷ 0 ∷ flat_map segment_bytes xs) ≤ 65534) (sym es) (header_short own segments is few)) in
+    subst (λ (n : List ℕ). length (name_spelling n ++ 0 ∷ 0 ∷ flat_map segment_bytes entries) ≤ 65534) (sym en)
+    (subst (λ (xs : List SegmentEntry). length (name_spelling own ++ 0 ∷ 0 ∷ flat_map segment_bytes xs) ≤ 65534) (sym es) (header_short own segments is few)) in
     omega arith
 
 more : (after before out : List ℕ) (bs cs : List Body) → after ≡ before ++ flat_map record_bytes cs → before ≡ out ++ flat_map record_bytes bs → after ≡ out ++ flat_map record_bytes (bs ++ cs)

@@ -1,24 +1,21 @@
 -- What is written of modules spells them, and so does a file.
-use Rattle.std.proofs.Common.{◌≡◌, ℕ, ◌+◌, ◌<◌, List, [], ◌∷◌, ◌++◌, length, refl, sym, ap, ◌∙◌, subst, arith, append_assoc}
+use Rattle.std.proofs.Common.{◌≡◌, ℕ, List, [], ◌∷◌, ◌++◌, length, refl, sym, ap, ◌∙◌, subst, arith, append_assoc}
 use Rattle.std.specs.List.{flat_map, AllByRecursion}
 use Rattle.std.proofs.lemmas.List.{append-nil, length-append}
 use Rattle.std.proofs.lemmas.Grind.{flat_map-append}
 use Rattle.omf_core.specs.Record.{SpellsRecord}
 use Rattle.omf_core.specs.Laws.{WrittenIsSpelled}
-use Rattle.omf_body.specs.declared.body.Body.{Body}
 use Rattle.omf_body.specs.declared.body.Body.TheVariants.{ModuleHeader, ModuleEnd, EndOfFile}
 use Rattle.omf_body.specs.Bodies.{record_bytes}
 use Rattle.omf_module.specs.declared.segment.Segment.{Segment}
 use Rattle.omf_module.specs.Modules.{ModuleValue, made_of}
 use Rattle.omf_module.specs.Rules.{IsModule}
-use Rattle.omf_module.specs.Records.{SpellsBody, SpellsBodies, SpellsModuleRecords}
-use Rattle.omf_module.specs.Gathered.{parts_of}
-use Rattle.omf_module.specs.Spelled.{SpellsModule, SpellsModules, SpellsFile, EndsFile}
+use Rattle.omf_module.specs.Records.{SpellsBody, SpellsBodies}
+use Rattle.omf_module.specs.Spelled.{SpellsModule, SpellsModules}
 use Rattle.omf_module.specs.Writing.{header_body, end_body, bodies_within, module_bytes, file_bytes}
 use Rattle.omf_module.specs.WritingLaws.{WrittenModuleIsSpelled, WrittenFileIsSpelled}
-use Rattle.omf_module.proofs.WrittenSpelled.{Fits, placed_after, one_spelled, bodies_spelled}
+use Rattle.omf_module.proofs.WrittenSpelled.{placed_after, one_spelled, bodies_spelled}
 use Rattle.omf_module.proofs.WrittenSound.{all_fit, end_fits}
-use Rattle.omf_module.proofs.WrittenPasses.{Passes}
 use Rattle.omf_module.proofs.WrittenSays.{records_after, within_passes, says_module, uses_none}
 
 three_joined : (before header within end : List ℕ) → before ++ header ++ within ++ end ≡ before ++ (header ++ (within ++ (end ++ [])))
@@ -49,14 +46,14 @@ spelled_in law m is before after header within end eh ew ee =
     let front = before ++ header in
     let fit = all_fit m is in
     let h : SpellsBody (before ++ header ++ (within ++ (end ++ after))) (length before) (length front) (ModuleHeader (header_body m)) =
-        subst (λ (bs : List ℕ). SpellsBody (before ++ bs ++ (within ++ (end ++ after))) (length before) (length (before ++ bs)) (ModuleHeader (header_body m))) (sym eh)
-        (one_spelled law before (within ++ (end ++ after)) (ModuleHeader (header_body m)) fit.header) in
+    subst (λ (bs : List ℕ). SpellsBody (before ++ bs ++ (within ++ (end ++ after))) (length before) (length (before ++ bs)) (ModuleHeader (header_body m))) (sym eh)
+    (one_spelled law before (within ++ (end ++ after)) (ModuleHeader (header_body m)) fit.header) in
     let w : SpellsBodies (front ++ within ++ (end ++ after)) (length front) (length (front ++ within)) (placed_after front (bodies_within m)) =
-        subst (λ (bs : List ℕ). SpellsBodies (front ++ bs ++ (end ++ after)) (length front) (length (front ++ bs)) (placed_after front (bodies_within m))) (sym ew)
-        (bodies_spelled law front (end ++ after) (bodies_within m) fit.within) in
+    subst (λ (bs : List ℕ). SpellsBodies (front ++ bs ++ (end ++ after)) (length front) (length (front ++ bs)) (placed_after front (bodies_within m))) (sym ew)
+    (bodies_spelled law front (end ++ after) (bodies_within m) fit.within) in
     let e : SpellsBody (front ++ within ++ end ++ after) (length (front ++ within)) (length (front ++ within ++ end)) (ModuleEnd (end_body m.start)) =
-        subst (λ (bs : List ℕ). SpellsBody (front ++ within ++ bs ++ after) (length (front ++ within)) (length (front ++ within ++ bs)) (ModuleEnd (end_body m.start))) (sym ee)
-        (one_spelled law (front ++ within) after (ModuleEnd (end_body m.start)) (end_fits m.start)) in
+    subst (λ (bs : List ℕ). SpellsBody (front ++ within ++ bs ++ after) (length (front ++ within)) (length (front ++ within ++ bs)) (ModuleEnd (end_body m.start))) (sym ee)
+    (one_spelled law (front ++ within) after (ModuleEnd (end_body m.start)) (end_fits m.start)) in
     record {
       records = records_after m front (length before) (length (front ++ within));
       begins = refl;
@@ -86,13 +83,14 @@ modules_spelled law before after (m ∷ ms) all =
     let rest = flat_map module_bytes ms in
     let front : before ++ module_bytes m ++ rest ≡ before ++ (module_bytes m ++ rest) = append_assoc before (module_bytes m) rest in
     let whole : before ++ module_bytes m ++ (rest ++ after) ≡ before ++ (module_bytes m ++ rest) ++ after =
-        sym (append_assoc (before ++ module_bytes m) rest after) ∙ ap (λ (bytes : List ℕ). bytes ++ after) front in
+    sym (append_assoc (before ++ module_bytes m) rest after) ∙ ap (λ (bytes : List ℕ). bytes ++ after) front in
     let one : SpellsModule (before ++ module_bytes m ++ (rest ++ after)) (length before) (length (before ++ module_bytes m)) m =
-        subst (λ (to : ℕ). SpellsModule (before ++ module_bytes m ++ (rest ++ after)) (length before) to m) (sym (length-append before (module_bytes m))) (law m all.0 before (rest ++ after)) in
-    (length (before ++ module_bytes m),
-        subst (λ (bytes : List ℕ). SpellsModule bytes (length before) (length (before ++ module_bytes m)) m) whole one,
-        subst (λ (bytes : List ℕ). SpellsModules (bytes ++ after) (length (before ++ module_bytes m)) (length bytes) ms) front
-            (modules_spelled law (before ++ module_bytes m) after ms all.1))
+    subst (λ (to : ℕ). SpellsModule (before ++ module_bytes m ++ (rest ++ after)) (length before) to m) (sym (length-append before (module_bytes m))) (law m all.0 before (rest ++ after)) in (
+      length (before ++ module_bytes m),
+      subst (λ (bytes : List ℕ). SpellsModule bytes (length before) (length (before ++ module_bytes m)) m) whole one,
+      subst (λ (bytes : List ℕ). SpellsModules (bytes ++ after) (length (before ++ module_bytes m)) (length bytes) ms) front
+          (modules_spelled law (before ++ module_bytes m) after ms all.1),
+    )
 
 pub file_spelled : WrittenIsSpelled → WrittenFileIsSpelled
 unfolding file_bytes

@@ -1,6 +1,6 @@
 -- Of the records that are written of a sound module each may follow those before it, uses nothing that isn't there, and its
 -- contents are said again.
-use Rattle.std.proofs.Common.{◌≡◌, ℕ, ◌+◌, Bool, true, false, ◌&&◌, List, [], ◌∷◌, ◌++◌, length, map, Option, Some, None, refl, sym, ap, ◌∙◌, subst, arith, append_assoc, inl, inr}
+use Rattle.std.proofs.Common.{◌≡◌, ℕ, ◌+◌, Bool, true, false, ◌&&◌, List, [], ◌∷◌, ◌++◌, length, map, Option, Some, None, refl, sym, ap, ◌∙◌, subst, append_assoc, inl, inr}
 use Rattle.std.specs.Prelude.{not, ◌==◌, nat_le, nat_lt, if◌then◌else◌, option_map}
 use Rattle.std.specs.List.{flat_map, list_all}
 use Rattle.std.specs.Option.{option_or, option_to_list}
@@ -9,13 +9,12 @@ use Rattle.std.proofs.lemmas.Bool.Decides.{eqb_tells}
 use Rattle.std.proofs.lemmas.List.{append-nil}
 use Rattle.omf_body.specs.declared.field.Field.{Field}
 use Rattle.omf_body.specs.declared.body.Body.{Body}
-use Rattle.omf_body.specs.declared.body.Body.TheVariants.{ExternalReferences, Relocation, IntersegmentReferences}
+use Rattle.omf_body.specs.declared.body.Body.TheVariants.{Relocation, IntersegmentReferences}
 use Rattle.omf_body.specs.Bodies.{record_bytes}
 use Rattle.omf_module.specs.declared.symbols.Common.{Common}
 use Rattle.omf_module.specs.declared.symbols.Public.{Public}
 use Rattle.omf_module.specs.declared.fault.Cause.{Cause}
 use Rattle.omf_module.specs.declared.fault.Cause.TheVariants.{SegmentUnknown, OffsetOutside, FixupOutside, FixupTwice, IndexUnknown}
-use Rattle.omf_module.specs.declared.fault.ModuleFault.{ModuleFault}
 use Rattle.omf_module.specs.declared.fixup.Fixup.{Fixup}
 use Rattle.omf_module.specs.declared.fixup.Target.{Target}
 use Rattle.omf_module.specs.declared.fixup.Target.TheVariants as target
@@ -24,8 +23,8 @@ use Rattle.omf_module.specs.Segments.{has_segment}
 use Rattle.omf_module.specs.Modules.{ModuleValue}
 use Rattle.omf_module.specs.Rules.{each_after, is_new_common, is_fitting, has_target, end_of, lies_within, is_placed, has_fitting, is_content as is_sound_content}
 use Rattle.omf_module.specs.Records.{commons_in, may_follow, each_follows}
-use Rattle.omf_module.specs.Gathered.{fixups_in, with_fixups, content_after, is_content, contents_from}
-use Rattle.omf_module.specs.Uses.{unknown_id, place_fault, lacks_external, fixup_fault, fixups_fault, reference_fault, body_fault, fault_by, bodies_fault}
+use Rattle.omf_module.specs.Gathered.{with_fixups, content_after, is_content, contents_from}
+use Rattle.omf_module.specs.Uses.{unknown_id, place_fault, lacks_external, fixups_fault, reference_fault, body_fault, fault_by, bodies_fault}
 use Rattle.omf_module.specs.Writing.{common_body, public_body, external_body, fixup_by, fixup_body, content_body, content_bodies}
 use Rattle.omf_module.proofs.WrittenSpelled.{placed_after}
 
@@ -139,7 +138,6 @@ record Fixed (m : ModuleValue) (commons : List Common) (c : ContentValue) (f : F
   pub passed : Passed m commons (Some c) body commons (Some (with_fixups c (f ∷ [])))
   pub none : is_content body ≡ false
 
-
 own_fixed : (m : ModuleValue) (commons : List Common) (c : ContentValue) (field : Field) (offset id : ℕ) → c.segment ≡ id
     → fixups_fault m c (fixup_at field offset (target.Segment id) ∷ []) ≡ None
     → Fixed m commons c (fixup_at field offset (target.Segment id)) (Relocation (record { field = field; references = record { offset = offset } ∷ [] }))
@@ -202,7 +200,7 @@ fixups_pass m commons c (f ∷ fs) bodies contents fit others =
     let p = and_parts (is_fitting m.commons (length m.externals) c.offset (length c.bytes) c.fixups f) (each_after (is_fitting m.commons (length m.externals) c.offset (length c.bytes)) (c.fixups ++ f ∷ []) fs) fit in
     let one = fixed m commons c f.field f.offset f.target p.0 in
     let last = fixups_pass m commons (with_fixups c (f ∷ [])) fs bodies contents p.1
-        (subst (λ (fixups : List Fixup). Passes m commons (Some (record c { fixups = fixups })) bodies contents) (sym (append_assoc c.fixups (f ∷ []) fs)) others) in
+    (subst (λ (fixups : List Fixup). Passes m commons (Some (record c { fixups = fixups })) bodies contents) (sym (append_assoc c.fixups (f ∷ []) fs)) others) in
     subst (λ (b : Bool). Passes m commons (Some c) (map (fixup_body c.segment) (f ∷ fs) ++ bodies) ((if b then c ∷ [] else []) ++ contents)) one.none
     (passes_more m commons commons (Some c) (Some (with_fixups c (f ∷ []))) (fixup_body c.segment f) (map (fixup_body c.segment) fs ++ bodies) contents one.passed last)
 
@@ -213,7 +211,7 @@ fits_within m c lies =
     let outside = if nat_lt (end_of m.segments c.segment) (c.offset + length c.bytes) then Some OffsetOutside else None in
     test_off (c.segment == 3) (Some (SegmentUnknown 3)) outside (off_by_not (c.segment == 3) d.1)
     ∙ test_off (nat_lt (end_of m.segments c.segment) (c.offset + length c.bytes)) (Some OffsetOutside) None
-      (le-ltb (end_of m.segments c.segment) (c.offset + length c.bytes) (leb-true (c.offset + length c.bytes) (end_of m.segments c.segment) b.1))
+    (le-ltb (end_of m.segments c.segment) (c.offset + length c.bytes) (leb-true (c.offset + length c.bytes) (end_of m.segments c.segment) b.1))
 
 refers_to_none : (m : ModuleValue) (nearest : Option ContentValue) (c : ContentValue) → reference_fault m nearest (content_body c) ≡ None
 refers_to_none m None c = refl

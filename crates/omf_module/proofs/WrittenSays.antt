@@ -1,5 +1,5 @@
 -- What the records say that are written of a module: the module.
-use Rattle.std.proofs.Common.{◌≡◌, ℕ, Bool, true, false, List, [], ◌∷◌, ◌++◌, map, length, Option, Some, None, refl, sym, ap, ◌∙◌, subst, append_assoc, IsTrue, ◌&&◌}
+use Rattle.std.proofs.Common.{◌≡◌, ℕ, Bool, true, false, List, [], ◌∷◌, ◌++◌, map, Option, Some, None, refl, sym, ap, ◌∙◌, subst, append_assoc}
 use Rattle.std.specs.Prelude.{not, ◌==◌, if◌then◌else◌, option_map}
 use Rattle.std.specs.List.{flat_map, list_all}
 use Rattle.std.specs.Option.{option_or, option_to_list}
@@ -31,7 +31,7 @@ use Rattle.omf_module.specs.Rules.{is_start, IsModule}
 use Rattle.omf_module.specs.Records.{commons_in, commons_of, ModuleRecords}
 use Rattle.omf_module.specs.Gathered.{segments_in, publics_in, externals_in, contents_from, start_in, parts_of}
 use Rattle.omf_module.specs.Uses.{unknown_id, fault_by, header_fault, bodies_fault, end_fault, use_fault}
-use Rattle.omf_module.specs.Writing.{segment_entry, header_body, common_body, public_body, external_body, fixup_by, fixup_body, content_body, content_bodies, place_of, end_body, bodies_within}
+use Rattle.omf_module.specs.Writing.{segment_entry, header_body, common_body, public_body, external_body, fixup_by, fixup_body, content_bodies, place_of, end_body, bodies_within}
 use Rattle.omf_module.proofs.WrittenSpelled.{placed_after}
 use Rattle.omf_module.proofs.WrittenPasses.{Passes, fixed_by, commons_pass, publics_pass, externals_pass, contents_pass}
 use Rattle.omf_module.proofs.WrittenSound.{sound_parts}

@@ -1,5 +1,5 @@
 -- Each record that is written of a sound module can be written and is read again.
-use Rattle.std.proofs.Common.{◌≡◌, ℕ, zero, suc, ◌+◌, ◌*◌, ◌≤◌, ◌<◌, Bool, true, false, ◌&&◌, ◌||◌, List, [], ◌∷◌, ◌++◌, length, map, Option, Some, None, refl, sym, ap, ◌∙◌, subst, arith, inl, inr, IsTrue}
+use Rattle.std.proofs.Common.{◌≡◌, ℕ, zero, suc, ◌+◌, ◌*◌, ◌≤◌, ◌<◌, Bool, true, false, ◌&&◌, ◌||◌, List, [], ◌∷◌, ◌++◌, length, map, Option, Some, None, refl, sym, subst, arith, inl, inr}
 use Rattle.std.specs.Prelude.{not, ◌==◌, nat_eq, nat_le, if◌then◌else◌}
 use Rattle.std.specs.Cmp.Lexicographic.{pointwise}
 use Rattle.std.specs.List.{flat_map, list_all, list_any, range_with_len, cons_option, AllByRecursion}
@@ -8,7 +8,6 @@ use Rattle.std.proofs.lemmas.Bool.Decides.{eqb_tells}
 use Rattle.std.proofs.lemmas.List.{length-append}
 use Rattle.omf_core.specs.Name.{is_name, is_name_byte, name_spelling}
 use Rattle.omf_body.specs.declared.field.Field.{Field}
-use Rattle.omf_body.specs.declared.body.Body.{Body}
 use Rattle.omf_body.specs.declared.body.Body.TheVariants.{ModuleHeader, ModuleEnd, Relocation, IntersegmentReferences}
 use Rattle.omf_body.specs.Entries.{segment_bytes}
 use Rattle.omf_body.specs.Bodies.{are_distinct}
@@ -21,7 +20,7 @@ use Rattle.omf_module.specs.declared.fixup.Target.TheVariants as target
 use Rattle.omf_module.specs.Contents.{ContentValue}
 use Rattle.omf_module.specs.Segments.{has_segment, is_common_id, names_common, is_used, segment_in, entries_for, listed_ids, in_one_form}
 use Rattle.omf_module.specs.Modules.{ModuleValue}
-use Rattle.omf_module.specs.Rules.{each_after, is_new_common, lies_within, is_placed, has_fitting, is_content, is_start, is_sound, has_names, IsModule}
+use Rattle.omf_module.specs.Rules.{each_after, is_new_common, is_content, is_start, is_sound, IsModule}
 use Rattle.omf_module.specs.Writing.{segment_entry, header_body, common_body, public_body, external_body, fixup_by, fixup_body, content_body, content_bodies, end_body, bodies_within}
 use Rattle.omf_module.proofs.ShortLemmas.{one_form_few, module_contents_short}
 use Rattle.omf_module.proofs.WrittenSpelled.{Fits}

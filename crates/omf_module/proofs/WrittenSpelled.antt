@@ -1,5 +1,5 @@
 -- Records that are written one after another are spelled, wherever they stand.
-use Rattle.std.proofs.Common.{◌≡◌, ℕ, ◌+◌, ◌≤◌, Bool, List, [], ◌∷◌, ◌++◌, length, refl, sym, ap, ◌∙◌, subst, arith, append_assoc, IsTrue}
+use Rattle.std.proofs.Common.{◌≡◌, ℕ, ◌+◌, ◌≤◌, List, [], ◌∷◌, ◌++◌, length, refl, sym, ap, ◌∙◌, subst, arith, append_assoc, IsTrue}
 use Rattle.std.specs.List.{flat_map, AllByRecursion}
 use Rattle.std.proofs.lemmas.List.{append-nil, length-append}
 use Rattle.omf_core.specs.Kind.{kind_byte}
@@ -39,8 +39,12 @@ bodies_spelled law before after (b ∷ bs) fit =
     let rest = flat_map record_bytes bs in
     let front : before ++ record_bytes b ++ rest ≡ before ++ (record_bytes b ++ rest) = append_assoc before (record_bytes b) rest in
     let whole : before ++ record_bytes b ++ (rest ++ after) ≡ before ++ (record_bytes b ++ rest) ++ after =
-        sym (append_assoc (before ++ record_bytes b) rest after) ∙ ap (λ (bytes : List ℕ). bytes ++ after) front in
-    (refl, (length (before ++ record_bytes b),
+    sym (append_assoc (before ++ record_bytes b) rest after) ∙ ap (λ (bytes : List ℕ). bytes ++ after) front in (
+      refl,
+      (
+        length (before ++ record_bytes b),
         subst (λ (bytes : List ℕ). SpellsBody bytes (length before) (length (before ++ record_bytes b)) b) whole (one_spelled law before (rest ++ after) b fit.0),
         subst (λ (bytes : List ℕ). SpellsBodies (bytes ++ after) (length (before ++ record_bytes b)) (length bytes) (placed_after (before ++ record_bytes b) bs)) front
-            (bodies_spelled law (before ++ record_bytes b) after bs fit.1)))
+            (bodies_spelled law (before ++ record_bytes b) after bs fit.1),
+      ),
+    )

@@ -28,8 +28,8 @@ use std::alloc::{AllocError, Global};
 /// The alignment byte of a part that starts at a multiple of 256.
 const PAGED: u8 = 2;
 
-/// What came of a body that fits its record: it is out of memory alone that stops it.
-fn of_fitting(appended: Result<(), PutFault>) -> Result<(), AllocError>
+/// What came of a body that fits a record: only memory can end.
+fn never_too_long(appended: Result<(), PutFault>) -> Result<(), AllocError>
     requires { appended ≢ Err TooLong }
     ensures { is_ok result ≡ is_ok appended }
 {
@@ -78,7 +78,7 @@ fn append_header(alloc: Global, source: &Module, out: &mut Vec<u8>) -> Result<()
 {
     let entries = segment_entries(alloc, source.segments())?;
     let name = name_bytes(source.name());
-    of_fitting(put_header(alloc, &name, &entries, out))
+    never_too_long(put_header(alloc, &name, &entries, out))
 }
 
 fn append_common(alloc: Global, common: &Common, out: &mut Vec<u8>) -> Result<(), AllocError>
@@ -88,7 +88,7 @@ fn append_common(alloc: Global, common: &Common, out: &mut Vec<u8>) -> Result<()
         id: common.id,
         name: name_bytes(&common.name),
     };
-    of_fitting(put_commons(alloc, &[entry], out))
+    never_too_long(put_commons(alloc, &[entry], out))
 }
 
 fn append_public(alloc: Global, public: &Public, out: &mut Vec<u8>) -> Result<(), AllocError>
@@ -99,7 +99,7 @@ fn append_public(alloc: Global, public: &Public, out: &mut Vec<u8>) -> Result<()
         name: name_bytes(&public.name),
         unread: 0,
     };
-    of_fitting(put_publics(alloc, public.segment, &[entry], out))
+    never_too_long(put_publics(alloc, public.segment, &[entry], out))
 }
 
 fn append_external(alloc: Global, name: &Name, out: &mut Vec<u8>) -> Result<(), AllocError>
@@ -109,30 +109,25 @@ fn append_external(alloc: Global, name: &Name, out: &mut Vec<u8>) -> Result<(), 
         name: name_bytes(name),
         unread: 0,
     };
-    of_fitting(put_externals(alloc, &[entry], out))
+    never_too_long(put_externals(alloc, &[entry], out))
 }
 
-fn append_fixup(
-    alloc: Global,
-    own: u8,
-    fixup: Fixup,
-    out: &mut Vec<u8>,
-) -> Result<(), AllocError>
+fn append_fixup(alloc: Global, own: u8, fixup: Fixup, out: &mut Vec<u8>) -> Result<(), AllocError>
     ensures { OnOk result (out.new.items ≡ out.old.items ++ record_bytes (fixup_body own fixup)) }
 {
     let Fixup { offset, field, .. } = fixup;
     match fixup.target {
         Target::Segment(id) => {
             if id == own {
-                of_fitting(put_relocation(alloc, field, &[OffsetEntry { offset }], out))
+                never_too_long(put_relocation(alloc, field, &[OffsetEntry { offset }], out))
             } else {
                 let references = [OffsetEntry { offset }];
-                of_fitting(put_intersegment(alloc, id, field, &references, out))
+                never_too_long(put_intersegment(alloc, id, field, &references, out))
             }
         }
         Target::External(index) => {
             let references = [IndexEntry { index, offset }];
-            of_fitting(put_external_references(alloc, field, &references, out))
+            never_too_long(put_external_references(alloc, field, &references, out))
         }
     }
 }
@@ -141,31 +136,17 @@ fn append_bytes(alloc: Global, content: &Content, out: &mut Vec<u8>) -> Result<(
     requires { length content.now.bytes ≤ 65531 }
     ensures { OnOk result (out.new.items ≡ out.old.items ++ record_bytes (content_body content.now)) }
 {
-    of_fitting(put_content(
-        alloc,
-        content.segment,
-        content.offset,
-        &content.bytes,
-        out,
-    ))
+    never_too_long(put_content(alloc, content.segment, content.offset, &content.bytes, out))
 }
 
-fn append_end(
-    alloc: Global,
-    start: Option<(u8, u16)>,
-    out: &mut Vec<u8>,
-) -> Result<(), AllocError>
+fn append_end(alloc: Global, start: Option<(u8, u16)>, out: &mut Vec<u8>) -> Result<(), AllocError>
     ensures { OnOk result (out.new.items ≡ out.old.items ++ record_bytes (ModuleEnd (end_body start))) }
 {
     let place = start.map(|(segment, offset)| Place { segment, offset });
-    of_fitting(put_end(alloc, place, out))
+    never_too_long(put_end(alloc, place, out))
 }
 
-fn append_commons(
-    alloc: Global,
-    commons: &[Common],
-    out: &mut Vec<u8>,
-) -> Result<(), AllocError>
+fn append_commons(alloc: Global, commons: &[Common], out: &mut Vec<u8>) -> Result<(), AllocError>
     ensures { OnOk result (out.new.items ≡ out.old.items ++ flat_map record_bytes (map common_body commons.now)) }
 {
     for common in commons {
@@ -174,11 +155,7 @@ fn append_commons(
     Ok(())
 }
 
-fn append_publics(
-    alloc: Global,
-    publics: &[Public],
-    out: &mut Vec<u8>,
-) -> Result<(), AllocError>
+fn append_publics(alloc: Global, publics: &[Public], out: &mut Vec<u8>) -> Result<(), AllocError>
     ensures { OnOk result (out.new.items ≡ out.old.items ++ flat_map record_bytes (map public_body publics.now)) }
 {
     for public in publics {
@@ -187,11 +164,7 @@ fn append_publics(
     Ok(())
 }
 
-fn append_externals(
-    alloc: Global,
-    externals: &[Name],
-    out: &mut Vec<u8>,
-) -> Result<(), AllocError>
+fn append_externals(alloc: Global, externals: &[Name], out: &mut Vec<u8>) -> Result<(), AllocError>
     ensures { OnOk result (out.new.items ≡ out.old.items ++ flat_map record_bytes (map external_body externals.now)) }
 {
     for name in externals {
@@ -222,11 +195,7 @@ fn append_content(alloc: Global, content: &Content, out: &mut Vec<u8>) -> Result
     append_fixups(alloc, content.segment, &content.fixups, out)
 }
 
-fn append_contents(
-    alloc: Global,
-    contents: &[Content],
-    out: &mut Vec<u8>,
-) -> Result<(), AllocError>
+fn append_contents(alloc: Global, contents: &[Content], out: &mut Vec<u8>) -> Result<(), AllocError>
     requires { AllByRecursion (λ c. length c.bytes ≤ 65531) contents.now }
     ensures { OnOk result (out.new.items ≡ out.old.items ++ flat_map record_bytes (flat_map content_bodies contents.now)) }
 {
@@ -278,7 +247,7 @@ fn file_of(alloc: Global, modules: &[Module]) -> Result<Vec<u8>, AllocError>
         append_module(alloc, module, &mut file)?;
     }
     let end = RecordKind::EndOfFile.byte();
-    of_fitting(put_record(alloc, end, &[], &mut file))?;
+    never_too_long(put_record(alloc, end, &[], &mut file))?;
     Ok(file)
 }
 
