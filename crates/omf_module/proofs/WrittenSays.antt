@@ -15,6 +15,7 @@ use Rattle.omf_body.specs.declared.body.ContentBody.{ContentBody}
 use Rattle.omf_body.specs.declared.body.Body.{Body}
 use Rattle.omf_body.specs.declared.body.Body.TheVariants.{Content, ExternalReferences, Relocation, IntersegmentReferences}
 use Rattle.omf_body.specs.Bodies.{record_bytes}
+use Rattle.omf_module.specs.declared.writing.TheConstants.{PAGED}
 use Rattle.omf_module.specs.declared.segment.Segment.{Segment}
 use Rattle.omf_module.specs.declared.symbols.Common.{Common}
 use Rattle.omf_module.specs.declared.symbols.Public.{Public}
@@ -79,7 +80,7 @@ within_of f m before =
 
 -- ---- each list
 
-paged_again : (paged : Bool) → not ((if paged then 2 else ANY_BYTE) == ANY_BYTE) ≡ paged
+paged_again : (paged : Bool) → not ((if paged then PAGED else ANY_BYTE) == ANY_BYTE) ≡ paged
 paged_again true = refl
 paged_again false = refl
 

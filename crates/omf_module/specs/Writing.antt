@@ -13,6 +13,7 @@ use Rattle.omf_body.specs.declared.body.Body.{Body}
 use Rattle.omf_body.specs.declared.body.Body.TheVariants.{ModuleHeader, ModuleEnd, Content, EndOfFile, PublicDeclarations, ExternalNames, ExternalReferences, Relocation, IntersegmentReferences, NamedCommons}
 use Rattle.omf_body.specs.Bodies.{record_bytes}
 use Rattle.omf_body.specs.Writing.{end_filling}
+use Rattle.omf_module.specs.declared.writing.TheConstants.{PAGED}
 use Rattle.omf_module.specs.declared.segment.Segment.{Segment}
 use Rattle.omf_module.specs.declared.symbols.Common.{Common}
 use Rattle.omf_module.specs.declared.symbols.Public.{Public}
@@ -22,9 +23,9 @@ use Rattle.omf_module.specs.declared.fixup.Target.TheVariants as target
 use Rattle.omf_module.specs.Contents.{ContentValue}
 use Rattle.omf_module.specs.Modules.{ModuleValue}
 
--- alignment 2 starts at a multiple of 256, 3 at any byte
+-- a paged part starts at a multiple of 256
 abbrev pub segment_entry : ℕ × Segment → SegmentEntry
-segment_entry e = record { id = e.0; length = e.1.length; alignment = if e.1.paged then 2 else ANY_BYTE }
+segment_entry e = record { id = e.0; length = e.1.length; alignment = if e.1.paged then PAGED else ANY_BYTE }
 
 abbrev pub header_body : ModuleValue → HeaderBody
 header_body m = record { name = m.name; translator = 0; version = 0; segments = map segment_entry m.segments }

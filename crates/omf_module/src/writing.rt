@@ -26,9 +26,9 @@ use omf_core::{Name, PutFault, RecordKind, put_record};
 use std::alloc::{AllocError, Global};
 
 /// The alignment byte of a part that starts at a multiple of 256.
-const PAGED: u8 = 2;
+pub(crate) const PAGED: u8 = 2;
 
-/// What came of a body that fits a record: only memory can end.
+/// What came of a body that fits its record: if it wasn't appended, memory ran out.
 fn never_too_long(appended: Result<(), PutFault>) -> Result<(), AllocError>
     requires { appended ≢ Err TooLong }
     ensures { is_ok result ≡ is_ok appended }
@@ -40,7 +40,7 @@ fn never_too_long(appended: Result<(), PutFault>) -> Result<(), AllocError>
     }
 }
 
-/// The name as an entry has it, which is one.
+/// The name as an entry has it.
 fn name_bytes(name: &Name) -> NameBytes
     ensures value { result ≡ name.now }
     ensures name { IsTrue (is_name name.now) }
@@ -205,7 +205,7 @@ fn append_contents(alloc: Global, contents: &[Content], out: &mut Vec<u8>) -> Re
     Ok(())
 }
 
-/// Appends the records of the module, or some of them where memory ends.
+/// Appends the records of the module; where memory runs out, some of them.
 fn append_module(alloc: Global, source: &Module, out: &mut Vec<u8>) -> Result<(), AllocError>
     ensures written { OnOk result (out.new.items ≡ out.old.items ++ module_bytes source.now) }
     ensures rules { OnOk result (IsModule source.now) }
