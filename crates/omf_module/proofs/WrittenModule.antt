@@ -15,8 +15,8 @@ use Rattle.omf_module.specs.Spelled.{SpellsModule, SpellsModules}
 use Rattle.omf_module.specs.Writing.{header_body, end_body, bodies_within, module_bytes, file_bytes}
 use Rattle.omf_module.specs.WritingLaws.{WrittenModuleIsSpelled, WrittenFileIsSpelled}
 use Rattle.omf_module.proofs.WrittenSpelled.{placed_after, one_spelled, bodies_spelled}
-use Rattle.omf_module.proofs.WrittenSound.{all_fit, end_fits}
-use Rattle.omf_module.proofs.WrittenSays.{records_after, within_passes, says_module, uses_none}
+use Rattle.omf_module.proofs.WrittenSound.{header_fits, end_fits}
+use Rattle.omf_module.proofs.WrittenSays.{name_of, records_after, within_passes, says_module, uses_none}
 
 three_joined : (before header within end : List ℕ) → before ++ header ++ within ++ end ≡ before ++ (header ++ (within ++ (end ++ [])))
 three_joined before header within end = simp (append_assoc, append-nil)
@@ -44,13 +44,12 @@ spelled_in : WrittenIsSpelled → (m : ModuleValue) → IsModule m → (before a
 spelled_in law m is before after header within end eh ew ee =
     let bytes = before ++ header ++ within ++ end ++ after in
     let front = before ++ header in
-    let fit = all_fit m is in
     let h : SpellsBody (before ++ header ++ (within ++ (end ++ after))) (length before) (length front) (ModuleHeader (header_body m)) =
     subst (λ (bs : List ℕ). SpellsBody (before ++ bs ++ (within ++ (end ++ after))) (length before) (length (before ++ bs)) (ModuleHeader (header_body m))) (sym eh)
-    (one_spelled law before (within ++ (end ++ after)) (ModuleHeader (header_body m)) fit.header) in
+    (one_spelled law before (within ++ (end ++ after)) (ModuleHeader (header_body m)) (header_fits m is.one_form (name_of m is.names))) in
     let w : SpellsBodies (front ++ within ++ (end ++ after)) (length front) (length (front ++ within)) (placed_after front (bodies_within m)) =
     subst (λ (bs : List ℕ). SpellsBodies (front ++ bs ++ (end ++ after)) (length front) (length (front ++ bs)) (placed_after front (bodies_within m))) (sym ew)
-    (bodies_spelled law front (end ++ after) (bodies_within m) fit.within) in
+    (bodies_spelled law front (end ++ after) (bodies_within m) (within_passes m is).fit) in
     let e : SpellsBody (front ++ within ++ end ++ after) (length (front ++ within)) (length (front ++ within ++ end)) (ModuleEnd (end_body m.start)) =
     subst (λ (bs : List ℕ). SpellsBody (front ++ within ++ bs ++ after) (length (front ++ within)) (length (front ++ within ++ bs)) (ModuleEnd (end_body m.start))) (sym ee)
     (one_spelled law (front ++ within) after (ModuleEnd (end_body m.start)) (end_fits m.start)) in

@@ -1,8 +1,10 @@
--- Of the records that are written of a sound module each may follow those before it, uses nothing that isn't there, and its
--- contents are said again.
+-- What comes of the records that are written of a sound module: each can be written and is read again, may follow those before
+-- it, and uses nothing that isn't there; and they say what the module has.
 use Rattle.std.proofs.Common.{◌≡◌, ℕ, ◌+◌, Bool, true, false, ◌&&◌, List, [], ◌∷◌, ◌++◌, length, map, Option, Some, None, refl, sym, ap, ◌∙◌, subst, append_assoc, inl, inr}
-use Rattle.std.specs.Prelude.{not, ◌==◌, nat_le, nat_lt, if◌then◌else◌, option_map}
-use Rattle.std.specs.List.{flat_map, list_all}
+use Rattle.std.specs.Prelude.{not, ◌==◌, nat_eq, nat_le, nat_lt, if◌then◌else◌, option_map}
+use Rattle.std.specs.Cmp.Lexicographic.{pointwise}
+use Rattle.omf_core.specs.Name.{is_name}
+use Rattle.std.specs.List.{flat_map, list_all, list_any, AllByRecursion}
 use Rattle.std.specs.Option.{option_or, option_to_list}
 use Rattle.std.proofs.lemmas.Bool.{and_parts, le-ltb, leb-true}
 use Rattle.std.proofs.lemmas.Bool.Decides.{eqb_tells}
@@ -19,86 +21,109 @@ use Rattle.omf_module.specs.declared.fixup.Fixup.{Fixup}
 use Rattle.omf_module.specs.declared.fixup.Target.{Target}
 use Rattle.omf_module.specs.declared.fixup.Target.TheVariants as target
 use Rattle.omf_module.specs.Contents.{ContentValue, is_inside, shares_a_byte}
-use Rattle.omf_module.specs.Segments.{has_segment}
+use Rattle.omf_module.specs.Segments.{has_segment, is_common_id}
 use Rattle.omf_module.specs.Modules.{ModuleValue}
 use Rattle.omf_module.specs.Rules.{each_after, is_new_common, is_fitting, has_target, end_of, lies_within, is_placed, has_fitting, is_content as is_sound_content}
 use Rattle.omf_module.specs.Records.{commons_in, may_follow, each_follows}
-use Rattle.omf_module.specs.Gathered.{with_fixups, content_after, is_content, contents_from}
+use Rattle.omf_module.specs.Gathered.{publics_in, externals_in, with_fixups, content_after, is_content, contents_from}
 use Rattle.omf_module.specs.Uses.{unknown_id, place_fault, lacks_external, fixups_fault, reference_fault, body_fault, fault_by, bodies_fault}
 use Rattle.omf_module.specs.Writing.{common_body, public_body, external_body, fixup_by, fixup_body, content_body, content_bodies}
-use Rattle.omf_module.proofs.WrittenSpelled.{placed_after}
+use Rattle.omf_module.proofs.WrittenSpelled.{Fits, placed_after}
+use Rattle.omf_module.proofs.WrittenSound.{and_join, chosen_by, common_fits, public_fits, external_fits, own_fits, other_fits, external_reference_fits, content_fits}
 
--- What comes of bodies in a module, after records that declare these commons and have this nearest content: none of them has a
--- fault, each may follow, and they say these contents.
-pub record Passes (m : ModuleValue) (commons : List Common) (nearest : Option ContentValue) (bodies : List Body) (contents : List ContentValue) : Type 0 where
+-- what records say in all
+pub record Said : Type 0 where
+  pub commons : List Common
+  pub publics : List Public
+  pub externals : List (List ℕ)
+  pub contents : List ContentValue
+
+-- What comes of bodies in a module, after records that declare these commons and have this nearest content.
+pub record Passes (m : ModuleValue) (known : List Common) (nearest : Option ContentValue) (bodies : List Body) (said : Said) : Type 0 where
+  pub fit : AllByRecursion Fits bodies
   pub used : (before : List ℕ) → bodies_fault m nearest (placed_after before bodies) ≡ None
-  pub follow : (before : List ℕ) → each_follows commons (placed_after before bodies) ≡ true
-  pub said : (before : List ℕ) → contents_from nearest (placed_after before bodies) ≡ contents
+  pub follow : (before : List ℕ) → each_follows known (placed_after before bodies) ≡ true
+  pub commons : (before : List ℕ) → flat_map (λ p. commons_in p.body) (placed_after before bodies) ≡ said.commons
+  pub publics : (before : List ℕ) → flat_map (λ p. publics_in p.body) (placed_after before bodies) ≡ said.publics
+  pub externals : (before : List ℕ) → flat_map (λ p. externals_in p.body) (placed_after before bodies) ≡ said.externals
+  pub contents : (before : List ℕ) → contents_from nearest (placed_after before bodies) ≡ said.contents
 
 -- what comes of one body
-record Passed (m : ModuleValue) (commons : List Common) (nearest : Option ContentValue) (body : Body) (declared : List Common) (after : Option ContentValue) : Type 0 where
-  pub used : body_fault m nearest body ≡ None
-  pub follow : may_follow commons body ≡ true
-  pub declares : commons ++ commons_in body ≡ declared
-  pub next : content_after nearest body ≡ after
-
-pub and_join : (a b : Bool) → a ≡ true → b ≡ true → (a && b) ≡ true
-and_join true b e f = f
-and_join false b e f = absurd cc
-
-pub passes_none : (m : ModuleValue) (commons : List Common) (nearest : Option ContentValue) → Passes m commons nearest [] (option_to_list nearest)
-passes_none m commons nearest = record { used = λ before. refl; follow = λ before. refl; said = λ before. refl }
+record Passed (m : ModuleValue) (known : List Common) (nearest : Option ContentValue) (body : Body) (cs : List Common) (ps : List Public) (xs : List (List ℕ)) (after : Option ContentValue) : Type 0 where
+  fits : Fits body
+  used : body_fault m nearest body ≡ None
+  follow : may_follow known body ≡ true
+  commons : commons_in body ≡ cs
+  publics : publics_in body ≡ ps
+  externals : externals_in body ≡ xs
+  next : content_after nearest body ≡ after
 
 abbrev cut : Option ContentValue → Body → List ContentValue
 cut nearest body = if is_content body then option_to_list nearest else []
 
-passes_more : (m : ModuleValue) (commons declared : List Common) (nearest after : Option ContentValue) (body : Body) (bodies : List Body) (contents : List ContentValue)
-    → Passed m commons nearest body declared after → Passes m declared after bodies contents → Passes m commons nearest (body ∷ bodies) (cut nearest body ++ contents)
-passes_more m commons declared nearest after body bodies contents one others = record {
+joined : {A : Type 0} (a b c d : List A) → a ≡ b → c ≡ d → a ++ c ≡ b ++ d
+joined a b c d e f = ap (λ x. x ++ c) e ∙ ap (λ x. b ++ x) f
+
+passes_more : (m : ModuleValue) (known declared cs : List Common) (ps : List Public) (xs : List (List ℕ)) (nearest after : Option ContentValue) (body : Body) (bodies : List Body) (said : Said)
+    → known ++ cs ≡ declared → Passed m known nearest body cs ps xs after → Passes m declared after bodies said
+    → Passes m known nearest (body ∷ bodies) (record { commons = cs ++ said.commons; publics = ps ++ said.publics; externals = xs ++ said.externals; contents = cut nearest body ++ said.contents })
+passes_more m known declared cs ps xs nearest after body bodies said declares one others = record {
+  fit = (one.fits, others.fit);
   used = λ before.
       let rest = placed_after (before ++ record_bytes body) bodies in
       ap (λ (o : Option Cause). option_or (option_map (fault_by (length before)) o) (bodies_fault m (content_after nearest body) rest)) one.used
       ∙ (ap (λ (c : Option ContentValue). bodies_fault m c rest) one.next ∙ others.used (before ++ record_bytes body));
   follow = λ before.
       let rest = placed_after (before ++ record_bytes body) bodies in
-      and_join (may_follow commons body) (each_follows (commons ++ commons_in body) rest) one.follow
-      (ap (λ (cs : List Common). each_follows cs rest) one.declares ∙ others.follow (before ++ record_bytes body));
-  said = λ before.
+      and_join (may_follow known body) (each_follows (known ++ commons_in body) rest) one.follow
+      (ap (λ (k : List Common). each_follows k rest) (ap (λ (k : List Common). known ++ k) one.commons ∙ declares) ∙ others.follow (before ++ record_bytes body));
+  commons = λ before. joined (commons_in body) cs _ said.commons one.commons (others.commons (before ++ record_bytes body));
+  publics = λ before. joined (publics_in body) ps _ said.publics one.publics (others.publics (before ++ record_bytes body));
+  externals = λ before. joined (externals_in body) xs _ said.externals one.externals (others.externals (before ++ record_bytes body));
+  contents = λ before.
       let rest = placed_after (before ++ record_bytes body) bodies in
       ap (λ (c : Option ContentValue). cut nearest body ++ contents_from c rest) one.next
-      ∙ ap (λ (cs : List ContentValue). cut nearest body ++ cs) (others.said (before ++ record_bytes body));
+      ∙ ap (λ (cs : List ContentValue). cut nearest body ++ cs) (others.contents (before ++ record_bytes body));
 }
 
 -- ---- commons, publics and externals
 
-pub commons_pass : (m : ModuleValue) (before cs : List Common) (bodies : List Body) (contents : List ContentValue) → each_after is_new_common before cs ≡ true
-    → Passes m (before ++ cs) None bodies contents → Passes m before None (map common_body cs ++ bodies) contents
-commons_pass m before [] bodies contents new others = subst (λ (k : List Common). Passes m k None bodies contents) (append-nil before) others
-commons_pass m before (c ∷ cs) bodies contents new others =
+common_id : (before : List Common) (c : Common) → is_new_common before c ≡ true → is_common_id c.id ≡ true
+common_id before c new =
+    let p = and_parts (is_common_id c.id && not (list_any (λ d. d.id == c.id) before)) (not (list_any (λ d. pointwise nat_eq d.name c.name) before)) new in
+    (and_parts (is_common_id c.id) (not (list_any (λ d. d.id == c.id) before)) p.0).0
+
+pub commons_pass : (m : ModuleValue) (before cs : List Common) (bodies : List Body) (said : Said) → each_after is_new_common before cs ≡ true → list_all (λ c. is_name c.name) cs ≡ true
+    → Passes m (before ++ cs) None bodies said → Passes m before None (map common_body cs ++ bodies) (record said { commons = cs ++ said.commons })
+commons_pass m before [] bodies said new names others = subst (λ (k : List Common). Passes m k None bodies said) (append-nil before) others
+commons_pass m before (c ∷ cs) bodies said new names others =
     let p = and_parts (is_new_common before c) (each_after is_new_common (before ++ c ∷ []) cs) new in
-    passes_more m before (before ++ c ∷ []) None None (common_body c) (map common_body cs ++ bodies) contents
-    record { used = refl; follow = and_join (is_new_common before c) true p.0 refl; declares = refl; next = refl }
-    (commons_pass m (before ++ c ∷ []) cs bodies contents p.1 (subst (λ (k : List Common). Passes m k None bodies contents) (sym (append_assoc before (c ∷ []) cs)) others))
+    let n = and_parts (is_name c.name) (list_all (λ d. is_name d.name) cs) names in
+    passes_more m before (before ++ c ∷ []) (c ∷ []) [] [] None None (common_body c) (map common_body cs ++ bodies) (record said { commons = cs ++ said.commons }) refl
+    record { fits = common_fits c (common_id before c p.0) n.0; used = refl; follow = and_join (is_new_common before c) true p.0 refl; commons = refl; publics = refl; externals = refl; next = refl }
+    (commons_pass m (before ++ c ∷ []) cs bodies said p.1 n.1 (subst (λ (k : List Common). Passes m k None bodies said) (sym (append_assoc before (c ∷ []) cs)) others))
 
 known : (m : ModuleValue) (id : ℕ) → has_segment m.commons id ≡ true → unknown_id m (id ∷ []) ≡ None
 known m id has = ap (λ (b : Bool). if b then None else Some (SegmentUnknown id)) has
 
-pub publics_pass : (m : ModuleValue) (commons : List Common) (ps : List Public) (bodies : List Body) (contents : List ContentValue) → list_all (λ p. has_segment m.commons p.segment) ps ≡ true
-    → Passes m commons None bodies contents → Passes m commons None (map public_body ps ++ bodies) contents
-publics_pass m commons [] bodies contents has others = others
-publics_pass m commons (p ∷ ps) bodies contents has others =
+pub publics_pass : (m : ModuleValue) (commons : List Common) (ps : List Public) (bodies : List Body) (said : Said) → list_all (λ p. has_segment m.commons p.segment) ps ≡ true → list_all (λ p. is_name p.name) ps ≡ true
+    → Passes m commons None bodies said → Passes m commons None (map public_body ps ++ bodies) (record said { publics = ps ++ said.publics })
+publics_pass m commons [] bodies said has names others = others
+publics_pass m commons (p ∷ ps) bodies said has names others =
     let q = and_parts (has_segment m.commons p.segment) (list_all (λ r. has_segment m.commons r.segment) ps) has in
-    passes_more m commons commons None None (public_body p) (map public_body ps ++ bodies) contents
-    record { used = ap (λ (o : Option Cause). option_or o None) (known m p.segment q.0); follow = refl; declares = append-nil commons; next = refl }
-    (publics_pass m commons ps bodies contents q.1 others)
+    let n = and_parts (is_name p.name) (list_all (λ r. is_name r.name) ps) names in
+    passes_more m commons commons [] (p ∷ []) [] None None (public_body p) (map public_body ps ++ bodies) (record said { publics = ps ++ said.publics }) (append-nil commons)
+    record { fits = public_fits p n.0; used = ap (λ (o : Option Cause). option_or o None) (known m p.segment q.0); follow = refl; commons = refl; publics = refl; externals = refl; next = refl }
+    (publics_pass m commons ps bodies said q.1 n.1 others)
 
-pub externals_pass : (m : ModuleValue) (commons : List Common) (xs : List (List ℕ)) (bodies : List Body) (contents : List ContentValue)
-    → Passes m commons None bodies contents → Passes m commons None (map external_body xs ++ bodies) contents
-externals_pass m commons [] bodies contents others = others
-externals_pass m commons (x ∷ xs) bodies contents others =
-    passes_more m commons commons None None (external_body x) (map external_body xs ++ bodies) contents
-    record { used = refl; follow = refl; declares = append-nil commons; next = refl }
-    (externals_pass m commons xs bodies contents others)
+pub externals_pass : (m : ModuleValue) (commons : List Common) (xs : List (List ℕ)) (bodies : List Body) (said : Said) → list_all is_name xs ≡ true
+    → Passes m commons None bodies said → Passes m commons None (map external_body xs ++ bodies) (record said { externals = xs ++ said.externals })
+externals_pass m commons [] bodies said names others = others
+externals_pass m commons (x ∷ xs) bodies said names others =
+    let n = and_parts (is_name x) (list_all is_name xs) names in
+    passes_more m commons commons [] [] (x ∷ []) None None (external_body x) (map external_body xs ++ bodies) (record said { externals = xs ++ said.externals }) (append-nil commons)
+    record { fits = external_fits x n.0; used = refl; follow = refl; commons = refl; publics = refl; externals = refl; next = refl }
+    (externals_pass m commons xs bodies said n.1 others)
 
 -- ---- a fixup
 
@@ -118,8 +143,8 @@ lacks_none : (m : ModuleValue) (to : Target) → has_target m.commons (length m.
 lacks_none m (target.Segment id) has = refl
 lacks_none m (target.External index) has = ap not has
 
-fixup_fits : (m : ModuleValue) (c : ContentValue) (f : Fixup) → is_fitting m.commons (length m.externals) c.offset (length c.bytes) c.fixups f ≡ true → fixups_fault m c (f ∷ []) ≡ None
-fixup_fits m c f fit =
+fixup_used : (m : ModuleValue) (c : ContentValue) (f : Fixup) → is_fitting m.commons (length m.externals) c.offset (length c.bytes) c.fixups f ≡ true → fixups_fault m c (f ∷ []) ≡ None
+fixup_used m c f fit =
     let p = and_parts (is_inside c.offset (length c.bytes) f && not (shares_a_byte c.fixups f)) (has_target m.commons (length m.externals) f.target) fit in
     let q = and_parts (is_inside c.offset (length c.bytes) f) (not (shares_a_byte c.fixups f)) p.0 in
     let inside : not (is_inside c.offset (length c.bytes) f) ≡ false = ap not q.0 in
@@ -135,38 +160,44 @@ fixup_at field offset to = record { offset = offset; field = field; target = to 
 
 -- what comes of a body that says one fixup in the nearest content
 record Fixed (m : ModuleValue) (commons : List Common) (c : ContentValue) (f : Fixup) (body : Body) : Type 0 where
-  pub passed : Passed m commons (Some c) body commons (Some (with_fixups c (f ∷ [])))
-  pub none : is_content body ≡ false
+  passed : Passed m commons (Some c) body [] [] [] (Some (with_fixups c (f ∷ [])))
+  none : is_content body ≡ false
 
-own_fixed : (m : ModuleValue) (commons : List Common) (c : ContentValue) (field : Field) (offset id : ℕ) → c.segment ≡ id
-    → fixups_fault m c (fixup_at field offset (target.Segment id) ∷ []) ≡ None
-    → Fixed m commons c (fixup_at field offset (target.Segment id)) (Relocation (record { field = field; references = record { offset = offset } ∷ [] }))
-own_fixed m commons c field offset id same fit = record {
+abbrev own_reference : Field → ℕ → Body
+own_reference field offset = Relocation (record { field = field; references = record { offset = offset } ∷ [] })
+
+abbrev other_reference : ℕ → Field → ℕ → Body
+other_reference id field offset = IntersegmentReferences (record { segment = id; field = field; references = record { offset = offset } ∷ [] })
+
+own_fixed : (m : ModuleValue) (commons : List Common) (c : ContentValue) (field : Field) (offset id : ℕ) → c.segment ≡ id → fixups_fault m c (fixup_at field offset (target.Segment id) ∷ []) ≡ None
+    → Fits (own_reference field offset) → Fixed m commons c (fixup_at field offset (target.Segment id)) (own_reference field offset)
+own_fixed m commons c field offset id same used fits = record {
   passed = record {
-    used = ap (λ (i : ℕ). fixups_fault m c (fixup_at field offset (target.Segment i) ∷ [])) same ∙ fit;
+    fits = fits;
+    used = ap (λ (i : ℕ). fixups_fault m c (fixup_at field offset (target.Segment i) ∷ [])) same ∙ used;
     follow = refl;
-    declares = append-nil commons;
+    commons = refl;
+    publics = refl;
+    externals = refl;
     next = ap (λ (i : ℕ). Some (with_fixups c (fixup_at field offset (target.Segment i) ∷ []))) same;
   };
   none = refl;
 }
 
-other_fixed : (m : ModuleValue) (commons : List Common) (c : ContentValue) (field : Field) (offset id : ℕ) → has_segment m.commons id ≡ true
-    → fixups_fault m c (fixup_at field offset (target.Segment id) ∷ []) ≡ None
-    → Fixed m commons c (fixup_at field offset (target.Segment id)) (IntersegmentReferences (record { segment = id; field = field; references = record { offset = offset } ∷ [] }))
-other_fixed m commons c field offset id has fit = record {
+other_fixed : (m : ModuleValue) (commons : List Common) (c : ContentValue) (field : Field) (offset id : ℕ) → has_segment m.commons id ≡ true → fixups_fault m c (fixup_at field offset (target.Segment id) ∷ []) ≡ None
+    → Fits (other_reference id field offset) → Fixed m commons c (fixup_at field offset (target.Segment id)) (other_reference id field offset)
+other_fixed m commons c field offset id has used fits = record {
   passed = record {
-    used = ap (λ (o : Option Cause). option_or o (fixups_fault m c (fixup_at field offset (target.Segment id) ∷ []))) (known m id has) ∙ fit;
+    fits = fits;
+    used = ap (λ (o : Option Cause). option_or o (fixups_fault m c (fixup_at field offset (target.Segment id) ∷ []))) (known m id has) ∙ used;
     follow = refl;
-    declares = append-nil commons;
+    commons = refl;
+    publics = refl;
+    externals = refl;
     next = refl;
   };
   none = refl;
 }
-
-pub fixed_by : {A : Type 0} (P : A → Type 0) (b : Bool) (x y : A) → (b ≡ true → P x) → P y → P (if b then x else y)
-fixed_by P true x y own other = own refl
-fixed_by P false x y own other = other
 
 same_id : (id own : ℕ) → (id == own) ≡ true → own ≡ id
 same_id id own e =
@@ -181,28 +212,28 @@ fixed : (m : ModuleValue) (commons : List Common) (c : ContentValue) (field : Fi
 fixed m commons c field offset (target.Segment id) fits =
     let f = fixup_at field offset (target.Segment id) in
     let p = and_parts (is_inside c.offset (length c.bytes) f && not (shares_a_byte c.fixups f)) (has_segment m.commons id) fits in
-    fixed_by (Fixed m commons c f) (id == c.segment) (Relocation (record { field = field; references = record { offset = offset } ∷ [] })) (IntersegmentReferences (record { segment = id; field = field; references = record { offset = offset } ∷ [] }))
-    (λ same. own_fixed m commons c field offset id (same_id id c.segment same) (fixup_fits m c f fits)) (other_fixed m commons c field offset id p.1 (fixup_fits m c f fits))
+    let used = fixup_used m c f fits in
+    chosen_by (Fixed m commons c f) (id == c.segment) (own_reference field offset) (other_reference id field offset)
+    (λ same. own_fixed m commons c field offset id (same_id id c.segment same) used (own_fits field offset)) (other_fixed m commons c field offset id p.1 used (other_fits id field offset))
 fixed m commons c field offset (target.External index) fits = record {
-  passed = record { used = fixup_fits m c (fixup_at field offset (target.External index)) fits; follow = refl; declares = append-nil commons; next = refl };
+  passed = record { fits = external_reference_fits index field offset; used = fixup_used m c (fixup_at field offset (target.External index)) fits; follow = refl; commons = refl; publics = refl; externals = refl; next = refl };
   none = refl;
 }
 
 -- ---- contents
 
-fixups_pass : (m : ModuleValue) (commons : List Common) (c : ContentValue) (fs : List Fixup) (bodies : List Body) (contents : List ContentValue)
+fixups_pass : (m : ModuleValue) (commons : List Common) (c : ContentValue) (fs : List Fixup) (bodies : List Body) (said : Said)
     → each_after (is_fitting m.commons (length m.externals) c.offset (length c.bytes)) c.fixups fs ≡ true
-    → Passes m commons (Some (with_fixups c fs)) bodies contents → Passes m commons (Some c) (map (fixup_body c.segment) fs ++ bodies) contents
-fixups_pass m commons c [] bodies contents fit others =
-    subst (λ (fixups : List Fixup). Passes m commons (Some (record c { fixups = fixups })) bodies contents) (append-nil c.fixups) others
-fixups_pass m commons c (f ∷ fs) bodies contents fit others =
-    let fits = is_fitting m.commons (length m.externals) c.offset (length c.bytes) in
+    → Passes m commons (Some (with_fixups c fs)) bodies said → Passes m commons (Some c) (map (fixup_body c.segment) fs ++ bodies) said
+fixups_pass m commons c [] bodies said fit others =
+    subst (λ (fixups : List Fixup). Passes m commons (Some (record c { fixups = fixups })) bodies said) (append-nil c.fixups) others
+fixups_pass m commons c (f ∷ fs) bodies said fit others =
     let p = and_parts (is_fitting m.commons (length m.externals) c.offset (length c.bytes) c.fixups f) (each_after (is_fitting m.commons (length m.externals) c.offset (length c.bytes)) (c.fixups ++ f ∷ []) fs) fit in
     let one = fixed m commons c f.field f.offset f.target p.0 in
-    let last = fixups_pass m commons (with_fixups c (f ∷ [])) fs bodies contents p.1
-    (subst (λ (fixups : List Fixup). Passes m commons (Some (record c { fixups = fixups })) bodies contents) (sym (append_assoc c.fixups (f ∷ []) fs)) others) in
-    subst (λ (b : Bool). Passes m commons (Some c) (map (fixup_body c.segment) (f ∷ fs) ++ bodies) ((if b then c ∷ [] else []) ++ contents)) one.none
-    (passes_more m commons commons (Some c) (Some (with_fixups c (f ∷ []))) (fixup_body c.segment f) (map (fixup_body c.segment) fs ++ bodies) contents one.passed last)
+    let last = fixups_pass m commons (with_fixups c (f ∷ [])) fs bodies said p.1
+        (subst (λ (fixups : List Fixup). Passes m commons (Some (record c { fixups = fixups })) bodies said) (sym (append_assoc c.fixups (f ∷ []) fs)) others) in
+    subst (λ (b : Bool). Passes m commons (Some c) (map (fixup_body c.segment) (f ∷ fs) ++ bodies) (record said { contents = (if b then c ∷ [] else []) ++ said.contents })) one.none
+    (passes_more m commons commons [] [] [] (Some c) (Some (with_fixups c (f ∷ []))) (fixup_body c.segment f) (map (fixup_body c.segment) fs ++ bodies) said (append-nil commons) one.passed last)
 
 fits_within : (m : ModuleValue) (c : ContentValue) → lies_within m.segments m.commons c ≡ true → place_fault m (content_body c) ≡ None
 fits_within m c lies =
@@ -228,12 +259,24 @@ content_used m nearest c placed =
 abbrev unreferred : ContentValue → ContentValue
 unreferred c = record c { fixups = [] }
 
+abbrev pub only : List ContentValue → Said
+only contents = record { commons = []; publics = []; externals = []; contents = contents }
+
 pub contents_pass : (m : ModuleValue) (commons : List Common) (nearest : Option ContentValue) (cs : List ContentValue) → list_all (is_sound_content m.segments m.commons (length m.externals)) cs ≡ true
-    → Passes m commons nearest (flat_map content_bodies cs) (option_to_list nearest ++ cs)
-contents_pass m commons nearest [] sound = subst (Passes m commons nearest []) (sym (append-nil (option_to_list nearest))) (passes_none m commons nearest)
+    → Passes m commons nearest (flat_map content_bodies cs) (only (option_to_list nearest ++ cs))
+contents_pass m commons nearest [] sound = record {
+  fit = tt;
+  used = λ before. refl;
+  follow = λ before. refl;
+  commons = λ before. refl;
+  publics = λ before. refl;
+  externals = λ before. refl;
+  contents = λ before. sym (append-nil (option_to_list nearest));
+}
 contents_pass m commons nearest (c ∷ cs) sound =
     let p = and_parts (is_sound_content m.segments m.commons (length m.externals) c) (list_all (is_sound_content m.segments m.commons (length m.externals)) cs) sound in
     let q = and_parts (is_placed m.segments m.commons c) (has_fitting m.commons (length m.externals) c) p.0 in
-    passes_more m commons commons nearest (Some (unreferred c)) (content_body c) (map (fixup_body c.segment) c.fixups ++ flat_map content_bodies cs) (c ∷ cs)
-    record { used = content_used m nearest c q.0; follow = refl; declares = append-nil commons; next = refl }
-    (fixups_pass m commons (unreferred c) c.fixups (flat_map content_bodies cs) (c ∷ cs) q.1 (contents_pass m commons (Some c) cs p.1))
+    let short = and_parts (lies_within m.segments m.commons c) (nat_le (length c.bytes) 65531) q.0 in
+    passes_more m commons commons [] [] [] nearest (Some (unreferred c)) (content_body c) (map (fixup_body c.segment) c.fixups ++ flat_map content_bodies cs) (only (c ∷ cs)) (append-nil commons)
+    record { fits = content_fits c (leb-true (length c.bytes) 65531 short.1); used = content_used m nearest c q.0; follow = refl; commons = refl; publics = refl; externals = refl; next = refl }
+    (fixups_pass m commons (unreferred c) c.fixups (flat_map content_bodies cs) (only (c ∷ cs)) q.1 (contents_pass m commons (Some c) cs p.1))
