@@ -231,7 +231,7 @@ fixups_pass m commons c (f ∷ fs) bodies said fit others =
     let p = and_parts (is_fitting m.commons (length m.externals) c.offset (length c.bytes) c.fixups f) (each_after (is_fitting m.commons (length m.externals) c.offset (length c.bytes)) (c.fixups ++ f ∷ []) fs) fit in
     let one = fixed m commons c f.field f.offset f.target p.0 in
     let last = fixups_pass m commons (with_fixups c (f ∷ [])) fs bodies said p.1
-        (subst (λ (fixups : List Fixup). Passes m commons (Some (record c { fixups = fixups })) bodies said) (sym (append_assoc c.fixups (f ∷ []) fs)) others) in
+    (subst (λ (fixups : List Fixup). Passes m commons (Some (record c { fixups = fixups })) bodies said) (sym (append_assoc c.fixups (f ∷ []) fs)) others) in
     subst (λ (b : Bool). Passes m commons (Some c) (map (fixup_body c.segment) (f ∷ fs) ++ bodies) (record said { contents = (if b then c ∷ [] else []) ++ said.contents })) one.none
     (passes_more m commons commons [] [] [] (Some c) (Some (with_fixups c (f ∷ []))) (fixup_body c.segment f) (map (fixup_body c.segment) fs ++ bodies) said (append-nil commons) one.passed last)
 

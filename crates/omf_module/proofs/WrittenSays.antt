@@ -6,16 +6,8 @@ use Rattle.omf_core.specs.Name.{is_name}
 use Rattle.std.specs.Option.{option_or, option_to_list}
 use Rattle.std.proofs.lemmas.Bool.{and_parts}
 use Rattle.std.proofs.lemmas.List.{append-nil}
-use Rattle.std.proofs.lemmas.Grind.{flat_map-append}
 use Rattle.omf_body.specs.declared.entries.TheConstants.{ANY_BYTE}
-use Rattle.omf_body.specs.declared.field.Field.{Field}
-use Rattle.omf_body.specs.declared.body.RelocationBody.{RelocationBody}
-use Rattle.omf_body.specs.declared.body.IntersegmentBody.{IntersegmentBody}
-use Rattle.omf_body.specs.declared.body.ExternalReferencesBody.{ExternalReferencesBody}
-use Rattle.omf_body.specs.declared.body.ContentBody.{ContentBody}
 use Rattle.omf_body.specs.declared.body.Body.{Body}
-use Rattle.omf_body.specs.declared.body.Body.TheVariants.{Content, ExternalReferences, Relocation, IntersegmentReferences}
-use Rattle.omf_body.specs.Bodies.{record_bytes}
 use Rattle.omf_module.specs.declared.writing.TheConstants.{PAGED}
 use Rattle.omf_module.specs.declared.segment.Segment.{Segment}
 use Rattle.omf_module.specs.declared.symbols.Common.{Common}
@@ -23,17 +15,14 @@ use Rattle.omf_module.specs.declared.symbols.Public.{Public}
 use Rattle.omf_module.specs.declared.fault.Cause.{Cause}
 use Rattle.omf_module.specs.declared.fault.Cause.TheVariants.{SegmentUnknown}
 use Rattle.omf_module.specs.declared.fault.ModuleFault.{ModuleFault}
-use Rattle.omf_module.specs.declared.fixup.Fixup.{Fixup}
-use Rattle.omf_module.specs.declared.fixup.Target.{Target}
-use Rattle.omf_module.specs.declared.fixup.Target.TheVariants as target
 use Rattle.omf_module.specs.Contents.{ContentValue}
 use Rattle.omf_module.specs.Segments.{has_segment}
 use Rattle.omf_module.specs.Modules.{ModuleValue}
 use Rattle.omf_module.specs.Rules.{each_after, is_new_common, is_content, is_start, is_sound, has_names, IsModule}
-use Rattle.omf_module.specs.Records.{commons_in, commons_of, ModuleRecords}
+use Rattle.omf_module.specs.Records.{commons_of, ModuleRecords}
 use Rattle.omf_module.specs.Gathered.{segments_in, publics_in, externals_in, contents_from, start_in, parts_of}
 use Rattle.omf_module.specs.Uses.{unknown_id, fault_by, header_fault, bodies_fault, end_fault, use_fault}
-use Rattle.omf_module.specs.Writing.{segment_entry, header_body, common_body, public_body, external_body, fixup_by, fixup_body, content_bodies, place_of, end_body, bodies_within}
+use Rattle.omf_module.specs.Writing.{segment_entry, header_body, common_body, public_body, external_body, content_bodies, place_of, end_body, bodies_within}
 use Rattle.omf_module.proofs.WrittenSpelled.{placed_after}
 use Rattle.omf_module.proofs.WrittenPasses.{Passes, commons_pass, publics_pass, externals_pass, contents_pass}
 

@@ -1,8 +1,7 @@
 -- Each record that is written of a sound module can be written and is read again.
 use Rattle.std.proofs.Common.{◌≡◌, ℕ, zero, suc, ◌+◌, ◌*◌, ◌≤◌, ◌<◌, Bool, true, false, ◌&&◌, ◌||◌, List, [], ◌∷◌, ◌++◌, length, map, Option, Some, None, refl, sym, subst, arith, inl, inr}
-use Rattle.std.specs.Prelude.{not, ◌==◌, nat_eq, nat_le, if◌then◌else◌}
-use Rattle.std.specs.Cmp.Lexicographic.{pointwise}
-use Rattle.std.specs.List.{flat_map, list_all, list_any, range_with_len, cons_option, AllByRecursion}
+use Rattle.std.specs.Prelude.{◌==◌, nat_le, if◌then◌else◌}
+use Rattle.std.specs.List.{flat_map, list_all, list_any, range_with_len, cons_option}
 use Rattle.std.proofs.lemmas.Bool.{and_parts, leb-true}
 use Rattle.std.proofs.lemmas.Bool.Decides.{eqb_tells}
 use Rattle.std.proofs.lemmas.List.{length-append}
@@ -14,15 +13,11 @@ use Rattle.omf_body.specs.Bodies.{are_distinct}
 use Rattle.omf_module.specs.declared.segment.Segment.{Segment}
 use Rattle.omf_module.specs.declared.symbols.Common.{Common}
 use Rattle.omf_module.specs.declared.symbols.Public.{Public}
-use Rattle.omf_module.specs.declared.fixup.Fixup.{Fixup}
-use Rattle.omf_module.specs.declared.fixup.Target.{Target}
-use Rattle.omf_module.specs.declared.fixup.Target.TheVariants as target
 use Rattle.omf_module.specs.Contents.{ContentValue}
-use Rattle.omf_module.specs.Segments.{has_segment, is_common_id, names_common, is_used, segment_in, entries_for, listed_ids, in_one_form}
+use Rattle.omf_module.specs.Segments.{is_common_id, names_common, is_used, segment_in, entries_for, listed_ids, in_one_form}
 use Rattle.omf_module.specs.Modules.{ModuleValue}
-use Rattle.omf_module.specs.Rules.{each_after, is_new_common, is_content, is_start, is_sound, IsModule}
-use Rattle.omf_module.specs.Writing.{segment_entry, header_body, common_body, public_body, external_body, fixup_by, fixup_body, content_body, content_bodies, end_body, bodies_within}
-use Rattle.omf_module.proofs.ShortLemmas.{one_form_few, module_contents_short}
+use Rattle.omf_module.specs.Writing.{segment_entry, header_body, common_body, public_body, external_body, content_body, end_body}
+use Rattle.omf_module.proofs.ShortLemmas.{one_form_few}
 use Rattle.omf_module.proofs.WrittenSpelled.{Fits}
 
 pub and_join : (a b : Bool) → a ≡ true → b ≡ true → (a && b) ≡ true
