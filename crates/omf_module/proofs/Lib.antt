@@ -15,3 +15,9 @@ pub mod PatchLemmas
 pub mod WorkedPlaces
 pub mod PatchingLemmas
 pub mod PatchedTwice
+pub mod WrittenSpelled
+pub mod WrittenPasses
+pub mod WrittenSound
+pub mod WrittenSays
+pub mod WritingLemmas
+pub mod WrittenModule

@@ -9,6 +9,8 @@ pub mod Gathered
 pub mod Uses
 pub mod Spelled
 pub mod Reading
+pub mod Writing
+pub mod WritingLaws
 pub mod Place
 pub mod Patches
 pub mod ImageByte

@@ -8,7 +8,7 @@
 //! | [`names_common`] | whether a module has a named common of an id |
 //! | [`Content`], [`Fixup`], [`Field`], [`Target`] | bytes of a segment, and the references that stand in them |
 //! | [`read_module`], [`read_file`] | the module that begins at a place; the modules of an object file |
-//! | [`write_file`] | modules as an object file |
+//! | [`write_module`], [`write_file`] | a module as records; modules as an object file |
 //! | [`Patch`], [`apply_patches`] | references of a content, each increased by a displacement |
 //! | [`laws`] | what is read is spelled by records, and what is spelled or written is read |
 //! | [`ModuleFault`], [`Cause`], [`PartsFault`] | why bytes, or parts, make no module |
@@ -36,6 +36,7 @@ mod segment;
 mod symbols;
 mod uses;
 mod within;
+mod writing;
 
 pub use content::Content;
 pub use fault::{Cause, ModuleFault, PartsFault};
@@ -47,4 +48,4 @@ pub use patching::{Patch, apply_patches};
 pub use rules::names_common;
 pub use segment::Segment;
 pub use symbols::{Common, Public};
-
+pub use writing::{write_file, write_module};

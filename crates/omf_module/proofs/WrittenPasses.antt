@@ -1,0 +1,282 @@
+-- What comes of the records that are written of a sound module: each can be written and is read again, may follow those before
+-- it, and uses nothing that isn't there; and they say what the module has.
+use Rattle.std.proofs.Common.{◌≡◌, ℕ, ◌+◌, Bool, true, false, ◌&&◌, List, [], ◌∷◌, ◌++◌, length, map, Option, Some, None, refl, sym, ap, ◌∙◌, subst, append_assoc, inl, inr}
+use Rattle.std.specs.Prelude.{not, ◌==◌, nat_eq, nat_le, nat_lt, if◌then◌else◌, option_map}
+use Rattle.std.specs.Cmp.Lexicographic.{pointwise}
+use Rattle.omf_core.specs.Name.{is_name}
+use Rattle.std.specs.List.{flat_map, list_all, list_any, AllByRecursion}
+use Rattle.std.specs.Option.{option_or, option_to_list}
+use Rattle.std.proofs.lemmas.Bool.{and_parts, le-ltb, leb-true}
+use Rattle.std.proofs.lemmas.Bool.Decides.{eqb_tells}
+use Rattle.std.proofs.lemmas.List.{append-nil}
+use Rattle.omf_body.specs.declared.field.Field.{Field}
+use Rattle.omf_body.specs.declared.body.Body.{Body}
+use Rattle.omf_body.specs.declared.body.Body.TheVariants.{Relocation, IntersegmentReferences}
+use Rattle.omf_body.specs.Bodies.{record_bytes}
+use Rattle.omf_module.specs.declared.symbols.Common.{Common}
+use Rattle.omf_module.specs.declared.symbols.Public.{Public}
+use Rattle.omf_module.specs.declared.fault.Cause.{Cause}
+use Rattle.omf_module.specs.declared.fault.Cause.TheVariants.{SegmentUnknown, OffsetOutside, FixupOutside, FixupTwice, IndexUnknown}
+use Rattle.omf_module.specs.declared.fixup.Fixup.{Fixup}
+use Rattle.omf_module.specs.declared.fixup.Target.{Target}
+use Rattle.omf_module.specs.declared.fixup.Target.TheVariants as target
+use Rattle.omf_module.specs.Contents.{ContentValue, is_inside, shares_a_byte}
+use Rattle.omf_module.specs.Segments.{has_segment, is_common_id}
+use Rattle.omf_module.specs.Modules.{ModuleValue}
+use Rattle.omf_module.specs.Rules.{each_after, is_new_common, is_fitting, has_target, end_of, lies_within, is_placed, has_fitting, is_content as is_sound_content}
+use Rattle.omf_module.specs.Records.{commons_in, may_follow, each_follows}
+use Rattle.omf_module.specs.Gathered.{publics_in, externals_in, with_fixups, content_after, is_content, contents_from}
+use Rattle.omf_module.specs.Uses.{unknown_id, place_fault, lacks_external, fixups_fault, reference_fault, body_fault, fault_by, bodies_fault}
+use Rattle.omf_module.specs.Writing.{common_body, public_body, external_body, fixup_by, fixup_body, content_body, content_bodies}
+use Rattle.omf_module.proofs.WrittenSpelled.{Fits, placed_after}
+use Rattle.omf_module.proofs.WrittenSound.{and_join, chosen_by, common_fits, public_fits, external_fits, own_fits, other_fits, external_reference_fits, content_fits}
+
+-- what records say in all
+pub record Said : Type 0 where
+  pub commons : List Common
+  pub publics : List Public
+  pub externals : List (List ℕ)
+  pub contents : List ContentValue
+
+-- What comes of bodies in a module, after records that declare these commons and have this nearest content.
+pub record Passes (m : ModuleValue) (known : List Common) (nearest : Option ContentValue) (bodies : List Body) (said : Said) : Type 0 where
+  pub fit : AllByRecursion Fits bodies
+  pub used : (before : List ℕ) → bodies_fault m nearest (placed_after before bodies) ≡ None
+  pub follow : (before : List ℕ) → each_follows known (placed_after before bodies) ≡ true
+  pub commons : (before : List ℕ) → flat_map (λ p. commons_in p.body) (placed_after before bodies) ≡ said.commons
+  pub publics : (before : List ℕ) → flat_map (λ p. publics_in p.body) (placed_after before bodies) ≡ said.publics
+  pub externals : (before : List ℕ) → flat_map (λ p. externals_in p.body) (placed_after before bodies) ≡ said.externals
+  pub contents : (before : List ℕ) → contents_from nearest (placed_after before bodies) ≡ said.contents
+
+-- what comes of one body
+record Passed (m : ModuleValue) (known : List Common) (nearest : Option ContentValue) (body : Body) (cs : List Common) (ps : List Public) (xs : List (List ℕ)) (after : Option ContentValue) : Type 0 where
+  fits : Fits body
+  used : body_fault m nearest body ≡ None
+  follow : may_follow known body ≡ true
+  commons : commons_in body ≡ cs
+  publics : publics_in body ≡ ps
+  externals : externals_in body ≡ xs
+  next : content_after nearest body ≡ after
+
+abbrev cut : Option ContentValue → Body → List ContentValue
+cut nearest body = if is_content body then option_to_list nearest else []
+
+joined : {A : Type 0} (a b c d : List A) → a ≡ b → c ≡ d → a ++ c ≡ b ++ d
+joined a b c d e f = ap (λ x. x ++ c) e ∙ ap (λ x. b ++ x) f
+
+passes_more : (m : ModuleValue) (known declared cs : List Common) (ps : List Public) (xs : List (List ℕ)) (nearest after : Option ContentValue) (body : Body) (bodies : List Body) (said : Said)
+    → known ++ cs ≡ declared → Passed m known nearest body cs ps xs after → Passes m declared after bodies said
+    → Passes m known nearest (body ∷ bodies) (record { commons = cs ++ said.commons; publics = ps ++ said.publics; externals = xs ++ said.externals; contents = cut nearest body ++ said.contents })
+passes_more m known declared cs ps xs nearest after body bodies said declares one others = record {
+  fit = (one.fits, others.fit);
+  used = λ before.
+      let rest = placed_after (before ++ record_bytes body) bodies in
+      ap (λ (o : Option Cause). option_or (option_map (fault_by (length before)) o) (bodies_fault m (content_after nearest body) rest)) one.used
+      ∙ (ap (λ (c : Option ContentValue). bodies_fault m c rest) one.next ∙ others.used (before ++ record_bytes body));
+  follow = λ before.
+      let rest = placed_after (before ++ record_bytes body) bodies in
+      and_join (may_follow known body) (each_follows (known ++ commons_in body) rest) one.follow
+      (ap (λ (k : List Common). each_follows k rest) (ap (λ (k : List Common). known ++ k) one.commons ∙ declares) ∙ others.follow (before ++ record_bytes body));
+  commons = λ before. joined (commons_in body) cs _ said.commons one.commons (others.commons (before ++ record_bytes body));
+  publics = λ before. joined (publics_in body) ps _ said.publics one.publics (others.publics (before ++ record_bytes body));
+  externals = λ before. joined (externals_in body) xs _ said.externals one.externals (others.externals (before ++ record_bytes body));
+  contents = λ before.
+      let rest = placed_after (before ++ record_bytes body) bodies in
+      ap (λ (c : Option ContentValue). cut nearest body ++ contents_from c rest) one.next
+      ∙ ap (λ (cs : List ContentValue). cut nearest body ++ cs) (others.contents (before ++ record_bytes body));
+}
+
+-- ---- commons, publics and externals
+
+common_id : (before : List Common) (c : Common) → is_new_common before c ≡ true → is_common_id c.id ≡ true
+common_id before c new =
+    let p = and_parts (is_common_id c.id && not (list_any (λ d. d.id == c.id) before)) (not (list_any (λ d. pointwise nat_eq d.name c.name) before)) new in
+    (and_parts (is_common_id c.id) (not (list_any (λ d. d.id == c.id) before)) p.0).0
+
+pub commons_pass : (m : ModuleValue) (before cs : List Common) (bodies : List Body) (said : Said) → each_after is_new_common before cs ≡ true → list_all (λ c. is_name c.name) cs ≡ true
+    → Passes m (before ++ cs) None bodies said → Passes m before None (map common_body cs ++ bodies) (record said { commons = cs ++ said.commons })
+commons_pass m before [] bodies said new names others = subst (λ (k : List Common). Passes m k None bodies said) (append-nil before) others
+commons_pass m before (c ∷ cs) bodies said new names others =
+    let p = and_parts (is_new_common before c) (each_after is_new_common (before ++ c ∷ []) cs) new in
+    let n = and_parts (is_name c.name) (list_all (λ d. is_name d.name) cs) names in
+    passes_more m before (before ++ c ∷ []) (c ∷ []) [] [] None None (common_body c) (map common_body cs ++ bodies) (record said { commons = cs ++ said.commons }) refl
+    record { fits = common_fits c (common_id before c p.0) n.0; used = refl; follow = and_join (is_new_common before c) true p.0 refl; commons = refl; publics = refl; externals = refl; next = refl }
+    (commons_pass m (before ++ c ∷ []) cs bodies said p.1 n.1 (subst (λ (k : List Common). Passes m k None bodies said) (sym (append_assoc before (c ∷ []) cs)) others))
+
+known : (m : ModuleValue) (id : ℕ) → has_segment m.commons id ≡ true → unknown_id m (id ∷ []) ≡ None
+known m id has = ap (λ (b : Bool). if b then None else Some (SegmentUnknown id)) has
+
+pub publics_pass : (m : ModuleValue) (commons : List Common) (ps : List Public) (bodies : List Body) (said : Said) → list_all (λ p. has_segment m.commons p.segment) ps ≡ true → list_all (λ p. is_name p.name) ps ≡ true
+    → Passes m commons None bodies said → Passes m commons None (map public_body ps ++ bodies) (record said { publics = ps ++ said.publics })
+publics_pass m commons [] bodies said has names others = others
+publics_pass m commons (p ∷ ps) bodies said has names others =
+    let q = and_parts (has_segment m.commons p.segment) (list_all (λ r. has_segment m.commons r.segment) ps) has in
+    let n = and_parts (is_name p.name) (list_all (λ r. is_name r.name) ps) names in
+    passes_more m commons commons [] (p ∷ []) [] None None (public_body p) (map public_body ps ++ bodies) (record said { publics = ps ++ said.publics }) (append-nil commons)
+    record { fits = public_fits p n.0; used = ap (λ (o : Option Cause). option_or o None) (known m p.segment q.0); follow = refl; commons = refl; publics = refl; externals = refl; next = refl }
+    (publics_pass m commons ps bodies said q.1 n.1 others)
+
+pub externals_pass : (m : ModuleValue) (commons : List Common) (xs : List (List ℕ)) (bodies : List Body) (said : Said) → list_all is_name xs ≡ true
+    → Passes m commons None bodies said → Passes m commons None (map external_body xs ++ bodies) (record said { externals = xs ++ said.externals })
+externals_pass m commons [] bodies said names others = others
+externals_pass m commons (x ∷ xs) bodies said names others =
+    let n = and_parts (is_name x) (list_all is_name xs) names in
+    passes_more m commons commons [] [] (x ∷ []) None None (external_body x) (map external_body xs ++ bodies) (record said { externals = xs ++ said.externals }) (append-nil commons)
+    record { fits = external_fits x n.0; used = refl; follow = refl; commons = refl; publics = refl; externals = refl; next = refl }
+    (externals_pass m commons xs bodies said n.1 others)
+
+-- ---- a fixup
+
+off_by_not : (b : Bool) → not b ≡ true → b ≡ false
+off_by_not true e = absurd cc
+off_by_not false e = refl
+
+test_on : {A : Type 0} (b : Bool) (x y : A) → b ≡ true → (if b then x else y) ≡ x
+test_on true x y e = refl
+test_on false x y e = absurd cc
+
+test_off : {A : Type 0} (b : Bool) (x y : A) → b ≡ false → (if b then x else y) ≡ y
+test_off true x y e = absurd cc
+test_off false x y e = refl
+
+lacks_none : (m : ModuleValue) (to : Target) → has_target m.commons (length m.externals) to ≡ true → lacks_external m to ≡ false
+lacks_none m (target.Segment id) has = refl
+lacks_none m (target.External index) has = ap not has
+
+fixup_used : (m : ModuleValue) (c : ContentValue) (f : Fixup) → is_fitting m.commons (length m.externals) c.offset (length c.bytes) c.fixups f ≡ true → fixups_fault m c (f ∷ []) ≡ None
+fixup_used m c f fit =
+    let p = and_parts (is_inside c.offset (length c.bytes) f && not (shares_a_byte c.fixups f)) (has_target m.commons (length m.externals) f.target) fit in
+    let q = and_parts (is_inside c.offset (length c.bytes) f) (not (shares_a_byte c.fixups f)) p.0 in
+    let inside : not (is_inside c.offset (length c.bytes) f) ≡ false = ap not q.0 in
+    let lacks = if lacks_external m f.target then Some IndexUnknown else None in
+    let twice = if shares_a_byte c.fixups f then Some FixupTwice else lacks in
+    ap (λ (o : Option Cause). option_or o None)
+    (test_off (not (is_inside c.offset (length c.bytes) f)) (Some FixupOutside) twice inside
+    ∙ (test_off (shares_a_byte c.fixups f) (Some FixupTwice) lacks (off_by_not (shares_a_byte c.fixups f) q.1)
+    ∙ test_off (lacks_external m f.target) (Some IndexUnknown) None (lacks_none m f.target p.1)))
+
+abbrev fixup_at : Field → ℕ → Target → Fixup
+fixup_at field offset to = record { offset = offset; field = field; target = to }
+
+-- what comes of a body that says one fixup in the nearest content
+record Fixed (m : ModuleValue) (commons : List Common) (c : ContentValue) (f : Fixup) (body : Body) : Type 0 where
+  passed : Passed m commons (Some c) body [] [] [] (Some (with_fixups c (f ∷ [])))
+  none : is_content body ≡ false
+
+abbrev own_reference : Field → ℕ → Body
+own_reference field offset = Relocation (record { field = field; references = record { offset = offset } ∷ [] })
+
+abbrev other_reference : ℕ → Field → ℕ → Body
+other_reference id field offset = IntersegmentReferences (record { segment = id; field = field; references = record { offset = offset } ∷ [] })
+
+own_fixed : (m : ModuleValue) (commons : List Common) (c : ContentValue) (field : Field) (offset id : ℕ) → c.segment ≡ id → fixups_fault m c (fixup_at field offset (target.Segment id) ∷ []) ≡ None
+    → Fits (own_reference field offset) → Fixed m commons c (fixup_at field offset (target.Segment id)) (own_reference field offset)
+own_fixed m commons c field offset id same used fits = record {
+  passed = record {
+    fits = fits;
+    used = ap (λ (i : ℕ). fixups_fault m c (fixup_at field offset (target.Segment i) ∷ [])) same ∙ used;
+    follow = refl;
+    commons = refl;
+    publics = refl;
+    externals = refl;
+    next = ap (λ (i : ℕ). Some (with_fixups c (fixup_at field offset (target.Segment i) ∷ []))) same;
+  };
+  none = refl;
+}
+
+other_fixed : (m : ModuleValue) (commons : List Common) (c : ContentValue) (field : Field) (offset id : ℕ) → has_segment m.commons id ≡ true → fixups_fault m c (fixup_at field offset (target.Segment id) ∷ []) ≡ None
+    → Fits (other_reference id field offset) → Fixed m commons c (fixup_at field offset (target.Segment id)) (other_reference id field offset)
+other_fixed m commons c field offset id has used fits = record {
+  passed = record {
+    fits = fits;
+    used = ap (λ (o : Option Cause). option_or o (fixups_fault m c (fixup_at field offset (target.Segment id) ∷ []))) (known m id has) ∙ used;
+    follow = refl;
+    commons = refl;
+    publics = refl;
+    externals = refl;
+    next = refl;
+  };
+  none = refl;
+}
+
+same_id : (id own : ℕ) → (id == own) ≡ true → own ≡ id
+same_id id own e =
+    elim (eqb_tells id own) [
+      | inl is ↦ sym is.1
+      | inr off ↦ absurd cc
+    ]
+
+fixed : (m : ModuleValue) (commons : List Common) (c : ContentValue) (field : Field) (offset : ℕ) (to : Target)
+    → is_fitting m.commons (length m.externals) c.offset (length c.bytes) c.fixups (fixup_at field offset to) ≡ true
+    → Fixed m commons c (fixup_at field offset to) (fixup_by c.segment field offset to)
+fixed m commons c field offset (target.Segment id) fits =
+    let f = fixup_at field offset (target.Segment id) in
+    let p = and_parts (is_inside c.offset (length c.bytes) f && not (shares_a_byte c.fixups f)) (has_segment m.commons id) fits in
+    let used = fixup_used m c f fits in
+    chosen_by (Fixed m commons c f) (id == c.segment) (own_reference field offset) (other_reference id field offset)
+    (λ same. own_fixed m commons c field offset id (same_id id c.segment same) used (own_fits field offset)) (other_fixed m commons c field offset id p.1 used (other_fits id field offset))
+fixed m commons c field offset (target.External index) fits = record {
+  passed = record { fits = external_reference_fits index field offset; used = fixup_used m c (fixup_at field offset (target.External index)) fits; follow = refl; commons = refl; publics = refl; externals = refl; next = refl };
+  none = refl;
+}
+
+-- ---- contents
+
+fixups_pass : (m : ModuleValue) (commons : List Common) (c : ContentValue) (fs : List Fixup) (bodies : List Body) (said : Said)
+    → each_after (is_fitting m.commons (length m.externals) c.offset (length c.bytes)) c.fixups fs ≡ true
+    → Passes m commons (Some (with_fixups c fs)) bodies said → Passes m commons (Some c) (map (fixup_body c.segment) fs ++ bodies) said
+fixups_pass m commons c [] bodies said fit others =
+    subst (λ (fixups : List Fixup). Passes m commons (Some (record c { fixups = fixups })) bodies said) (append-nil c.fixups) others
+fixups_pass m commons c (f ∷ fs) bodies said fit others =
+    let p = and_parts (is_fitting m.commons (length m.externals) c.offset (length c.bytes) c.fixups f) (each_after (is_fitting m.commons (length m.externals) c.offset (length c.bytes)) (c.fixups ++ f ∷ []) fs) fit in
+    let one = fixed m commons c f.field f.offset f.target p.0 in
+    let last = fixups_pass m commons (with_fixups c (f ∷ [])) fs bodies said p.1
+    (subst (λ (fixups : List Fixup). Passes m commons (Some (record c { fixups = fixups })) bodies said) (sym (append_assoc c.fixups (f ∷ []) fs)) others) in
+    subst (λ (b : Bool). Passes m commons (Some c) (map (fixup_body c.segment) (f ∷ fs) ++ bodies) (record said { contents = (if b then c ∷ [] else []) ++ said.contents })) one.none
+    (passes_more m commons commons [] [] [] (Some c) (Some (with_fixups c (f ∷ []))) (fixup_body c.segment f) (map (fixup_body c.segment) fs ++ bodies) said (append-nil commons) one.passed last)
+
+fits_within : (m : ModuleValue) (c : ContentValue) → lies_within m.segments m.commons c ≡ true → place_fault m (content_body c) ≡ None
+fits_within m c lies =
+    let b = and_parts (has_segment m.commons c.segment && not (c.segment == 3)) (nat_le (c.offset + length c.bytes) (end_of m.segments c.segment)) lies in
+    let d = and_parts (has_segment m.commons c.segment) (not (c.segment == 3)) b.0 in
+    let outside = if nat_lt (end_of m.segments c.segment) (c.offset + length c.bytes) then Some OffsetOutside else None in
+    test_off (c.segment == 3) (Some (SegmentUnknown 3)) outside (off_by_not (c.segment == 3) d.1)
+    ∙ test_off (nat_lt (end_of m.segments c.segment) (c.offset + length c.bytes)) (Some OffsetOutside) None
+    (le-ltb (end_of m.segments c.segment) (c.offset + length c.bytes) (leb-true (c.offset + length c.bytes) (end_of m.segments c.segment) b.1))
+
+refers_to_none : (m : ModuleValue) (nearest : Option ContentValue) (c : ContentValue) → reference_fault m nearest (content_body c) ≡ None
+refers_to_none m None c = refl
+refers_to_none m (Some d) c = refl
+
+content_used : (m : ModuleValue) (nearest : Option ContentValue) (c : ContentValue) → is_placed m.segments m.commons c ≡ true → body_fault m nearest (content_body c) ≡ None
+content_used m nearest c placed =
+    let a = and_parts (lies_within m.segments m.commons c) (nat_le (length c.bytes) 65531) placed in
+    let b = and_parts (has_segment m.commons c.segment && not (c.segment == 3)) (nat_le (c.offset + length c.bytes) (end_of m.segments c.segment)) a.0 in
+    let d = and_parts (has_segment m.commons c.segment) (not (c.segment == 3)) b.0 in
+    ap (λ (o : Option Cause). option_or o (option_or (place_fault m (content_body c)) (reference_fault m nearest (content_body c)))) (known m c.segment d.0)
+    ∙ (ap (λ (o : Option Cause). option_or o (reference_fault m nearest (content_body c))) (fits_within m c a.0) ∙ refers_to_none m nearest c)
+
+abbrev unreferred : ContentValue → ContentValue
+unreferred c = record c { fixups = [] }
+
+abbrev pub only : List ContentValue → Said
+only contents = record { commons = []; publics = []; externals = []; contents = contents }
+
+pub contents_pass : (m : ModuleValue) (commons : List Common) (nearest : Option ContentValue) (cs : List ContentValue) → list_all (is_sound_content m.segments m.commons (length m.externals)) cs ≡ true
+    → Passes m commons nearest (flat_map content_bodies cs) (only (option_to_list nearest ++ cs))
+contents_pass m commons nearest [] sound = record {
+  fit = tt;
+  used = λ before. refl;
+  follow = λ before. refl;
+  commons = λ before. refl;
+  publics = λ before. refl;
+  externals = λ before. refl;
+  contents = λ before. sym (append-nil (option_to_list nearest));
+}
+contents_pass m commons nearest (c ∷ cs) sound =
+    let p = and_parts (is_sound_content m.segments m.commons (length m.externals) c) (list_all (is_sound_content m.segments m.commons (length m.externals)) cs) sound in
+    let q = and_parts (is_placed m.segments m.commons c) (has_fitting m.commons (length m.externals) c) p.0 in
+    let short = and_parts (lies_within m.segments m.commons c) (nat_le (length c.bytes) 65531) q.0 in
+    passes_more m commons commons [] [] [] nearest (Some (unreferred c)) (content_body c) (map (fixup_body c.segment) c.fixups ++ flat_map content_bodies cs) (only (c ∷ cs)) (append-nil commons)
+    record { fits = content_fits c (leb-true (length c.bytes) 65531 short.1); used = content_used m nearest c q.0; follow = refl; commons = refl; publics = refl; externals = refl; next = refl }
+    (fixups_pass m commons (unreferred c) c.fixups (flat_map content_bodies cs) (only (c ∷ cs)) q.1 (contents_pass m commons (Some c) cs p.1))

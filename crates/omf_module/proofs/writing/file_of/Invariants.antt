@@ -1,0 +1,12 @@
+-- what is written, what is left to write, and that those written are modules
+use Rattle.std.proofs.Common.{◌≡◌, ◌++◌, drop}
+use Rattle.std.specs.List.{flat_map, AllByRecursion}
+use Rattle.omf_module.specs.Rules.{IsModule}
+use Rattle.omf_module.specs.Writing.{module_bytes}
+use Rattle.omf_module.proofs.writing.file_of.Given as goal
+
+abbrev pub invariant-loop-module : goal.invariant-loop-module
+invariant-loop-module l = record {
+  written : l.file.items ++ flat_map module_bytes (drop l.module-index l.modules) ≡ flat_map module_bytes l.modules;
+  rules : AllByRecursion IsModule (drop l.module-index l.modules) → AllByRecursion IsModule l.modules;
+}

@@ -1,0 +1,268 @@
+//! Modules as records, in one form: each kind of record is appended by its own function.
+
+ghost use Rattle.std.specs.Prelude.{◌≡◌, ◌≢◌, ◌≤◌, ◌<◌, ◌++◌, [], length, map, is_ok, option_map, Err, IfOk, OnOk, OnErr, IsTrue};
+ghost use Rattle.std.specs.List.{flat_map, AllByRecursion};
+ghost use Rattle.omf_core.specs.Name.{is_name};
+ghost use Rattle.omf_core.specs.declared.fault.PutFault.TheVariants.{TooLong};
+ghost use Rattle.omf_body.specs.declared.body.Body.TheVariants.{ModuleHeader, ModuleEnd};
+ghost use Rattle.omf_body.specs.Bodies.{record_bytes};
+ghost use Rattle.omf_module.specs.Rules.{IsModule};
+ghost use Rattle.omf_module.specs.Spelled.{SpellsFile};
+ghost use Rattle.omf_module.specs.Writing.{segment_entry, header_body, common_body, public_body, external_body, fixup_body, content_body, content_bodies, place_of, end_body, module_bytes, file_bytes};
+ghost use Rattle.omf_module.specs.WritingLaws.{IsReadAgain};
+
+use crate::content::Content;
+use crate::fixup::{Fixup, Target};
+use crate::laws::{written_file_is_spelled, written_module_is_spelled};
+use crate::modules::Module;
+use crate::segment::Segment;
+use crate::symbols::{Common, Public};
+use omf_body::{
+    ANY_BYTE, CommonEntry, ExternalEntry, IndexEntry, NameBytes, OffsetEntry, Place, PublicEntry,
+    SegmentEntry, put_commons, put_content, put_end, put_external_references, put_externals,
+    put_header, put_intersegment, put_publics, put_relocation,
+};
+use omf_core::{Name, PutFault, RecordKind, put_record};
+use std::alloc::{AllocError, Global};
+
+/// The alignment byte of a part that starts at a multiple of 256.
+pub(crate) const PAGED: u8 = 2;
+
+/// What came of a body that fits its record: if it wasn't appended, memory ran out.
+fn never_too_long(appended: Result<(), PutFault>) -> Result<(), AllocError>
+    requires { appended ≢ Err TooLong }
+    ensures { is_ok result ≡ is_ok appended }
+{
+    match appended {
+        Ok(()) => Ok(()),
+        Err(PutFault::TooLong) => unreachable!(),
+        Err(PutFault::Memory) => Err(AllocError),
+    }
+}
+
+/// The name as an entry has it.
+fn name_bytes(name: &Name) -> NameBytes
+    ensures value { result ≡ name.now }
+    ensures name { IsTrue (is_name name.now) }
+{
+    let bytes = NameBytes::of(name);
+    let _ = bytes.bytes();
+    bytes
+}
+
+fn segment_entry(entry: &(u8, Segment)) -> SegmentEntry
+    ensures { result ≡ segment_entry entry.now }
+{
+    SegmentEntry {
+        id: entry.0,
+        length: entry.1.length,
+        alignment: if entry.1.paged { PAGED } else { ANY_BYTE },
+    }
+}
+
+fn segment_entries(
+    alloc: Global,
+    segments: &[(u8, Segment)],
+) -> Result<Vec<SegmentEntry>, AllocError>
+    ensures { IfOk result (λ made. made.items ≡ map segment_entry segments.now) }
+{
+    let mut entries = Vec::new(alloc);
+    for segment in segments {
+        entries.push(segment_entry(segment))?;
+    }
+    Ok(entries)
+}
+
+fn append_header(alloc: Global, source: &Module, out: &mut Vec<u8>) -> Result<(), AllocError>
+    ensures { OnOk result (out.new.items ≡ out.old.items ++ record_bytes (ModuleHeader (header_body source.now))) }
+{
+    let entries = segment_entries(alloc, source.segments())?;
+    let name = name_bytes(source.name());
+    never_too_long(put_header(alloc, &name, &entries, out))
+}
+
+fn append_common(alloc: Global, common: &Common, out: &mut Vec<u8>) -> Result<(), AllocError>
+    ensures { OnOk result (out.new.items ≡ out.old.items ++ record_bytes (common_body common.now)) }
+{
+    let entry = CommonEntry {
+        id: common.id,
+        name: name_bytes(&common.name),
+    };
+    never_too_long(put_commons(alloc, &[entry], out))
+}
+
+fn append_public(alloc: Global, public: &Public, out: &mut Vec<u8>) -> Result<(), AllocError>
+    ensures { OnOk result (out.new.items ≡ out.old.items ++ record_bytes (public_body public.now)) }
+{
+    let entry = PublicEntry {
+        offset: public.offset,
+        name: name_bytes(&public.name),
+        unread: 0,
+    };
+    never_too_long(put_publics(alloc, public.segment, &[entry], out))
+}
+
+fn append_external(alloc: Global, name: &Name, out: &mut Vec<u8>) -> Result<(), AllocError>
+    ensures { OnOk result (out.new.items ≡ out.old.items ++ record_bytes (external_body name.now)) }
+{
+    let entry = ExternalEntry {
+        name: name_bytes(name),
+        unread: 0,
+    };
+    never_too_long(put_externals(alloc, &[entry], out))
+}
+
+fn append_fixup(alloc: Global, own: u8, fixup: Fixup, out: &mut Vec<u8>) -> Result<(), AllocError>
+    ensures { OnOk result (out.new.items ≡ out.old.items ++ record_bytes (fixup_body own fixup)) }
+{
+    let Fixup { offset, field, .. } = fixup;
+    match fixup.target {
+        Target::Segment(id) => {
+            if id == own {
+                never_too_long(put_relocation(alloc, field, &[OffsetEntry { offset }], out))
+            } else {
+                let references = [OffsetEntry { offset }];
+                never_too_long(put_intersegment(alloc, id, field, &references, out))
+            }
+        }
+        Target::External(index) => {
+            let references = [IndexEntry { index, offset }];
+            never_too_long(put_external_references(alloc, field, &references, out))
+        }
+    }
+}
+
+fn append_bytes(alloc: Global, content: &Content, out: &mut Vec<u8>) -> Result<(), AllocError>
+    requires { length content.now.bytes ≤ 65531 }
+    ensures { OnOk result (out.new.items ≡ out.old.items ++ record_bytes (content_body content.now)) }
+{
+    never_too_long(put_content(alloc, content.segment, content.offset, &content.bytes, out))
+}
+
+fn append_end(alloc: Global, start: Option<(u8, u16)>, out: &mut Vec<u8>) -> Result<(), AllocError>
+    ensures { OnOk result (out.new.items ≡ out.old.items ++ record_bytes (ModuleEnd (end_body start))) }
+{
+    let place = start.map(|(segment, offset)| Place { segment, offset });
+    never_too_long(put_end(alloc, place, out))
+}
+
+fn append_commons(alloc: Global, commons: &[Common], out: &mut Vec<u8>) -> Result<(), AllocError>
+    ensures { OnOk result (out.new.items ≡ out.old.items ++ flat_map record_bytes (map common_body commons.now)) }
+{
+    for common in commons {
+        append_common(alloc, common, out)?;
+    }
+    Ok(())
+}
+
+fn append_publics(alloc: Global, publics: &[Public], out: &mut Vec<u8>) -> Result<(), AllocError>
+    ensures { OnOk result (out.new.items ≡ out.old.items ++ flat_map record_bytes (map public_body publics.now)) }
+{
+    for public in publics {
+        append_public(alloc, public, out)?;
+    }
+    Ok(())
+}
+
+fn append_externals(alloc: Global, externals: &[Name], out: &mut Vec<u8>) -> Result<(), AllocError>
+    ensures { OnOk result (out.new.items ≡ out.old.items ++ flat_map record_bytes (map external_body externals.now)) }
+{
+    for name in externals {
+        append_external(alloc, name, out)?;
+    }
+    Ok(())
+}
+
+fn append_fixups(
+    alloc: Global,
+    own: u8,
+    fixups: &[Fixup],
+    out: &mut Vec<u8>,
+) -> Result<(), AllocError>
+    ensures { OnOk result (out.new.items ≡ out.old.items ++ flat_map record_bytes (map (fixup_body own) fixups.now)) }
+{
+    for fixup in fixups {
+        append_fixup(alloc, own, *fixup, out)?;
+    }
+    Ok(())
+}
+
+fn append_content(alloc: Global, content: &Content, out: &mut Vec<u8>) -> Result<(), AllocError>
+    requires { length content.now.bytes ≤ 65531 }
+    ensures { OnOk result (out.new.items ≡ out.old.items ++ flat_map record_bytes (content_bodies content.now)) }
+{
+    append_bytes(alloc, content, out)?;
+    append_fixups(alloc, content.segment, &content.fixups, out)
+}
+
+fn append_contents(alloc: Global, contents: &[Content], out: &mut Vec<u8>) -> Result<(), AllocError>
+    requires { AllByRecursion (λ c. length c.bytes ≤ 65531) contents.now }
+    ensures { OnOk result (out.new.items ≡ out.old.items ++ flat_map record_bytes (flat_map content_bodies contents.now)) }
+{
+    for content in contents {
+        append_content(alloc, content, out)?;
+    }
+    Ok(())
+}
+
+/// Appends the records of the module; where memory runs out, some of them.
+fn append_module(alloc: Global, source: &Module, out: &mut Vec<u8>) -> Result<(), AllocError>
+    ensures written { OnOk result (out.new.items ≡ out.old.items ++ module_bytes source.now) }
+    ensures rules { OnOk result (IsModule source.now) }
+{
+    append_header(alloc, source, out)?;
+    append_commons(alloc, source.commons(), out)?;
+    append_publics(alloc, source.publics(), out)?;
+    append_externals(alloc, source.externals(), out)?;
+    append_contents(alloc, source.contents(), out)?;
+    append_end(alloc, source.start(), out)?;
+    Ok(())
+}
+
+/// Appends the records of one module to `out`, which grows by its own allocator: a header with its segments in ascending
+/// order of ids, one record for each named common, public and external, each content followed by one record for each of its
+/// fixups, and an end. (8080 Object Module Formats, module.)
+///
+/// # Errors
+/// `AllocError` only where there is no memory; `out` is then unchanged.
+pub fn write_module(alloc: Global, source: &Module, out: &mut Vec<u8>) -> Result<(), AllocError>
+    ensures written { OnOk result (out.new.items ≡ out.old.items ++ module_bytes source.now) }
+    ensures read { OnOk result (IsReadAgain source.now) }
+    ensures refused { OnErr result (out.new.items ≡ out.old.items) }
+{
+    written_module_is_spelled();
+    let mut records = Vec::new(alloc);
+    append_module(alloc, source, &mut records)?;
+    out.extend_from_slice(&records)
+}
+
+/// The object file of these modules.
+#[tactic(auto, unfolding(crate::specs::Writing::file_bytes))]
+fn file_of(alloc: Global, modules: &[Module]) -> Result<Vec<u8>, AllocError>
+    ensures written { IfOk result (λ file. file.items ≡ file_bytes modules.now) }
+    ensures rules { OnOk result (AllByRecursion IsModule modules.now) }
+{
+    let mut file = Vec::new(alloc);
+    for module in modules {
+        append_module(alloc, module, &mut file)?;
+    }
+    let end = RecordKind::EndOfFile.byte();
+    never_too_long(put_record(alloc, end, &[], &mut file))?;
+    Ok(file)
+}
+
+/// Appends the object file of these modules to `out`, which grows by its own allocator: the records of each, as
+/// [`write_module`] writes them, and after them all an end-of-file record. (8080 Object Module Formats, object file.)
+///
+/// # Errors
+/// `AllocError` only where there is no memory; `out` is then unchanged.
+pub fn write_file(alloc: Global, modules: &[Module], out: &mut Vec<u8>) -> Result<(), AllocError>
+    requires { 0 < length modules.now }
+    ensures written { OnOk result (out.new.items ≡ out.old.items ++ file_bytes modules.now) }
+    ensures read { OnOk result (SpellsFile (file_bytes modules.now) modules.now) }
+    ensures refused { OnErr result (out.new.items ≡ out.old.items) }
+{
+    written_file_is_spelled();
+    let file = file_of(alloc, modules)?;
+    out.extend_from_slice(&file)
+}
