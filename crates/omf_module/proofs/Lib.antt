@@ -32,7 +32,3 @@ pub mod GatheredOnce
 pub mod FilesSpelled
 pub mod WrittenSpelled
 pub mod WorkedSpelled
-pub mod PatchLemmas
-pub mod WorkedPlaces
-pub mod PatchingLemmas
-pub mod PatchedTwice

@@ -14,7 +14,3 @@ pub mod Told
 pub mod SecondRound
 pub mod Reading
 pub mod Laws
-pub mod Place
-pub mod Patches
-pub mod ImageByte
-pub mod PatchLaws

@@ -2,7 +2,6 @@
 //! nothing: a layer above that calls it has the law in its proof.
 
 ghost use Rattle.omf_module.specs.Spelled.{ReadIsSpelled, SpelledIsRead, SpelledIsOne, ReadFileIsSpelled, SpelledFileIsRead};
-ghost use Rattle.omf_module.specs.PatchLaws.{LowTwice, BothTwice, HighTwice, PatchedTwice};
 ghost use Rattle.omf_module.specs.Laws.{SegmentsAreKept, AbsoluteIsEmpty, WrittenModuleIsRead, WrittenRecordsSpell, WrittenFileIsRead};
 
 use omf_core::laws::{
@@ -66,13 +65,4 @@ pub fn read_file_is_spelled()
 /// A file that is spelled is read, whatever stands after its last record.
 pub fn spelled_file_is_read()
     ensures { SpelledFileIsRead }
-{}
-
-/// Adding a part's start to a reference and then a base is adding their sum: to a low byte, to a word, and to a high byte
-/// where one of the two is a multiple of 256; and so in the bytes of a content.
-pub fn adding_twice_is_adding_once()
-    ensures low { LowTwice }
-    ensures both { BothTwice }
-    ensures high { HighTwice }
-    ensures in_bytes { PatchedTwice }
 {}

@@ -9,7 +9,6 @@
 //! | [`Content`], [`Fixup`], [`Field`], [`Target`] | bytes of a segment, and the references that stand in them |
 //! | [`read_module`], [`read_file`] | the module that begins at a place; the modules of an object file |
 //! | [`write_file`] | modules as an object file |
-//! | [`Patch`], [`apply_patches`] | references of a content, each increased by a displacement |
 //! | [`laws`] | what is read is spelled by records, and what is spelled or written is read |
 //! | [`ModuleFault`], [`Cause`], [`PartsFault`] | why bytes, or parts, make no module |
 #![tactic(auto)]
@@ -30,7 +29,6 @@ mod modules;
 mod names;
 mod open;
 mod parts;
-mod patching;
 mod reading;
 mod rules;
 mod second;
@@ -46,7 +44,6 @@ pub use fault::{Cause, ModuleFault, PartsFault};
 pub use fixup::{Field, Fixup, Target};
 pub use modules::Module;
 pub use parts::Parts;
-pub use patching::{Patch, apply_patches};
 pub use reading::{read_file, read_module};
 pub use rules::names_common;
 pub use segment::Segment;

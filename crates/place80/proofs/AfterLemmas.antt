@@ -2,9 +2,8 @@
 use Rattle.std.proofs.Common.{◌≡◌, Bool, true, false, List, [], ◌∷◌, ◌++◌, append_assoc, refl, sym, ap, ◌∙◌}
 use Rattle.std.specs.Prelude.{not, IsTrue}
 use Rattle.std.specs.List.{list_all, list_any}
-use Rattle.std.proofs.lemmas.Bool.{and_parts}
+use Rattle.std.proofs.lemmas.Bool.{and_parts, and_from, or_parts}
 use Rattle.omf_module.specs.Rules.{each_after}
-use Rattle.omf_module.proofs.Kept.{and_both, or_neither}
 
 -- what follows from the test holds of each item
 pub all_after : {A : Type 0} (test : List A → A → Bool) (holds : A → Bool) (before xs : List A) →
@@ -13,7 +12,7 @@ pub all_after : {A : Type 0} (test : List A → A → Bool) (holds : A → Bool)
 all_after test holds before [] gives passed = refl
 all_after test holds before (x ∷ xs) gives passed =
     let parts = and_parts (test before x) (each_after test (before ++ x ∷ []) xs) passed in
-    and_both (holds x) (list_all holds xs) (gives before x parts.0) (all_after test holds (before ++ x ∷ []) xs gives parts.1)
+    and_from (holds x) (list_all holds xs) (gives before x parts.0) (all_after test holds (before ++ x ∷ []) xs gives parts.1)
 
 -- what follows from the test where an item stands before holds of each later item
 pub all_after_one : {A : Type 0} (test : List A → A → Bool) (holds : A → Bool) (front : List A) (item : A) (back xs : List A) →
@@ -22,7 +21,7 @@ pub all_after_one : {A : Type 0} (test : List A → A → Bool) (holds : A → B
 all_after_one test holds front item back [] gives passed = refl
 all_after_one test holds front item back (x ∷ xs) gives passed =
     let parts = and_parts (test (front ++ item ∷ back) x) (each_after test ((front ++ item ∷ back) ++ x ∷ []) xs) passed in
-    and_both (holds x) (list_all holds xs) (gives front back x parts.0)
+    and_from (holds x) (list_all holds xs) (gives front back x parts.0)
     (all_after_one test holds front item (back ++ x ∷ []) xs gives
     (ap (λ told. each_after test told xs) (sym (append_assoc front (item ∷ back) (x ∷ []))) ∙ parts.1))
 
@@ -34,8 +33,8 @@ rest_after test before x xs passed =
 
 -- what holds of no item doesn't hold of one of them
 pub none_at : {A : Type 0} (test : A → Bool) (front : List A) (item : A) (back : List A) → list_any test (front ++ item ∷ back) ≡ false → test item ≡ false
-none_at test [] item back none = (or_neither (test item) (list_any test back) none).0
-none_at test (x ∷ xs) item back none = none_at test xs item back (or_neither (test x) (list_any test (xs ++ item ∷ back)) none).1
+none_at test [] item back none = (or_parts (test item) (list_any test back) none).0
+none_at test (x ∷ xs) item back none = none_at test xs item back (or_parts (test x) (list_any test (xs ++ item ∷ back)) none).1
 
 pub not_true : (b : Bool) → not b ≡ true → b ≡ false
 not_true true e = absurd cc

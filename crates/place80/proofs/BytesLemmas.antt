@@ -4,7 +4,7 @@ use Rattle.std.specs.Prelude.{◌-◌, Option, None, Some, filter, option_map, s
 use Rattle.std.specs.List.{last_or}
 use Rattle.std.specs.Option.{option_map_or}
 use Rattle.omf_module.specs.Modules.{ModuleValue}
-use Rattle.omf_module.specs.ImageByte.{ByteChunk, chunk_covers, chunks_of, image_byte}
+use Rattle.omf_relocation.specs.ImageByte.{ByteChunk, chunk_covers, chunks_of, image_byte}
 use Rattle.place80.specs.declared.options.Options.{Options}
 use Rattle.place80.specs.Image.{PlacedBytes, covers, byte_of, byte_at}
 use Rattle.place80.specs.Layout.{program_bases}

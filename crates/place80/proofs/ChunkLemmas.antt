@@ -2,17 +2,18 @@
 use Rattle.std.proofs.Common.{◌≡◌, ℕ, zero, suc, ◌+◌, ◌%◌, ◌<◌, ◌≤◌, Bool, true, false, cond, ◌&&◌, ◌||◌, List, [], ◌∷◌, length, map, get_or, refl, sym, ap, subst, ◌∙◌, arith, inl, inr, eqb-true, eq-eqb}
 use Rattle.std.specs.Prelude.{nat_lt, ◌==◌, None, Some, find, unwrap_or, All, IsTrue}
 use Rattle.std.specs.List.{list_any}
-use Rattle.std.proofs.lemmas.Bool.{cases_Bool}
+use Rattle.std.proofs.lemmas.Bool.{cases_Bool, or_parts}
 use Rattle.std.proofs.lemmas.Bool.Decides.{nat_tests}
+use Rattle.std.proofs.lemmas.List.FromFn.{length-map-range_with_len}
 use Rattle.std.proofs.lemmas.List.Elements.{All-nil, All-cons, All-head, All-tail}
 use Rattle.omf_module.specs.Contents.{ContentValue}
 use Rattle.omf_module.specs.Segments.{segment_in, has_segment, empty_segment}
 use Rattle.omf_module.specs.Modules.{ModuleValue}
-use Rattle.omf_module.specs.Place.{place_in}
-use Rattle.omf_module.specs.ImageByte.{patch_of, chunk_of}
+use Rattle.omf_relocation.specs.Place.{place_in}
+use Rattle.omf_relocation.specs.ImageByte.{patch_of, chunk_of}
 use Rattle.omf_module.specs.Rules.{is_content, end_of, is_sound}
-use Rattle.omf_module.proofs.Kept.{or_neither}
-use Rattle.omf_module.proofs.PatchingLemmas.{length-with_patches}
+use Rattle.omf_relocation.specs.declared.patching.Patch.{Patch}
+use Rattle.omf_relocation.specs.Patches.{byte_with, with_patches}
 use Rattle.place80.specs.declared.options.Options.{Options}
 use Rattle.place80.specs.declared.placed.Placed.{Placed}
 use Rattle.place80.specs.Image.{IsChunk}
@@ -45,15 +46,15 @@ none_outside contents (p ∷ ps) none =
 -- a test that no item passes
 none_passes : {A : Type 0} (test : A → Bool) (xs : List A) (i : ℕ) (d : A) → list_any test xs ≡ false → i < length xs → test (get_or xs i d) ≡ false
 none_passes test [] i d none below = absurd (omega arith)
-none_passes test (x ∷ xs) zero d none below = (or_neither (test x) (list_any test xs) none).0
-none_passes test (x ∷ xs) (suc i) d none below = none_passes test xs i d (or_neither (test x) (list_any test xs) none).1 (omega arith)
+none_passes test (x ∷ xs) zero d none below = (or_parts (test x) (list_any test xs) none).0
+none_passes test (x ∷ xs) (suc i) d none below = none_passes test xs i d (or_parts (test x) (list_any test xs) none).1 (omega arith)
 
 -- a content of MEMORY lies within the length that MEMORY has
 memory_holds : (contents : List ContentValue) (p : Placed) (i : ℕ) (d : ContentValue) → is_outside contents p ≡ false → p.id ≡ 4 → i < length contents → (get_or contents i d).segment ≡ 4 →
     (get_or contents i d).offset + length (get_or contents i d).bytes ≤ p.length
 memory_holds contents p i d inside is_memory below in_memory =
     let c : ContentValue = get_or contents i d in
-    let any : (p.id == 4 && list_any (passes_memory p.length) contents) ≡ false = (or_neither (nat_lt 65536 (p.base + p.length)) (p.id == 4 && list_any (passes_memory p.length) contents) inside).1 in
+    let any : (p.id == 4 && list_any (passes_memory p.length) contents) ≡ false = (or_parts (nat_lt 65536 (p.base + p.length)) (p.id == 4 && list_any (passes_memory p.length) contents) inside).1 in
     let none : list_any (passes_memory p.length) contents ≡ false = sym (ap (λ b. b && list_any (passes_memory p.length) contents) (eq-eqb p.id 4 is_memory)) ∙ any in
     let past : nat_lt p.length (c.offset + length c.bytes) ≡ false =
     sym (ap (λ b. b && nat_lt p.length (c.offset + length c.bytes)) (eq-eqb c.segment 4 in_memory)) ∙ none_passes (passes_memory p.length) contents i d none below in
@@ -113,6 +114,9 @@ content_in_memory options m i d sound none below =
           subst (λ b. cond b ((top_in segments + c.offset) % 65536) ((base_in segments c.segment + c.offset) % 65536) + length c.bytes ≤ 65536) (sym lies.not_stack)
           (ends_at_word (base_in segments c.segment + c.offset) (length c.bytes) (content_within options m i d sound none below lies e))
     ]) refl)
+
+length-with_patches : (patches : List Patch) (bytes : List ℕ) → length (with_patches patches bytes) ≡ length bytes
+length-with_patches patches bytes = length-map-range_with_len (byte_with patches bytes) 0 (length bytes)
 
 -- each content's chunk is one
 pub content_is_chunk : (options : Options) (m : ModuleValue) (i : ℕ) (d : ContentValue) → IsTrue (is_sound m) → find (is_outside m.contents) (layout_of options m) ≡ None → i < length m.contents →

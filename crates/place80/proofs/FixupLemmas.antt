@@ -2,18 +2,17 @@
 use Rattle.std.proofs.Common.{◌≡◌, ℕ, zero, suc, ◌+◌, ◌-◌, ◌<◌, ◌≤◌, Bool, true, false, ◌&&◌, ◌||◌, List, [], ◌∷◌, ◌++◌, length, map, get_or, refl, sym, ap, ◌∙◌, arith}
 use Rattle.std.specs.Prelude.{not, nat_le, nat_lt, ◌==◌, IsTrue}
 use Rattle.std.specs.List.{list_all, list_any}
-use Rattle.std.proofs.lemmas.Bool.{and_parts}
+use Rattle.std.proofs.lemmas.Bool.{and_parts, and_from, not_from_false, or_parts}
 use Rattle.std.proofs.lemmas.Bool.Decides.{nat_tests}
 use Rattle.omf_module.specs.declared.segment.Segment.{Segment}
 use Rattle.omf_module.specs.declared.symbols.Common.{Common}
 use Rattle.omf_module.specs.declared.fixup.Field.{Field}
 use Rattle.omf_module.specs.declared.fixup.Field.TheVariants.{Low, High, Both}
 use Rattle.omf_module.specs.declared.fixup.Fixup.{Fixup}
-use Rattle.omf_module.specs.declared.patching.Patch.{Patch}
+use Rattle.omf_relocation.specs.declared.patching.Patch.{Patch}
 use Rattle.omf_module.specs.Contents.{ContentValue, offsets_by, offsets_of, is_among, is_inside, is_taken, shares_a_byte}
-use Rattle.omf_module.specs.Patches.{is_inside_bytes, are_inside, meets, are_apart}
+use Rattle.omf_relocation.specs.Patches.{is_inside_bytes, are_inside, meets, are_apart}
 use Rattle.omf_module.specs.Rules.{each_after, is_fitting, has_target, is_placed, is_content}
-use Rattle.omf_module.proofs.Kept.{and_both, or_neither, not_false}
 use Rattle.place80.proofs.AfterLemmas.{all_after, all_after_one, rest_after, none_at, not_true}
 
 -- a reference as a patch of bytes that begin at an offset, where it adds this word
@@ -63,7 +62,7 @@ begins_above Both first size offset h = among_above first size offset (is_among 
 -- and its patch is inside them
 inside_one : (first size offset : ℕ) → (is_among first size offset && true) ≡ true → (nat_lt (offset - first) size && true) ≡ true
 inside_one first size offset h =
-    and_both (nat_lt (offset - first) size) true (among_below first size offset (and_parts (is_among first size offset) true h).0) refl
+    and_from (nat_lt (offset - first) size) true (among_below first size offset (and_parts (is_among first size offset) true h).0) refl
 
 inside_by : (field : Field) (first size offset : ℕ) → list_all (is_among first size) (offsets_by field offset) ≡ true →
     list_all (λ o. nat_lt o size) (offsets_by field (offset - first)) ≡ true
@@ -72,8 +71,8 @@ inside_by High first size offset h = inside_one first size offset h
 inside_by Both first size offset h =
     let parts = and_parts (is_among first size offset) (is_among first size (offset + 1) && true) h in
     let next = and_parts (is_among first size (offset + 1)) true parts.1 in
-    and_both (nat_lt (offset - first) size) (nat_lt (offset - first + 1) size && true) (among_below first size offset parts.0)
-    (and_both (nat_lt (offset - first + 1) size) true (among_next first size offset parts.0 next.0) refl)
+    and_from (nat_lt (offset - first) size) (nat_lt (offset - first + 1) size && true) (among_below first size offset parts.0)
+    (and_from (nat_lt (offset - first + 1) size) true (among_next first size offset parts.0 next.0) refl)
 
 -- two references that share no byte, from where the bytes begin
 shift_any : (first : ℕ) (os : List ℕ) (x : ℕ) → list_any (λ o. o == (x + first)) (map (λ o. o + first) os) ≡ list_any (λ o. o == x) os
@@ -110,7 +109,7 @@ shift_apart earlier later first a b above below none =
 none_of : (p q : ℕ → Bool) (os : List ℕ) → ((o : ℕ) → p o ≡ false → q o ≡ false) → list_any p os ≡ false → list_any q os ≡ false
 none_of p q [] gives none = refl
 none_of p q (o ∷ os) gives none =
-    let parts = or_neither (p o) (list_any p os) none in
+    let parts = or_parts (p o) (list_any p os) none in
     ap (λ b. b || list_any q os) (gives o parts.0) ∙ none_of p q os gives parts.1
 
 is_above : (first : ℕ) (commons : List Common) (externals size : ℕ) (before : List Fixup) (f : Fixup) →
@@ -126,7 +125,7 @@ later_apart : (commons : List Common) (externals first size : ℕ) (word : Fixup
 later_apart commons externals first size word g above front back f fits =
     let none : list_any (λ x. list_any (λ o. o == x) (offsets_of g)) (offsets_of f) ≡ false =
     none_of (is_taken (front ++ g ∷ back)) (λ x. list_any (λ o. o == x) (offsets_of g)) (offsets_of f) (λ o. none_at (λ (h : Fixup). list_any (λ x. x == o) (offsets_of h)) front g back) (fits_apart commons externals first size (front ++ g ∷ back) f fits) in
-    not_false (meets (as_patch first word g) (as_patch first word f))
+    not_from_false (meets (as_patch first word g) (as_patch first word f))
     (shift_apart g.field f.field first g.offset f.offset (le_from_test first g.offset above)
     (le_from_test first f.offset (is_above first commons externals size (front ++ g ∷ back) f fits)) none)
 
@@ -135,7 +134,7 @@ all_mapped : {A B : Type 0} (make : A → B) (test : B → Bool) (xs : List A) �
 all_mapped make test [] all = refl
 all_mapped make test (x ∷ xs) all =
     let parts = and_parts (test (make x)) (list_all (λ y. test (make y)) xs) all in
-    and_both (test (make x)) (list_all test (map make xs)) parts.0 (all_mapped make test xs parts.1)
+    and_from (test (make x)) (list_all test (map make xs)) parts.0 (all_mapped make test xs parts.1)
 
 -- fitting references
 fixups_apart : (commons : List Common) (externals first size : ℕ) (word : Fixup → ℕ) (before fixups : List Fixup) →
@@ -146,7 +145,7 @@ fixups_apart commons externals first size word before (f ∷ fs) fits =
     let apart : IsTrue (list_all (λ g. not (meets (as_patch first word f) (as_patch first word g))) fs) =
     all_after_one (is_fitting commons externals first size) (λ g. not (meets (as_patch first word f) (as_patch first word g))) before f [] fs
     (later_apart commons externals first size word f (is_above first commons externals size before f parts.0)) parts.1 in
-    and_both (list_all (λ q. not (meets (as_patch first word f) q)) (map (as_patch first word) fs)) (are_apart (map (as_patch first word) fs))
+    and_from (list_all (λ q. not (meets (as_patch first word f) q)) (map (as_patch first word) fs)) (are_apart (map (as_patch first word) fs))
     (all_mapped (as_patch first word) (λ q. not (meets (as_patch first word f) q)) fs apart)
     (fixups_apart commons externals first size word (before ++ f ∷ []) fs parts.1)
 

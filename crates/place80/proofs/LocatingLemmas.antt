@@ -9,14 +9,14 @@ use Rattle.std.proofs.lemmas.List.{append-nil}
 use Rattle.omf_module.specs.declared.fixup.Fixup.{Fixup}
 use Rattle.omf_module.specs.declared.fixup.Target.{Target}
 use Rattle.omf_module.specs.declared.fixup.Target.TheVariants as target
-use Rattle.omf_module.specs.declared.patching.Patch.{Patch}
+use Rattle.omf_relocation.specs.declared.patching.Patch.{Patch}
 use Rattle.omf_module.specs.Contents.{ContentValue}
-use Rattle.omf_module.specs.Patches.{with_patches}
+use Rattle.omf_relocation.specs.Patches.{with_patches}
 use Rattle.omf_module.specs.Segments.{has_segment}
 use Rattle.omf_module.specs.Modules.{ModuleValue}
 use Rattle.omf_module.specs.Rules.{has_target, is_content, is_start, is_sound}
-use Rattle.omf_module.specs.Place.{Bases, place_in}
-use Rattle.omf_module.specs.ImageByte.{target_word, patch_of, chunk_of}
+use Rattle.omf_relocation.specs.Place.{Bases, place_in}
+use Rattle.omf_relocation.specs.ImageByte.{target_word, patch_of, chunk_of}
 use Rattle.place80.specs.declared.options.Options.{Options}
 use Rattle.place80.specs.declared.placed.Placed.{Placed}
 use Rattle.place80.specs.Image.{PlacedBytes}

@@ -4,14 +4,13 @@ use Rattle.std.specs.Prelude.{not, nat_eq, ◌==◌, Some, find, IsTrue, if◌th
 use Rattle.std.specs.List.{list_all, list_any}
 use Rattle.std.specs.Option.{option_map_or}
 use Rattle.std.specs.Cmp.Lexicographic.{pointwise}
-use Rattle.std.proofs.lemmas.Bool.{and_parts, cases_Bool}
+use Rattle.std.proofs.lemmas.Bool.{and_parts, cases_Bool, not_from_false}
 use Rattle.std.proofs.lemmas.Bool.Decides.{nat_tests}
 use Rattle.omf_module.specs.declared.symbols.Common.{Common}
 use Rattle.omf_module.specs.Segments.{is_fixed_id, is_common_id, names_common, has_segment, segment_in}
 use Rattle.omf_module.specs.Modules.{ModuleValue}
-use Rattle.omf_module.specs.Place.{word_of, common_name, base_of, is_laid_out, starts_from, part_start, place_in}
+use Rattle.omf_relocation.specs.Place.{word_of, common_name, base_of, is_laid_out, starts_from, part_start, place_in}
 use Rattle.omf_module.specs.Rules.{each_after, is_new_common}
-use Rattle.omf_module.proofs.Kept.{not_false}
 use Rattle.place80.specs.declared.placed.Placed.{Placed}
 use Rattle.place80.specs.Layout.{base_in, top_in, bases_of}
 use Rattle.place80.proofs.AfterLemmas.{all_after_one, rest_after, none_at, not_true}
@@ -28,7 +27,7 @@ is_other_name c d = not (pointwise nat_eq c.name d.name)
 new_name : (front : List Common) (c : Common) (back : List Common) (d : Common) → IsTrue (is_new_common (front ++ c ∷ back) d) → IsTrue (is_other_name c d)
 new_name front c back d new =
     let none = (and_parts (is_common_id d.id && not (list_any (λ e. e.id == d.id) (front ++ c ∷ back))) (not (list_any (λ e. pointwise nat_eq e.name d.name) (front ++ c ∷ back))) new).1 in
-    not_false (pointwise nat_eq c.name d.name)
+    not_from_false (pointwise nat_eq c.name d.name)
     (none_at (λ (e : Common). pointwise nat_eq e.name d.name) front c back (not_true (list_any (λ (e : Common). pointwise nat_eq e.name d.name) (front ++ c ∷ back)) none))
 
 other_name : (c : Common) (commons : List Common) (id : ℕ) → IsTrue (list_all (is_other_name c) commons) → names_common commons id ≡ true →

@@ -6,10 +6,10 @@ use Rattle.omf_module.specs.Modules.{ModuleValue}
 use Rattle.omf_module.specs.declared.fixup.Fixup.{Fixup}
 use Rattle.omf_module.specs.declared.fixup.Target.{Target}
 use Rattle.omf_module.specs.declared.fixup.Target.TheVariants as target
-use Rattle.omf_module.specs.declared.patching.Patch.{Patch}
+use Rattle.omf_relocation.specs.declared.patching.Patch.{Patch}
 use Rattle.omf_module.specs.Contents.{ContentValue}
-use Rattle.omf_module.specs.Patches.{with_patches, are_inside, are_apart}
-use Rattle.omf_module.specs.ImageByte.{ByteChunk, chunks_of}
+use Rattle.omf_relocation.specs.Patches.{with_patches, are_inside, are_apart}
+use Rattle.omf_relocation.specs.ImageByte.{ByteChunk, chunks_of}
 use Rattle.place80.specs.declared.range.Range.{Range}
 use Rattle.place80.specs.declared.options.Options.{Options}
 use Rattle.place80.specs.declared.placed.Placed.{Placed}

@@ -9,8 +9,8 @@ use Rattle.omf_module.specs.declared.fixup.Field.TheVariants.{Low, High, Both}
 use Rattle.omf_module.specs.declared.fixup.Fixup.{Fixup}
 use Rattle.omf_module.specs.Contents.{ContentValue}
 use Rattle.omf_module.specs.Modules.{ModuleValue}
-use Rattle.omf_module.specs.Place.{Bases, place_in}
-use Rattle.omf_module.specs.ImageByte.{target_word}
+use Rattle.omf_relocation.specs.Place.{Bases, place_in}
+use Rattle.omf_relocation.specs.ImageByte.{target_word}
 use Rattle.place80.specs.declared.options.Options.{Options}
 use Rattle.place80.specs.declared.placed.Placed.{Placed}
 use Rattle.place80.specs.declared.place_fault.PlaceFault.{PlaceFault}

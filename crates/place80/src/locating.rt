@@ -1,7 +1,7 @@
 //! A program at its places.
 
 ghost use Rattle.std.specs.Prelude.{◌≡◌, ◌⊎◌, ℕ, None, Some, [], ◌∷◌, option_map, IfOk, IfErr, OnOk};
-ghost use Rattle.omf_module.specs.ImageByte.{image_byte};
+ghost use Rattle.omf_relocation.specs.ImageByte.{image_byte};
 ghost use Rattle.place80.specs.Image.{byte_at};
 ghost use Rattle.place80.specs.Regions.{Arranges};
 ghost use Rattle.place80.specs.Layout.{layout_of, program_bases};

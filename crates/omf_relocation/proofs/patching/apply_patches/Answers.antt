@@ -1,8 +1,8 @@
 use Rattle.std.proofs.Common.{◌∙◌, ap, length, List, ℕ, get_or, [], ◌∷◌}
-use Rattle.omf_module.specs.declared.patching.Patch.{Patch}
+use Rattle.omf_relocation.specs.declared.patching.Patch.{Patch}
 use Rattle.omf_module.specs.declared.fixup.Field.TheVariants.{Low}
-use Rattle.omf_module.proofs.PatchingLemmas.{length-with_patches, patches_step, patches_inside, patches_done}
-use Rattle.omf_module.proofs.patching.apply_patches.Goals as goal
+use Rattle.omf_relocation.proofs.PatchingLemmas.{length-with_patches, patches_step, patches_inside, patches_done}
+use Rattle.omf_relocation.proofs.patching.apply_patches.Goals as goal
 
 pub loop-patch-preserved : goal.loop-patch-preserved
 loop-patch-preserved c =

@@ -9,9 +9,9 @@ use Rattle.std.proofs.lemmas.Bool.Decides.{nat_tests}
 use Rattle.std.proofs.lemmas.List.FromFn.{length-map-range_with_len, get_or-map-range_with_len, fill_by_all}
 use Rattle.omf_module.specs.declared.fixup.Field.{Field}
 use Rattle.omf_module.specs.declared.fixup.Field.TheVariants.{Low, High, Both}
-use Rattle.omf_module.specs.declared.patching.Patch.{Patch}
+use Rattle.omf_relocation.specs.declared.patching.Patch.{Patch}
 use Rattle.omf_module.specs.Contents.{offsets_by}
-use Rattle.omf_module.specs.Patches.{patches_at, word_in_bytes, patched, byte_with, with_patches, is_inside_bytes, are_inside, meets, are_apart}
+use Rattle.omf_relocation.specs.Patches.{patches_at, word_in_bytes, patched, byte_with, with_patches, is_inside_bytes, are_inside, meets, are_apart}
 
 pub length-with_patches : (patches : List Patch) (bytes : List ℕ) → length (with_patches patches bytes) ≡ length bytes
 length-with_patches patches bytes = length-map-range_with_len (byte_with patches bytes) 0 (length bytes)
@@ -134,7 +134,7 @@ none_of_two true b h = cc
 none_of_two false b h = (refl, h)
 
 -- a patch lacks the bytes of one that it does not meet
-lacks_where_other_has : (f : Field) (p : Patch) (at i : ℕ) → list_any (λ o. patches_at o p) (offsets_by f at) ≡ false → list_any (λ o. o == i) (offsets_by f at) ≡ true → patches_at i p ≡ false
+pub lacks_where_other_has : (f : Field) (p : Patch) (at i : ℕ) → list_any (λ o. patches_at o p) (offsets_by f at) ≡ false → list_any (λ o. o == i) (offsets_by f at) ≡ true → patches_at i p ≡ false
 lacks_where_other_has Low p at i apart has = subst (λ (n : ℕ). patches_at n p ≡ false) (eqb-true at i (sym (or_false (at == i)) ∙ has)) (none_of_two (patches_at at p) false apart).0
 lacks_where_other_has High p at i apart has = subst (λ (n : ℕ). patches_at n p ≡ false) (eqb-true at i (sym (or_false (at == i)) ∙ has)) (none_of_two (patches_at at p) false apart).0
 lacks_where_other_has Both p at i apart has =

@@ -1,6 +1,6 @@
 -- Adding a part's start and then a base is adding their sum.
 use Rattle.std.proofs.Common.{arith, inl, inr}
-use Rattle.omf_module.specs.PatchLaws.{LowTwice, BothTwice, HighTwice}
+use Rattle.omf_relocation.specs.PatchLaws.{LowTwice, BothTwice, HighTwice}
 
 pub low_twice : LowTwice
 low_twice b u v = omega arith

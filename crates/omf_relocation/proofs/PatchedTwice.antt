@@ -5,10 +5,10 @@ use Rattle.std.proofs.lemmas.Bool.{cases_Bool}
 use Rattle.std.proofs.lemmas.Bool.Decides.{nat_tests}
 use Rattle.omf_module.specs.declared.fixup.Field.{Field}
 use Rattle.omf_module.specs.declared.fixup.Field.TheVariants.{Low, High, Both}
-use Rattle.omf_module.specs.Patches.{patches_at, word_in_bytes, patched, with_patches, is_inside_bytes}
-use Rattle.omf_module.specs.PatchLaws.{patch_by, PatchedTwice}
-use Rattle.omf_module.proofs.PatchLemmas.{low_twice, both_twice, high_twice}
-use Rattle.omf_module.proofs.PatchingLemmas.{length-with_patches, with_patches_at, are_patched, first_has, first_lacks, stays, second_below}
+use Rattle.omf_relocation.specs.Patches.{patches_at, word_in_bytes, patched, with_patches, is_inside_bytes}
+use Rattle.omf_relocation.specs.PatchLaws.{patch_by, PatchedTwice}
+use Rattle.omf_relocation.proofs.PatchLemmas.{low_twice, both_twice, high_twice}
+use Rattle.omf_relocation.proofs.PatchingLemmas.{length-with_patches, with_patches_at, are_patched, first_has, first_lacks, stays, second_below}
 
 -- a byte of the reference after the first word
 byte_after : (field : Field) (at u : ℕ) (bytes : List ℕ) (i : ℕ) → i < length bytes → patches_at i (patch_by field at u) ≡ true
@@ -35,7 +35,7 @@ word_after at u bytes below =
     (ap (λ (n : ℕ). n + 256 * slice_index (with_patches (patch_by Both at u ∷ []) bytes) (at + 1)) low ∙ ap (λ (n : ℕ). w % 65536 % 256 + 256 * n) high)
 
 -- a byte of the reference after both words
-twice_here : (field : Field) (at u v : ℕ) (bytes : List ℕ) (i : ℕ) → IsTrue (is_inside_bytes (length bytes) (patch_by field at u)) → i < length bytes
+pub twice_here : (field : Field) (at u v : ℕ) (bytes : List ℕ) (i : ℕ) → IsTrue (is_inside_bytes (length bytes) (patch_by field at u)) → i < length bytes
     → patches_at i (patch_by field at u) ≡ true → (field ≡ High → (u % 256 ≡ 0) ⊎ (v % 256 ≡ 0))
     → patched field (with_patches (patch_by field at u ∷ []) bytes) at v i ≡ patched field bytes at ((u + v) % 65536) i
 twice_here Low at u v bytes i inside below has even =

@@ -1,9 +1,9 @@
 //! References are applied to bytes: the one kernel that linking and locating share.
 
 ghost use Rattle.std.specs.Prelude.{◌≡◌, IsTrue, length, [], ◌∷◌, ◌+◌, ◌*◌, ◌/◌, ◌%◌};
-ghost use Rattle.omf_module.specs.Patches.{with_patches, are_inside, are_apart, is_inside_bytes};
+ghost use Rattle.omf_relocation.specs.Patches.{with_patches, are_inside, are_apart, is_inside_bytes};
 
-use crate::fixup::Field;
+use omf_module::Field;
 
 /// A word to be added to a byte or to two bytes at a place.
 #[derive(Clone, Copy, Debug, PartialEq, Eq)]

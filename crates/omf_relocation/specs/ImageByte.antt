@@ -11,9 +11,9 @@ use Rattle.omf_module.specs.declared.fixup.Target.TheVariants as target
 use Rattle.omf_module.specs.declared.symbols.Public.{Public}
 use Rattle.omf_module.specs.Contents.{ContentValue}
 use Rattle.omf_module.specs.Modules.{ModuleValue}
-use Rattle.omf_module.specs.Place.{Bases, word_of, place_in}
-use Rattle.omf_module.specs.declared.patching.Patch.{Patch}
-use Rattle.omf_module.specs.Patches.{with_patches}
+use Rattle.omf_relocation.specs.Place.{Bases, word_of, place_in}
+use Rattle.omf_relocation.specs.declared.patching.Patch.{Patch}
+use Rattle.omf_relocation.specs.Patches.{with_patches}
 
 -- a public and the word that its place is
 pub record PlacedName : Type 0 where

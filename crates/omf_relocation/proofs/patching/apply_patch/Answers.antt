@@ -1,6 +1,6 @@
 use Rattle.std.proofs.Common.{◌+◌, ◌%◌, ap, get_or, ℕ}
-use Rattle.omf_module.proofs.PatchingLemmas.{low_applied, high_applied, both_applied}
-use Rattle.omf_module.proofs.patching.apply_patch.Goals as goal
+use Rattle.omf_relocation.proofs.PatchingLemmas.{low_applied, high_applied, both_applied}
+use Rattle.omf_relocation.proofs.patching.apply_patch.Goals as goal
 
 pub returns-in-Low : goal.returns-in-Low
 returns-in-Low c = low_applied c.args.patch c.args.bytes.now _ c.in-Low.is c.requires (ap (λ (n : ℕ). (get_or c.args.bytes.now c.args.patch.at 0 + n) % 256) c.low_byte.ensures)

@@ -1,7 +1,7 @@
 use Rattle.std.proofs.Common.{◌≡◌, length, drop}
 use Rattle.std.specs.Prelude.{IsTrue}
-use Rattle.omf_module.specs.Patches.{with_patches, are_inside, are_apart}
-use Rattle.omf_module.proofs.patching.apply_patches.Given as goal
+use Rattle.omf_relocation.specs.Patches.{with_patches, are_inside, are_apart}
+use Rattle.omf_relocation.proofs.patching.apply_patches.Given as goal
 
 -- the rest of the patches on these bytes is all patches on the first bytes
 abbrev pub invariant-loop-patch : goal.invariant-loop-patch

@@ -5,8 +5,8 @@ use Rattle.omf_module.specs.declared.fixup.Field.TheVariants.{High, Both}
 use Rattle.omf_module.specs.declared.fixup.Fixup.{Fixup}
 use Rattle.omf_module.specs.declared.fixup.Target.TheVariants as target
 use Rattle.omf_module.specs.Modules.{ModuleValue}
-use Rattle.omf_module.specs.Place.{Bases, part_start}
-use Rattle.omf_module.specs.ImageByte.{image_byte}
+use Rattle.omf_relocation.specs.Place.{Bases, part_start}
+use Rattle.omf_relocation.specs.ImageByte.{image_byte}
 
 -- a module of one content in CODE
 abbrev of_code : ℕ → List ℕ → List Fixup → ModuleValue

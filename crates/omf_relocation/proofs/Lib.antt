@@ -1,0 +1,5 @@
+pub mod PatchLemmas
+pub mod PatchingLemmas
+pub mod PatchedTwice
+pub mod TwoPasses
+pub mod WorkedPlaces

@@ -1,0 +1,4 @@
+pub mod Place
+pub mod Patches
+pub mod ImageByte
+pub mod PatchLaws
