@@ -1,15 +1,14 @@
 -- Commons by their names, and the parts of a module alone.
-use Rattle.std.proofs.Common.{◌≡◌, ℕ, ◌+◌, ◌/◌, ◌*◌, ◌%◌, Bool, true, false, cond, ◌&&◌, ◌||◌, List, [], ◌∷◌, ◌++◌, map, refl, sym, ap, ◌∙◌, arith, inl, inr, eqb-true, eq-eqb}
-use Rattle.std.specs.Prelude.{not, nat_eq, ◌==◌, Some, find, IsTrue, if◌then◌else◌, slice_index}
+use Rattle.std.proofs.Common.{◌≡◌, ℕ, ◌+◌, ◌/◌, ◌*◌, Bool, true, false, cond, ◌&&◌, ◌||◌, List, [], ◌∷◌, ◌++◌, map, refl, sym, ap, ◌∙◌, inl, inr, eqb-true, eq-eqb}
+use Rattle.std.specs.Prelude.{not, nat_eq, ◌==◌, Some, find, IsTrue, slice_index}
 use Rattle.std.specs.List.{list_all, list_any}
 use Rattle.std.specs.Option.{option_map_or}
 use Rattle.std.specs.Cmp.Lexicographic.{pointwise}
 use Rattle.std.proofs.lemmas.Bool.{and_parts, cases_Bool, not_from_false}
-use Rattle.std.proofs.lemmas.Bool.Decides.{nat_tests}
 use Rattle.omf_module.specs.declared.symbols.Common.{Common}
-use Rattle.omf_module.specs.Segments.{is_fixed_id, is_common_id, names_common, has_segment, segment_in}
+use Rattle.omf_module.specs.Segments.{is_common_id, names_common, segment_in}
 use Rattle.omf_module.specs.Modules.{ModuleValue}
-use Rattle.omf_relocation.specs.Place.{word_of, common_name, base_of, is_laid_out, starts_from, part_start, place_in}
+use Rattle.omf_relocation.specs.Place.{word_of, common_name, is_laid_out, starts_from, part_start}
 use Rattle.omf_module.specs.Rules.{each_after, is_new_common}
 use Rattle.omf_relocation.proofs.AfterLemmas.{all_after_one, rest_after, none_at, not_true}
 
@@ -71,4 +70,3 @@ only_part_start m id =
       | true ↦ elim (segment_in m.segments id).paged as (λ b. cond b ((0 + 255) / 256 * 256) 0 ≡ 0) [ true ↦ refl | false ↦ refl ]
       | false ↦ refl
     ]
-

@@ -9,7 +9,6 @@ use Rattle.omf_module.specs.declared.symbols.Common.{Common}
 use Rattle.omf_module.specs.declared.fixup.Field.{Field}
 use Rattle.omf_module.specs.declared.fixup.Field.TheVariants.{Low, High, Both}
 use Rattle.omf_module.specs.declared.fixup.Fixup.{Fixup}
-use Rattle.omf_relocation.specs.declared.patching.Patch.{Patch}
 use Rattle.omf_module.specs.Contents.{ContentValue, offsets_by, offsets_of, is_among, is_inside, is_taken, shares_a_byte}
 use Rattle.omf_relocation.specs.Patches.{is_inside_bytes, are_inside, meets, are_apart}
 use Rattle.omf_module.specs.Rules.{each_after, is_fitting, has_target, is_placed, is_content}
