@@ -5,3 +5,6 @@ pub mod PlaceLemmas
 pub mod ReferenceLemmas
 pub mod ContentLemmas
 pub mod LinkLemmas
+pub mod SegmentLemmas
+pub mod FittingLemmas
+pub mod RuleLemmas

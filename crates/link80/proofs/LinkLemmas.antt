@@ -43,7 +43,7 @@ own_external [] index below = absurd (omega arith)
 own_external (n ∷ ns) zero below = ap (λ b. b || has_name ns n) (name_itself n)
 own_external (n ∷ ns) (suc index) below = any_back (λ o. pointwise nat_eq o (name_at ns index)) (n ∷ []) ns (own_external ns index (omega arith))
 
-listed_from : SoundModulesKeepRules → (modules front rest : List ModuleValue) (number : ℕ) → modules ≡ front ++ rest → AllByRecursion IsModule rest → all_listed modules (enumerate_from number rest)
+pub listed_from : SoundModulesKeepRules → (modules front rest : List ModuleValue) (number : ℕ) → modules ≡ front ++ rest → AllByRecursion IsModule rest → all_listed modules (enumerate_from number rest)
 listed_from rules modules front [] number whole all = _
 listed_from rules modules front (m ∷ ms) number whole all =
     let named : (f : ModuleValue → List (List ℕ)) (name : List ℕ) → has_name (f m) name ≡ true → has_name (flat_map f modules) name ≡ true = λ f name here.
@@ -66,7 +66,7 @@ or_none : {A : Type 0} (a b : Option A) → option_or a b ≡ None → (a ≡ No
 or_none None b none = (refl, none)
 or_none (Some x) b none = absurd cc
 
-few : (modules : List ModuleValue) → link_fault modules ≡ None → few_commons modules
+pub few : (modules : List ModuleValue) → link_fault modules ≡ None → few_commons modules
 few modules none =
     let a = or_none (duplicate_public modules) (option_or (segment_too_long modules) (option_or (two_mains modules) (option_or (high_not_paged modules) (option_or (too_many_commons modules) (too_many_externals modules))))) none in
     let b = or_none (segment_too_long modules) (option_or (two_mains modules) (option_or (high_not_paged modules) (option_or (too_many_commons modules) (too_many_externals modules)))) a.1 in

@@ -22,7 +22,7 @@ abbrev pub few_commons : List ModuleValue → Type 0
 few_commons modules = length (common_names modules) ≤ 249
 
 -- the linked common of a module's common
-common_found : (modules : List ModuleValue) (m : ModuleValue) (id : ℕ) → Listed modules m → names_common m.commons id ≡ true → IsNumbered 6 (common_names modules) (common_name m.commons id)
+pub common_found : (modules : List ModuleValue) (m : ModuleValue) (id : ℕ) → Listed modules m → names_common m.commons id ≡ true → IsNumbered 6 (common_names modules) (common_name m.commons id)
 common_found modules m id listed named =
     is_numbered 6 (common_names modules) (common_name m.commons id)
     (distinct_has (flat_map names_of_commons modules) (common_name m.commons id) (listed.commons id named))

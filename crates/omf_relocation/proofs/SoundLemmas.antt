@@ -91,6 +91,7 @@ from_tests test P gives (x ∷ xs) all =
 
 content_fixups : (m : ModuleValue) (c : ContentValue) → IsTrue (is_content m.segments m.commons (length m.externals) c) → HasItsFixups m c
 content_fixups m c good = record {
+  fitting = (and_parts (is_placed m.segments m.commons c) (each_after (is_fitting m.commons (length m.externals) c.offset (length c.bytes)) [] c.fixups) good).1;
   begin = from_tests (λ f. nat_le c.offset f.offset) (λ f. c.offset ≤ f.offset) (λ f h. leb-true c.offset f.offset h) c.fixups (content_above m.segments m.commons (length m.externals) c good);
   targets = from_tests (λ f. has_target m.commons (length m.externals) f.target) (λ f. IsTrue (has_target m.commons (length m.externals) f.target)) (λ f h. h) c.fixups (content_targets m.segments m.commons (length m.externals) c good);
   inside = λ word. content_inside m.segments m.commons (length m.externals) c word good;

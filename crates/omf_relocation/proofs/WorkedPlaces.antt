@@ -65,3 +65,10 @@ called = refl
 -- a paged part starts at a multiple of 256
 paged_part : part_start (calls ∷ record is_called { segments = (1, record { length = 1; paged = true }) ∷ [] } ∷ []) 1 1 ≡ 256
 paged_part = refl
+
+-- a content that passes FFFF goes on at 0
+wraps : image_byte (at 0xFFFF 0) (of_code 2 (0x76 ∷ 0xC9 ∷ []) [] ∷ []) 0xFFFF ∷ image_byte (at 0xFFFF 0) (of_code 2 (0x76 ∷ 0xC9 ∷ []) [] ∷ []) 0 ∷ [] ≡ 0x76 ∷ 0xC9 ∷ []
+wraps = refl
+
+no_address : image_byte (at 0xFFFF 0) (of_code 2 (0x76 ∷ 0xC9 ∷ []) [] ∷ []) 0x10000 ≡ 0
+no_address = refl

@@ -1,7 +1,7 @@
 -- The bytes that modules define: a chunk for each content, at its place, with its references applied; and the byte at an
 -- address, that of the last chunk over it. No linked module occurs here: it is what LINK and LOCATE together come to.
 -- (ISIS-II User's Guide: LINK, LOCATE and the loading of object files.)
-use Rattle.std.specs.Prelude.{ℕ, ◌+◌, ◌-◌, nat_eq, ◌&&◌, nat_le, nat_lt, Bool, None, unwrap_or, List, [], filter, find, map, length, slice_get, slice_index}
+use Rattle.std.specs.Prelude.{ℕ, ◌+◌, ◌-◌, ◌%◌, nat_eq, ◌&&◌, nat_lt, Bool, None, unwrap_or, List, [], filter, find, map, length, slice_get, slice_index}
 use Rattle.std.specs.List.{last_or, flat_map, enumerate_from}
 use Rattle.std.specs.Option.{option_map_or}
 use Rattle.std.specs.Cmp.Lexicographic.{pointwise}
@@ -58,10 +58,14 @@ chunk_of bases modules m c = record {
 abbrev pub chunks_of : Bases → List ModuleValue → List ByteChunk
 chunks_of bases modules = flat_map (λ m. map (chunk_of bases modules m) m.1.contents) (enumerate_from 0 modules)
 
+-- how far an address lies after a place, past the end of memory at its start again
+abbrev pub distance : (place address : ℕ) → ℕ
+distance place address = (address + 65536 - place % 65536) % 65536
+
 -- the byte at an address: that of the last chunk that covers it, and 0 where none does
 abbrev pub chunk_covers : ℕ → ByteChunk → Bool
-chunk_covers address c = nat_le c.place address && nat_lt address (c.place + length c.bytes)
+chunk_covers address c = nat_lt address 65536 && nat_lt (distance c.place address) (length c.bytes)
 
 abbrev pub image_byte : Bases → List ModuleValue → ℕ → ℕ
 image_byte bases modules address =
-    option_map_or (λ c. slice_index c.bytes (address - c.place)) (last_or None (filter (chunk_covers address) (chunks_of bases modules))) 0
+    option_map_or (λ c. slice_index c.bytes (distance c.place address)) (last_or None (filter (chunk_covers address) (chunks_of bases modules))) 0

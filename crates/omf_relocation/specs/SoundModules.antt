@@ -7,7 +7,7 @@ use Rattle.omf_module.specs.declared.fixup.Fixup.{Fixup}
 use Rattle.omf_module.specs.Contents.{ContentValue}
 use Rattle.omf_module.specs.Segments.{names_common, has_segment}
 use Rattle.omf_module.specs.Modules.{ModuleValue}
-use Rattle.omf_module.specs.Rules.{each_after, is_new_common, has_target, end_of, is_start, is_sound}
+use Rattle.omf_module.specs.Rules.{each_after, is_new_common, has_target, has_fitting, end_of, is_start, is_sound}
 use Rattle.omf_relocation.specs.declared.patching.Patch.{Patch}
 use Rattle.omf_relocation.specs.Patches.{are_inside, are_apart}
 use Rattle.omf_relocation.specs.Place.{word_of, common_name, part_start}
@@ -23,9 +23,10 @@ pub record LiesIn (m : ModuleValue) (c : ContentValue) : Type 0 where
 abbrev pub as_patch : ℕ → (Fixup → ℕ) → Fixup → Patch
 as_patch first word f = record { at = f.offset - first; field = f.field; word = word f }
 
--- The fixups of a content begin in it and are to what is there; as patches, whatever words they add, they lie inside its
+-- The fixups of a content keep their rules: they begin in it and are to what is there, and as patches, whatever words they add, they lie inside its
 -- bytes and share none of them.
 pub record HasItsFixups (m : ModuleValue) (c : ContentValue) : Type 0 where
+  pub fitting : IsTrue (has_fitting m.commons (length m.externals) c)
   pub begin : AllByRecursion (λ f. c.offset ≤ f.offset) c.fixups
   pub targets : AllByRecursion (λ f. IsTrue (has_target m.commons (length m.externals) f.target)) c.fixups
   pub inside : (word : Fixup → ℕ) → IsTrue (are_inside (length c.bytes) (map (as_patch c.offset word) c.fixups))
