@@ -11,10 +11,6 @@ pub mod UsedLemmas
 pub mod FileLemmas
 pub mod KeepsLemmas
 pub mod RuleLemmas
-pub mod PatchLemmas
-pub mod WorkedPlaces
-pub mod PatchingLemmas
-pub mod PatchedTwice
 pub mod WrittenSpelled
 pub mod WrittenPasses
 pub mod WrittenSound

@@ -9,9 +9,6 @@ pub mod Gathered
 pub mod Uses
 pub mod Spelled
 pub mod Reading
+pub mod Laws
 pub mod Writing
 pub mod WritingLaws
-pub mod Place
-pub mod Patches
-pub mod ImageByte
-pub mod PatchLaws

@@ -9,7 +9,6 @@
 //! | [`Content`], [`Fixup`], [`Field`], [`Target`] | bytes of a segment, and the references that stand in them |
 //! | [`read_module`], [`read_file`] | the module that begins at a place; the modules of an object file |
 //! | [`write_module`], [`write_file`] | a module as records; modules as an object file |
-//! | [`Patch`], [`apply_patches`] | references of a content, each increased by a displacement |
 //! | [`laws`] | what is read is spelled by records, and what is spelled or written is read |
 //! | [`ModuleFault`], [`Cause`], [`PartsFault`] | why bytes, or parts, make no module |
 #![tactic(auto)]
@@ -28,7 +27,6 @@ mod modules;
 mod names;
 mod open;
 mod parts;
-mod patching;
 mod reading;
 mod records;
 mod rules;
@@ -44,7 +42,7 @@ pub use fixup::{Fixup, Target};
 pub use modules::Module;
 pub use omf_body::Field;
 pub use parts::Parts;
-pub use patching::{Patch, apply_patches};
+pub use reading::{read_file, read_module};
 pub use rules::names_common;
 pub use segment::Segment;
 pub use symbols::{Common, Public};

@@ -3,13 +3,12 @@ use Rattle.std.proofs.Common.{◌≡◌, ℕ, suc, ◌+◌, ◌<◌, ◌≤◌, 
 use Rattle.std.specs.Prelude.{nat_lt, ◌==◌, ◌↔◌, Option, None, Some, option_map, filter, find, All, AllPairs}
 use Rattle.std.specs.List.{list_any}
 use Rattle.std.specs.Option.{option_or}
-use Rattle.std.proofs.lemmas.Bool.{and_parts, cases_Bool, ltb-true, ltb-false, eqb-true}
+use Rattle.std.proofs.lemmas.Bool.{and_parts, cases_Bool, ltb-true, ltb-false, eqb-true, and_from, or_parts}
 use Rattle.std.proofs.lemmas.List.Elements.{All-nil, All-cons, All-head, All-tail, All-weaker}
 use Rattle.std.proofs.lemmas.List.Folds.{find-append, list_any_none}
 use Rattle.std.proofs.lemmas.List.Kept.{AllPairs-cons}
 use Rattle.omf_module.specs.Contents.{ContentValue}
 use Rattle.omf_module.specs.Modules.{ModuleValue}
-use Rattle.omf_module.proofs.Kept.{and_both, or_neither}
 use Rattle.place80.specs.declared.options.Options.{Options}
 use Rattle.place80.specs.declared.placed.Placed.{Placed}
 use Rattle.place80.specs.declared.place_fault.PlaceFault.TheVariants.{OutsideMemory}
@@ -34,7 +33,7 @@ finds_none test (x ∷ xs) all =
 any_fails_all : {A : Type 0} (test : A → Bool) (xs : List A) → list_any test xs ≡ false → All (λ x. test x ≡ false) xs
 any_fails_all test [] none = All-nil (λ x. test x ≡ false)
 any_fails_all test (x ∷ xs) none =
-    let parts = or_neither (test x) (list_any test xs) none in All-cons (λ x. test x ≡ false) x xs parts.0 (any_fails_all test xs parts.1)
+    let parts = or_parts (test x) (list_any test xs) none in All-cons (λ x. test x ≡ false) x xs parts.0 (any_fails_all test xs parts.1)
 
 both_none : {A : Type 0} (a b : Option A) → a ≡ None → b ≡ None → option_or a b ≡ None
 both_none a b a_none b_none = ap (λ o. option_or o b) a_none ∙ b_none
@@ -135,7 +134,7 @@ HoldsContent size c = c.segment ≡ 4 → c.offset + length c.bytes ≤ size
 
 not_passed : (size : ℕ) (c : ContentValue) → passes_memory size c ≡ false → HoldsContent size c
 not_passed size c none is = elim (cases_Bool (nat_lt size (c.offset + length c.bytes))) [
-  | inl e ↦ absurd (true≢false (sym (and_both (c.segment == 4) (nat_lt size (c.offset + length c.bytes)) (ap (λ n. n == 4) is) e) ∙ none))
+  | inl e ↦ absurd (true≢false (sym (and_from (c.segment == 4) (nat_lt size (c.offset + length c.bytes)) (ap (λ n. n == 4) is) e) ∙ none))
   | inr e ↦ ltb-false size (c.offset + length c.bytes) e
 ]
 
@@ -151,7 +150,7 @@ held_passes_none size c holds = elim (cases_Bool (passes_memory size c)) [
 
 lies : (contents : List ContentValue) (p : Placed) → is_outside contents p ≡ false → LiesInMemory contents p
 lies contents p none =
-    let parts = or_neither (nat_lt 65536 (p.base + p.length)) (p.id == 4 && list_any (passes_memory p.length) contents) none in
+    let parts = or_parts (nat_lt 65536 (p.base + p.length)) (p.id == 4 && list_any (passes_memory p.length) contents) none in
     record {
       «end» = ltb-false 65536 (p.base + p.length) parts.0;
       content = λ is.

@@ -1,6 +1,6 @@
 -- The placed segments of a program.
 use Rattle.std.proofs.Common.{◌≡◌, ◌≢◌, ℕ, zero, suc, ◌+◌, ◌<◌, ◌≤◌, Bool, true, false, cond, ◌||◌, List, [], ◌∷◌, ◌++◌, refl, sym, ap, subst, ◌∙◌, arith, inl, inr, eqb-true}
-use Rattle.std.specs.Prelude.{◌==◌, Option, None, Some, filter, find, unwrap_or, option_map, All, IsTrue}
+use Rattle.std.specs.Prelude.{◌==◌, Option, None, Some, filter, find, unwrap_or, option_map, All}
 use Rattle.std.specs.List.{list_any, range_with_len}
 use Rattle.std.specs.Option.{option_or}
 use Rattle.std.proofs.lemmas.Bool.{cases_Bool, eqb-false}
@@ -9,14 +9,12 @@ use Rattle.std.proofs.lemmas.List.Elements.{All-nil, All-cons, All-weaker}
 use Rattle.std.proofs.lemmas.List.Folds.{find-append}
 use Rattle.omf_module.specs.Segments.{has_segment, names_common, is_fixed_id}
 use Rattle.omf_module.specs.Modules.{ModuleValue}
-use Rattle.omf_module.specs.Rules.{each_after, is_new_common}
 use Rattle.place80.specs.declared.options.Options.{Options}
 use Rattle.place80.specs.declared.placed.Placed.{Placed}
 use Rattle.place80.specs.Layout.{usual_base, common_ids, order_of, given_length, own_segment, common_numbers, placed_after, placed_from, layout_of}
 use Rattle.place80.specs.PlaceFault.{ids_of, overlap_of, first_shared, with_each, is_outside, overlaps, pairs, all_pairs, absolute_places, outside_memory, overlap, layout_fault}
 use Rattle.place80.specs.declared.place_fault.PlaceFault.TheVariants.{OutsideMemory}
 use Rattle.place80.proofs.LocatedDisjoint.{HasWord}
-use Rattle.place80.proofs.SoundLemmas.{named_id}
 
 neither : {A : Type 0} (a b : Option A) → option_or a b ≡ None → (a ≡ None) × (b ≡ None)
 neither None b none = (refl, none)
@@ -127,14 +125,14 @@ fixed_in_order named id fixed not_absolute =
     ]
 
 -- every segment of the program but the absolute one is placed
-pub layout_has : (options : Options) (m : ModuleValue) (id : ℕ) → IsTrue (each_after is_new_common [] m.commons) → has_segment m.commons id ≡ true → (id == 0) ≡ false →
+pub layout_has : (options : Options) (m : ModuleValue) (id : ℕ) → ((i : ℕ) → names_common m.commons i ≡ true → (6 ≤ i) × (i ≤ 254)) → has_segment m.commons id ≡ true → (id == 0) ≡ false →
     list_any (λ p. p.id == id) (layout_of options m) ≡ true
 unfolding common_numbers
-layout_has options m id new has not_absolute = elim (cases_Bool (is_fixed_id id)) [
+layout_has options m id ids has not_absolute = elim (cases_Bool (is_fixed_id id)) [
   | inl e ↦ layout_ids options m id ∙ fixed_in_order (common_ids m.commons) id e not_absolute
   | inr e ↦
       let named : names_common m.commons id ≡ true = sym (ap (λ b. b || names_common m.commons id) e) ∙ has in
-      let bounds = named_id m.commons id new named in
+      let bounds = ids id named in
       layout_ids options m id
       ∙ from_later (common_ids m.commons) id
       (any_front (λ i. i == id) (common_ids m.commons) (255 ∷ 2 ∷ 4 ∷ []) (any_of_range (names_common m.commons) 249 6 id bounds.0 (omega (arith, bounds.1)) named))

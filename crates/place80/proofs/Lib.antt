@@ -10,14 +10,11 @@ pub mod ApartLemmas
 pub mod PairLemmas
 pub mod PlacingLemmas
 pub mod LocatedLemmas
-pub mod AfterLemmas
-pub mod FixupLemmas
 pub mod BytesLemmas
 pub mod PlaceLemmas
 pub mod LocatedDisjoint
 pub mod LocatedApart
 pub mod OverlapLemmas
-pub mod SoundLemmas
 pub mod LayoutLemmas
 pub mod LocatingLemmas
 pub mod ChunkLemmas

@@ -2,12 +2,11 @@
 use Rattle.std.proofs.Common.{◌≡◌, ℕ, ◌+◌, ◌%◌, ◌<◌, ◌≤◌, Bool, true, false, cond, ◌&&◌, ◌||◌, List, [], ◌∷◌, ◌++◌, map, refl, sym, ap, ◌∙◌, arith, inl, inr, true≢false}
 use Rattle.std.specs.Prelude.{not, nat_le, nat_lt, ◌==◌, Option, None, Some, filter, find, unwrap_or, All}
 use Rattle.std.specs.Option.{option_or}
-use Rattle.std.proofs.lemmas.Bool.{and_parts, cases_Bool, lt-ltb}
+use Rattle.std.proofs.lemmas.Bool.{and_parts, cases_Bool, lt-ltb, and_from}
 use Rattle.std.proofs.lemmas.Bool.Decides.{nat_tests}
 use Rattle.std.proofs.lemmas.List.Elements.{All-head, All-tail}
 use Rattle.std.proofs.lemmas.List.Folds.{find-append}
 use Rattle.std.proofs.lemmas.List.Sums.{sum_by-cons}
-use Rattle.omf_module.proofs.Kept.{and_both}
 use Rattle.place80.specs.declared.range.Range.{Range}
 use Rattle.place80.specs.declared.placed.Placed.{Placed}
 use Rattle.place80.specs.Range.{in_range}
@@ -111,9 +110,9 @@ in_segment p address ends inside =
 pub share_then_overlap : (p q : Placed) (address : ℕ) → p.base ≤ address → address < p.base + p.length → q.base ≤ address → address < q.base + q.length →
     overlaps p q ≡ true
 share_then_overlap p q address above below other_above other_below =
-    and_both (nat_lt 0 p.length && nat_lt 0 q.length && nat_lt p.base (q.base + q.length)) (nat_lt q.base (p.base + p.length))
-    (and_both (nat_lt 0 p.length && nat_lt 0 q.length) (nat_lt p.base (q.base + q.length))
-    (and_both (nat_lt 0 p.length) (nat_lt 0 q.length) (lt-ltb 0 p.length (omega arith)) (lt-ltb 0 q.length (omega arith)))
+    and_from (nat_lt 0 p.length && nat_lt 0 q.length && nat_lt p.base (q.base + q.length)) (nat_lt q.base (p.base + p.length))
+    (and_from (nat_lt 0 p.length && nat_lt 0 q.length) (nat_lt p.base (q.base + q.length))
+    (and_from (nat_lt 0 p.length) (nat_lt 0 q.length) (lt-ltb 0 p.length (omega arith)) (lt-ltb 0 q.length (omega arith)))
     (lt-ltb p.base (q.base + q.length) (omega arith)))
     (lt-ltb q.base (p.base + p.length) (omega arith))
 

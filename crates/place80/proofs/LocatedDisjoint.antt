@@ -2,11 +2,10 @@
 use Rattle.std.proofs.Common.{◌≡◌, ℕ, ◌+◌, ◌<◌, ◌≤◌, Bool, true, false, cond, ◌&&◌, ◌||◌, List, [], ◌∷◌, map, refl, arith}
 use Rattle.std.specs.Prelude.{not, nat_lt, ◌==◌, None, Some, filter, find, unwrap_or, All}
 use Rattle.std.specs.List.{list_any}
-use Rattle.std.proofs.lemmas.Bool.{ltb-true}
+use Rattle.std.proofs.lemmas.Bool.{ltb-true, or_parts}
 use Rattle.std.proofs.lemmas.Bool.Decides.{nat_tests}
 use Rattle.std.proofs.lemmas.List.Elements.{All-nil, All-cons, All-head, All-tail, All-filter, All-map, All-weaker, filter_passes}
 use Rattle.omf_module.specs.Contents.{ContentValue}
-use Rattle.omf_module.proofs.Kept.{or_neither}
 use Rattle.place80.specs.declared.range.Range.{Range}
 use Rattle.place80.specs.declared.placed.Placed.{Placed}
 use Rattle.place80.specs.Range.{IsInMemory}
@@ -42,7 +41,7 @@ find_none test x xs none =
     ]) none
 
 not_past : (end : ℕ) (other : Bool) → (nat_lt 65536 end || other) ≡ false → end ≤ 65536
-not_past end other inside = let none = or_neither (nat_lt 65536 end) other inside in grind (arith, nat_tests, none.0)
+not_past end other inside = let none = or_parts (nat_lt 65536 end) other inside in grind (arith, nat_tests, none.0)
 
 pub ends_in_memory : (contents : List ContentValue) (segments : List Placed) → find (is_outside contents) segments ≡ None → All EndsInMemory segments
 ends_in_memory contents [] none = All-nil EndsInMemory

@@ -2,10 +2,9 @@
 use Rattle.std.proofs.Common.{◌≡◌, ℕ, ◌+◌, ◌%◌, ◌<◌, ◌≤◌, Bool, true, false, cond, ◌&&◌, ◌||◌, List, [], ◌∷◌, map, refl, sym, ap, ◌∙◌, arith, inl, inr, true≢false}
 use Rattle.std.specs.Prelude.{nat_le, nat_lt, ◌==◌, filter, All}
 use Rattle.std.specs.List.{list_any}
-use Rattle.std.proofs.lemmas.Bool.{cases_Bool, le-leb, lt-ltb}
+use Rattle.std.proofs.lemmas.Bool.{cases_Bool, le-leb, lt-ltb, and_from}
 use Rattle.std.proofs.lemmas.List.Elements.{All-head, All-tail}
 use Rattle.std.proofs.lemmas.List.Sorted.{list_any-IsPermutation}
-use Rattle.omf_module.proofs.Kept.{and_both}
 use Rattle.place80.specs.declared.range.Range.{Range}
 use Rattle.place80.specs.declared.placed.Placed.{Placed}
 use Rattle.place80.specs.Range.{in_range}
@@ -23,7 +22,7 @@ use Rattle.place80.proofs.OverlapLemmas.{in_placed, placed_bounds}
 in_its_range : (p : Placed) (address : ℕ) → EndsInMemory p → p.base ≤ address → address < p.base + p.length → in_range (range_at p) address ≡ true
 in_its_range p address ends above below =
     let first : p.base % 65536 ≡ p.base = omega arith in
-    and_both (nat_le (p.base % 65536) address) (nat_lt address (p.base % 65536 + p.length))
+    and_from (nat_le (p.base % 65536) address) (nat_lt address (p.base % 65536 + p.length))
     (le-leb (p.base % 65536) address (omega arith)) (lt-ltb address (p.base % 65536 + p.length) (omega arith))
 
 -- a segment and its range have the same addresses

@@ -1,87 +1,99 @@
 -- The one module that is located: its words, patches, chunks and start by its placed segments, and the causes in their order.
-use Rattle.std.specs.Prelude.{◌≡◌, ℕ, ◌+◌, ◌-◌, ◌%◌, ◌==◌, Bool, true, not, ◌&&◌, ◌||◌, if◌then◌else◌, Option, Some, None, option_map, option_and_then, is_none, List, [], ◌∷◌, map, find, length, slice_get, nat_le, ◌≤◌, IsTrue, All, refl}
-use Rattle.std.specs.List.{list_all, list_any, AllByRecursion}
+use Rattle.std.specs.Prelude.{◌≡◌, ℕ, ◌+◌, ◌-◌, ◌%◌, ◌==◌, Bool, true, not, ◌&&◌, ◌||◌, if◌then◌else◌, Option, Some, None, option_map, option_and_then, is_none, List, [], ◌∷◌, map, find, length, slice_get, ◌≤◌, IsTrue, All, refl}
+use Rattle.std.specs.List.{list_any, AllByRecursion}
 use Rattle.std.specs.Option.{option_or}
 use Rattle.std.proofs.Common.{◌∙◌, ap, sym, subst, arith, ◌<◌, get_or}
-use Rattle.std.proofs.lemmas.Bool.{and_parts, ltb-true, leb-true}
+use Rattle.std.proofs.lemmas.Bool.{ltb-true}
 use Rattle.std.proofs.lemmas.List.Elements.{All-from_get_or, All-from_recursion, recursion_from_All}
 use Rattle.std.proofs.lemmas.List.{append-nil}
 use Rattle.omf_module.specs.declared.fixup.Fixup.{Fixup}
 use Rattle.omf_module.specs.declared.fixup.Target.{Target}
 use Rattle.omf_module.specs.declared.fixup.Target.TheVariants as target
-use Rattle.omf_module.specs.declared.patching.Patch.{Patch}
+use Rattle.omf_relocation.specs.declared.patching.Patch.{Patch}
 use Rattle.omf_module.specs.Contents.{ContentValue}
-use Rattle.omf_module.specs.Patches.{with_patches}
+use Rattle.omf_relocation.specs.Patches.{with_patches}
 use Rattle.omf_module.specs.Segments.{has_segment}
 use Rattle.omf_module.specs.Modules.{ModuleValue}
-use Rattle.omf_module.specs.Rules.{has_target, is_content, is_start, is_sound}
-use Rattle.omf_module.specs.Place.{Bases, place_in}
-use Rattle.omf_module.specs.ImageByte.{target_word, patch_of, chunk_of}
+use Rattle.omf_module.specs.Rules.{has_target, is_start, is_sound}
+use Rattle.omf_relocation.specs.Place.{Bases, place_in}
+use Rattle.omf_relocation.specs.ImageByte.{target_word, patch_of, chunk_of}
+use Rattle.omf_relocation.specs.HighReferences.{is_high, loses_low_byte, any_loses_low_byte}
+use Rattle.omf_relocation.specs.SoundModules.{LiesIn, HasItsFixups}
+use Rattle.std.proofs.Math.Bool.{or-false}
 use Rattle.place80.specs.declared.options.Options.{Options}
 use Rattle.place80.specs.declared.placed.Placed.{Placed}
 use Rattle.place80.specs.Image.{PlacedBytes}
 use Rattle.place80.specs.Layout.{placed_in, place_by, bases_of, layout_of, program_bases}
 use Rattle.place80.specs.Locating.{target_by, patch_by, loses_by, chunk_by, CanBePlaced, placed_bytes, located_chunks}
-use Rattle.place80.specs.PlaceFault.{is_outside, overlaps, pairs, is_high, loses_low_byte, high_not_paged, is_in_placed, start_place, start_not_code, unresolved, no_start, layout_fault, locate_fault}
+use Rattle.place80.specs.PlaceFault.{is_outside, overlaps, pairs, high_not_paged, is_in_placed, start_place, start_not_code, unresolved, no_start, layout_fault, locate_fault}
 use Rattle.place80.specs.declared.place_fault.PlaceFault.{PlaceFault}
 use Rattle.place80.specs.declared.place_fault.PlaceFault.TheVariants.{HighNotPaged, StartNotCode}
-use Rattle.place80.proofs.FixupLemmas.{test_at, content_above, content_inside, content_apart, content_targets}
-use Rattle.place80.proofs.ChunkLemmas.{content_in_memory}
+use Rattle.place80.proofs.ChunkLemmas.{all_at, content_in_memory}
 use Rattle.place80.proofs.LayoutLemmas.{in_memory_and_apart}
 use Rattle.place80.proofs.LocatedDisjoint.{EndsInMemory, HasWord, ends_in_memory}
-use Rattle.place80.proofs.PlaceLemmas.{place_of_id}
-use Rattle.place80.proofs.SoundLemmas.{sound_commons, sound_contents, sound_start, content_lies}
+use Rattle.place80.proofs.PlaceLemmas.{ModuleLaws, place_of_id}
 
--- two tests, or two functions, that agree where another test is passed
-any_same : {A : Type 0} (good p q : A → Bool) → ((x : A) → IsTrue (good x) → p x ≡ q x) → (xs : List A) → IsTrue (list_all good xs) → list_any p xs ≡ list_any q xs
-any_same good p q same [] all = refl
-any_same good p q same (x ∷ xs) all =
-    let parts = and_parts (good x) (list_all good xs) all in
-    ap (λ (b : Bool). b || list_any p xs) (same x parts.0) ∙ ap (λ (b : Bool). q x || b) (any_same good p q same xs parts.1)
+-- two tests, or two functions, that agree where something holds
+any_same : {A : Type 0} (P : A → Type 0) (p q : A → Bool) → ((x : A) → P x → p x ≡ q x) → (xs : List A) → AllByRecursion P xs → list_any p xs ≡ list_any q xs
+any_same P p q same [] all = refl
+any_same P p q same (x ∷ xs) all = ap (λ (b : Bool). b || list_any p xs) (same x all.0) ∙ ap (λ (b : Bool). q x || b) (any_same P p q same xs all.1)
 
-map_same : {A B : Type 0} (good : A → Bool) (f g : A → B) → ((x : A) → IsTrue (good x) → f x ≡ g x) → (xs : List A) → IsTrue (list_all good xs) → map f xs ≡ map g xs
-map_same good f g same [] all = refl
-map_same good f g same (x ∷ xs) all =
-    let parts = and_parts (good x) (list_all good xs) all in
-    ap (λ y. y ∷ map f xs) (same x parts.0) ∙ ap (λ l. g x ∷ l) (map_same good f g same xs parts.1)
+map_same : {A B : Type 0} (P : A → Type 0) (f g : A → B) → ((x : A) → P x → f x ≡ g x) → (xs : List A) → AllByRecursion P xs → map f xs ≡ map g xs
+map_same P f g same [] all = refl
+map_same P f g same (x ∷ xs) all = ap (λ y. y ∷ map f xs) (same x all.0) ∙ ap (λ l. g x ∷ l) (map_same P f g same xs all.1)
 
 -- what a reference is to, where the module has no external
-target_same : (segments : List Placed) (m : ModuleValue) (t : Target) → IsTrue (is_sound m) → IsTrue (has_target m.commons 0 t) →
+target_same : ModuleLaws → (segments : List Placed) (m : ModuleValue) (t : Target) → IsTrue (is_sound m) → IsTrue (has_target m.commons 0 t) →
     target_word (bases_of m.commons segments) (m ∷ []) (0, m) t ≡ target_by segments t
-target_same segments m (target.Segment id) sound has = place_of_id segments m id 0 (sound_commons m sound) has
-target_same segments m (target.External index) sound has = let below : index < 0 = ltb-true index 0 has in absurd (omega arith)
+target_same laws segments m (target.Segment id) sound has = place_of_id laws segments m id 0 (laws.rules m sound).commons has
+target_same laws segments m (target.External index) sound has = let below : index < 0 = ltb-true index 0 has in absurd (omega arith)
 
 no_externals : (m : ModuleValue) → m.externals ≡ [] → length m.externals ≡ 0
 no_externals m none = ap (λ (l : List (List ℕ)). length l) none
 
-targets_there : (m : ModuleValue) (c : ContentValue) → m.externals ≡ [] → IsTrue (is_content m.segments m.commons (length m.externals) c) → IsTrue (list_all (λ f. has_target m.commons 0 f.target) c.fixups)
-targets_there m c none good = content_targets m.segments m.commons 0 c (subst (λ n. IsTrue (is_content m.segments m.commons n c)) (no_externals m none) good)
+abbrev HasTarget : ModuleValue → Fixup → Type 0
+HasTarget m f = IsTrue (has_target m.commons 0 f.target)
+
+targets_there : (m : ModuleValue) (c : ContentValue) → m.externals ≡ [] → HasItsFixups m c → AllByRecursion (HasTarget m) c.fixups
+targets_there m c none good = subst (λ n. AllByRecursion (λ f. IsTrue (has_target m.commons n f.target)) c.fixups) (no_externals m none) good.targets
 
 -- references that lose their low bytes
-loses_same : (segments : List Placed) (m : ModuleValue) (f : Fixup) → IsTrue (is_sound m) → IsTrue (has_target m.commons 0 f.target) → loses_by segments f ≡ loses_low_byte (bases_of m.commons segments) m f
-loses_same segments m f sound has = ap (λ n. is_high f.field && not (n % 256 == 0)) (sym (target_same segments m f.target sound has))
+loses_same : ModuleLaws → (segments : List Placed) (m : ModuleValue) (f : Fixup) → IsTrue (is_sound m) → IsTrue (has_target m.commons 0 f.target) → loses_by segments f ≡ loses_low_byte (bases_of m.commons segments) (m ∷ []) (0, m) f
+loses_same laws segments m f sound has = ap (λ n. is_high f.field && not (n % 256 == 0)) (sym (target_same laws segments m f.target sound has))
 
-pub any_loses_same : (segments : List Placed) (m : ModuleValue) → IsTrue (is_sound m) → m.externals ≡ [] →
-    list_any (λ c. list_any (loses_by segments) c.fixups) m.contents ≡ list_any (λ c. list_any (loses_low_byte (bases_of m.commons segments) m) c.fixups) m.contents
-any_loses_same segments m sound none =
-    any_same (is_content m.segments m.commons (length m.externals)) (λ c. list_any (loses_by segments) c.fixups) (λ c. list_any (loses_low_byte (bases_of m.commons segments) m) c.fixups)
-    (λ c good. any_same (λ f. has_target m.commons 0 f.target) (loses_by segments) (loses_low_byte (bases_of m.commons segments) m) (λ f has. loses_same segments m f sound has) c.fixups (targets_there m c none good))
-    m.contents (sound_contents m sound)
+pub any_loses_same : ModuleLaws → (segments : List Placed) (m : ModuleValue) → IsTrue (is_sound m) → m.externals ≡ [] →
+    list_any (λ c. list_any (loses_by segments) c.fixups) m.contents ≡ any_loses_low_byte (bases_of m.commons segments) (m ∷ [])
+any_loses_same laws segments m sound none =
+    let loses : Fixup → Bool = loses_low_byte (bases_of m.commons segments) (m ∷ []) (0, m) in
+    any_same (HasItsFixups m) (λ c. list_any (loses_by segments) c.fixups) (λ c. list_any loses c.fixups)
+    (λ c good. any_same (HasTarget m) (loses_by segments) loses (λ f has. loses_same laws segments m f sound has) c.fixups (targets_there m c none good))
+    m.contents (laws.rules m sound).fixups
+    ∙ sym (or-false (list_any (λ c. list_any loses c.fixups) m.contents))
 
 -- the chunks of contents
 abbrev one_chunk : List Placed → ModuleValue → ContentValue → PlacedBytes
 one_chunk segments m c = placed_bytes (chunk_of (bases_of m.commons segments) (m ∷ []) (0, m) c)
 
-patch_same : (segments : List Placed) (m : ModuleValue) (c : ContentValue) (f : Fixup) → IsTrue (is_sound m) → IsTrue (has_target m.commons 0 f.target) →
+patch_same : ModuleLaws → (segments : List Placed) (m : ModuleValue) (c : ContentValue) (f : Fixup) → IsTrue (is_sound m) → IsTrue (has_target m.commons 0 f.target) →
     patch_by segments c.offset f ≡ patch_of (bases_of m.commons segments) (m ∷ []) (0, m) c f
-patch_same segments m c f sound has = ap (λ (n : ℕ). record { at = f.offset - c.offset; field = f.field; word = n }) (sym (target_same segments m f.target sound has))
+patch_same laws segments m c f sound has = ap (λ (n : ℕ). record { at = f.offset - c.offset; field = f.field; word = n }) (sym (target_same laws segments m f.target sound has))
 
-chunk_same : (segments : List Placed) (m : ModuleValue) (c : ContentValue) → IsTrue (is_sound m) → m.externals ≡ [] → IsTrue (is_content m.segments m.commons (length m.externals) c) →
-    chunk_by segments c ≡ one_chunk segments m c
-chunk_same segments m c sound none good =
-    let patches = map_same (λ f. has_target m.commons 0 f.target) (patch_by segments c.offset) (patch_of (bases_of m.commons segments) (m ∷ []) (0, m) c)
-    (λ f has. patch_same segments m c f sound has) c.fixups (targets_there m c none good) in
-    let place = place_of_id segments m c.segment c.offset (sound_commons m sound) (content_lies m.segments m.commons (length m.externals) c good).has in
+pub record IsGood (m : ModuleValue) (c : ContentValue) : Type 0 where
+  pub lies : LiesIn m c
+  pub fixups : HasItsFixups m c
+
+all_good : (m : ModuleValue) (cs : List ContentValue) → AllByRecursion (LiesIn m) cs → AllByRecursion (HasItsFixups m) cs → AllByRecursion (IsGood m) cs
+all_good m [] lie have = _
+all_good m (c ∷ cs) lie have = (record { lies = lie.0; fixups = have.0 }, all_good m cs lie.1 have.1)
+
+pub good_contents : ModuleLaws → (m : ModuleValue) → IsTrue (is_sound m) → AllByRecursion (IsGood m) m.contents
+good_contents laws m sound = all_good m m.contents (laws.rules m sound).contents (laws.rules m sound).fixups
+
+chunk_same : ModuleLaws → (segments : List Placed) (m : ModuleValue) (c : ContentValue) → IsTrue (is_sound m) → m.externals ≡ [] → IsGood m c → chunk_by segments c ≡ one_chunk segments m c
+chunk_same laws segments m c sound none good =
+    let patches = map_same (HasTarget m) (patch_by segments c.offset) (patch_of (bases_of m.commons segments) (m ∷ []) (0, m) c)
+    (λ f has. patch_same laws segments m c f sound has) c.fixups (targets_there m c none good.fixups) in
+    let place = place_of_id laws segments m c.segment c.offset (laws.rules m sound).commons good.lies.has in
     ap (λ (n : ℕ). record { address = n; bytes = with_patches (map (patch_by segments c.offset) c.fixups) c.bytes }) (sym place)
     ∙ ap (λ (l : List Patch). record { address = place_in (bases_of m.commons segments) (m ∷ []) 0 m c.segment c.offset; bytes = with_patches l c.bytes }) patches
 
@@ -89,22 +101,22 @@ map_both : {A B C : Type 0} (f : B → C) (g : A → B) (xs : List A) → map f 
 map_both f g [] = refl
 map_both f g (x ∷ xs) = ap (λ l. f (g x) ∷ l) (map_both f g xs)
 
-pub chunks_same : (options : Options) (m : ModuleValue) → IsTrue (is_sound m) → m.externals ≡ [] → map (chunk_by (layout_of options m)) m.contents ≡ located_chunks options m
-chunks_same options m sound none =
+pub chunks_same : ModuleLaws → (options : Options) (m : ModuleValue) → IsTrue (is_sound m) → m.externals ≡ [] → map (chunk_by (layout_of options m)) m.contents ≡ located_chunks options m
+chunks_same laws options m sound none =
     let segments : List Placed = layout_of options m in
-    map_same (is_content m.segments m.commons (length m.externals)) (chunk_by segments) (one_chunk segments m) (λ c good. chunk_same segments m c sound none good) m.contents (sound_contents m sound)
+    map_same (IsGood m) (chunk_by segments) (one_chunk segments m) (λ c good. chunk_same laws segments m c sound none good) m.contents (good_contents laws m sound)
     ∙ sym (map_both placed_bytes (chunk_of (bases_of m.commons segments) (m ∷ []) (0, m)) m.contents)
     ∙ ap (map placed_bytes) (sym (append-nil (map (chunk_of (bases_of m.commons segments) (m ∷ []) (0, m)) m.contents)))
 
 -- the start
-pub start_same : (segments : List Placed) (m : ModuleValue) (id offset : ℕ) → IsTrue (is_sound m) → m.start ≡ Some (id, offset) → place_by segments id offset ≡ start_place (bases_of m.commons segments) m (id, offset)
-start_same segments m id offset sound is =
-    let has : has_segment m.commons id ≡ true = subst (λ (s : Option (ℕ × ℕ)). IsTrue (is_start m.commons s)) is (sound_start m sound) in
-    sym (place_of_id segments m id offset (sound_commons m sound) has)
+pub start_same : ModuleLaws → (segments : List Placed) (m : ModuleValue) (id offset : ℕ) → IsTrue (is_sound m) → m.start ≡ Some (id, offset) → place_by segments id offset ≡ start_place (bases_of m.commons segments) m (id, offset)
+start_same laws segments m id offset sound is =
+    let has : has_segment m.commons id ≡ true = subst (λ (s : Option (ℕ × ℕ)). IsTrue (is_start m.commons s)) is (laws.rules m sound).start in
+    sym (place_of_id laws segments m id offset (laws.rules m sound).commons has)
 
-pub start_found : (segments : List Placed) (m : ModuleValue) (id offset : ℕ) → IsTrue (is_sound m) → m.start ≡ Some (id, offset) → Some (place_by segments id offset) ≡ option_map (start_place (bases_of m.commons segments) m) m.start
-start_found segments m id offset sound is =
-    ap (λ (n : ℕ). Some n) (start_same segments m id offset sound is) ∙ ap (λ (s : Option (ℕ × ℕ)). option_map (start_place (bases_of m.commons segments) m) s) (sym is)
+pub start_found : ModuleLaws → (segments : List Placed) (m : ModuleValue) (id offset : ℕ) → IsTrue (is_sound m) → m.start ≡ Some (id, offset) → Some (place_by segments id offset) ≡ option_map (start_place (bases_of m.commons segments) m) m.start
+start_found laws segments m id offset sound is =
+    ap (λ (n : ℕ). Some n) (start_same laws segments m id offset sound is) ∙ ap (λ (s : Option (ℕ × ℕ)). option_map (start_place (bases_of m.commons segments) m) s) (sym is)
 
 -- ---- the causes, in order
 
@@ -124,7 +136,7 @@ past_three options m start closed is laid =
     ∙ ap (λ o. option_or o (option_or (layout_fault options m) (last_two options m))) (has_start m start is)
     ∙ ap (λ o. option_or o (last_two options m)) laid
 
-pub high_is : (bases : Bases) (m : ModuleValue) (b : Bool) → b ≡ list_any (λ c. list_any (loses_low_byte bases m) c.fixups) m.contents → high_not_paged bases m ≡ (if b then Some HighNotPaged else None)
+pub high_is : (bases : Bases) (m : ModuleValue) (b : Bool) → b ≡ any_loses_low_byte bases (m ∷ []) → high_not_paged bases m ≡ (if b then Some HighNotPaged else None)
 high_is bases m b is = ap (λ (x : Bool). if x then Some HighNotPaged else None) (sym is)
 
 pub start_is : (bases : Bases) (m : ModuleValue) (segments : List Placed) (start : ℕ × ℕ) (b : Bool) → m.start ≡ Some start → b ≡ is_in_placed (placed_in segments 1) (start_place bases m start) →
@@ -134,7 +146,7 @@ start_is bases m segments start b is here =
     ∙ ap (λ (x : Bool). if x then None else Some StartNotCode) (sym here)
 
 pub by_last_two : (options : Options) (m : ModuleValue) (start : ℕ × ℕ) (high inside : Bool) → m.externals ≡ [] → m.start ≡ Some start → layout_fault options m ≡ None →
-    high ≡ list_any (λ c. list_any (loses_low_byte (program_bases options m) m) c.fixups) m.contents →
+    high ≡ any_loses_low_byte (program_bases options m) (m ∷ []) →
     inside ≡ is_in_placed (placed_in (layout_of options m) 1) (start_place (program_bases options m) m start) →
     locate_fault options m ≡ option_or (if high then Some HighNotPaged else None) (if inside then None else Some StartNotCode)
 by_last_two options m start high inside closed is laid loses here =
@@ -144,32 +156,25 @@ by_last_two options m start high inside closed is laid loses here =
 
 -- ---- contents fit their places
 
-from_tests : {A : Type 0} (test : A → Bool) (P : A → Type 0) → ((x : A) → IsTrue (test x) → P x) → (xs : List A) → IsTrue (list_all test xs) → AllByRecursion P xs
-from_tests test P gives [] all = _
-from_tests test P gives (x ∷ xs) all =
-    let parts = and_parts (test x) (list_all test xs) all in
-    (gives x parts.0, from_tests test P gives xs parts.1)
-
-can_be_placed : (options : Options) (m : ModuleValue) (i : ℕ) (d : ContentValue) → IsTrue (is_sound m) → find (is_outside m.contents) (layout_of options m) ≡ None → i < length m.contents →
+can_be_placed : ModuleLaws → (options : Options) (m : ModuleValue) (i : ℕ) (d : ContentValue) → IsTrue (is_sound m) → find (is_outside m.contents) (layout_of options m) ≡ None → i < length m.contents →
     CanBePlaced (layout_of options m) (get_or m.contents i d)
-can_be_placed options m i d sound none below =
+can_be_placed laws options m i d sound none below =
     let c : ContentValue = get_or m.contents i d in
     let segments : List Placed = layout_of options m in
-    let good = test_at (is_content m.segments m.commons (length m.externals)) m.contents i d (sound_contents m sound) below in
-    let lies = content_lies m.segments m.commons (length m.externals) c good in
+    let good : IsGood m c = all_at (IsGood m) m.contents i d (good_contents laws m sound) below in
     record {
-      begin = from_tests (λ f. nat_le c.offset f.offset) (λ f. c.offset ≤ f.offset) (λ f h. leb-true c.offset f.offset h) c.fixups (content_above m.segments m.commons (length m.externals) c good);
-      inside = content_inside m.segments m.commons (length m.externals) c (λ f. target_by segments f.target) good;
-      apart = content_apart m.segments m.commons (length m.externals) c (λ f. target_by segments f.target) good;
-      in_record = lies.in_record;
-      in_memory = subst (λ n. n + length c.bytes ≤ 65536) (place_of_id segments m c.segment c.offset (sound_commons m sound) lies.has) (content_in_memory options m i d sound none below);
+      begin = good.fixups.begin;
+      inside = good.fixups.inside (λ f. target_by segments f.target);
+      apart = good.fixups.apart (λ f. target_by segments f.target);
+      in_record = good.lies.in_record;
+      in_memory = subst (λ n. n + length c.bytes ≤ 65536) (place_of_id laws segments m c.segment c.offset (laws.rules m sound).commons good.lies.has) (content_in_memory laws options m i d sound none below);
     }
 
-pub all_can_be_placed : (options : Options) (m : ModuleValue) → IsTrue (is_sound m) → layout_fault options m ≡ None → AllByRecursion (CanBePlaced (layout_of options m)) m.contents
-all_can_be_placed options m sound laid =
+pub all_can_be_placed : ModuleLaws → (options : Options) (m : ModuleValue) → IsTrue (is_sound m) → layout_fault options m ≡ None → AllByRecursion (CanBePlaced (layout_of options m)) m.contents
+all_can_be_placed laws options m sound laid =
     let d : ContentValue = record { segment = 0; offset = 0; bytes = []; fixups = [] } in
     recursion_from_All (CanBePlaced (layout_of options m)) m.contents
-    (All-from_get_or (CanBePlaced (layout_of options m)) m.contents d (λ i below. can_be_placed options m i d sound (in_memory_and_apart options m laid).0 below))
+    (All-from_get_or (CanBePlaced (layout_of options m)) m.contents d (λ i below. can_be_placed laws options m i d sound (in_memory_and_apart options m laid).0 below))
 
 -- ---- as the calls tell it
 
@@ -177,33 +182,33 @@ pub no_first : {A : Type 0} (xs : List A) → slice_get xs 0 ≡ None → xs ≡
 no_first [] none = refl
 no_first (x ∷ xs) none = absurd cc
 
-pub high_told : (options : Options) (m : ModuleValue) (segments : List Placed) (contents : List ContentValue) (b : Bool) → IsTrue (is_sound m) → m.externals ≡ [] →
+pub high_told : ModuleLaws → (options : Options) (m : ModuleValue) (segments : List Placed) (contents : List ContentValue) (b : Bool) → IsTrue (is_sound m) → m.externals ≡ [] →
     segments ≡ layout_of options m → contents ≡ m.contents → b ≡ list_any (λ c. list_any (loses_by segments) c.fixups) contents →
-    b ≡ list_any (λ c. list_any (loses_low_byte (program_bases options m) m) c.fixups) m.contents
-high_told options m segments contents b sound closed places same told =
+    b ≡ any_loses_low_byte (program_bases options m) (m ∷ [])
+high_told laws options m segments contents b sound closed places same told =
     told
     ∙ ap (λ (s : List Placed). list_any (λ c. list_any (loses_by s) c.fixups) contents) places
     ∙ ap (λ (l : List ContentValue). list_any (λ c. list_any (loses_by (layout_of options m)) c.fixups) l) same
-    ∙ any_loses_same (layout_of options m) m sound closed
+    ∙ any_loses_same laws (layout_of options m) m sound closed
 
 pub place_told : (options : Options) (m : ModuleValue) (segments : List Placed) (id offset place : ℕ) → segments ≡ layout_of options m → place ≡ place_by segments id offset → place ≡ place_by (layout_of options m) id offset
 place_told options m segments id offset place places told = told ∙ ap (λ (s : List Placed). place_by s id offset) places
 
-pub inside_told : (options : Options) (m : ModuleValue) (segments : List Placed) (id offset place : ℕ) (p : Placed) (b : Bool) → IsTrue (is_sound m) → m.start ≡ Some (id, offset) →
+pub inside_told : ModuleLaws → (options : Options) (m : ModuleValue) (segments : List Placed) (id offset place : ℕ) (p : Placed) (b : Bool) → IsTrue (is_sound m) → m.start ≡ Some (id, offset) →
     segments ≡ layout_of options m → place ≡ place_by (layout_of options m) id offset → p ≡ placed_in segments 1 → b ≡ is_in_placed p place →
     b ≡ is_in_placed (placed_in (layout_of options m) 1) (start_place (program_bases options m) m (id, offset))
-inside_told options m segments id offset place p b sound is places placed code told =
+inside_told laws options m segments id offset place p b sound is places placed code told =
     told
     ∙ ap (λ (q : Placed). is_in_placed q place) (code ∙ ap (λ (s : List Placed). placed_in s 1) places)
-    ∙ ap (λ (n : ℕ). is_in_placed (placed_in (layout_of options m) 1) n) (placed ∙ start_same (layout_of options m) m id offset sound is)
+    ∙ ap (λ (n : ℕ). is_in_placed (placed_in (layout_of options m) 1) n) (placed ∙ start_same laws (layout_of options m) m id offset sound is)
 
-pub chunks_told : (options : Options) (m : ModuleValue) (segments : List Placed) (contents : List ContentValue) (chunks : List PlacedBytes) → IsTrue (is_sound m) → m.externals ≡ [] →
+pub chunks_told : ModuleLaws → (options : Options) (m : ModuleValue) (segments : List Placed) (contents : List ContentValue) (chunks : List PlacedBytes) → IsTrue (is_sound m) → m.externals ≡ [] →
     segments ≡ layout_of options m → contents ≡ m.contents → chunks ≡ map (chunk_by segments) contents → chunks ≡ located_chunks options m
-chunks_told options m segments contents chunks sound closed places same told =
+chunks_told laws options m segments contents chunks sound closed places same told =
     told
     ∙ ap (λ (s : List Placed). map (chunk_by s) contents) places
     ∙ ap (map (chunk_by (layout_of options m))) same
-    ∙ chunks_same options m sound closed
+    ∙ chunks_same laws options m sound closed
 
 -- ranges of a layout without a fault
 pub record Fit (segments : List Placed) : Type 0 where

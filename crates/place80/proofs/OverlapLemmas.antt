@@ -1,16 +1,15 @@
 -- What it means that placed segments overlap.
 use Rattle.std.proofs.Common.{◌≡◌, ℕ, ◌+◌, ◌<◌, ◌≤◌, true, ◌&&◌, arith, inl, inr}
 use Rattle.std.specs.Prelude.{nat_le, nat_lt, ◌↔◌}
-use Rattle.std.proofs.lemmas.Bool.{and_parts, cases_Bool, le-leb, lt-ltb, ltb-true, leb-true}
+use Rattle.std.proofs.lemmas.Bool.{and_parts, cases_Bool, le-leb, lt-ltb, ltb-true, leb-true, and_from}
 use Rattle.std.proofs.lemmas.Bool.Decides.{nat_tests}
-use Rattle.omf_module.proofs.Kept.{and_both}
 use Rattle.place80.specs.declared.placed.Placed.{Placed}
 use Rattle.place80.specs.PlaceFault.{overlaps, is_in_placed}
 use Rattle.place80.proofs.LocatedApart.{share_then_overlap}
 
 -- an address of a segment
 pub in_placed : (p : Placed) (address : ℕ) → p.base ≤ address → address < p.base + p.length → is_in_placed p address ≡ true
-in_placed p address above below = and_both (nat_le p.base address) (nat_lt address (p.base + p.length)) (le-leb p.base address above) (lt-ltb address (p.base + p.length) below)
+in_placed p address above below = and_from (nat_le p.base address) (nat_lt address (p.base + p.length)) (le-leb p.base address above) (lt-ltb address (p.base + p.length) below)
 
 pub placed_bounds : (p : Placed) (address : ℕ) → is_in_placed p address ≡ true → (p.base ≤ address) × (address < p.base + p.length)
 placed_bounds p address inside =

@@ -7,7 +7,7 @@ use Rattle.omf_module.specs.declared.symbols.Common.{Common}
 use Rattle.omf_module.specs.declared.segment.Segment.{Segment}
 use Rattle.omf_module.specs.Segments.{names_common, empty_segment}
 use Rattle.omf_module.specs.Modules.{ModuleValue, segment_of}
-use Rattle.omf_module.specs.Place.{Bases, rounded}
+use Rattle.omf_relocation.specs.Place.{Bases, rounded}
 use Rattle.place80.specs.declared.options.Options.{Options}
 use Rattle.place80.specs.declared.placed.Placed.{Placed}
 

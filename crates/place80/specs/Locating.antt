@@ -6,17 +6,17 @@ use Rattle.omf_module.specs.Modules.{ModuleValue}
 use Rattle.omf_module.specs.declared.fixup.Fixup.{Fixup}
 use Rattle.omf_module.specs.declared.fixup.Target.{Target}
 use Rattle.omf_module.specs.declared.fixup.Target.TheVariants as target
-use Rattle.omf_module.specs.declared.patching.Patch.{Patch}
+use Rattle.omf_relocation.specs.declared.patching.Patch.{Patch}
 use Rattle.omf_module.specs.Contents.{ContentValue}
-use Rattle.omf_module.specs.Patches.{with_patches, are_inside, are_apart}
-use Rattle.omf_module.specs.ImageByte.{ByteChunk, chunks_of}
+use Rattle.omf_relocation.specs.Patches.{with_patches, are_inside, are_apart}
+use Rattle.omf_relocation.specs.ImageByte.{ByteChunk, chunks_of}
+use Rattle.omf_relocation.specs.HighReferences.{is_high}
 use Rattle.place80.specs.declared.range.Range.{Range}
 use Rattle.place80.specs.declared.options.Options.{Options}
 use Rattle.place80.specs.declared.placed.Placed.{Placed}
 use Rattle.place80.specs.Image.{PlacedBytes}
 use Rattle.place80.specs.RegionsText.{filled}
 use Rattle.place80.specs.Layout.{placed_in, place_by, program_bases}
-use Rattle.place80.specs.PlaceFault.{is_high}
 
 -- a chunk of an image
 abbrev pub placed_bytes : ByteChunk → PlacedBytes

@@ -1,16 +1,13 @@
 -- Why a program can't be located: each cause as a test, and the order in which they are told.
 -- (ISIS-II User's Guide, LOCATE: unresolved references, overlapping and out of bounds segments. Their order and numbers are
 -- this project's own.)
-use Rattle.std.specs.Prelude.{ℕ, ◌+◌, ◌%◌, ◌==◌, Bool, not, ◌&&◌, ◌||◌, nat_lt, nat_le, if◌then◌else◌, Option, Some, None, is_none, option_and_then, option_map, true, false, List, [], ◌∷◌, ◌++◌, filter, find, map, length, slice_get}
+use Rattle.std.specs.Prelude.{ℕ, ◌+◌, ◌==◌, Bool, ◌&&◌, ◌||◌, nat_lt, nat_le, if◌then◌else◌, Option, Some, None, is_none, option_and_then, option_map, List, [], ◌∷◌, ◌++◌, filter, find, map, length, slice_get}
 use Rattle.std.specs.List.{list_any, flat_map}
 use Rattle.std.specs.Option.{option_or}
-use Rattle.omf_module.specs.declared.fixup.Field.{Field}
-use Rattle.omf_module.specs.declared.fixup.Field.TheVariants.{Low, High, Both}
-use Rattle.omf_module.specs.declared.fixup.Fixup.{Fixup}
 use Rattle.omf_module.specs.Contents.{ContentValue}
 use Rattle.omf_module.specs.Modules.{ModuleValue}
-use Rattle.omf_module.specs.Place.{Bases, place_in}
-use Rattle.omf_module.specs.ImageByte.{target_word}
+use Rattle.omf_relocation.specs.Place.{Bases, place_in}
+use Rattle.omf_relocation.specs.HighReferences.{any_loses_low_byte}
 use Rattle.place80.specs.declared.options.Options.{Options}
 use Rattle.place80.specs.declared.placed.Placed.{Placed}
 use Rattle.place80.specs.declared.place_fault.PlaceFault.{PlaceFault}
@@ -86,17 +83,9 @@ overlap_of ids = Overlap ids.0 ids.1
 abbrev pub overlap : ModuleValue → List Placed → Option PlaceFault
 overlap m segments = option_map overlap_of (first_shared (all_pairs m segments))
 
--- a reference takes the high byte of a word that isn't a multiple of 256
-abbrev pub is_high : Field → Bool
-is_high Low = false
-is_high High = true
-is_high Both = false
-
-abbrev pub loses_low_byte : Bases → ModuleValue → Fixup → Bool
-loses_low_byte bases m f = is_high f.field && not (target_word bases (m ∷ []) (0, m) f.target % 256 == 0)
-
+-- a fixup takes the high byte of a word that isn't a multiple of 256
 abbrev pub high_not_paged : Bases → ModuleValue → Option PlaceFault
-high_not_paged bases m = if list_any (λ c. list_any (loses_low_byte bases m) c.fixups) m.contents then Some HighNotPaged else None
+high_not_paged bases m = if any_loses_low_byte bases (m ∷ []) then Some HighNotPaged else None
 
 -- the start's place isn't in CODE
 abbrev pub is_in_placed : Placed → ℕ → Bool

@@ -2,14 +2,15 @@
 
 ghost use Rattle.std.specs.Prelude.{◌≡◌, ◌+◌, ◌≤◌, [], map, length, IsTrue, IfOk};
 ghost use Rattle.std.specs.List.{AllByRecursion, list_all, list_any};
-ghost use Rattle.omf_module.specs.Patches.{are_inside, are_apart};
+ghost use Rattle.omf_relocation.specs.Patches.{are_inside, are_apart};
 ghost use Rattle.place80.specs.Layout.{place_by};
 ghost use Rattle.place80.specs.Locating.{target_by, patch_by, loses_by, chunk_by, CanBePlaced};
 
 use crate::chunk::Chunk;
 use crate::placed::Placed;
 use crate::places::place_of;
-use omf_module::{Content, Field, Fixup, Patch, Target, apply_patches};
+use omf_module::{Content, Field, Fixup, Target};
+use omf_relocation::{Patch, apply_patches};
 use std::alloc::{AllocError, Global};
 
 /// Whether a reference of the contents takes the high byte of a word that isn't a multiple of 256.

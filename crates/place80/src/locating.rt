@@ -1,7 +1,7 @@
 //! A program at its places.
 
 ghost use Rattle.std.specs.Prelude.{◌≡◌, ◌⊎◌, ℕ, None, Some, [], ◌∷◌, option_map, IfOk, IfErr, OnOk};
-ghost use Rattle.omf_module.specs.ImageByte.{image_byte};
+ghost use Rattle.omf_relocation.specs.ImageByte.{image_byte};
 ghost use Rattle.place80.specs.Image.{byte_at};
 ghost use Rattle.place80.specs.Regions.{Arranges};
 ghost use Rattle.place80.specs.Layout.{layout_of, program_bases};
@@ -19,6 +19,9 @@ use crate::placed::placed_in;
 use crate::places::{is_in_placed, place_of};
 use omf_core::Name;
 use omf_module::Module;
+use omf_relocation::laws::{
+    commons_are_found_by_name, parts_of_one_start_at_zero, sound_modules_keep_rules,
+};
 use std::alloc::Global;
 
 /// The program's image at its places.
@@ -40,6 +43,9 @@ pub fn locate(alloc: Global, program: &Module, options: &Options) -> Result<Imag
     ensures fault { IfErr result (λ fault. (fault ≡ Memory) ⊎ (locate_fault options.now program.now ≡ Some fault)) }
     ensures no_main { IfErr result (λ fault. program.now.externals ≡ [] → program.now.start ≡ None → fault ≡ NoStart) }
 {
+    sound_modules_keep_rules();
+    commons_are_found_by_name();
+    parts_of_one_start_at_zero();
     if let Some(name) = program.externals().first() {
         return Err(unresolved(alloc, name));
     }

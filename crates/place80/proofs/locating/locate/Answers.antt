@@ -10,11 +10,14 @@ use Rattle.place80.proofs.LocatingLemmas.{start_found, by_last_two, all_can_be_p
 use Rattle.place80.proofs.LocatedDisjoint.{code_not_empty, data_not_empty, code_in_memory, data_in_memory, stack_in_memory}
 use Rattle.place80.proofs.LocatedApart.{disjoint_located}
 use Rattle.place80.proofs.BytesLemmas.{located_byte}
+use Rattle.place80.proofs.LayoutLemmas.{in_memory_and_apart}
+use Rattle.place80.proofs.PlaceLemmas.{module_laws}
 use Rattle.place80.proofs.locating.locate.Goals as goal
 
 pub returns-then-any_loses_its_low_byte-clause-fault : goal.returns-then-any_loses_its_low_byte-clause-fault
 returns-then-any_loses_its_low_byte-clause-fault c =
     let m = c.args.program.now in
+    let laws = module_laws c.sound_modules_keep_rules.ensures c.commons_are_found_by_name.ensures c.parts_of_one_start_at_zero.ensures in
     let options = c.args.options.now in
     let start : ℕ × ℕ = (c.in-Some-start.segment, c.in-Some-start.offset) in
     let sound = c.externals.ensures.rules.sound in
@@ -22,12 +25,13 @@ returns-then-any_loses_its_low_byte-clause-fault c =
     let is : m.start ≡ Some start = sym c.start.ensures.value ∙ c.in-Some-start.is in
     let laid = c.in_ok-segments.ensures.none in
     let places = c.in_ok-segments.ensures.places in
-    let loses = high_told options m c.deref.result.now c.contents.result.now c.any_loses_its_low_byte.result sound closed (c.deref.ensures.value ∙ places) c.contents.ensures.value c.any_loses_its_low_byte.ensures in
+    let loses = high_told laws options m c.deref.result.now c.contents.result.now c.any_loses_its_low_byte.result sound closed (c.deref.ensures.value ∙ places) c.contents.ensures.value c.any_loses_its_low_byte.ensures in
     inr (by_last_two options m start true _ closed is laid (sym c.if-any_loses_its_low_byte.true ∙ loses) refl)
 
 pub returns-then-not-is_in_placed-clause-fault : goal.returns-then-not-is_in_placed-clause-fault
 returns-then-not-is_in_placed-clause-fault c =
     let m = c.args.program.now in
+    let laws = module_laws c.sound_modules_keep_rules.ensures c.commons_are_found_by_name.ensures c.parts_of_one_start_at_zero.ensures in
     let options = c.args.options.now in
     let start : ℕ × ℕ = (c.in-Some-start.segment, c.in-Some-start.offset) in
     let sound = c.externals.ensures.rules.sound in
@@ -35,16 +39,16 @@ returns-then-not-is_in_placed-clause-fault c =
     let is : m.start ≡ Some start = sym c.start.ensures.value ∙ c.in-Some-start.is in
     let laid = c.in_ok-segments.ensures.none in
     let places = c.in_ok-segments.ensures.places in
-    let loses = high_told options m c.deref.result.now c.contents.result.now c.any_loses_its_low_byte.result sound closed (c.deref.ensures.value ∙ places) c.contents.ensures.value c.any_loses_its_low_byte.ensures in
+    let loses = high_told laws options m c.deref.result.now c.contents.result.now c.any_loses_its_low_byte.result sound closed (c.deref.ensures.value ∙ places) c.contents.ensures.value c.any_loses_its_low_byte.ensures in
     let place = place_told options m c.deref-2.result.now start.0 start.1 c.place_of-start.result (c.deref-2.ensures.value ∙ places) c.place_of-start.ensures in
-    let inside = inside_told options m c.deref-3.result.now start.0 start.1 c.place_of-start.result c.placed_in.result c.is_in_placed.result sound is (c.deref-3.ensures.value ∙ places) place c.placed_in.ensures c.is_in_placed.ensures in
+    let inside = inside_told laws options m c.deref-3.result.now start.0 start.1 c.place_of-start.result c.placed_in.result c.is_in_placed.result sound is (c.deref-3.ensures.value ∙ places) place c.placed_in.ensures c.is_in_placed.ensures in
     inr (by_last_two options m start false false closed is laid (sym c.if-any_loses_its_low_byte.false ∙ loses) (sym c.if-not-is_in_placed.true ∙ inside))
 
 pub located_chunks-requires : goal.located_chunks-requires
 located_chunks-requires c =
     subst (λ (l : List ContentValue). AllByRecursion (CanBePlaced c.deref-4.result.now) l) (sym c.contents-2.ensures.value)
     (subst (λ (s : List Placed). AllByRecursion (CanBePlaced s) c.args.program.now.contents) (sym (c.deref-4.ensures.value ∙ c.in_ok-segments.ensures.places))
-    (all_can_be_placed c.args.options.now c.args.program.now c.contents-2.ensures.rules.sound c.in_ok-segments.ensures.none))
+    (all_can_be_placed (module_laws c.sound_modules_keep_rules.ensures c.commons_are_found_by_name.ensures c.parts_of_one_start_at_zero.ensures) c.args.options.now c.args.program.now c.contents-2.ensures.rules.sound c.in_ok-segments.ensures.none))
 
 pub located_regions-requires-clause-code_filled : goal.located_regions-requires-clause-code_filled
 located_regions-requires-clause-code_filled c = code_not_empty c.deref-5.result.now
@@ -75,37 +79,41 @@ located_regions-requires-clause-disjoint c =
 pub returns-clause-chunks : goal.returns-clause-chunks
 returns-clause-chunks c =
     let m = c.args.program.now in
+    let laws = module_laws c.sound_modules_keep_rules.ensures c.commons_are_found_by_name.ensures c.parts_of_one_start_at_zero.ensures in
     let options = c.args.options.now in
     let sound = c.externals.ensures.rules.sound in
     let closed : m.externals ≡ [] = no_first m.externals (ap (λ (l : List (List ℕ)). slice_get l 0) (sym c.externals.ensures.value) ∙ sym c.first.ensures.value ∙ ap option_copied c.in_default.is) in
     let places = c.in_ok-segments.ensures.places in
-    let chunks = chunks_told options m c.deref-4.result.now c.contents-2.result.now c.in_ok-located_chunks.field-0.items sound closed (c.deref-4.ensures.value ∙ places) c.contents-2.ensures.value c.in_ok-located_chunks.ensures in
+    let chunks = chunks_told laws options m c.deref-4.result.now c.contents-2.result.now c.in_ok-located_chunks.field-0.items sound closed (c.deref-4.ensures.value ∙ places) c.contents-2.ensures.value c.in_ok-located_chunks.ensures in
     chunks
 
 pub returns-clause-memory : goal.returns-clause-memory
 returns-clause-memory c =
     let m = c.args.program.now in
+    let laws = module_laws c.sound_modules_keep_rules.ensures c.commons_are_found_by_name.ensures c.parts_of_one_start_at_zero.ensures in
     let options = c.args.options.now in
     let sound = c.externals.ensures.rules.sound in
     let closed : m.externals ≡ [] = no_first m.externals (ap (λ (l : List (List ℕ)). slice_get l 0) (sym c.externals.ensures.value) ∙ sym c.first.ensures.value ∙ ap option_copied c.in_default.is) in
     let places = c.in_ok-segments.ensures.places in
-    let chunks = chunks_told options m c.deref-4.result.now c.contents-2.result.now c.in_ok-located_chunks.field-0.items sound closed (c.deref-4.ensures.value ∙ places) c.contents-2.ensures.value c.in_ok-located_chunks.ensures in
-    λ address. ap (λ (l : List PlacedBytes). byte_at l address) chunks ∙ located_byte options m address
+    let chunks = chunks_told laws options m c.deref-4.result.now c.contents-2.result.now c.in_ok-located_chunks.field-0.items sound closed (c.deref-4.ensures.value ∙ places) c.contents-2.ensures.value c.in_ok-located_chunks.ensures in
+    λ address. ap (λ (l : List PlacedBytes). byte_at l address) chunks ∙ located_byte laws options m address sound (in_memory_and_apart options m c.in_ok-segments.ensures.none).0
 
 pub returns-clause-start : goal.returns-clause-start
 returns-clause-start c =
     let m = c.args.program.now in
+    let laws = module_laws c.sound_modules_keep_rules.ensures c.commons_are_found_by_name.ensures c.parts_of_one_start_at_zero.ensures in
     let options = c.args.options.now in
     let start : ℕ × ℕ = (c.in-Some-start.segment, c.in-Some-start.offset) in
     let sound = c.externals.ensures.rules.sound in
     let is : m.start ≡ Some start = sym c.start.ensures.value ∙ c.in-Some-start.is in
     let places = c.in_ok-segments.ensures.places in
     let place = place_told options m c.deref-2.result.now start.0 start.1 c.place_of-start.result (c.deref-2.ensures.value ∙ places) c.place_of-start.ensures in
-    ap (λ (n : ℕ). Some n) place ∙ start_found (layout_of options m) m start.0 start.1 sound is
+    ap (λ (n : ℕ). Some n) place ∙ start_found laws (layout_of options m) m start.0 start.1 sound is
 
 pub returns-clause-none : goal.returns-clause-none
 returns-clause-none c =
     let m = c.args.program.now in
+    let laws = module_laws c.sound_modules_keep_rules.ensures c.commons_are_found_by_name.ensures c.parts_of_one_start_at_zero.ensures in
     let options = c.args.options.now in
     let start : ℕ × ℕ = (c.in-Some-start.segment, c.in-Some-start.offset) in
     let sound = c.externals.ensures.rules.sound in
@@ -113,7 +121,7 @@ returns-clause-none c =
     let is : m.start ≡ Some start = sym c.start.ensures.value ∙ c.in-Some-start.is in
     let laid = c.in_ok-segments.ensures.none in
     let places = c.in_ok-segments.ensures.places in
-    let loses = high_told options m c.deref.result.now c.contents.result.now c.any_loses_its_low_byte.result sound closed (c.deref.ensures.value ∙ places) c.contents.ensures.value c.any_loses_its_low_byte.ensures in
+    let loses = high_told laws options m c.deref.result.now c.contents.result.now c.any_loses_its_low_byte.result sound closed (c.deref.ensures.value ∙ places) c.contents.ensures.value c.any_loses_its_low_byte.ensures in
     let place = place_told options m c.deref-2.result.now start.0 start.1 c.place_of-start.result (c.deref-2.ensures.value ∙ places) c.place_of-start.ensures in
-    let inside = inside_told options m c.deref-3.result.now start.0 start.1 c.place_of-start.result c.placed_in.result c.is_in_placed.result sound is (c.deref-3.ensures.value ∙ places) place c.placed_in.ensures c.is_in_placed.ensures in
+    let inside = inside_told laws options m c.deref-3.result.now start.0 start.1 c.place_of-start.result c.placed_in.result c.is_in_placed.result sound is (c.deref-3.ensures.value ∙ places) place c.placed_in.ensures c.is_in_placed.ensures in
     by_last_two options m start false true closed is laid (sym c.if-any_loses_its_low_byte.false ∙ loses) (sym c.if-not-is_in_placed.false ∙ inside)

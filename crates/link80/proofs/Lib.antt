@@ -1,0 +1,10 @@
+pub mod WorkedLinks
+pub mod ListLemmas
+pub mod NameLemmas
+pub mod PlaceLemmas
+pub mod ReferenceLemmas
+pub mod ContentLemmas
+pub mod LinkLemmas
+pub mod SegmentLemmas
+pub mod FittingLemmas
+pub mod RuleLemmas

@@ -1,0 +1,38 @@
+-- What LINK keeps: the bytes of its modules, wherever they are located.
+-- (ISIS-II User's Guide: LINK, then LOCATE.)
+use Rattle.std.specs.Prelude.{◌≡◌, ℕ, false, None, List, [], ◌∷◌, IsTrue}
+use Rattle.std.specs.List.{AllByRecursion}
+use Rattle.omf_module.specs.Modules.{ModuleValue}
+use Rattle.omf_module.specs.Rules.{IsModule, keeps_rules}
+use Rattle.omf_relocation.specs.Place.{Bases}
+use Rattle.omf_relocation.specs.ImageByte.{chunks_of, image_byte}
+use Rattle.omf_relocation.specs.HighReferences.{any_loses_low_byte}
+use Rattle.link80.specs.Linked.{linked_parts, linked}
+use Rattle.link80.specs.LinkFault.{link_fault}
+
+-- The chunks of the linked module alone are those of the modules: for all bases, tops and words under which no fixup of the
+-- linked module loses its low byte.
+abbrev pub LinkedChunksAreTheModules : Type 0
+LinkedChunksAreTheModules =
+    (name : List ℕ) (modules : List ModuleValue) (bases : Bases)
+    → AllByRecursion IsModule modules
+    → link_fault modules ≡ None
+    → any_loses_low_byte bases (linked name modules ∷ []) ≡ false
+    → chunks_of bases (linked name modules ∷ []) ≡ chunks_of bases modules
+
+-- So are the bytes, at every address.
+abbrev pub LinkedBytesAreTheModules : Type 0
+LinkedBytesAreTheModules =
+    (name : List ℕ) (modules : List ModuleValue) (bases : Bases)
+    → AllByRecursion IsModule modules
+    → link_fault modules ≡ None
+    → any_loses_low_byte bases (linked name modules ∷ []) ≡ false
+    → (address : ℕ) → image_byte bases (linked name modules ∷ []) address ≡ image_byte bases modules address
+
+-- The linked module keeps the rules of modules.
+abbrev pub LinkedModuleKeepsRules : Type 0
+LinkedModuleKeepsRules =
+    (name : List ℕ) (modules : List ModuleValue)
+    → AllByRecursion IsModule modules
+    → link_fault modules ≡ None
+    → IsTrue (keeps_rules (linked_parts name modules))

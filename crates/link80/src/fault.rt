@@ -1,0 +1,48 @@
+use omf_core::Name;
+use thiserror::Error;
+
+/// Why modules can't be linked: the first of these that holds, in the order of their numbers, or that memory ran out.
+#[derive(Debug, PartialEq, Eq, Drop, Error)]
+pub enum LinkFault {
+    /// The first public, by module and then by record, whose name stands before.
+    #[error("DuplicatePublic {0}")]
+    DuplicatePublic(Name),
+    /// The first of CODE, DATA and STACK, by its id, whose parts come to more than 65535 bytes.
+    #[error("SegmentTooLong {0:02X}")]
+    SegmentTooLong(u8),
+    /// Two modules have a start.
+    #[error("TwoMains")]
+    TwoMains,
+    /// A fixup takes the high byte of the place of a part that doesn't start at a multiple of 256.
+    #[error("HighNotPaged")]
+    HighNotPaged,
+    /// There are more than 249 named commons.
+    #[error("TooManyCommons")]
+    TooManyCommons,
+    /// Out of memory.
+    #[error("Memory")]
+    Memory,
+    /// More than 65536 names are unresolved.
+    #[error("TooManyExternals")]
+    TooManyExternals,
+}
+
+impl LinkFault {
+    ghost use Rattle.std.specs.Prelude.{◌≡◌};
+    ghost use Rattle.link80.specs.LinkFault.{link_fault_code};
+
+    /// The fault's number, from 1 `DuplicatePublic` to 7 `TooManyExternals`.
+    pub fn code(&self) -> u8
+        ensures { result ≡ link_fault_code self.now }
+    {
+        match self {
+            LinkFault::DuplicatePublic(_) => 1,
+            LinkFault::SegmentTooLong(_) => 2,
+            LinkFault::TwoMains => 3,
+            LinkFault::HighNotPaged => 4,
+            LinkFault::TooManyCommons => 5,
+            LinkFault::Memory => 6,
+            LinkFault::TooManyExternals => 7,
+        }
+    }
+}

@@ -1,0 +1,28 @@
+//! What LINK keeps, over the definitions alone. Each law is ensured by a function that does nothing: a layer above that calls
+//! it has the law in its proof.
+
+ghost use Rattle.link80.specs.LinkLaws.{LinkedChunksAreTheModules, LinkedBytesAreTheModules, LinkedModuleKeepsRules};
+
+use omf_relocation::laws::{
+    adding_twice_is_adding_once, commons_are_found_by_name, parts_of_one_start_at_zero,
+    sound_modules_keep_rules,
+};
+
+/// The linked module alone defines the bytes that its modules define, for all bases, stack's tops and words of unresolved
+/// names under which no fixup of it loses its low byte.
+pub fn linking_keeps_bytes()
+    ensures chunks { LinkedChunksAreTheModules }
+    ensures bytes { LinkedBytesAreTheModules }
+{
+    adding_twice_is_adding_once();
+    parts_of_one_start_at_zero();
+    sound_modules_keep_rules();
+}
+
+/// The linked module keeps the rules of modules, where its modules do and no fault holds.
+pub fn linked_module_keeps_rules()
+    ensures { LinkedModuleKeepsRules }
+{
+    sound_modules_keep_rules();
+    commons_are_found_by_name();
+}

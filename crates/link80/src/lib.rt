@@ -1,0 +1,13 @@
+//! LINK: modules joined into one. What the linked module is, and why modules can't be linked, is defined in `specs/`; the law
+//! that linking keeps every byte is proved over these definitions.
+//!
+//! | Item | What it is |
+//! |---|---|
+//! | [`LinkFault`] | why modules can't be linked |
+//! | [`laws`] | the linked module defines the bytes that its modules define |
+#![tactic(auto)]
+
+mod fault;
+pub mod laws;
+
+pub use fault::LinkFault;

@@ -1,0 +1,71 @@
+-- The bytes that modules define: a chunk for each content, at its place, with its references applied; and the byte at an
+-- address, that of the last chunk over it. No linked module occurs here: it is what LINK and LOCATE together come to.
+-- (ISIS-II User's Guide: LINK, LOCATE and the loading of object files.)
+use Rattle.std.specs.Prelude.{ℕ, ◌+◌, ◌-◌, ◌%◌, nat_eq, ◌&&◌, nat_lt, Bool, None, unwrap_or, List, [], filter, find, map, length, slice_get, slice_index}
+use Rattle.std.specs.List.{last_or, flat_map, enumerate_from}
+use Rattle.std.specs.Option.{option_map_or}
+use Rattle.std.specs.Cmp.Lexicographic.{pointwise}
+use Rattle.omf_module.specs.declared.fixup.Fixup.{Fixup}
+use Rattle.omf_module.specs.declared.fixup.Target.{Target}
+use Rattle.omf_module.specs.declared.fixup.Target.TheVariants as target
+use Rattle.omf_module.specs.declared.symbols.Public.{Public}
+use Rattle.omf_module.specs.Contents.{ContentValue}
+use Rattle.omf_module.specs.Modules.{ModuleValue}
+use Rattle.omf_relocation.specs.Place.{Bases, word_of, place_in}
+use Rattle.omf_relocation.specs.declared.patching.Patch.{Patch}
+use Rattle.omf_relocation.specs.Patches.{with_patches}
+
+-- a public and the word that its place is
+pub record PlacedName : Type 0 where
+  pub name : List ℕ
+  pub word : ℕ
+
+abbrev pub placed_public : Bases → List ModuleValue → ℕ × ModuleValue → Public → PlacedName
+placed_public bases modules m p = record { name = p.name; word = place_in bases modules m.0 m.1 p.segment p.offset }
+
+-- all publics, by module and then by record
+abbrev pub placed_publics : Bases → List ModuleValue → List PlacedName
+placed_publics bases modules = flat_map (λ m. map (placed_public bases modules m) m.1.publics) (enumerate_from 0 modules)
+
+-- what a name stands for: the place of the public that bears it, or else the word that is given for it
+abbrev pub name_word : Bases → List PlacedName → List ℕ → ℕ
+name_word bases publics name = option_map_or (λ p. p.word) (find (λ p. pointwise nat_eq p.name name) publics) (word_of bases.words name)
+
+-- the name of an external
+abbrev pub name_at : List (List ℕ) → ℕ → List ℕ
+name_at names index = unwrap_or (slice_get names index) []
+
+-- what a reference of a module is to
+abbrev pub target_word : Bases → List ModuleValue → ℕ × ModuleValue → Target → ℕ
+target_word bases modules m (target.Segment id) = place_in bases modules m.0 m.1 id 0
+target_word bases modules m (target.External index) = name_word bases (placed_publics bases modules) (name_at m.1.externals index)
+
+abbrev pub patch_of : Bases → List ModuleValue → ℕ × ModuleValue → ContentValue → Fixup → Patch
+patch_of bases modules m c f = record { at = f.offset - c.offset; field = f.field; word = target_word bases modules m f.target }
+
+-- bytes at a place
+pub record ByteChunk : Type 0 where
+  pub place : ℕ
+  pub bytes : List ℕ
+
+abbrev pub chunk_of : Bases → List ModuleValue → ℕ × ModuleValue → ContentValue → ByteChunk
+chunk_of bases modules m c = record {
+  place = place_in bases modules m.0 m.1 c.segment c.offset;
+  bytes = with_patches (map (patch_of bases modules m c) c.fixups) c.bytes;
+}
+
+-- the chunks of all contents, by module and then by record
+abbrev pub chunks_of : Bases → List ModuleValue → List ByteChunk
+chunks_of bases modules = flat_map (λ m. map (chunk_of bases modules m) m.1.contents) (enumerate_from 0 modules)
+
+-- how far an address lies after a place, past the end of memory at its start again
+abbrev pub distance : (place address : ℕ) → ℕ
+distance place address = (address + 65536 - place % 65536) % 65536
+
+-- the byte at an address: that of the last chunk that covers it, and 0 where none does
+abbrev pub chunk_covers : ℕ → ByteChunk → Bool
+chunk_covers address c = nat_lt address 65536 && nat_lt (distance c.place address) (length c.bytes)
+
+abbrev pub image_byte : Bases → List ModuleValue → ℕ → ℕ
+image_byte bases modules address =
+    option_map_or (λ c. slice_index c.bytes (distance c.place address)) (last_or None (filter (chunk_covers address) (chunks_of bases modules))) 0
