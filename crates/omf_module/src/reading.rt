@@ -132,3 +132,48 @@ fn modules_of(alloc: Global, bytes: &[u8]) -> Result<Vec<Module>, ModuleFault>
     }
     Ok(modules)
 }
+
+/// The module that begins at place `at` of an object file, and the place after its end record.
+///
+/// All records up to the end are looked at first, by place, and within a record by its fields in order: `Record` where the
+/// bytes are no record; `NoHeader` where no byte stands at `at`, or a record that isn't a module header; `UnknownKind` of a
+/// record that may not stand in a module; `BadBody` where a body ends inside a field, a field has no listed value, or an id
+/// or a common's name is listed twice; `BadName` of a name that is empty or has other bytes than 21h to 7Eh; `NoEnd` where no
+/// byte stands where a record should, or an end-of-file record. Only then what they use is looked at, and the first of
+/// `SegmentUnknown`, `OffsetOutside`, `FixupBeforeContent`, `FixupOutside`, `FixupTwice` and `IndexUnknown` is given, by entries
+/// in order, and for one entry in this order.
+/// (8080 Object Module Formats, module.)
+///
+/// # Errors
+/// The first fault, at the place of its record; or `Memory` at place 0, only where there is none: not before the module's
+/// header is read, so that bytes where no module begins are reported in any case.
+pub fn read_module(alloc: Global, bytes: &[u8], at: usize) -> Result<(Module, usize), ModuleFault>
+    // What is read is what the bytes spell, and nothing that they spell is refused or read as another.
+    ensures read { IfOk result (λ r. SpellsModule bytes.now at r.1 r.0) }
+    ensures every_module { (m : ModuleValue) (after : ℕ) → SpellsModule bytes.now at after m → Answers result (Ok (m, after)) }
+
+    // Each refusal but out of memory has its cause, and it is the first; that of a header needs no memory.
+    ensures fault { IfErr result (OrNoMemory (FaultsModule bytes.now at)) }
+    ensures every_fault { (fault : ModuleFaultValue) → FaultsModule bytes.now at fault → Answers result (Err fault) }
+    ensures early { (why : CauseValue) → FaultsHeader bytes.now at why → result ≡ Err (fault_by at why) }
+{
+    one_reading();
+    let _ = header_at(bytes, at).map_err(|why| why.at(at))?;
+    module_at(alloc, bytes, at)
+}
+
+/// The modules of an object file, which are one or more, up to the end-of-file record after them. Bytes after that aren't
+/// looked at. (8080 Object Module Formats, object file.)
+///
+/// # Errors
+/// The first fault of the modules as they stand, as [`read_module`] gives it; `NoEnd` where no byte stands after a module;
+/// `Record` where the bytes there are no record. `Memory` at place 0, only where there is none.
+pub fn read_file(alloc: Global, bytes: &[u8]) -> Result<Vec<Module>, ModuleFault>
+    ensures read { IfOk result (λ modules. SpellsFile bytes.now modules.items) }
+    ensures every_file { (ms : List ModuleValue) → SpellsFile bytes.now ms → IsOk result ⊎ (result ≡ Err no_memory) }
+    ensures fault { IfErr result (OrNoMemory (FaultsFile bytes.now)) }
+    ensures every_fault { (fault : ModuleFaultValue) → FaultsFile bytes.now fault → (result ≡ Err fault) ⊎ (result ≡ Err no_memory) }
+{
+    one_file_reading();
+    modules_of(alloc, bytes)
+}
