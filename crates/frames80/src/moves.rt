@@ -72,14 +72,12 @@ pub fn next(alloc: Global, frame: &Frame, instr: Instr, role: Role) -> Result<Mo
 fn fault_of(role: Role, effect: Effect, frame: &Frame) -> Option<FrameFault>
     ensures { result ≡ fault_of role effect frame.now.words }
 {
-    let empty = frame.words.is_empty();
+    let bare = frame.words.is_empty();
     let own_alone = matches!(frame.words.as_slice(), [Word::Own]);
     match role {
         Role::Main { top } => match effect {
             Effect::Change(Change::SetStack(address)) if address != top => Some(SetsStack),
-            Effect::Change(Change::Pop(_) | Change::Drop | Change::Swap) if empty => Some(
-                PopsBelow,
-            ),
+            Effect::Change(Change::Pop(_) | Change::Drop | Change::Swap) if bare => Some(PopsBelow),
             Effect::Return | Effect::ReturnIf => Some(ReturnFromMain),
             _ => None,
         },
@@ -105,9 +103,7 @@ fn changed(alloc: Global, frame: &Frame, change: Change) -> Result<Frame, AllocE
             let word = after.pop();
             after.set_pair(pair, word);
         }
-        Change::Drop => {
-            let _ = after.pop();
-        }
+        Change::Drop => _ = after.pop(),
         Change::Swap => {
             let word = after.pop();
             after.words.push(frame.hl)?;
