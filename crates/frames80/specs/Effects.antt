@@ -1,6 +1,6 @@
 -- What each instruction does to a frame. (The instructions and the registers they write are those of the Intel 8080 Assembly
 -- Language Programming Manual; that SPHL, PCHL, INX SP, DCX SP and most of LXI SP are refused is this project's own.)
-use Rattle.std.specs.Prelude.{◌*◌}
+use Rattle.std.specs.Prelude.{◌*◌, Option, None, Some}
 use Rattle.decode80.specs.declared.register.Register.{Register}
 use Rattle.decode80.specs.declared.register.Register.TheVariants.{A, B, C, D, E, H, L}
 use Rattle.decode80.specs.declared.pair.Pair.{Pair}
@@ -11,6 +11,7 @@ use Rattle.decode80.specs.declared.instr.Instr.{Instr}
 use Rattle.decode80.specs.declared.instr.Instr.TheVariants.{Mov, Load, Mvi, Lxi, Dad, Inx, Dcx, Inr, Dcr, Jmp, JumpIf, Call, CallIf, Ret, ReturnIf, Rst, Push, Pop, Lhld, Xthl, Pchl, Xchg, Sphl, Hlt}
 use Rattle.decode80.specs.Restart.{restart_number}
 use Rattle.frames80.specs.declared.fault.FrameFault.TheVariants.{Sphl as SetsPointer, Pchl as JumpsByPair, StackByByte}
+use Rattle.frames80.specs.declared.frame_pair.FramePair.{FramePair}
 use Rattle.frames80.specs.declared.frame_pair.FramePair.TheVariants.{Bc as FrameBc, De as FrameDe, Hl as FrameHl}
 use Rattle.frames80.specs.declared.effect.Change.{Change}
 use Rattle.frames80.specs.declared.effect.Change.TheVariants.{Keep, Push as PushPair, PushAny, Pop as PopPair, Drop, Swap, Exchange, Forget, SetStack}
@@ -33,6 +34,13 @@ loaded Bc else_ = Changes (Forget FrameBc)
 loaded De else_ = Changes (Forget FrameDe)
 loaded Hl else_ = Changes (Forget FrameHl)
 loaded Sp else_ = else_
+
+-- the pair of a frame that PUSH and POP name; PSW, A and the flags, is none of them
+abbrev pub in_frame : StackPair → Option FramePair
+in_frame StackBc = Some FrameBc
+in_frame StackDe = Some FrameDe
+in_frame StackHl = Some FrameHl
+in_frame Psw = None
 
 -- PUSH: of PSW, A and the flags, it is any word
 abbrev pub pushed_by : StackPair → Change

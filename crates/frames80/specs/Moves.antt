@@ -62,6 +62,13 @@ abbrev pub return_fault : Role → List Word → Option FrameFault
 return_fault (Main _) words = Some ReturnFromMain
 return_fault Entry words = if is_own_alone words then None else Some ReturnNotOwn
 
+-- why an effect is refused that isn't refused in every frame
+abbrev pub fault_of : Role → Effect → List Word → Option FrameFault
+fault_of role (Changes change) words = change_fault role change words
+fault_of role Return words = return_fault role words
+fault_of role ReturnIf words = return_fault role words
+fault_of role _ words = None
+
 -- the fault, if there is one, and else the move
 abbrev pub unless : Option FrameFault → Moves → Result Moves FrameFault
 unless None move = Ok move

@@ -34,6 +34,10 @@ with_pair pairs Hl word = record pairs { hl = word }
 abbrev pub unknown : Pairs
 unknown = record { bc = Any; de = Any; hl = Any }
 
+-- a frame of these words, whose pairs may hold anything
+abbrev pub of_words : (taken : ℕ) → List Word → StackFrame
+of_words taken words = record { taken = taken; words = words; pairs = unknown }
+
 -- the frame at the start of an entry, a procedure that is called: its return address alone
 abbrev pub entry_frame : StackFrame
 entry_frame = record { taken = 0; words = Own ∷ []; pairs = unknown }

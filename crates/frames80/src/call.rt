@@ -6,7 +6,6 @@ ghost use Rattle.frames80.specs.Calls.{after_call, room, returned};
 use crate::fault::CallFault;
 use crate::frame::Frame;
 use crate::role::Role;
-use crate::word::Word;
 use std::alloc::Global;
 
 /// The caller's frame after a call of a procedure that takes up to `wants` words from beneath its return address on any of
@@ -36,13 +35,7 @@ pub fn after(
     }
     let left = frame.words.len() - taken as usize;
     let words = Vec::from_slice(alloc, &frame.words[..left])?;
-    Ok(Frame {
-        taken: frame.taken,
-        words,
-        bc: Word::Any,
-        de: Word::Any,
-        hl: Word::Any,
-    })
+    Ok(Frame::of_words(frame.taken, words))
 }
 
 /// How many words a callee may take.

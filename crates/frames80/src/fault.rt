@@ -11,28 +11,28 @@ use thiserror::Error;
 pub enum FrameFault {
     /// SPHL.
     #[error("Sphl")]
-    Sphl,
+    Sphl = 4,
     /// PCHL.
     #[error("Pchl")]
-    Pchl,
+    Pchl = 5,
     /// INX SP or DCX SP.
     #[error("StackByByte")]
-    StackByByte,
+    StackByByte = 6,
     /// LXI SP in an entry, or with another word than the stack's top.
     #[error("SetsStack")]
-    SetsStack,
+    SetsStack = 7,
     /// A pop or XTHL of the main program where its stack is empty.
     #[error("PopsBelow")]
-    PopsBelow,
+    PopsBelow = 9,
     /// A return of an entry whose words are not its return address alone.
     #[error("ReturnNotOwn")]
-    ReturnNotOwn,
+    ReturnNotOwn = 10,
     /// A return of the main program.
     #[error("ReturnFromMain")]
-    ReturnFromMain,
+    ReturnFromMain = 11,
     /// Out of memory.
     #[error("Memory")]
-    Memory,
+    Memory = 18,
 }
 
 impl FrameFault {
@@ -40,16 +40,7 @@ impl FrameFault {
     pub fn code(&self) -> u8
         ensures { result ≡ frame_fault_code self.now }
     {
-        match self {
-            FrameFault::Sphl => 4,
-            FrameFault::Pchl => 5,
-            FrameFault::StackByByte => 6,
-            FrameFault::SetsStack => 7,
-            FrameFault::PopsBelow => 9,
-            FrameFault::ReturnNotOwn => 10,
-            FrameFault::ReturnFromMain => 11,
-            FrameFault::Memory => 18,
-        }
+        *self as u8
     }
 }
 
@@ -68,10 +59,10 @@ impl From<AllocError> for FrameFault {
 pub enum CallFault {
     /// The caller has fewer words above its bottom word than the callee takes; in the main program, fewer words.
     #[error("ShortArguments")]
-    ShortArguments,
+    ShortArguments = 14,
     /// Out of memory.
     #[error("Memory")]
-    Memory,
+    Memory = 18,
 }
 
 impl CallFault {
@@ -79,10 +70,7 @@ impl CallFault {
     pub fn code(&self) -> u8
         ensures { result ≡ call_fault_code self.now }
     {
-        match self {
-            CallFault::ShortArguments => 14,
-            CallFault::Memory => 18,
-        }
+        *self as u8
     }
 }
 

@@ -1,6 +1,6 @@
 //! What is known of a procedure's stack and register pairs at a point.
 
-ghost use Rattle.std.specs.Prelude.{◌≡◌, ◌+◌, ◌<◌, ◌≤◌, ◌∷◌, IfOk, OnErr, length};
+ghost use Rattle.std.specs.Prelude.{◌≡◌, ◌+◌, ◌<◌, ◌≤◌, ◌∷◌, IfOk, OnErr, length, reverse};
 
 use crate::frame_pair::FramePair;
 use crate::word::Word;
@@ -39,7 +39,7 @@ impl Model for Frame {
 }
 
 impl Frame {
-    ghost use Rattle.frames80.specs.StackFrame.{entry_frame, main_frame, pair_in, with_pair, pushed, popped, top_word, cleared, exchanged};
+    ghost use Rattle.frames80.specs.StackFrame.{entry_frame, main_frame, pair_in, with_pair, popped, top_word, of_words};
 
     /// The frame at the start of a procedure that is called: its one word is its return address.
     ///
@@ -48,9 +48,7 @@ impl Frame {
     pub fn entry(alloc: Global) -> Result<Frame, AllocError>
         ensures { IfOk result (λ frame. frame ≡ entry_frame) }
     {
-        let mut frame = Frame::main_entry(alloc)?;
-        frame.push(Word::Own)?;
-        Ok(frame)
+        Ok(Frame::of_words(0, vec![in alloc; Word::Own]?))
     }
 
     /// The frame at the start of the main program: it has no words.
@@ -60,13 +58,20 @@ impl Frame {
     pub fn main_entry(alloc: Global) -> Result<Frame, AllocError>
         ensures { IfOk result (λ frame. frame ≡ main_frame) }
     {
-        Ok(Frame {
-            taken: 0,
-            words: Vec::new(alloc),
+        Ok(Frame::of_words(0, Vec::new(alloc)))
+    }
+
+    /// A frame of these words, from bottom to top, whose pairs may hold anything.
+    pub(crate) fn of_words(taken: u32, words: Vec<Word>) -> Frame
+        ensures { result ≡ of_words taken (reverse words.items) }
+    {
+        Frame {
+            taken,
+            words,
             bc: Word::Any,
             de: Word::Any,
             hl: Word::Any,
-        })
+        }
     }
 
     /// A copy of the frame.
@@ -77,13 +82,7 @@ impl Frame {
         ensures { IfOk result (λ frame. frame ≡ self.now) }
     {
         let words = Vec::from_slice(alloc, self.words.as_slice())?;
-        Ok(Frame {
-            taken: self.taken,
-            words,
-            bc: self.bc,
-            de: self.de,
-            hl: self.hl,
-        })
+        Ok(Frame { words, ..*self })
     }
 
     /// What a pair holds.
@@ -108,14 +107,6 @@ impl Frame {
         }
     }
 
-    /// Pushes a word.
-    pub(crate) fn push(&mut self, word: Word) -> Result<(), AllocError>
-        ensures { IfOk result (λ _. self.new ≡ pushed word self.old) }
-    {
-        self.words.push(word)?;
-        Ok(())
-    }
-
     /// Pops the top. Where the procedure has no word of its own left, it takes one from beneath, which may be any word.
     pub(crate) fn pop(&mut self) -> Word
         requires { self.old.taken ≤ 1000000 }
@@ -129,22 +120,6 @@ impl Frame {
                 Word::Any
             }
         }
-    }
-
-    /// DE and HL change places.
-    pub(crate) fn exchange(&mut self)
-        ensures { self.new ≡ exchanged self.old }
-    {
-        let hl = self.hl;
-        self.hl = self.de;
-        self.de = hl;
-    }
-
-    /// Removes all words.
-    pub(crate) fn clear(&mut self)
-        ensures { self.new ≡ cleared self.old }
-    {
-        self.words.clear();
     }
 }
 

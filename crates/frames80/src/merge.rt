@@ -38,8 +38,7 @@ fn meet_words(words: &mut Vec<Word>, others: &Vec<Word>) -> bool
 {
     let mut changed = false;
     for i in 0..words.len() {
-        let here = meet_word(&mut words[i], others[i]);
-        changed |= here;
+        changed |= meet_word(&mut words[i], others[i]);
     }
     changed
 }

@@ -2,10 +2,10 @@
 
 ghost use Rattle.std.specs.Prelude.{◌≡◌, ◌≢◌, ◌≤◌, ◌↔◌, length, IfOk, IfErr, IfSome, OnOk, IsOkAnd, Ok, Err, IsTrue, None, Some};
 ghost use Rattle.frames80.specs.Effects.{effect_of};
-ghost use Rattle.frames80.specs.Moves.{moves_of, changed, change_fault, return_fault, is_own_alone, pop_fault, load_fault};
+ghost use Rattle.frames80.specs.Moves.{moves_of, changed, fault_of};
 
 use crate::effect::{Change, Effect};
-use crate::fault::FrameFault;
+use crate::fault::FrameFault::{self, PopsBelow, ReturnFromMain, ReturnNotOwn, SetsStack};
 use crate::frame::Frame;
 use crate::frame_pair::FramePair;
 use crate::role::Role;
@@ -13,6 +13,7 @@ use crate::table::effect_of;
 use crate::word::Word;
 use decode80::Instr;
 use std::alloc::{AllocError, Global};
+use std::mem;
 
 /// Where a procedure goes on after an instruction, with its frame there.
 #[derive(Debug, Drop)]
@@ -50,75 +51,42 @@ pub fn next(alloc: Global, frame: &Frame, instr: Instr, role: Role) -> Result<Mo
     ensures fault { IfErr result (λ fault. fault ≢ FrameFault.Memory → moves_of role (effect_of instr) frame.now ≡ Err fault) }
     ensures refused { IfErr (moves_of role (effect_of instr) frame.now) (λ fault. result ≡ Err fault) }
 {
-    match effect_of(instr) {
-        Effect::Change(change) => match change_fault(role, change, frame) {
-            Some(fault) => Err(fault),
-            None => Ok(Moves::On(changed(alloc, frame, change)?)),
-        },
-        Effect::Halt => Ok(Moves::End),
-        Effect::Jump(to) => Ok(Moves::Jump(frame.copy(alloc)?, to)),
-        Effect::JumpIf(to) => Ok(Moves::Either(frame.copy(alloc)?, to)),
-        Effect::Call(to) => Ok(Moves::Call(frame.copy(alloc)?, to)),
-        Effect::CallIf(to) => Ok(Moves::MaybeCall(frame.copy(alloc)?, to)),
-        Effect::Return => match return_fault(role, frame) {
-            Some(fault) => Err(fault),
-            None => Ok(Moves::Return(frame.taken)),
-        },
-        Effect::ReturnIf => match return_fault(role, frame) {
-            Some(fault) => Err(fault),
-            None => Ok(Moves::MaybeReturn(frame.copy(alloc)?, frame.taken)),
-        },
-        Effect::Refuse(fault) => Err(fault),
+    let effect = effect_of(instr);
+    if let Some(fault) = fault_of(role, effect, frame) {
+        return Err(fault);
     }
+    Ok(match effect {
+        Effect::Change(change) => Moves::On(changed(alloc, frame, change)?),
+        Effect::Halt => Moves::End,
+        Effect::Jump(to) => Moves::Jump(frame.copy(alloc)?, to),
+        Effect::JumpIf(to) => Moves::Either(frame.copy(alloc)?, to),
+        Effect::Call(to) => Moves::Call(frame.copy(alloc)?, to),
+        Effect::CallIf(to) => Moves::MaybeCall(frame.copy(alloc)?, to),
+        Effect::Return => Moves::Return(frame.taken),
+        Effect::ReturnIf => Moves::MaybeReturn(frame.copy(alloc)?, frame.taken),
+        Effect::Refuse(fault) => return Err(fault),
+    })
 }
 
-/// Why a change of a frame is refused.
-fn change_fault(role: Role, change: Change, frame: &Frame) -> Option<FrameFault>
-    ensures { result ≡ change_fault role change frame.now.words }
+/// Why an effect that isn't refused in every frame is refused in this one.
+fn fault_of(role: Role, effect: Effect, frame: &Frame) -> Option<FrameFault>
+    ensures { result ≡ fault_of role effect frame.now.words }
 {
-    match change {
-        Change::Pop(_) | Change::Drop | Change::Swap => pop_fault(role, frame),
-        Change::SetStack(address) => load_fault(role, address),
-        _ => None,
-    }
-}
-
-/// Why a pop is refused.
-fn pop_fault(role: Role, frame: &Frame) -> Option<FrameFault>
-    ensures { result ≡ pop_fault role frame.now.words }
-{
+    let bare = frame.words.is_empty();
+    let own_alone = matches!(frame.words.as_slice(), [Word::Own]);
     match role {
-        Role::Main { .. } if frame.words.is_empty() => Some(FrameFault::PopsBelow),
-        _ => None,
+        Role::Main { top } => match effect {
+            Effect::Change(Change::SetStack(address)) if address != top => Some(SetsStack),
+            Effect::Change(Change::Pop(_) | Change::Drop | Change::Swap) if bare => Some(PopsBelow),
+            Effect::Return | Effect::ReturnIf => Some(ReturnFromMain),
+            _ => None,
+        },
+        Role::Entry => match effect {
+            Effect::Change(Change::SetStack(_)) => Some(SetsStack),
+            Effect::Return | Effect::ReturnIf if !own_alone => Some(ReturnNotOwn),
+            _ => None,
+        },
     }
-}
-
-/// Why a load of the stack pointer is refused.
-fn load_fault(role: Role, address: u16) -> Option<FrameFault>
-    ensures { result ≡ load_fault role address }
-{
-    match role {
-        Role::Main { top } if top == address => None,
-        _ => Some(FrameFault::SetsStack),
-    }
-}
-
-/// Why a return is refused.
-fn return_fault(role: Role, frame: &Frame) -> Option<FrameFault>
-    ensures { result ≡ return_fault role frame.now.words }
-{
-    match role {
-        Role::Main { .. } => Some(FrameFault::ReturnFromMain),
-        Role::Entry if is_own_alone(frame) => None,
-        Role::Entry => Some(FrameFault::ReturnNotOwn),
-    }
-}
-
-/// Whether a frame's words are the return address alone.
-fn is_own_alone(frame: &Frame) -> bool
-    ensures { result ≡ is_own_alone frame.now.words }
-{
-    matches!(frame.words.as_slice(), [Word::Own])
 }
 
 /// The frame after a change.
@@ -129,23 +97,21 @@ fn changed(alloc: Global, frame: &Frame, change: Change) -> Result<Frame, AllocE
     let mut after = frame.copy(alloc)?;
     match change {
         Change::Keep => {}
-        Change::Push(pair) => after.push(frame.pair(pair))?,
-        Change::PushAny => after.push(Word::Any)?,
+        Change::Push(pair) => after.words.push(frame.pair(pair))?,
+        Change::PushAny => after.words.push(Word::Any)?,
         Change::Pop(pair) => {
             let word = after.pop();
             after.set_pair(pair, word);
         }
-        Change::Drop => {
-            let _ = after.pop();
-        }
+        Change::Drop => _ = after.pop(),
         Change::Swap => {
             let word = after.pop();
-            after.push(frame.hl)?;
+            after.words.push(frame.hl)?;
             after.set_pair(FramePair::Hl, word);
         }
-        Change::Exchange => after.exchange(),
+        Change::Exchange => mem::swap(&mut after.de, &mut after.hl),
         Change::Forget(pair) => after.set_pair(pair, Word::Any),
-        Change::SetStack(_) => after.clear(),
+        Change::SetStack(_) => after.words.clear(),
     }
     Ok(after)
 }

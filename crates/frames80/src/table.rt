@@ -1,10 +1,10 @@
 //! The effect of each instruction.
 
 ghost use Rattle.std.specs.Prelude.{◌≡◌};
-ghost use Rattle.frames80.specs.Effects.{effect_of, written, pushed_by, popped_by};
+ghost use Rattle.frames80.specs.Effects.{effect_of, written, loaded, in_frame};
 
 use crate::effect::{Change, Effect};
-use crate::fault::FrameFault;
+use crate::fault::FrameFault::{Pchl, Sphl, StackByByte};
 use crate::frame_pair::FramePair;
 use decode80::{Instr, Pair, Register, StackPair};
 
@@ -15,25 +15,15 @@ pub fn effect_of(instr: Instr) -> Effect
     match instr {
         Instr::Mov(to, _) | Instr::Load(to) | Instr::Mvi(to, _) | Instr::Inr(to) | Instr::Dcr(to) =>
             Effect::Change(written(to)),
-        Instr::Lxi(Pair::Sp, word) => Effect::Change(Change::SetStack(word)),
-        Instr::Inx(Pair::Sp) | Instr::Dcx(Pair::Sp) => Effect::Refuse(FrameFault::StackByByte),
-        Instr::Lxi(Pair::Bc, _) | Instr::Inx(Pair::Bc) | Instr::Dcx(Pair::Bc) => {
-            Effect::Change(Change::Forget(FramePair::Bc))
-        }
-        Instr::Lxi(Pair::De, _) | Instr::Inx(Pair::De) | Instr::Dcx(Pair::De) => {
-            Effect::Change(Change::Forget(FramePair::De))
-        }
-        Instr::Lxi(Pair::Hl, _)
-        | Instr::Inx(Pair::Hl)
-        | Instr::Dcx(Pair::Hl)
-        | Instr::Dad(_)
-        | Instr::Lhld(_) => Effect::Change(Change::Forget(FramePair::Hl)),
-        Instr::Push(pair) => Effect::Change(pushed_by(pair)),
-        Instr::Pop(pair) => Effect::Change(popped_by(pair)),
+        Instr::Lxi(pair, word) => loaded(pair, Effect::Change(Change::SetStack(word))),
+        Instr::Inx(pair) | Instr::Dcx(pair) => loaded(pair, Effect::Refuse(StackByByte)),
+        Instr::Dad(_) | Instr::Lhld(_) => Effect::Change(Change::Forget(FramePair::Hl)),
+        Instr::Push(pair) => Effect::Change(in_frame(pair).map_or(Change::PushAny, Change::Push)),
+        Instr::Pop(pair) => Effect::Change(in_frame(pair).map_or(Change::Drop, Change::Pop)),
         Instr::Xthl => Effect::Change(Change::Swap),
         Instr::Xchg => Effect::Change(Change::Exchange),
-        Instr::Sphl => Effect::Refuse(FrameFault::Sphl),
-        Instr::Pchl => Effect::Refuse(FrameFault::Pchl),
+        Instr::Sphl => Effect::Refuse(Sphl),
+        Instr::Pchl => Effect::Refuse(Pchl),
         Instr::Jmp(to) => Effect::Jump(to),
         Instr::JumpIf(_, to) => Effect::JumpIf(to),
         Instr::Call(to) => Effect::Call(to),
@@ -58,26 +48,26 @@ fn written(to: Register) -> Change
     }
 }
 
-/// The change by a PUSH.
-fn pushed_by(pair: StackPair) -> Change
-    ensures { result ≡ pushed_by pair }
+/// The effect of an instruction that loads or counts a pair; of SP it is the one given.
+fn loaded(pair: Pair, of_sp: Effect) -> Effect
+    ensures { result ≡ loaded pair of_sp }
 {
     match pair {
-        StackPair::Bc => Change::Push(FramePair::Bc),
-        StackPair::De => Change::Push(FramePair::De),
-        StackPair::Hl => Change::Push(FramePair::Hl),
-        StackPair::Psw => Change::PushAny,
+        Pair::Bc => Effect::Change(Change::Forget(FramePair::Bc)),
+        Pair::De => Effect::Change(Change::Forget(FramePair::De)),
+        Pair::Hl => Effect::Change(Change::Forget(FramePair::Hl)),
+        Pair::Sp => of_sp,
     }
 }
 
-/// The change by a POP.
-fn popped_by(pair: StackPair) -> Change
-    ensures { result ≡ popped_by pair }
+/// The pair of a frame that is pushed and popped; PSW is none.
+fn in_frame(pair: StackPair) -> Option<FramePair>
+    ensures { result ≡ in_frame pair }
 {
     match pair {
-        StackPair::Bc => Change::Pop(FramePair::Bc),
-        StackPair::De => Change::Pop(FramePair::De),
-        StackPair::Hl => Change::Pop(FramePair::Hl),
-        StackPair::Psw => Change::Drop,
+        StackPair::Bc => Some(FramePair::Bc),
+        StackPair::De => Some(FramePair::De),
+        StackPair::Hl => Some(FramePair::Hl),
+        StackPair::Psw => None,
     }
 }

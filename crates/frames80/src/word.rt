@@ -10,13 +10,13 @@ use std::hash::{Hash, Hasher};
 #[derive(Clone, Copy, Debug)]
 pub enum Word {
     /// It is the procedure's own return address, both bytes of it.
-    Own,
+    Own = 1,
     /// It may be any word.
-    Any,
+    Any = 0,
 }
 
 impl Word {
-    ghost use Rattle.frames80.specs.Word.{met, word_rank};
+    ghost use Rattle.frames80.specs.Word.{met};
 
     /// What is known where it is one of the two words: the return address only where both are.
     pub(crate) fn meet(self, other: Word) -> Word
@@ -25,16 +25,6 @@ impl Word {
         match self {
             Word::Own => other,
             Word::Any => Word::Any,
-        }
-    }
-
-    /// A number for each.
-    fn rank(self) -> u8
-        ensures { result ≡ word_rank self }
-    {
-        match self {
-            Word::Own => 1,
-            Word::Any => 0,
         }
     }
 }
@@ -47,7 +37,7 @@ impl PartialEq for Word {
     ghost laws = { partial_equiv_from_equiv word_equivalence };
 
     fn eq(&self, other: &Word) -> bool {
-        self.rank() == other.rank()
+        *self as u8 == *other as u8
     }
 }
 
@@ -65,6 +55,6 @@ impl Hash for Word {
     ghost respects_eq = { word_alike };
 
     fn hash<H: Hasher>(&self, state: &mut H) {
-        state.write_u8(self.rank());
+        state.write_u8(*self as u8);
     }
 }

@@ -1,18 +1,17 @@
 -- The text of regions spells them.
-use Rattle.std.proofs.Common.{◌≡◌, ℕ, ◌/◌, ◌%◌, ◌<◌, ◌≤◌, false, cond, List, [], ◌∷◌, ◌++◌, length, map, append_assoc, append-nil, lit≤, refl, ap, sym, subst, ◌∙◌, arith}
-use Rattle.std.specs.Prelude.{All, IsPermutation, filter_map, codes, Option, Some, None, Result, Ok, Err, OnOk}
+use Rattle.std.proofs.Common.{◌≡◌, ℕ, zero, suc, ◌/◌, ◌%◌, ◌<◌, ◌≤◌, false, cond, List, [], ◌∷◌, ◌++◌, length, map, append_assoc, append-nil, lit≤, refl, ap, sym, subst, ◌∙◌, arith}
+use Rattle.std.specs.Prelude.{All, IsPermutation, slice_index, filter_map, codes, Option, Some, None, Result, Ok, Err, OnOk}
 use Rattle.std.specs.List.{flat_map, cons_option}
 use Rattle.std.proofs.lemmas.Bool.{lt-ltb}
-use Rattle.std.proofs.lemmas.Grind.{common_steps}
 use Rattle.std.proofs.lemmas.List.{map-append}
 use Rattle.std.proofs.lemmas.List.Concat.{flat_map-append}
 use Rattle.std.proofs.lemmas.List.Elements.{All-nil, All-cons, All-head, All-tail, All-append, All-map, All-from_recursion, filter_map-append}
 use Rattle.std.proofs.lemmas.List.Sorted.{IsPermutation-refl}
 use Rattle.std.proofs.lemmas.List.Splits.{slice_split_at}
+use Rattle.decode80.specs.Text.{word_text}
 use Rattle.place80.specs.declared.range.Range.{Range}
 use Rattle.place80.specs.declared.entry.Entry.{Entry}
 use Rattle.place80.specs.declared.entry.Entry.TheVariants.{Code, Stack, Data}
-use Rattle.place80.specs.Digits.{digit, word_digits}
 use Rattle.place80.specs.Lines.{is_line_feed, parts, text_of}
 use Rattle.place80.specs.Range.{IsInMemory}
 use Rattle.place80.specs.Regions.{Areas, AreRegions, all_ranges}
@@ -22,19 +21,28 @@ use Rattle.place80.specs.RegionsText.{heading, range_text, entry_text, range_of,
 abbrev IsLine : List ℕ → Type 0
 IsLine line = All (λ byte. is_line_feed byte ≡ false) line
 
--- a digit is no line feed
-digit_no_feed : (value : ℕ) → is_line_feed (digit value) ≡ false
-digit_no_feed value = grind (arith, common_steps)
+digits_are_line : IsLine (codes "0123456789ABCDEF")
+digits_are_line = All-from_recursion (λ byte. is_line_feed byte ≡ false) (codes "0123456789ABCDEF")
+    (refl, (refl, (refl, (refl, (refl, (refl, (refl, (refl, (refl, (refl, (refl, (refl, (refl, (refl, (refl, (refl, tt))))))))))))))))
 
-word_is_line : (word : ℕ) (rest : List ℕ) → IsLine rest → IsLine (word_digits word ++ rest)
+no_feed_at : (line : List ℕ) (i : ℕ) → IsLine line → is_line_feed (slice_index line i) ≡ false
+no_feed_at [] i is_line = refl
+no_feed_at (b ∷ bs) zero is_line = All-head (λ byte. is_line_feed byte ≡ false) b bs is_line
+no_feed_at (b ∷ bs) (suc i) is_line = no_feed_at bs i (All-tail (λ byte. is_line_feed byte ≡ false) b bs is_line)
+
+-- a digit is no line feed
+digit_no_feed : (value : ℕ) → is_line_feed (slice_index (codes "0123456789ABCDEF") value) ≡ false
+digit_no_feed value = no_feed_at (codes "0123456789ABCDEF") value digits_are_line
+
+word_is_line : (word : ℕ) (rest : List ℕ) → IsLine rest → IsLine (word_text word ++ rest)
 word_is_line word rest is_line =
-    All-append (λ byte. is_line_feed byte ≡ false) (word_digits word) rest
-    (All-from_recursion (λ byte. is_line_feed byte ≡ false) (word_digits word)
-    (digit_no_feed (word / 4096), (digit_no_feed (word / 256 % 16), (digit_no_feed (word / 16 % 16), (digit_no_feed (word % 16), tt))))) is_line
+    All-append (λ byte. is_line_feed byte ≡ false) (word_text word) rest
+    (All-from_recursion (λ byte. is_line_feed byte ≡ false) (word_text word)
+    (digit_no_feed (word / 256 / 16), (digit_no_feed (word / 256 % 16), (digit_no_feed (word % 256 / 16), (digit_no_feed (word % 256 % 16), tt))))) is_line
 
 range_is_line : (range : Range) → IsLine (range_text range)
-range_is_line range = word_is_line range.first (32 ∷ word_digits range.length)
-    (All-cons (λ byte. is_line_feed byte ≡ false) 32 (word_digits range.length) refl (word_is_line range.length [] (All-nil (λ byte. is_line_feed byte ≡ false))))
+range_is_line range = word_is_line range.first (32 ∷ word_text range.length)
+    (All-cons (λ byte. is_line_feed byte ≡ false) 32 (word_text range.length) refl (word_is_line range.length [] (All-nil (λ byte. is_line_feed byte ≡ false))))
 
 entry_is_line : (entry : Entry) → IsLine (entry_text entry)
 entry_is_line (Code range) = All-append (λ byte. is_line_feed byte ≡ false) (codes "CODE ") (range_text range) (All-from_recursion (λ byte. is_line_feed byte ≡ false) (codes "CODE ") (refl, (refl, (refl, (refl, (refl, tt)))))) (range_is_line range)

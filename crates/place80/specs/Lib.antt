@@ -4,7 +4,6 @@ pub mod Image
 pub mod Memory
 pub mod Placing
 pub mod Lines
-pub mod Digits
 pub mod RegionMap
 pub mod RegionsFault
 pub mod RegionsText

@@ -3,12 +3,12 @@
 -- length of a range in upper case hexadecimal, in any order.
 -- (The text is this project's own; its words are names of the segments of ISIS-II's LOCATE.)
 use Rattle.std.specs.Prelude.{◌≡◌, ℕ, ◌+◌, ◌<◌, ◌≤◌, Bool, IsTrue, IsSome, nat_lt, List, [], ◌∷◌, ◌++◌, length, map, filter, filter_map, All, IsPermutation, codes, Option, Some, None}
+use Rattle.decode80.specs.Text.{word_text}
 use Rattle.place80.specs.declared.range.Range.{Range}
 use Rattle.place80.specs.declared.entry.Entry.{Entry}
 use Rattle.place80.specs.declared.entry.Entry.TheVariants.{Code, Stack, Data}
 use Rattle.place80.specs.declared.fault.RegionsFault.{RegionsFault}
 use Rattle.place80.specs.declared.fault.RegionsFault.TheVariants.{BadLine, BadVersion, RegionsOverlap, NoStack, Memory}
-use Rattle.place80.specs.Digits.{word_digits}
 use Rattle.place80.specs.Lines.{parts, text_of}
 use Rattle.place80.specs.Range.{IsInMemory}
 use Rattle.place80.specs.Regions.{Areas, AreRegions, AreDisjoint}
@@ -19,7 +19,7 @@ heading = codes "REGIONS 1"
 
 -- a range's first address and length
 abbrev pub range_text : Range → List ℕ
-range_text range = word_digits range.first ++ 32 ∷ word_digits range.length
+range_text range = word_text range.first ++ 32 ∷ word_text range.length
 
 -- a line after the first
 abbrev pub entry_text : Entry → List ℕ

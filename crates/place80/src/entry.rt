@@ -4,8 +4,8 @@ ghost use Rattle.std.specs.Prelude.{◌≡◌, ◌≢◌, IfSome, IfNone};
 ghost use Rattle.place80.specs.Range.{IsInMemory};
 ghost use Rattle.place80.specs.RegionsText.{range_of, range_text, entry_text, code_range, stack_range, data_range};
 
-use crate::digits::read_word;
 use crate::range::Range;
+use decode80::word_of_digits;
 
 /// What a line of a regions text gives.
 #[derive(Clone, Copy, Debug, PartialEq, Eq)]
@@ -73,8 +73,8 @@ fn read_range(text: &[u8]) -> Option<Range>
     if text.len() != 9 || text[4] != b' ' {
         return None;
     }
-    let first = read_word([text[0], text[1], text[2], text[3]])?;
-    let length = read_word([text[5], text[6], text[7], text[8]])?;
+    let first = word_of_digits([text[0], text[1], text[2], text[3]])?;
+    let length = word_of_digits([text[5], text[6], text[7], text[8]])?;
     if u32::from(first) + u32::from(length) > 65536 {
         return None;
     }

@@ -17,7 +17,6 @@
 
 mod absolute;
 mod chunk;
-mod digits;
 mod entry;
 mod fault;
 mod image;

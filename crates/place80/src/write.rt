@@ -5,10 +5,10 @@ ghost use Rattle.std.specs.List.{flat_map};
 ghost use Rattle.place80.specs.Regions.{AreRegions};
 ghost use Rattle.place80.specs.RegionsText.{Spells, range_text, regions_text};
 
-use crate::digits::digits_of;
 use crate::laws::text_of_regions_is_read_as_itself;
 use crate::range::Range;
 use crate::regions::Regions;
+use decode80::word_digits;
 use std::alloc::{AllocError, Global};
 
 /// Appends the text of the regions, version 1: the line `REGIONS 1`, the code lines by address, the
@@ -53,9 +53,9 @@ fn put_line(text: &mut Vec<u8>, keyword: &[u8], range: Range) -> Result<(), Allo
         ++ ((keyword.now ++ range_text range) ++ 10 ∷ [])) }
 {
     text.extend_from_slice(keyword)?;
-    text.extend_from_slice(&digits_of(range.first))?;
+    text.extend_from_slice(&word_digits(range.first))?;
     text.push(b' ')?;
-    text.extend_from_slice(&digits_of(range.length))?;
+    text.extend_from_slice(&word_digits(range.length))?;
     text.push(b'\n')?;
     Ok(())
 }

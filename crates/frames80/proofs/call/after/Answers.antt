@@ -19,4 +19,4 @@ returns-clause-came c =
     let kept : take n items ≡ c.in_ok-words.words.items = sym (c.in_ok-words.ensures.items ∙ ap (take n) c.deref.ensures.value) in
     let drops : drop c.args.taken c.args.frame.now.words ≡ reverse c.in_ok-words.words.items = ap (drop c.args.taken) seen ∙ left ∙ ap reverse kept in
     let same : c.args.frame.now.taken ≡ c.frame.inside.taken = ap (λ (f : StackFrame). f.taken) (sym c.frame.view_is) in
-    rw (← same) (came c.args.role c.args.wants c.args.taken c.args.frame.now (reverse c.in_ok-words.words.items) enough drops)
+    rw (c.of_words.ensures, ← same) (came c.args.role c.args.wants c.args.taken c.args.frame.now (reverse c.in_ok-words.words.items) enough drops)

@@ -15,11 +15,11 @@ loop-i-preserved c =
     let so_far = c.loop-i.invariant.met in
     let whole = c.args.words.now.ok in
     let at : AreAt i xs ys x y = record { within = omega arith; long = long; mine = rw (← so_far) c.index_mut.ensures.value; other = c.index.ensures } in
-    let after = c.meet_word-here.ensures in
-    let set_is : slice_set c.loop-i.words.items i c.meet_word-here.new.word ≡ met_to (suc i) xs ys = rw (so_far, after.met) (met_to_more i xs ys x y at) in
+    let after = c.meet_word-changed.ensures in
+    let set_is : slice_set c.loop-i.words.items i c.meet_word-changed.new.word ≡ met_to (suc i) xs ys = rw (so_far, after.met) (met_to_more i xs ys x y at) in
     record {
       met = rw add-one set_is;
-      changed = rw set_is (changed_more i xs ys x y c.loop-i.changed c.meet_word-here.result at (rw so_far at c.loop-i.invariant.changed) (rw after.met at after.changed));
+      changed = rw set_is (changed_more i xs ys x y c.loop-i.changed c.meet_word-changed.result at (rw so_far at c.loop-i.invariant.changed) (rw after.met at after.changed));
     }
 
 pub returns-clause-met : goal.returns-clause-met

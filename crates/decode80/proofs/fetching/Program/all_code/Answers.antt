@@ -1,7 +1,6 @@
-use Rattle.std.proofs.Common.{◌∙◌, ◌≡◌, ◌+◌, ◌-◌, ap, sym}
+use Rattle.std.proofs.Common.{◌∙◌, ◌+◌, ◌-◌, ap, sym}
 use Rattle.std.specs.Prelude.{Bool, ◌&&◌}
 use Rattle.std.specs.List.{list_all, range_with_len}
-use Rattle.decode80.specs.Fetch.{all_code}
 use Rattle.decode80.proofs.FetchLemmas.{all_code-each, each-more, each-none}
 use Rattle.decode80.proofs.fetching.Program.all_code.Goals as goal
 
