@@ -15,6 +15,9 @@ use Rattle.bounds80.proofs.SumLemmas.{no_call}
 
 -- the table
 
+pub follow_none : (calls table : List CallSite) → AreFollowed calls [] table
+follow_none calls table = record { next = λ p call by. absurd (omega (arith, by.there.1)) }
+
 pub follow_more : (calls seen table : List CallSite) (call : CallSite) (i : ℕ) → i ≡ slot_of call.caller → i < length table → Contains calls call →
     AreFollowed calls seen table → AreFollowed calls (seen ++ call ∷ []) (set table i call)
 follow_more calls seen table call i at within there are = record {

@@ -255,10 +255,10 @@ settling_next depths calls old sums before marks pending kept was_absorbing abso
     of_list : (call : CallSite) → Contains kept call → Contains pending call
     of_list call there = are.of_list call (subst (λ (l : List CallSite). Contains l call) (sym (append-nil kept)) there)
 
-pub none_of : (marks : List Bool) → All (λ (x : Bool). x ≡ false) marks → (k : ℕ) → get_or marks k false ≡ false
-none_of marks each k = elim (cases_eq (length marks - k) 0) [
-  | inl past ↦ get_or_past marks k false (omega arith)
-  | inr inside ↦ each k false (omega arith)
+pub none_of : {X : Type 0} (xs : List X) (x : X) → All (λ (y : X). y ≡ x) xs → (k : ℕ) → get_or xs k x ≡ x
+none_of xs x each k = elim (cases_eq (length xs - k) 0) [
+  | inl past ↦ get_or_past xs k x (omega arith)
+  | inr inside ↦ each k x (omega arith)
 ]
 
 -- the same, where the code has the lists under other names

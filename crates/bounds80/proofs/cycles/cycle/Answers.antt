@@ -8,7 +8,7 @@ use Rattle.bounds80.proofs.cycles.cycle.Goals as goal
 pub loop-caller-init : goal.loop-caller-init
 loop-caller-init c = following_first c.args.calls.now c.in_ok-next.next.items c.in_ok-met.met.items _ c.slot.result c.index-call.result.now c.in_ok-next.ensures.followed
     (Contains-get_or c.args.calls.now 0 no_call c.requires.some) c.slot.ensures.is (omega (arith, c.slot.ensures.within, c.in_ok-next.ensures.places)) c.index-call.ensures
-    (none_of c.in_ok-met.met.items c.in_ok-met.ensures.values) c.in_ok-next.ensures.places c.in_ok-met.ensures.places
+    (none_of c.in_ok-met.met.items false c.in_ok-met.ensures.values) c.in_ok-next.ensures.places c.in_ok-met.ensures.places
 
 pub loop-caller-preserved : goal.loop-caller-preserved
 loop-caller-preserved c = following_next c.args.calls.now c.in_ok-next.next.items c.loop-caller.met.items c.loop-caller.call c.slot-caller.result c.slot-in-loop-caller-2.result

@@ -1,7 +1,10 @@
 use Rattle.std.proofs.Common.{arith, ◌∙◌}
 use Rattle.std.proofs.lemmas.List.{length-set}
-use Rattle.bounds80.proofs.FollowLemmas.{follow_at}
+use Rattle.bounds80.proofs.FollowLemmas.{follow_none, follow_at}
 use Rattle.bounds80.proofs.cycles.followed.Goals as goal
+
+pub loop-call-init : goal.loop-call-init
+loop-call-init c = (follow_none c.args.calls.now c.in_ok-next.next.items, c.in_ok-next.ensures.places)
 
 pub loop-call-preserved : goal.loop-call-preserved
 loop-call-preserved c = (

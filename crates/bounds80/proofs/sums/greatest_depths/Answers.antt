@@ -1,8 +1,11 @@
 use Rattle.std.proofs.Common.{arith, ◌∙◌}
 use Rattle.std.proofs.lemmas.Int.{ints}
 use Rattle.std.proofs.lemmas.List.{get_or_read, length-set}
-use Rattle.bounds80.proofs.SumLemmas.{depth_at, no_depth}
+use Rattle.bounds80.proofs.SumLemmas.{depth_at, no_depth, no_depths, none_of}
 use Rattle.bounds80.proofs.sums.greatest_depths.Goals as goal
+
+pub loop-depth-init : goal.loop-depth-init
+loop-depth-init c = (no_depths c.in_ok-sums.sums.items (none_of c.in_ok-sums.sums.items 0 c.in_ok-sums.ensures.values), c.in_ok-sums.ensures.places)
 
 pub loop-depth-preserved : goal.loop-depth-preserved
 loop-depth-preserved c =
