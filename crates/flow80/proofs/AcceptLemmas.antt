@@ -5,10 +5,8 @@ use Rattle.std.proofs.lemmas.Int.{ints}
 use Rattle.frames80.specs.declared.fault.FrameFault.TheVariants.{Sphl as FrameSphl, Pchl as FramePchl, StackByByte as FrameStackByByte, SetsStack as FrameSetsStack, PopsBelow as FramePopsBelow, ReturnNotOwn as FrameReturnNotOwn, ReturnFromMain as FrameReturnFromMain}
 use Rattle.frames80.specs.StackFrame.{StackFrame, entry_frame}
 use Rattle.frames80.specs.Calls.{returned, depth_of}
-use Rattle.flow80.specs.declared.procedure.Procedure.{Procedure}
-use Rattle.flow80.specs.declared.procedure.Procedure.TheVariants.{Main, Entry}
-use Rattle.flow80.specs.declared.graph.Depth.{Depth}
-use Rattle.flow80.specs.declared.graph.CallSite.{CallSite}
+use Rattle.bounds80.specs.declared.procedure.Procedure.{Procedure}
+use Rattle.bounds80.specs.declared.procedure.Procedure.TheVariants.{Main, Entry}
 use Rattle.flow80.specs.declared.report.ProcRow.{ProcRow}
 use Rattle.flow80.specs.declared.code.LookFault.TheVariants.{Outside, Unused, EnablesInterrupts as LooksAtEi, DirectStore as LooksAtStore}
 use Rattle.flow80.specs.declared.refusal.Refusal.{Refusal}
@@ -21,10 +19,10 @@ use Rattle.flow80.specs.Fitting.{FrameFits, Fits}
 use Rattle.flow80.specs.Rows.{ReturnsWith, Wants, IsRow, AreRows}
 use Rattle.flow80.specs.Accepted.{IsAccepted}
 use Rattle.flow80.specs.Points.{Point, is_at}
-use Rattle.flow80.specs.Bounds.{bytes_of, AreBounds, NoneRecurs}
+use Rattle.bounds80.specs.Chains.{bytes_of}
 use Rattle.flow80.specs.Shown.{FrameLaws}
 use Rattle.flow80.specs.Known.{Known, IsFilled, exit_of}
-use Rattle.flow80.specs.Survey.{IsEntered, AreWants, IsSurvey, takes_in_row, returns_in_row, row_of, AreListed}
+use Rattle.flow80.specs.Survey.{IsEntered, AreWants, IsBounded, takes_in_row, returns_in_row, row_of, AreListed}
 use Rattle.flow80.proofs.FitLemmas.{takes_of as taken_at_returns, no_look_fault, no_move_fault, no_differ, no_uneven, no_short}
 use Rattle.flow80.proofs.KnownTable.{StandsAt, known_table, known_closes, found_stands, has_point, closes_return, at_is, is_there}
 use Rattle.flow80.proofs.GraphLemmas.{all_from, any_from, has_walk, walk_at, depth_same, call_along}
@@ -32,23 +30,21 @@ use Rattle.flow80.proofs.PigeonLemmas.{too_many}
 use Rattle.flow80.proofs.Slices.{within}
 
 -- all that was found out of a program
-pub record IsAnalyzed (code : Code) (known : Known) (wants bytes : List ℕ) (depths : List Depth) (calls : List CallSite) : Type 0 where
+pub record IsAnalyzed (code : Code) (known : Known) (wants bytes : List ℕ) : Type 0 where
   pub filled : IsFilled code known
   pub wanted : AreWants known.points wants (length known.points)
-  pub survey : IsSurvey code known wants (length known.points) depths calls
-  pub bounds : AreBounds code bytes
-  pub ends : NoneRecurs code
+  pub bounded : IsBounded code known wants bytes
 
-module _ (laws : FrameLaws) (code : Code) (known : Known) (wants bytes : List ℕ) (depths : List Depth) (calls : List CallSite) (is : IsAnalyzed code known wants bytes depths calls) where
+module _ (laws : FrameLaws) (code : Code) (known : Known) (wants bytes : List ℕ) (is : IsAnalyzed code known wants bytes) where
   call_bytes : (i : ℕ) (point : Point) → slice_get known.points i ≡ Some point → (target next : ℕ) → Calls code point.procedure point.at point.frame target next →
       ((depth_of (role_of code point.procedure) point.frame +ℤ pos 2) +ℤ pos (bytes_of bytes (Entry target))) ≤ℤ pos (bytes_of bytes point.procedure)
   call_bytes i point there target next call =
       let w = walk_at code known is.filled i point there in
       let along = call_along laws code known is.filled i point there target next call w.frame w.covers in
-      let mine = is.bounds.bound point.procedure point.at w.frame w.walk in
+      let mine = is.bounded.bounds.bound point.procedure point.at w.frame w.walk in
       let entered : Walk code (Entry target) target entry_frame =
       enters point.procedure point.at w.frame target next (Entry target) target entry_frame w.walk along (record { procedure = refl; start = refl; frame = refl }) in
-      let theirs = is.bounds.bound (Entry target) target entry_frame entered in
+      let theirs = is.bounded.bounds.bound (Entry target) target entry_frame entered in
       let depth = depth_same (role_of code point.procedure) point.frame w.frame w.covers.counts in
       subst (λ (d : ℤ). ((d +ℤ pos 2) +ℤ pos (bytes_of bytes (Entry target))) ≤ℤ pos (bytes_of bytes point.procedure)) (sym depth)
       (mine.above ((depth_of (role_of code point.procedure) w.frame +ℤ pos 2) +ℤ pos (bytes_of bytes (Entry target)))
@@ -58,7 +54,7 @@ module _ (laws : FrameLaws) (code : Code) (known : Known) (wants bytes : List �
   deep : (i : ℕ) (point : Point) → slice_get known.points i ≡ Some point → depth_of (role_of code point.procedure) point.frame ≤ℤ pos (bytes_of bytes point.procedure)
   deep i point there =
       let w = walk_at code known is.filled i point there in
-      let mine = is.bounds.bound point.procedure point.at w.frame w.walk in
+      let mine = is.bounded.bounds.bound point.procedure point.at w.frame w.walk in
       let depth = depth_same (role_of code point.procedure) point.frame w.frame w.covers.counts in
       subst (λ (d : ℤ). d ≤ℤ pos (bytes_of bytes point.procedure)) (sym depth)
       (mine.above (depth_of (role_of code point.procedure) w.frame)
@@ -80,7 +76,7 @@ module _ (laws : FrameLaws) (code : Code) (known : Known) (wants bytes : List �
             record { found = closed.found; moves = closed.moves; moving = closed.moving; call = called_target; after = refl } in
             record {
               enters = into (Entry target) target entry_frame (closed.follows.enters target called_target);
-              words = is.survey.words i point target closed.found.next less there call;
+              words = is.bounded.words i point target closed.found.next there call;
               bytes = call_bytes i point there target closed.found.next call;
               after = λ taken takes. into point.procedure closed.found.next (returned taken point.frame) (closed.follows.after target taken called_target takes);
             };
@@ -104,7 +100,7 @@ module _ (laws : FrameLaws) (code : Code) (known : Known) (wants bytes : List �
 
   -- the main program begins
   main_bound : IsBound code Main (bytes_of bytes Main)
-  main_bound = is.bounds.bound Main code.start _ (begins Main code.start _ (record { procedure = refl; start = refl; frame = refl }))
+  main_bound = is.bounded.bounds.bound Main code.start _ (begins Main code.start _ (record { procedure = refl; start = refl; frame = refl }))
 
   -- where a point of that address of that procedure stands
   abbrev place_of : List Point → Procedure → ℕ → ℕ
@@ -170,7 +166,7 @@ module _ (laws : FrameLaws) (code : Code) (known : Known) (wants bytes : List �
   no_refusal enough (HeightsDiffer at) apart holds = no_differ laws code _ known_fits at holds
   no_refusal enough (UnevenArguments at) apart holds = no_uneven laws code _ known_fits at holds
   no_refusal enough (ShortArguments at) apart holds = no_short laws code _ known_fits at holds
-  no_refusal enough (Recursion at) apart holds = is.ends.none at holds
+  no_refusal enough (Recursion at) apart holds = is.bounded.ends.none at holds
   no_refusal enough (StackTooSmall need has) apart holds = not_more need has enough holds
   no_refusal enough TooManyPoints apart holds = few_points holds
   no_refusal enough Memory apart holds = apart refl
@@ -179,7 +175,7 @@ module _ (laws : FrameLaws) (code : Code) (known : Known) (wants bytes : List �
   pub overruns : code.stack < bytes_of bytes Main → Holds code (StackTooSmall (bytes_of bytes Main) code.stack)
   overruns less = record {
     agrees = no_differ laws code _ known_fits;
-    ends = is.ends.none;
+    ends = is.bounded.ends.none;
     bound = main_bound;
     stack = refl;
     less = less;
@@ -243,7 +239,7 @@ module _ (laws : FrameLaws) (code : Code) (known : Known) (wants bytes : List �
       let w = walk_at code known is.filled entered.number entered.point entered.there in
       record {
         wants = wants_here entry entered;
-        bound = is.bounds.bound (Entry entry) entered.point.at w.frame (subst (λ (q : Procedure). Walk code q entered.point.at w.frame) entered.procedure w.walk);
+        bound = is.bounded.bounds.bound (Entry entry) entered.point.at w.frame (subst (λ (q : Procedure). Walk code q entered.point.at w.frame) entered.procedure w.walk);
         returns = returns_here entry (exit_of known.exits entry) refl;
         never = never_here entry (exit_of known.exits entry) refl;
       }
@@ -253,7 +249,7 @@ module _ (laws : FrameLaws) (code : Code) (known : Known) (wants bytes : List �
     each = all_from (λ row. IsRow code row) rows (λ row there. let i = listed.each row there in subst (IsRow code) (sym i.is) (row_is row.entry i.entered));
     all = λ entry occurs.
         let has = has_walk laws code known is.filled (Entry entry) entry entry_frame (enters_first entry (Entry entry) occurs.at occurs.frame occurs.walk refl) in
-        let less = is.survey.addresses.within has.number has.point has.there in
+        let less = is.bounded.addresses.within has.number has.point has.there in
         any_from (λ (row : ProcRow). row.entry ≡ entry) rows (row_of known wants bytes entry)
         (listed.all entry (subst (λ n. n < 65536) has.address less) (record { number = has.number; point = has.point; there = has.there; procedure = has.procedure; address = has.address })) refl;
     by_entry = listed.by_entry;

@@ -1,20 +1,19 @@
 -- From the lists of a program's depths and calls to its walks, and back: chains, calls that lead back, and what follows at the end.
-use Rattle.std.proofs.Common.{◌≡◌, ℕ, List, [], refl, sym, ap, subst, ◌∙◌}
+use Rattle.std.proofs.Common.{◌≡◌, ℕ, List, refl, sym, ap, subst, ◌∙◌}
 use Rattle.std.specs.Prelude.{ℤ, pos, ◌+ℤ◌}
 use Rattle.std.proofs.lemmas.List.Elements.{All-contains}
 use Rattle.frames80.specs.StackFrame.{StackFrame, entry_frame}
 use Rattle.frames80.specs.Calls.{depth_of}
-use Rattle.flow80.specs.declared.procedure.Procedure.{Procedure}
-use Rattle.flow80.specs.declared.procedure.Procedure.TheVariants.{Main, Entry}
-use Rattle.flow80.specs.declared.graph.Depth.{Depth}
-use Rattle.flow80.specs.declared.graph.CallSite.{CallSite}
+use Rattle.bounds80.specs.declared.procedure.Procedure.{Procedure}
+use Rattle.bounds80.specs.declared.procedure.Procedure.TheVariants.{Main, Entry}
+use Rattle.bounds80.specs.declared.graph.Depth.{Depth}
+use Rattle.bounds80.specs.declared.graph.CallSite.{CallSite}
 use Rattle.flow80.specs.Code.{Code}
 use Rattle.flow80.specs.Walks.{Walk, begins, goes_on, enters, comes_back, Calls, role_of}
 use Rattle.flow80.specs.Use.{Use, last as use_last, through as use_through, EndsChain, Chains}
 use Rattle.flow80.specs.Faults.{CallsFrom, Leads, here as leads_here, further as leads_further, Recurs}
-use Rattle.flow80.specs.Graph.{HasDepth, HasCall, IsGraph}
-use Rattle.flow80.specs.Bounds.{bytes_of, HasLast, CallsBy, Chain, last, through, Ends, ends, Reaches, here, further, Cycles, AreEntered, AreSums, AreBounds, NoneRecurs}
-use Rattle.flow80.proofs.BoundLemmas.{chain_below, all_end}
+use Rattle.bounds80.specs.Chains.{bytes_of, HasLast, CallsBy, Chain, last, through, Reaches, here, further, Cycles, AreEntered, AreGreatest}
+use Rattle.flow80.specs.Graph.{HasDepth, HasCall, IsGraph, AreBounds, NoneRecurs}
 
 -- a depth of a walk is one of the list's
 last_from : (code : Code) (depths : List Depth) (calls : List CallSite) → IsGraph code depths calls → (p : Procedure) (depth : ℤ) →
@@ -89,15 +88,16 @@ chain_from_use code depths calls graph _ _ (use_through p target below bytes res
     (subst (λ (t : ℕ). Chain depths calls (Entry t) below) (sym any.4.1) inner)
     (link.sum ∙ ap (λ (d : ℤ). (d +ℤ pos 2) +ℤ below) (sym any.4.2))
 
--- at the end the sums are the bounds
-pub are_bounds : (code : Code) (depths : List Depth) (calls : List CallSite) (sums : List ℕ) → IsGraph code depths calls → AreSums depths calls sums [] →
-    AreBounds code sums
-are_bounds code depths calls sums graph are = record {
-  bound = λ p at f walk. record {
-    above = λ sum used. chain_below depths calls sums are p sum (chain_from_use code depths calls graph p sum used);
-    reached = use_from_chain code depths calls graph p (pos (bytes_of sums p))
-        (are.reached (entered code depths calls graph) p (last_from code depths calls graph p (pos 0) (first_depth code p at f walk)));
-  };
+-- the greatest sums of the lists are the program's bounds
+pub are_bounds : (code : Code) (depths : List Depth) (calls : List CallSite) (sums : List ℕ) → IsGraph code depths calls →
+    (AreEntered depths calls → AreGreatest depths calls sums) → AreBounds code sums
+are_bounds code depths calls sums graph greatest = record {
+  bound = λ p at f walk.
+      let most = (greatest (entered code depths calls graph)).greatest p (last_from code depths calls graph p (pos 0) (first_depth code p at f walk)) in
+      record {
+        above = λ sum used. most.above sum (chain_from_use code depths calls graph p sum used);
+        reached = use_from_chain code depths calls graph p (pos (bytes_of sums p)) most.reached;
+      };
 }
 
 -- a call of the program is one of the lists'
@@ -145,39 +145,17 @@ recurs code depths calls at graph cycle =
       back = leads_from_reaches code depths calls graph (Entry c.target) c.caller cycle.back;
     })
 
--- a first call, and then others
-record Onward (calls : List CallSite) (p q : Procedure) : Type 0 where
-  call : CallSite
-  by : CallsBy calls p call
-  back : Reaches calls (Entry call.target) q
-
-onward : (calls : List CallSite) (p q : Procedure) (call : CallSite) → Reaches calls p q → CallsBy calls q call → Onward calls p (Entry call.target)
-onward calls _ _ call (here p q same) by =
-    record { call = call; by = record { there = by.there; caller = by.caller ∙ sym same }; back = here (Entry call.target) (Entry call.target) refl }
-onward calls _ _ call (further p q r before_call before before_by is) by =
-    let first = onward calls p q before_call before before_by in
-    record {
-      call = first.call;
-      by = first.by;
-      back = further (Entry first.call.target) r (Entry call.target) call
-          (subst (λ (s : Procedure). Reaches calls (Entry first.call.target) s) (sym is) first.back) by refl;
-    }
-
--- where every chain of calls ends none leads back
-no_way_back : (calls : List CallSite) (p : Procedure) → Ends calls p → Onward calls p p → ⊥
-no_way_back calls _ (ends p each) way =
-    no_way_back calls (Entry way.call.target) (each way.call way.by) (onward calls (Entry way.call.target) p way.call way.back way.by)
-
--- so none recurs
-pub none_recurs : (code : Code) (depths : List Depth) (calls : List CallSite) (sums : List ℕ) → IsGraph code depths calls → AreSums depths calls sums [] →
-    NoneRecurs code
-none_recurs code depths calls sums graph are = record {
+-- where none of the list leads back, none recurs
+pub none_recurs : (code : Code) (depths : List Depth) (calls : List CallSite) → IsGraph code depths calls → ((at : ℕ) → Cycles calls at → ⊥) → NoneRecurs code
+none_recurs code depths calls graph none = record {
   none = λ at recur.
       let one = listed code depths calls graph recur.procedure at recur.frame recur.target recur.next recur.walk recur.call in
-      no_way_back calls recur.procedure (all_end depths calls sums are recur.procedure) (record {
+      none one.call.at (record {
         call = one.call;
-        by = one.by;
-        back = subst (λ (t : ℕ). Reaches calls (Entry t) recur.procedure) (sym one.target_is)
-            (reaches_from_leads code depths calls graph (Entry recur.target) recur.procedure recur.back);
+        there = one.by.there;
+        is = refl;
+        back = subst (λ (q : Procedure). Reaches calls (Entry one.call.target) q) (sym one.by.caller)
+            (subst (λ (t : ℕ). Reaches calls (Entry t) recur.procedure) (sym one.target_is)
+            (reaches_from_leads code depths calls graph (Entry recur.target) recur.procedure recur.back));
       });
 }

@@ -9,8 +9,8 @@ use Rattle.frames80.specs.Effects.{effect_of}
 use Rattle.frames80.specs.Moves.{moves_of}
 use Rattle.frames80.specs.Calls.{room, returned}
 use Rattle.frames80.specs.Places.{SameCounts, Covers}
-use Rattle.flow80.specs.declared.procedure.Procedure.{Procedure}
-use Rattle.flow80.specs.declared.procedure.Procedure.TheVariants.{Main, Entry}
+use Rattle.bounds80.specs.declared.procedure.Procedure.{Procedure}
+use Rattle.bounds80.specs.declared.procedure.Procedure.TheVariants.{Main, Entry}
 use Rattle.flow80.specs.declared.code.LookFault.{LookFault}
 use Rattle.flow80.specs.Code.{Code}
 use Rattle.flow80.specs.Walks.{Walk, begins, goes_on, enters, comes_back, Calls, Returns, Moving, LeadsTo, called, returning, role_of}

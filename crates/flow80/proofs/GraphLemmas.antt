@@ -10,13 +10,13 @@ use Rattle.frames80.specs.StackFrame.{StackFrame}
 use Rattle.frames80.specs.Effects.{effect_of}
 use Rattle.frames80.specs.Calls.{depth_of}
 use Rattle.frames80.specs.Places.{SameCounts, Covers}
-use Rattle.flow80.specs.declared.procedure.Procedure.{Procedure}
-use Rattle.flow80.specs.declared.graph.Depth.{Depth}
-use Rattle.flow80.specs.declared.graph.CallSite.{CallSite}
+use Rattle.bounds80.specs.declared.procedure.Procedure.{Procedure}
+use Rattle.bounds80.specs.declared.graph.Depth.{Depth}
+use Rattle.bounds80.specs.declared.graph.CallSite.{CallSite}
 use Rattle.flow80.specs.Code.{Code}
 use Rattle.flow80.specs.Walks.{Walk, Calls, called, role_of}
 use Rattle.flow80.specs.Points.{Point}
-use Rattle.flow80.specs.Bounds.{IsModest}
+use Rattle.bounds80.specs.Chains.{IsModest}
 use Rattle.flow80.specs.Graph.{HasDepth, HasCall, IsGraph}
 use Rattle.flow80.specs.Shown.{Shows, Whole, FrameLaws}
 use Rattle.flow80.specs.Known.{Known, IsWithin, IsSmall, HasPoint, IsClosed, IsFilled}

@@ -8,8 +8,8 @@ use Rattle.frames80.specs.Word.{met}
 use Rattle.frames80.specs.StackFrame.{StackFrame}
 use Rattle.frames80.specs.Calls.{words_met, merged, agree}
 use Rattle.frames80.specs.Places.{word_at, SameCounts, Covers}
-use Rattle.flow80.specs.declared.procedure.Procedure.{Procedure}
-use Rattle.flow80.specs.declared.procedure.Procedure.TheVariants.{Entry}
+use Rattle.bounds80.specs.declared.procedure.Procedure.{Procedure}
+use Rattle.bounds80.specs.declared.procedure.Procedure.TheVariants.{Entry}
 use Rattle.flow80.specs.Code.{Code}
 use Rattle.flow80.specs.declared.refusal.Refusal.TheVariants.{HeightsDiffer, TooManyPoints, Memory}
 use Rattle.flow80.specs.Faults.{most_points, Many, Differ}

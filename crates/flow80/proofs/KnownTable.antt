@@ -10,8 +10,8 @@ use Rattle.frames80.specs.declared.moves.Moves.{Moves}
 use Rattle.frames80.specs.StackFrame.{StackFrame, entry_frame, main_frame}
 use Rattle.frames80.specs.Effects.{effect_of}
 use Rattle.frames80.specs.Calls.{returned}
-use Rattle.flow80.specs.declared.procedure.Procedure.{Procedure}
-use Rattle.flow80.specs.declared.procedure.Procedure.TheVariants.{Main, Entry}
+use Rattle.bounds80.specs.declared.procedure.Procedure.{Procedure}
+use Rattle.bounds80.specs.declared.procedure.Procedure.TheVariants.{Main, Entry}
 use Rattle.flow80.specs.Code.{Code}
 use Rattle.flow80.specs.Walks.{Moving, returning, role_of}
 use Rattle.flow80.specs.Points.{Point, AreApart, is_at, same_procedure}

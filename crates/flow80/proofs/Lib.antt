@@ -6,10 +6,7 @@ pub mod KnownLemmas
 pub mod StepLemmas
 pub mod PointLemmas
 pub mod PageLemmas
-pub mod BoundLemmas
 pub mod CycleLemmas
-pub mod SumLemmas
-pub mod FollowLemmas
 pub mod VisitLemmas
 pub mod LookLemmas
 pub mod KnownTable

@@ -4,8 +4,8 @@ use Rattle.std.proofs.Common.{ap, sym, ◌∙◌, subst, arith, inl, inr, true�
 use Rattle.flow80.specs.declared.refusal.Refusal.{Refusal}
 use Rattle.flow80.specs.Code.{Code}
 use Rattle.frames80.specs.StackFrame.{StackFrame, main_frame}
-use Rattle.flow80.specs.declared.procedure.Procedure.{Procedure}
-use Rattle.flow80.specs.declared.procedure.Procedure.TheVariants.{Main}
+use Rattle.bounds80.specs.declared.procedure.Procedure.{Procedure}
+use Rattle.bounds80.specs.declared.procedure.Procedure.TheVariants.{Main}
 use Rattle.flow80.specs.Points.{Point}
 use Rattle.flow80.specs.Shown.{IsShown}
 use Rattle.flow80.specs.Known.{Known, nothing_known, exit_of, IsSmall, IsWithin, Stands, HasPoint, Flows, IsClosed, Visits, Ongoing, Looks, AreClosed, AllClosed}

@@ -5,7 +5,7 @@ use Rattle.std.specs.Cmp.{unsigned_Decides}
 use Rattle.std.specs.Option.{SomeIff}
 use Rattle.std.proofs.lemmas.Bool.Decides.{Decides-ltb}
 use Rattle.std.proofs.lemmas.List.{get_or-set_same, get_or-set_other, get_or_past, length-set}
-use Rattle.flow80.specs.declared.procedure.Procedure.{Procedure}
+use Rattle.bounds80.specs.declared.procedure.Procedure.{Procedure}
 use Rattle.flow80.specs.Pages.{Numbers, procedure_number, decoded, code_in, number_at, same_place, SameNumbers, Puts, IsBlank, LeadApart, ReadsSame, LeadsTo}
 
 -- zeros at the end read as nothing does

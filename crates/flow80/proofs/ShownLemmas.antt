@@ -16,8 +16,8 @@ use Rattle.frames80.specs.Effects.{effect_of}
 use Rattle.frames80.specs.Moves.{moves_of, changed}
 use Rattle.frames80.specs.Calls.{room, returned, agree, merged}
 use Rattle.frames80.specs.Places.{Place, word_at, Source, From, Unknown, sourced, source, source_after, SameCounts, Covers}
-use Rattle.flow80.specs.declared.procedure.Procedure.{Procedure}
-use Rattle.flow80.specs.declared.procedure.Procedure.TheVariants.{Main, Entry}
+use Rattle.bounds80.specs.declared.procedure.Procedure.{Procedure}
+use Rattle.bounds80.specs.declared.procedure.Procedure.TheVariants.{Main, Entry}
 use Rattle.flow80.specs.declared.code.LookFault.{LookFault}
 use Rattle.flow80.specs.Code.{Code}
 use Rattle.flow80.specs.Walks.{Walk, begins, goes_on, enters, comes_back, Calls, Moving, LeadsTo, called, returning, role_of}

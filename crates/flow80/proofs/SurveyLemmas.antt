@@ -12,10 +12,10 @@ use Rattle.frames80.specs.StackFrame.{StackFrame}
 use Rattle.frames80.specs.Effects.{effect_of}
 use Rattle.frames80.specs.Moves.{moves_of}
 use Rattle.frames80.specs.Calls.{room, depth_of}
-use Rattle.flow80.specs.declared.procedure.Procedure.{Procedure}
-use Rattle.flow80.specs.declared.procedure.Procedure.TheVariants.{Entry}
-use Rattle.flow80.specs.declared.graph.Depth.{Depth}
-use Rattle.flow80.specs.declared.graph.CallSite.{CallSite}
+use Rattle.bounds80.specs.declared.procedure.Procedure.{Procedure}
+use Rattle.bounds80.specs.declared.procedure.Procedure.TheVariants.{Main, Entry}
+use Rattle.bounds80.specs.declared.graph.Depth.{Depth}
+use Rattle.bounds80.specs.declared.graph.CallSite.{CallSite}
 use Rattle.flow80.specs.declared.report.ProcRow.{ProcRow}
 use Rattle.flow80.specs.declared.refusal.Refusal.{Refusal}
 use Rattle.flow80.specs.declared.refusal.Refusal.TheVariants.{ShortArguments}
@@ -24,11 +24,10 @@ use Rattle.flow80.specs.Code.{Code}
 use Rattle.flow80.specs.Walks.{Walk, Moving, Calls, called, role_of}
 use Rattle.flow80.specs.Faults.{Holds as Refused}
 use Rattle.flow80.specs.Points.{Point, AreAddresses, IsPointAt, IsNoPoint}
-use Rattle.flow80.specs.Bounds.{slot_of, bytes_of}
+use Rattle.bounds80.specs.Chains.{slot_of, bytes_of}
 use Rattle.flow80.specs.Shown.{Whole, FrameLaws}
 use Rattle.flow80.specs.Known.{Known, Stands, IsShort}
-use Rattle.flow80.specs.Survey.{IsMoveAt, IsEntered, TakesAt, AreWants, depth_at, call_at, IsDepthAt, IsCallAt, IsSurvey, row_of, IsRowIn, AreListed}
-use Rattle.flow80.proofs.BoundLemmas.{slot_apart}
+use Rattle.flow80.specs.Survey.{IsSeen, IsCallOf, noted, IsMoveAt, IsEntered, TakesAt, AreWants, depth_at, call_at, IsDepthAt, IsCallAt, IsSurvey, row_of, IsRowIn, AreListed}
 use Rattle.flow80.proofs.FitLemmas.{found_same}
 use Rattle.flow80.proofs.LookLemmas.{split}
 use Rattle.flow80.proofs.ShownLemmas.{short}
@@ -43,6 +42,13 @@ below_more count i point xs there other less is before here = elim (split i coun
   where
     same : (o : Option Point) (x y : Point) → o ≡ Some x → o ≡ Some y → x ≡ y
     same o x y one two = cc
+
+-- no two procedures have one slot
+slot_apart : (p q : Procedure) → slot_of p ≡ slot_of q → p ≡ q
+slot_apart Main Main e = refl
+slot_apart Main (Entry b) e = absurd (omega arith)
+slot_apart (Entry a) Main e = absurd (omega arith)
+slot_apart (Entry a) (Entry b) e = ap Entry (omega arith)
 
 -- the words that are wanted
 pub no_wants : (points : List Point) (wants : List ℕ) → ((k : ℕ) → get_or wants k 0 ≡ 0) → AreWants points wants 0
@@ -175,6 +181,18 @@ survey_call code known wants i depths calls site moves d target c m is some same
         let e : Some target ≡ Some to = sym some ∙ called_here code m.point.procedure m.point.at m.point.frame m.found moves to next m.moving call in
         let n : target ≡ to = cc in
         subst (IsCalled code wants m.point (calls ++ c ∷ [])) n (record { there = subst (Contains (calls ++ c ∷ [])) same (Contains-push calls c); words = words })
+
+-- what is noted of a point, with its call or without
+pub survey_noted : (code : Code) (known : Known) (wants : List ℕ) (i : ℕ) (depths : List Depth) (calls : List CallSite) (d : Depth) (call : Option CallSite) →
+    IsSeen code known wants i d call → IsSurvey code known wants i depths calls → IsSurvey code known wants (i + 1) (depths ++ d ∷ []) (noted calls call)
+survey_noted code known wants i depths calls d call seen s = by (called seen.moves) refl call seen.call_is
+  where
+    by : (target : Option ℕ) → called seen.moves ≡ target → (c : Option CallSite) → IsCallOf code wants seen.move.point target c →
+        IsSurvey code known wants (i + 1) (depths ++ d ∷ []) (noted calls c)
+    by None is None of = survey_no_call code known wants i depths calls seen.site seen.moves d seen.move seen.depth_is is s
+    by None is (Some c) of = absurd of
+    by (Some target) is None of = absurd of
+    by (Some target) is (Some c) of = survey_call code known wants i depths calls seen.site seen.moves d target c seen.move seen.depth_is is of.0 of.1 s
 
 -- a caller without the words that its callee wants: one of the callee's walks has taken them
 pub short_here : FrameLaws → (code : Code) (known : Known) (wants : List ℕ) (i : ℕ) (site : Site) (moves : Moves) (target : ℕ) (f : StackFrame) (refusal : Refusal) →

@@ -15,7 +15,7 @@ use Rattle.frames80.specs.declared.moves.Moves.{Moves}
 use Rattle.frames80.specs.StackFrame.{StackFrame, taken_after_pop}
 use Rattle.frames80.specs.Effects.{effect_of}
 use Rattle.frames80.specs.Moves.{moves_of, changed}
-use Rattle.flow80.specs.declared.procedure.Procedure.{Procedure}
+use Rattle.bounds80.specs.declared.procedure.Procedure.{Procedure}
 use Rattle.flow80.specs.declared.code.LookFault.{LookFault}
 use Rattle.flow80.specs.declared.code.LookFault.TheVariants.{Outside, Unused, EnablesInterrupts, DirectStore}
 use Rattle.flow80.specs.declared.refusal.Refusal.{Refusal}

@@ -1,6 +1,6 @@
 -- What is known of a program that is accepted. (This project's own.)
 use Rattle.std.specs.Prelude.{◌≢◌, ◌≤◌, ℕ, List}
-use Rattle.flow80.specs.declared.procedure.Procedure.TheVariants.{Main}
+use Rattle.bounds80.specs.declared.procedure.Procedure.TheVariants.{Main}
 use Rattle.flow80.specs.declared.refusal.Refusal.{Refusal}
 use Rattle.flow80.specs.declared.refusal.Refusal.TheVariants.{Memory}
 use Rattle.flow80.specs.declared.report.ProcRow.{ProcRow}

@@ -7,8 +7,8 @@ use Rattle.frames80.specs.StackFrame.{StackFrame}
 use Rattle.frames80.specs.Effects.{effect_of}
 use Rattle.frames80.specs.Moves.{moves_of}
 use Rattle.frames80.specs.Calls.{room, agree}
-use Rattle.flow80.specs.declared.procedure.Procedure.{Procedure}
-use Rattle.flow80.specs.declared.procedure.Procedure.TheVariants.{Main, Entry}
+use Rattle.bounds80.specs.declared.procedure.Procedure.{Procedure}
+use Rattle.bounds80.specs.declared.procedure.Procedure.TheVariants.{Main, Entry}
 use Rattle.flow80.specs.declared.refusal.Refusal.{Refusal}
 use Rattle.flow80.specs.declared.refusal.Refusal.TheVariants.{FetchOutside, UnusedOpcode, EnablesInterrupts, Sphl, Pchl, StackByByte, SetsStack, DirectStore, PopsBelow, ReturnNotOwn, ReturnFromMain, HeightsDiffer, UnevenArguments, ShortArguments, Recursion, StackTooSmall, TooManyPoints, Memory}
 use Rattle.flow80.specs.declared.code.LookFault.{LookFault}

@@ -2,11 +2,14 @@
 use Rattle.std.specs.Prelude.{◌≡◌, ℕ, ℤ, List, Any, All}
 use Rattle.frames80.specs.StackFrame.{StackFrame}
 use Rattle.frames80.specs.Calls.{depth_of}
-use Rattle.flow80.specs.declared.procedure.Procedure.{Procedure}
-use Rattle.flow80.specs.declared.graph.Depth.{Depth}
-use Rattle.flow80.specs.declared.graph.CallSite.{CallSite}
+use Rattle.bounds80.specs.declared.procedure.Procedure.{Procedure}
+use Rattle.bounds80.specs.declared.graph.Depth.{Depth}
+use Rattle.bounds80.specs.declared.graph.CallSite.{CallSite}
 use Rattle.flow80.specs.Code.{Code}
 use Rattle.flow80.specs.Walks.{Walk, Calls, role_of}
+use Rattle.flow80.specs.Use.{IsBound}
+use Rattle.flow80.specs.Faults.{Recurs}
+use Rattle.bounds80.specs.Chains.{bytes_of}
 
 -- a walk of the procedure has this depth
 pub record HasDepth (code : Code) (p : Procedure) (depth : ℤ) : Type 0 where
@@ -30,3 +33,11 @@ pub record IsGraph (code : Code) (depths : List Depth) (calls : List CallSite) :
   pub call : All (λ (c : CallSite). HasCall code c.caller c.at c.depth c.target) calls
   pub every_call : (p : Procedure) (at : ℕ) (depth : ℤ) (target : ℕ) → HasCall code p at depth target →
       Any (λ (c : CallSite). (c.caller ≡ p) × (c.target ≡ target) × (c.depth ≡ depth)) calls
+
+-- the bytes of each procedure that has a walk are its bound
+pub record AreBounds (code : Code) (bytes : List ℕ) : Type 0 where
+  pub bound : (p : Procedure) (at : ℕ) (frame : StackFrame) → Walk code p at frame → IsBound code p (bytes_of bytes p)
+
+-- no call of the program recurs
+pub record NoneRecurs (code : Code) : Type 0 where
+  pub none : (at : ℕ) → Recurs code at → ⊥

@@ -12,7 +12,6 @@ pub mod Known
 pub mod Interned
 pub mod Pages
 pub mod PointStore
-pub mod Bounds
 pub mod FittingLaws
 pub mod Survey
 pub mod Accepted

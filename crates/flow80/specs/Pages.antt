@@ -1,8 +1,8 @@
 -- The numbers that are kept of addresses of procedures: for each procedure a table of 256 pages, for each page the numbers of
 -- 256 addresses. (This project's own.)
 use Rattle.std.specs.Prelude.{◌≡◌, ◌≤◌, ℕ, zero, suc, ◌+◌, ◌*◌, ◌/◌, ◌%◌, Bool, ◌&&◌, nat_eq, nat_lt, false, if◌then◌else◌, List, length, slice_index_or, Option, Some, None}
-use Rattle.flow80.specs.declared.procedure.Procedure.{Procedure}
-use Rattle.flow80.specs.declared.procedure.Procedure.TheVariants.{Main, Entry}
+use Rattle.bounds80.specs.declared.procedure.Procedure.{Procedure}
+use Rattle.bounds80.specs.declared.procedure.Procedure.TheVariants.{Main, Entry}
 
 -- the table of each procedure, the pages of each table and the numbers of each page; 0 stands for none, and n + 1 for n
 pub record Numbers : Type 0 where

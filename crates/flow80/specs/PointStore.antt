@@ -1,7 +1,7 @@
 -- How the points are stored: each with the number of its frame, and a number kept of the address of each. (This project's own.)
 use Rattle.std.specs.Prelude.{◌≡◌, ◌<◌, ℕ, List, map, Some, length, slice_get, slice_index_or}
 use Rattle.frames80.specs.StackFrame.{StackFrame, entry_frame}
-use Rattle.flow80.specs.declared.procedure.Procedure.{Procedure}
+use Rattle.bounds80.specs.declared.procedure.Procedure.{Procedure}
 use Rattle.flow80.specs.declared.points.StoredPoint.{StoredPoint}
 use Rattle.flow80.specs.Points.{Point}
 use Rattle.flow80.specs.Pages.{Numbers, number_at}

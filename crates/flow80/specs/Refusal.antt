@@ -1,5 +1,5 @@
--- The numbers of the refusals, and the refusals for the faults of looks and of frames at an address. (They are this project's own.)
-use Rattle.std.specs.Prelude.{ℕ}
+-- The numbers and names of the refusals, the addresses that they name, and the refusals for the faults of looks and of frames at an address. (They are this project's own.)
+use Rattle.std.specs.Prelude.{ℕ, List, Option, Some, None, codes}
 use Rattle.frames80.specs.declared.fault.FrameFault.{FrameFault}
 use Rattle.frames80.specs.declared.fault.FrameFault.TheVariants.{Sphl as FrameSphl, Pchl as FramePchl, StackByByte as FrameStackByByte, SetsStack as FrameSetsStack, PopsBelow as FramePopsBelow, ReturnNotOwn as FrameReturnNotOwn, ReturnFromMain as FrameReturnFromMain, Memory as FrameMemory}
 use Rattle.flow80.specs.declared.code.LookFault.{LookFault}
@@ -26,6 +26,48 @@ refusal_code (Recursion at) = 15
 refusal_code (StackTooSmall need has) = 16
 refusal_code TooManyPoints = 17
 refusal_code Memory = 18
+
+-- the name that is printed
+abbrev pub refusal_name : Refusal → List ℕ
+refusal_name (FetchOutside at) = codes "FetchOutside"
+refusal_name (UnusedOpcode at) = codes "UnusedOpcode"
+refusal_name (EnablesInterrupts at) = codes "EnablesInterrupts"
+refusal_name (Sphl at) = codes "Sphl"
+refusal_name (Pchl at) = codes "Pchl"
+refusal_name (StackByByte at) = codes "StackByByte"
+refusal_name (SetsStack at) = codes "SetsStack"
+refusal_name (DirectStore at) = codes "DirectStore"
+refusal_name (PopsBelow at) = codes "PopsBelow"
+refusal_name (ReturnNotOwn at) = codes "ReturnNotOwn"
+refusal_name (ReturnFromMain at) = codes "ReturnFromMain"
+refusal_name (HeightsDiffer at) = codes "HeightsDiffer"
+refusal_name (UnevenArguments at) = codes "UnevenArguments"
+refusal_name (ShortArguments at) = codes "ShortArguments"
+refusal_name (Recursion at) = codes "Recursion"
+refusal_name (StackTooSmall need has) = codes "StackTooSmall"
+refusal_name TooManyPoints = codes "TooManyPoints"
+refusal_name Memory = codes "Memory"
+
+-- the address that is named, where there is one
+abbrev pub refusal_address : Refusal → Option ℕ
+refusal_address (FetchOutside at) = Some at
+refusal_address (UnusedOpcode at) = Some at
+refusal_address (EnablesInterrupts at) = Some at
+refusal_address (Sphl at) = Some at
+refusal_address (Pchl at) = Some at
+refusal_address (StackByByte at) = Some at
+refusal_address (SetsStack at) = Some at
+refusal_address (DirectStore at) = Some at
+refusal_address (PopsBelow at) = Some at
+refusal_address (ReturnNotOwn at) = Some at
+refusal_address (ReturnFromMain at) = Some at
+refusal_address (HeightsDiffer at) = Some at
+refusal_address (UnevenArguments at) = Some at
+refusal_address (ShortArguments at) = Some at
+refusal_address (Recursion at) = Some at
+refusal_address (StackTooSmall need has) = None
+refusal_address TooManyPoints = None
+refusal_address Memory = None
 
 abbrev pub refusal_of : FrameFault → ℕ → Refusal
 refusal_of FrameSphl at = Sphl at

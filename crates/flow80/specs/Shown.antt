@@ -8,7 +8,7 @@ use Rattle.frames80.specs.StackFrame.{StackFrame}
 use Rattle.frames80.specs.Effects.{effect_of}
 use Rattle.frames80.specs.Moves.{moves_of}
 use Rattle.frames80.specs.Places.{Place, word_at, Covers, ChangesByPlaces, ReturnsByPlaces, MeetsByPlaces, CountsAlone, CoveredGoesAlong, ReturnRefused}
-use Rattle.flow80.specs.declared.procedure.Procedure.{Procedure}
+use Rattle.bounds80.specs.declared.procedure.Procedure.{Procedure}
 use Rattle.flow80.specs.Code.{Code}
 use Rattle.flow80.specs.Walks.{Walk, role_of}
 

@@ -1,18 +1,19 @@
 -- What a filled table says of each procedure and each call. (This project's own.)
-use Rattle.std.specs.Prelude.{◌≡◌, ◌⊎◌, ◌≤◌, ◌<◌, ◌+◌, ℕ, Bool, true, false, List, AllPairs, Contains, length, Option, Some, None, slice_get}
+use Rattle.std.specs.Prelude.{◌≡◌, ◌⊎◌, ◌≤◌, ◌<◌, ◌+◌, ◌++◌, ◌∷◌, [], ℕ, Bool, true, false, List, AllPairs, Contains, length, Option, Some, None, slice_get}
 use Rattle.decode80.specs.declared.fetching.Fetched.{Fetched}
 use Rattle.frames80.specs.declared.moves.Moves.{Moves}
 use Rattle.frames80.specs.Calls.{room, depth_of}
-use Rattle.flow80.specs.declared.procedure.Procedure.{Procedure}
-use Rattle.flow80.specs.declared.procedure.Procedure.TheVariants.{Entry}
-use Rattle.flow80.specs.declared.graph.Depth.{Depth}
-use Rattle.flow80.specs.declared.graph.CallSite.{CallSite}
+use Rattle.bounds80.specs.declared.procedure.Procedure.{Procedure}
+use Rattle.bounds80.specs.declared.procedure.Procedure.TheVariants.{Entry}
+use Rattle.bounds80.specs.declared.graph.Depth.{Depth}
+use Rattle.bounds80.specs.declared.graph.CallSite.{CallSite}
 use Rattle.flow80.specs.declared.report.ProcRow.{ProcRow}
 use Rattle.flow80.specs.declared.site.Site.{Site}
 use Rattle.flow80.specs.Code.{Code}
-use Rattle.flow80.specs.Walks.{Moving, Calls, role_of}
+use Rattle.flow80.specs.Walks.{Moving, Calls, called, role_of}
 use Rattle.flow80.specs.Points.{Point, AreAddresses}
-use Rattle.flow80.specs.Bounds.{bytes_of}
+use Rattle.flow80.specs.Graph.{AreBounds, NoneRecurs}
+use Rattle.bounds80.specs.Chains.{bytes_of}
 use Rattle.flow80.specs.Known.{Known, AreWithin, exit_of}
 
 -- the instruction of the point at i moves so, and stands there
@@ -81,6 +82,36 @@ pub record IsSurvey (code : Code) (known : Known) (wants : List ℕ) (count : �
   pub words : (i : ℕ) (point : Point) (target next : ℕ) → i < count → slice_get known.points i ≡ Some point →
       Calls code point.procedure point.at point.frame target next → bytes_of wants (Entry target) ≤ room (role_of code point.procedure) point.frame.words
   pub few : length calls ≤ count
+  pub addresses : AreAddresses known.points
+
+-- the call of a point, where its move calls: its caller has the words that its callee wants
+abbrev pub IsCallOf : Code → (wants : List ℕ) → Point → (target : Option ℕ) → Option CallSite → Type 0
+IsCallOf code wants point None None = Unit {0}
+IsCallOf code wants point None (Some call) = ⊥
+IsCallOf code wants point (Some target) None = ⊥
+IsCallOf code wants point (Some target) (Some call) =
+    (call ≡ call_at code point target) × (bytes_of wants (Entry target) ≤ room (role_of code point.procedure) point.frame.words)
+
+-- what is noted of a point: its depth, and its call
+pub record IsSeen (code : Code) (known : Known) (wants : List ℕ) (i : ℕ) (depth : Depth) (call : Option CallSite) : Type 0 where
+  pub site : Site
+  pub moves : Moves
+  pub move : IsMoveAt code known i site moves
+  pub depth_is : depth ≡ depth_at code move.point
+  pub call_is : IsCallOf code wants move.point (called moves) call
+
+-- a list with a call more, where there is one
+abbrev pub noted : List CallSite → Option CallSite → List CallSite
+noted calls None = calls
+noted calls (Some call) = calls ++ call ∷ []
+
+-- what is known of the stack that the program uses, from a table and the words that are wanted: each procedure's bound, that
+-- no call recurs, and that each caller has the words that its callee wants
+pub record IsBounded (code : Code) (known : Known) (wants bytes : List ℕ) : Type 0 where
+  pub bounds : AreBounds code bytes
+  pub ends : NoneRecurs code
+  pub words : (i : ℕ) (point : Point) (target next : ℕ) → slice_get known.points i ≡ Some point →
+      Calls code point.procedure point.at point.frame target next → bytes_of wants (Entry target) ≤ room (role_of code point.procedure) point.frame.words
   pub addresses : AreAddresses known.points
 
 -- the row of a procedure

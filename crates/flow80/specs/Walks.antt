@@ -10,8 +10,8 @@ use Rattle.frames80.specs.StackFrame.{StackFrame, entry_frame, main_frame}
 use Rattle.frames80.specs.Effects.{effect_of}
 use Rattle.frames80.specs.Moves.{moves_of}
 use Rattle.frames80.specs.Calls.{room, returned}
-use Rattle.flow80.specs.declared.procedure.Procedure.{Procedure}
-use Rattle.flow80.specs.declared.procedure.Procedure.TheVariants.{Main, Entry}
+use Rattle.bounds80.specs.declared.procedure.Procedure.{Procedure}
+use Rattle.bounds80.specs.declared.procedure.Procedure.TheVariants.{Main, Entry}
 use Rattle.flow80.specs.Code.{Code}
 
 abbrev pub role_of : Code → Procedure → Role

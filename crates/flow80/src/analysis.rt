@@ -3,17 +3,18 @@
 ghost use Rattle.std.specs.Prelude.{IfOk, IfErr};
 ghost use Rattle.flow80.specs.Accepted.{IsAccepted};
 ghost use Rattle.flow80.specs.Faults.{Holds};
+ghost use Rattle.flow80.specs.Known.{IsFilled};
 
-use crate::bounds::find_bounds;
 use crate::code::Code;
 use crate::fill::fill;
 use crate::laws::frame_laws;
-use crate::procedure::Procedure;
 use crate::refusal::Refusal;
 use crate::report::Report;
 use crate::rows::list_rows;
-use crate::survey::find_calls;
+use crate::stack::bound_stack;
+use crate::table::Table;
 use crate::wants::find_wants;
+use bounds80::Procedure;
 use std::alloc::Global;
 
 /// Goes over every walk of every procedure of a program, and reports on its procedures and its stack. A program of which a
@@ -25,18 +26,26 @@ pub fn analyze<C: Code>(alloc: Global, program: &C) -> Result<Report, Refusal>
     ensures accepted { IfOk result (λ r. IsAccepted (C.code program.now) r.procedures.items r.stack_bytes) }
     ensures refused { IfErr result (Holds (C.code program.now)) }
 {
-    frame_laws();
     let table = fill(alloc, program)?;
-    let wants = find_wants(alloc, &table)?;
-    let graph = find_calls(alloc, program, &table, &wants)?;
-    let bounds = find_bounds(alloc, &graph.depths, &graph.calls)?;
+    report_on(alloc, program, &table)
+}
+
+/// Reports on a program whose table is filled.
+fn report_on<C: Code>(alloc: Global, program: &C, table: &Table) -> Result<Report, Refusal>
+    requires { IsFilled (C.code program.now) table.now }
+    ensures accepted { IfOk result (λ r. IsAccepted (C.code program.now) r.procedures.items r.stack_bytes) }
+    ensures refused { IfErr result (Holds (C.code program.now)) }
+{
+    frame_laws();
+    let wants = find_wants(alloc, table)?;
+    let bounds = bound_stack(alloc, program, table, &wants)?;
     let stack_bytes = bounds.get(Procedure::Main);
     let stack = program.stack();
     if stack_bytes > u64::from(stack) {
         return Err(Refusal::StackTooSmall(stack_bytes, stack));
     }
     Ok(Report {
-        procedures: list_rows(alloc, &table, &wants, &bounds)?,
+        procedures: list_rows(alloc, table, &wants, &bounds)?,
         stack_bytes,
     })
 }

@@ -11,30 +11,26 @@
 #![tactic(auto)]
 
 mod analysis;
-mod bounds;
 mod callers;
 mod code;
-mod cycles;
 mod fill;
 mod fitting;
-mod graph;
 mod interned;
 mod laws;
 mod pages;
 mod points;
-mod procedure;
 mod refusal;
 mod report;
 mod rows;
 mod site;
-mod sums;
+mod stack;
 mod survey;
 mod table;
 mod wants;
 
 pub use analysis::analyze;
+pub use bounds80::Procedure;
 pub use code::{Code, LookFault};
 pub use fitting::fitting_tables_cover_walks;
-pub use procedure::Procedure;
 pub use refusal::Refusal;
 pub use report::{ProcRow, Report};

@@ -3,7 +3,7 @@
 ghost use Rattle.std.specs.Prelude.{◌≡◌, ◌<◌, ◌≤◌, ◌+◌, ◌*◌, IfOk, OnOk, OnErr, vec_len};
 ghost use Rattle.flow80.specs.Pages.{number_at, procedure_number, decoded, code_in, HasNone, SameNumbers, Puts, IsBlank, LeadApart, LeadsTo};
 
-use crate::procedure::Procedure;
+use bounds80::Procedure;
 use std::alloc::{AllocError, Global};
 use std::marker::Model;
 

@@ -5,7 +5,7 @@ ghost use Rattle.flow80.specs.Points.{AreAddresses, AreApart, IsPointAt, IsNoPoi
 
 use crate::interned::Interned;
 use crate::pages::Pages;
-use crate::procedure::Procedure;
+use bounds80::Procedure;
 use frames80::Frame;
 use std::alloc::{AllocError, Global};
 use std::marker::Model;

@@ -1,70 +1,53 @@
 //! Why an image is refused.
 
 ghost use Rattle.std.specs.Prelude.{◌≡◌};
-ghost use Rattle.flow80.specs.Refusal.{refusal_code, refusal_of, look_refusal};
+ghost use Rattle.flow80.specs.Refusal.{refusal_code, refusal_name, refusal_address, refusal_of, look_refusal};
 
 use crate::code::LookFault;
 use frames80::FrameFault;
 use std::alloc::AllocError;
-use thiserror::Error;
+use std::error::Error;
+use std::fmt;
 
 /// Why an image is refused. A refusal holds of the image: it names the address of an instruction that a walk reaches, or for
 /// `FetchOutside` and `HeightsDiffer` the address of a point, or the numbers that it compares.
-#[derive(Clone, Copy, Debug, PartialEq, Eq, Error)]
+#[derive(Clone, Copy, PartialEq, Eq)]
 pub enum Refusal {
     /// A point is reached whose instruction has a byte outside CODE or past FFFF.
-    #[error("FetchOutside {0:04X}")]
     FetchOutside(u16),
     /// One of the twelve unused bytes is reached.
-    #[error("UnusedOpcode {0:04X}")]
     UnusedOpcode(u16),
     /// An EI is reached whose next byte isn't a HLT in CODE.
-    #[error("EnablesInterrupts {0:04X}")]
     EnablesInterrupts(u16),
     /// SPHL is reached.
-    #[error("Sphl {0:04X}")]
     Sphl(u16),
     /// PCHL is reached.
-    #[error("Pchl {0:04X}")]
     Pchl(u16),
     /// INX SP or DCX SP is reached.
-    #[error("StackByByte {0:04X}")]
     StackByByte(u16),
     /// LXI SP is reached outside the main program, or with another word than the stack's top.
-    #[error("SetsStack {0:04X}")]
     SetsStack(u16),
     /// STA or SHLD is reached with a byte outside data.
-    #[error("DirectStore {0:04X}")]
     DirectStore(u16),
     /// The main program pops with nothing on its stack.
-    #[error("PopsBelow {0:04X}")]
     PopsBelow(u16),
     /// A return is reached where the words are not the return address alone.
-    #[error("ReturnNotOwn {0:04X}")]
     ReturnNotOwn(u16),
     /// The main program returns.
-    #[error("ReturnFromMain {0:04X}")]
     ReturnFromMain(u16),
     /// Two walks come to one point with different numbers of words, or of words taken.
-    #[error("HeightsDiffer {0:04X}")]
     HeightsDiffer(u16),
     /// Two returns of one procedure take different numbers of words; the address is that of one of them.
-    #[error("UnevenArguments {0:04X}")]
     UnevenArguments(u16),
     /// A call is reached with fewer words than the callee takes on one of its walks.
-    #[error("ShortArguments {0:04X}")]
     ShortArguments(u16),
     /// A call is reached that leads back to its own procedure.
-    #[error("Recursion {0:04X}")]
     Recursion(u16),
     /// The program needs more bytes of stack (the first number) than the stack has (the second).
-    #[error("StackTooSmall {0} {1}")]
     StackTooSmall(u64, u16),
     /// More than 262,144 points are reached.
-    #[error("TooManyPoints")]
     TooManyPoints,
     /// Out of memory.
-    #[error("Memory")]
     Memory,
 }
 
@@ -92,6 +75,56 @@ impl Refusal {
             Refusal::StackTooSmall(_, _) => 16,
             Refusal::TooManyPoints => 17,
             Refusal::Memory => 18,
+        }
+    }
+
+    /// The refusal's name, as it is printed.
+    pub fn name(&self) -> &'static str
+        ensures { result.now ≡ refusal_name self.now }
+    {
+        match self {
+            Refusal::FetchOutside(_) => "FetchOutside",
+            Refusal::UnusedOpcode(_) => "UnusedOpcode",
+            Refusal::EnablesInterrupts(_) => "EnablesInterrupts",
+            Refusal::Sphl(_) => "Sphl",
+            Refusal::Pchl(_) => "Pchl",
+            Refusal::StackByByte(_) => "StackByByte",
+            Refusal::SetsStack(_) => "SetsStack",
+            Refusal::DirectStore(_) => "DirectStore",
+            Refusal::PopsBelow(_) => "PopsBelow",
+            Refusal::ReturnNotOwn(_) => "ReturnNotOwn",
+            Refusal::ReturnFromMain(_) => "ReturnFromMain",
+            Refusal::HeightsDiffer(_) => "HeightsDiffer",
+            Refusal::UnevenArguments(_) => "UnevenArguments",
+            Refusal::ShortArguments(_) => "ShortArguments",
+            Refusal::Recursion(_) => "Recursion",
+            Refusal::StackTooSmall(_, _) => "StackTooSmall",
+            Refusal::TooManyPoints => "TooManyPoints",
+            Refusal::Memory => "Memory",
+        }
+    }
+
+    /// The address that the refusal names, where it names one.
+    pub fn address(&self) -> Option<u16>
+        ensures { result ≡ refusal_address self.now }
+    {
+        match *self {
+            Refusal::FetchOutside(at)
+            | Refusal::UnusedOpcode(at)
+            | Refusal::EnablesInterrupts(at)
+            | Refusal::Sphl(at)
+            | Refusal::Pchl(at)
+            | Refusal::StackByByte(at)
+            | Refusal::SetsStack(at)
+            | Refusal::DirectStore(at)
+            | Refusal::PopsBelow(at)
+            | Refusal::ReturnNotOwn(at)
+            | Refusal::ReturnFromMain(at)
+            | Refusal::HeightsDiffer(at)
+            | Refusal::UnevenArguments(at)
+            | Refusal::ShortArguments(at)
+            | Refusal::Recursion(at) => Some(at),
+            Refusal::StackTooSmall(_, _) | Refusal::TooManyPoints | Refusal::Memory => None,
         }
     }
 
@@ -123,6 +156,28 @@ impl Refusal {
         }
     }
 }
+
+impl fmt::Display for Refusal {
+    fn fmt<W: fmt::Write>(&self, f: &mut fmt::Formatter<W>) -> fmt::Result {
+        f.write_str(self.name())?;
+        if let Some(at) = self.address() {
+            write!(f, " {at:04X}")?;
+        }
+        if let Refusal::StackTooSmall(need, has) = self {
+            write!(f, " {need} {has}")?;
+        }
+        Ok(())
+    }
+}
+
+/// A refusal is shown by its name here too.
+impl fmt::Debug for Refusal {
+    fn fmt<W: fmt::Write>(&self, f: &mut fmt::Formatter<W>) -> fmt::Result {
+        fmt::Display::fmt(self, f)
+    }
+}
+
+impl Error for Refusal {}
 
 impl From<AllocError> for Refusal {
     ghost use Rattle.flow80.specs.declared.refusal.Refusal.TheVariants.{Memory};

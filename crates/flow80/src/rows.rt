@@ -3,11 +3,9 @@
 ghost use Rattle.std.specs.Prelude.{◌≡◌, IfOk, length};
 ghost use Rattle.flow80.specs.Survey.{AreListed, row_of};
 
-use crate::bounds::Bounds;
-use crate::procedure::Procedure;
 use crate::report::ProcRow;
-use crate::sums::slot;
 use crate::table::Table;
+use bounds80::{Bounds, Procedure, slot};
 use std::alloc::{AllocError, Global};
 
 /// The rows of the procedures that are entered, by entry.
@@ -21,7 +19,7 @@ pub(crate) fn list_rows(
     bounds: &Bounds,
 ) -> Result<Vec<ProcRow>, AllocError>
     requires slots { length wants.now ≡ 65537 }
-    ensures { IfOk result (λ rows. AreListed table.now wants.now bounds.now.bytes.items 65536 rows.items) }
+    ensures { IfOk result (λ rows. AreListed table.now wants.now bounds.now 65536 rows.items) }
 {
     let mut rows = Vec::new(alloc);
     for address in 0..65_536_u32 {
@@ -36,7 +34,7 @@ pub(crate) fn list_rows(
 /// The row of a procedure.
 fn row(table: &Table, wants: &[u32], bounds: &Bounds, entry: u16) -> ProcRow
     requires slots { length wants.now ≡ 65537 }
-    ensures { result ≡ row_of table.now wants.now bounds.now.bytes.items entry }
+    ensures { result ≡ row_of table.now wants.now bounds.now entry }
 {
     let procedure = Procedure::Entry(entry);
     let exit = table.exit_of(entry);

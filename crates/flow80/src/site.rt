@@ -1,6 +1,6 @@
 //! Where an instruction stands.
 
-use crate::procedure::Procedure;
+use bounds80::Procedure;
 use frames80::Role;
 
 /// Where an instruction stands: in which procedure and in what role, at which address, what comes after it, and the number of

@@ -1,7 +1,7 @@
 //! The table of frames while it fills.
 
 ghost use Rattle.std.specs.Prelude.{◌≡◌, ◌+◌, ◌<◌, ◌≤◌, ◌↔◌, false, true, Some, None, Ok, Err, IfOk, IfErr, OnOk, IfSome, length, replicate, slice_get};
-ghost use Rattle.flow80.specs.declared.procedure.Procedure.TheVariants.{Entry};
+ghost use Rattle.bounds80.specs.declared.procedure.Procedure.TheVariants.{Entry};
 ghost use Rattle.flow80.specs.Points.{AreAddresses, IsPointAt, IsNoPoint};
 ghost use Rattle.flow80.specs.Known.{IsSmall, IsWithin, Stands, Flows, Exits, CallsOut, Steps, Visits, Looks, AreClosed, AllClosed, AreWithin, IsShort, exit_of, nothing_known};
 ghost use Rattle.frames80.specs.declared.moves.Moves.TheVariants.{Either, MaybeCall, MaybeReturn};
@@ -14,9 +14,9 @@ use crate::callers::Callers;
 use crate::code::Code;
 use crate::laws::frame_laws;
 use crate::points::Points;
-use crate::procedure::Procedure;
 use crate::refusal::Refusal;
 use crate::site::Site;
+use bounds80::Procedure;
 use frames80::{CallFault, Frame, HeightsDiffer, Moves, Role, after, meet, next};
 use std::alloc::{AllocError, Global};
 use std::marker::Model;

@@ -3,8 +3,8 @@
 ghost use Rattle.std.specs.Prelude.{◌≡◌, IfOk, length};
 ghost use Rattle.flow80.specs.Survey.{AreWants};
 
-use crate::sums::{SLOTS, slot, table as slots};
 use crate::table::Table;
+use bounds80::{SLOTS, slot, table as slots};
 use std::alloc::{AllocError, Global};
 
 /// The most words that each procedure takes from beneath its entry, by slot; 0 where it isn't reached.

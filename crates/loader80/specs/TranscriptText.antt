@@ -6,7 +6,8 @@ use Rattle.machine80.specs.declared.end.End.{End}
 use Rattle.machine80.specs.declared.end.End.TheVariants.{Halt, InputEnd, OutputRefused, StoreOutside, Fetch, Stack, Direct}
 use Rattle.decode80.specs.Text.{byte_text, word_text}
 use Rattle.flow80.specs.declared.refusal.Refusal.{Refusal}
-use Rattle.flow80.specs.declared.refusal.Refusal.TheVariants.{FetchOutside, UnusedOpcode, EnablesInterrupts, Sphl, Pchl, StackByByte, SetsStack, DirectStore, PopsBelow, ReturnNotOwn, ReturnFromMain, HeightsDiffer, UnevenArguments, ShortArguments, Recursion, StackTooSmall, TooManyPoints, Memory}
+use Rattle.flow80.specs.declared.refusal.Refusal.TheVariants.{StackTooSmall}
+use Rattle.flow80.specs.Refusal.{refusal_code, refusal_name, refusal_address}
 
 -- the bytes of stack that the program is known to need at most
 abbrev pub stack_line : ℕ → List ℕ
@@ -35,26 +36,12 @@ end_line (Some (Direct address)) at steps = []
 abbrev pub transcript : ℕ → List (ℕ × ℕ) → Option End → ℕ → ℕ → List ℕ
 transcript stack_bytes outputs «end» at steps = stack_line stack_bytes ++ flat_map output_line outputs ++ end_line «end» at steps
 
--- the line for an image that is refused: the refusal's number and name, and the address, or the numbers that it compares
-abbrev pub refused_at : List ℕ → ℕ → List ℕ
-refused_at name at = codes "REFUSED " ++ (name ++ (codes " AT " ++ (word_text at ++ 10 ∷ [])))
+-- what a refusal names after its name: the address, or the numbers that it compares
+abbrev pub named_text : Refusal → Option ℕ → List ℕ
+named_text refusal (Some at) = codes " AT " ++ (word_text at ++ 10 ∷ [])
+named_text (StackTooSmall need has) None = 32 ∷ (decimal need ++ (32 ∷ (decimal has ++ 10 ∷ [])))
+named_text refusal None = 10 ∷ []
 
+-- the line for an image that is refused: the refusal's number and name, and what it names
 abbrev pub refusal_line : Refusal → List ℕ
-refusal_line (FetchOutside at) = refused_at (codes "1 FetchOutside") at
-refusal_line (UnusedOpcode at) = refused_at (codes "2 UnusedOpcode") at
-refusal_line (EnablesInterrupts at) = refused_at (codes "3 EnablesInterrupts") at
-refusal_line (Sphl at) = refused_at (codes "4 Sphl") at
-refusal_line (Pchl at) = refused_at (codes "5 Pchl") at
-refusal_line (StackByByte at) = refused_at (codes "6 StackByByte") at
-refusal_line (SetsStack at) = refused_at (codes "7 SetsStack") at
-refusal_line (DirectStore at) = refused_at (codes "8 DirectStore") at
-refusal_line (PopsBelow at) = refused_at (codes "9 PopsBelow") at
-refusal_line (ReturnNotOwn at) = refused_at (codes "10 ReturnNotOwn") at
-refusal_line (ReturnFromMain at) = refused_at (codes "11 ReturnFromMain") at
-refusal_line (HeightsDiffer at) = refused_at (codes "12 HeightsDiffer") at
-refusal_line (UnevenArguments at) = refused_at (codes "13 UnevenArguments") at
-refusal_line (ShortArguments at) = refused_at (codes "14 ShortArguments") at
-refusal_line (Recursion at) = refused_at (codes "15 Recursion") at
-refusal_line (StackTooSmall need has) = codes "REFUSED 16 StackTooSmall " ++ (decimal need ++ (32 ∷ (decimal has ++ 10 ∷ [])))
-refusal_line TooManyPoints = codes "REFUSED 17 TooManyPoints" ++ 10 ∷ []
-refusal_line Memory = codes "REFUSED 18 Memory" ++ 10 ∷ []
+refusal_line refusal = codes "REFUSED " ++ (decimal (refusal_code refusal) ++ (32 ∷ (refusal_name refusal ++ named_text refusal (refusal_address refusal))))

@@ -6,7 +6,6 @@ use std::io::{Error, ErrorKind, Read, Write};
 
 mod inputs;
 mod sessions;
-mod streams;
 mod vouching;
 
 /// An image at 3000, in digits: a byte is taken from port 02 and given to port 01, and then the program halts.

@@ -1,6 +1,6 @@
 //! What is printed of a run, and of an image that is refused.
 ghost use Rattle.std.specs.Prelude.{◌≡◌, ◌++◌, IfOk, OnOk, string_bytes};
-ghost use Rattle.loader80.specs.TranscriptText.{end_line, output_line, refusal_line, refused_at, transcript};
+ghost use Rattle.loader80.specs.TranscriptText.{end_line, output_line, refusal_line, transcript};
 
 use crate::digits::{ByteDigits, WordDigits};
 use machine80::End;
@@ -62,33 +62,12 @@ fn append_end(text: &mut String, end: Option<End>, at: u16, steps: u64) -> Resul
 pub fn refusal_text(alloc: Global, refusal: Refusal) -> Result<String, AllocError>
     ensures { IfOk result (λ text. string_bytes text ≡ refusal_line refusal) }
 {
-    match refusal {
-        Refusal::FetchOutside(at) => refused_text(alloc, "1 FetchOutside", at),
-        Refusal::UnusedOpcode(at) => refused_text(alloc, "2 UnusedOpcode", at),
-        Refusal::EnablesInterrupts(at) => refused_text(alloc, "3 EnablesInterrupts", at),
-        Refusal::Sphl(at) => refused_text(alloc, "4 Sphl", at),
-        Refusal::Pchl(at) => refused_text(alloc, "5 Pchl", at),
-        Refusal::StackByByte(at) => refused_text(alloc, "6 StackByByte", at),
-        Refusal::SetsStack(at) => refused_text(alloc, "7 SetsStack", at),
-        Refusal::DirectStore(at) => refused_text(alloc, "8 DirectStore", at),
-        Refusal::PopsBelow(at) => refused_text(alloc, "9 PopsBelow", at),
-        Refusal::ReturnNotOwn(at) => refused_text(alloc, "10 ReturnNotOwn", at),
-        Refusal::ReturnFromMain(at) => refused_text(alloc, "11 ReturnFromMain", at),
-        Refusal::HeightsDiffer(at) => refused_text(alloc, "12 HeightsDiffer", at),
-        Refusal::UnevenArguments(at) => refused_text(alloc, "13 UnevenArguments", at),
-        Refusal::ShortArguments(at) => refused_text(alloc, "14 ShortArguments", at),
-        Refusal::Recursion(at) => refused_text(alloc, "15 Recursion", at),
-        Refusal::StackTooSmall(need, has) => {
-            format!(in alloc; "REFUSED 16 StackTooSmall {need} {has}\n")
+    let (code, name) = (refusal.code(), refusal.name());
+    match (refusal.address(), refusal) {
+        (Some(at), _) => format!(in alloc; "REFUSED {code} {name} AT {}\n", WordDigits(at)),
+        (None, Refusal::StackTooSmall(need, has)) => {
+            format!(in alloc; "REFUSED {code} {name} {need} {has}\n")
         }
-        Refusal::TooManyPoints => String::from_str(alloc, "REFUSED 17 TooManyPoints\n"),
-        Refusal::Memory => String::from_str(alloc, "REFUSED 18 Memory\n"),
+        (None, _) => format!(in alloc; "REFUSED {code} {name}\n"),
     }
-}
-
-// The line of a refusal that names an address.
-fn refused_text(alloc: Global, name: &str, at: u16) -> Result<String, AllocError>
-    ensures { IfOk result (λ text. string_bytes text ≡ refused_at name.now at) }
-{
-    format!(in alloc; "REFUSED {name} AT {}\n", WordDigits(at))
 }

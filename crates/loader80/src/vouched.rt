@@ -11,7 +11,7 @@ use place80::Image;
 use soundness80::fitted_images_never_go_wrong;
 use std::alloc::Global;
 use std::marker::Model;
-use verify80::{ProcRow, Refusal, verify};
+use verify80::{ProcRow, Refusal, Report, verify};
 
 /// An image that was vouched for: the verifier accepts it, so no run of it goes wrong.
 ///
@@ -36,7 +36,23 @@ impl Model for Vouched {
 impl Vouched {
     ghost use Rattle.std.specs.Prelude.{◌≡◌, ◌≤◌};
     ghost use Rattle.machine80.specs.World.{NeverGoesWrong};
+    ghost use Rattle.flow80.specs.Accepted.{IsAccepted};
+    ghost use Rattle.verify80.specs.Looking.{code_of};
     ghost use Rattle.loader80.specs.Vouched.{IsVouched};
+
+    /// An image that is accepted with this report.
+    fn new(image: Image, report: Report) -> Vouched
+        requires { IsAccepted (code_of image) report.procedures.items report.stack_bytes }
+        ensures image { result.image ≡ image }
+        ensures vouched { IsVouched image result.rows result.stack_bytes }
+    {
+        runs_as_verified(&image);
+        Vouched {
+            image,
+            stack_bytes: report.stack_bytes,
+            rows: report.procedures,
+        }
+    }
 
     /// The image, as it was handed in.
     pub fn image(&self) -> &Image
@@ -82,14 +98,7 @@ pub fn vouch(alloc: Global, image: Image) -> Result<Vouched, (Image, Refusal)>
     ensures refused { IfErr result (λ refused. Holds (code_of image) refused.1) }
 {
     match verify(alloc, &image) {
-        Ok(report) => {
-            runs_as_verified(&image);
-            Ok(Vouched {
-                image,
-                stack_bytes: report.stack_bytes,
-                rows: report.procedures,
-            })
-        }
+        Ok(report) => Ok(Vouched::new(image, report)),
         Err(refusal) => Err((image, refusal)),
     }
 }

@@ -20,8 +20,8 @@ use Rattle.machine80.specs.Cpu.{word}
 use Rattle.machine80.specs.Effects.{stored, word_in, pushed_bytes, popped_bytes, push_bytes}
 use Rattle.machine80.specs.Step.{Machine}
 use Rattle.machine80.specs.World.{World}
-use Rattle.flow80.specs.declared.procedure.Procedure.{Procedure}
-use Rattle.flow80.specs.declared.procedure.Procedure.TheVariants.{Main, Entry}
+use Rattle.bounds80.specs.declared.procedure.Procedure.{Procedure}
+use Rattle.bounds80.specs.declared.procedure.Procedure.TheVariants.{Main, Entry}
 use Rattle.flow80.specs.Walks.{called, role_of}
 use Rattle.flow80.specs.Fitting.{Table, Has, CallFits, Fits}
 use Rattle.verify80.specs.Looking.{code_of}

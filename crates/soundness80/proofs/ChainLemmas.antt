@@ -11,8 +11,8 @@ use Rattle.frames80.specs.Places.{InPair, InWord, word_from_top}
 use Rattle.place80.specs.Image.{Located, memory_of}
 use Rattle.machine80.specs.Step.{Machine}
 use Rattle.machine80.specs.World.{World}
-use Rattle.flow80.specs.declared.procedure.Procedure.{Procedure}
-use Rattle.flow80.specs.declared.procedure.Procedure.TheVariants.{Main, Entry}
+use Rattle.bounds80.specs.declared.procedure.Procedure.{Procedure}
+use Rattle.bounds80.specs.declared.procedure.Procedure.TheVariants.{Main, Entry}
 use Rattle.flow80.specs.Code.{Code}
 use Rattle.flow80.specs.Walks.{role_of}
 use Rattle.flow80.specs.Fitting.{Table, Has}

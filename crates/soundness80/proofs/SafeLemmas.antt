@@ -35,8 +35,8 @@ use Rattle.machine80.specs.Ports.{next_input, without_next}
 use Rattle.machine80.specs.Effects.{stack_bytes, stored, changed, target, word_in, pushed_bytes, popped_bytes, push_bytes}
 use Rattle.machine80.specs.Step.{Machine, Turn, Next, Stop, guard, execute, proceeded, with_input}
 use Rattle.machine80.specs.World.{World, places_after, returns, IsNewest}
-use Rattle.flow80.specs.declared.procedure.Procedure.{Procedure}
-use Rattle.flow80.specs.declared.procedure.Procedure.TheVariants.{Main, Entry}
+use Rattle.bounds80.specs.declared.procedure.Procedure.{Procedure}
+use Rattle.bounds80.specs.declared.procedure.Procedure.TheVariants.{Main, Entry}
 use Rattle.flow80.specs.Walks.{LeadsTo, called, returning, role_of}
 use Rattle.flow80.specs.Fitting.{Table, Has, CallFits, Fits}
 use Rattle.verify80.specs.Looking.{code_of}

@@ -1,6 +1,6 @@
-//! Images that are vouched for and run, and images that are handed back.
+//! An image that is vouched for, and run.
 
-use crate::{Refusal, Vouched, run, vouch};
+use crate::{Vouched, run, vouch};
 use machine80::{Cpu, End, FlatBus, Inputs, ListPorts};
 use place80::{Image, read_image, read_regions};
 use std::alloc::Global;
@@ -11,15 +11,6 @@ use std::test::Fail;
 static HALTS: [u8; 29] = [
     0x02, 0x05, 0x00, 0x01, 0x41, 0x00, 0x00, 0xB7,
     0x06, 0x06, 0x00, 0x00, 0x00, 0x30, 0x3C, 0x76, 0x12,
-    0x04, 0x05, 0x00, 0x01, 0x00, 0x00, 0x30, 0xC6,
-    0x0E, 0x01, 0x00, 0xF1,
-];
-
-/// INR A, an unused byte at 3000.
-#[rattlefmt::skip]
-static UNUSED: [u8; 29] = [
-    0x02, 0x05, 0x00, 0x01, 0x41, 0x00, 0x00, 0xB7,
-    0x06, 0x06, 0x00, 0x00, 0x00, 0x30, 0x3C, 0x08, 0x80,
     0x04, 0x05, 0x00, 0x01, 0x00, 0x00, 0x30, 0xC6,
     0x0E, 0x01, 0x00, 0xF1,
 ];
@@ -58,14 +49,5 @@ fn a_vouched_image_runs(rt: HostRuntime) -> Result<(), Fail> {
     assert!(rt; vouched.stack_bytes() == 0 && vouched.rows().is_empty());
     let (end, steps, cpu) = ended(rt.alloc(), &vouched)?;
     assert!(rt; end == Some(End::Halt) && steps == 2 && cpu.pc() == 0x3001);
-    Ok(())
-}
-
-#[test]
-fn a_refused_image_is_handed_back(rt: HostRuntime) -> Result<(), Fail> {
-    let Err((image, refusal)) = vouch(rt.alloc(), image(rt.alloc(), &UNUSED)?) else {
-        return Err(Fail::new("it isn't refused"));
-    };
-    assert!(rt; refusal == Refusal::UnusedOpcode(0x3001) && image.chunks.len() == 1);
     Ok(())
 }

@@ -6,7 +6,7 @@ pub loop-address-preserved : goal.loop-address-preserved
 loop-address-preserved c =
     let known = c.args.table.now in
     let wants = c.args.wants.now in
-    let bytes = c.args.bounds.now.bytes.items in
+    let bytes = c.args.bounds.now in
     let address = c.loop-address.address in
     elim c.if-is_entered.branch [
       | then-is_entered+in_ok-push w ↦

@@ -1,7 +1,7 @@
 use Rattle.std.proofs.Common.{◌≡◌, ◌<◌, ◌∙◌, ap, sym, length, arith}
 use Rattle.std.proofs.lemmas.List.{get_or_read, length-set}
 use Rattle.frames80.specs.StackFrame.{StackFrame}
-use Rattle.flow80.specs.Bounds.{slot_of}
+use Rattle.bounds80.specs.Chains.{slot_of}
 use Rattle.flow80.proofs.SurveyLemmas.{wants_kept, wants_raised}
 use Rattle.flow80.proofs.VisitLemmas.{some_at}
 use Rattle.flow80.proofs.wants.find_wants.Goals as goal

@@ -1,7 +1,7 @@
 use Rattle.std.proofs.Common.{◌≡◌, ◌∙◌, sym, subst, Ok, Err, Some, None}
 use Rattle.std.proofs.lemmas.Result.{err_from_is_err_and}
 use Rattle.frames80.specs.StackFrame.{StackFrame, entry_frame}
-use Rattle.flow80.specs.declared.procedure.Procedure.TheVariants.{Entry}
+use Rattle.bounds80.specs.declared.procedure.Procedure.TheVariants.{Entry}
 use Rattle.frames80.specs.Calls.{returned}
 use Rattle.flow80.specs.Known.{Known, Flows, CallsOut, exit_of}
 use Rattle.flow80.proofs.StepLemmas.{calls_refused, calls_waiting, calls_back, calls_back_refused, calls_not_back}

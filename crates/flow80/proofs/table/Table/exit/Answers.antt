@@ -1,8 +1,8 @@
 use Rattle.std.proofs.Common.{◌≡◌, ◌≢◌, ◌<◌, ◌∙◌, ap, arith, sym, subst, length, Ok, Err, Some, None, Option, ℕ, true, false, List, get_or}
 use Rattle.std.specs.Prelude.{slice_get, slice_set}
 use Rattle.std.proofs.lemmas.Option.{slice_get_read}
-use Rattle.flow80.specs.declared.procedure.Procedure.{Procedure}
-use Rattle.flow80.specs.declared.procedure.Procedure.TheVariants.{Entry}
+use Rattle.bounds80.specs.declared.procedure.Procedure.{Procedure}
+use Rattle.bounds80.specs.declared.procedure.Procedure.TheVariants.{Entry}
 use Rattle.flow80.specs.declared.refusal.Refusal.TheVariants.{UnevenArguments}
 use Rattle.flow80.specs.Known.{Known, Exits, exit_of, known_at}
 use Rattle.flow80.proofs.KnownLemmas.{with_exit}

@@ -1,6 +1,6 @@
 use Rattle.std.proofs.Common.{◌≡◌, ap, subst, List}
 use Rattle.std.specs.Prelude.{IfSome}
-use Rattle.flow80.specs.declared.procedure.Procedure.TheVariants.{Entry}
+use Rattle.bounds80.specs.declared.procedure.Procedure.TheVariants.{Entry}
 use Rattle.flow80.specs.Points.{Point, IsPointAt}
 use Rattle.flow80.specs.Known.{Known}
 use Rattle.flow80.proofs.SurveyLemmas.{entered_there}

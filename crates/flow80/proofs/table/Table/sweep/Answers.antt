@@ -2,7 +2,7 @@ use Rattle.std.proofs.Common.{◌≡◌, ◌||◌, subst, Ok, Err, ℕ}
 use Rattle.std.specs.Prelude.{Result, Bool}
 use Rattle.std.proofs.lemmas.Result.{err_from_is_err_and}
 use Rattle.frames80.specs.StackFrame.{StackFrame, main_frame}
-use Rattle.flow80.specs.declared.procedure.Procedure.TheVariants.{Main}
+use Rattle.bounds80.specs.declared.procedure.Procedure.TheVariants.{Main}
 use Rattle.flow80.specs.declared.refusal.Refusal.{Refusal}
 use Rattle.flow80.specs.Known.{Known, Flows, Ongoing}
 use Rattle.flow80.proofs.ShownLemmas.{shown_start}

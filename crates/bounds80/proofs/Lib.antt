@@ -1,0 +1,4 @@
+pub mod BoundLemmas
+pub mod SumLemmas
+pub mod FollowLemmas
+pub mod EndLemmas

@@ -1,0 +1,24 @@
+use Rattle.std.proofs.Common.{arith, false, ◌∙◌, sym}
+use Rattle.std.proofs.lemmas.List.{get_or_read}
+use Rattle.std.proofs.lemmas.List.Elements.{Contains-get_or}
+use Rattle.bounds80.proofs.FollowLemmas.{following_first, following_next, following_end}
+use Rattle.bounds80.proofs.SumLemmas.{no_call, none_of}
+use Rattle.bounds80.proofs.cycles.cycle.Goals as goal
+
+pub loop-caller-init : goal.loop-caller-init
+loop-caller-init c = following_first c.args.calls.now c.in_ok-next.next.items c.in_ok-met.met.items _ c.slot.result c.index-call.result.now c.in_ok-next.ensures.followed
+    (Contains-get_or c.args.calls.now 0 no_call c.requires.some) c.slot.ensures.is (omega (arith, c.slot.ensures.within, c.in_ok-next.ensures.places)) c.index-call.ensures
+    (none_of c.in_ok-met.met.items false c.in_ok-met.ensures.values) c.in_ok-next.ensures.places c.in_ok-met.ensures.places
+
+pub loop-caller-preserved : goal.loop-caller-preserved
+loop-caller-preserved c = following_next c.args.calls.now c.in_ok-next.next.items c.loop-caller.met.items c.loop-caller.call c.slot-caller.result c.slot-in-loop-caller-2.result
+    c.index-call-in-loop-caller.result.now c.requires.stuck c.loop-caller.invariant c.slot-caller.ensures.is
+    (omega (arith, c.slot-caller.ensures.within, c.loop-caller.invariant.met_places)) c.slot-in-loop-caller-2.ensures.is
+    (omega (arith, c.slot-in-loop-caller-2.ensures.within, c.in_ok-next.ensures.places)) c.index-call-in-loop-caller.ensures
+
+pub returns : goal.returns
+returns c =
+    let read = get_or_read c.loop-caller.met.items c.slot-in-loop-caller.result c.index.result.now
+    (omega (arith, c.slot-in-loop-caller.ensures.within, c.loop-caller.invariant.met_places)) c.index.ensures false in
+    following_end c.args.calls.now c.in_ok-next.next.items c.loop-caller.met.items c.loop-caller.call c.slot-in-loop-caller.result c.loop-caller.invariant
+    c.slot-in-loop-caller.ensures.is (sym read ∙ c.loop-caller-test.false)

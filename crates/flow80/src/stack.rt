@@ -1,0 +1,39 @@
+//! The stack that a program uses.
+
+ghost use Rattle.std.specs.Prelude.{◌≡◌, IfOk, IfErr, length};
+ghost use Rattle.flow80.specs.Faults.{Holds};
+ghost use Rattle.flow80.specs.Known.{IsFilled};
+ghost use Rattle.flow80.specs.Survey.{AreWants, IsBounded};
+
+use crate::code::Code;
+use crate::laws::frame_laws;
+use crate::refusal::Refusal;
+use crate::survey::find_calls;
+use crate::table::Table;
+use bounds80::{Bounds, BoundsFault, find_bounds};
+use std::alloc::Global;
+
+/// The most bytes of stack that each procedure needs below its return address, its callees' included.
+///
+/// # Errors
+/// `ShortArguments` or `Recursion`, where it holds; out of memory.
+pub(crate) fn bound_stack<C: Code>(
+    alloc: Global,
+    program: &C,
+    table: &Table,
+    wants: &[u32],
+) -> Result<Bounds, Refusal>
+    requires filled { IsFilled (C.code program.now) table.now }
+    requires slots { length wants.now ≡ 65537 }
+    requires wants { AreWants table.now.points wants.now (length table.now.points) }
+    ensures bounded { IfOk result (IsBounded (C.code program.now) table.now wants.now) }
+    ensures refused { IfErr result (Holds (C.code program.now)) }
+{
+    frame_laws();
+    let graph = find_calls(alloc, program, table, wants)?;
+    match find_bounds(alloc, &graph.depths, &graph.calls) {
+        Ok(bounds) => Ok(bounds),
+        Err(BoundsFault::Recursion(at)) => Err(Refusal::Recursion(at)),
+        Err(BoundsFault::Memory) => Err(Refusal::Memory),
+    }
+}
