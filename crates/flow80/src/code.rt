@@ -6,7 +6,7 @@ ghost use Rattle.flow80.specs.Code.{Code as CodeSeen};
 use decode80::Fetched;
 
 /// Why no instruction may be executed at an address, whatever the frame.
-#[derive(Clone, Copy, Debug, PartialEq, Eq)]
+#[derive(Clone, Copy)]
 pub enum LookFault {
     /// A byte of the instruction is outside CODE or past FFFF.
     Outside,
