@@ -10,6 +10,8 @@ pub mod UseLemmas
 pub mod UsedLemmas
 pub mod FileLemmas
 pub mod KeepsLemmas
+pub mod OneReading
+pub mod OneModule
 pub mod RuleLemmas
 pub mod WrittenSpelled
 pub mod WrittenPasses

@@ -10,5 +10,6 @@ pub mod Uses
 pub mod Spelled
 pub mod Reading
 pub mod Laws
+pub mod ReadingLaws
 pub mod Writing
 pub mod WritingLaws
