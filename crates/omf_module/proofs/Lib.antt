@@ -12,6 +12,8 @@ pub mod FileLemmas
 pub mod KeepsLemmas
 pub mod OneReading
 pub mod OneModule
+pub mod OneFile
+pub mod AnswerLemmas
 pub mod RuleLemmas
 pub mod WrittenSpelled
 pub mod WrittenPasses

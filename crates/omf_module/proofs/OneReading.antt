@@ -45,7 +45,7 @@ pub record Below : Type 0 where
 pub past_spelled : (bytes : List ℕ) (at next kind : ℕ) (body : List ℕ) → length bytes ≤ at → SpellsRecord bytes at next kind body → ⊥
 past_spelled bytes at next kind body past s = omega (arith, past, s.all_counted, s.within)
 
-past_within : (bytes : List ℕ) (at : ℕ) → length bytes ≤ at → at < length bytes → ⊥
+pub past_within : (bytes : List ℕ) (at : ℕ) → length bytes ≤ at → at < length bytes → ⊥
 past_within bytes at past within = omega (arith, past, within)
 
 pub some_none : {A : Type 0} (o : Option A) (x : A) → o ≡ Some x → o ≡ None → ⊥
@@ -271,3 +271,6 @@ view_sound b bytes at next commons x why s may (stands n k body _ r e) =
 pub within_sound : Below → (bytes : List ℕ) (at next : ℕ) (commons : List Common) (x : Body) (why : Cause)
     → SpellsBody bytes at next x → (IsTrue (is_end x) ⊎ IsTrue (may_follow commons x)) → FaultsWithin bytes at commons why → ⊥
 within_sound b bytes at next commons x why s may f = view_sound b bytes at next commons x why s may (view bytes at commons why f)
+
+pub of_laws : OneRecordAtEachPlace → NoFaultExactlyAtRecords → OneBody → OneBodyFault → NeverBothBody → Below
+of_laws r n o f b = record { one_record = r; no_fault = n; one_body = o; one_fault = f; never_both = b }

@@ -2,9 +2,37 @@
 //! nothing: a layer above that calls it has the law in its proof.
 
 ghost use Rattle.omf_module.specs.Laws.{SegmentsAreKept, AbsoluteIsEmpty};
+ghost use Rattle.omf_module.specs.ReadingLaws.{OneModule, OneFault, NeverBoth, OneHeaderFault, SoundHeader, OneFile, OneFileFault, NeverBothFile};
 ghost use Rattle.omf_module.specs.WritingLaws.{WrittenModuleIsSpelled, WrittenFileIsSpelled};
 
-use omf_core::laws::written_is_spelled;
+use omf_body::laws::{one_body, one_fault};
+use omf_core::laws::{no_fault_exactly_at_records, one_record_at_each_place, written_is_spelled};
+
+/// Bytes spell one module at a place at most, or have one first fault there, and never both.
+pub fn one_reading()
+    ensures module { OneModule }
+    ensures fault { OneFault }
+    ensures never_both { NeverBoth }
+    ensures header_fault { OneHeaderFault }
+    ensures sound_header { SoundHeader }
+{
+    one_record_at_each_place();
+    no_fault_exactly_at_records();
+    one_body();
+    one_fault();
+}
+
+/// Bytes spell one list of modules as a file at most, or have one first fault, and never both.
+pub fn one_file_reading()
+    ensures file { OneFile }
+    ensures fault { OneFileFault }
+    ensures never_both { NeverBothFile }
+{
+    one_record_at_each_place();
+    no_fault_exactly_at_records();
+    one_body();
+    one_fault();
+}
 
 /// A module that is made of parts has their segments, in whatever order they were listed; absolute bytes have no length.
 pub fn segments_are_kept()

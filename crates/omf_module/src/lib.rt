@@ -42,6 +42,7 @@ pub use fixup::{Fixup, Target};
 pub use modules::Module;
 pub use omf_body::Field;
 pub use parts::Parts;
+pub use reading::{read_file, read_module};
 pub use rules::names_common;
 pub use segment::Segment;
 pub use symbols::{Common, Public};

@@ -1,22 +1,28 @@
 //! Modules read from an object file.
 
-ghost use Rattle.std.specs.Prelude.{◌≡◌, ◌≢◌, ◌<◌, ◌≤◌, None, Some, Ok, Err, [], length, option_map, true, false, IfOk, IfErr, OnOk, IsTrue};
+ghost use Rattle.std.specs.Prelude.{◌≡◌, ◌≢◌, ◌<◌, ◌≤◌, ◌⊎◌, ℕ, List, None, Some, Ok, Err, [], length, option_map, true, false, IfOk, IfErr, OnOk, IsOk, IsTrue};
 ghost use Rattle.std.specs.List.{flat_map};
 ghost use Rattle.omf_module.specs.Records.{commons_of};
 ghost use Rattle.omf_module.specs.Gathered.{segments_in, publics_in, externals_in, start_in, parts_of};
-ghost use Rattle.omf_module.specs.Uses.{use_fault};
-ghost use Rattle.omf_module.specs.Spelled.{SpellsModule, FaultsModule, EndsFile, SpellsFile, FaultsFile};
+ghost use Rattle.omf_module.specs.Uses.{fault_by, use_fault};
+ghost use Rattle.omf_module.specs.declared.fault.Cause.{Cause as CauseValue};
+ghost use Rattle.omf_module.specs.declared.fault.ModuleFault.{ModuleFault as ModuleFaultValue};
+ghost use Rattle.omf_module.specs.Fault.{no_memory};
+ghost use Rattle.omf_module.specs.Modules.{ModuleValue};
+ghost use Rattle.omf_module.specs.ReadingLaws.{Answers};
+ghost use Rattle.omf_module.specs.Spelled.{SpellsModule, FaultsHeader, FaultsModule, EndsFile, SpellsFile, FaultsFile};
 ghost use Rattle.omf_module.specs.Reading.{OrNoMemory, records_of};
 
 use crate::commons::kept;
 use crate::fault::{Cause, ModuleFault};
 use crate::gathering::{externals_of, publics_of, segments_in};
+use crate::laws::{one_file_reading, one_reading};
 use crate::modules::Module;
 use crate::parts::Parts;
 use crate::records::{ModuleFile, PlacedBody, Within};
 use crate::symbols::Common;
 use crate::uses::{contents_of, look_at_header, look_at_start};
-use crate::within::records_at;
+use crate::within::{header_at, records_at};
 use omf_body::{HeaderBody, Place};
 use omf_core::next_record;
 use std::alloc::{AllocError, Global};
@@ -131,4 +137,51 @@ fn modules_of(alloc: Global, bytes: &[u8]) -> Result<Vec<Module>, ModuleFault>
         at = after;
     }
     Ok(modules)
+}
+
+/// The module that begins at place `at` of an object file, and the place after its end record.
+///
+/// All records up to the end are looked at first, by place, and within a record by its fields in order: `Record` where the
+/// bytes are no record; `NoHeader` where no byte stands at `at`, or a record that isn't a module header; `UnknownKind` of a
+/// record that may not stand in a module; `BadBody` where a body ends inside a field, a field has no listed value, or an id
+/// or a common's name is listed twice; `BadName` of a name that is empty or has other bytes than 21h to 7Eh; `NoEnd` where no
+/// byte stands where a record should, or an end-of-file record. Only then what they use is looked at, and the first of
+/// `SegmentUnknown`, `OffsetOutside`, `FixupBeforeContent`, `FixupOutside`, `FixupTwice` and `IndexUnknown` is given, by entries
+/// in order, and for one entry in this order.
+/// (8080 Object Module Formats, module.)
+///
+/// # Errors
+/// The first fault, at the place of its record; or `Memory` at place 0, only where there is none: not before the module's
+/// header is read, so that bytes where no module begins are reported in any case.
+pub fn read_module(alloc: Global, bytes: &[u8], at: usize) -> Result<(Module, usize), ModuleFault>
+    // What is read is what the bytes spell, and nothing that they spell is refused or read as another.
+    ensures read { IfOk result (λ r. SpellsModule bytes.now at r.1 r.0) }
+    ensures every_module { (m : ModuleValue) (after : ℕ) → SpellsModule bytes.now at after m → Answers result (Ok (m, after)) }
+
+    // Each refusal but out of memory has its cause, and it is the first; that of a header needs no memory.
+    ensures fault { IfErr result (OrNoMemory (FaultsModule bytes.now at)) }
+    ensures every_fault { (fault : ModuleFaultValue) → FaultsModule bytes.now at fault → Answers result (Err fault) }
+    ensures early { (why : CauseValue) → FaultsHeader bytes.now at why → result ≡ Err (fault_by at why) }
+{
+    one_reading();
+    match header_at(bytes, at) {
+        Ok(_) => module_at(alloc, bytes, at),
+        Err(why) => Err(why.at(at)),
+    }
+}
+
+/// The modules of an object file, which are one or more, up to the end-of-file record after them. Bytes after that aren't
+/// looked at. (8080 Object Module Formats, object file.)
+///
+/// # Errors
+/// The first fault of the modules as they stand, as [`read_module`] gives it; `NoEnd` where no byte stands after a module;
+/// `Record` where the bytes there are no record. `Memory` at place 0, only where there is none.
+pub fn read_file(alloc: Global, bytes: &[u8]) -> Result<Vec<Module>, ModuleFault>
+    ensures read { IfOk result (λ modules. SpellsFile bytes.now modules.items) }
+    ensures every_file { (ms : List ModuleValue) → SpellsFile bytes.now ms → (IsOk result) ⊎ (result ≡ Err no_memory) }
+    ensures fault { IfErr result (OrNoMemory (FaultsFile bytes.now)) }
+    ensures every_fault { (fault : ModuleFaultValue) → FaultsFile bytes.now fault → (result ≡ Err fault) ⊎ (result ≡ Err no_memory) }
+{
+    one_file_reading();
+    modules_of(alloc, bytes)
 }

@@ -22,7 +22,10 @@ const END_OF_FILE: u8 = 0x0E;
 const NAMED_COMMONS: u8 = 0x2E;
 
 /// The module header at a place, and the place after it. It takes no memory.
-fn header_at<'a>(bytes: &'a [u8], at: usize) -> Result<(HeaderBody<'a>, usize), Cause>
+pub(crate) fn header_at<'a>(
+    bytes: &'a [u8],
+    at: usize,
+) -> Result<(HeaderBody<'a>, usize), Cause>
     ensures spelled { IfOk result (λ r. BeginsModule bytes.now at r.1 r.0) }
     ensures fault { IfErr result (λ why. FaultsHeader bytes.now at why) }
     ensures memory { IfErr result (λ why. why ≢ Cause.Memory) }
