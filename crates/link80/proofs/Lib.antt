@@ -8,3 +8,4 @@ pub mod LinkLemmas
 pub mod SegmentLemmas
 pub mod FittingLemmas
 pub mod RuleLemmas
+pub mod WordLemmas

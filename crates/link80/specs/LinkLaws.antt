@@ -1,13 +1,14 @@
 -- What LINK keeps: the bytes of its modules, wherever they are located.
 -- (ISIS-II User's Guide: LINK, then LOCATE.)
-use Rattle.std.specs.Prelude.{◌≡◌, ℕ, false, None, List, [], ◌∷◌, IsTrue}
+use Rattle.std.specs.Prelude.{◌≡◌, ◌≤◌, ℕ, false, None, List, [], ◌∷◌, IsTrue}
 use Rattle.std.specs.List.{AllByRecursion}
+use Rattle.omf_module.specs.Segments.{segment_in}
 use Rattle.omf_module.specs.Modules.{ModuleValue}
 use Rattle.omf_module.specs.Rules.{IsModule, keeps_rules}
 use Rattle.omf_relocation.specs.Place.{Bases}
 use Rattle.omf_relocation.specs.ImageByte.{chunks_of, image_byte}
 use Rattle.omf_relocation.specs.HighReferences.{any_loses_low_byte}
-use Rattle.link80.specs.Linked.{linked_parts, linked}
+use Rattle.link80.specs.Linked.{linked_length, linked_parts, linked}
 use Rattle.link80.specs.LinkFault.{link_fault}
 
 -- The chunks of the linked module alone are those of the modules: for all bases, tops and words under which no fixup of the
@@ -36,3 +37,14 @@ LinkedModuleKeepsRules =
     → AllByRecursion IsModule modules
     → link_fault modules ≡ None
     → IsTrue (keeps_rules (linked_parts name modules))
+
+-- The lengths of the linked module's segments are words, where those of its modules are.
+abbrev pub HasWordLengths : ModuleValue → Type 0
+HasWordLengths m = (id : ℕ) → (segment_in m.segments id).length ≤ 65535
+
+abbrev pub LinkedLengthsAreWords : Type 0
+LinkedLengthsAreWords =
+    (modules : List ModuleValue) (id : ℕ)
+    → AllByRecursion HasWordLengths modules
+    → link_fault modules ≡ None
+    → linked_length modules id ≤ 65535

@@ -1,7 +1,7 @@
 //! What LINK keeps, over the definitions alone. Each law is ensured by a function that does nothing: a layer above that calls
 //! it has the law in its proof.
 
-ghost use Rattle.link80.specs.LinkLaws.{LinkedChunksAreTheModules, LinkedBytesAreTheModules, LinkedModuleKeepsRules};
+ghost use Rattle.link80.specs.LinkLaws.{LinkedChunksAreTheModules, LinkedBytesAreTheModules, LinkedLengthsAreWords, LinkedModuleKeepsRules};
 
 use omf_relocation::laws::{
     adding_twice_is_adding_once, commons_are_found_by_name, parts_of_one_start_at_zero,
@@ -19,9 +19,11 @@ pub fn linking_keeps_bytes()
     sound_modules_keep_rules();
 }
 
-/// The linked module keeps the rules of modules, where its modules do and no fault holds.
+/// The linked module keeps the rules of modules, where its modules do and no fault holds; and the lengths of its segments are
+/// words, as its modules' are.
 pub fn linked_module_keeps_rules()
-    ensures { LinkedModuleKeepsRules }
+    ensures rules { LinkedModuleKeepsRules }
+    ensures words { LinkedLengthsAreWords }
 {
     sound_modules_keep_rules();
     commons_are_found_by_name();

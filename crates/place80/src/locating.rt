@@ -1,7 +1,8 @@
 //! A program at its places.
 
-ghost use Rattle.std.specs.Prelude.{◌≡◌, ◌⊎◌, ℕ, None, Some, [], ◌∷◌, option_map, IfOk, IfErr, OnOk};
+ghost use Rattle.std.specs.Prelude.{◌≡◌, ◌⊎◌, ℕ, false, None, Some, [], ◌∷◌, option_map, IfOk, IfErr, OnOk};
 ghost use Rattle.omf_relocation.specs.ImageByte.{image_byte};
+ghost use Rattle.omf_relocation.specs.HighReferences.{any_loses_low_byte};
 ghost use Rattle.place80.specs.Image.{byte_at};
 ghost use Rattle.place80.specs.Regions.{Arranges};
 ghost use Rattle.place80.specs.Layout.{layout_of, program_bases};
@@ -28,7 +29,7 @@ use std::alloc::Global;
 ///
 /// Its memory is at each address the byte that the module defines under those places: that of the last content over it,
 /// with its references increased, and 0 where none covers it. There is one chunk for each content, in order. Code is CODE,
-/// data are DATA, MEMORY and all commons, and the stack is STACK.
+/// data are DATA, MEMORY and all commons, and the stack is STACK. No fixup lost the low byte of its word.
 ///
 /// # Errors
 /// The first that holds of `Unresolved`, `NoStart`, `OutsideMemory`, `Overlap`, `HighNotPaged` and `StartNotCode`; `Memory`
@@ -39,6 +40,7 @@ pub fn locate(alloc: Global, program: &Module, options: &Options) -> Result<Imag
     ensures memory { IfOk result (λ image. (address : ℕ) → byte_at image.chunks address ≡ image_byte (program_bases options.now program.now) (program.now ∷ []) address) }
     ensures regions { IfOk result (λ image. let segments = layout_of options.now program.now in Arranges (located_code segments) (located_stack segments) (located_data segments) image.regions) }
     ensures start { IfOk result (λ image. Some image.start ≡ option_map (start_place (program_bases options.now program.now) program.now) program.now.start) }
+    ensures high { OnOk result (any_loses_low_byte (program_bases options.now program.now) (program.now ∷ []) ≡ false) }
     ensures none { OnOk result (locate_fault options.now program.now ≡ None) }
     ensures fault { IfErr result (λ fault. (fault ≡ Memory) ⊎ (locate_fault options.now program.now ≡ Some fault)) }
     ensures no_main { IfErr result (λ fault. program.now.externals ≡ [] → program.now.start ≡ None → fault ≡ NoStart) }

@@ -110,6 +110,17 @@ returns-clause-start c =
     let place = place_told options m c.deref-2.result.now start.0 start.1 c.place_of-start.result (c.deref-2.ensures.value ∙ places) c.place_of-start.ensures in
     ap (λ (n : ℕ). Some n) place ∙ start_found laws (layout_of options m) m start.0 start.1 sound is
 
+pub returns-clause-high : goal.returns-clause-high
+returns-clause-high c =
+    let m = c.args.program.now in
+    let laws = module_laws c.sound_modules_keep_rules.ensures c.commons_are_found_by_name.ensures c.parts_of_one_start_at_zero.ensures in
+    let options = c.args.options.now in
+    let sound = c.externals.ensures.rules.sound in
+    let closed : m.externals ≡ [] = no_first m.externals (ap (λ (l : List (List ℕ)). slice_get l 0) (sym c.externals.ensures.value) ∙ sym c.first.ensures.value ∙ ap option_copied c.in_default.is) in
+    let places = c.in_ok-segments.ensures.places in
+    let loses = high_told laws options m c.deref.result.now c.contents.result.now c.any_loses_its_low_byte.result sound closed (c.deref.ensures.value ∙ places) c.contents.ensures.value c.any_loses_its_low_byte.ensures in
+    sym (sym c.if-any_loses_its_low_byte.false ∙ loses)
+
 pub returns-clause-none : goal.returns-clause-none
 returns-clause-none c =
     let m = c.args.program.now in
