@@ -5,7 +5,7 @@ use Rattle.place80.specs.declared.image_fault.ImageFault.TheVariants.{Memory as 
 use Rattle.place80.specs.Regions.{Areas}
 use Rattle.place80.specs.RegionsText.{Spells, Refuses}
 use Rattle.place80.specs.Image.{Located}
-use Rattle.place80.specs.ImageFile.{image_of, without_regions}
+use Rattle.place80.specs.ImageFile.{SpellsImage, FaultsImage, without_regions}
 use Rattle.machine80.specs.Ports.{lists_of}
 use Rattle.machine80.specs.Step.{Machine}
 use Rattle.machine80.specs.World.{world_at_start}
@@ -25,7 +25,7 @@ use Rattle.loader80.specs.Vouched.{IsVouched}
 
 -- the image's bytes tell the image but for its regions, and the regions' text spells those
 pub record SpellsProgram (t : Texts) (image : Located) : Type 0 where
-  pub contents : image_of t.image ≡ Ok (without_regions image)
+  pub contents : SpellsImage t.image (without_regions image)
   pub regions : Spells t.regions image.regions
 
 -- the text is the transcript of a run of at most so many steps on these inputs. Exactly as many outputs are taken as the
@@ -48,7 +48,7 @@ pub record Runs (limit steps : ℕ) (t : Texts) (o : Outcome) (text : List ℕ) 
 -- the first fault of the texts, in the order regions, image, inputs, check
 abbrev pub Faults : Texts → SessionFault → List ℕ → Type 0
 Faults t (Regions f) text = Refuses t.regions f × (f ≢ RegionsMemory) × (text ≡ [])
-Faults t (Image f) text = ((areas : Areas) × Spells t.regions areas) × (image_of t.image ≡ Err f) × (f ≢ ImageMemory) × (text ≡ [])
+Faults t (Image f) text = ((areas : Areas) × Spells t.regions areas) × FaultsImage t.image f × (f ≢ ImageMemory) × (text ≡ [])
 Faults t (Inputs n) text = ((image : Located) × SpellsProgram t image) × (bad_line t.inputs ≡ Some n) × (text ≡ [])
 Faults t (Refused r) text = ((image : Located) × SpellsProgram t image × Holds (code_of image) r) × (bad_line t.inputs ≡ None) × (text ≡ refusal_line r)
 Faults t Memory text = text ≡ []

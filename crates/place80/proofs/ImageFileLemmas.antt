@@ -1,6 +1,6 @@
 -- The module of an image keeps the rules of modules, and is read as the image.
-use Rattle.std.proofs.Common.{◌≡◌, ℕ, ◌+◌, Bool, true, false, ◌&&◌, List, [], ◌∷◌, length, map, Some, Ok, Err, refl, sym, ap, subst, ◌∙◌, true≢false}
-use Rattle.std.specs.Prelude.{◌==◌, nat_le, not, if◌then◌else◌}
+use Rattle.std.proofs.Common.{◌≡◌, ◌≢◌, ◌⊎◌, inl, inr, ℕ, ◌+◌, ◌<◌, arith, Result, Bool, true, false, ◌&&◌, List, [], ◌∷◌, length, map, Some, Ok, Err, refl, sym, ap, subst, ◌∙◌, true≢false}
+use Rattle.std.specs.Prelude.{◌==◌, nat_le, not, if◌then◌else◌, IfErr}
 use Rattle.std.specs.List.{list_all, AllByRecursion}
 use Rattle.std.proofs.lemmas.Bool.{and_parts, le-leb, leb-true, eqb-true}
 use Rattle.omf_core.specs.Name.{is_name}
@@ -9,10 +9,17 @@ use Rattle.omf_module.specs.Contents.{ContentValue}
 use Rattle.omf_module.specs.Segments.{entries_for, listed_ids, in_one_form, has_segment}
 use Rattle.omf_module.specs.Modules.{ModuleValue, made_of}
 use Rattle.omf_module.specs.Rules.{IsModule, keeps_rules, is_content, is_placed, is_fitting, is_start, each_after, is_new_common, end_of}
-use Rattle.omf_module.specs.Laws.{WrittenFileIsRead}
-use Rattle.place80.specs.declared.image_fault.ImageFault.TheVariants.{NotAbsolute}
+use Rattle.omf_module.specs.declared.fault.Cause.{Cause}
+use Rattle.omf_module.specs.declared.fault.Cause.TheVariants.{Record, NoHeader, UnknownKind, BadBody, BadName, SegmentUnknown, OffsetOutside, FixupBeforeContent, FixupOutside, FixupTwice, IndexUnknown, NoEnd, Memory}
+use Rattle.omf_module.specs.declared.fault.ModuleFault.{ModuleFault}
+use Rattle.omf_module.specs.Spelled.{SpellsFile, FaultsFile}
+use Rattle.omf_module.specs.Reading.{OrNoMemory}
+use Rattle.omf_module.specs.ReadingLaws.{OneFile, OneFileFault, NeverBothFile}
+use Rattle.omf_module.specs.WritingLaws.{WrittenFileIsSpelled}
+use Rattle.place80.specs.declared.image_fault.ImageFault.{ImageFault}
+use Rattle.place80.specs.declared.image_fault.ImageFault.TheVariants.{NotAbsolute, Module, Memory as OutOfMemory}
 use Rattle.place80.specs.Image.{PlacedBytes, Located, IsChunk}
-use Rattle.place80.specs.ImageFile.{without_regions, chunk_content, content_chunk, image_module, is_absolute_content, is_absolute_start, is_absolute, program_from, program_of, program_in, WrittenImageIsRead}
+use Rattle.place80.specs.ImageFile.{without_regions, chunk_content, content_chunk, image_module, is_absolute_content, is_absolute_start, is_absolute, program_from, program_of, program_of_one, of_cause, of_module_fault, SpellsImage, FaultsImage, of_file, of_modules, WrittenImageIsSpelled, OneImage, OneImageFault, NeverBothImage}
 
 -- ---- the module of an image
 
@@ -69,9 +76,69 @@ image_module_read image =
     ap (λ (b : Bool). if b then program_from (image_module image) (Some (0, image.start)) else Err NotAbsolute) (image_module_absolute image)
     ∙ ap (λ (chunks : List PlacedBytes). Ok (record { name = image.name; chunks = chunks; start = image.start })) (chunks_again image.chunks)
 
-pub written_image_is_read : WrittenFileIsRead → WrittenImageIsRead
-written_image_is_read written image name w =
-    ap program_in (written (image_module image) [] (image_is_module image name w, tt)) ∙ image_module_read image
+pub written_image : WrittenFileIsSpelled → WrittenImageIsSpelled
+written_image written image name w = record {
+  modules = image_module image ∷ [];
+  file = written (image_module image ∷ []) (omega arith) (image_is_module image name w, tt);
+  is = image_module_read image;
+}
+
+-- ---- one reading
+
+ok_same : {A E : Type 0} (r : Result A E) (x y : A) → r ≡ Ok x → r ≡ Ok y → x ≡ y
+ok_same {A} {E} r x y e f = ap (value x) (sym e ∙ f)
+  where
+    value : {A E : Type 0} → A → Result A E → A
+    value d (Ok a) = a
+    value d (Err b) = d
+
+err_same : {A E : Type 0} (r : Result A E) (x y : E) → r ≡ Err x → r ≡ Err y → x ≡ y
+err_same {A} {E} r x y e f = ap (fault x) (sym e ∙ f)
+  where
+    fault : {A E : Type 0} → E → Result A E → E
+    fault d (Ok a) = d
+    fault d (Err b) = b
+
+ok_err : {A E : Type 0} (r : Result A E) (x : A) (e : E) → r ≡ Ok x → r ≡ Err e → ⊥
+ok_err {A} {E} r x e p q = absurd cc
+
+pub one_image : OneFile → OneImage
+one_image one bytes p q s t =
+    ok_same (program_of_one t.modules) p q (subst (λ (ms : List ModuleValue). program_of_one ms ≡ Ok p) (one bytes s.modules t.modules s.file t.file) s.is) t.is
+
+pub one_image_fault : OneFile → OneFileFault → NeverBothFile → OneImageFault
+one_image_fault one fault never bytes f g (of_file a x) (of_file b y) = ap Module (fault bytes a b x y)
+one_image_fault one fault never bytes f g (of_file a x) (of_modules ms _ s e) = absurd (never bytes ms a s x)
+one_image_fault one fault never bytes f g (of_modules ms _ s e) (of_file b y) = absurd (never bytes ms b s y)
+one_image_fault one fault never bytes f g (of_modules ms _ s e) (of_modules ns _ t d) =
+    err_same (program_of_one ns) f g (subst (λ (xs : List ModuleValue). program_of_one xs ≡ Err f) (one bytes ms ns s t) e) d
+
+pub never_both_image : OneFile → NeverBothFile → NeverBothImage
+never_both_image one never bytes p f s (of_file a x) = never bytes s.modules a s.file x
+never_both_image one never bytes p f s (of_modules ms _ t e) =
+    ok_err (program_of_one ms) p f (subst (λ (xs : List ModuleValue). program_of_one xs ≡ Ok p) (one bytes s.modules ms s.file t) s.is) e
+
+-- ---- the fault of a file
+
+-- a fault of the file is the image's, unless memory ran out
+pub fault_of_file : (bytes : List ℕ) (fault : ModuleFault) → OrNoMemory (FaultsFile bytes) fault → of_module_fault fault ≢ OutOfMemory → FaultsImage bytes (of_module_fault fault)
+fault_of_file bytes fault (inl none) real = absurd (real (ap of_module_fault none))
+fault_of_file bytes fault (inr x) real = by_fault fault.cause refl
+  where
+    by_fault : (why : Cause) → fault.cause ≡ why → FaultsImage bytes (of_module_fault fault)
+    by_fault Memory e = absurd (real (ap (λ (c : Cause). of_cause c fault) e))
+    by_fault (Record f) e = subst (λ (c : Cause). FaultsImage bytes (of_cause c fault)) (sym e) (of_file fault x)
+    by_fault NoHeader e = subst (λ (c : Cause). FaultsImage bytes (of_cause c fault)) (sym e) (of_file fault x)
+    by_fault (UnknownKind k) e = subst (λ (c : Cause). FaultsImage bytes (of_cause c fault)) (sym e) (of_file fault x)
+    by_fault (BadBody k) e = subst (λ (c : Cause). FaultsImage bytes (of_cause c fault)) (sym e) (of_file fault x)
+    by_fault BadName e = subst (λ (c : Cause). FaultsImage bytes (of_cause c fault)) (sym e) (of_file fault x)
+    by_fault (SegmentUnknown i) e = subst (λ (c : Cause). FaultsImage bytes (of_cause c fault)) (sym e) (of_file fault x)
+    by_fault OffsetOutside e = subst (λ (c : Cause). FaultsImage bytes (of_cause c fault)) (sym e) (of_file fault x)
+    by_fault FixupBeforeContent e = subst (λ (c : Cause). FaultsImage bytes (of_cause c fault)) (sym e) (of_file fault x)
+    by_fault FixupOutside e = subst (λ (c : Cause). FaultsImage bytes (of_cause c fault)) (sym e) (of_file fault x)
+    by_fault FixupTwice e = subst (λ (c : Cause). FaultsImage bytes (of_cause c fault)) (sym e) (of_file fault x)
+    by_fault IndexUnknown e = subst (λ (c : Cause). FaultsImage bytes (of_cause c fault)) (sym e) (of_file fault x)
+    by_fault NoEnd e = subst (λ (c : Cause). FaultsImage bytes (of_cause c fault)) (sym e) (of_file fault x)
 
 -- ---- the chunks of an absolute module
 
@@ -102,3 +169,12 @@ absolute_contents m w absolute =
     let c = and_parts (each_after is_new_common [] m.commons && list_all (λ p. has_segment m.commons p.segment) m.publics && list_all (is_content m.segments m.commons (length m.externals)) m.contents) (is_start m.commons m.start) w.sound in
     let d = and_parts (each_after is_new_common [] m.commons && list_all (λ p. has_segment m.commons p.segment) m.publics) (list_all (is_content m.segments m.commons (length m.externals)) m.contents) c.0 in
     contents_are_chunks m m.contents b.1 d.1
+
+pub refused_by_module : {A : Type 0} (bytes : List ℕ) (m : ModuleValue) (ms : List ModuleValue) (r : Result A ImageFault)
+    → SpellsFile bytes ms → program_of_one ms ≡ program_of m
+    → IfErr r (λ fault. fault ≢ OutOfMemory → program_of m ≡ Err fault) → IfErr r (λ fault. fault ≢ OutOfMemory → FaultsImage bytes fault)
+refused_by_module {A} bytes m ms (Ok x) s same e = e
+refused_by_module {A} bytes m ms (Err f) s same e = λ real. of_modules ms f s (same ∙ e real)
+
+pub only_one : (ms : List ModuleValue) (m : ModuleValue) → ms ≡ m ∷ [] → program_of_one ms ≡ program_of m
+only_one ms m e = ap program_of_one e

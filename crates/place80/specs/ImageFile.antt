@@ -9,7 +9,7 @@ use Rattle.omf_module.specs.declared.fault.Cause.TheVariants.{Memory as OutOfMem
 use Rattle.omf_module.specs.declared.fault.ModuleFault.{ModuleFault}
 use Rattle.omf_module.specs.Contents.{ContentValue}
 use Rattle.omf_module.specs.Modules.{ModuleValue}
-use Rattle.omf_module.specs.Reading.{file_of}
+use Rattle.omf_module.specs.Spelled.{SpellsFile, FaultsFile}
 use Rattle.omf_module.specs.Writing.{file_bytes}
 use Rattle.place80.specs.declared.image_fault.ImageFault.{ImageFault}
 use Rattle.place80.specs.declared.image_fault.ImageFault.TheVariants.{Module, NotOneModule, NotAbsolute, NoStart, Memory}
@@ -70,22 +70,36 @@ program_of_one [] = Err NotOneModule
 program_of_one (m ∷ []) = program_of m
 program_of_one (m ∷ other ∷ others) = Err NotOneModule
 
-abbrev pub program_in : Result (List ModuleValue) ModuleFault → Result AbsoluteProgram ImageFault
-program_in (Ok modules) = program_of_one modules
-program_in (Err fault) = Err (Module fault)
+-- The bytes spell the program: they are an object file of one module, which is absolute and has a start.
+pub record SpellsImage (bytes : List ℕ) (program : AbsoluteProgram) : Type 0 where
+  pub modules : List ModuleValue
+  pub file : SpellsFile bytes modules
+  pub is : program_of_one modules ≡ Ok program
 
--- what bytes tell of an image, or the first of the faults, in the order of their numbers
-abbrev pub image_of : List ℕ → Result AbsoluteProgram ImageFault
-image_of bytes = program_in (file_of bytes)
+-- why they spell none: the first fault of the file, or what forbids its modules
+pub data FaultsImage (bytes : List ℕ) : ImageFault → Type 0 where
+  of_file : (fault : ModuleFault) → FaultsFile bytes fault → FaultsImage bytes (Module fault)
+  of_modules : (modules : List ModuleValue) (fault : ImageFault) → SpellsFile bytes modules → program_of_one modules ≡ Err fault → FaultsImage bytes fault
 
--- ---- what is written is read
+-- ---- laws
 
-abbrev pub WrittenImageIsRead : Type 0
-WrittenImageIsRead =
+-- What is written of an image spells it.
+abbrev pub WrittenImageIsSpelled : Type 0
+WrittenImageIsSpelled =
     (image : Located)
     → IsTrue (is_name image.name)
     → AllByRecursion IsChunk image.chunks
-    → image_of (image_bytes image) ≡ Ok (without_regions image)
+    → SpellsImage (image_bytes image) (without_regions image)
+
+-- Bytes spell one image at most, or have one first fault, and never both.
+abbrev pub OneImage : Type 0
+OneImage = (bytes : List ℕ) (p q : AbsoluteProgram) → SpellsImage bytes p → SpellsImage bytes q → p ≡ q
+
+abbrev pub OneImageFault : Type 0
+OneImageFault = (bytes : List ℕ) (f g : ImageFault) → FaultsImage bytes f → FaultsImage bytes g → f ≡ g
+
+abbrev pub NeverBothImage : Type 0
+NeverBothImage = (bytes : List ℕ) (p : AbsoluteProgram) (f : ImageFault) → SpellsImage bytes p → FaultsImage bytes f → ⊥
 
 -- ---- faults
 

@@ -4,13 +4,13 @@ ghost use Rattle.std.specs.Prelude.{◌≡◌, ◌≢◌, ◌++◌, Ok, Err, map
 ghost use Rattle.std.specs.List.{AllByRecursion, list_all};
 ghost use Rattle.omf_core.specs.Name.{is_name};
 ghost use Rattle.place80.specs.Image.{IsChunk};
-ghost use Rattle.place80.specs.ImageFile.{image_module, image_bytes, image_of, chunk_content, content_chunk, is_absolute, is_absolute_content, is_absolute_start, program_of, without_regions};
+ghost use Rattle.place80.specs.ImageFile.{image_module, image_bytes, SpellsImage, FaultsImage, chunk_content, content_chunk, is_absolute, is_absolute_content, is_absolute_start, program_of, without_regions};
 
 use crate::absolute::AbsoluteProgram;
 use crate::chunk::Chunk;
 use crate::image::Image;
 use crate::image_fault::ImageFault;
-use crate::laws::written_image_is_read;
+use crate::laws::written_image_is_spelled;
 use crate::regions::Regions;
 use omf_module::{Content, Module, Parts, PartsFault, read_file, write_file};
 use std::alloc::{AllocError, Global};
@@ -23,10 +23,10 @@ use std::alloc::{AllocError, Global};
 /// `AllocError` only where a growth was refused; `out` is then as it was.
 pub fn write_image(alloc: Global, image: &Image, out: &mut Vec<u8>) -> Result<(), AllocError>
     ensures written { OnOk result (out.new.items ≡ out.old.items ++ image_bytes image.now) }
-    ensures read { OnOk result (image_of (image_bytes image.now) ≡ Ok (without_regions image.now)) }
+    ensures read { OnOk result (SpellsImage (image_bytes image.now) (without_regions image.now)) }
     ensures refused { OnErr result (out.new.items ≡ out.old.items) }
 {
-    written_image_is_read();
+    written_image_is_spelled();
     let module = module_of(alloc, image)?;
     write_file(alloc, &[module], out)
 }
@@ -99,10 +99,10 @@ pub fn read_image(
     bytes: &[u8],
     regions: Regions,
 ) -> Result<Image, (Regions, ImageFault)>
-    ensures read { IfOk result (λ image. image_of bytes.now ≡ Ok (without_regions image)) }
+    ensures read { IfOk result (λ image. SpellsImage bytes.now (without_regions image)) }
     ensures regions { IfOk result (λ image. image.regions ≡ regions) }
     ensures back { IfErr result (λ refused. refused.0 ≡ regions) }
-    ensures fault { IfErr result (λ refused. refused.1 ≢ ImageFault.Memory → image_of bytes.now ≡ Err refused.1) }
+    ensures fault { IfErr result (λ refused. refused.1 ≢ ImageFault.Memory → FaultsImage bytes.now refused.1) }
 {
     match read_program(alloc, bytes) {
         Ok(program) => Ok(Image {
@@ -117,8 +117,8 @@ pub fn read_image(
 
 /// The absolute program that an object file holds.
 fn read_program(alloc: Global, bytes: &[u8]) -> Result<AbsoluteProgram, ImageFault>
-    ensures read { IfOk result (λ program. image_of bytes.now ≡ Ok program) }
-    ensures fault { IfErr result (λ fault. fault ≢ ImageFault.Memory → image_of bytes.now ≡ Err fault) }
+    ensures read { IfOk result (λ program. SpellsImage bytes.now program) }
+    ensures fault { IfErr result (λ fault. fault ≢ ImageFault.Memory → FaultsImage bytes.now fault) }
 {
     let modules = read_file(alloc, bytes)?;
     match modules.as_slice() {

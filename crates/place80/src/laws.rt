@@ -7,10 +7,10 @@ ghost use Rattle.place80.specs.LayoutLaws.{LayoutIsLaidOut, LaidOutInOneWay, Ove
 ghost use Rattle.place80.specs.LocatedLaws.{LocatedRegionsHoldSegments};
 ghost use Rattle.place80.specs.Regions.{Areas, AreRegions, in_code, in_data};
 ghost use Rattle.place80.specs.RegionsText.{regions_text, Spells, Refuses};
-ghost use Rattle.place80.specs.ImageFile.{WrittenImageIsRead};
+ghost use Rattle.place80.specs.ImageFile.{WrittenImageIsSpelled, OneImage, OneImageFault, NeverBothImage};
 ghost use Rattle.place80.specs.declared.fault.RegionsFault.{RegionsFault};
 
-use omf_module::laws::written_file_is_read;
+use omf_module::laws::{one_file_reading, written_file_is_spelled};
 
 /// A text spells one list of regions at most, and none where it is refused, for want of memory
 /// aside; it is refused for one cause at most; and the text that is written for regions spells
@@ -47,11 +47,20 @@ pub fn memory_has_the_byte_of_the_last_chunk()
         ≡ (if covers chunk address then byte_of chunk address else byte_at chunks address) }
 {}
 
-/// What is written for an image is read as that image, but for its regions, which an object file doesn't hold.
-pub fn written_image_is_read()
-    ensures { WrittenImageIsRead }
+/// What is written of an image spells that image, but for its regions, which an object file doesn't hold.
+pub fn written_image_is_spelled()
+    ensures { WrittenImageIsSpelled }
 {
-    written_file_is_read();
+    written_file_is_spelled();
+}
+
+/// Bytes spell one image at most, or have one first fault, and never both.
+pub fn one_image_reading()
+    ensures image { OneImage }
+    ensures fault { OneImageFault }
+    ensures never_both { NeverBothImage }
+{
+    one_file_reading();
 }
 
 /// The layout of a program is the one list of its segments in which each has its length and stands at the base that is

@@ -1,0 +1,22 @@
+use Rattle.std.proofs.Common.{rules, ◌≡◌, List, [], ◌∷◌, length, Err, arith, refl}
+use Rattle.std.proofs.lemmas.Result.{err_from_is_err_and}
+use Rattle.omf_module.specs.Modules.{ModuleValue}
+use Rattle.place80.specs.declared.image_fault.ImageFault.TheVariants.{NotOneModule}
+use Rattle.place80.specs.ImageFile.{program_of, program_of_one, of_modules}
+use Rattle.place80.proofs.ImageFileLemmas.{fault_of_file, refused_by_module}
+use Rattle.place80.proofs.image_file.read_program.Goals as goal
+
+pub returns-in_err-modules-clause-fault : goal.returns-in_err-modules-clause-fault
+returns-in_err-modules-clause-fault c =
+    let p = err_from_is_err_and c.from_residual.result c.from_residual.ensures.1 in
+    rw (p.1, p.2) (λ real. fault_of_file c.args.bytes.now c.in_err-modules.field-0.0 c.in_err-modules.ensures.fault real)
+
+pub returns-in-len1-clause-fault : goal.returns-in-len1-clause-fault
+returns-in-len1-clause-fault c =
+    let same : program_of_one c.in_ok-modules.modules.items ≡ program_of c.module-item.result = search rules in
+    refused_by_module c.args.bytes.now c.module-item.result c.in_ok-modules.modules.items c.program_of.result c.in_ok-modules.ensures.read same c.program_of.ensures.fault
+
+pub returns-clause-fault : goal.returns-clause-fault
+returns-clause-fault c =
+    let other : program_of_one c.in_ok-modules.modules.items ≡ Err NotOneModule = search rules in
+    λ _. of_modules c.in_ok-modules.modules.items NotOneModule c.in_ok-modules.ensures.read other
