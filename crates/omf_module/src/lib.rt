@@ -47,3 +47,6 @@ pub use rules::names_common;
 pub use segment::Segment;
 pub use symbols::{Common, Public};
 pub use writing::{write_file, write_module};
+
+#[cfg(test)]
+mod tests;
