@@ -1,7 +1,7 @@
 -- Commons of a record are taken one after another.
-use Rattle.std.proofs.Common.{◌≡◌, ◌≢◌, ℕ, ◌<◌, Bool, true, ◌&&◌, List, [], ◌∷◌, ◌++◌, length, map, Ok, Err, refl, sym, ap, subst, ◌∙◌, append_assoc, IsTrue, arith}
+use Rattle.std.proofs.Common.{◌≡◌, ℕ, ◌<◌, true, ◌&&◌, List, [], ◌∷◌, ◌++◌, length, map, Ok, Err, refl, sym, ap, subst, ◌∙◌, append_assoc, IsTrue, arith}
 use Rattle.std.specs.Prelude.{not}
-use Rattle.std.specs.List.{flat_map, list_all, list_any}
+use Rattle.std.specs.List.{flat_map, list_all}
 use Rattle.std.proofs.lemmas.Bool.{and_parts}
 use Rattle.std.proofs.lemmas.List.{append-nil, map-append}
 use Rattle.std.proofs.lemmas.List.Folds.{list_all-append}
@@ -9,12 +9,10 @@ use Rattle.std.proofs.lemmas.Grind.{flat_map-append}
 use Rattle.omf_core.specs.Name.{is_name}
 use Rattle.omf_body.specs.declared.entries.CommonEntry.{CommonEntry}
 use Rattle.omf_body.specs.declared.fault.FieldFault.{FieldFault}
-use Rattle.omf_body.specs.declared.body.Body.TheVariants.{NamedCommons}
 use Rattle.omf_body.specs.Entries.{is_common_id, common_bytes, common_layout}
 use Rattle.omf_module.specs.declared.fault.Cause.{Cause}
 use Rattle.omf_module.specs.declared.symbols.Common.{Common}
 use Rattle.omf_module.specs.Rules.{each_after, is_new_common}
-use Rattle.omf_module.specs.Records.{commons_in}
 use Rattle.omf_module.specs.Spelled.{has_id, has_name, read_new_common, FaultsCommons, here, later, commons_cause}
 use Rattle.omf_module.specs.Reading.{common_of, TakesCommons, RefusesCommons}
 use Rattle.omf_module.proofs.ListLemmas.{and_both, each_after_push}

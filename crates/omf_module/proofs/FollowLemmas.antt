@@ -1,5 +1,5 @@
 -- A record that is read after a header and records that declare some commons is an end, or may follow.
-use Rattle.std.proofs.Common.{◌≡◌, ◌≢◌, ℕ, ◌<◌, ◌≤◌, ◌+◌, Bool, true, false, ◌&&◌, ◌⊎◌, inl, inr, List, [], ◌∷◌, ◌++◌, length, refl, sym, ap, subst, ◌∙◌, arith, IsTrue, Result, Ok, Err}
+use Rattle.std.proofs.Common.{◌≡◌, ◌≢◌, ℕ, ◌<◌, ◌≤◌, Bool, true, false, ◌&&◌, ◌⊎◌, inl, inr, List, [], ◌++◌, length, refl, sym, ap, subst, ◌∙◌, arith, IsTrue, Result, Ok, Err}
 use Rattle.std.specs.Prelude.{not, ◌==◌}
 use Rattle.std.proofs.lemmas.Bool.{eqb-true}
 use Rattle.std.proofs.lemmas.List.{append-nil}
@@ -8,9 +8,9 @@ use Rattle.omf_core.specs.Record.{SpellsRecord}
 use Rattle.omf_body.specs.declared.body.Body.{Body}
 use Rattle.omf_body.specs.declared.body.HeaderBody.{HeaderBody}
 use Rattle.omf_body.specs.declared.body.Body.TheVariants.{ModuleHeader, ModuleEnd, Content, LineNumbers, EndOfFile, Ancestor, LocalSymbols, PublicDeclarations, ExternalNames, ExternalReferences, Relocation, IntersegmentReferences, NamedCommons}
-use Rattle.omf_body.specs.Bodies.{body_kind, body_bytes, is_sound_body, Spells}
+use Rattle.omf_body.specs.Bodies.{body_kind, body_bytes, Spells}
 use Rattle.omf_module.specs.declared.symbols.Common.{Common}
-use Rattle.omf_module.specs.Records.{SpellsBody, commons_in, may_follow, stands_within}
+use Rattle.omf_module.specs.Records.{SpellsBody, commons_in, may_follow}
 use Rattle.omf_module.specs.Spelled.{stands_alone}
 use Rattle.omf_module.specs.Reading.{BeginsModule, Follows, is_end, TakesCommons}
 

@@ -1,27 +1,22 @@
 -- The records of a module are read in one way.
-use Rattle.std.proofs.Common.{◌≡◌, ◌≢◌, ◌⊎◌, inl, inr, ℕ, ◌<◌, ◌≤◌, ◌+◌, Bool, true, false, ◌&&◌, Option, Some, None, List, [], ◌∷◌, ◌++◌, length, refl, sym, ap, subst, ◌∙◌, arith, append_assoc, IsTrue}
+use Rattle.std.proofs.Common.{◌≡◌, ◌⊎◌, inl, inr, ℕ, Option, Some, None, List, [], ◌∷◌, ◌++◌, refl, sym, ap, subst, ◌∙◌, append_assoc, IsTrue}
 use Rattle.std.proofs.lemmas.Bool.{and_parts}
 use Rattle.std.proofs.lemmas.List.{append-nil}
-use Rattle.omf_core.specs.Kind.{kind_byte}
-use Rattle.omf_core.specs.Record.{SpellsRecord}
 use Rattle.omf_body.specs.declared.body.HeaderBody.{HeaderBody}
 use Rattle.omf_body.specs.declared.body.EndBody.{EndBody}
 use Rattle.omf_body.specs.declared.body.Body.{Body}
-use Rattle.omf_body.specs.declared.body.Body.TheVariants.{ModuleHeader, ModuleEnd, Content, LineNumbers, EndOfFile, Ancestor, LocalSymbols, PublicDeclarations, ExternalNames, ExternalReferences, Relocation, IntersegmentReferences, NamedCommons}
-use Rattle.omf_body.specs.Bodies.{body_kind, body_bytes}
+use Rattle.omf_body.specs.declared.body.Body.TheVariants.{ModuleHeader, ModuleEnd}
 use Rattle.omf_module.specs.declared.fault.Cause.{Cause}
-use Rattle.omf_module.specs.declared.fault.Cause.TheVariants.{NoEnd}
 use Rattle.omf_module.specs.declared.fault.ModuleFault.{ModuleFault}
 use Rattle.omf_module.specs.declared.records.PlacedBody.{PlacedBody}
 use Rattle.omf_module.specs.declared.symbols.Common.{Common}
-use Rattle.omf_module.specs.Modules.{ModuleValue, made_of}
+use Rattle.omf_module.specs.Modules.{made_of}
 use Rattle.omf_module.specs.Records.{SpellsBody, SpellsBodies, commons_in, commons_of, may_follow, each_follows, ModuleRecords, SpellsModuleRecords}
 use Rattle.omf_module.specs.Gathered.{parts_of}
 use Rattle.omf_module.specs.Uses.{fault_by, use_fault}
-use Rattle.omf_module.specs.Spelled.{FaultsWithin, FaultsRecords, SpellsModule, FaultsModule, in_header, in_records, in_uses, SpellsModules, EndsFile, SpellsFile, FaultsFile, first_module, later_module, no_end}
-use Rattle.omf_module.specs.Reading.{is_end}
-use Rattle.omf_module.specs.ReadingLaws.{OneModule, OneFault, NeverBoth, OneFile, OneFileFault, NeverBothFile}
-use Rattle.omf_module.proofs.OneReading.{Below, same_body, header_sound, one_header_fault, one_within, within_sound, past_spelled, some_none, some_same}
+use Rattle.omf_module.specs.Spelled.{FaultsWithin, FaultsRecords, in_header, in_records, in_uses}
+use Rattle.omf_module.specs.ReadingLaws.{OneModule, OneFault, NeverBoth}
+use Rattle.omf_module.proofs.OneReading.{Below, same_body, header_sound, one_header_fault, one_within, within_sound, some_none, some_same}
 
 -- ---- records
 
@@ -39,9 +34,16 @@ to_run : (bytes : List ℕ) (commons : List Common) (from to : ℕ) (ps : List P
     → SpellsBodies bytes from to ps → IsTrue (each_follows commons ps) → Tail bytes (commons ++ commons_of ps) to out → Run bytes commons from ps out
 to_run bytes commons from to [] out s f t = subst (λ (c : List Common). Tail bytes c from out) (append-nil commons) (subst (λ (a : ℕ). Tail bytes (commons ++ []) a out) (sym s) t)
 to_run bytes commons from to (p ∷ ps) out s f t =
-    let parts = and_parts (may_follow commons p.body) (each_follows (commons ++ commons_in p.body) ps) f in
-    (s.0, (s.1.0, s.1.1, parts.0, to_run bytes (commons ++ commons_in p.body) s.1.0 to ps out s.1.2 parts.1
-        (subst (λ (c : List Common). Tail bytes c to out) (sym (append_assoc commons (commons_in p.body) (commons_of ps))) t)))
+    let parts = and_parts (may_follow commons p.body) (each_follows (commons ++ commons_in p.body) ps) f in (
+      s.0,
+      (
+        s.1.0,
+        s.1.1,
+        parts.0,
+        to_run bytes (commons ++ commons_in p.body) s.1.0 to ps out s.1.2 parts.1
+            (subst (λ (c : List Common). Tail bytes c to out) (sym (append_assoc commons (commons_in p.body) (commons_of ps))) t),
+      ),
+    )
 
 end_same : (x y : EndBody) → ModuleEnd x ≡ ModuleEnd y → x ≡ y
 end_same x y e = ap (value x) e
@@ -89,7 +91,7 @@ one_run b bytes commons at (x ∷ xs) [] o p r s = absurd (tail_follows b bytes 
 one_run b bytes commons at (x ∷ xs) (y ∷ ys) o p r s =
     let same = same_body b bytes at r.1.0 s.1.0 x.body y.body r.1.1 s.1.1 in
     let rest = one_run b bytes (commons ++ commons_in y.body) s.1.0 xs ys o p
-        (subst (λ (n : ℕ). Run bytes (commons ++ commons_in y.body) n xs o) same.1 (subst (λ (z : Body). Run bytes (commons ++ commons_in z) r.1.0 xs o) same.0 r.1.3)) s.1.3 in
+    (subst (λ (n : ℕ). Run bytes (commons ++ commons_in y.body) n xs o) same.1 (subst (λ (z : Body). Run bytes (commons ++ commons_in z) r.1.0 xs o) same.0 r.1.3)) s.1.3 in
     record {
       records = ap (λ (n : ℕ). placed n x.body ∷ xs) (r.0 ∙ sym s.0) ∙ (ap (λ (z : Body). placed y.at z ∷ xs) same.0 ∙ ap (λ (zs : List PlacedBody). y ∷ zs) rest.records);
       out = rest.out;
@@ -132,7 +134,7 @@ same_records : Below → (bytes : List ℕ) (after after' : ℕ) (r s : ModuleRe
 same_records b bytes after after' r s at x y =
     let head = same_body b bytes s.at x.first y.first (ModuleHeader r.header) (ModuleHeader s.header) (subst (λ (a : ℕ). SpellsBody bytes a x.first (ModuleHeader r.header)) at x.header) y.header in
     let run = one_run b bytes [] y.first r.within s.within (inr (r.end_at, r.end, after)) (inr (s.end_at, s.end, after'))
-        (subst (λ (f : ℕ). Run bytes [] f r.within (inr (r.end_at, r.end, after))) head.1 (module_run bytes after r x)) (module_run bytes after' s y) in
+    (subst (λ (f : ℕ). Run bytes [] f r.within (inr (r.end_at, r.end, after))) head.1 (module_run bytes after r x)) (module_run bytes after' s y) in
     let o : Out = inr (r.end_at, r.end, after) in
     let ends = right_same o (r.end_at, r.end, after) (s.end_at, s.end, after') refl run.out in
     record {
@@ -157,7 +159,7 @@ ends_once : Below → (bytes : List ℕ) (after first : ℕ) (r : ModuleRecords)
 ends_once b bytes after first r h f x head y =
     let same = same_body b bytes r.at x.first first (ModuleHeader r.header) (ModuleHeader h) x.header head in
     let run = one_run b bytes [] first r.within y.before (inr (r.end_at, r.end, after)) (inl f)
-        (subst (λ (n : ℕ). Run bytes [] n r.within (inr (r.end_at, r.end, after))) same.1 (module_run bytes after r x)) (fault_run bytes first f y) in
+    (subst (λ (n : ℕ). Run bytes [] n r.within (inr (r.end_at, r.end, after))) same.1 (module_run bytes after r x)) (fault_run bytes first f y) in
     let o : Out = inl f in
     left_right o f (r.end_at, r.end, after) refl (sym run.out)
 

@@ -1,9 +1,8 @@
 -- What stands at a place is one thing: a record that may stand there, or a first fault.
-use Rattle.std.proofs.Common.{◌≡◌, ◌≢◌, ◌⊎◌, inl, inr, ℕ, ◌<◌, ◌≤◌, ◌+◌, Bool, true, false, ◌&&◌, Option, Some, None, List, [], ◌∷◌, ◌++◌, length, map, drop, Result, Ok, Err, refl, sym, ap, subst, ◌∙◌, arith, append_assoc, IsTrue}
+use Rattle.std.proofs.Common.{◌≡◌, ◌⊎◌, inl, inr, ℕ, ◌<◌, ◌≤◌, Bool, true, false, ◌&&◌, Option, Some, None, List, [], ◌∷◌, ◌++◌, length, map, drop, Result, Ok, Err, refl, sym, ap, subst, ◌∙◌, arith, IsTrue}
 use Rattle.std.specs.Prelude.{not, ◌==◌, if◌then◌else◌}
 use Rattle.std.specs.List.{flat_map, list_all}
 use Rattle.std.proofs.lemmas.Bool.{and_parts}
-use Rattle.std.proofs.lemmas.List.{append-nil}
 use Rattle.omf_core.specs.declared.fault.RecordFault.{RecordFault}
 use Rattle.omf_core.specs.Kind.{kind_byte}
 use Rattle.omf_core.specs.Name.{is_name, name_spelling}
@@ -13,22 +12,20 @@ use Rattle.omf_body.specs.declared.entries.CommonEntry.{CommonEntry}
 use Rattle.omf_body.specs.declared.fault.FieldFault.{FieldFault}
 use Rattle.omf_body.specs.declared.fault.FieldFault.TheVariants.{BadBody as BadField}
 use Rattle.omf_body.specs.declared.fault.BodyFault.{BodyFault}
-use Rattle.omf_body.specs.declared.body.HeaderBody.{HeaderBody}
-use Rattle.omf_body.specs.declared.body.EndBody.{EndBody}
 use Rattle.omf_body.specs.declared.body.Body.{Body}
 use Rattle.omf_body.specs.declared.body.Body.TheVariants.{ModuleHeader, ModuleEnd, Content, LineNumbers, EndOfFile, Ancestor, LocalSymbols, PublicDeclarations, ExternalNames, ExternalReferences, Relocation, IntersegmentReferences, NamedCommons}
 use Rattle.omf_body.specs.Fields.{◌>>=◌, read_name}
 use Rattle.omf_body.specs.FieldsAgain.{name_again}
 use Rattle.omf_body.specs.Entries.{is_common_id, common_bytes, common_layout}
-use Rattle.omf_body.specs.Bodies.{body_kind, body_bytes, is_sound_body, Spells}
+use Rattle.omf_body.specs.Bodies.{body_kind, body_bytes, is_sound_body}
 use Rattle.omf_body.specs.FirstFault.{FirstFault}
 use Rattle.omf_body.specs.Laws.{OneBody, OneFault as OneBodyFault, NeverBoth as NeverBothBody}
 use Rattle.omf_module.specs.declared.fault.Cause.{Cause}
-use Rattle.omf_module.specs.declared.fault.Cause.TheVariants.{Record, NoHeader, UnknownKind, NoEnd}
+use Rattle.omf_module.specs.declared.fault.Cause.TheVariants.{Record, UnknownKind, NoEnd}
 use Rattle.omf_module.specs.declared.symbols.Common.{Common}
 use Rattle.omf_module.specs.Rules.{each_after, is_new_common}
-use Rattle.omf_module.specs.Records.{SpellsBody, commons_in, may_follow}
-use Rattle.omf_module.specs.Spelled.{cause_of, FaultsHeader, no_header_byte, no_header_record, other_kind, in_header_body, has_id, has_name, read_new_common, FaultsCommons, here, later, commons_cause, stands_alone, FaultsWithin, no_byte, no_record, file_ends, second_header, in_body, in_commons}
+use Rattle.omf_module.specs.Records.{SpellsBody, may_follow}
+use Rattle.omf_module.specs.Spelled.{cause_of, no_header_byte, no_header_record, other_kind, in_header_body, has_id, has_name, read_new_common, FaultsCommons, here, later, commons_cause, FaultsWithin, no_byte, no_record, file_ends, second_header, in_body, in_commons}
 use Rattle.omf_module.specs.Reading.{common_of, is_end}
 use Rattle.omf_module.specs.ReadingLaws.{OneHeaderFault, SoundHeader}
 
@@ -140,8 +137,8 @@ read_new before e rest sound new =
     let s = and_parts (is_common_id e.id) (is_name e.name) sound in
     let n = and_parts (is_common_id e.id && not (has_id before e.id)) (not (has_name before e.name)) new in
     chosen (is_common_id e.id && not (has_id before e.id))
-        (read_name (name_spelling e.name ++ rest) >>= λ name. if has_name before name.0 then Err BadField else Ok (record { id = e.id; name = name.0 }, name.1))
-        (Err BadField) n.0
+    (read_name (name_spelling e.name ++ rest) >>= λ name. if has_name before name.0 then Err BadField else Ok (record { id = e.id; name = name.0 }, name.1))
+    (Err BadField) n.0
     ∙ (ap (λ (r : Result (List ℕ × List ℕ) FieldFault). r >>= λ name. if has_name before name.0 then Err BadField else Ok (record { id = e.id; name = name.0 }, name.1)) (name_again e.name rest s.1)
     ∙ unchosen (has_name before e.name) (Err BadField) (Ok (common_of e, rest)) n.1)
 
@@ -213,14 +210,14 @@ chosen_one false P P' Q Q' R f g p q = g p q
 one_record_fault : Below → (commons : List Common) (kind : ℕ) (body : List ℕ) (why why' : Cause) → RecordFaulted commons kind body why → RecordFaulted commons kind body why' → why ≡ why'
 one_record_fault b commons kind body why why' =
     chosen_one (kind == 0x02) (why ≡ UnknownKind 0x02) (why' ≡ UnknownKind 0x02)
-        (Chosen (kind == 0x0E) (why ≡ NoEnd) (Chosen (kind == 0x2E) (CommonsFaulted commons body why) (BodyFaulted kind body why)))
-        (Chosen (kind == 0x0E) (why' ≡ NoEnd) (Chosen (kind == 0x2E) (CommonsFaulted commons body why') (BodyFaulted kind body why')))
-        (why ≡ why') (λ e d. e ∙ sym d)
+    (Chosen (kind == 0x0E) (why ≡ NoEnd) (Chosen (kind == 0x2E) (CommonsFaulted commons body why) (BodyFaulted kind body why)))
+    (Chosen (kind == 0x0E) (why' ≡ NoEnd) (Chosen (kind == 0x2E) (CommonsFaulted commons body why') (BodyFaulted kind body why')))
+    (why ≡ why') (λ e d. e ∙ sym d)
     (chosen_one (kind == 0x0E) (why ≡ NoEnd) (why' ≡ NoEnd) (Chosen (kind == 0x2E) (CommonsFaulted commons body why) (BodyFaulted kind body why)) (Chosen (kind == 0x2E) (CommonsFaulted commons body why') (BodyFaulted kind body why'))
-        (why ≡ why') (λ e d. e ∙ sym d)
+    (why ≡ why') (λ e d. e ∙ sym d)
     (chosen_one (kind == 0x2E) (CommonsFaulted commons body why) (CommonsFaulted commons body why') (BodyFaulted kind body why) (BodyFaulted kind body why') (why ≡ why')
-        (λ e d. e.is ∙ (ap commons_cause (one_commons commons body e.fault d.fault e.faults d.faults) ∙ sym d.is))
-        (λ e d. e.is ∙ (ap cause_of (b.one_fault kind body e.fault d.fault e.faults d.faults) ∙ sym d.is))))
+    (λ e d. e.is ∙ (ap commons_cause (one_commons commons body e.fault d.fault e.faults d.faults) ∙ sym d.is))
+    (λ e d. e.is ∙ (ap cause_of (b.one_fault kind body e.fault d.fault e.faults d.faults) ∙ sym d.is))))
 
 one_view : Below → (bytes : List ℕ) (at : ℕ) (commons : List Common) (why why' : Cause) → View bytes at commons why → View bytes at commons why' → why ≡ why'
 one_view b bytes at commons why why' (past p) (past q) = refl

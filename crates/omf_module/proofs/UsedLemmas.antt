@@ -1,5 +1,5 @@
 -- All records of a module are looked at: header, those within, end.
-use Rattle.std.proofs.Common.{◌≡◌, ◌≢◌, ◌⊎◌, inl, inr, ℕ, Option, Some, None, List, [], ◌∷◌, map, refl, sym, ap, subst, ◌∙◌}
+use Rattle.std.proofs.Common.{◌≡◌, inl, inr, ℕ, Option, Some, None, List, [], map, sym, ap, subst, ◌∙◌}
 use Rattle.std.specs.Prelude.{option_map}
 use Rattle.std.specs.List.{flat_map}
 use Rattle.std.specs.Option.{option_or, option_to_list}
@@ -12,7 +12,7 @@ use Rattle.omf_module.specs.Contents.{ContentValue}
 use Rattle.omf_module.specs.Modules.{ModuleValue}
 use Rattle.omf_module.specs.Records.{ModuleRecords, SpellsModuleRecords, commons_of}
 use Rattle.omf_module.specs.Gathered.{segments_in, publics_in, externals_in, start_in, contents_from, parts_of}
-use Rattle.omf_module.specs.Uses.{unknown_id, bodies_fault, fault_by, header_fault, end_fault, use_fault}
+use Rattle.omf_module.specs.Uses.{unknown_id, bodies_fault, fault_by, end_fault, use_fault}
 use Rattle.omf_module.specs.Spelled.{FaultsModule, in_uses}
 use Rattle.omf_module.specs.Reading.{with_contents, OrNoMemory}
 use Rattle.omf_module.proofs.WithinLemmas.{by_cause}

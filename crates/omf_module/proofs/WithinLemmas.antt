@@ -1,6 +1,5 @@
 -- Records of a module, one after another.
-use Rattle.std.proofs.Common.{◌≡◌, ◌≢◌, ◌⊎◌, inl, inr, ℕ, Bool, true, ◌&&◌, List, [], ◌∷◌, ◌++◌, refl, sym, ap, subst, ◌∙◌, append_assoc, IsTrue}
-use Rattle.std.specs.List.{flat_map}
+use Rattle.std.proofs.Common.{◌≡◌, ◌≢◌, ◌⊎◌, inl, inr, ℕ, true, List, [], ◌∷◌, ◌++◌, refl, sym, ap, subst, ◌∙◌, append_assoc, IsTrue}
 use Rattle.std.proofs.lemmas.Bool.{and_parts}
 use Rattle.std.proofs.lemmas.List.{append-nil}
 use Rattle.std.proofs.lemmas.Grind.{flat_map-append}
@@ -13,7 +12,7 @@ use Rattle.omf_module.specs.declared.fault.Cause.TheVariants.{Record, NoHeader, 
 use Rattle.omf_module.specs.declared.fault.ModuleFault.{ModuleFault}
 use Rattle.omf_module.specs.declared.records.PlacedBody.{PlacedBody}
 use Rattle.omf_module.specs.declared.symbols.Common.{Common}
-use Rattle.omf_module.specs.Fault.{no_memory, fault_of}
+use Rattle.omf_module.specs.Fault.{fault_of}
 use Rattle.omf_module.specs.Records.{SpellsBody, SpellsBodies, commons_in, commons_of, may_follow, each_follows}
 use Rattle.omf_module.specs.Uses.{fault_by}
 use Rattle.omf_module.specs.Spelled.{FaultsWithin, FaultsRecords, FaultsModule, in_records}

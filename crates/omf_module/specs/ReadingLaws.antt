@@ -1,6 +1,6 @@
 -- Bytes spell one module at a place at most, or have one first fault there, and never both; and so do files.
 -- (It follows from the layout of records.)
-use Rattle.std.specs.Prelude.{◌≡◌, ◌⊎◌, ℕ, List, Result, Ok, Err}
+use Rattle.std.specs.Prelude.{◌≡◌, ◌⊎◌, ℕ, List, Result, Err}
 use Rattle.omf_body.specs.declared.body.HeaderBody.{HeaderBody}
 use Rattle.omf_body.specs.declared.body.Body.TheVariants.{ModuleHeader}
 use Rattle.omf_module.specs.declared.fault.Cause.{Cause}

@@ -7,7 +7,7 @@ use Rattle.omf_core.specs.Record.{SpellsRecord}
 use Rattle.omf_body.specs.declared.body.HeaderBody.{HeaderBody}
 use Rattle.omf_body.specs.declared.body.EndBody.{EndBody}
 use Rattle.omf_body.specs.declared.body.Body.{Body}
-use Rattle.omf_body.specs.declared.body.Body.TheVariants.{ModuleHeader, ModuleEnd, Content, LineNumbers, EndOfFile, Ancestor, LocalSymbols, PublicDeclarations, ExternalNames, ExternalReferences, Relocation, IntersegmentReferences, NamedCommons}
+use Rattle.omf_body.specs.declared.body.Body.TheVariants.{ModuleHeader, ModuleEnd, EndOfFile, NamedCommons}
 use Rattle.omf_body.specs.Bodies.{body_kind, body_bytes, is_sound_body}
 use Rattle.omf_module.specs.declared.symbols.Common.{Common}
 use Rattle.omf_module.specs.declared.records.PlacedBody.{PlacedBody}

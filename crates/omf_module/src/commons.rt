@@ -57,7 +57,11 @@ fn new_common<'a>(cursor: &mut Cursor<'a>, before: &[Common]) -> Result<CommonEn
 }
 
 /// Takes the commons of a record, where each is new.
-pub(crate) fn take_commons(alloc: Global, body: &[u8], commons: &mut Vec<Common>) -> Result<(), Cause>
+pub(crate) fn take_commons(
+    alloc: Global,
+    body: &[u8],
+    commons: &mut Vec<Common>,
+) -> Result<(), Cause>
     ensures taken { OnOk result (TakesCommons commons.old.items body.now commons.new.items) }
     ensures fault { IfErr result (λ why. why ≢ Cause.Memory → RefusesCommons commons.old.items body.now why) }
 {

@@ -10,14 +10,15 @@ use crate::fixup::{Fixup, Target};
 use crate::records::PlacedBody;
 use crate::segment::Segment;
 use crate::symbols::Public;
-use omf_body::{
-    Body, ExternalReferencesBody, Field, HeaderBody, OffsetEntry, Row,
-};
+use omf_body::{Body, ExternalReferencesBody, Field, HeaderBody, OffsetEntry, Row};
 use omf_core::Name;
 use std::alloc::{AllocError, Global};
 
 /// The segments of a header.
-pub(crate) fn segments_in(alloc: Global, header: &HeaderBody) -> Result<Vec<(u8, Segment)>, AllocError>
+pub(crate) fn segments_in(
+    alloc: Global,
+    header: &HeaderBody,
+) -> Result<Vec<(u8, Segment)>, AllocError>
     ensures { IfOk result (λ segments. segments.items ≡ segments_in header.now) }
 {
     let mut segments = Vec::new(alloc);
@@ -130,7 +131,12 @@ pub(crate) fn fixups_in(alloc: Global, own: u8, body: &Body) -> Result<Vec<Fixup
 {
     match body {
         Body::ExternalReferences(b) => by_index(alloc, b),
-        Body::Relocation(b) => by_offset(alloc, b.field, Target::Segment(own), b.references.again()),
+        Body::Relocation(b) => by_offset(
+            alloc,
+            b.field,
+            Target::Segment(own),
+            b.references.again(),
+        ),
         Body::IntersegmentReferences(b) => by_offset(
             alloc,
             b.field,

@@ -49,13 +49,13 @@ fn without_contents(
     start: Option<Place>,
 ) -> Result<Parts, AllocError>
     ensures { IfOk result (λ parts. parts ≡ record {
-        name = header.now.name;
-        segments = segments_in header.now;
-        commons = commons.items;
-        publics = flat_map (λ p. publics_in p.body) bodies.now;
-        externals = flat_map (λ p. externals_in p.body) bodies.now;
-        contents = [];
-        start = option_map (λ place. (place.segment, place.offset)) start;
+      name = header.now.name;
+      segments = segments_in header.now;
+      commons = commons.items;
+      publics = flat_map (λ p. publics_in p.body) bodies.now;
+      externals = flat_map (λ p. externals_in p.body) bodies.now;
+      contents = [];
+      start = option_map (λ place. (place.segment, place.offset)) start;
     }) }
 {
     let name = kept(alloc, &header.name)?;

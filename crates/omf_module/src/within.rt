@@ -18,14 +18,13 @@ use std::alloc::Global;
 
 /// The type bytes of a module header, of the end of a file, and of named commons.
 const MODULE_HEADER: u8 = 0x02;
+
 const END_OF_FILE: u8 = 0x0E;
+
 const NAMED_COMMONS: u8 = 0x2E;
 
 /// The module header at a place, and the place after it. It takes no memory.
-pub(crate) fn header_at<'a>(
-    bytes: &'a [u8],
-    at: usize,
-) -> Result<(HeaderBody<'a>, usize), Cause>
+pub(crate) fn header_at<'a>(bytes: &'a [u8], at: usize) -> Result<(HeaderBody<'a>, usize), Cause>
     ensures spelled { IfOk result (λ r. BeginsModule bytes.now at r.1 r.0) }
     ensures fault { IfErr result (λ why. FaultsHeader bytes.now at why) }
     ensures memory { IfErr result (λ why. why ≢ Cause.Memory) }

@@ -1,4 +1,4 @@
-use Rattle.std.proofs.Common.{rules, ◌≡◌, ◌<◌, ℕ, List, length, [], arith, sym, subst, ◌∙◌, ap, ◌++◌, ◌∷◌, IsTrue, Ok, Err, true≢false}
+use Rattle.std.proofs.Common.{rules, ◌≡◌, List, [], sym, subst, ◌++◌, ◌∷◌}
 use Rattle.omf_module.specs.declared.symbols.Common.{Common}
 use Rattle.omf_module.specs.Reading.{common_of}
 use Rattle.omf_module.proofs.CommonLemmas.{CommonsSoFar, one_taken, refused, not_empty}

@@ -1,6 +1,5 @@
 -- what was taken, and what is left
 use Rattle.std.proofs.Common.{◌≡◌, ◌++◌, length, map}
-use Rattle.omf_module.specs.declared.symbols.Public.{Public}
 use Rattle.omf_module.specs.Gathered.{publics_in}
 use Rattle.omf_module.proofs.gathering.take_publics.Given as goal
 

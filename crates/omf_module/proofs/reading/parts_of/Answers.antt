@@ -1,14 +1,11 @@
-use Rattle.std.proofs.Common.{rules, ◌≡◌, ap, sym, ◌∙◌, subst, List, None, Some}
+use Rattle.std.proofs.Common.{◌≡◌, subst, List, None, Some}
 use Rattle.std.proofs.lemmas.Result.{err_from_is_err_and}
-use Rattle.std.specs.Result.{result_err}
-use Rattle.omf_module.specs.declared.symbols.Common.{Common}
 use Rattle.omf_module.specs.Contents.{ContentValue}
-use Rattle.omf_module.specs.Modules.{ModuleValue}
 use Rattle.omf_module.specs.Records.{ModuleRecords}
 use Rattle.omf_module.specs.declared.records.PlacedBody.{PlacedBody}
 use Rattle.omf_module.specs.Uses.{bodies_fault}
 use Rattle.omf_module.specs.Reading.{records_of, with_contents, OrNoMemory}
-use Rattle.omf_module.proofs.UsedLemmas.{draft_of, drafted, header_refused, contents_refused, start_refused, all_used}
+use Rattle.omf_module.proofs.UsedLemmas.{drafted, header_refused, contents_refused, start_refused, all_used}
 use Rattle.omf_module.proofs.reading.parts_of.Goals as goal
 
 pub returns-in-Err-clause-fault : goal.returns-in-Err-clause-fault
@@ -20,7 +17,7 @@ pub returns-in_err-contents-clause-fault : goal.returns-in_err-contents-clause-f
 returns-in_err-contents-clause-fault c =
     let r : ModuleRecords = records_of c.args.file in
     let p = err_from_is_err_and c.from_residual-in_err-contents.result c.from_residual-in_err-contents.ensures.1 in
-    rw (p.1, p.2) (contents_refused r c.in_ok-parts.parts c.in_err-contents.field-0.0 (drafted r c.in_ok-parts.parts c.args.file.within.commons.items c.deref.result.now c.in_ok-parts.ensures c.requires c.deref.ensures.value) c.in_default.ensures 
+    rw (p.1, p.2) (contents_refused r c.in_ok-parts.parts c.in_err-contents.field-0.0 (drafted r c.in_ok-parts.parts c.args.file.within.commons.items c.deref.result.now c.in_ok-parts.ensures c.requires c.deref.ensures.value) c.in_default.ensures
     (subst (λ (b : List PlacedBody). OrNoMemory (λ fault. (cs : List ContentValue) → bodies_fault (with_contents c.in_ok-parts.parts cs) None b ≡ Some fault) c.in_err-contents.field-0.0)
     c.deref-2.ensures.value c.in_err-contents.ensures.fault))
 

@@ -1,4 +1,4 @@
-use Rattle.std.proofs.Common.{rules, ◌≡◌, ◌+◌, List, ◌∷◌, drop, subst}
+use Rattle.std.proofs.Common.{◌+◌, List, drop, subst}
 use Rattle.omf_module.specs.declared.records.PlacedBody.{PlacedBody}
 use Rattle.omf_module.proofs.UseLemmas.{ContentsSoFar, front, fault_here}
 use Rattle.omf_module.proofs.uses.contents_of.Goals as goal

@@ -1,8 +1,8 @@
-use Rattle.std.proofs.Common.{rules, ◌≡◌, ◌≢◌, ℕ, sym, subst, arith}
+use Rattle.std.proofs.Common.{ℕ, sym, subst, arith}
 use Rattle.std.proofs.lemmas.Result.{err_from_is_err_and}
 use Rattle.omf_core.specs.Record.{SpellsRecord}
 use Rattle.omf_body.specs.FirstFault.{FirstFault}
-use Rattle.omf_module.specs.Spelled.{FaultsHeader, no_header_byte, no_header_record, other_kind, in_header_body}
+use Rattle.omf_module.specs.Spelled.{no_header_byte, no_header_record, other_kind, in_header_body}
 use Rattle.omf_module.proofs.within.header_at.Goals as goal
 
 pub returns-then-bytes-at-clause-fault : goal.returns-then-bytes-at-clause-fault

@@ -1,11 +1,11 @@
-use Rattle.std.proofs.Common.{rules, ◌≡◌, ◌≢◌, ℕ, sym, subst, arith, refl, Ok}
+use Rattle.std.proofs.Common.{rules, ℕ, sym, subst, arith, refl, Ok}
 use Rattle.std.proofs.lemmas.Result.{err_from_is_err_and}
 use Rattle.omf_core.specs.Record.{SpellsRecord}
 use Rattle.omf_body.specs.declared.body.Body.TheVariants.{NamedCommons}
 use Rattle.omf_body.specs.Bodies.{Spells}
 use Rattle.omf_module.specs.declared.fault.Cause.{Cause}
 use Rattle.omf_module.specs.Spelled.{FaultsWithin, no_byte, no_record, file_ends, second_header, in_body, in_commons}
-use Rattle.omf_module.proofs.FollowLemmas.{followed, followed_commons, commons_spelled, is_alone, err_not_ok, ok_same}
+use Rattle.omf_module.proofs.FollowLemmas.{followed_commons, commons_spelled, is_alone, err_not_ok, ok_same}
 use Rattle.omf_module.proofs.within.next_body.Goals as goal
 
 pub returns-then-bytes-at-clause-fault : goal.returns-then-bytes-at-clause-fault

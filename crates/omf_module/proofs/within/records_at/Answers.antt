@@ -1,4 +1,3 @@
-use Rattle.std.proofs.Common.{rules, ◌≡◌, inl, inr}
 use Rattle.std.proofs.lemmas.Result.{err_from_is_err_and}
 use Rattle.omf_module.specs.Spelled.{FaultsModule, in_header}
 use Rattle.omf_module.proofs.WithinLemmas.{by_cause, header_then}
