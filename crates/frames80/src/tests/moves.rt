@@ -9,7 +9,7 @@ use std::test::Fail;
 
 /// Instructions that go on to the next one, each with the frame before it and after it.
 #[rattlefmt::skip]
-static CHANGES: [(Role, [u8; 3], Parts, Parts); 22] = [
+static CHANGES: [(Role, [u8; 3], Parts, Parts); 24] = [
     // PUSH and POP of BC, DE and HL carry the return address; PSW doesn't.
     (Entry, [0xC5, 0x00, 0x00], (0, &[], [Own, Any, Any]), (0, &[Own], [Own, Any, Any])),
     (Entry, [0xD5, 0x00, 0x00], (0, &[], [Any, Own, Any]), (0, &[Own], [Any, Own, Any])),
@@ -34,7 +34,10 @@ static CHANGES: [(Role, [u8; 3], Parts, Parts); 22] = [
     (Entry, [0xD5, 0x00, 0x00], (1, &[], [Any, Own, Any]), (1, &[Own], [Any, Own, Any])),
     (Entry, [0x79, 0x00, 0x00], (1, &[Own], [Any, Own, Any]), (1, &[Own], [Any, Own, Any])),
     (Entry, [0xD3, 0x01, 0x00], (1, &[Own], [Any, Own, Any]), (1, &[Own], [Any, Own, Any])),
-    // Its caller: LXI SP,3200, LXI H,0005, PUSH H.
+    // One that takes two on one of its ways: after POP D and POP B, POP B and PUSH D.
+    (Entry, [0xC1, 0x00, 0x00], (1, &[], [Any, Own, Any]), (2, &[], [Any, Own, Any])),
+    (Entry, [0xD5, 0x00, 0x00], (2, &[], [Any, Own, Any]), (2, &[Own], [Any, Own, Any])),
+    // The caller of the first: LXI SP,3200, LXI H,0005, PUSH H.
     (MAIN, [0x31, 0x00, 0x32], (0, &[], [Any, Any, Any]), (0, &[], [Any, Any, Any])),
     (MAIN, [0x21, 0x05, 0x00], (0, &[], [Any, Any, Any]), (0, &[], [Any, Any, Any])),
     (MAIN, [0xE5, 0x00, 0x00], (0, &[], [Any, Any, Any]), (0, &[Any], [Any, Any, Any])),
