@@ -1,5 +1,6 @@
 pub mod WorkedLinks
 pub mod ListLemmas
+pub mod NameTableLemmas
 pub mod NameLemmas
 pub mod PlaceLemmas
 pub mod ReferenceLemmas

@@ -1,3 +1,4 @@
+pub mod FirstSight
 pub mod Linked
 pub mod LinkFault
 pub mod LinkLaws

@@ -9,5 +9,7 @@
 
 mod fault;
 pub mod laws;
+mod modules;
+mod name_table;
 
 pub use fault::LinkFault;

@@ -1,0 +1,17 @@
+-- Names in order of first sight.
+use Rattle.std.specs.Prelude.{ℕ, nat_eq, Bool, if◌then◌else◌, List, [], ◌∷◌, ◌++◌}
+use Rattle.std.specs.List.{list_any}
+use Rattle.std.specs.Cmp.Lexicographic.{pointwise}
+
+-- the name stands among these
+abbrev pub is_among : List (List ℕ) → List ℕ → Bool
+is_among names name = list_any (pointwise nat_eq name) names
+
+-- the names with one more, last, where it isn't among them
+abbrev pub with_name : List (List ℕ) → List ℕ → List (List ℕ)
+with_name names name = if is_among names name then names else names ++ name ∷ []
+
+-- and with some more
+abbrev pub with_names : List (List ℕ) → List (List ℕ) → List (List ℕ)
+with_names names [] = names
+with_names names (n ∷ ns) = with_names (with_name names n) ns

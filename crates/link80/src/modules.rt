@@ -1,0 +1,57 @@
+//! Modules that are linked together, by number.
+
+ghost use Rattle.std.specs.Prelude.{◌≡◌, ◌<◌, [], ◌∷◌, ◌++◌, Some, length, slice_get, OnOk};
+ghost use Rattle.omf_module.specs.Rules.{IsModule};
+
+use omf_module::Module;
+use std::alloc::{AllocError, Global};
+use std::marker::Model;
+
+/// Modules in the order in which they are laid. A contract sees their list.
+#[derive(Drop)]
+pub(crate) struct Modules<'a> {
+    modules: Vec<&'a Module>,
+}
+
+impl<'a> Model for Modules<'a> {
+    ghost use Rattle.std.specs.Prelude.{List, map};
+    ghost use Rattle.omf_module.specs.Modules.{ModuleValue};
+
+    ghost Value = { List ModuleValue };
+
+    ghost view = { λ m. map (λ one. one.now) m.modules.items };
+}
+
+impl<'a> Modules<'a> {
+    /// No modules.
+    pub(crate) fn new(alloc: Global) -> Modules<'a>
+        ensures { result ≡ [] }
+    {
+        Modules {
+            modules: Vec::new(alloc),
+        }
+    }
+
+    /// Puts a module last.
+    pub(crate) fn push(&mut self, added: &'a Module) -> Result<(), AllocError>
+        ensures { OnOk result (self.new ≡ self.old ++ added.now ∷ []) }
+    {
+        self.modules.push(added)?;
+        Ok(())
+    }
+
+    /// How many modules there are.
+    pub(crate) fn len(&self) -> usize
+        ensures { result ≡ length self.now }
+    {
+        self.modules.len()
+    }
+
+    /// The module of a number.
+    pub(crate) fn get(&self, number: usize) -> &'a Module
+        requires { number < length self.now }
+        ensures { slice_get self.now number ≡ Some result.now }
+    {
+        self.modules[number]
+    }
+}

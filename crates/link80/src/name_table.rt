@@ -1,0 +1,57 @@
+//! Names by number, in order of first sight.
+
+ghost use Rattle.std.specs.Prelude.{◌≡◌, [], not, length, position, nat_eq, IfOk, OnOk};
+ghost use Rattle.std.specs.Cmp.Lexicographic.{pointwise};
+ghost use Rattle.link80.specs.FirstSight.{is_among, with_name};
+
+use indexmap::IndexSet;
+use std::alloc::{AllocError, Global};
+use std::marker::Model;
+
+/// Distinct names by number, in order of first sight. A contract sees their list.
+#[derive(Drop)]
+pub(crate) struct NameTable<'a> {
+    names: IndexSet<&'a [u8]>,
+}
+
+impl<'a> Model for NameTable<'a> {
+    ghost use Rattle.std.specs.Prelude.{ℕ, List, map};
+
+    ghost Value = { List (List ℕ) };
+
+    ghost view = { λ t. map (λ name. name.now) t.names.keys };
+}
+
+impl<'a> NameTable<'a> {
+    /// No names.
+    pub(crate) fn new(alloc: Global) -> NameTable<'a>
+        ensures { result ≡ [] }
+    {
+        NameTable {
+            names: IndexSet::new(alloc),
+        }
+    }
+
+    /// Puts a name last where it isn't there yet; the answer says whether it is new.
+    pub(crate) fn add(&mut self, name: &'a [u8]) -> Result<bool, AllocError>
+        ensures new { IfOk result (λ new. new ≡ not (is_among self.old name.now)) }
+        ensures names { OnOk result (self.new ≡ with_name self.old name.now) }
+    {
+        let (_, new) = self.names.insert_full(name)?;
+        Ok(new)
+    }
+
+    /// How many names there are.
+    pub(crate) fn len(&self) -> usize
+        ensures { result ≡ length self.now }
+    {
+        self.names.len()
+    }
+
+    /// The number of a name, where it is there.
+    pub(crate) fn number_of(&self, name: &[u8]) -> Option<usize>
+        ensures { result ≡ position (pointwise nat_eq name.now) self.now }
+    {
+        self.names.get_index_of(name)
+    }
+}
