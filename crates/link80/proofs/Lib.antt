@@ -1,6 +1,7 @@
 pub mod WorkedLinks
 pub mod ListLemmas
 pub mod NameTableLemmas
+pub mod FirstSightLemmas
 pub mod NameLemmas
 pub mod PlaceLemmas
 pub mod ReferenceLemmas
