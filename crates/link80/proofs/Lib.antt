@@ -2,6 +2,8 @@ pub mod WorkedLinks
 pub mod ListLemmas
 pub mod NameTableLemmas
 pub mod FirstSightLemmas
+pub mod LoopLemmas
+pub mod StartsLemmas
 pub mod NameLemmas
 pub mod PlaceLemmas
 pub mod ReferenceLemmas

@@ -184,7 +184,7 @@ above_rounded : (paged : Bool) (n : ℕ) → n ≤ rounded paged n
 above_rounded true n = omega arith
 above_rounded false n = omega arith
 
-ends_later : (id before : ℕ) (ms : List ModuleValue) → before ≤ parts_end id before ms
+pub ends_later : (id before : ℕ) (ms : List ModuleValue) → before ≤ parts_end id before ms
 ends_later id before [] = omega arith
 ends_later id before (m ∷ ms) =
     let s : Segment = segment_in m.segments id in

@@ -7,9 +7,11 @@
 //! | [`laws`] | the linked module defines the bytes that its modules define |
 #![tactic(auto)]
 
+mod commons;
 mod fault;
 pub mod laws;
 mod modules;
 mod name_table;
+mod starts;
 
 pub use fault::LinkFault;

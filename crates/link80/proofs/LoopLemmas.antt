@@ -1,0 +1,15 @@
+-- Steps of loops over modules by number.
+use Rattle.std.specs.Prelude.{◌≡◌, ℕ, ◌+◌, Some, List, ◌∷◌, ◌++◌, drop, slice_get}
+use Rattle.std.specs.List.{flat_map, enumerate_from}
+use Rattle.std.proofs.Common.{◌∙◌, ap}
+use Rattle.std.proofs.lemmas.List.{drop_more}
+use Rattle.std.proofs.lemmas.Option.{slice_get_within, get_or_from_slice_get}
+
+-- what is left begins with the one that is read
+pub left_at : {A : Type 0} (xs : List A) (n : ℕ) (x : A) → slice_get xs n ≡ Some x → drop n xs ≡ x ∷ drop (n + 1) xs
+left_at xs n x at = drop_more xs n x (slice_get_within xs n x at) ∙ ap (λ y. y ∷ drop (n + 1) xs) (get_or_from_slice_get xs n x x at)
+
+-- what is made of each with its number
+pub numbered_at : {A B : Type 0} (f : ℕ × A → List B) (xs : List A) (n : ℕ) (x : A) → slice_get xs n ≡ Some x →
+    flat_map f (enumerate_from n (drop n xs)) ≡ f (n, x) ++ flat_map f (enumerate_from (n + 1) (drop (n + 1) xs))
+numbered_at f xs n x at = ap (λ l. flat_map f (enumerate_from n l)) (left_at xs n x at)
