@@ -124,3 +124,8 @@ distinct_passed test (n ∷ ns) = elim (cases_Bool (test n)) [
       | inl same ↦ ap (λ b. not b && test x) same ∙ sym (ap test (sym (name_is n x same)) ∙ fails)
       | inr differs ↦ ap (λ b. not b && test x) differs
     ]
+
+-- some names, and then more
+pub with_both : (keys xs ys : List (List ℕ)) → with_names (with_names keys xs) ys ≡ with_names keys (xs ++ ys)
+with_both keys [] ys = refl
+with_both keys (x ∷ xs) ys = with_both (with_name keys x) xs ys

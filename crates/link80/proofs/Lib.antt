@@ -3,7 +3,9 @@ pub mod ListLemmas
 pub mod NameTableLemmas
 pub mod FirstSightLemmas
 pub mod LoopLemmas
+pub mod NumberLemmas
 pub mod StartsLemmas
+pub mod GatheredLemmas
 pub mod NameLemmas
 pub mod PlaceLemmas
 pub mod ReferenceLemmas

@@ -1,6 +1,6 @@
 -- Steps of loops over modules by number.
-use Rattle.std.specs.Prelude.{◌≡◌, ℕ, ◌+◌, Some, List, ◌∷◌, ◌++◌, drop, slice_get}
-use Rattle.std.specs.List.{flat_map, enumerate_from}
+use Rattle.std.specs.Prelude.{◌≡◌, ℕ, ◌+◌, Bool, ◌||◌, Some, List, ◌∷◌, ◌++◌, drop, slice_get}
+use Rattle.std.specs.List.{list_any, flat_map, enumerate_from}
 use Rattle.std.proofs.Common.{◌∙◌, ap}
 use Rattle.std.proofs.lemmas.List.{drop_more}
 use Rattle.std.proofs.lemmas.Option.{slice_get_within, get_or_from_slice_get}
@@ -13,3 +13,8 @@ left_at xs n x at = drop_more xs n x (slice_get_within xs n x at) ∙ ap (λ y. 
 pub numbered_at : {A B : Type 0} (f : ℕ × A → List B) (xs : List A) (n : ℕ) (x : A) → slice_get xs n ≡ Some x →
     flat_map f (enumerate_from n (drop n xs)) ≡ f (n, x) ++ flat_map f (enumerate_from (n + 1) (drop (n + 1) xs))
 numbered_at f xs n x at = ap (λ l. flat_map f (enumerate_from n l)) (left_at xs n x at)
+
+-- what passes among the numbered ones that are left
+pub passes_at : {A : Type 0} (test : ℕ × A → Bool) (xs : List A) (n : ℕ) (x : A) → slice_get xs n ≡ Some x →
+    list_any test (enumerate_from n (drop n xs)) ≡ (test (n, x) || list_any test (enumerate_from (n + 1) (drop (n + 1) xs)))
+passes_at test xs n x at = ap (λ l. list_any test (enumerate_from n l)) (left_at xs n x at)

@@ -1,5 +1,5 @@
 -- Names in order of first sight.
-use Rattle.std.specs.Prelude.{ℕ, nat_eq, Bool, if◌then◌else◌, List, [], ◌∷◌, ◌++◌}
+use Rattle.std.specs.Prelude.{ℕ, suc, nat_eq, Bool, if◌then◌else◌, Option, Some, None, option_map, List, [], ◌∷◌, ◌++◌}
 use Rattle.std.specs.List.{list_any}
 use Rattle.std.specs.Cmp.Lexicographic.{pointwise}
 
@@ -15,3 +15,8 @@ with_name names name = if is_among names name then names else names ++ name ∷ 
 abbrev pub with_names : List (List ℕ) → List (List ℕ) → List (List ℕ)
 with_names names [] = names
 with_names names (n ∷ ns) = with_names (with_name names n) ns
+
+-- the number of a name among these
+abbrev pub number_in : List (List ℕ) → List ℕ → Option ℕ
+number_in [] name = None
+number_in (n ∷ ns) name = if pointwise nat_eq n name then Some 0 else option_map suc (number_in ns name)

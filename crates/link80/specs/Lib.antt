@@ -1,4 +1,5 @@
 pub mod FirstSight
+pub mod Gathered
 pub mod Linked
 pub mod Starts
 pub mod LinkFault

@@ -9,11 +9,15 @@ ghost use Rattle.link80.specs.Linked.{common_names, linked_id, names_of_commons}
 ghost use Rattle.link80.specs.LinkFault.{too_many_commons};
 
 use crate::fault::LinkFault;
-use crate::modules::Modules;
 use crate::name_table::NameTable;
+use crate::starts::LaidModules;
 use omf_body::segment_id::{FIRST_COMMON, MEMORY, UNNAMED_COMMON};
 use omf_module::{Common, Module};
 use std::alloc::{AllocError, Global};
+use std::marker::Model;
+
+/// How many ids there are for named commons.
+const MOST_COMMONS: usize = 249;
 
 /// Whether every module has a segment of this id: absolute, CODE, DATA, STACK, MEMORY and the unnamed common.
 pub(crate) fn is_fixed_id(id: u8) -> bool
@@ -26,10 +30,12 @@ pub(crate) fn is_fixed_id(id: u8) -> bool
 pub(crate) fn common_name(commons: &[Common], id: u8) -> &[u8]
     ensures { result.now ≡ common_name commons.now id }
 {
-    match commons.iter().find(|common| common.id == id) {
-        Some(common) => common.name.bytes(),
-        None => &[],
+    for common in commons {
+        if common.id == id {
+            return common.name.bytes();
+        }
     }
+    &[]
 }
 
 /// Puts the names of a module's commons last that are new.
@@ -40,4 +46,71 @@ fn add_commons<'a>(names: &mut NameTable<'a>, of: &'a Module) -> Result<(), Allo
         names.add(common.name.bytes())?;
     }
     Ok(())
+}
+
+/// The names of all commons, in order of first sight.
+///
+/// # Errors
+/// `AllocError` only where there is no memory for them.
+fn common_names<'a>(alloc: Global, modules: &LaidModules<'a>) -> Result<NameTable<'a>, AllocError>
+    ensures { IfOk result (λ names. names ≡ common_names modules.now) }
+{
+    let mut names = NameTable::new(alloc);
+    for number in 0..modules.len() {
+        add_commons(&mut names, modules.get(number))?;
+    }
+    Ok(names)
+}
+
+/// Laid modules, and the ids of their named commons in the linked module. A contract sees the modules.
+#[derive(Drop)]
+pub(crate) struct JoinedModules<'a> {
+    /// The modules.
+    pub laid: LaidModules<'a>,
+    /// The names of the commons, in order of first sight: ids go by their numbers.
+    commons: NameTable<'a>,
+}
+
+impl<'a> Model for JoinedModules<'a> {
+    ghost use Rattle.std.specs.Prelude.{◌≡◌, None, List};
+    ghost use Rattle.omf_module.specs.Modules.{ModuleValue};
+    ghost use Rattle.link80.specs.Linked.{common_names};
+    ghost use Rattle.link80.specs.LinkFault.{too_many_commons};
+
+    ghost Value = { List ModuleValue };
+
+    ghost view = { λ j. j.laid };
+
+    ghost invariant = { λ j. (j.commons ≡ common_names j.laid) × (too_many_commons j.laid ≡ None) };
+}
+
+impl<'a> JoinedModules<'a> {
+    /// Gives the named commons their ids.
+    ///
+    /// # Errors
+    /// `TooManyCommons` exactly where there are more than 249; `Memory` where memory runs out.
+    pub(crate) fn new(alloc: Global, laid: LaidModules<'a>) -> Result<JoinedModules<'a>, LinkFault>
+        ensures same { IfOk result (λ joined. joined ≡ laid.entry) }
+        ensures fit { OnOk result (too_many_commons laid.entry ≡ None) }
+        ensures fault { IfErr result (λ fault. fault ≢ LinkFault.Memory → too_many_commons laid.entry ≡ Some fault) }
+    {
+        let commons = common_names(alloc, &laid)?;
+        if commons.len() > MOST_COMMONS {
+            return Err(LinkFault::TooManyCommons);
+        }
+        Ok(JoinedModules { laid, commons })
+    }
+
+    /// The id that a module's segment has in the linked module: a named common's goes by its name.
+    pub(crate) fn linked_id(&self, of: &Module, id: u8) -> u8
+        ensures { result ≡ linked_id self.now of.now id }
+    {
+        if is_fixed_id(id) {
+            return id;
+        }
+        match self.commons.number_of(common_name(of.commons(), id)) {
+            Some(number) => FIRST_COMMON + number as u8,
+            None => 0,
+        }
+    }
 }

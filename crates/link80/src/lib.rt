@@ -8,8 +8,11 @@
 #![tactic(auto)]
 
 mod commons;
+mod declared;
 mod fault;
+mod high_bytes;
 pub mod laws;
+mod mains;
 mod modules;
 mod name_table;
 mod starts;

@@ -1,8 +1,7 @@
 //! Names by number, in order of first sight.
 
-ghost use Rattle.std.specs.Prelude.{◌≡◌, [], not, length, position, nat_eq, IfOk, OnOk};
-ghost use Rattle.std.specs.Cmp.Lexicographic.{pointwise};
-ghost use Rattle.link80.specs.FirstSight.{is_among, with_name};
+ghost use Rattle.std.specs.Prelude.{◌≡◌, [], ◌<◌, not, length, IfSome, IfOk, OnOk};
+ghost use Rattle.link80.specs.FirstSight.{is_among, number_in, with_name};
 
 use indexmap::IndexSet;
 use std::alloc::{AllocError, Global};
@@ -50,7 +49,8 @@ impl<'a> NameTable<'a> {
 
     /// The number of a name, where it is there.
     pub(crate) fn number_of(&self, name: &[u8]) -> Option<usize>
-        ensures { result ≡ position (pointwise nat_eq name.now) self.now }
+        ensures number { result ≡ number_in self.now name.now }
+        ensures within { IfSome result (λ number. number < length self.now) }
     {
         self.names.get_index_of(name)
     }

@@ -1,0 +1,51 @@
+//! The names that modules declare public: none of them stands twice.
+
+ghost use Rattle.std.specs.Prelude.{◌≡◌, ◌≢◌, [], None, Some, map, IfOk, IfErr, OnOk};
+ghost use Rattle.link80.specs.Gathered.{names_of_publics, TakesNames, RepeatsName};
+ghost use Rattle.link80.specs.Linked.{linked_publics};
+ghost use Rattle.link80.specs.LinkFault.{duplicate_public};
+
+use crate::fault::LinkFault;
+use crate::modules::Modules;
+use crate::name_table::NameTable;
+use omf_module::Module;
+use std::alloc::Global;
+
+/// Puts the names of a module's publics last.
+///
+/// # Errors
+/// `DuplicatePublic` with the first of them that stands before; `Memory` where memory runs out.
+fn add_publics<'a>(
+    alloc: Global,
+    names: &mut NameTable<'a>,
+    of: &'a Module,
+) -> Result<(), LinkFault>
+    ensures taken { OnOk result (TakesNames names.old (names_of_publics of.now) names.new) }
+    ensures fault { IfErr result (λ fault. fault ≢ LinkFault.Memory → RepeatsName names.old (names_of_publics of.now) fault) }
+{
+    for public in of.publics() {
+        if !names.add(public.name.bytes())? {
+            return Err(LinkFault::DuplicatePublic(public.name.copy(alloc)?));
+        }
+    }
+    Ok(())
+}
+
+/// The names of all publics, by module and then by record.
+///
+/// # Errors
+/// `DuplicatePublic` with the first public whose name stands before; `Memory` where memory runs out.
+pub(crate) fn declared_names<'a>(
+    alloc: Global,
+    modules: &Modules<'a>,
+) -> Result<NameTable<'a>, LinkFault>
+    ensures names { IfOk result (λ names. names ≡ map (λ p. p.name) (linked_publics modules.now)) }
+    ensures once { OnOk result (duplicate_public modules.now ≡ None) }
+    ensures fault { IfErr result (λ fault. fault ≢ LinkFault.Memory → duplicate_public modules.now ≡ Some fault) }
+{
+    let mut names = NameTable::new(alloc);
+    for number in 0..modules.len() {
+        add_publics(alloc, &mut names, modules.get(number))?;
+    }
+    Ok(names)
+}

@@ -1,0 +1,54 @@
+//! High bytes of references to parts that don't start at a multiple of 256.
+
+ghost use Rattle.std.specs.Prelude.{◌≡◌, ◌<◌, length};
+ghost use Rattle.std.specs.List.{list_any, enumerate_from};
+ghost use Rattle.link80.specs.LinkFault.{is_high_off_page};
+
+use crate::starts::LaidModules;
+use omf_module::{Content, Field, Fixup, Target};
+
+/// Whether a fixup takes the high byte of the place of a part that doesn't start at a multiple of 256.
+pub(crate) fn any_high_off_page(modules: &LaidModules) -> bool
+    ensures { result ≡ list_any (λ m. list_any (λ c. list_any (is_high_off_page modules.now m.0) c.fixups) m.1.contents) (enumerate_from 0 modules.now) }
+{
+    for number in 0..modules.len() {
+        if has_high_off_page(modules, number, modules.get(number).contents()) {
+            return true;
+        }
+    }
+    false
+}
+
+fn has_high_off_page(modules: &LaidModules, number: usize, contents: &[Content]) -> bool
+    requires { number < length modules.now }
+    ensures { result ≡ list_any (λ c. list_any (is_high_off_page modules.now number) c.fixups) contents.now }
+{
+    for content in contents {
+        if takes_high_off_page(modules, number, &content.fixups) {
+            return true;
+        }
+    }
+    false
+}
+
+fn takes_high_off_page(modules: &LaidModules, number: usize, fixups: &[Fixup]) -> bool
+    requires { number < length modules.now }
+    ensures { result ≡ list_any (is_high_off_page modules.now number) fixups.now }
+{
+    for fixup in fixups {
+        if is_high_off_page(modules, number, *fixup) {
+            return true;
+        }
+    }
+    false
+}
+
+fn is_high_off_page(modules: &LaidModules, number: usize, fixup: Fixup) -> bool
+    requires { number < length modules.now }
+    ensures { result ≡ is_high_off_page modules.now number fixup }
+{
+    match (fixup.field, fixup.target) {
+        (Field::High, Target::Segment(id)) => modules.moved(number, id, 0) % 256 != 0,
+        _ => false,
+    }
+}
