@@ -1,8 +1,8 @@
 -- Steps of loops over modules by number.
-use Rattle.std.specs.Prelude.{◌≡◌, ℕ, ◌+◌, Bool, ◌||◌, Some, List, ◌∷◌, ◌++◌, drop, slice_get}
+use Rattle.std.specs.Prelude.{◌≡◌, ◌<◌, ◌≤◌, ℕ, ◌+◌, length, map, [], Bool, ◌||◌, Some, List, ◌∷◌, ◌++◌, drop, slice_get}
 use Rattle.std.specs.List.{list_any, flat_map, enumerate_from}
-use Rattle.std.proofs.Common.{◌∙◌, ap}
-use Rattle.std.proofs.lemmas.List.{drop_more}
+use Rattle.std.proofs.Common.{◌∙◌, ap, sym, append_assoc, append-nil, get_or}
+use Rattle.std.proofs.lemmas.List.{drop_more, drop_all}
 use Rattle.std.proofs.lemmas.Option.{slice_get_within, get_or_from_slice_get}
 
 -- what is left begins with the one that is read
@@ -18,3 +18,21 @@ numbered_at f xs n x at = ap (λ l. flat_map f (enumerate_from n l)) (left_at xs
 pub passes_at : {A : Type 0} (test : ℕ × A → Bool) (xs : List A) (n : ℕ) (x : A) → slice_get xs n ≡ Some x →
     list_any test (enumerate_from n (drop n xs)) ≡ (test (n, x) || list_any test (enumerate_from (n + 1) (drop (n + 1) xs)))
 passes_at test xs n x at = ap (λ l. list_any test (enumerate_from n l)) (left_at xs n x at)
+
+-- one more is made of the list
+pub one_more : {A B : Type 0} (f : A → B) (xs : List A) (i : ℕ) (x : A) (made : List B) (next : B) → i < length xs → x ≡ get_or xs i x → next ≡ f x →
+    (made ++ next ∷ []) ++ map f (drop (i + 1) xs) ≡ made ++ map f (drop i xs)
+one_more f xs i x made next inside is same =
+    append_assoc made (next ∷ []) (map f (drop (i + 1) xs))
+    ∙ ap (λ y. made ++ y ∷ map f (drop (i + 1) xs)) (same ∙ ap f is)
+    ∙ ap (λ l. made ++ map f l) (sym (drop_more xs i x inside))
+
+-- and what is made of one more with its number
+pub more_numbered : {A B : Type 0} (f : ℕ × A → List B) (xs : List A) (n : ℕ) (x : A) (made : List B) → slice_get xs n ≡ Some x →
+    (made ++ f (n, x)) ++ flat_map f (enumerate_from (n + 1) (drop (n + 1) xs)) ≡ made ++ flat_map f (enumerate_from n (drop n xs))
+more_numbered f xs n x made at =
+    append_assoc made (f (n, x)) (flat_map f (enumerate_from (n + 1) (drop (n + 1) xs))) ∙ ap (λ l. made ++ l) (sym (numbered_at f xs n x at))
+
+-- where no more is left
+pub all_made : {A B : Type 0} (f : ℕ × A → List B) (xs : List A) (n : ℕ) (made : List B) → length xs ≤ n → made ++ flat_map f (enumerate_from n (drop n xs)) ≡ made
+all_made f xs n made past = ap (λ l. made ++ flat_map f (enumerate_from n l)) (drop_all n xs past) ∙ append-nil made

@@ -2,5 +2,6 @@ pub mod FirstSight
 pub mod Gathered
 pub mod Linked
 pub mod Starts
+pub mod Tables
 pub mod LinkFault
 pub mod LinkLaws

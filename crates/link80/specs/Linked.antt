@@ -15,6 +15,7 @@ use Rattle.omf_module.specs.Contents.{ContentValue}
 use Rattle.omf_module.specs.Segments.{empty_segment, is_fixed_id, segment_in}
 use Rattle.omf_module.specs.Modules.{ModuleValue, made_of}
 use Rattle.omf_relocation.specs.declared.patching.Patch.{Patch}
+use Rattle.link80.specs.declared.reference.Reference.{Reference}
 use Rattle.omf_relocation.specs.Patches.{with_patches}
 use Rattle.omf_relocation.specs.Place.{common_name, rounded, is_laid_out, part_start}
 use Rattle.omf_relocation.specs.ImageByte.{name_at}
@@ -70,10 +71,6 @@ index_of [] name = 0
 index_of (n ∷ ns) name = if pointwise nat_eq n name then 0 else suc (index_of ns name)
 
 -- ---- references: the word that LINK adds to one, and what it is to from then on, unless to absolute bytes
-
-pub record Reference : Type 0 where
-  pub word : ℕ
-  pub target : Option Target
 
 abbrev pub to_place : (id offset : ℕ) → Reference
 to_place id offset = record { word = offset; target = if id == 0 then None else Some (target.Segment id) }

@@ -3,9 +3,9 @@
 ghost use Rattle.std.specs.Prelude.{◌≡◌, ◌≢◌, ◌<◌, ◌≤◌, [], None, Some, length, slice_get, map, IfOk, IfErr, OnOk, IsTrue};
 ghost use Rattle.std.specs.List.{flat_map};
 ghost use Rattle.omf_module.specs.Segments.{is_fixed_id};
-ghost use Rattle.omf_relocation.specs.Place.{common_name};
+ghost use Rattle.omf_relocation.specs.Place.{common_name, part_start};
 ghost use Rattle.link80.specs.FirstSight.{with_names};
-ghost use Rattle.link80.specs.Linked.{common_names, linked_id, names_of_commons};
+ghost use Rattle.link80.specs.Linked.{common_names, linked_id, moved, names_of_commons};
 ghost use Rattle.link80.specs.LinkFault.{too_many_commons};
 
 use crate::fault::LinkFault;
@@ -66,7 +66,7 @@ fn common_names<'a>(alloc: Global, modules: &LaidModules<'a>) -> Result<NameTabl
 #[derive(Drop)]
 pub(crate) struct JoinedModules<'a> {
     /// The modules.
-    pub laid: LaidModules<'a>,
+    laid: LaidModules<'a>,
     /// The names of the commons, in order of first sight: ids go by their numbers.
     commons: NameTable<'a>,
 }
@@ -99,6 +99,37 @@ impl<'a> JoinedModules<'a> {
             return Err(LinkFault::TooManyCommons);
         }
         Ok(JoinedModules { laid, commons })
+    }
+
+    /// How many modules there are.
+    pub(crate) fn len(&self) -> usize
+        ensures { result ≡ length self.now }
+    {
+        self.laid.len()
+    }
+
+    /// The module of a number.
+    pub(crate) fn get(&self, number: usize) -> &'a Module
+        requires { number < length self.now }
+        ensures { slice_get self.now number ≡ Some result.now }
+    {
+        self.laid.get(number)
+    }
+
+    /// Where the part of a module starts in a segment: 0 but for CODE, DATA and STACK.
+    pub(crate) fn start(&self, number: usize, id: u8) -> u16
+        requires { number < length self.now }
+        ensures { result ≡ part_start self.now number id }
+    {
+        self.laid.start(number, id)
+    }
+
+    /// An offset in a module's segment, moved with its part.
+    pub(crate) fn moved(&self, number: usize, id: u8, offset: u16) -> u16
+        requires { number < length self.now }
+        ensures { result ≡ moved self.now number id offset }
+    {
+        self.laid.moved(number, id, offset)
     }
 
     /// The id that a module's segment has in the linked module: a named common's goes by its name.

@@ -15,6 +15,8 @@ pub mod laws;
 mod mains;
 mod modules;
 mod name_table;
+mod reference;
 mod starts;
+mod tables;
 
 pub use fault::LinkFault;

@@ -1,0 +1,183 @@
+//! What references are resolved by: the publics of all modules, moved with their parts, and the names that none declares.
+
+ghost use Rattle.std.specs.Prelude.{◌≡◌, ◌≢◌, ◌++◌, None, Some, true, filter, is_none, length, map, slice_get, IfOk, IfErr, OnOk};
+ghost use Rattle.std.specs.List.{flat_map};
+ghost use Rattle.omf_module.specs.Rules.{has_target};
+ghost use Rattle.link80.specs.FirstSight.{is_among, number_in, with_names};
+ghost use Rattle.link80.specs.Linked.{linked_public, linked_publics, linked_reference, public_of, to_place, to_public, unresolved};
+ghost use Rattle.link80.specs.LinkFault.{too_many_externals};
+
+use crate::commons::JoinedModules;
+use crate::fault::LinkFault;
+use crate::name_table::NameTable;
+use crate::reference::Reference;
+use omf_body::segment_id::ABSOLUTE;
+use omf_module::{Module, Public, Target};
+use std::alloc::{AllocError, Global};
+use std::marker::Model;
+
+/// How many names may be unresolved: their indices are words.
+const MOST_EXTERNALS: usize = 65536;
+
+/// Puts a module's publics last, moved with their parts.
+fn add_moved_publics(
+    alloc: Global,
+    joined: &JoinedModules,
+    number: usize,
+    of: &Module,
+    publics: &mut Vec<Public>,
+) -> Result<(), AllocError>
+    requires { slice_get joined.now number ≡ Some of.now }
+    ensures { OnOk result (publics.new.items ≡ publics.old.items ++ map (linked_public joined.now (number, of.now)) of.now.publics) }
+{
+    for public in of.publics() {
+        publics.push(Public {
+            name: public.name.copy(alloc)?,
+            segment: joined.linked_id(of, public.segment),
+            offset: joined.moved(number, public.segment, public.offset),
+        })?;
+    }
+    Ok(())
+}
+
+/// The publics of all modules, moved with their parts, by module and then by record.
+fn linked_publics(alloc: Global, joined: &JoinedModules) -> Result<Vec<Public>, AllocError>
+    ensures { IfOk result (λ publics. publics.items ≡ linked_publics joined.now) }
+{
+    let mut publics = Vec::new(alloc);
+    for number in 0..joined.len() {
+        add_moved_publics(alloc, joined, number, joined.get(number), &mut publics)?;
+    }
+    Ok(publics)
+}
+
+/// Puts the externals of a module last that no module declares and that are new.
+fn add_undeclared<'a>(
+    names: &mut NameTable<'a>,
+    declared: &NameTable,
+    of: &'a Module,
+) -> Result<(), AllocError>
+    ensures { OnOk result (names.new ≡ with_names names.old (filter (λ name. is_none (number_in declared.now name)) of.now.externals)) }
+{
+    for name in of.externals() {
+        if declared.number_of(name.bytes()).is_none() {
+            names.add(name.bytes())?;
+        }
+    }
+    Ok(())
+}
+
+/// The names that no module declares, in order of first sight.
+fn unresolved<'a>(
+    alloc: Global,
+    joined: &JoinedModules<'a>,
+    declared: &NameTable,
+) -> Result<NameTable<'a>, AllocError>
+    requires { declared.now ≡ map (λ p. p.name) (linked_publics joined.now) }
+    ensures { IfOk result (λ names. names ≡ unresolved joined.now) }
+{
+    let mut names = NameTable::new(alloc);
+    for number in 0..joined.len() {
+        add_undeclared(&mut names, declared, joined.get(number))?;
+    }
+    Ok(names)
+}
+
+/// A reference to an offset in a segment of the linked module.
+fn to_place(id: u8, offset: u16) -> Reference
+    ensures { result ≡ to_place id offset }
+{
+    let target = match id {
+        ABSOLUTE => None,
+        _ => Some(Target::Segment(id)),
+    };
+    Reference {
+        word: offset,
+        target,
+    }
+}
+
+/// Joined modules, their publics and their unresolved names. A contract sees the modules.
+#[derive(Drop)]
+pub(crate) struct Tables<'a> {
+    /// The modules.
+    pub joined: JoinedModules<'a>,
+    /// The names of the publics; each public has its name's number.
+    declared: NameTable<'a>,
+    publics: Vec<Public>,
+    unresolved: NameTable<'a>,
+}
+
+impl<'a> Model for Tables<'a> {
+    ghost use Rattle.std.specs.Prelude.{List};
+    ghost use Rattle.omf_module.specs.Modules.{ModuleValue};
+    ghost use Rattle.link80.specs.Tables.{AreTables};
+
+    ghost Value = { List ModuleValue };
+
+    ghost view = { λ t. t.joined };
+
+    ghost invariant = { λ t. AreTables t.joined t.declared t.publics.items t.unresolved };
+}
+
+impl<'a> Tables<'a> {
+    /// Moves the publics and finds the names that no module declares.
+    ///
+    /// # Errors
+    /// `TooManyExternals` exactly where these are more than 65536; `Memory` where memory runs out.
+    pub(crate) fn new(
+        alloc: Global,
+        joined: JoinedModules<'a>,
+        declared: NameTable<'a>,
+    ) -> Result<Tables<'a>, LinkFault>
+        requires { declared ≡ map (λ p. p.name) (linked_publics joined) }
+        ensures same { IfOk result (λ tables. tables ≡ joined.entry) }
+        ensures fit { OnOk result (too_many_externals joined.entry ≡ None) }
+        ensures fault { IfErr result (λ fault. fault ≢ LinkFault.Memory → too_many_externals joined.entry ≡ Some fault) }
+    {
+        let publics = linked_publics(alloc, &joined)?;
+        let unresolved = unresolved(alloc, &joined, &declared)?;
+        if unresolved.len() > MOST_EXTERNALS {
+            return Err(LinkFault::TooManyExternals);
+        }
+        Ok(Tables {
+            joined,
+            declared,
+            publics,
+            unresolved,
+        })
+    }
+
+    /// What LINK makes of a reference of a module.
+    pub(crate) fn reference(&self, number: usize, of: &Module, target: Target) -> Reference
+        requires here { slice_get self.now number ≡ Some of.now }
+        requires there { has_target of.now.commons (length of.now.externals) target ≡ true }
+        ensures { result ≡ linked_reference self.now (number, of.now) target }
+    {
+        match target {
+            Target::Segment(id) => to_place(
+                self.joined.linked_id(of, id),
+                self.joined.moved(number, id, 0),
+            ),
+            Target::External(index) => self.named(of.externals()[usize::from(index)].bytes()),
+        }
+    }
+
+    /// What an external of the modules stands for: the public that bears the name, or else the name itself.
+    fn named(&self, name: &[u8]) -> Reference
+        requires { is_among (flat_map (λ m. m.externals) self.now) name.now ≡ true }
+        ensures { result ≡ to_public self.now name.now (public_of self.now name.now) }
+    {
+        if let Some(number) = self.declared.number_of(name) {
+            let public = &self.publics[number];
+            return to_place(public.segment, public.offset);
+        }
+        match self.unresolved.number_of(name) {
+            Some(index) => Reference {
+                word: 0,
+                target: Some(Target::External(index as u16)),
+            },
+            None => unreachable!(),
+        }
+    }
+}
