@@ -6,6 +6,7 @@ pub mod LoopLemmas
 pub mod NumberLemmas
 pub mod StartsLemmas
 pub mod GatheredLemmas
+pub mod MovableLemmas
 pub mod UnresolvedLemmas
 pub mod NameLemmas
 pub mod PlaceLemmas

@@ -1,7 +1,7 @@
 -- Steps of loops over modules by number.
-use Rattle.std.specs.Prelude.{◌≡◌, ◌<◌, ◌≤◌, ℕ, ◌+◌, length, map, [], Bool, ◌||◌, Some, List, ◌∷◌, ◌++◌, drop, slice_get}
-use Rattle.std.specs.List.{list_any, flat_map, enumerate_from}
-use Rattle.std.proofs.Common.{◌∙◌, ap, sym, append_assoc, append-nil, get_or}
+use Rattle.std.specs.Prelude.{◌≡◌, ◌<◌, ◌≤◌, ℕ, zero, suc, ◌+◌, length, map, [], Bool, ◌||◌, Some, List, ◌∷◌, ◌++◌, drop, slice_get}
+use Rattle.std.specs.List.{AllByRecursion, list_any, flat_map, enumerate_from}
+use Rattle.std.proofs.Common.{◌∙◌, ap, sym, subst, arith, append_assoc, append-nil, get_or}
 use Rattle.std.proofs.lemmas.List.{drop_more, drop_all}
 use Rattle.std.proofs.lemmas.Option.{slice_get_within, get_or_from_slice_get}
 
@@ -36,3 +36,12 @@ more_numbered f xs n x made at =
 -- where no more is left
 pub all_made : {A B : Type 0} (f : ℕ × A → List B) (xs : List A) (n : ℕ) (made : List B) → length xs ≤ n → made ++ flat_map f (enumerate_from n (drop n xs)) ≡ made
 all_made f xs n made past = ap (λ l. made ++ flat_map f (enumerate_from n l)) (drop_all n xs past) ∙ append-nil made
+
+-- what holds of all holds of the one that is read
+item_has : {A : Type 0} (P : A → Type 0) (xs : List A) (i : ℕ) (x : A) → AllByRecursion P xs → i < length xs → P (get_or xs i x)
+item_has P [] i x all inside = absurd (omega (arith, inside))
+item_has P (y ∷ ys) zero x all inside = all.0
+item_has P (y ∷ ys) (suc i) x all inside = item_has P ys i x all.1 (omega (arith, inside))
+
+pub all_item : {A : Type 0} (P : A → Type 0) (xs : List A) (i : ℕ) (x : A) → AllByRecursion P xs → i < length xs → x ≡ get_or xs i x → P x
+all_item P xs i x all inside is = subst P (sym is) (item_has P xs i x all inside)

@@ -154,7 +154,7 @@ each_fits : (modules : List ModuleValue) (ms : List (ℕ × ModuleValue)) →
 each_fits modules [] laid over = tt
 each_fits modules (m ∷ ms) laid over = (record { laid = λ id. (laid id).0; over = λ id. (over id).0 }, each_fits modules ms (λ id. (laid id).1) (λ id. (over id).1))
 
-all_fit : (modules : List ModuleValue) → AllByRecursion (PartsFit modules) (enumerate_from 0 modules)
+pub all_fit : (modules : List ModuleValue) → AllByRecursion (PartsFit modules) (enumerate_from 0 modules)
 all_fit modules =
     each_fits modules (enumerate_from 0 modules)
     (λ id. parts_fit id 0 modules (λ k. slice_index (starts_from id 0 modules) k) 0 (parts_end id 0 modules) (λ k below. ap (λ n. slice_index (starts_from id 0 modules) n) (from_zero k)) refl)

@@ -47,7 +47,7 @@ laid_out_cases id laid = elim (cases_Bool (id == 1)) [
     third : (id : ℕ) → is_laid_out id ≡ true → (id == 1) ≡ false → (id == 2) ≡ false → id ≡ 3
     third id laid a b = grind (arith, nat_tests, laid, a, b)
 
-laid_out_word : (modules : List ModuleValue) (id : ℕ) → segment_too_long modules ≡ None → is_laid_out id ≡ true → linked_length modules id ≤ 65535
+pub laid_out_word : (modules : List ModuleValue) (id : ℕ) → segment_too_long modules ≡ None → is_laid_out id ≡ true → linked_length modules id ≤ 65535
 laid_out_word modules id none laid =
     let test : ℕ → Bool = λ i. nat_lt 65535 (linked_length modules i) in
     let first = none_found test 1 (2 ∷ 3 ∷ []) none in

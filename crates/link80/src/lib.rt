@@ -8,6 +8,7 @@
 #![tactic(auto)]
 
 mod commons;
+mod contents;
 mod declared;
 mod fault;
 mod high_bytes;

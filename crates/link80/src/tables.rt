@@ -5,7 +5,7 @@ ghost use Rattle.std.specs.List.{flat_map};
 ghost use Rattle.omf_module.specs.Rules.{has_target};
 ghost use Rattle.link80.specs.FirstSight.{is_among, number_in, with_names};
 ghost use Rattle.link80.specs.Linked.{linked_public, linked_publics, linked_reference, public_of, to_place, to_public, unresolved};
-ghost use Rattle.link80.specs.LinkFault.{too_many_externals};
+ghost use Rattle.link80.specs.LinkFault.{segment_too_long, too_many_externals};
 
 use crate::commons::JoinedModules;
 use crate::fault::LinkFault;
@@ -130,7 +130,8 @@ impl<'a> Tables<'a> {
         joined: JoinedModules<'a>,
         declared: NameTable<'a>,
     ) -> Result<Tables<'a>, LinkFault>
-        requires { declared ≡ map (λ p. p.name) (linked_publics joined) }
+        requires names { declared ≡ map (λ p. p.name) (linked_publics joined) }
+        requires segments_fit { segment_too_long joined ≡ None }
         ensures same { IfOk result (λ tables. tables ≡ joined.entry) }
         ensures fit { OnOk result (too_many_externals joined.entry ≡ None) }
         ensures fault { IfErr result (λ fault. fault ≢ LinkFault.Memory → too_many_externals joined.entry ≡ Some fault) }
