@@ -1,3 +1,5 @@
 pub mod Linked
 pub mod LinkFault
 pub mod LinkLaws
+pub mod Selected
+pub mod Selecting

@@ -1,4 +1,5 @@
 use omf_core::Name;
+use std::alloc::{AllocError, AllocFailed};
 use thiserror::Error;
 
 /// Why modules can't be linked: the first of these that holds, in the order of their numbers, or that memory ran out.
@@ -25,6 +26,28 @@ pub enum LinkFault {
     /// More than 65536 names are unresolved.
     #[error("TooManyExternals")]
     TooManyExternals,
+}
+
+impl From<AllocError> for LinkFault {
+    ghost use Rattle.std.specs.Prelude.{◌≡◌};
+    ghost use Rattle.link80.specs.declared.fault.LinkFault.TheVariants.{Memory};
+
+    ghost from_gives = { λ _ fault. fault ≡ Memory };
+
+    fn from(_: AllocError) -> LinkFault {
+        LinkFault::Memory
+    }
+}
+
+impl<T: Drop> From<AllocFailed<T>> for LinkFault {
+    ghost use Rattle.std.specs.Prelude.{◌≡◌};
+    ghost use Rattle.link80.specs.declared.fault.LinkFault.TheVariants.{Memory};
+
+    ghost from_gives = { λ _ fault. fault ≡ Memory };
+
+    fn from(_: AllocFailed<T>) -> LinkFault {
+        LinkFault::Memory
+    }
 }
 
 impl LinkFault {

@@ -3,11 +3,18 @@
 //!
 //! | Item | What it is |
 //! |---|---|
+//! | [`select`] | which modules a link takes from its libraries |
+//! | [`Chosen`] | the place of a module in libraries |
 //! | [`LinkFault`] | why modules can't be linked |
 //! | [`laws`] | the linked module defines the bytes that its modules define |
 #![tactic(auto)]
 
+mod chosen;
 mod fault;
 pub mod laws;
+mod row;
+mod selecting;
 
+pub use chosen::Chosen;
 pub use fault::LinkFault;
+pub use selecting::select;
