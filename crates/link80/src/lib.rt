@@ -14,6 +14,8 @@ mod fault;
 pub mod laws;
 mod row;
 mod selecting;
+#[cfg(test)]
+mod tests;
 
 pub use chosen::Chosen;
 pub use fault::LinkFault;
