@@ -17,3 +17,6 @@ pub mod SegmentLemmas
 pub mod FittingLemmas
 pub mod RuleLemmas
 pub mod WordLemmas
+pub mod SelectMarks
+pub mod SelectPlaces
+pub mod SelectChosen

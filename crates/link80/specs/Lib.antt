@@ -6,3 +6,5 @@ pub mod Tables
 pub mod Movable
 pub mod LinkFault
 pub mod LinkLaws
+pub mod Selected
+pub mod Selecting

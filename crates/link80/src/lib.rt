@@ -3,10 +3,13 @@
 //!
 //! | Item | What it is |
 //! |---|---|
+//! | [`select`] | which modules a link takes from its libraries |
+//! | [`Chosen`] | the place of a module in libraries |
 //! | [`LinkFault`] | why modules can't be linked |
 //! | [`laws`] | the linked module defines the bytes that its modules define |
 #![tactic(auto)]
 
+mod chosen;
 mod commons;
 mod contents;
 mod declared;
@@ -17,7 +20,13 @@ mod mains;
 mod modules;
 mod name_table;
 mod reference;
+mod row;
+mod selecting;
 mod starts;
 mod tables;
+#[cfg(test)]
+mod tests;
 
+pub use chosen::Chosen;
 pub use fault::LinkFault;
+pub use selecting::select;

@@ -1,0 +1,3 @@
+//! Worked links, and each call once where it answers.
+
+mod selecting;

@@ -1,0 +1,74 @@
+//! The first providers of all names, made once for a list of modules.
+
+ghost use Rattle.std.specs.Prelude.{◌≡◌, ℕ, List, map, nat_eq, IfOk, OnOk};
+ghost use Rattle.std.specs.Cmp.Lexicographic.{pointwise};
+ghost use Rattle.omf_module.specs.Modules.{ModuleValue};
+ghost use Rattle.omf_library.specs.Providers.{declares, first_provider, AreProviders, TakesNames};
+
+use indexmap::IndexMap;
+use omf_core::Name;
+use omf_module::Module;
+use std::alloc::{AllocError, Global};
+use std::marker::Model;
+
+/// For each name that some modules of a list declare public, the place of the first module that declares it. No name is
+/// copied. A contract sees the names with their places.
+#[derive(Drop)]
+pub struct Providers<'a> {
+    places: IndexMap<&'a [u8], usize>,
+}
+
+impl<'a> Model for Providers<'a> {
+    ghost use Rattle.std.specs.Prelude.{ℕ, List, map};
+
+    ghost Value = { List (List ℕ × ℕ) };
+
+    ghost view = { λ p. map (λ e. (e.0.now, e.1)) p.places.entries };
+}
+
+impl<'a> Providers<'a> {
+    /// The first providers of the names that these modules declare, by one entry a name.
+    ///
+    /// # Errors
+    /// `AllocError` only where there is no memory for the entries.
+    pub fn of(alloc: Global, modules: &[&'a Module]) -> Result<Providers<'a>, AllocError>
+        ensures { IfOk result (AreProviders (map (λ m. m.now) modules.now)) }
+    {
+        let mut providers = Providers {
+            places: IndexMap::new(alloc),
+        };
+        // (From the last module to the first, so that of several that declare a name the first is kept.)
+        let mut place = modules.len();
+        while 0 < place {
+            place -= 1;
+            providers.take_names(modules[place], place)?;
+        }
+        Ok(providers)
+    }
+
+    /// The place of the first module of the list that declares the name of these bytes, or `None` where none does, as
+    /// [`Library::provider`](crate::Library::provider) gives it for its modules. It takes no memory, and doesn't look through
+    /// the modules.
+    pub fn first(&self, name: &[u8]) -> Option<usize>
+        ensures { (modules : List ModuleValue) → AreProviders modules self.now → result ≡ first_provider modules name.now }
+    {
+        self.places.get(name).copied()
+    }
+
+    fn take_name(&mut self, name: &'a Name, place: usize) -> Result<(), AllocError>
+        ensures { OnOk result (TakesNames (pointwise nat_eq name.now) place self.old self.new) }
+    {
+        self.places.insert(name.bytes(), place)?;
+        Ok(())
+    }
+
+    /// The names of a module have its place from then on.
+    fn take_names(&mut self, source: &'a Module, place: usize) -> Result<(), AllocError>
+        ensures { OnOk result (TakesNames (λ name. declares name source.now) place self.old self.new) }
+    {
+        for public in source.publics() {
+            self.take_name(&public.name, place)?;
+        }
+        Ok(())
+    }
+}
