@@ -5,12 +5,13 @@ ghost use Rattle.std.specs.List.{flat_map};
 ghost use Rattle.omf_module.specs.Segments.{is_fixed_id};
 ghost use Rattle.omf_relocation.specs.Place.{common_name, part_start};
 ghost use Rattle.link80.specs.FirstSight.{with_names};
-ghost use Rattle.link80.specs.Linked.{common_names, linked_id, moved, names_of_commons};
+ghost use Rattle.link80.specs.Linked.{common_names, linked_commons, linked_id, moved, names_of_commons};
 ghost use Rattle.link80.specs.LinkFault.{too_many_commons};
 
 use crate::fault::LinkFault;
-use crate::name_table::NameTable;
+use crate::name_table::{NameTable, add_name};
 use crate::starts::LaidModules;
+use omf_core::Name;
 use omf_body::segment_id::{FIRST_COMMON, MEMORY, UNNAMED_COMMON};
 use omf_module::{Common, Module};
 use std::alloc::{AllocError, Global};
@@ -39,27 +40,38 @@ pub(crate) fn common_name(commons: &[Common], id: u8) -> &[u8]
 }
 
 /// Puts the names of a module's commons last that are new.
-fn add_commons<'a>(names: &mut NameTable<'a>, of: &'a Module) -> Result<(), AllocError>
-    ensures { OnOk result (names.new ≡ with_names names.old (names_of_commons of.now)) }
+fn add_commons<'a>(
+    alloc: Global,
+    names: &mut NameTable<'a>,
+    copies: &mut Vec<Name>,
+    of: &'a Module,
+) -> Result<(), AllocError>
+    ensures names { OnOk result (names.new ≡ with_names names.old (names_of_commons of.now)) }
+    ensures copies { OnOk result (copies.old.items ≡ names.old → copies.new.items ≡ names.new) }
 {
     for common in of.commons() {
-        names.add(common.name.bytes())?;
+        add_name(alloc, names, copies, &common.name)?;
     }
     Ok(())
 }
 
-/// The names of all commons, in order of first sight.
+/// The names of all commons, in order of first sight, by number and as a list.
 ///
 /// # Errors
 /// `AllocError` only where there is no memory for them.
-fn common_names<'a>(alloc: Global, modules: &LaidModules<'a>) -> Result<NameTable<'a>, AllocError>
-    ensures { IfOk result (λ names. names ≡ common_names modules.now) }
+fn common_names<'a>(
+    alloc: Global,
+    modules: &LaidModules<'a>,
+) -> Result<(NameTable<'a>, Vec<Name>), AllocError>
+    ensures names { IfOk result (λ names. names.0 ≡ common_names modules.now) }
+    ensures copies { IfOk result (λ names. names.1.items ≡ common_names modules.now) }
 {
     let mut names = NameTable::new(alloc);
+    let mut copies = Vec::new(alloc);
     for number in 0..modules.len() {
-        add_commons(&mut names, modules.get(number))?;
+        add_commons(alloc, &mut names, &mut copies, modules.get(number))?;
     }
-    Ok(names)
+    Ok((names, copies))
 }
 
 /// Laid modules, and the ids of their named commons in the linked module. A contract sees the modules.
@@ -69,6 +81,7 @@ pub(crate) struct JoinedModules<'a> {
     laid: LaidModules<'a>,
     /// The names of the commons, in order of first sight: ids go by their numbers.
     commons: NameTable<'a>,
+    names: Vec<Name>,
 }
 
 impl<'a> Model for JoinedModules<'a> {
@@ -81,7 +94,7 @@ impl<'a> Model for JoinedModules<'a> {
 
     ghost view = { λ j. j.laid };
 
-    ghost invariant = { λ j. (j.commons ≡ common_names j.laid) × (too_many_commons j.laid ≡ None) };
+    ghost invariant = { λ j. (j.commons ≡ common_names j.laid) × (j.names.items ≡ common_names j.laid) × (too_many_commons j.laid ≡ None) };
 }
 
 impl<'a> JoinedModules<'a> {
@@ -94,11 +107,15 @@ impl<'a> JoinedModules<'a> {
         ensures fit { OnOk result (too_many_commons laid.entry ≡ None) }
         ensures fault { IfErr result (λ fault. fault ≢ LinkFault.Memory → too_many_commons laid.entry ≡ Some fault) }
     {
-        let commons = common_names(alloc, &laid)?;
+        let (commons, names) = common_names(alloc, &laid)?;
         if commons.len() > MOST_COMMONS {
             return Err(LinkFault::TooManyCommons);
         }
-        Ok(JoinedModules { laid, commons })
+        Ok(JoinedModules {
+            laid,
+            commons,
+            names,
+        })
     }
 
     /// How many modules there are.
@@ -143,5 +160,21 @@ impl<'a> JoinedModules<'a> {
             Some(number) => FIRST_COMMON + number as u8,
             None => 0,
         }
+    }
+
+    /// The named commons of the linked module.
+    pub(crate) fn linked_commons(&self, alloc: Global) -> Result<Vec<Common>, AllocError>
+        ensures { IfOk result (λ commons. commons.items ≡ linked_commons self.now) }
+    {
+        let mut commons = Vec::new(alloc);
+        let mut id = u64::from(FIRST_COMMON);
+        for name in &self.names {
+            commons.push(Common {
+                id: id as u8,
+                name: name.copy(alloc)?,
+            })?;
+            id += 1;
+        }
+        Ok(commons)
     }
 }

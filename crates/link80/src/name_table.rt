@@ -4,6 +4,7 @@ ghost use Rattle.std.specs.Prelude.{◌≡◌, [], ◌<◌, not, length, IfSome,
 ghost use Rattle.link80.specs.FirstSight.{is_among, number_in, with_name};
 
 use indexmap::IndexSet;
+use omf_core::Name;
 use std::alloc::{AllocError, Global};
 use std::marker::Model;
 
@@ -54,4 +55,20 @@ impl<'a> NameTable<'a> {
     {
         self.names.get_index_of(name)
     }
+}
+
+/// Puts a name last where it isn't there yet, and then a copy of it too.
+pub(crate) fn add_name<'a>(
+    alloc: Global,
+    names: &mut NameTable<'a>,
+    copies: &mut Vec<Name>,
+    name: &'a Name,
+) -> Result<(), AllocError>
+    ensures names { OnOk result (names.new ≡ with_name names.old name.now) }
+    ensures copies { OnOk result (copies.old.items ≡ names.old → copies.new.items ≡ names.new) }
+{
+    if names.add(name.bytes())? {
+        copies.push(name.copy(alloc)?)?;
+    }
+    Ok(())
 }

@@ -9,9 +9,10 @@ ghost use Rattle.link80.specs.LinkFault.{segment_too_long, too_many_externals};
 
 use crate::commons::JoinedModules;
 use crate::fault::LinkFault;
-use crate::name_table::NameTable;
+use crate::name_table::{NameTable, add_name};
 use crate::reference::Reference;
 use omf_body::segment_id::ABSOLUTE;
+use omf_core::Name;
 use omf_module::{Module, Public, Target};
 use std::alloc::{AllocError, Global};
 use std::marker::Model;
@@ -53,34 +54,39 @@ fn linked_publics(alloc: Global, joined: &JoinedModules) -> Result<Vec<Public>, 
 
 /// Puts the externals of a module last that no module declares and that are new.
 fn add_undeclared<'a>(
+    alloc: Global,
     names: &mut NameTable<'a>,
+    copies: &mut Vec<Name>,
     declared: &NameTable,
     of: &'a Module,
 ) -> Result<(), AllocError>
-    ensures { OnOk result (names.new ≡ with_names names.old (filter (λ name. is_none (number_in declared.now name)) of.now.externals)) }
+    ensures names { OnOk result (names.new ≡ with_names names.old (filter (λ name. is_none (number_in declared.now name)) of.now.externals)) }
+    ensures copies { OnOk result (copies.old.items ≡ names.old → copies.new.items ≡ names.new) }
 {
     for name in of.externals() {
         if declared.number_of(name.bytes()).is_none() {
-            names.add(name.bytes())?;
+            add_name(alloc, names, copies, name)?;
         }
     }
     Ok(())
 }
 
-/// The names that no module declares, in order of first sight.
+/// The names that no module declares, in order of first sight, by number and as a list.
 fn unresolved<'a>(
     alloc: Global,
     joined: &JoinedModules<'a>,
     declared: &NameTable,
-) -> Result<NameTable<'a>, AllocError>
+) -> Result<(NameTable<'a>, Vec<Name>), AllocError>
     requires { declared.now ≡ map (λ p. p.name) (linked_publics joined.now) }
-    ensures { IfOk result (λ names. names ≡ unresolved joined.now) }
+    ensures names { IfOk result (λ names. names.0 ≡ unresolved joined.now) }
+    ensures copies { IfOk result (λ names. names.1.items ≡ unresolved joined.now) }
 {
     let mut names = NameTable::new(alloc);
+    let mut copies = Vec::new(alloc);
     for number in 0..joined.len() {
-        add_undeclared(&mut names, declared, joined.get(number))?;
+        add_undeclared(alloc, &mut names, &mut copies, declared, joined.get(number))?;
     }
-    Ok(names)
+    Ok((names, copies))
 }
 
 /// A reference to an offset in a segment of the linked module.
@@ -105,7 +111,9 @@ pub(crate) struct Tables<'a> {
     /// The names of the publics; each public has its name's number.
     declared: NameTable<'a>,
     publics: Vec<Public>,
+    /// The numbers of the names that no module declares, and the names.
     unresolved: NameTable<'a>,
+    names: Vec<Name>,
 }
 
 impl<'a> Model for Tables<'a> {
@@ -117,7 +125,7 @@ impl<'a> Model for Tables<'a> {
 
     ghost view = { λ t. t.joined };
 
-    ghost invariant = { λ t. AreTables t.joined t.declared t.publics.items t.unresolved };
+    ghost invariant = { λ t. AreTables t.joined t.declared t.publics.items t.unresolved t.names.items };
 }
 
 impl<'a> Tables<'a> {
@@ -137,7 +145,7 @@ impl<'a> Tables<'a> {
         ensures fault { IfErr result (λ fault. fault ≢ LinkFault.Memory → too_many_externals joined.entry ≡ Some fault) }
     {
         let publics = linked_publics(alloc, &joined)?;
-        let unresolved = unresolved(alloc, &joined, &declared)?;
+        let (unresolved, names) = unresolved(alloc, &joined, &declared)?;
         if unresolved.len() > MOST_EXTERNALS {
             return Err(LinkFault::TooManyExternals);
         }
@@ -146,6 +154,7 @@ impl<'a> Tables<'a> {
             declared,
             publics,
             unresolved,
+            names,
         })
     }
 

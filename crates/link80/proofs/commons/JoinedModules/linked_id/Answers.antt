@@ -19,7 +19,7 @@ number_is c =
 
 few : (c : In-Some) → c.in-Some.number < 249
 few c =
-    let below : length (common_names c.args.self.now) ≤ 249 = few_commons c.args.self.now (ap Rattle.link80.specs.LinkFault.too_many_commons (sym c.self.view_is) ∙ c.self.invariant.1) in
+    let below : length (common_names c.args.self.now) ≤ 249 = few_commons c.args.self.now (ap Rattle.link80.specs.LinkFault.too_many_commons (sym c.self.view_is) ∙ c.self.invariant.2) in
     omega (arith, c.in-Some.ensures.within, below, ap length (commons_are c.before))
 
 pub overflow_cast-result : goal.overflow_cast-result
