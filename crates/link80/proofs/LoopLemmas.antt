@@ -1,7 +1,9 @@
 -- Steps of loops over modules by number.
-use Rattle.std.specs.Prelude.{◌≡◌, ◌<◌, ◌≤◌, ℕ, zero, suc, ◌+◌, length, map, [], Bool, ◌||◌, Some, List, ◌∷◌, ◌++◌, drop, slice_get}
+use Rattle.std.specs.Prelude.{◌≡◌, ◌<◌, ◌≤◌, nat_lt, refl, ℕ, zero, suc, ◌+◌, length, map, [], Bool, ◌||◌, Some, List, ◌∷◌, ◌++◌, drop, slice_get}
 use Rattle.std.specs.List.{AllByRecursion, list_any, flat_map, enumerate_from}
-use Rattle.std.proofs.Common.{◌∙◌, ap, sym, subst, arith, append_assoc, append-nil, get_or}
+use Rattle.std.proofs.Common.{inl, inr, ◌∙◌, ap, sym, subst, arith, append_assoc, append-nil, get_or}
+use Rattle.std.proofs.lemmas.Bool.{cases_Bool}
+use Rattle.std.proofs.lemmas.Bool.Decides.{nat_tests}
 use Rattle.std.proofs.lemmas.List.{drop_more, drop_all}
 use Rattle.std.proofs.lemmas.Option.{slice_get_within, get_or_from_slice_get}
 
@@ -45,3 +47,20 @@ item_has P (y ∷ ys) (suc i) x all inside = item_has P ys i x all.1 (omega (ari
 
 pub all_item : {A : Type 0} (P : A → Type 0) (xs : List A) (i : ℕ) (x : A) → AllByRecursion P xs → i < length xs → x ≡ get_or xs i x → P x
 all_item P xs i x all inside is = subst P (sym is) (item_has P xs i x all inside)
+
+-- what holds of those before, and of the one that is read
+pub one_further : {A : Type 0} (P : A → Type 0) (xs : List A) (n : ℕ) (x : A) → slice_get xs n ≡ Some x → ((k : ℕ) (y : A) → k < n → slice_get xs k ≡ Some y → P y) → P x →
+    (k : ℕ) (y : A) → k < n + 1 → slice_get xs k ≡ Some y → P y
+one_further P xs n x at before here k y below is = elim (cases_Bool (nat_lt k n)) [
+  | inl less ↦ before k y (grind (arith, nat_tests, less)) is
+  | inr not_less ↦
+      let same : k ≡ n = grind (arith, nat_tests, not_less, below) in
+      subst P (some_is x y (sym at ∙ ap (slice_get xs) (sym same) ∙ is)) here
+]
+  where
+    some_is : {B : Type 0} (a b : B) → Some a ≡ Some b → a ≡ b
+    some_is a b e = cc
+
+pub holds_of_all : {A : Type 0} (P : A → Type 0) (xs : List A) → ((k : ℕ) (y : A) → slice_get xs k ≡ Some y → P y) → AllByRecursion P xs
+holds_of_all P [] each = tt
+holds_of_all P (x ∷ xs) each = (each 0 x refl, holds_of_all P xs (λ k y at. each (suc k) y at))

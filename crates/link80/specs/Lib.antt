@@ -7,4 +7,5 @@ pub mod Movable
 pub mod LinkFault
 pub mod LinkLaws
 pub mod Selected
+pub mod Selection
 pub mod Selecting

@@ -1,6 +1,8 @@
 //! Contents moved with their parts, with what is known of their references added.
 
 ghost use Rattle.std.specs.Prelude.{◌≡◌, ◌++◌, None, Some, filter_map, map, slice_get, IfOk, OnOk};
+ghost use Rattle.std.specs.List.{AllByRecursion};
+ghost use Rattle.omf_module.specs.Rules.{IsModule};
 ghost use Rattle.omf_relocation.specs.Patches.{with_patches};
 ghost use Rattle.link80.specs.Linked.{link_patch, linked_content, linked_contents, linked_fixup};
 ghost use Rattle.link80.specs.LinkFault.{segment_too_long};
@@ -111,7 +113,8 @@ fn add_contents(
 ) -> Result<(), AllocError>
     requires here { slice_get tables.now number ≡ Some of.now }
     requires segments_fit { segment_too_long tables.now ≡ None }
-    ensures { OnOk result (contents.new.items ≡ contents.old.items ++ map (linked_content tables.now (number, of.now)) of.now.contents) }
+    ensures contents { OnOk result (contents.new.items ≡ contents.old.items ++ map (linked_content tables.now (number, of.now)) of.now.contents) }
+    ensures sound { OnOk result (IsModule of.now) }
 {
     sound_modules_keep_rules();
     for content in of.contents() {
@@ -122,7 +125,8 @@ fn add_contents(
 
 /// The contents of all modules, moved with their parts, by module and then by record.
 pub(crate) fn linked_contents(alloc: Global, tables: &Tables) -> Result<Vec<Content>, AllocError>
-    ensures { IfOk result (λ contents. contents.items ≡ linked_contents tables.now) }
+    ensures contents { IfOk result (λ contents. contents.items ≡ linked_contents tables.now) }
+    ensures sound { OnOk result (AllByRecursion IsModule tables.now) }
 {
     let mut contents = Vec::new(alloc);
     for number in 0..tables.joined.len() {

@@ -3,6 +3,7 @@
 //!
 //! | Item | What it is |
 //! |---|---|
+//! | [`link`], [`Linked`] | modules, and what they need of libraries, linked into one |
 //! | [`select`] | which modules a link takes from its libraries |
 //! | [`Chosen`] | the place of a module in libraries |
 //! | [`LinkFault`] | why modules can't be linked |
@@ -16,11 +17,13 @@ mod declared;
 mod fault;
 mod high_bytes;
 pub mod laws;
+mod link;
 mod mains;
 mod modules;
 mod name_table;
 mod reference;
 mod row;
+mod segments;
 mod selecting;
 mod starts;
 mod tables;
@@ -29,4 +32,5 @@ mod tests;
 
 pub use chosen::Chosen;
 pub use fault::LinkFault;
+pub use link::{Linked, link};
 pub use selecting::select;

@@ -158,6 +158,14 @@ impl<'a> Tables<'a> {
         })
     }
 
+    /// The publics, and the names that no module declares.
+    pub(crate) fn into_names(self) -> (Vec<Public>, Vec<Name>)
+        ensures publics { result.0.items ≡ linked_publics self.entry }
+        ensures names { result.1.items ≡ unresolved self.entry }
+    {
+        (self.publics, self.names)
+    }
+
     /// What LINK makes of a reference of a module.
     pub(crate) fn reference(&self, number: usize, of: &Module, target: Target) -> Reference
         requires here { slice_get self.now number ≡ Some of.now }

@@ -1,0 +1,172 @@
+//! Modules are linked into one.
+
+ghost use Rattle.std.specs.Prelude.{◌≡◌, ◌≢◌, ◌<◌, ◌++◌, [], None, Some, filter_map, length, option_copied, slice_get, IfOk, IfErr, OnOk};
+ghost use Rattle.std.specs.List.{AllByRecursion, cons_option};
+ghost use Rattle.omf_module.specs.Rules.{IsModule};
+ghost use Rattle.link80.specs.Gathered.{mains_from};
+ghost use Rattle.link80.specs.Linked.{linked, linked_parts, starts, unresolved};
+ghost use Rattle.link80.specs.LinkFault.{link_fault};
+ghost use Rattle.link80.specs.Selected.{module_at};
+ghost use Rattle.link80.specs.Selection.{IsSelection, modules_with, CannotBeLinked};
+
+use crate::chosen::Chosen;
+use crate::commons::JoinedModules;
+use crate::contents::linked_contents;
+use crate::declared::declared_names;
+use crate::fault::LinkFault;
+use crate::high_bytes::any_high_off_page;
+use crate::laws::linked_module_keeps_rules;
+use crate::mains::main_of;
+use crate::modules::Modules;
+use crate::segments::linked_segments;
+use crate::selecting::select;
+use crate::starts::LaidModules;
+use crate::tables::Tables;
+use omf_core::Name;
+use omf_library::Library;
+use omf_module::{Module, Parts, PartsFault};
+use std::alloc::{AllocError, Global};
+
+/// What a link makes: one module, the places of the modules that were taken from libraries, and the names that no module
+/// declares, which are the externals of the linked module.
+#[derive(Debug, Drop)]
+pub struct Linked {
+    pub module: Module,
+    pub taken: Vec<Chosen>,
+    pub unresolved: Vec<Name>,
+}
+
+/// The module at a place in the libraries.
+fn module_at(libraries: &[Library], place: Chosen) -> Option<&Module>
+    ensures { option_copied result ≡ module_at libraries.now place }
+{
+    let library = libraries.get(place.library)?;
+    library.modules.get(place.module)
+}
+
+/// The roots, and the modules that were taken.
+fn modules_with<'a>(
+    alloc: Global,
+    roots: &'a [Module],
+    libraries: &'a [Library],
+    taken: &[Chosen],
+) -> Result<Modules<'a>, AllocError>
+    ensures { IfOk result (λ modules. modules ≡ modules_with roots.now libraries.now taken.now) }
+{
+    let mut modules = Modules::new(alloc);
+    for root in roots {
+        modules.push(root)?;
+    }
+    for place in taken {
+        if let Some(member) = module_at(libraries, *place) {
+            modules.push(member)?;
+        }
+    }
+    Ok(modules)
+}
+
+/// The start of the main program, moved with its part.
+fn start_of(tables: &Tables, main: Option<usize>) -> Option<(u8, u16)>
+    requires { cons_option main [] ≡ mains_from 0 tables.now }
+    ensures { result ≡ slice_get (starts tables.now) 0 }
+{
+    let number = main?;
+    let of = tables.joined.get(number);
+    let (id, offset) = of.start()?;
+    Some((
+        tables.joined.linked_id(of, id),
+        tables.joined.moved(number, id, offset),
+    ))
+}
+
+/// The parts of the linked module, and the names that no module declares.
+fn parts_of(
+    alloc: Global,
+    name: &Name,
+    tables: Tables,
+    main: Option<usize>,
+) -> Result<(Parts, Vec<Name>), AllocError>
+    requires { cons_option main [] ≡ mains_from 0 tables }
+    ensures parts { IfOk result (λ made. made.0 ≡ linked_parts name.now tables.entry) }
+    ensures unresolved { IfOk result (λ made. made.1.items ≡ unresolved tables.entry) }
+    ensures sound { OnOk result (AllByRecursion IsModule tables.entry) }
+{
+    let segments = linked_segments(alloc, &tables.joined)?;
+    let commons = tables.joined.linked_commons(alloc)?;
+    let contents = linked_contents(alloc, &tables)?;
+    let start = start_of(&tables, main);
+    let (publics, externals) = tables.into_names();
+    let unresolved = copy_names(alloc, &externals)?;
+    let parts = Parts {
+        name: name.copy(alloc)?,
+        segments,
+        commons,
+        publics,
+        externals,
+        contents,
+        start,
+    };
+    Ok((parts, unresolved))
+}
+
+/// The module that is linked of these, and the names that none of them declares.
+fn link_modules(
+    alloc: Global,
+    name: &Name,
+    modules: Modules,
+) -> Result<(Module, Vec<Name>), LinkFault>
+    ensures made { IfOk result (λ made. made.0 ≡ linked name.now modules.entry) }
+    ensures unresolved { IfOk result (λ made. made.1.items ≡ unresolved modules.entry) }
+    ensures no_fault { OnOk result (link_fault modules.entry ≡ None) }
+    ensures fault { IfErr result (λ fault. fault ≢ LinkFault.Memory → link_fault modules.entry ≡ Some fault) }
+{
+    linked_module_keeps_rules();
+    let declared = declared_names(alloc, &modules)?;
+    let laid = LaidModules::new(alloc, modules)?;
+    let main = main_of(&laid)?;
+    if any_high_off_page(&laid) {
+        return Err(LinkFault::HighNotPaged);
+    }
+    let joined = JoinedModules::new(alloc, laid)?;
+    let tables = Tables::new(alloc, joined, declared)?;
+    let (parts, unresolved) = parts_of(alloc, name, tables, main)?;
+    match Module::from_parts(alloc, parts) {
+        Ok(linked) => Ok((linked, unresolved)),
+        Err((_, PartsFault::Memory)) => Err(LinkFault::Memory),
+        Err((_, PartsFault::Rule)) => unreachable!(),
+    }
+}
+
+/// Links modules, and the modules that they need of libraries, into one of the given name.
+///
+/// The parts of CODE, DATA and STACK lie one after another in the order of the modules, those of MEMORY and of each common over
+/// one another; publics and contents move with their parts; references to segments and to names that are declared are resolved;
+/// the main program's start is the linked module's. (ISIS-II User's Guide, LINK.)
+///
+/// # Errors
+/// The first of these that holds of the roots and the modules that are taken: `DuplicatePublic` with the first public whose name
+/// stands before; `SegmentTooLong` with the first of CODE, DATA and STACK that comes to more than 65535 bytes; `TwoMains`;
+/// `HighNotPaged`, where a fixup takes the high byte of a segment's place whose part doesn't start at a multiple of 256;
+/// `TooManyCommons`, where more than 249 commons have names; `TooManyExternals`, where no module declares more than 65536 names
+/// that are used. `Memory` where memory runs out.
+pub fn link(
+    alloc: Global,
+    name: &Name,
+    roots: &[Module],
+    libraries: &[Library],
+) -> Result<Linked, LinkFault>
+    ensures taken { IfOk result (λ made. IsSelection roots.now libraries.now made.taken.items) }
+    ensures linked { IfOk result (λ made. made.module ≡ linked name.now (modules_with roots.now libraries.now made.taken.items)) }
+    ensures unresolved { IfOk result (λ made. made.unresolved.items ≡ unresolved (modules_with roots.now libraries.now made.taken.items)) }
+    ensures no_fault { IfOk result (λ made. link_fault (modules_with roots.now libraries.now made.taken.items) ≡ None) }
+    ensures fault { IfErr result (λ fault. fault ≢ LinkFault.Memory → CannotBeLinked roots.now libraries.now fault) }
+{
+    let taken = select(alloc, roots, libraries)?;
+    let modules = modules_with(alloc, roots, libraries, &taken)?;
+    let (linked, unresolved) = link_modules(alloc, name, modules)?;
+    Ok(Linked {
+        module: linked,
+        taken,
+        unresolved,
+    })
+}
