@@ -16,3 +16,4 @@ pub mod SegmentLemmas
 pub mod FittingLemmas
 pub mod RuleLemmas
 pub mod WordLemmas
+pub mod JoinedLemmas

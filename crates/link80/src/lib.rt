@@ -16,6 +16,7 @@ mod mains;
 mod modules;
 mod name_table;
 mod reference;
+mod segments;
 mod starts;
 mod tables;
 
