@@ -10,7 +10,7 @@ use Rattle.omf_module.specs.declared.segment.Segment.{Segment}
 use Rattle.omf_module.specs.declared.symbols.Common.{Common}
 use Rattle.omf_module.specs.Segments.{empty_segment, is_fixed_id, segment_in, names_common, has_segment}
 use Rattle.omf_module.specs.Modules.{ModuleValue}
-use Rattle.omf_module.specs.Rules.{each_after, is_new_common}
+use Rattle.omf_module.specs.Rules.{each_after, is_new_common, is_start, IsModule}
 use Rattle.omf_relocation.specs.Place.{common_name, is_laid_out}
 use Rattle.link80.specs.FirstSight.{number_in}
 use Rattle.link80.specs.Joined.{joined, with_parts, parts_of_commons, with_part_at, with_named_parts}
@@ -269,3 +269,14 @@ one_after_another modules id end fixed laid ends s is =
     let longest : ℕ = greatest (map (λ m. (part_of (linked_commons modules) m id).length) modules) in
     let size : end ≡ linked_length modules id = ends ∙ ap (λ b. cond b (parts_end id 0 modules) longest) (sym laid) in
     ap (with_length end) (is ∙ fixed_part modules id fixed) ∙ (λ j. record { length = size j; paged = list_any (λ m. (part_of (linked_commons modules) m id).paged) modules })
+
+-- ---- steps of the loops
+
+pub with_both_parts : (names : List (List ℕ)) (segments : List Segment) (ps qs : List (List ℕ × Segment)) →
+    with_named_parts names (with_named_parts names segments ps) qs ≡ with_named_parts names segments (ps ++ qs)
+with_both_parts names segments [] qs = refl
+with_both_parts names segments (p ∷ ps) qs = with_both_parts names (with_part_at segments (number_in names p.0) p.1) ps qs
+
+-- a module's commons keep their rule
+pub once_part : (m : ModuleValue) → IsModule m → OncePart m
+once_part m is = (and_parts (each_after is_new_common [] m.commons) _ (and_parts _ _ (and_parts _ (is_start m.commons m.start) is.sound).0).0).0
