@@ -20,3 +20,4 @@ pub mod WordLemmas
 pub mod SelectMarks
 pub mod SelectPlaces
 pub mod SelectChosen
+pub mod JoinedLemmas

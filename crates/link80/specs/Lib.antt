@@ -1,6 +1,7 @@
 pub mod FirstSight
 pub mod Gathered
 pub mod Linked
+pub mod Joined
 pub mod Starts
 pub mod Tables
 pub mod Movable

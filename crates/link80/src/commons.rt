@@ -1,11 +1,11 @@
 //! The ids of segments in the linked module: those of named commons go by their names.
 
-ghost use Rattle.std.specs.Prelude.{◌≡◌, ◌≢◌, ◌<◌, ◌≤◌, [], None, Some, length, slice_get, map, IfOk, IfErr, OnOk, IsTrue};
+ghost use Rattle.std.specs.Prelude.{◌≡◌, ◌≢◌, ◌<◌, ◌≤◌, [], None, Some, is_some, length, slice_get, map, IfOk, IfErr, IfSome, OnOk, IsTrue};
 ghost use Rattle.std.specs.List.{flat_map};
 ghost use Rattle.omf_module.specs.Segments.{is_fixed_id};
-ghost use Rattle.omf_relocation.specs.Place.{common_name, part_start};
-ghost use Rattle.link80.specs.FirstSight.{with_names};
-ghost use Rattle.link80.specs.Linked.{common_names, linked_commons, linked_id, moved, names_of_commons};
+ghost use Rattle.omf_relocation.specs.Place.{common_name, is_laid_out, part_start};
+ghost use Rattle.link80.specs.FirstSight.{number_in, with_names};
+ghost use Rattle.link80.specs.Linked.{common_names, linked_commons, linked_id, moved, names_of_commons, parts_end};
 ghost use Rattle.link80.specs.LinkFault.{too_many_commons};
 
 use crate::fault::LinkFault;
@@ -147,6 +147,33 @@ impl<'a> JoinedModules<'a> {
         ensures { result ≡ moved self.now number id offset }
     {
         self.laid.moved(number, id, offset)
+    }
+
+    /// The end of the last part of CODE, DATA or STACK; the parts of other segments lie over one another.
+    pub(crate) fn end_of(&self, id: u8) -> Option<u16>
+        ensures end { IfSome result (λ end. end ≡ parts_end id 0 self.now) }
+        ensures which { is_some result ≡ is_laid_out id }
+    {
+        match self.laid.parts_of(id) {
+            Some(parts) => Some(parts.end()),
+            None => None,
+        }
+    }
+
+    /// How many named commons there are.
+    pub(crate) fn common_count(&self) -> usize
+        ensures count { result ≡ length (common_names self.now) }
+        ensures few { result ≤ 249 }
+    {
+        self.commons.len()
+    }
+
+    /// The number of a named common, in order of first sight.
+    pub(crate) fn common_number(&self, name: &[u8]) -> Option<usize>
+        ensures number { result ≡ number_in (common_names self.now) name.now }
+        ensures within { IfSome result (λ number. number < length (common_names self.now)) }
+    {
+        self.commons.number_of(name)
     }
 
     /// The id that a module's segment has in the linked module: a named common's goes by its name.

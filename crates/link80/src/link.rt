@@ -65,6 +65,16 @@ fn modules_with<'a>(
     Ok(modules)
 }
 
+fn copy_names(alloc: Global, names: &[Name]) -> Result<Vec<Name>, AllocError>
+    ensures { IfOk result (λ copies. copies.items ≡ names.now) }
+{
+    let mut copies = Vec::new(alloc);
+    for name in names {
+        copies.push(name.copy(alloc)?)?;
+    }
+    Ok(copies)
+}
+
 /// The start of the main program, moved with its part.
 fn start_of(tables: &Tables, main: Option<usize>) -> Option<(u8, u16)>
     requires { cons_option main [] ≡ mains_from 0 tables.now }

@@ -1,0 +1,12 @@
+use Rattle.std.proofs.Common.{◌≡◌, drop, map, length}
+use Rattle.omf_module.specs.Segments.{segment_in}
+use Rattle.link80.specs.Joined.{parts_of_commons, with_named_parts}
+use Rattle.link80.specs.Linked.{common_names}
+use Rattle.link80.proofs.segments.join_commons.Given as goal
+
+-- the segments so far, with the parts that are left
+abbrev pub invariant-loop-common : goal.invariant-loop-common
+invariant-loop-common l =
+    (with_named_parts (common_names l.modules) l.segments.items (map (λ c. (c.name, segment_in l.of.segments c.id)) (drop l.common-index l.of.commons))
+      ≡ with_named_parts (common_names l.modules) l.initial.segments.items (parts_of_commons l.of))
+    × (length l.segments.items ≡ length l.initial.segments.items)

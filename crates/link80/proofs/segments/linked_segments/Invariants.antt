@@ -1,0 +1,10 @@
+use Rattle.std.proofs.Common.{◌≡◌, ◌+◌, ◌++◌, drop, map}
+use Rattle.std.specs.List.{enumerate_from}
+use Rattle.link80.specs.Linked.{linked_ids, linked_segment}
+use Rattle.link80.proofs.segments.linked_segments.Given as goal
+
+-- the segments so far, and those of the commons that are left
+abbrev pub invariant-loop-segment : goal.invariant-loop-segment
+invariant-loop-segment l =
+    (l.segments.items ++ enumerate_from l.id (drop l.segment-index l.segment-items) ≡ map (λ id. (id, linked_segment l.modules id)) (linked_ids l.modules))
+    × (l.id ≡ 6 + l.segment-index)
