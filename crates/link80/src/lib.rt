@@ -17,7 +17,7 @@ mod declared;
 mod fault;
 mod high_bytes;
 pub mod laws;
-mod link;
+mod linking;
 mod mains;
 mod modules;
 mod name_table;
@@ -32,5 +32,5 @@ mod tests;
 
 pub use chosen::Chosen;
 pub use fault::LinkFault;
-pub use link::{Linked, link};
+pub use linking::{Linked, link};
 pub use selecting::select;
