@@ -1,20 +1,21 @@
 -- Parts that are joined by name are the segments of the linked module's commons.
-use Rattle.std.specs.Prelude.{◌≡◌, ℕ, zero, suc, ◌+◌, ◌≤◌, ◌<◌, ◌==◌, nat_eq, nat_lt, Bool, true, false, not, ◌&&◌, ◌||◌, Option, Some, None, option_map, List, [], ◌∷◌, ◌++◌, find, map, length, max, refl, slice_get, slice_index_or, slice_set, IsTrue}
+use Rattle.std.specs.Prelude.{◌≡◌, ℕ, zero, suc, ◌+◌, ◌≤◌, ◌<◌, ◌==◌, nat_eq, Bool, true, false, not, ◌||◌, Option, Some, None, option_map, List, [], ◌∷◌, ◌++◌, find, map, length, max, refl, slice_get, IsTrue}
 use Rattle.std.specs.List.{list_any, flat_map, enumerate_from, AllByRecursion}
 use Rattle.std.specs.Option.{option_map_or}
 use Rattle.std.specs.Cmp.Lexicographic.{pointwise}
-use Rattle.std.proofs.Common.{◌∙◌, ap, sym, subst, arith, inl, inr, cond, eqb-true, true≢false}
+use Rattle.std.proofs.Common.{◌∙◌, ap, sym, arith, inl, inr, cond, true≢false}
 use Rattle.std.proofs.lemmas.Bool.{cases_Bool, and_parts, or_parts, or_from, ne_eqb}
 use Rattle.std.proofs.lemmas.Bool.Decides.{nat_tests}
 use Rattle.omf_module.specs.declared.segment.Segment.{Segment}
 use Rattle.omf_module.specs.declared.symbols.Common.{Common}
-use Rattle.omf_module.specs.Segments.{empty_segment, is_fixed_id, segment_in, names_common, has_segment}
+use Rattle.omf_module.specs.Segments.{empty_segment, is_fixed_id, segment_in}
 use Rattle.omf_module.specs.Modules.{ModuleValue}
 use Rattle.omf_module.specs.Rules.{each_after, is_new_common, is_start, IsModule}
 use Rattle.omf_relocation.specs.Place.{common_name, is_laid_out}
 use Rattle.link80.specs.FirstSight.{number_in}
 use Rattle.link80.specs.Joined.{joined, with_parts, parts_of_commons, with_part_at, with_named_parts}
-use Rattle.link80.specs.Linked.{distinct, numbered_common, common_names, linked_commons, part_of, parts_end, greatest, linked_length, linked_segment, linked_ids}
+use Rattle.link80.specs.Linked.{numbered_common, common_names, linked_commons, part_of, parts_end, greatest, linked_length, linked_segment}
+use Rattle.link80.proofs.FirstSightLemmas.{same_both_ways}
 use Rattle.link80.proofs.ListLemmas.{any_front, any_back}
 use Rattle.link80.proofs.NameLemmas.{has_name, name_is, name_itself, numbered}
 use Rattle.link80.proofs.SegmentLemmas.{NoTwice, distinct_no_twice}
@@ -65,15 +66,9 @@ same_elsewhere : (n : List ℕ) (part : Segment) (f : List ℕ → Segment) (nam
 same_elsewhere n part f [] none = refl
 same_elsewhere n part f (o ∷ os) none =
     let parts = or_parts (pointwise nat_eq o n) (has_name os n) none in
-    let differs : pointwise nat_eq n o ≡ false = other_way o n parts.0 in
+    let differs : pointwise nat_eq n o ≡ false = same_both_ways n o ∙ parts.0 in
     ap (λ b. cond b (joined (f o) part) (f o) ∷ map f os) (sym differs)
     ∙ ap (λ l. cond (pointwise nat_eq n o) (joined (f o) part) (f o) ∷ l) (same_elsewhere n part f os parts.1)
-  where
-    other_way : (a b : List ℕ) → pointwise nat_eq a b ≡ false → pointwise nat_eq b a ≡ false
-    other_way a b differs = elim (cases_Bool (pointwise nat_eq b a)) [
-      | inl e ↦ absurd (true≢false (sym (name_itself a) ∙ ap (pointwise nat_eq a) (sym (name_is b a e)) ∙ differs))
-      | inr e ↦ e
-    ]
 
 later_part : (s : Segment) (segments : List Segment) (o : Option ℕ) (part : Segment) → with_part_at (s ∷ segments) (option_map suc o) part ≡ s ∷ with_part_at segments o part
 later_part s segments None part = refl
@@ -93,14 +88,8 @@ part_at n part f (o ∷ os) once = elim (cases_Bool (pointwise nat_eq o n)) [
       ap (λ b. with_part_at (f o ∷ map f os) (cond b (Some 0) (option_map suc (number_in os n))) part) differs
       ∙ later_part (f o) (map f os) (number_in os n) part
       ∙ ap (λ l. f o ∷ l) (part_at n part f os once.1)
-      ∙ ap (λ b. cond b (joined (f o) part) (f o) ∷ map (λ name. cond (pointwise nat_eq n name) (joined (f name) part) (f name)) os) (sym (other_way o n differs))
+      ∙ ap (λ b. cond b (joined (f o) part) (f o) ∷ map (λ name. cond (pointwise nat_eq n name) (joined (f name) part) (f name)) os) (sym (same_both_ways n o ∙ differs))
 ]
-  where
-    other_way : (a b : List ℕ) → pointwise nat_eq a b ≡ false → pointwise nat_eq b a ≡ false
-    other_way a b differs = elim (cases_Bool (pointwise nat_eq b a)) [
-      | inl e ↦ absurd (true≢false (sym (name_itself a) ∙ ap (pointwise nat_eq a) (sym (name_is b a e)) ∙ differs))
-      | inr e ↦ e
-    ]
 
 pub named_parts : (names : List (List ℕ)) (f : List ℕ → Segment) (parts : List (List ℕ × Segment)) → NoTwice names →
     with_named_parts names (map f names) parts ≡ map (λ name. parts_named name (f name) parts) names
@@ -188,6 +177,7 @@ name_of_number start (n ∷ ns) zero name at = ap (λ b. option_map_or (λ (c : 
   where
     itself : (s : ℕ) → (s == s + 0) ≡ true
     itself s = grind (arith, nat_tests)
+
     some_is : (a b : List ℕ) → Some a ≡ Some b → a ≡ b
     some_is a b e = cc
 name_of_number start (n ∷ ns) (suc k) name at =
@@ -209,11 +199,13 @@ common_segment_is modules id name low high called all =
   where
     longest : ℕ
     longest = greatest (map (λ m. (part_of (linked_commons modules) m id).length) modules)
+
     size : max 0 longest ≡ linked_length modules id
     size = none_longer longest ∙ ap (λ b. cond b (parts_end id 0 modules) longest) (sym (common_not_laid id low))
       where
         none_longer : (n : ℕ) → max 0 n ≡ n
         none_longer n = omega arith
+
     one : (m : ModuleValue) (s : Segment) → OncePart m → parts_named name s (parts_of_commons m) ≡ joined s (part_of (linked_commons modules) m id)
     one m s once =
         one_part (segment_in m.segments) name s [] m.commons once
@@ -229,6 +221,7 @@ entries_by segment f start (n ∷ ns) is =
   where
     plus_none : (s : ℕ) → s + 0 ≡ s
     plus_none s = omega arith
+
     next : (s j : ℕ) → s + suc j ≡ s + 1 + j
     next s j = omega arith
 
@@ -241,7 +234,7 @@ common_entries modules segments few all are =
     let f : List ℕ → Segment = λ name. parts_named name empty_segment (flat_map parts_of_commons modules) in
     ap (enumerate_from 6) (are ∙ named_parts names (λ _. empty_segment) (flat_map parts_of_commons modules) (distinct_no_twice _))
     ∙ entries_by (linked_segment modules) f 6 names (λ k name within at.
-      common_segment_is modules (6 + k) name (omega arith) (omega (arith, within, few)) (name_of_number 6 names k name at) all)
+    common_segment_is modules (6 + k) name (omega arith) (omega (arith, within, few)) (name_of_number 6 names k name at) all)
 
 -- ---- a segment that every module has
 

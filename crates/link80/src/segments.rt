@@ -75,10 +75,7 @@ fn common_segments(alloc: Global, modules: &JoinedModules) -> Result<Vec<Segment
 }
 
 /// The segments that every module has, with their ids.
-fn fixed_segments(
-    alloc: Global,
-    modules: &JoinedModules,
-) -> Result<Vec<(u8, Segment)>, AllocError>
+fn fixed_segments(alloc: Global, modules: &JoinedModules) -> Result<Vec<(u8, Segment)>, AllocError>
     ensures { IfOk result (λ segments. segments.items ≡ map (λ id. (id, linked_segment modules.now id)) (1 ∷ 2 ∷ 3 ∷ 4 ∷ 255 ∷ [])) }
 {
     let mut segments = Vec::new(alloc);

@@ -10,6 +10,6 @@ use Rattle.link80.proofs.segments.common_segments.Given as goal
 abbrev pub invariant-loop-number : goal.invariant-loop-number
 invariant-loop-number l =
     (with_named_parts (common_names l.modules) l.segments.items (flat_map parts_of_commons (drop l.number l.modules))
-      ≡ with_named_parts (common_names l.modules) (map (λ _. empty_segment) (common_names l.modules)) (flat_map parts_of_commons l.modules))
+    ≡ with_named_parts (common_names l.modules) (map (λ _. empty_segment) (common_names l.modules)) (flat_map parts_of_commons l.modules))
     × (length l.segments.items ≡ length (common_names l.modules))
     × (AllByRecursion OncePart (drop l.number l.modules) → AllByRecursion OncePart l.modules)
