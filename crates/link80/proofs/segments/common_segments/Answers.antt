@@ -13,16 +13,16 @@ use Rattle.link80.proofs.segments.common_segments.Goals as goal
 
 pub loop-number-init : goal.loop-number-init
 loop-number-init c =
-    let names : List (List ℕ) = common_names c.args.modules.now in
+    let names : List (List ℕ) = common_names c.args.joined.now in
     let empty : c.in_ok-segments.segments.items ≡ map (λ _. empty_segment) names =
     c.in_ok-segments.ensures.items_if_clones_equal (λ y is. is) ∙ splat_is_map names c.common_count.result empty_segment (sym c.common_count.ensures.count) in
-    (ap (λ segments. with_named_parts names segments (flat_map parts_of_commons c.args.modules.now)) empty, ap length empty ∙ length-map names (λ _. empty_segment), λ all. all)
+    (ap (λ segments. with_named_parts names segments (flat_map parts_of_commons c.args.joined.now)) empty, ap length empty ∙ length-map names (λ _. empty_segment), λ all. all)
 
 pub loop-number-preserved : goal.loop-number-preserved
 loop-number-preserved c =
-    let names : List (List ℕ) = common_names c.args.modules.now in
-    let left : List ModuleValue = drop (c.loop-number.number + 1) c.args.modules.now in
-    let next = left_at c.args.modules.now c.loop-number.number c.get.result.now c.get.ensures in (
+    let names : List (List ℕ) = common_names c.args.joined.now in
+    let left : List ModuleValue = drop (c.loop-number.number + 1) c.args.joined.now in
+    let next = left_at c.args.joined.now c.loop-number.number c.get.result.now c.get.ensures in (
       ap (λ segments. with_named_parts names segments (flat_map parts_of_commons left)) c.join_commons.ensures.joined
           ∙ with_both_parts names c.loop-number.segments.items (parts_of_commons c.get.result.now) (flat_map parts_of_commons left)
           ∙ ap (λ ms. with_named_parts names c.loop-number.segments.items (flat_map parts_of_commons ms)) (sym next)
@@ -33,11 +33,11 @@ loop-number-preserved c =
 
 pub returns-clause-segments : goal.returns-clause-segments
 returns-clause-segments c =
-    let past : length c.args.modules.now ≤ c.loop-number.number = omega (arith, c.loop-number-test.false, c.len-number-end.ensures) in
-    let names : List (List ℕ) = common_names c.args.modules.now in
-    common_entries c.args.modules.now c.loop-number.segments.items (omega (arith, c.common_count.ensures.count, c.common_count.ensures.few))
-    (c.loop-number.invariant.2 (at_drop_all_is c.args.modules.now c.loop-number.number past))
-    (sym (at_drop_all (λ ms. with_named_parts names c.loop-number.segments.items (flat_map parts_of_commons ms)) c.args.modules.now c.loop-number.number past) ∙ c.loop-number.invariant.0)
+    let past : length c.args.joined.now ≤ c.loop-number.number = omega (arith, c.loop-number-test.false, c.len-number-end.ensures) in
+    let names : List (List ℕ) = common_names c.args.joined.now in
+    common_entries c.args.joined.now c.loop-number.segments.items (omega (arith, c.common_count.ensures.count, c.common_count.ensures.few))
+    (c.loop-number.invariant.2 (at_drop_all_is c.args.joined.now c.loop-number.number past))
+    (sym (at_drop_all (λ ms. with_named_parts names c.loop-number.segments.items (flat_map parts_of_commons ms)) c.args.joined.now c.loop-number.number past) ∙ c.loop-number.invariant.0)
   where
     at_drop_all_is : (ms : List ModuleValue) (n : ℕ) → length ms ≤ n → AllByRecursion OncePart (drop n ms)
     at_drop_all_is ms n past = subst (AllByRecursion OncePart) (sym (drop_all n ms past)) tt
