@@ -1,1 +1,3 @@
+mod OneLibrary
 mod ProviderLemmas
+mod ReadingLemmas

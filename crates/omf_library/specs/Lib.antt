@@ -1,1 +1,5 @@
+pub mod Fault
 pub mod Providers
+pub mod Spelled
+pub mod Laws
+pub mod Reading
