@@ -3,3 +3,4 @@ pub mod Providers
 pub mod Spelled
 pub mod Laws
 pub mod Reading
+pub mod Writing

@@ -2,8 +2,9 @@
 //! prints alone.
 
 ghost use Rattle.std.specs.Prelude.{◌≡◌};
-ghost use Rattle.omf_library.specs.Fault.{library_fault_code, of_module};
+ghost use Rattle.omf_library.specs.Fault.{library_fault_code, library_put_fault_code, of_module};
 ghost use Rattle.omf_library.specs.declared.fault.LibraryFault.TheVariants.{Memory as OutOfMemory, Module as InModule};
+ghost use Rattle.omf_library.specs.declared.fault.LibraryPutFault.TheVariants.{Memory as NoMemory};
 ghost use Rattle.omf_module.specs.Uses.{fault_by};
 
 use omf_module::{Cause, ModuleFault};
@@ -76,5 +77,36 @@ impl<T: Drop> From<AllocFailed<T>> for LibraryFault {
 
     fn from(_e: AllocFailed<T>) -> LibraryFault {
         LibraryFault::Memory
+    }
+}
+
+/// Why a library isn't written.
+#[derive(Clone, Copy, PartialEq, Eq, Debug, Error)]
+pub enum LibraryPutFault {
+    /// The library has more modules, names or bytes than its header and its index can count.
+    #[error("TooLarge")]
+    TooLarge,
+    /// There is no memory for the library.
+    #[error("Memory")]
+    Memory,
+}
+
+impl LibraryPutFault {
+    /// The fault's number: 1 `TooLarge`, 2 `Memory`.
+    pub fn code(&self) -> u8
+        ensures { result ≡ library_put_fault_code self.now }
+    {
+        match self {
+            LibraryPutFault::TooLarge => 1,
+            LibraryPutFault::Memory => 2,
+        }
+    }
+}
+
+impl From<AllocError> for LibraryPutFault {
+    ghost from_gives = { λ _ fault. fault ≡ NoMemory };
+
+    fn from(_e: AllocError) -> LibraryPutFault {
+        LibraryPutFault::Memory
     }
 }

@@ -2,8 +2,12 @@
 //! that calls it has the law in its proof.
 
 ghost use Rattle.omf_library.specs.Laws.{OneLibrary, OneLibraryFault, NeverBothLibrary};
+ghost use Rattle.omf_library.specs.Writing.{WrittenLibraryIsSpelled};
 
-use omf_core::laws::{no_fault_exactly_at_records, one_record_at_each_place};
+use omf_core::laws::{
+    no_fault_exactly_at_records, one_record_at_each_place, written_is_spelled,
+    written_list_is_spelled,
+};
 use omf_module::laws::one_reading;
 
 /// Bytes spell one list of modules as a library at most, or have one first fault, and never both.
@@ -15,4 +19,12 @@ pub fn one_library()
     one_record_at_each_place();
     no_fault_exactly_at_records();
     one_reading();
+}
+
+/// A library that is written spells its modules: it is read again as the same modules.
+pub fn written_library_is_spelled()
+    ensures { WrittenLibraryIsSpelled }
+{
+    written_is_spelled();
+    written_list_is_spelled();
 }

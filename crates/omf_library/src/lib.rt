@@ -6,8 +6,9 @@
 //! | [`Library`] | the modules of a library, in order; the first that declares a name |
 //! | [`Providers`] | the first module of a list that declares each name |
 //! | [`read_library`] | the library that a file holds |
+//! | [`write_library`] | modules as a library |
 //! | [`laws`] | what holds of all libraries |
-//! | [`LibraryFault`] | why bytes are no library |
+//! | [`LibraryFault`], [`LibraryPutFault`] | why bytes are no library, and why modules are written as none |
 #![tactic(auto)]
 
 mod fault;
@@ -15,8 +16,10 @@ pub mod laws;
 mod library;
 mod providers;
 mod reading;
+mod writing;
 
-pub use fault::LibraryFault;
+pub use fault::{LibraryFault, LibraryPutFault};
 pub use library::Library;
 pub use providers::Providers;
 pub use reading::read_library;
+pub use writing::write_library;
