@@ -94,11 +94,7 @@ pub one_file : Below → OneFile
 one_file b bytes ms ns s t = (one_run b bytes true 0 ms ns (inr tt) (inr tt) (file_run bytes ms s) (file_run bytes ns t)).modules
 
 left_same : (o : Out) (x y : ModuleFault) → o ≡ inl x → o ≡ inl y → x ≡ y
-left_same o x y e f = ap (value x) (sym e ∙ f)
-  where
-    value : ModuleFault → Out → ModuleFault
-    value d (inl f) = f
-    value d (inr v) = d
+left_same o x y e f = cc
 
 left_right : (o : Out) (a : ModuleFault) → o ≡ inl a → o ≡ inr tt → ⊥
 left_right o a e f = absurd cc

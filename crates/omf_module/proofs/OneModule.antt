@@ -46,18 +46,10 @@ to_run bytes commons from to (p ∷ ps) out s f t =
     )
 
 end_same : (x y : EndBody) → ModuleEnd x ≡ ModuleEnd y → x ≡ y
-end_same x y e = ap (value x) e
-  where
-    value : EndBody → Body → EndBody
-    value d (ModuleEnd b) = b
-    value d _ = d
+end_same x y e = cc
 
 header_same : (x y : HeaderBody) → ModuleHeader x ≡ ModuleHeader y → x ≡ y
-header_same x y e = ap (value x) e
-  where
-    value : HeaderBody → Body → HeaderBody
-    value d (ModuleHeader b) = b
-    value d _ = d
+header_same x y e = cc
 
 end_follows : (commons : List Common) (x : EndBody) (b : Body) → ModuleEnd x ≡ b → IsTrue (may_follow commons b) → ⊥
 end_follows commons x b e f = bad (subst (λ (y : Body). IsTrue (may_follow commons y)) (sym e) f)
@@ -113,18 +105,10 @@ left_right : (o : Out) (a : ModuleFault) (b : ℕ × EndBody × ℕ) → o ≡ i
 left_right o a b e f = absurd cc
 
 left_same : (o : Out) (x y : ModuleFault) → o ≡ inl x → o ≡ inl y → x ≡ y
-left_same o x y e f = ap (value x) (sym e ∙ f)
-  where
-    value : ModuleFault → Out → ModuleFault
-    value d (inl f) = f
-    value d (inr v) = d
+left_same o x y e f = cc
 
 right_same : (o : Out) (x y : ℕ × EndBody × ℕ) → o ≡ inr x → o ≡ inr y → x ≡ y
-right_same o x y e f = ap (value x) (sym e ∙ f)
-  where
-    value : ℕ × EndBody × ℕ → Out → ℕ × EndBody × ℕ
-    value d (inl f) = d
-    value d (inr v) = v
+right_same o x y e f = cc
 
 record SameRecords (after after' : ℕ) (r s : ModuleRecords) : Type 0 where
   records : r ≡ s
