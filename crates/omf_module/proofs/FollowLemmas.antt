@@ -3,6 +3,8 @@ use Rattle.std.proofs.Common.{◌≡◌, ◌≢◌, ℕ, ◌<◌, ◌≤◌, Boo
 use Rattle.std.specs.Prelude.{not, ◌==◌}
 use Rattle.std.proofs.lemmas.Bool.{eqb-true, false≢true}
 use Rattle.std.proofs.lemmas.List.{append-nil}
+use Rattle.omf_core.specs.declared.kind.RecordKind.{RecordKind}
+use Rattle.omf_core.specs.declared.kind.RecordKind.TheVariants as kind
 use Rattle.omf_core.specs.Kind.{kind_byte}
 use Rattle.omf_core.specs.Record.{SpellsRecord}
 use Rattle.omf_body.specs.declared.body.Body.{Body}
@@ -78,6 +80,12 @@ is_alone kind a b c = three (kind == 0x02) (kind == 0x0E) (kind == 0x2E) (λ e. 
     three false true c p q r = absurd (q refl)
     three false false true p q r = absurd (r refl)
     three false false false p q r = refl
+
+pub is_alone_kind : (k : RecordKind) → (k ≡ kind.ModuleHeader → ⊥) → (k ≡ kind.EndOfFile → ⊥) → (k ≡ kind.NamedCommons → ⊥) → IsTrue (stands_alone (kind_byte k))
+is_alone_kind kind.ModuleHeader a b c = absurd (a refl)
+is_alone_kind kind.EndOfFile a b c = absurd (b refl)
+is_alone_kind kind.NamedCommons a b c = absurd (c refl)
+is_alone_kind _ a b c = refl
 
 pub ok_same : {A E : Type 0} (r : Result A E) (x y : A) → r ≡ Ok x → r ≡ Ok y → x ≡ y
 ok_same {A} {E} r x y e f = cc

@@ -26,8 +26,7 @@ use Rattle.omf_module.specs.Segments.{has_segment}
 use Rattle.omf_module.specs.Modules.{ModuleValue}
 use Rattle.omf_module.specs.Rules.{each_after, is_new_entry, is_new_common, has_target, is_fitting, end_of, lies_within, is_placed, has_fitting, is_content, is_start, is_sound, keeps_rules}
 use Rattle.omf_module.specs.Records.{SpellsBodies, commons_in, commons_of, stands_within, may_follow, each_follows, ModuleRecords, SpellsModuleRecords}
-use Rattle.omf_module.specs.Gathered as gathered
-use Rattle.omf_module.specs.Gathered.{publics_in, fixups_in, with_fixups, content_after, contents_from, parts_of}
+use Rattle.omf_module.specs.Gathered.{publics_in, fixups_in, with_fixups, content_after, begins_content, contents_from, parts_of}
 use Rattle.omf_module.specs.Uses.{unknown_id, ids_in, place_fault, lacks_external, fixup_fault, fixups_fault, reference_fault, body_fault, fault_by, bodies_fault, header_fault, end_fault, use_fault}
 use Rattle.omf_module.proofs.ListLemmas.{each_after_both}
 use Rattle.omf_module.proofs.RuleLemmas.{placed_parts}
@@ -260,8 +259,8 @@ contents_keep : (bytes : List ℕ) (from to : ℕ) (m : ModuleValue) (nearest : 
 contents_keep bytes from to m nearest [] s e fit = fit
 contents_keep bytes from to m nearest (p ∷ ps) s e fit =
     let here = first_sound m nearest p ps e in
-    all_both (fits m) (if gathered.is_content p.body then option_to_list nearest else []) (contents_from (content_after nearest p.body) ps)
-    (all_if (fits m) (gathered.is_content p.body) (option_to_list nearest) fit)
+    all_both (fits m) (if begins_content p.body then option_to_list nearest else []) (contents_from (content_after nearest p.body) ps)
+    (all_if (fits m) (begins_content p.body) (option_to_list nearest) fit)
     (contents_keep bytes s.1.0 to m (content_after nearest p.body) ps s.1.2 here.1 (after_fits m nearest p.body s.1.1.fits here.0 fit))
 
 -- ---- the start

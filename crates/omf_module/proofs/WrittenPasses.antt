@@ -22,9 +22,9 @@ use Rattle.omf_module.specs.declared.fixup.Target.TheVariants as target
 use Rattle.omf_module.specs.Contents.{ContentValue, is_inside, shares_a_byte}
 use Rattle.omf_module.specs.Segments.{has_segment}
 use Rattle.omf_module.specs.Modules.{ModuleValue}
-use Rattle.omf_module.specs.Rules.{each_after, is_new_common, is_fitting, has_target, end_of, is_placed, has_fitting, is_content as is_sound_content}
+use Rattle.omf_module.specs.Rules.{each_after, is_new_common, is_fitting, has_target, end_of, is_placed, has_fitting, is_content}
 use Rattle.omf_module.specs.Records.{commons_in, may_follow, each_follows}
-use Rattle.omf_module.specs.Gathered.{publics_in, externals_in, with_fixups, content_after, is_content, contents_from}
+use Rattle.omf_module.specs.Gathered.{publics_in, externals_in, with_fixups, content_after, begins_content, contents_from}
 use Rattle.omf_module.specs.Uses.{unknown_id, place_fault, lacks_external, fixups_fault, reference_fault, body_fault, fault_by, bodies_fault}
 use Rattle.omf_module.specs.Writing.{common_body, public_body, external_body, fixup_by, fixup_body, content_body, content_bodies}
 use Rattle.omf_module.proofs.RuleLemmas.{PlacedParts, placed_parts, new_common}
@@ -59,7 +59,7 @@ record Passed (m : ModuleValue) (known : List Common) (nearest : Option ContentV
   next : content_after nearest body ≡ after
 
 abbrev cut : Option ContentValue → Body → List ContentValue
-cut nearest body = if is_content body then option_to_list nearest else []
+cut nearest body = if begins_content body then option_to_list nearest else []
 
 joined : {A : Type 0} (a b c d : List A) → a ≡ b → c ≡ d → a ++ c ≡ b ++ d
 joined a b c d e f = ap (λ x. x ++ c) e ∙ ap (λ x. b ++ x) f
@@ -148,7 +148,7 @@ fixup_at field offset to = record { offset = offset; field = field; target = to 
 -- what comes of a body that says one fixup in the nearest content
 record Fixed (m : ModuleValue) (commons : List Common) (c : ContentValue) (f : Fixup) (body : Body) : Type 0 where
   passed : Passed m commons (Some c) body [] [] [] (Some (with_fixups c (f ∷ [])))
-  none : is_content body ≡ false
+  none : begins_content body ≡ false
 
 abbrev own_reference : Field → ℕ → Body
 own_reference field offset = Relocation (record { field = field; references = record { offset = offset } ∷ [] })
@@ -241,7 +241,7 @@ unreferred c = record c { fixups = [] }
 abbrev pub only : List ContentValue → Said
 only contents = record { commons = []; publics = []; externals = []; contents = contents }
 
-pub contents_pass : (m : ModuleValue) (commons : List Common) (nearest : Option ContentValue) (cs : List ContentValue) → list_all (is_sound_content m.segments m.commons (length m.externals)) cs ≡ true
+pub contents_pass : (m : ModuleValue) (commons : List Common) (nearest : Option ContentValue) (cs : List ContentValue) → list_all (is_content m.segments m.commons (length m.externals)) cs ≡ true
     → Passes m commons nearest (flat_map content_bodies cs) (only (option_to_list nearest ++ cs))
 contents_pass m commons nearest [] sound = record {
   fit = tt;
@@ -253,7 +253,7 @@ contents_pass m commons nearest [] sound = record {
   contents = λ before. sym (append-nil (option_to_list nearest));
 }
 contents_pass m commons nearest (c ∷ cs) sound =
-    let p = and_parts (is_sound_content m.segments m.commons (length m.externals) c) (list_all (is_sound_content m.segments m.commons (length m.externals)) cs) sound in
+    let p = and_parts (is_content m.segments m.commons (length m.externals) c) (list_all (is_content m.segments m.commons (length m.externals)) cs) sound in
     let q = and_parts (is_placed m.segments m.commons c) (has_fitting m.commons (length m.externals) c) p.0 in
     let placed = placed_parts m.segments m.commons c q.0 in
     passes_more m commons commons [] [] [] nearest (Some (unreferred c)) (content_body c) (map (fixup_body c.segment) c.fixups ++ flat_map content_bodies cs) (only (c ∷ cs)) (append-nil commons)

@@ -56,10 +56,7 @@ is_placed segments commons c = lies_within segments commons c && nat_le (length 
 abbrev pub has_fitting : List Common → ℕ → ContentValue → Bool
 has_fitting commons externals c = each_after (is_fitting commons externals c.offset (length c.bytes)) [] c.fixups
 
--- what is asked of a content that stands in a record
-abbrev pub is_sound_content : List (ℕ × Segment) → List Common → ℕ → ContentValue → Bool
-is_sound_content segments commons externals c = lies_within segments commons c && has_fitting commons externals c
-
+-- what is asked of a content
 abbrev pub is_content : List (ℕ × Segment) → List Common → ℕ → ContentValue → Bool
 is_content segments commons externals c =
     is_placed segments commons c && has_fitting commons externals c

@@ -24,11 +24,8 @@ use crate::symbols::Common;
 use crate::uses::{contents_of, look_at_header, look_at_start};
 use crate::within::{header_at, records_at};
 use omf_body::{HeaderBody, Place};
-use omf_core::next_record;
+use omf_core::{RecordKind, next_record};
 use std::alloc::{AllocError, Global};
-
-/// The type byte of the record that ends a file.
-const END_OF_FILE: u8 = 0x0E;
 
 /// The start of a main program.
 fn start_of(start: Option<Place>) -> Option<(u8, u16)>
@@ -114,7 +111,7 @@ fn ends_file(bytes: &[u8], at: usize) -> bool
     ensures goes_on { result ≡ false → EndsFile bytes.now at → ⊥ }
 {
     match next_record(bytes, at) {
-        Ok((record, _)) => record.kind == END_OF_FILE,
+        Ok((record, _)) => record.kind == RecordKind::EndOfFile.byte(),
         Err(_) => false,
     }
 }
