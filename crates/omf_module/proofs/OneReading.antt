@@ -23,9 +23,10 @@ use Rattle.omf_body.specs.Laws.{OneBody, OneFault as OneBodyFault, NeverBoth as 
 use Rattle.omf_module.specs.declared.fault.Cause.{Cause}
 use Rattle.omf_module.specs.declared.fault.Cause.TheVariants.{Record, UnknownKind, NoEnd}
 use Rattle.omf_module.specs.declared.symbols.Common.{Common}
-use Rattle.omf_module.specs.Rules.{each_after, is_new_common}
+use Rattle.omf_module.specs.Rules.{each_after, has_name, is_new_common}
+use Rattle.omf_module.specs.Segments.{names_common}
 use Rattle.omf_module.specs.Records.{SpellsBody, may_follow}
-use Rattle.omf_module.specs.Spelled.{cause_of, no_header_byte, no_header_record, other_kind, in_header_body, has_id, has_name, read_new_common, FaultsCommons, here, later, commons_cause, FaultsWithin, no_byte, no_record, file_ends, second_header, in_body, in_commons}
+use Rattle.omf_module.specs.Spelled.{cause_of, no_header_byte, no_header_record, other_kind, in_header_body, read_new_common, FaultsCommons, here, later, commons_cause, FaultsWithin, no_byte, no_record, file_ends, second_header, in_body, in_commons}
 use Rattle.omf_module.specs.Reading.{common_of, is_end}
 use Rattle.omf_module.specs.ReadingLaws.{OneHeaderFault, SoundHeader}
 use Rattle.omf_module.proofs.RuleLemmas.{new_common}
@@ -117,9 +118,9 @@ read_new : (before : List Common) (e : CommonEntry) (rest : List ℕ) → IsTrue
 read_new before e rest sound new =
     let s = and_parts (is_common_id e.id) (is_name e.name) sound in
     let n = new_common before (common_of e) new in
-    cond-true (is_common_id e.id && not (has_id before e.id))
+    cond-true (is_common_id e.id && not (names_common before e.id))
     (read_name (name_spelling e.name ++ rest) >>= λ name. if has_name before name.0 then Err BadField else Ok (record { id = e.id; name = name.0 }, name.1))
-    (Err BadField) (and_from (is_common_id e.id) (not (has_id before e.id)) n.id n.new_id)
+    (Err BadField) (and_from (is_common_id e.id) (not (names_common before e.id)) n.id n.new_id)
     ∙ (ap (λ (r : Result (List ℕ × List ℕ) FieldFault). r >>= λ name. if has_name before name.0 then Err BadField else Ok (record { id = e.id; name = name.0 }, name.1)) (name_again e.name rest s.1)
     ∙ cond-false (has_name before e.name) (Err BadField) (Ok (common_of e, rest)) (not-true (has_name before e.name) n.new_name))
 

@@ -1,15 +1,14 @@
 -- The rules of a module, one by one, and as those of references and all others.
 use Rattle.std.proofs.Common.{◌≡◌, ℕ, ◌+◌, ◌≤◌, Bool, true, false, ◌&&◌, List, [], ◌∷◌, length, refl, sym, ap, ◌∙◌}
-use Rattle.std.specs.Prelude.{not, ◌==◌, nat_le, nat_eq}
-use Rattle.std.specs.List.{list_all, list_any}
-use Rattle.std.specs.Cmp.Lexicographic.{pointwise}
+use Rattle.std.specs.Prelude.{not, ◌==◌, nat_le}
+use Rattle.std.specs.List.{list_all}
 use Rattle.std.proofs.lemmas.Bool.{and_parts, not-true, leb-true}
 use Rattle.omf_module.specs.declared.segment.Segment.{Segment}
 use Rattle.omf_module.specs.declared.symbols.Common.{Common}
 use Rattle.omf_module.specs.Contents.{ContentValue}
-use Rattle.omf_module.specs.Segments.{is_common_id, has_segment}
+use Rattle.omf_module.specs.Segments.{is_common_id, names_common, has_segment}
 use Rattle.omf_module.specs.Modules.{ModuleValue}
-use Rattle.omf_module.specs.Rules.{each_after, is_new_entry, is_new_common, end_of, lies_within, is_placed, has_fitting, is_content, is_start, is_sound, keeps_rules, keeps_rules_but_for_fixups, keeps_fixup_rules}
+use Rattle.omf_module.specs.Rules.{each_after, has_name, is_new_entry, is_new_common, end_of, lies_within, is_placed, has_fitting, is_content, is_start, is_sound, keeps_rules, keeps_rules_but_for_fixups, keeps_fixup_rules}
 
 crossed : (a b c d : Bool) → (a && b && (c && d)) ≡ (a && c && (b && d))
 crossed false b c d = refl
@@ -73,13 +72,13 @@ placed_parts segments commons c placed =
 -- a common that may follow others
 pub record NewCommon (before : List Common) (c : Common) : Type 0 where
   pub id : is_common_id c.id ≡ true
-  pub new_id : not (list_any (λ d. d.id == c.id) before) ≡ true
-  pub new_name : not (list_any (λ d. pointwise nat_eq d.name c.name) before) ≡ true
+  pub new_id : not (names_common before c.id) ≡ true
+  pub new_name : not (has_name before c.name) ≡ true
 
 pub new_common : (before : List Common) (c : Common) → is_new_common before c ≡ true → NewCommon before c
 new_common before c new =
-    let p = and_parts (is_common_id c.id && not (list_any (λ d. d.id == c.id) before)) (not (list_any (λ d. pointwise nat_eq d.name c.name) before)) new in
-    let q = and_parts (is_common_id c.id) (not (list_any (λ d. d.id == c.id) before)) p.0 in
+    let p = and_parts (is_common_id c.id && not (names_common before c.id)) (not (has_name before c.name)) new in
+    let q = and_parts (is_common_id c.id) (not (names_common before c.id)) p.0 in
     record { id = q.0; new_id = q.1; new_name = p.1 }
 
 -- ---- those of references, and the others

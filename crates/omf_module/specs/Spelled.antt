@@ -1,9 +1,6 @@
 -- How bytes spell modules and object files, and why they spell none: the first fault.
 -- (8080 Object Module Formats, module and object file. The faults and their order are this project's own.)
 use Rattle.std.specs.Prelude.{◌≡◌, ◌≢◌, ℕ, ◌≤◌, ◌<◌, not, ◌==◌, ◌&&◌, Bool, Some, None, List, [], ◌∷◌, ◌++◌, length, drop, Result, Ok, Err, if◌then◌else◌, IsTrue}
-use Rattle.std.specs.List.{list_any}
-use Rattle.std.specs.Cmp.Lexicographic.{pointwise}
-use Rattle.std.specs.Prelude.{nat_eq}
 use Rattle.omf_core.specs.declared.fault.RecordFault.{RecordFault}
 use Rattle.omf_core.specs.declared.kind.RecordKind.TheVariants as kind
 use Rattle.omf_core.specs.Kind.{kind_byte}
@@ -22,6 +19,8 @@ use Rattle.omf_module.specs.declared.fault.Cause.TheVariants as cause
 use Rattle.omf_module.specs.declared.fault.ModuleFault.{ModuleFault}
 use Rattle.omf_module.specs.declared.symbols.Common.{Common}
 use Rattle.omf_module.specs.declared.records.PlacedBody.{PlacedBody}
+use Rattle.omf_module.specs.Segments.{names_common}
+use Rattle.omf_module.specs.Rules.{has_name}
 use Rattle.omf_module.specs.Modules.{ModuleValue, made_of}
 use Rattle.omf_module.specs.Records.{SpellsBody, SpellsBodies, commons_of, each_follows, ModuleRecords, SpellsModuleRecords}
 use Rattle.omf_module.specs.Gathered.{parts_of}
@@ -54,16 +53,10 @@ pub data FaultsHeader (bytes : List ℕ) (at : ℕ) : Cause → Type 0 where
   in_header_body : (next : ℕ) (body : List ℕ) (fault : BodyFault) → SpellsRecord bytes at next (kind_byte kind.ModuleHeader) body → FirstFault (kind_byte kind.ModuleHeader) body fault → FaultsHeader bytes at (cause_of fault)
 
 -- a common, after those that stand before: its id is one for commons and new, and so is its name
-abbrev pub has_id : List Common → ℕ → Bool
-has_id commons id = list_any (λ c. c.id == id) commons
-
-abbrev pub has_name : List Common → List ℕ → Bool
-has_name commons name = list_any (λ c. pointwise nat_eq c.name name) commons
-
 abbrev pub read_new_common : List Common → List ℕ → Result (Common × List ℕ) FieldFault
 read_new_common before bytes = do
   id ← read_byte bytes
-  if is_common_id id.0 && not (has_id before id.0)
+  if is_common_id id.0 && not (names_common before id.0)
       then (read_name id.1 >>= λ name. if has_name before name.0 then Err field.BadBody else Ok (record { id = id.0; name = name.0 }, name.1))
       else Err field.BadBody
 

@@ -1,15 +1,13 @@
 //! Nothing is listed twice.
 
-ghost use Rattle.std.specs.Prelude.{◌≡◌, ◌==◌, nat_eq, []};
+ghost use Rattle.std.specs.Prelude.{◌≡◌, ◌==◌, []};
 ghost use Rattle.std.specs.List.{list_any};
-ghost use Rattle.std.specs.Cmp.Lexicographic.{pointwise};
 ghost use Rattle.omf_module.specs.Segments.{has_segment};
-ghost use Rattle.omf_module.specs.Rules.{each_after, is_new_entry, is_new_common};
+ghost use Rattle.omf_module.specs.Rules.{each_after, has_name, is_new_entry, is_new_common};
 
 use crate::rules::{has_segment, names_common};
 use crate::segment::Segment;
 use crate::symbols::Common;
-use omf_core::Name;
 
 pub(crate) fn lists_id(entries: &[(u8, Segment)], id: u8) -> bool
     ensures { result ≡ list_any (λ d. d.0 == id) entries.now }
@@ -17,10 +15,10 @@ pub(crate) fn lists_id(entries: &[(u8, Segment)], id: u8) -> bool
     entries.iter().any(|d| d.0 == id)
 }
 
-pub(crate) fn names_name(commons: &[Common], name: &Name) -> bool
-    ensures { result ≡ list_any (λ d. pointwise nat_eq d.name name.now) commons.now }
+pub(crate) fn names_name(commons: &[Common], name: &[u8]) -> bool
+    ensures { result ≡ has_name commons.now name.now }
 {
-    commons.iter().any(|d| d.name == *name)
+    commons.iter().any(|common| common.name.bytes() == name)
 }
 
 fn is_new_entry(commons: &[Common], before: &[(u8, Segment)], id: u8, segment: Segment) -> bool
@@ -47,7 +45,7 @@ pub(crate) fn is_new_common(before: &[Common], common: &Common) -> bool
 {
     (6 <= common.id && common.id <= 254)
         && !names_common(before, common.id)
-        && !names_name(before, &common.name)
+        && !names_name(before, common.name.bytes())
 }
 
 /// Whether no id and no name stands twice, and each id is one for commons.

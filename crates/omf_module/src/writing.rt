@@ -8,7 +8,7 @@ ghost use Rattle.omf_body.specs.declared.body.Body.TheVariants.{ModuleHeader, Mo
 ghost use Rattle.omf_body.specs.Bodies.{record_bytes};
 ghost use Rattle.omf_module.specs.Rules.{IsModule};
 ghost use Rattle.omf_module.specs.Spelled.{SpellsFile};
-ghost use Rattle.omf_module.specs.Writing.{segment_entry, header_body, common_body, public_body, external_body, fixup_body, content_body, content_bodies, place_of, end_body, module_bytes, file_bytes};
+ghost use Rattle.omf_module.specs.Writing.{segment_entry, header_body, common_body, public_body, external_body, fixup_body, content_bodies, place_of, end_body, module_bytes, file_bytes};
 ghost use Rattle.omf_module.specs.WritingLaws.{IsReadAgain};
 
 use crate::content::Content;
@@ -132,13 +132,6 @@ fn append_fixup(alloc: Global, own: u8, fixup: Fixup, out: &mut Vec<u8>) -> Resu
     }
 }
 
-fn append_bytes(alloc: Global, content: &Content, out: &mut Vec<u8>) -> Result<(), AllocError>
-    requires { length content.now.bytes ≤ 65531 }
-    ensures { OnOk result (out.new.items ≡ out.old.items ++ record_bytes (content_body content.now)) }
-{
-    never_too_long(put_content(alloc, content.segment, content.offset, &content.bytes, out))
-}
-
 fn append_end(alloc: Global, start: Option<(u8, u16)>, out: &mut Vec<u8>) -> Result<(), AllocError>
     ensures { OnOk result (out.new.items ≡ out.old.items ++ record_bytes (ModuleEnd (end_body start))) }
 {
@@ -191,7 +184,7 @@ fn append_content(alloc: Global, content: &Content, out: &mut Vec<u8>) -> Result
     requires { length content.now.bytes ≤ 65531 }
     ensures { OnOk result (out.new.items ≡ out.old.items ++ flat_map record_bytes (content_bodies content.now)) }
 {
-    append_bytes(alloc, content, out)?;
+    never_too_long(put_content(alloc, content.segment, content.offset, &content.bytes, out))?;
     append_fixups(alloc, content.segment, &content.fixups, out)
 }
 
