@@ -9,7 +9,7 @@ use crate::rules::{has_segment, names_common};
 use crate::segment::Segment;
 use crate::symbols::Common;
 
-pub(crate) fn lists_id(entries: &[(u8, Segment)], id: u8) -> bool
+fn lists_id(entries: &[(u8, Segment)], id: u8) -> bool
     ensures { result ≡ list_any (λ d. d.0 == id) entries.now }
 {
     entries.iter().any(|d| d.0 == id)
@@ -21,18 +21,12 @@ pub(crate) fn names_name(commons: &[Common], name: &[u8]) -> bool
     commons.iter().any(|common| common.name.bytes() == name)
 }
 
-fn is_new_entry(commons: &[Common], before: &[(u8, Segment)], id: u8, segment: Segment) -> bool
-    ensures { result ≡ is_new_entry commons.now before.now (id, segment) }
-{
-    has_segment(commons, id) && !lists_id(before, id)
-}
-
 /// Whether each entry is of a segment that the module has, and no id is listed twice.
 pub(crate) fn are_entries(commons: &[Common], entries: &[(u8, Segment)]) -> bool
     ensures { result ≡ each_after (is_new_entry commons.now) [] entries.now }
 {
     for (place, entry) in entries.iter().enumerate() {
-        if !is_new_entry(commons, &entries[..place], entry.0, entry.1) {
+        if !has_segment(commons, entry.0) || lists_id(&entries[..place], entry.0) {
             return false;
         }
     }
@@ -40,7 +34,7 @@ pub(crate) fn are_entries(commons: &[Common], entries: &[(u8, Segment)]) -> bool
 }
 
 /// Whether the common's id is one for commons, and neither its id nor its name stands before.
-pub(crate) fn is_new_common(before: &[Common], common: &Common) -> bool
+fn is_new_common(before: &[Common], common: &Common) -> bool
     ensures { result ≡ is_new_common before.now common.now }
 {
     (6 <= common.id && common.id <= 254)

@@ -27,16 +27,6 @@ use omf_body::{HeaderBody, Place};
 use omf_core::{RecordKind, next_record};
 use std::alloc::{AllocError, Global};
 
-/// The start of a main program.
-fn start_of(start: Option<Place>) -> Option<(u8, u16)>
-    ensures { result ≡ option_map (λ place. (place.segment, place.offset)) start }
-{
-    match start {
-        Some(place) => Some((place.segment, place.offset)),
-        None => None,
-    }
-}
-
 /// The parts that records say, but for their contents.
 fn without_contents(
     alloc: Global,
@@ -66,7 +56,7 @@ fn without_contents(
         publics,
         externals,
         contents: Vec::new(alloc),
-        start: start_of(start),
+        start: start.map(|place| (place.segment, place.offset)),
     })
 }
 
