@@ -44,25 +44,19 @@ pub(crate) fn copy_publics(alloc: Global, publics: &[Public]) -> Result<Vec<Publ
     Ok(copies)
 }
 
-fn copy_content(alloc: Global, content: &Content) -> Result<Content, AllocError>
-    ensures { IfOk result (λ copied. copied ≡ content.now) }
-{
-    let bytes = Vec::from_slice(alloc, &content.bytes)?;
-    let fixups = Vec::from_slice(alloc, &content.fixups)?;
-    Ok(Content {
-        segment: content.segment,
-        offset: content.offset,
-        bytes,
-        fixups,
-    })
-}
-
 pub(crate) fn copy_contents(alloc: Global, contents: &[Content]) -> Result<Vec<Content>, AllocError>
     ensures { IfOk result (λ copies. copies.items ≡ contents.now) }
 {
     let mut copies = Vec::new(alloc);
     for content in contents {
-        copies.push(copy_content(alloc, content)?)?;
+        let bytes = Vec::from_slice(alloc, &content.bytes)?;
+        let fixups = Vec::from_slice(alloc, &content.fixups)?;
+        copies.push(Content {
+            segment: content.segment,
+            offset: content.offset,
+            bytes,
+            fixups,
+        })?;
     }
     Ok(copies)
 }

@@ -75,7 +75,9 @@ impl<'a> Open<'a> {
         if !is_free(&self.marks, self.offset, fixup) {
             return Err(Cause::FixupTwice);
         }
-        if lacks_external(parts, fixup.target) {
+        if let Target::External(index) = fixup.target
+            && parts.externals.len() <= index as usize
+        {
             return Err(Cause::IndexUnknown);
         }
         self.fixups.push(fixup)?;
@@ -106,18 +108,5 @@ impl<'a> Open<'a> {
             bytes,
             fixups: self.fixups,
         })
-    }
-}
-
-ghost use Rattle.std.specs.Prelude.{◌≡◌};
-ghost use Rattle.omf_module.specs.Uses.{lacks_external};
-
-/// Whether the module has no external of a fixup's index.
-fn lacks_external(parts: &Parts, target: Target) -> bool
-    ensures { result ≡ lacks_external parts.now target }
-{
-    match target {
-        Target::Segment(_) => false,
-        Target::External(index) => parts.externals.len() <= index as usize,
     }
 }
