@@ -1,5 +1,5 @@
 -- A record that is read after a header and records that declare some commons is an end, or may follow.
-use Rattle.std.proofs.Common.{◌≡◌, ◌≢◌, ℕ, ◌<◌, ◌≤◌, Bool, true, false, ◌&&◌, ◌⊎◌, inl, inr, List, [], ◌++◌, length, refl, sym, ap, subst, ◌∙◌, arith, IsTrue, Result, Ok, Err}
+use Rattle.std.proofs.Common.{◌≡◌, ◌≢◌, ℕ, ◌<◌, ◌≤◌, Bool, true, false, ◌&&◌, ◌⊎◌, inl, inr, List, [], ◌++◌, length, refl, sym, ap, subst, ◌∙◌, arith, IsTrue}
 use Rattle.std.specs.Prelude.{not, ◌==◌}
 use Rattle.std.proofs.lemmas.Bool.{eqb-true, false≢true}
 use Rattle.std.proofs.lemmas.List.{append-nil}
@@ -86,9 +86,3 @@ is_alone_kind kind.ModuleHeader a b c = absurd (a refl)
 is_alone_kind kind.EndOfFile a b c = absurd (b refl)
 is_alone_kind kind.NamedCommons a b c = absurd (c refl)
 is_alone_kind _ a b c = refl
-
-pub ok_same : {A E : Type 0} (r : Result A E) (x y : A) → r ≡ Ok x → r ≡ Ok y → x ≡ y
-ok_same {A} {E} r x y e f = cc
-
-pub err_not_ok : {A E : Type 0} (e : E) (x : A) → Err e ≡ Ok x → ⊥
-err_not_ok {A} {E} e x p = absurd cc

@@ -94,7 +94,7 @@ one_header_fault b bytes at why why' (in_header_body n body f r e) (in_header_bo
 
 -- ---- commons
 
-ok_err : {A E : Type 0} (r : Result A E) (x : A) (e : E) → r ≡ Ok x → r ≡ Err e → ⊥
+pub ok_err : {A E : Type 0} (r : Result A E) (x : A) (e : E) → r ≡ Ok x → r ≡ Err e → ⊥
 ok_err {A} {E} r x e p q = absurd cc
 
 pub err_same : {A E : Type 0} (r : Result A E) (e f : E) → r ≡ Err e → r ≡ Err f → e ≡ f
@@ -241,6 +241,12 @@ view_sound b bytes at next commons x why s may (stands n k body _ r e) =
 pub within_sound : Below → (bytes : List ℕ) (at next : ℕ) (commons : List Common) (x : Body) (why : Cause)
     → SpellsBody bytes at next x → (IsTrue (is_end x) ⊎ IsTrue (may_follow commons x)) → FaultsWithin bytes at commons why → ⊥
 within_sound b bytes at next commons x why s may f = view_sound b bytes at next commons x why s may (view bytes at commons why f)
+
+pub left_right : {A B : Type 0} (o : A ⊎ B) (a : A) (b : B) → o ≡ inl a → o ≡ inr b → ⊥
+left_right {A} {B} o a b e f = absurd cc
+
+pub left_same : {A B : Type 0} (o : A ⊎ B) (x y : A) → o ≡ inl x → o ≡ inl y → x ≡ y
+left_same {A} {B} o x y e f = cc
 
 pub of_laws : OneRecordAtEachPlace → NoFaultExactlyAtRecords → OneBody → OneBodyFault → NeverBothBody → Below
 of_laws r n o f b = record { one_record = r; no_fault = n; one_body = o; one_fault = f; never_both = b }

@@ -1,4 +1,4 @@
-use Rattle.std.proofs.Common.{ℕ, sym, ap, subst, ◌∙◌, arith, refl, Ok, IsTrue}
+use Rattle.std.proofs.Common.{ℕ, sym, ap, subst, ◌∙◌, arith, refl, Ok, Err, IsTrue}
 use Rattle.std.proofs.lemmas.Result.{err_from_is_err_and}
 use Rattle.omf_core.specs.declared.kind.RecordKind.TheVariants.{ModuleHeader, EndOfFile, NamedCommons}
 use Rattle.omf_core.specs.Kind.{kind_byte}
@@ -10,7 +10,8 @@ use Rattle.omf_body.specs.FirstFault.{unknown}
 use Rattle.omf_module.specs.declared.fault.Cause.{Cause}
 use Rattle.omf_module.specs.declared.fault.Cause.TheVariants.{UnknownKind}
 use Rattle.omf_module.specs.Spelled.{stands_alone, FaultsWithin, no_byte, no_record, file_ends, second_header, in_body, in_commons}
-use Rattle.omf_module.proofs.FollowLemmas.{followed_commons, commons_spelled, is_alone, is_alone_kind, err_not_ok, ok_same}
+use Rattle.omf_module.proofs.FollowLemmas.{followed_commons, commons_spelled, is_alone, is_alone_kind}
+use Rattle.omf_module.proofs.OneReading.{ok_same, ok_err}
 use Rattle.omf_module.proofs.within.next_body.Goals as goal
 
 pub returns-then-bytes-at-clause-fault : goal.returns-then-bytes-at-clause-fault
@@ -48,7 +49,7 @@ pub unreachable-requires : goal.unreachable-requires
 unreachable-requires c =
     let t = c.in_ok-take_commons-in-NamedCommons.ensures.taken in
     let spelled = subst (λ (k : ℕ). Spells k c.in_ok-record.record.body.now (body_of.NamedCommons t.entries)) (sym (sym c.in-Some.ensures.kind ∙ ap kind_byte c.in-NamedCommons.is)) (commons_spelled c.args.commons.now.items c.take_commons.new.commons.items c.in_ok-record.record.body.now t) in
-    err_not_ok c.in-Err.field-0 (body_of.NamedCommons t.entries) (c.in-Err.ensures.every_body (body_of.NamedCommons t.entries) spelled)
+    ok_err (Err c.in-Err.field-0) (body_of.NamedCommons t.entries) c.in-Err.field-0 (c.in-Err.ensures.every_body (body_of.NamedCommons t.entries) spelled) refl
 
 pub returns-in-Ok-clause-follows : goal.returns-in-Ok-clause-follows
 returns-in-Ok-clause-follows c =
