@@ -46,7 +46,7 @@ impl<'a> Open<'a> {
     ) -> Result<Open<'a>, AllocError>
         ensures { IfOk result (λ o. o ≡ record { segment = segment; offset = offset; bytes = bytes.now; fixups = [] }) }
     {
-        let marks = no_marks(alloc, offset, bytes.len())?;
+        let marks = no_marks(alloc, bytes.len())?;
         Ok(Open {
             segment,
             offset,
