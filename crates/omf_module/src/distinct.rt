@@ -8,6 +8,7 @@ ghost use Rattle.omf_module.specs.Rules.{each_after, has_name, is_new_entry, is_
 use crate::rules::{has_segment, names_common};
 use crate::segment::Segment;
 use crate::symbols::Common;
+use omf_body::segment_id::{FIRST_COMMON, LAST_COMMON};
 
 fn lists_id(entries: &[(u8, Segment)], id: u8) -> bool
     ensures { result ≡ list_any (λ d. d.0 == id) entries.now }
@@ -37,7 +38,7 @@ pub(crate) fn are_entries(commons: &[Common], entries: &[(u8, Segment)]) -> bool
 fn is_new_common(before: &[Common], common: &Common) -> bool
     ensures { result ≡ is_new_common before.now common.now }
 {
-    (6 <= common.id && common.id <= 254)
+    (FIRST_COMMON <= common.id && common.id <= LAST_COMMON)
         && !names_common(before, common.id)
         && !names_name(before, common.name.bytes())
 }

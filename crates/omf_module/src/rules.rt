@@ -11,13 +11,8 @@ use crate::marks::are_fitting;
 use crate::parts::Parts;
 use crate::segment::Segment;
 use crate::symbols::{Common, Public};
+use omf_body::segment_id::{ABSOLUTE, MEMORY, STACK, UNNAMED_COMMON};
 use std::alloc::{AllocError, Global};
-
-/// The id of absolute bytes.
-const ABSOLUTE: u8 = 0;
-
-/// The id of the segment of the stack.
-pub(crate) const STACK: u8 = 3;
 
 /// How many bytes one content record carries.
 const LONGEST_CONTENT: usize = 65531;
@@ -33,7 +28,7 @@ pub fn names_common(commons: &[Common], id: u8) -> bool
 pub(crate) fn has_segment(commons: &[Common], id: u8) -> bool
     ensures { result ≡ has_segment commons.now id }
 {
-    id <= 4 || id == 255 || names_common(commons, id)
+    id <= MEMORY || id == UNNAMED_COMMON || names_common(commons, id)
 }
 
 /// The listed segment of this id, and an empty one where none is listed.
