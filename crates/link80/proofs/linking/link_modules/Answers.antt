@@ -73,3 +73,6 @@ returns-in-Ok-clause-no_fault c =
     (one_of c.args.modules c.in_ok-laid.laid c.in_ok-main.main c.in_ok-laid.ensures.same c.in_ok-main.ensures.main)
     (paged c.args.modules c.in_ok-laid.laid c.in_ok-laid.ensures.same c.if-any_high_off_page.ensures) few
     ∙ ap too_many_externals (sym (c.in_ok-joined.ensures.same ∙ c.in_ok-laid.ensures.same)) ∙ c.in_ok-tables.ensures.fit
+
+pub returns-in-Ok-clause-sound : goal.returns-in-Ok-clause-sound
+returns-in-Ok-clause-sound c = subst (AllByRecursion IsModule) (c.in_ok-tables.ensures.same ∙ c.in_ok-joined.ensures.same ∙ c.in_ok-laid.ensures.same) c.in_ok-parts.ensures.sound
