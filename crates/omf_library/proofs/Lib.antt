@@ -1,1 +1,5 @@
+mod OneLibrary
 mod ProviderLemmas
+mod ReadingLemmas
+mod WritingLemmas
+mod WrittenLibrary

@@ -1,13 +1,28 @@
-//! Libraries of Intel's 8080 object files (OMF-80): modules that a linker takes as they are needed.
+//! Libraries of Intel's 8080 object files (OMF-80): modules that a linker takes as they are needed, and how they are read
+//! and written.
 //!
 //! | Item | What it is |
 //! |---|---|
-//! | [`Library`] | the modules of a library, in order |
+//! | [`Library`] | the modules of a library, in order; the first that declares a name |
 //! | [`Providers`] | the first module of a list that declares each name |
+//! | [`read_library`] | the library that a file holds |
+//! | [`write_library`] | modules as a library |
+//! | [`laws`] | what holds of all libraries |
+//! | [`LibraryFault`], [`LibraryPutFault`] | why bytes are no library, and why modules are written as none |
 #![tactic(auto)]
 
+mod fault;
+pub mod laws;
 mod library;
 mod providers;
+mod reading;
+mod writing;
 
+pub use fault::{LibraryFault, LibraryPutFault};
 pub use library::Library;
 pub use providers::Providers;
+pub use reading::read_library;
+pub use writing::write_library;
+
+#[cfg(test)]
+mod tests;

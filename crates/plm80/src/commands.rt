@@ -4,10 +4,12 @@ mod check_text;
 mod checking;
 mod fault_line;
 mod files;
+mod library;
 pub mod list_text;
 mod listing;
 mod locating;
 pub mod number_text;
+mod object_files;
 mod running;
 mod syntax;
 mod words;
@@ -48,6 +50,7 @@ fn perform(rt: &HostRuntime, request: Request<'_>) -> Result<u8, Reported> {
         Request::Run(words) => running::run_files(rt, words),
         Request::List(words) => listing::list_files(rt, words),
         Request::Check(words) => checking::check_files(rt, words),
+        Request::Library(words) => library::write_library_file(rt, &words),
         Request::Later => Err(report(rt, "NotYet")),
     }
 }

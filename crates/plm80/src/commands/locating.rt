@@ -1,12 +1,12 @@
 //! `plm80 locate`: an object file's one module at its places, as an image and its regions.
 
 use crate::commands::fault_line::{Reported, report, report_file, report_memory};
-use crate::commands::files::{read_whole, replace};
+use crate::commands::files::replace;
 use crate::commands::number_text::word_of_digits;
+use crate::commands::object_files::read_modules;
 use crate::commands::syntax::{Argument, Kind, Syntax};
 use crate::commands::words::path_of;
 use clap::ArgMatches;
-use omf_module::{Cause, ModuleFault, read_file};
 use place80::{Image, Options, locate, write_image, write_regions};
 use std::alloc::{AllocError, Global};
 
@@ -168,25 +168,13 @@ pub fn locate_file(rt: &HostRuntime, words: LocateWords<'_>) -> Result<u8, Repor
 
 /// The one module of the object file of this path at its places, as an image.
 fn located(rt: &HostRuntime, path: &str, options: &Options) -> Result<Image, Reported> {
-    let bytes = read_whole(rt, path)?;
-    let modules = match read_file(rt.alloc(), &bytes) {
-        Ok(modules) => modules,
-        Err(fault) => return Err(report_module(rt, path, fault)),
-    };
+    let modules = read_modules(rt, path)?;
     let [program] = modules.as_slice() else {
         return Err(report_file(rt, path, "NotOneModule"));
     };
     match locate(rt.alloc(), program, options) {
         Ok(image) => Ok(image),
         Err(fault) => Err(report(rt, fault)),
-    }
-}
-
-/// Reports a fault of the object file of this path.
-fn report_module(rt: &HostRuntime, path: &str, fault: ModuleFault) -> Reported {
-    match fault.cause {
-        Cause::Memory => report_memory(rt),
-        _ => report_file(rt, path, fault),
     }
 }
 

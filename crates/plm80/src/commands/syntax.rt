@@ -1,6 +1,6 @@
 //! What clap is told of a command: its name, its help text and its arguments, as a table.
 
-use clap::{Arg, Command};
+use clap::{Arg, ArgAction, Command};
 use std::alloc::{AllocError, Global};
 
 /// A command of the program.
@@ -25,6 +25,8 @@ pub struct Argument<'a> {
 pub enum Kind<'a> {
     /// The path of a file, which is required.
     Path,
+    /// The paths of one or more files.
+    Paths,
     /// An option with a number, which the help text calls by this word. Any argument after the option is its value, and
     /// the program reads it.
     Number(&'a str),
@@ -54,6 +56,7 @@ impl<'a> Argument<'a> {
         let arg = Arg::new(alloc, self.name).help(self.help);
         match self.kind {
             Kind::Path => arg.required(true),
+            Kind::Paths => arg.required(true).num_args(1..).action(ArgAction::Append),
             Kind::Number(value) => number(arg, self.name, value),
             Kind::Count(default) => number(arg, self.name, "N").default_value(default),
         }

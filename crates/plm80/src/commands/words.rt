@@ -1,6 +1,7 @@
 //! The words of the command line, read by clap.
 
 use crate::commands::checking::{CHECK, CheckWords};
+use crate::commands::library::{LIB, LibraryWords};
 use crate::commands::listing::{LIST, ListWords};
 use crate::commands::locating::{LOCATE, LocateWords};
 use crate::commands::running::{RUN, RunWords};
@@ -10,12 +11,13 @@ use clap::{ArgMatches, Command, Error};
 use std::alloc::{AllocError, Global};
 
 /// What the words ask for.
-#[derive(Clone, Copy)]
+#[derive(Drop)]
 pub enum Request<'a> {
     Locate(LocateWords<'a>),
     Run(RunWords<'a>),
     List(ListWords<'a>),
     Check(CheckWords<'a>),
+    Library(LibraryWords<'a>),
     /// A command that is to come.
     Later,
 }
@@ -36,14 +38,14 @@ Example: plm80 locate readings.obj readings.img readings.regions
          plm80 run readings.img readings.regions readings.inputs";
 
 /// The commands that are there.
-static COMMANDS: [Syntax<'static>; 4] = [LOCATE, RUN, LIST, CHECK];
+static COMMANDS: [Syntax<'static>; 5] = [LOCATE, RUN, LIST, CHECK, LIB];
 
 /// The request that the words spell; the first word is the program's own name.
 pub fn read_words<'a>(alloc: Global, words: &'a [String]) -> Result<Request<'a>, Error> {
     if names_later(words) {
         return Ok(Request::Later);
     }
-    match asked_for(&matches_of(alloc, words)?) {
+    match asked_for(alloc, &matches_of(alloc, words)?)? {
         Some(request) => Ok(request),
         None => Err(refusal(alloc, ErrorKind::MissingSubcommand, "no command")),
     }
@@ -78,7 +80,7 @@ fn refuse(alloc: Global, kind: ErrorKind, text: &str) -> Result<Error, AllocErro
 /// Whether the first word after the program's name is a command that is to come.
 fn names_later(words: &[String]) -> bool {
     match words.get(1) {
-        Some(word) => matches!(word.as_str(), "link" | "lib"),
+        Some(word) => word.as_str() == "link",
         None => false,
     }
 }
@@ -102,15 +104,22 @@ fn bare_program<'a>(alloc: Global) -> Result<Command<'a>, AllocError> {
 }
 
 /// The request of a command line that clap has read.
-fn asked_for<'a>(matches: &ArgMatches<'a>) -> Option<Request<'a>> {
-    let (name, words) = matches.subcommand()?;
-    match name {
-        "locate" => Some(Request::Locate(LocateWords::of(words))),
-        "run" => Some(Request::Run(RunWords::of(words))),
-        "list" => Some(Request::List(ListWords::of(words))),
-        "check" => Some(Request::Check(CheckWords::of(words))),
-        _ => None,
-    }
+fn asked_for<'a>(
+    alloc: Global,
+    matches: &ArgMatches<'a>,
+) -> Result<Option<Request<'a>>, AllocError> {
+    let Some((name, words)) = matches.subcommand() else {
+        return Ok(None);
+    };
+    let request = match name {
+        "locate" => Request::Locate(LocateWords::of(words)),
+        "run" => Request::Run(RunWords::of(words)),
+        "list" => Request::List(ListWords::of(words)),
+        "check" => Request::Check(CheckWords::of(words)),
+        "lib" => Request::Library(LibraryWords::of(alloc, words)?),
+        _ => return Ok(None),
+    };
+    Ok(Some(request))
 }
 
 /// The path of an argument that clap requires.

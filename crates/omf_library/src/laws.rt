@@ -1,0 +1,30 @@
+//! What holds of all libraries, whatever calls are made. Each law is ensured by a function that does nothing: a layer above
+//! that calls it has the law in its proof.
+
+ghost use Rattle.omf_library.specs.Laws.{OneLibrary, OneLibraryFault, NeverBothLibrary};
+ghost use Rattle.omf_library.specs.Writing.{WrittenLibraryIsSpelled};
+
+use omf_core::laws::{
+    no_fault_exactly_at_records, one_record_at_each_place, written_is_spelled,
+    written_list_is_spelled,
+};
+use omf_module::laws::one_reading;
+
+/// Bytes spell one list of modules as a library at most, or have one first fault, and never both.
+pub fn one_library()
+    ensures library { OneLibrary }
+    ensures fault { OneLibraryFault }
+    ensures never_both { NeverBothLibrary }
+{
+    one_record_at_each_place();
+    no_fault_exactly_at_records();
+    one_reading();
+}
+
+/// A library that is written spells its modules: it is read again as the same modules.
+pub fn written_library_is_spelled()
+    ensures { WrittenLibraryIsSpelled }
+{
+    written_is_spelled();
+    written_list_is_spelled();
+}

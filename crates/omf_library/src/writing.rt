@@ -1,0 +1,279 @@
+//! Libraries as bytes, in one form.
+
+ghost use Rattle.std.specs.Prelude.{◌≡◌, ◌≢◌, ◌≤◌, [], ◌++◌, ◌/◌, ◌||◌, length, nat_lt, is_ok, Err, IfOk, OnOk, OnErr, IsErrOf, IsTrue, false};
+ghost use Rattle.std.specs.List.{flat_map, AllByRecursion};
+ghost use Rattle.omf_core.specs.Name.{name_spelling};
+ghost use Rattle.omf_core.specs.Kind.{kind_byte};
+ghost use Rattle.omf_core.specs.Record.{spelling};
+ghost use Rattle.omf_core.specs.declared.fault.PutFault.TheVariants.{TooLong};
+ghost use Rattle.omf_body.specs.Fields.{word_bytes};
+ghost use Rattle.omf_module.specs.Writing.{module_bytes};
+ghost use Rattle.omf_module.specs.WritingLaws.{IsReadAgain};
+ghost use Rattle.omf_library.specs.Spelled.{SpellsLibrary};
+ghost use Rattle.omf_library.specs.Writing.{location_bytes, places_from, names_body, public_names, dictionary_body, library_bytes, is_too_large};
+
+use crate::fault::LibraryPutFault;
+use crate::laws::written_library_is_spelled;
+use omf_core::{Name, PutFault, RecordKind, put_record};
+use omf_module::{Module, write_module};
+use std::alloc::{AllocError, Global};
+
+/// The place of the first module: after a header of three words.
+const FIRST_PLACE: usize = 10;
+
+/// Places are counted by blocks of this many bytes.
+const BLOCK: usize = 128;
+
+/// The most bytes that a record's body has, and the greatest number that a word holds.
+const LONGEST_BODY: usize = 65534;
+
+/// The bytes that a place takes.
+const LOCATION: usize = 4;
+
+const GREATEST_WORD: usize = 65535;
+
+fn push_word(word: u16, out: &mut Vec<u8>) -> Result<(), AllocError>
+    ensures { OnOk result (out.new.items ≡ out.old.items ++ word_bytes word) }
+{
+    out.extend_from_slice(&[(word % 256) as u8, (word / 256) as u8])
+}
+
+/// Appends a place's block and the byte in it.
+fn push_location(place: usize, out: &mut Vec<u8>) -> Result<(), AllocError>
+    requires { place / 128 ≤ 65535 }
+    ensures { OnOk result (out.new.items ≡ out.old.items ++ location_bytes place) }
+{
+    push_word((place / BLOCK) as u16, out)?;
+    push_word((place % BLOCK) as u16, out)
+}
+
+/// Appends the name's length byte and its bytes.
+fn push_name(name: &Name, out: &mut Vec<u8>) -> Result<(), AllocError>
+    ensures { OnOk result (out.new.items ≡ out.old.items ++ name_spelling name.now) }
+{
+    let bytes = name.bytes();
+    out.push(bytes.len() as u8)?;
+    out.extend_from_slice(bytes)
+}
+
+/// The bytes of the modules one after another, and where each begins.
+fn modules_with_places(
+    alloc: Global,
+    modules: &[Module],
+) -> Result<(Vec<u8>, Vec<usize>), AllocError>
+    ensures bytes { IfOk result (λ r. r.0.items ≡ flat_map module_bytes modules.now) }
+    ensures places { IfOk result (λ r. r.1.items ≡ places_from 10 modules.now) }
+    ensures read { OnOk result (AllByRecursion IsReadAgain modules.now) }
+{
+    let mut bytes = Vec::new(alloc);
+    let mut places = Vec::new(alloc);
+    for source in modules {
+        places.push(FIRST_PLACE + bytes.len())?;
+        write_module(alloc, source, &mut bytes)?;
+    }
+    Ok((bytes, places))
+}
+
+fn names_of(alloc: Global, modules: &[Module]) -> Result<Vec<u8>, AllocError>
+    ensures { IfOk result (λ body. body.items ≡ names_body modules.now) }
+{
+    let mut body = Vec::new(alloc);
+    for source in modules {
+        push_name(source.name(), &mut body)?;
+    }
+    Ok(body)
+}
+
+fn locations_of(alloc: Global, places: &[usize]) -> Result<Vec<u8>, AllocError>
+    requires { AllByRecursion (λ place. place / 128 ≤ 65535) places.now }
+    ensures { IfOk result (λ body. body.items ≡ flat_map location_bytes places.now) }
+{
+    let mut body = Vec::new(alloc);
+    for place in places {
+        push_location(*place, &mut body)?;
+    }
+    Ok(body)
+}
+
+fn push_public_names(source: &Module, out: &mut Vec<u8>) -> Result<(), AllocError>
+    ensures { OnOk result (out.new.items ≡ out.old.items ++ public_names source.now) }
+{
+    for public in source.publics() {
+        push_name(&public.name, out)?;
+    }
+    out.push(0)?;
+    Ok(())
+}
+
+fn dictionary_of(alloc: Global, modules: &[Module]) -> Result<Vec<u8>, AllocError>
+    ensures { IfOk result (λ body. body.items ≡ dictionary_body modules.now) }
+{
+    let mut body = Vec::new(alloc);
+    for source in modules {
+        push_public_names(source, &mut body)?;
+    }
+    Ok(body)
+}
+
+/// Whether one of these is too great for a library: the number of modules, the bytes of their names, the number of their
+/// places, the bytes of the dictionary, or the place of the index.
+fn exceeds(modules: usize, names: usize, places: usize, dictionary: usize, index: usize) -> bool
+    ensures { result ≡ (nat_lt 65535 modules || nat_lt 65534 names || nat_lt 16383 places || nat_lt 65534 dictionary || nat_lt 65535 (index / 128)) }
+{
+    modules > GREATEST_WORD
+        || names > LONGEST_BODY
+        || places > LONGEST_BODY / LOCATION
+        || dictionary > LONGEST_BODY
+        || index / BLOCK > GREATEST_WORD
+}
+
+/// Whether the library of these modules isn't written: their names, places, public names and bytes are these.
+fn is_too_large(
+    modules: &[Module],
+    names: &[u8],
+    places: &[usize],
+    dictionary: &[u8],
+    bytes: &[u8],
+) -> bool
+    requires names { names.now ≡ names_body modules.now }
+    requires places { places.now ≡ places_from 10 modules.now }
+    requires dictionary { dictionary.now ≡ dictionary_body modules.now }
+    requires bytes { bytes.now ≡ flat_map module_bytes modules.now }
+    ensures { result ≡ is_too_large modules.now }
+{
+    exceeds(
+        modules.len(),
+        names.len(),
+        places.len(),
+        dictionary.len(),
+        FIRST_PLACE + bytes.len(),
+    )
+}
+
+/// What came of a body that fits its record: if it wasn't appended, memory ran out.
+fn never_too_long(appended: Result<(), PutFault>) -> Result<(), AllocError>
+    requires { appended ≢ Err TooLong }
+    ensures { is_ok result ≡ is_ok appended }
+{
+    match appended {
+        Ok(()) => Ok(()),
+        Err(PutFault::TooLong) => unreachable!(),
+        Err(PutFault::Memory) => Err(AllocError),
+    }
+}
+
+/// Appends a record whose body fits it.
+fn append(alloc: Global, kind: RecordKind, body: &[u8], out: &mut Vec<u8>) -> Result<(), AllocError>
+    requires { length body.now ≤ 65534 }
+    ensures { OnOk result (out.new.items ≡ out.old.items ++ spelling (kind_byte kind) body.now) }
+{
+    never_too_long(put_record(alloc, kind.byte(), body, out))
+}
+
+/// The body of the header.
+fn header_of(alloc: Global, count: u16, index: usize) -> Result<Vec<u8>, AllocError>
+    requires { index / 128 ≤ 65535 }
+    ensures { IfOk result (λ body. body.items ≡ word_bytes count ++ location_bytes index) }
+{
+    let mut body = Vec::new(alloc);
+    push_word(count, &mut body)?;
+    push_location(index, &mut body)?;
+    Ok(body)
+}
+
+/// The records of the index.
+#[derive(Drop)]
+struct Index {
+    names: Vec<u8>,
+    locations: Vec<u8>,
+    dictionary: Vec<u8>,
+}
+
+/// The file of these parts.
+fn file_of(
+    alloc: Global,
+    header: &[u8],
+    modules: &[u8],
+    index: &Index,
+) -> Result<Vec<u8>, AllocError>
+    requires header { length header.now ≤ 65534 }
+    requires names { length index.now.names.items ≤ 65534 }
+    requires locations { length index.now.locations.items ≤ 65534 }
+    requires dictionary { length index.now.dictionary.items ≤ 65534 }
+    ensures { IfOk result (λ file. file.items ≡ spelling 0x2C header.now ++ modules.now ++ spelling 0x28 index.now.names.items
+        ++ spelling 0x26 index.now.locations.items ++ spelling 0x2A index.now.dictionary.items ++ spelling 0x0E []) }
+{
+    let mut file = Vec::new(alloc);
+    append(alloc, RecordKind::LibraryHeader, header, &mut file)?;
+    file.extend_from_slice(modules)?;
+    append(
+        alloc,
+        RecordKind::LibraryModuleNames,
+        &index.names,
+        &mut file,
+    )?;
+    append(
+        alloc,
+        RecordKind::LibraryModuleLocations,
+        &index.locations,
+        &mut file,
+    )?;
+    append(
+        alloc,
+        RecordKind::LibraryDictionary,
+        &index.dictionary,
+        &mut file,
+    )?;
+    append(alloc, RecordKind::EndOfFile, &[], &mut file)?;
+    Ok(file)
+}
+
+/// The library of these modules.
+fn library_of(alloc: Global, modules: &[Module]) -> Result<Vec<u8>, LibraryPutFault>
+    ensures written { IfOk result (λ file. file.items ≡ library_bytes modules.now) }
+    ensures fits { OnOk result (is_too_large modules.now ≡ false) }
+    ensures too_large { IsErrOf result LibraryPutFault.TooLarge → IsTrue (is_too_large modules.now) }
+    ensures read { OnOk result (AllByRecursion IsReadAgain modules.now) }
+{
+    let (bytes, places) = modules_with_places(alloc, modules)?;
+    let names = names_of(alloc, modules)?;
+    let dictionary = dictionary_of(alloc, modules)?;
+    if is_too_large(modules, &names, &places, &dictionary, &bytes) {
+        return Err(LibraryPutFault::TooLarge);
+    }
+    let locations = locations_of(alloc, &places)?;
+    let header = header_of(alloc, modules.len() as u16, FIRST_PLACE + bytes.len())?;
+    let index = Index {
+        names,
+        locations,
+        dictionary,
+    };
+    let file = file_of(alloc, &header, &bytes, &index)?;
+    Ok(file)
+}
+
+/// Appends the library of these modules to `out`, which grows by its own allocator: a library header (2C) with the number of
+/// modules and the place of the index, the records of each module, as [`write_module`] writes them, library module names
+/// (28), library module locations (26), a library dictionary (2A), and an end-of-file record. A place is written as two
+/// words: its block of 128 bytes, and the byte in it. (8080 Object Module Formats, library file.)
+///
+/// # Errors
+/// `TooLarge` only where there are more than 65535 modules, the body of an index record would have more than 65534 bytes, or
+/// the place of the index is in a block above 65535; the library is then never written. `Memory` only where there is none.
+/// After either `out` is unchanged.
+pub fn write_library(
+    alloc: Global,
+    modules: &[Module],
+    out: &mut Vec<u8>,
+) -> Result<(), LibraryPutFault>
+    ensures written { OnOk result (out.new.items ≡ out.old.items ++ library_bytes modules.now) }
+    ensures read { OnOk result (SpellsLibrary (library_bytes modules.now) modules.now) }
+    ensures fits { OnOk result (is_too_large modules.now ≡ false) }
+    ensures too_large { IsErrOf result LibraryPutFault.TooLarge → IsTrue (is_too_large modules.now) }
+    ensures refused { OnErr result (out.new.items ≡ out.old.items) }
+{
+    written_library_is_spelled();
+    let file = library_of(alloc, modules)?;
+    out.extend_from_slice(&file)?;
+    Ok(())
+}

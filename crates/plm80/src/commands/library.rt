@@ -1,0 +1,87 @@
+//! `plm80 lib`: a library of the modules of object files.
+
+use crate::commands::fault_line::{Reported, report, report_memory};
+use crate::commands::files::replace;
+use crate::commands::object_files::read_modules;
+use crate::commands::syntax::{Argument, Kind, Syntax};
+use crate::commands::words::path_of;
+use clap::ArgMatches;
+use omf_library::{LibraryPutFault, write_library};
+use omf_module::Module;
+use std::alloc::{AllocError, Global};
+
+/// The words of `lib`.
+#[derive(Drop)]
+pub struct LibraryWords<'a> {
+    library: &'a str,
+    files: Vec<&'a str>,
+}
+
+const ABOUT: &str = "Writes a library of all modules of object files, in order";
+
+const AFTER_HELP: &str = "\
+The library has the modules of the first file, then those of the second, and so
+on, with an index of their names, places and public names. It is written only
+where every file is read.
+
+Example: plm80 lib plm80.lib input.obj output.obj";
+
+/// `lib` and its arguments.
+pub const LIB: Syntax<'static> = Syntax {
+    name: "lib",
+    about: ABOUT,
+    after_help: AFTER_HELP,
+    arguments: &[
+        Argument {
+            name: "OUT",
+            kind: Kind::Path,
+            help: "The file to write the library to",
+        },
+        Argument {
+            name: "FILE",
+            kind: Kind::Paths,
+            help: "The object files to read, each of one or more modules",
+        },
+    ],
+};
+
+impl<'a> LibraryWords<'a> {
+    /// The words that clap has read.
+    pub fn of(alloc: Global, matches: &ArgMatches<'a>) -> Result<LibraryWords<'a>, AllocError> {
+        Ok(LibraryWords {
+            library: path_of(matches, "OUT"),
+            files: Vec::from_slice(alloc, matches.get_strs("FILE").unwrap_or(&[]))?,
+        })
+    }
+}
+
+/// Writes the library of all modules of the object files. No file is created or changed before every other fault is
+/// excluded.
+pub fn write_library_file(rt: &HostRuntime, words: &LibraryWords<'_>) -> Result<u8, Reported> {
+    let modules = modules_of(rt, &words.files)?;
+    let library = library_of(rt, &modules)?;
+    replace(rt, words.library, &library)?;
+    Ok(0)
+}
+
+/// The modules of the object files of these paths, in order. Each file is looked at before the next one is opened.
+fn modules_of(rt: &HostRuntime, paths: &[&str]) -> Result<Vec<Module>, Reported> {
+    let mut modules = Vec::new(rt.alloc());
+    for path in paths {
+        let mut read = read_modules(rt, path)?;
+        if modules.append(&mut read).is_err() {
+            return Err(report_memory(rt));
+        }
+    }
+    Ok(modules)
+}
+
+/// The bytes of the library of these modules.
+fn library_of(rt: &HostRuntime, modules: &[Module]) -> Result<Vec<u8>, Reported> {
+    let mut library = Vec::new(rt.alloc());
+    match write_library(rt.alloc(), modules, &mut library) {
+        Ok(()) => Ok(library),
+        Err(LibraryPutFault::Memory) => Err(report_memory(rt)),
+        Err(fault) => Err(report(rt, fault)),
+    }
+}
