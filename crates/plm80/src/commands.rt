@@ -5,6 +5,7 @@ mod checking;
 mod fault_line;
 mod files;
 mod library;
+mod linking;
 pub mod list_text;
 mod listing;
 mod locating;
@@ -46,12 +47,12 @@ pub fn fail(rt: &HostRuntime, fault: impl Display + Drop) -> ExitCode {
 /// Does what is asked for, and gives the exit status.
 fn perform(rt: &HostRuntime, request: Request<'_>) -> Result<u8, Reported> {
     match request {
+        Request::Link(words) => linking::link_files(rt, &words),
         Request::Locate(words) => locating::locate_file(rt, words),
         Request::Run(words) => running::run_files(rt, words),
         Request::List(words) => listing::list_files(rt, words),
         Request::Check(words) => checking::check_files(rt, words),
         Request::Library(words) => library::write_library_file(rt, &words),
-        Request::Later => Err(report(rt, "NotYet")),
     }
 }
 

@@ -3,7 +3,7 @@
 //! | Item | What it is |
 //! |---|---|
 //! | [`bundle`] | one input with an image, regions and inputs, to the transcript of a run |
-//! | `commands` | `locate`, `run`, `list`, `check` and `lib`, as clap reads their words |
+//! | `commands` | `link`, `locate`, `run`, `list`, `check` and `lib`, as clap reads their words |
 #![tactic(auto)]
 
 mod bundle_text;

@@ -1,8 +1,8 @@
 //! `plm80 lib`: a library of the modules of object files.
 
 use crate::commands::fault_line::{Reported, report, report_memory};
-use crate::commands::files::replace;
-use crate::commands::object_files::read_modules;
+use crate::commands::files::{read_whole, replace};
+use crate::commands::object_files::append_modules;
 use crate::commands::syntax::{Argument, Kind, Syntax};
 use crate::commands::words::path_of;
 use clap::ArgMatches;
@@ -68,10 +68,7 @@ pub fn write_library_file(rt: &HostRuntime, words: &LibraryWords<'_>) -> Result<
 fn modules_of(rt: &HostRuntime, paths: &[&str]) -> Result<Vec<Module>, Reported> {
     let mut modules = Vec::new(rt.alloc());
     for path in paths {
-        let mut read = read_modules(rt, path)?;
-        if modules.append(&mut read).is_err() {
-            return Err(report_memory(rt));
-        }
+        append_modules(rt, path, &read_whole(rt, path)?, &mut modules)?;
     }
     Ok(modules)
 }

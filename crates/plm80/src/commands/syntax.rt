@@ -27,6 +27,8 @@ pub enum Kind<'a> {
     Path,
     /// The paths of one or more files.
     Paths,
+    /// An option that is required, whose value the help text calls by this word. Any argument after the option is its value.
+    Required(&'a str),
     /// An option with a number, which the help text calls by this word. Any argument after the option is its value, and
     /// the program reads it.
     Number(&'a str),
@@ -57,13 +59,14 @@ impl<'a> Argument<'a> {
         match self.kind {
             Kind::Path => arg.required(true),
             Kind::Paths => arg.required(true).num_args(1..).action(ArgAction::Append),
-            Kind::Number(value) => number(arg, self.name, value),
-            Kind::Count(default) => number(arg, self.name, "N").default_value(default),
+            Kind::Required(value) => option(arg, self.name, value).required(true),
+            Kind::Number(value) => option(arg, self.name, value),
+            Kind::Count(default) => option(arg, self.name, "N").default_value(default),
         }
     }
 }
 
-/// An option of this name, whose value the help text calls by this word.
-fn number<'a>(arg: Arg<'a>, name: &'a str, value: &'a str) -> Arg<'a> {
+/// An option of this name, whose value the help text calls by this word, whatever it begins with.
+fn option<'a>(arg: Arg<'a>, name: &'a str, value: &'a str) -> Arg<'a> {
     arg.long(name).value_name(value).allow_hyphen_values(true)
 }

@@ -2,6 +2,7 @@
 
 use crate::commands::checking::{CHECK, CheckWords};
 use crate::commands::library::{LIB, LibraryWords};
+use crate::commands::linking::{LINK, LinkWords};
 use crate::commands::listing::{LIST, ListWords};
 use crate::commands::locating::{LOCATE, LocateWords};
 use crate::commands::running::{RUN, RunWords};
@@ -13,16 +14,16 @@ use std::alloc::{AllocError, Global};
 /// What the words ask for.
 #[derive(Drop)]
 pub enum Request<'a> {
+    Link(LinkWords<'a>),
     Locate(LocateWords<'a>),
     Run(RunWords<'a>),
     List(ListWords<'a>),
     Check(CheckWords<'a>),
     Library(LibraryWords<'a>),
-    /// A command that is to come.
-    Later,
 }
 
-const ABOUT: &str = "Locates 8080 programs of OMF-80 object files, verifies them and runs them";
+const ABOUT: &str =
+    "Links and locates 8080 programs of OMF-80 object files, verifies them and runs them";
 
 const AFTER_HELP: &str = "\
 With no words it reads a bundle from standard input (an image in hexadecimal,
@@ -37,14 +38,11 @@ data, and 4 where its steps are used up.
 Example: plm80 locate readings.obj readings.img readings.regions
          plm80 run readings.img readings.regions readings.inputs";
 
-/// The commands that are there.
-static COMMANDS: [Syntax<'static>; 5] = [LOCATE, RUN, LIST, CHECK, LIB];
+/// The commands.
+static COMMANDS: [Syntax<'static>; 6] = [LINK, LOCATE, RUN, LIST, CHECK, LIB];
 
 /// The request that the words spell; the first word is the program's own name.
 pub fn read_words<'a>(alloc: Global, words: &'a [String]) -> Result<Request<'a>, Error> {
-    if names_later(words) {
-        return Ok(Request::Later);
-    }
     match asked_for(alloc, &matches_of(alloc, words)?)? {
         Some(request) => Ok(request),
         None => Err(refusal(alloc, ErrorKind::MissingSubcommand, "no command")),
@@ -77,14 +75,6 @@ fn refuse(alloc: Global, kind: ErrorKind, text: &str) -> Result<Error, AllocErro
     program(alloc)?.error(kind, text)
 }
 
-/// Whether the first word after the program's name is a command that is to come.
-fn names_later(words: &[String]) -> bool {
-    match words.get(1) {
-        Some(word) => word.as_str() == "link",
-        None => false,
-    }
-}
-
 /// The program, as clap is told of it.
 fn program<'a>(alloc: Global) -> Result<Command<'a>, AllocError> {
     let mut program = bare_program(alloc)?;
@@ -112,6 +102,7 @@ fn asked_for<'a>(
         return Ok(None);
     };
     let request = match name {
+        "link" => Request::Link(LinkWords::of(alloc, words)?),
         "locate" => Request::Locate(LocateWords::of(words)),
         "run" => Request::Run(RunWords::of(words)),
         "list" => Request::List(ListWords::of(words)),
@@ -122,7 +113,7 @@ fn asked_for<'a>(
     Ok(Some(request))
 }
 
-/// The path of an argument that clap requires.
+/// The text of an argument that clap requires.
 pub fn path_of<'a>(matches: &ArgMatches<'a>, name: &str) -> &'a str {
     matches.get_str(name).unwrap_or("")
 }

@@ -1,0 +1,189 @@
+//! `plm80 link`: the modules of object files, and what they need of libraries, linked into one.
+
+use crate::commands::fault_line::{Reported, report, report_file, report_memory};
+use crate::commands::files::{print, read_whole, replace};
+use crate::commands::object_files::append_modules;
+use crate::commands::syntax::{Argument, Kind, Syntax};
+use crate::commands::words::path_of;
+use clap::ArgMatches;
+use link80::{Chosen, Linked, link};
+use omf_core::{Name, NameFault};
+use omf_library::{Library, LibraryFault, read_library};
+use omf_module::{Module, write_file};
+use std::alloc::{AllocError, Global};
+use std::fmt::Write;
+use std::slice;
+
+/// The words of `link`.
+#[derive(Drop)]
+pub struct LinkWords<'a> {
+    name: &'a str,
+    out: &'a str,
+    files: Vec<&'a str>,
+}
+
+const ABOUT: &str = "Links modules of object files and libraries into one";
+
+const AFTER_HELP: &str = "\
+A file whose first byte is 2C is a library, every other an object file. All
+modules of the object files are linked, in order, and then those of the
+libraries that declare a name which is needed: of several the first one.
+
+It prints TAKEN and a name for each module that is taken of a library, and
+UNRESOLVED and a name for each name that no module declares. The object file is
+written only where there is no fault.
+
+Example: plm80 link --name METER --out meter.obj main.obj show.obj plm80.lib";
+
+/// `link` and its arguments.
+pub const LINK: Syntax<'static> = Syntax {
+    name: "link",
+    about: ABOUT,
+    after_help: AFTER_HELP,
+    arguments: &[
+        Argument {
+            name: "name",
+            kind: Kind::Required("NAME"),
+            help: "The name of the linked module",
+        },
+        Argument {
+            name: "out",
+            kind: Kind::Required("OUT"),
+            help: "The object file to write",
+        },
+        Argument {
+            name: "FILE",
+            kind: Kind::Paths,
+            help: "The object files and libraries to read",
+        },
+    ],
+};
+
+impl<'a> LinkWords<'a> {
+    /// The words that clap has read.
+    pub fn of(alloc: Global, matches: &ArgMatches<'a>) -> Result<LinkWords<'a>, AllocError> {
+        Ok(LinkWords {
+            name: path_of(matches, "name"),
+            out: path_of(matches, "out"),
+            files: Vec::from_slice(alloc, matches.get_strs("FILE").unwrap_or(&[]))?,
+        })
+    }
+}
+
+/// The modules of object files, and libraries, each in the order of their files.
+#[derive(Drop)]
+struct LinkFiles {
+    roots: Vec<Module>,
+    libraries: Vec<Library>,
+}
+
+/// Links the modules of the files, writes the linked one and prints which were taken and which names are unresolved. No file
+/// is created or changed before every other fault is excluded.
+pub fn link_files(rt: &HostRuntime, words: &LinkWords<'_>) -> Result<u8, Reported> {
+    let name = name_of(rt, words.name)?;
+    let files = read_files(rt, &words.files)?;
+    let linked = linked(rt, &name, &files)?;
+    let Ok((object, lines)) = outputs_of(rt.alloc(), &linked, &files.libraries) else {
+        return Err(report_memory(rt));
+    };
+    replace(rt, words.out, &object)?;
+    print(rt, lines.as_bytes())?;
+    Ok(0)
+}
+
+/// The name that the option gives.
+fn name_of(rt: &HostRuntime, text: &str) -> Result<Name, Reported> {
+    match Name::new(rt.alloc(), text.as_bytes()) {
+        Ok(name) => Ok(name),
+        Err(NameFault::BadName) => Err(report(rt, "BadName")),
+        Err(NameFault::Memory) => Err(report_memory(rt)),
+    }
+}
+
+/// What the files of these paths have. Each file is looked at before the next one is opened.
+fn read_files(rt: &HostRuntime, paths: &[&str]) -> Result<LinkFiles, Reported> {
+    let mut files = LinkFiles {
+        roots: Vec::new(rt.alloc()),
+        libraries: Vec::new(rt.alloc()),
+    };
+    for path in paths {
+        files.add(rt, path)?;
+    }
+    Ok(files)
+}
+
+/// The type of a library header, which no module begins with.
+const LIBRARY_HEADER: u8 = 0x2C;
+
+impl LinkFiles {
+    /// Adds what the file of this path has.
+    fn add(&mut self, rt: &HostRuntime, path: &str) -> Result<(), Reported> {
+        let bytes = read_whole(rt, path)?;
+        match bytes.first() {
+            Some(&LIBRARY_HEADER) => self.add_library(rt, path, &bytes),
+            _ => append_modules(rt, path, &bytes, &mut self.roots),
+        }
+    }
+
+    fn add_library(&mut self, rt: &HostRuntime, path: &str, bytes: &[u8]) -> Result<(), Reported> {
+        let library = match read_library(rt.alloc(), bytes) {
+            Ok(library) => library,
+            Err(LibraryFault::Memory) => return Err(report_memory(rt)),
+            Err(fault) => return Err(report_file(rt, path, fault)),
+        };
+        match self.libraries.push(library) {
+            Ok(()) => Ok(()),
+            Err(_) => Err(report_memory(rt)),
+        }
+    }
+}
+
+/// What the files are linked into.
+fn linked(rt: &HostRuntime, name: &Name, files: &LinkFiles) -> Result<Linked, Reported> {
+    match link(rt.alloc(), name, &files.roots, &files.libraries) {
+        Ok(linked) => Ok(linked),
+        Err(fault) => Err(report(rt, fault)),
+    }
+}
+
+/// The linked object file, and the lines that are printed.
+fn outputs_of(
+    alloc: Global,
+    linked: &Linked,
+    libraries: &[Library],
+) -> Result<(Vec<u8>, String), AllocError> {
+    let mut object = Vec::new(alloc);
+    write_file(alloc, slice::from_ref(&linked.module), &mut object)?;
+    let mut lines = String::new(alloc);
+    append_taken(&mut lines, &linked.taken, libraries)?;
+    append_unresolved(&mut lines, &linked.unresolved)?;
+    Ok((object, lines))
+}
+
+/// Appends a line for each module that was taken.
+fn append_taken(
+    lines: &mut String,
+    taken: &[Chosen],
+    libraries: &[Library],
+) -> Result<(), AllocError> {
+    for chosen in taken {
+        if let Some(name) = name_at(libraries, *chosen) {
+            writeln!(lines, "TAKEN {name}")?;
+        }
+    }
+    Ok(())
+}
+
+/// The name of the module at a place in the libraries.
+fn name_at(libraries: &[Library], place: Chosen) -> Option<&Name> {
+    let library = libraries.get(place.library)?;
+    Some(library.modules.get(place.module)?.name())
+}
+
+/// Appends a line for each name that no module declares.
+fn append_unresolved(lines: &mut String, names: &[Name]) -> Result<(), AllocError> {
+    for name in names {
+        writeln!(lines, "UNRESOLVED {name}")?;
+    }
+    Ok(())
+}
