@@ -11,6 +11,7 @@ fn module(
     alloc: Global,
     publics: Vec<Public>,
     externals: Vec<Name>,
+    length: u16,
     bytes: &[u8],
     fixups: &[Fixup],
     is_main: bool,
@@ -19,7 +20,7 @@ fn module(
     segments.push((
         1,
         Segment {
-            length: bytes.len() as u16,
+            length,
             paged: false,
         },
     ))?;
@@ -66,6 +67,7 @@ fn caller(alloc: Global) -> Result<Module, Fail> {
         alloc,
         Vec::new(alloc),
         externals,
+        4,
         &[0xCD, 0, 0, 0x76],
         &[call],
         true,
@@ -80,7 +82,7 @@ fn callee(alloc: Global) -> Result<Module, Fail> {
         segment: 1,
         offset: 0,
     })?;
-    module(alloc, publics, Vec::new(alloc), &[0xC9], &[], false)
+    module(alloc, publics, Vec::new(alloc), 1, &[0xC9], &[], false)
 }
 
 #[test]
@@ -90,7 +92,7 @@ fn a_call_is_resolved(rt: HostRuntime) -> Result<(), Fail> {
     let roots = [caller(alloc)?, callee(alloc)?];
     let made = link(alloc, &name, &roots, &[])?;
     assert!(rt; made.taken.is_empty() && made.unresolved.is_empty());
-    let first = &made.module.contents()[0];
+    let first = made.module.contents().first().expect(&rt, "a content");
     assert!(rt; first.bytes.as_slice() == [0xCD, 4, 0, 0x76].as_slice());
     assert!(rt; first.fixups.as_slice() == [Fixup { offset: 1, field: Field::Both, target: Target::Segment(1) }].as_slice());
     assert!(rt; made.module.segment(1) == Some(Segment { length: 5, paged: false }));
