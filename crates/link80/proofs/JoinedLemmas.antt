@@ -1,20 +1,21 @@
 -- Parts that are joined by name are the segments of the linked module's commons.
-use Rattle.std.specs.Prelude.{◌≡◌, ℕ, zero, suc, ◌+◌, ◌≤◌, ◌<◌, ◌==◌, nat_eq, nat_lt, Bool, true, false, not, ◌&&◌, ◌||◌, Option, Some, None, option_map, List, [], ◌∷◌, ◌++◌, find, map, length, max, refl, slice_get, slice_index_or, slice_set, IsTrue}
+use Rattle.std.specs.Prelude.{◌≡◌, ℕ, zero, suc, ◌+◌, ◌≤◌, ◌<◌, ◌==◌, nat_eq, Bool, true, false, not, ◌||◌, Option, Some, None, option_map, List, [], ◌∷◌, ◌++◌, find, map, length, max, refl, slice_get, IsTrue}
 use Rattle.std.specs.List.{list_any, flat_map, enumerate_from, AllByRecursion}
 use Rattle.std.specs.Option.{option_map_or}
 use Rattle.std.specs.Cmp.Lexicographic.{pointwise}
-use Rattle.std.proofs.Common.{◌∙◌, ap, sym, subst, arith, inl, inr, cond, eqb-true, true≢false}
+use Rattle.std.proofs.Common.{◌∙◌, ap, sym, arith, inl, inr, cond, true≢false}
 use Rattle.std.proofs.lemmas.Bool.{cases_Bool, and_parts, or_parts, or_from, ne_eqb}
 use Rattle.std.proofs.lemmas.Bool.Decides.{nat_tests}
 use Rattle.omf_module.specs.declared.segment.Segment.{Segment}
 use Rattle.omf_module.specs.declared.symbols.Common.{Common}
-use Rattle.omf_module.specs.Segments.{empty_segment, is_fixed_id, segment_in, names_common, has_segment}
+use Rattle.omf_module.specs.Segments.{empty_segment, is_fixed_id, segment_in}
 use Rattle.omf_module.specs.Modules.{ModuleValue}
 use Rattle.omf_module.specs.Rules.{each_after, is_new_common, is_start, IsModule}
 use Rattle.omf_relocation.specs.Place.{common_name, is_laid_out}
 use Rattle.link80.specs.FirstSight.{number_in}
-use Rattle.link80.specs.Joined.{joined, with_parts, parts_of_commons, with_part_at, with_named_parts}
-use Rattle.link80.specs.Linked.{distinct, numbered_common, common_names, linked_commons, part_of, parts_end, greatest, linked_length, linked_segment, linked_ids}
+use Rattle.link80.specs.Joined.{joined_parts, with_parts, parts_of_commons, with_part_at, with_named_parts}
+use Rattle.link80.specs.Linked.{numbered_common, common_names, linked_commons, part_of, parts_end, greatest, linked_length, linked_segment}
+use Rattle.link80.proofs.FirstSightLemmas.{same_both_ways}
 use Rattle.link80.proofs.ListLemmas.{any_front, any_back}
 use Rattle.link80.proofs.NameLemmas.{has_name, name_is, name_itself, numbered}
 use Rattle.link80.proofs.SegmentLemmas.{NoTwice, distinct_no_twice}
@@ -32,6 +33,9 @@ or_false : (b : Bool) → (b || false) ≡ b
 or_false true = refl
 or_false false = refl
 
+none_longer : (n : ℕ) → max 0 n ≡ n
+none_longer n = omega arith
+
 max_zero : (n : ℕ) → max n 0 ≡ n
 max_zero n = omega arith
 
@@ -41,13 +45,13 @@ with_length end s = record { length = end; paged = s.paged }
 abbrev pub all_parts : (ModuleValue → Segment) → Segment → List ModuleValue → Segment
 all_parts part s ms = record { length = max s.length (greatest (map (λ m. (part m).length) ms)); paged = s.paged || list_any (λ m. (part m).paged) ms }
 
-joined_none : (s : Segment) → s ≡ joined s empty_segment
+joined_none : (s : Segment) → s ≡ joined_parts s empty_segment
 joined_none s = λ j. record { length = sym (max_zero s.length) j; paged = sym (or_false s.paged) j }
 
 pub parts_joined : (part : ModuleValue → Segment) (s : Segment) (ms : List ModuleValue) → with_parts part s ms ≡ all_parts part s ms
 parts_joined part s [] = joined_none s
 parts_joined part s (m ∷ ms) =
-    parts_joined part (joined s (part m)) ms
+    parts_joined part (joined_parts s (part m)) ms
     ∙ (λ j. record {
       length = max_twice s.length (part m).length (greatest (map (λ k. (part k).length) ms)) j;
       paged = or_twice s.paged (part m).paged (list_any (λ k. (part k).paged) ms) j;
@@ -57,57 +61,45 @@ parts_joined part s (m ∷ ms) =
 
 abbrev pub parts_named : List ℕ → Segment → List (List ℕ × Segment) → Segment
 parts_named name s [] = s
-parts_named name s (p ∷ ps) = parts_named name (cond (pointwise nat_eq p.0 name) (joined s p.1) s) ps
+parts_named name s (p ∷ ps) = parts_named name (cond (pointwise nat_eq p.0 name) (joined_parts s p.1) s) ps
 
 -- one part is joined at the number of its name, and no other
 same_elsewhere : (n : List ℕ) (part : Segment) (f : List ℕ → Segment) (names : List (List ℕ)) → has_name names n ≡ false →
-    map f names ≡ map (λ name. cond (pointwise nat_eq n name) (joined (f name) part) (f name)) names
+    map f names ≡ map (λ name. cond (pointwise nat_eq n name) (joined_parts (f name) part) (f name)) names
 same_elsewhere n part f [] none = refl
 same_elsewhere n part f (o ∷ os) none =
     let parts = or_parts (pointwise nat_eq o n) (has_name os n) none in
-    let differs : pointwise nat_eq n o ≡ false = other_way o n parts.0 in
-    ap (λ b. cond b (joined (f o) part) (f o) ∷ map f os) (sym differs)
-    ∙ ap (λ l. cond (pointwise nat_eq n o) (joined (f o) part) (f o) ∷ l) (same_elsewhere n part f os parts.1)
-  where
-    other_way : (a b : List ℕ) → pointwise nat_eq a b ≡ false → pointwise nat_eq b a ≡ false
-    other_way a b differs = elim (cases_Bool (pointwise nat_eq b a)) [
-      | inl e ↦ absurd (true≢false (sym (name_itself a) ∙ ap (pointwise nat_eq a) (sym (name_is b a e)) ∙ differs))
-      | inr e ↦ e
-    ]
+    let differs : pointwise nat_eq n o ≡ false = same_both_ways n o ∙ parts.0 in
+    ap (λ b. cond b (joined_parts (f o) part) (f o) ∷ map f os) (sym differs)
+    ∙ ap (λ l. cond (pointwise nat_eq n o) (joined_parts (f o) part) (f o) ∷ l) (same_elsewhere n part f os parts.1)
 
 later_part : (s : Segment) (segments : List Segment) (o : Option ℕ) (part : Segment) → with_part_at (s ∷ segments) (option_map suc o) part ≡ s ∷ with_part_at segments o part
 later_part s segments None part = refl
 later_part s segments (Some k) part = refl
 
 part_at : (n : List ℕ) (part : Segment) (f : List ℕ → Segment) (names : List (List ℕ)) → NoTwice names →
-    with_part_at (map f names) (number_in names n) part ≡ map (λ name. cond (pointwise nat_eq n name) (joined (f name) part) (f name)) names
+    with_part_at (map f names) (number_in names n) part ≡ map (λ name. cond (pointwise nat_eq n name) (joined_parts (f name) part) (f name)) names
 part_at n part f [] once = refl
 part_at n part f (o ∷ os) once = elim (cases_Bool (pointwise nat_eq o n)) [
   | inl same ↦
       let is : o ≡ n = name_is o n same in
       let itself : pointwise nat_eq n o ≡ true = ap (pointwise nat_eq n) is ∙ name_itself n in
       ap (λ b. with_part_at (f o ∷ map f os) (cond b (Some 0) (option_map suc (number_in os n))) part) same
-      ∙ ap (λ l. joined (f o) part ∷ l) (same_elsewhere n part f os (ap (has_name os) (sym is) ∙ once.0))
-      ∙ ap (λ b. cond b (joined (f o) part) (f o) ∷ map (λ name. cond (pointwise nat_eq n name) (joined (f name) part) (f name)) os) (sym itself)
+      ∙ ap (λ l. joined_parts (f o) part ∷ l) (same_elsewhere n part f os (ap (has_name os) (sym is) ∙ once.0))
+      ∙ ap (λ b. cond b (joined_parts (f o) part) (f o) ∷ map (λ name. cond (pointwise nat_eq n name) (joined_parts (f name) part) (f name)) os) (sym itself)
   | inr differs ↦
       ap (λ b. with_part_at (f o ∷ map f os) (cond b (Some 0) (option_map suc (number_in os n))) part) differs
       ∙ later_part (f o) (map f os) (number_in os n) part
       ∙ ap (λ l. f o ∷ l) (part_at n part f os once.1)
-      ∙ ap (λ b. cond b (joined (f o) part) (f o) ∷ map (λ name. cond (pointwise nat_eq n name) (joined (f name) part) (f name)) os) (sym (other_way o n differs))
+      ∙ ap (λ b. cond b (joined_parts (f o) part) (f o) ∷ map (λ name. cond (pointwise nat_eq n name) (joined_parts (f name) part) (f name)) os) (sym (same_both_ways n o ∙ differs))
 ]
-  where
-    other_way : (a b : List ℕ) → pointwise nat_eq a b ≡ false → pointwise nat_eq b a ≡ false
-    other_way a b differs = elim (cases_Bool (pointwise nat_eq b a)) [
-      | inl e ↦ absurd (true≢false (sym (name_itself a) ∙ ap (pointwise nat_eq a) (sym (name_is b a e)) ∙ differs))
-      | inr e ↦ e
-    ]
 
 pub named_parts : (names : List (List ℕ)) (f : List ℕ → Segment) (parts : List (List ℕ × Segment)) → NoTwice names →
     with_named_parts names (map f names) parts ≡ map (λ name. parts_named name (f name) parts) names
 named_parts names f [] once = refl
 named_parts names f (p ∷ ps) once =
     ap (λ segments. with_named_parts names segments ps) (part_at p.0 p.1 f names once)
-    ∙ named_parts names (λ name. cond (pointwise nat_eq p.0 name) (joined (f name) p.1) (f name)) ps once
+    ∙ named_parts names (λ name. cond (pointwise nat_eq p.0 name) (joined_parts (f name) p.1) (f name)) ps once
 
 -- ---- a module has at most one part of a name
 
@@ -136,14 +128,14 @@ none_named_so : (segment : ℕ → Segment) (name : List ℕ) (s : Segment) (cs 
 none_named_so segment name s [] none = refl
 none_named_so segment name s (c ∷ cs) none =
     let parts = or_parts (pointwise nat_eq c.name name) (has_name (map (λ (c : Common). c.name) cs) name) none in
-    ap (λ b. parts_named name (cond b (joined s (segment c.id)) s) (map (λ (c : Common). (c.name, segment c.id)) cs)) parts.0
+    ap (λ b. parts_named name (cond b (joined_parts s (segment c.id)) s) (map (λ (c : Common). (c.name, segment c.id)) cs)) parts.0
     ∙ none_named_so segment name s cs parts.1
 
 abbrev found_part : (ℕ → Segment) → Option Common → Segment
 found_part segment o = option_map_or (λ (c : Common). segment c.id) o empty_segment
 
 one_part : (segment : ℕ → Segment) (name : List ℕ) (s : Segment) (before cs : List Common) → each_after is_new_common before cs ≡ true →
-    parts_named name s (map (λ (c : Common). (c.name, segment c.id)) cs) ≡ joined s (found_part segment (find (λ (c : Common). pointwise nat_eq c.name name) cs))
+    parts_named name s (map (λ (c : Common). (c.name, segment c.id)) cs) ≡ joined_parts s (found_part segment (find (λ (c : Common). pointwise nat_eq c.name name) cs))
 one_part segment name s before [] new = joined_none s
 one_part segment name s before (c ∷ cs) new =
     let parts = and_parts (is_new_common before c) (each_after is_new_common (before ++ c ∷ []) cs) new in
@@ -151,28 +143,28 @@ one_part segment name s before (c ∷ cs) new =
     let found : Option Common = find (λ (c : Common). pointwise nat_eq c.name name) cs in
     elim (cases_Bool (pointwise nat_eq c.name name)) [
       | inl same ↦
-          ap (λ b. parts_named name (cond b (joined s (segment c.id)) s) rest) same
-          ∙ none_named_so segment name (joined s (segment c.id)) cs (none_later (before ++ c ∷ []) cs name (any_back (λ (d : Common). pointwise nat_eq d.name name) before (c ∷ []) (ap (λ b. b || false) same)) parts.1)
-          ∙ ap (λ b. joined s (found_part segment (cond b (Some c) found))) (sym same)
+          ap (λ b. parts_named name (cond b (joined_parts s (segment c.id)) s) rest) same
+          ∙ none_named_so segment name (joined_parts s (segment c.id)) cs (none_later (before ++ c ∷ []) cs name (any_back (λ (d : Common). pointwise nat_eq d.name name) before (c ∷ []) (ap (λ b. b || false) same)) parts.1)
+          ∙ ap (λ b. joined_parts s (found_part segment (cond b (Some c) found))) (sym same)
       | inr differs ↦
-          ap (λ b. parts_named name (cond b (joined s (segment c.id)) s) rest) differs
+          ap (λ b. parts_named name (cond b (joined_parts s (segment c.id)) s) rest) differs
           ∙ one_part segment name s (before ++ c ∷ []) cs parts.1
-          ∙ ap (λ b. joined s (found_part segment (cond b (Some c) found))) (sym differs)
+          ∙ ap (λ b. joined_parts s (found_part segment (cond b (Some c) found))) (sym differs)
     ]
 
 -- ---- the parts of one name in all modules
 
 named_append : (name : List ℕ) (s : Segment) (ps qs : List (List ℕ × Segment)) → parts_named name s (ps ++ qs) ≡ parts_named name (parts_named name s ps) qs
 named_append name s [] qs = refl
-named_append name s (p ∷ ps) qs = named_append name (cond (pointwise nat_eq p.0 name) (joined s p.1) s) ps qs
+named_append name s (p ∷ ps) qs = named_append name (cond (pointwise nat_eq p.0 name) (joined_parts s p.1) s) ps qs
 
-all_named : (name : List ℕ) (part : ModuleValue → Segment) → ((m : ModuleValue) (s : Segment) → OncePart m → parts_named name s (parts_of_commons m) ≡ joined s (part m)) → (s : Segment) (ms : List ModuleValue) → AllByRecursion OncePart ms →
+all_named : (name : List ℕ) (part : ModuleValue → Segment) → ((m : ModuleValue) (s : Segment) → OncePart m → parts_named name s (parts_of_commons m) ≡ joined_parts s (part m)) → (s : Segment) (ms : List ModuleValue) → AllByRecursion OncePart ms →
     parts_named name s (flat_map parts_of_commons ms) ≡ with_parts part s ms
 all_named name part one s [] all = refl
 all_named name part one s (m ∷ ms) all =
     named_append name s (parts_of_commons m) (flat_map parts_of_commons ms)
     ∙ ap (λ t. parts_named name t (flat_map parts_of_commons ms)) (one m s all.0)
-    ∙ all_named name part one (joined s (part m)) ms all.1
+    ∙ all_named name part one (joined_parts s (part m)) ms all.1
 
 -- ---- the segments of the linked module
 
@@ -188,6 +180,7 @@ name_of_number start (n ∷ ns) zero name at = ap (λ b. option_map_or (λ (c : 
   where
     itself : (s : ℕ) → (s == s + 0) ≡ true
     itself s = grind (arith, nat_tests)
+
     some_is : (a b : List ℕ) → Some a ≡ Some b → a ≡ b
     some_is a b e = cc
 name_of_number start (n ∷ ns) (suc k) name at =
@@ -209,16 +202,15 @@ common_segment_is modules id name low high called all =
   where
     longest : ℕ
     longest = greatest (map (λ m. (part_of (linked_commons modules) m id).length) modules)
+
     size : max 0 longest ≡ linked_length modules id
     size = none_longer longest ∙ ap (λ b. cond b (parts_end id 0 modules) longest) (sym (common_not_laid id low))
-      where
-        none_longer : (n : ℕ) → max 0 n ≡ n
-        none_longer n = omega arith
-    one : (m : ModuleValue) (s : Segment) → OncePart m → parts_named name s (parts_of_commons m) ≡ joined s (part_of (linked_commons modules) m id)
+
+    one : (m : ModuleValue) (s : Segment) → OncePart m → parts_named name s (parts_of_commons m) ≡ joined_parts s (part_of (linked_commons modules) m id)
     one m s once =
         one_part (segment_in m.segments) name s [] m.commons once
-        ∙ ap (λ n. joined s (found_part (segment_in m.segments) (find (λ (c : Common). pointwise nat_eq c.name n) m.commons))) (sym called)
-        ∙ ap (λ b. joined s (cond b (segment_in m.segments id) (found_part (segment_in m.segments) (find (λ (c : Common). pointwise nat_eq c.name (common_name (linked_commons modules) id)) m.commons)))) (sym (common_not_fixed id low high))
+        ∙ ap (λ n. joined_parts s (found_part (segment_in m.segments) (find (λ (c : Common). pointwise nat_eq c.name n) m.commons))) (sym called)
+        ∙ ap (λ b. joined_parts s (cond b (segment_in m.segments id) (found_part (segment_in m.segments) (find (λ (c : Common). pointwise nat_eq c.name (common_name (linked_commons modules) id)) m.commons)))) (sym (common_not_fixed id low high))
 
 entries_by : (segment : ℕ → Segment) (f : List ℕ → Segment) (start : ℕ) (names : List (List ℕ)) → ((k : ℕ) (name : List ℕ) → k < length names → slice_get names k ≡ Some name → f name ≡ segment (start + k)) →
     enumerate_from start (map f names) ≡ map (λ id. (id, segment id)) (map (λ (c : Common). c.id) (numbered start names))
@@ -229,6 +221,7 @@ entries_by segment f start (n ∷ ns) is =
   where
     plus_none : (s : ℕ) → s + 0 ≡ s
     plus_none s = omega arith
+
     next : (s j : ℕ) → s + suc j ≡ s + 1 + j
     next s j = omega arith
 
@@ -241,7 +234,7 @@ common_entries modules segments few all are =
     let f : List ℕ → Segment = λ name. parts_named name empty_segment (flat_map parts_of_commons modules) in
     ap (enumerate_from 6) (are ∙ named_parts names (λ _. empty_segment) (flat_map parts_of_commons modules) (distinct_no_twice _))
     ∙ entries_by (linked_segment modules) f 6 names (λ k name within at.
-      common_segment_is modules (6 + k) name (omega arith) (omega (arith, within, few)) (name_of_number 6 names k name at) all)
+    common_segment_is modules (6 + k) name (omega arith) (omega (arith, within, few)) (name_of_number 6 names k name at) all)
 
 -- ---- a segment that every module has
 
@@ -251,9 +244,6 @@ fixed_part modules id fixed =
     let named : ModuleValue → Segment = λ m. found_part (segment_in m.segments) (find (λ (c : Common). pointwise nat_eq c.name (common_name (linked_commons modules) id)) m.commons) in
     parts_joined (λ m. segment_in m.segments id) empty_segment modules
     ∙ ap (λ b. all_parts (λ m. cond b (segment_in m.segments id) (named m)) empty_segment modules) (sym fixed)
-
-none_longer : (n : ℕ) → max 0 n ≡ n
-none_longer n = omega arith
 
 -- whose parts lie over one another
 pub over_one_another : (modules : List ModuleValue) (id : ℕ) → is_fixed_id id ≡ true → is_laid_out id ≡ false → with_parts (λ m. segment_in m.segments id) empty_segment modules ≡ linked_segment modules id

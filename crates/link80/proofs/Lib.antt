@@ -6,6 +6,8 @@ pub mod LoopLemmas
 pub mod NumberLemmas
 pub mod StartsLemmas
 pub mod GatheredLemmas
+pub mod MainLemmas
+pub mod OrderLemmas
 pub mod MovableLemmas
 pub mod UnresolvedLemmas
 pub mod NameLemmas

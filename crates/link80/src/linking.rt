@@ -128,6 +128,7 @@ fn link_modules(
     ensures made { IfOk result (λ made. made.0 ≡ linked name.now modules.entry) }
     ensures unresolved { IfOk result (λ made. made.1.items ≡ unresolved modules.entry) }
     ensures no_fault { OnOk result (link_fault modules.entry ≡ None) }
+    ensures sound { OnOk result (AllByRecursion IsModule modules.entry) }
     ensures fault { IfErr result (λ fault. fault ≢ LinkFault.Memory → link_fault modules.entry ≡ Some fault) }
 {
     linked_module_keeps_rules();
@@ -169,6 +170,7 @@ pub fn link(
     ensures linked { IfOk result (λ made. made.module ≡ linked name.now (modules_with roots.now libraries.now made.taken.items)) }
     ensures unresolved { IfOk result (λ made. made.unresolved.items ≡ unresolved (modules_with roots.now libraries.now made.taken.items)) }
     ensures no_fault { IfOk result (λ made. link_fault (modules_with roots.now libraries.now made.taken.items) ≡ None) }
+    ensures sound { IfOk result (λ made. AllByRecursion IsModule (modules_with roots.now libraries.now made.taken.items)) }
     ensures fault { IfErr result (λ fault. fault ≢ LinkFault.Memory → CannotBeLinked roots.now libraries.now fault) }
 {
     let taken = select(alloc, roots, libraries)?;

@@ -5,7 +5,7 @@ ghost use Rattle.std.specs.Prelude.{◌≡◌, ◌∷◌, ◌≤◌, [], length,
 ghost use Rattle.std.specs.List.{enumerate_from};
 ghost use Rattle.omf_module.specs.Rules.{IsModule};
 ghost use Rattle.omf_module.specs.Segments.{is_fixed_id};
-ghost use Rattle.link80.specs.Joined.{joined, parts_of_commons, with_named_parts};
+ghost use Rattle.link80.specs.Joined.{joined_parts, parts_of_commons, with_named_parts};
 ghost use Rattle.link80.specs.Linked.{common_names, linked_commons, linked_ids, linked_segment};
 
 use crate::commons::JoinedModules;
@@ -21,8 +21,8 @@ const EMPTY: Segment = Segment {
 };
 
 /// Two parts that lie over one another: the longer length, paged where one of them is.
-fn joined(one: Segment, other: Segment) -> Segment
-    ensures { result ≡ joined one other }
+fn joined_parts(one: Segment, other: Segment) -> Segment
+    ensures { result ≡ joined_parts one other }
 {
     Segment {
         length: one.length.max(other.length),
@@ -31,15 +31,15 @@ fn joined(one: Segment, other: Segment) -> Segment
 }
 
 /// CODE, DATA, STACK, MEMORY or the unnamed common of the linked module.
-fn fixed_segment(modules: &JoinedModules, id: u8) -> Segment
+fn fixed_segment(joined: &JoinedModules, id: u8) -> Segment
     requires { IsTrue (is_fixed_id id) }
-    ensures { result ≡ linked_segment modules.now id }
+    ensures { result ≡ linked_segment joined.now id }
 {
     let mut segment = EMPTY;
-    for number in 0..modules.len() {
-        segment = joined(segment, segment_of(modules.get(number), id));
+    for number in 0..joined.len() {
+        segment = joined_parts(segment, segment_of(joined.get(number), id));
     }
-    match modules.end_of(id) {
+    match joined.end_of(id) {
         Some(length) => Segment {
             length,
             paged: segment.paged,
@@ -49,44 +49,41 @@ fn fixed_segment(modules: &JoinedModules, id: u8) -> Segment
 }
 
 /// Joins a module's parts of named commons to the segments of their names.
-fn join_commons(segments: &mut Vec<Segment>, modules: &JoinedModules, of: &Module)
-    requires { length segments.old.items ≡ length (common_names modules.now) }
-    ensures joined { segments.new.items ≡ with_named_parts (common_names modules.now) segments.old.items (parts_of_commons of.now) }
+fn join_commons(segments: &mut Vec<Segment>, joined: &JoinedModules, of: &Module)
+    requires { length segments.old.items ≡ length (common_names joined.now) }
+    ensures joined { segments.new.items ≡ with_named_parts (common_names joined.now) segments.old.items (parts_of_commons of.now) }
     ensures len { length segments.new.items ≡ length segments.old.items }
     ensures rules { IsModule of.now }
 {
     for common in of.commons() {
-        if let Some(number) = modules.common_number(common.name.bytes()) {
-            segments[number] = joined(segments[number], segment_of(of, common.id));
+        if let Some(number) = joined.common_number(common.name.bytes()) {
+            segments[number] = joined_parts(segments[number], segment_of(of, common.id));
         }
     }
 }
 
 /// The segments of the named commons, in order of first sight.
-fn common_segments(alloc: Global, modules: &JoinedModules) -> Result<Vec<Segment>, AllocError>
-    ensures segments { IfOk result (λ segments. enumerate_from 6 segments.items ≡ map (λ id. (id, linked_segment modules.now id)) (map (λ c. c.id) (linked_commons modules.now))) }
+fn common_segments(alloc: Global, joined: &JoinedModules) -> Result<Vec<Segment>, AllocError>
+    ensures segments { IfOk result (λ segments. enumerate_from 6 segments.items ≡ map (λ id. (id, linked_segment joined.now id)) (map (λ c. c.id) (linked_commons joined.now))) }
     ensures few { IfOk result (λ segments. length segments.items ≤ 249) }
 {
-    let mut segments = Vec::from_elem(alloc, EMPTY, modules.common_count())?;
-    for number in 0..modules.len() {
-        join_commons(&mut segments, modules, modules.get(number));
+    let mut segments = Vec::from_elem(alloc, EMPTY, joined.common_count())?;
+    for number in 0..joined.len() {
+        join_commons(&mut segments, joined, joined.get(number));
     }
     Ok(segments)
 }
 
 /// The segments that every module has, with their ids.
-fn fixed_segments(
-    alloc: Global,
-    modules: &JoinedModules,
-) -> Result<Vec<(u8, Segment)>, AllocError>
-    ensures { IfOk result (λ segments. segments.items ≡ map (λ id. (id, linked_segment modules.now id)) (1 ∷ 2 ∷ 3 ∷ 4 ∷ 255 ∷ [])) }
+fn fixed_segments(alloc: Global, joined: &JoinedModules) -> Result<Vec<(u8, Segment)>, AllocError>
+    ensures { IfOk result (λ segments. segments.items ≡ map (λ id. (id, linked_segment joined.now id)) (1 ∷ 2 ∷ 3 ∷ 4 ∷ 255 ∷ [])) }
 {
     let mut segments = Vec::new(alloc);
-    segments.push((CODE, fixed_segment(modules, CODE)))?;
-    segments.push((DATA, fixed_segment(modules, DATA)))?;
-    segments.push((STACK, fixed_segment(modules, STACK)))?;
-    segments.push((MEMORY, fixed_segment(modules, MEMORY)))?;
-    segments.push((UNNAMED_COMMON, fixed_segment(modules, UNNAMED_COMMON)))?;
+    segments.push((CODE, fixed_segment(joined, CODE)))?;
+    segments.push((DATA, fixed_segment(joined, DATA)))?;
+    segments.push((STACK, fixed_segment(joined, STACK)))?;
+    segments.push((MEMORY, fixed_segment(joined, MEMORY)))?;
+    segments.push((UNNAMED_COMMON, fixed_segment(joined, UNNAMED_COMMON)))?;
     Ok(segments)
 }
 
@@ -96,13 +93,13 @@ fn fixed_segments(
 /// `AllocError` only where there is no memory for them.
 pub(crate) fn linked_segments(
     alloc: Global,
-    modules: &JoinedModules,
+    joined: &JoinedModules,
 ) -> Result<Vec<(u8, Segment)>, AllocError>
-    ensures { IfOk result (λ segments. segments.items ≡ map (λ id. (id, linked_segment modules.now id)) (linked_ids modules.now)) }
+    ensures { IfOk result (λ segments. segments.items ≡ map (λ id. (id, linked_segment joined.now id)) (linked_ids joined.now)) }
 {
-    let mut segments = fixed_segments(alloc, modules)?;
+    let mut segments = fixed_segments(alloc, joined)?;
     let mut id = FIRST_COMMON;
-    for segment in &common_segments(alloc, modules)? {
+    for segment in &common_segments(alloc, joined)? {
         segments.push((id, *segment))?;
         id += 1;
     }

@@ -1,5 +1,5 @@
 mod StreamLemmas
-pub mod InputsLemmas
+mod InputsLemmas
 mod RunLemmas
 mod TranscriptLemmas
-pub mod SendsLemmas
+mod SendsLemmas

@@ -8,3 +8,4 @@ pub mod Vouched
 pub mod Fault
 pub mod Session
 pub mod Sends
+pub mod SendsLaws

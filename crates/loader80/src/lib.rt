@@ -12,11 +12,13 @@
 //! | [`read_all`], [`write_all`] | a source read whole within a limit, bytes written whole |
 //! | [`read_inputs`] | the inputs of a run, from their text |
 //! | [`digits`] | hexadecimal digits, read and written |
+//! | [`laws`] | what holds of what is answered, as a contract |
 #![tactic(auto)]
 
 pub mod digits;
 mod fault;
 mod inputs;
+pub mod laws;
 mod reading;
 mod replies;
 mod running;

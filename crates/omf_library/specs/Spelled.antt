@@ -38,6 +38,7 @@ pub record SpellsIndex (bytes : List ℕ) (from to : ℕ) (records : List Record
   pub spelled : SpellsRecords bytes from to records
   pub kinds : IsTrue (list_all (λ r. is_index_kind r.kind) records)
 
+-- one of them stands there
 abbrev pub is_indexed : List RecordValue → Bool
 is_indexed [] = false
 is_indexed (r ∷ rs) = true

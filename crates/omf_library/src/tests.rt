@@ -46,7 +46,10 @@ fn a_library_is_written(rt: HostRuntime) -> Result<(), Fail> {
 #[test]
 fn a_library_is_read(rt: HostRuntime) -> Result<(), Fail> {
     let library = read_library(rt.alloc(), &ONE)?;
-    assert_eq!(rt; written(rt.alloc(), &library.modules)?.as_slice(), ONE.as_slice());
+    assert_eq!(rt;
+        written(rt.alloc(), &library.modules)?.as_slice(),
+        ONE.as_slice()
+    );
     assert_eq!(rt; read_library(rt.alloc(), &NONE)?.modules.len(), 0);
     Ok(())
 }
@@ -88,7 +91,11 @@ fn fault_of(alloc: Global, bytes: &[u8]) -> Option<LibraryFault> {
 fn cut_off_at_each_byte(rt: HostRuntime) -> Result<(), Fail> {
     for length in 0..61 {
         let cut = ONE.get(..length).ok_or("past the end")?;
-        assert_eq!(rt; fault_of(rt.alloc(), cut), Some(fault_of_cut(length)), "{length}");
+        assert_eq!(rt;
+            fault_of(rt.alloc(), cut),
+            Some(fault_of_cut(length)),
+            "{length}"
+        );
     }
     Ok(())
 }
@@ -98,7 +105,10 @@ fn another_count_than_that_of_the_header(rt: HostRuntime) -> Result<(), Fail> {
     let mut library = Vec::from_slice(rt.alloc(), &ONE)?;
     library[3] = 0x02;
     library[9] = 0xA5;
-    assert_eq!(rt; fault_of(rt.alloc(), &library), Some(LibraryFault::CountDiffers(2, 1)));
+    assert_eq!(rt;
+        fault_of(rt.alloc(), &library),
+        Some(LibraryFault::CountDiffers(2, 1))
+    );
     Ok(())
 }
 

@@ -2,7 +2,7 @@
 use Rattle.std.proofs.Common.{◌≡◌, ◌≢◌, ◌⊎◌, inl, inr, ℕ, List, Result, Ok, Err, refl, ap, ◌∙◌}
 use Rattle.std.specs.Prelude.{IfOk, IfErr, IsOk}
 use Rattle.omf_module.specs.declared.fault.Cause.{Cause}
-use Rattle.omf_module.specs.declared.fault.Cause.TheVariants.{Record, NoHeader, UnknownKind, BadBody, BadName, SegmentUnknown, OffsetOutside, FixupBeforeContent, FixupOutside, FixupTwice, IndexUnknown, NoEnd, Memory}
+use Rattle.omf_module.specs.declared.fault.Cause.TheVariants.{Memory}
 use Rattle.omf_module.specs.declared.fault.ModuleFault.{ModuleFault}
 use Rattle.omf_module.specs.Fault.{no_memory, fault_of}
 use Rattle.omf_module.specs.Modules.{ModuleValue}
@@ -26,16 +26,5 @@ answered {A} Faults (Err f) (inl e) none = inr (ap (λ (g : ModuleFault). Err g)
 answered {A} Faults (Err f) (inr x) none = absurd (none f x)
 
 pub real_fault : (at : ℕ) (why : Cause) → why ≢ Memory → fault_of at why ≡ fault_by at why
-real_fault at (Record f) real = refl
-real_fault at NoHeader real = refl
-real_fault at (UnknownKind k) real = refl
-real_fault at (BadBody k) real = refl
-real_fault at BadName real = refl
-real_fault at (SegmentUnknown i) real = refl
-real_fault at OffsetOutside real = refl
-real_fault at FixupBeforeContent real = refl
-real_fault at FixupOutside real = refl
-real_fault at FixupTwice real = refl
-real_fault at IndexUnknown real = refl
-real_fault at NoEnd real = refl
 real_fault at Memory real = absurd (real refl)
+real_fault at _ real = refl

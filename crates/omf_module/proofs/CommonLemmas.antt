@@ -1,8 +1,7 @@
 -- Commons of a record are taken one after another.
 use Rattle.std.proofs.Common.{◌≡◌, ℕ, ◌<◌, true, ◌&&◌, List, [], ◌∷◌, ◌++◌, length, map, Ok, Err, refl, sym, ap, subst, ◌∙◌, append_assoc, IsTrue, arith}
-use Rattle.std.specs.Prelude.{not}
 use Rattle.std.specs.List.{flat_map, list_all}
-use Rattle.std.proofs.lemmas.Bool.{and_parts}
+use Rattle.std.proofs.lemmas.Bool.{and_from}
 use Rattle.std.proofs.lemmas.List.{append-nil, map-append}
 use Rattle.std.proofs.lemmas.List.Folds.{list_all-append}
 use Rattle.std.proofs.lemmas.Grind.{flat_map-append}
@@ -13,9 +12,10 @@ use Rattle.omf_body.specs.Entries.{is_common_id, common_bytes, common_layout}
 use Rattle.omf_module.specs.declared.fault.Cause.{Cause}
 use Rattle.omf_module.specs.declared.symbols.Common.{Common}
 use Rattle.omf_module.specs.Rules.{each_after, is_new_common}
-use Rattle.omf_module.specs.Spelled.{has_id, has_name, read_new_common, FaultsCommons, here, later, commons_cause}
+use Rattle.omf_module.specs.Spelled.{read_new_common, FaultsCommons, here, later, commons_cause}
 use Rattle.omf_module.specs.Reading.{common_of, TakesCommons, RefusesCommons}
-use Rattle.omf_module.proofs.ListLemmas.{and_both, each_after_push}
+use Rattle.omf_module.proofs.ListLemmas.{each_after_push}
+use Rattle.omf_module.proofs.RuleLemmas.{new_common}
 
 -- what was taken, and what is left
 pub record CommonsSoFar (before : List Common) (bytes : List ℕ) (now : List Common) (rest : List ℕ) : Type 0 where
@@ -39,12 +39,10 @@ pub one_taken : (before : List Common) (bytes : List ℕ) (now : List Common) (r
 one_taken before bytes now rest after e s read spelled named new =
     let flat : flat_map common_bytes (s.front ++ e ∷ []) ≡ flat_map common_bytes s.front ++ common_bytes e = flat_map-append common_bytes s.front (e ∷ []) ∙ ap (λ (b : List ℕ). flat_map common_bytes s.front ++ b) (append-nil (common_bytes e)) in
     let mapped : map common_of (s.front ++ e ∷ []) ≡ map common_of s.front ++ common_of e ∷ [] = map-append common_of s.front (e ∷ []) in
-    let one = and_parts (is_common_id e.id && not (has_id now e.id)) (not (has_name now e.name)) new in
-    let id = and_parts (is_common_id e.id) (not (has_id now e.id)) one.0 in
     record {
       front = s.front ++ e ∷ [];
       joined = s.joined ∙ (ap (λ (b : List ℕ). flat_map common_bytes s.front ++ b) spelled ∙ (sym (append_assoc (flat_map common_bytes s.front) (common_bytes e) after) ∙ ap (λ (b : List ℕ). b ++ after) (sym flat)));
-      sound = list_all-append common_layout.is_sound s.front (e ∷ []) ∙ and_both (list_all common_layout.is_sound s.front) ((is_common_id e.id && is_name e.name) && true) s.sound (and_both (is_common_id e.id && is_name e.name) true (and_both (is_common_id e.id) (is_name e.name) id.0 named) refl);
+      sound = list_all-append common_layout.is_sound s.front (e ∷ []) ∙ and_from (list_all common_layout.is_sound s.front) ((is_common_id e.id && is_name e.name) && true) s.sound (and_from (is_common_id e.id && is_name e.name) true (and_from (is_common_id e.id) (is_name e.name) (new_common now (common_of e) new).id named) refl);
       all = ap (λ (b : List Common). b ++ common_of e ∷ []) s.all ∙ (append_assoc before (map common_of s.front) (common_of e ∷ []) ∙ ap (λ (b : List Common). before ++ b) (sym mapped));
       new = subst (λ (b : List Common). each_after is_new_common before b ≡ true) (sym mapped)
           (each_after_push is_new_common before (map common_of s.front) (common_of e) s.new (subst (λ (b : List Common). is_new_common b (common_of e) ≡ true) s.all new));

@@ -1,13 +1,15 @@
 -- A record that is read after a header and records that declare some commons is an end, or may follow.
-use Rattle.std.proofs.Common.{◌≡◌, ◌≢◌, ℕ, ◌<◌, ◌≤◌, Bool, true, false, ◌&&◌, ◌⊎◌, inl, inr, List, [], ◌++◌, length, refl, sym, ap, subst, ◌∙◌, arith, IsTrue, Result, Ok, Err}
+use Rattle.std.proofs.Common.{◌≡◌, ◌≢◌, ℕ, ◌<◌, ◌≤◌, Bool, true, false, ◌&&◌, ◌⊎◌, inl, inr, List, [], ◌++◌, length, refl, sym, ap, subst, ◌∙◌, arith, IsTrue}
 use Rattle.std.specs.Prelude.{not, ◌==◌}
-use Rattle.std.proofs.lemmas.Bool.{eqb-true}
+use Rattle.std.proofs.lemmas.Bool.{eqb-true, false≢true}
 use Rattle.std.proofs.lemmas.List.{append-nil}
+use Rattle.omf_core.specs.declared.kind.RecordKind.{RecordKind}
+use Rattle.omf_core.specs.declared.kind.RecordKind.TheVariants as kind
 use Rattle.omf_core.specs.Kind.{kind_byte}
 use Rattle.omf_core.specs.Record.{SpellsRecord}
 use Rattle.omf_body.specs.declared.body.Body.{Body}
 use Rattle.omf_body.specs.declared.body.HeaderBody.{HeaderBody}
-use Rattle.omf_body.specs.declared.body.Body.TheVariants.{ModuleHeader, ModuleEnd, Content, LineNumbers, EndOfFile, Ancestor, LocalSymbols, PublicDeclarations, ExternalNames, ExternalReferences, Relocation, IntersegmentReferences, NamedCommons}
+use Rattle.omf_body.specs.declared.body.Body.TheVariants.{ModuleHeader, ModuleEnd, EndOfFile, NamedCommons}
 use Rattle.omf_body.specs.Bodies.{body_kind, body_bytes, Spells}
 use Rattle.omf_module.specs.declared.symbols.Common.{Common}
 use Rattle.omf_module.specs.Records.{SpellsBody, commons_in, may_follow}
@@ -37,28 +39,11 @@ begun bytes at next kind body b header r fits s is = record {
 -- of the kinds of which no more is asked, an end ends a module, and all others may stand within
 pub may_stand : (kind : ℕ) (before : List Common) (b : Body) → kind ≡ kind_byte (body_kind b) → IsTrue (stands_alone kind)
     → (IsTrue (is_end b) ⊎ IsTrue (may_follow before b)) × (commons_in b ≡ [])
-may_stand kind before (ModuleHeader b) is alone = absurd (bad (subst (λ (k : ℕ). IsTrue (stands_alone k)) is alone))
-  where
-    bad : IsTrue (stands_alone 2) → ⊥
-    bad e = cc
+may_stand kind before (ModuleHeader b) is alone = absurd (false≢true (subst (λ (k : ℕ). stands_alone k ≡ true) is alone))
+may_stand kind before (EndOfFile b) is alone = absurd (false≢true (subst (λ (k : ℕ). stands_alone k ≡ true) is alone))
+may_stand kind before (NamedCommons b) is alone = absurd (false≢true (subst (λ (k : ℕ). stands_alone k ≡ true) is alone))
 may_stand kind before (ModuleEnd b) is alone = (inl refl, refl)
-may_stand kind before (Content b) is alone = (inr refl, refl)
-may_stand kind before (LineNumbers b) is alone = (inr refl, refl)
-may_stand kind before (EndOfFile b) is alone = absurd (bad (subst (λ (k : ℕ). IsTrue (stands_alone k)) is alone))
-  where
-    bad : IsTrue (stands_alone 14) → ⊥
-    bad e = cc
-may_stand kind before (Ancestor b) is alone = (inr refl, refl)
-may_stand kind before (LocalSymbols b) is alone = (inr refl, refl)
-may_stand kind before (PublicDeclarations b) is alone = (inr refl, refl)
-may_stand kind before (ExternalNames b) is alone = (inr refl, refl)
-may_stand kind before (ExternalReferences b) is alone = (inr refl, refl)
-may_stand kind before (Relocation b) is alone = (inr refl, refl)
-may_stand kind before (IntersegmentReferences b) is alone = (inr refl, refl)
-may_stand kind before (NamedCommons b) is alone = absurd (bad (subst (λ (k : ℕ). IsTrue (stands_alone k)) is alone))
-  where
-    bad : IsTrue (stands_alone 46) → ⊥
-    bad e = cc
+may_stand kind before _ is alone = (inr refl, refl)
 
 pub followed : (bytes : List ℕ) (at next kind : ℕ) (body : List ℕ) (before : List Common) (b : Body)
     → SpellsRecord bytes at next kind body → length body ≤ 65534 → Spells kind body b → IsTrue (stands_alone kind) → Follows bytes at next before before b
@@ -96,12 +81,8 @@ is_alone kind a b c = three (kind == 0x02) (kind == 0x0E) (kind == 0x2E) (λ e. 
     three false false true p q r = absurd (r refl)
     three false false false p q r = refl
 
-pub ok_same : {A E : Type 0} (r : Result A E) (x y : A) → r ≡ Ok x → r ≡ Ok y → x ≡ y
-ok_same {A} {E} r x y e f = ap (value x) (sym e ∙ f)
-  where
-    value : {A E : Type 0} → A → Result A E → A
-    value d (Ok a) = a
-    value d (Err b) = d
-
-pub err_not_ok : {A E : Type 0} (e : E) (x : A) → Err e ≡ Ok x → ⊥
-err_not_ok {A} {E} e x p = absurd cc
+pub is_alone_kind : (k : RecordKind) → (k ≡ kind.ModuleHeader → ⊥) → (k ≡ kind.EndOfFile → ⊥) → (k ≡ kind.NamedCommons → ⊥) → IsTrue (stands_alone (kind_byte k))
+is_alone_kind kind.ModuleHeader a b c = absurd (a refl)
+is_alone_kind kind.EndOfFile a b c = absurd (b refl)
+is_alone_kind kind.NamedCommons a b c = absurd (c refl)
+is_alone_kind _ a b c = refl

@@ -1,16 +1,15 @@
 -- Where the records of a module use nothing that isn't there, the parts that they say keep all rules.
-use Rattle.std.proofs.Common.{◌≡◌, ℕ, ◌+◌, ◌≤◌, Bool, true, false, ◌&&◌, ◌||◌, Option, Some, None, option_map, List, [], ◌∷◌, ◌++◌, length, map, refl, sym, subst, ◌∙◌, arith, append_assoc, IsTrue}
+use Rattle.std.proofs.Common.{◌≡◌, ℕ, ◌+◌, ◌≤◌, Bool, true, false, ◌&&◌, Option, Some, None, option_map, List, [], ◌∷◌, ◌++◌, length, map, refl, sym, ◌∙◌, arith, IsTrue}
 use Rattle.std.specs.Prelude.{not, ◌==◌, nat_lt, nat_le, if◌then◌else◌}
 use Rattle.std.specs.List.{list_all, list_any, flat_map}
 use Rattle.std.specs.Option.{option_or, option_to_list}
-use Rattle.std.proofs.lemmas.Bool.{and_parts, ltb-false, le-leb, eqb-false, ne_eqb}
-use Rattle.std.proofs.lemmas.List.{append-nil}
+use Rattle.std.proofs.lemmas.Bool.{and_parts, and_from, or_parts, or_from, not-true, not-false, not_from_false, ltb-false, le-leb, eqb-false, ne_eqb}
 use Rattle.std.proofs.lemmas.List.Folds.{list_all-append, list_any-append}
 use Rattle.omf_body.specs.declared.entries.SegmentEntry.{SegmentEntry}
 use Rattle.omf_body.specs.declared.body.Place.{Place}
 use Rattle.omf_body.specs.declared.body.ContentBody.{ContentBody}
 use Rattle.omf_body.specs.declared.body.Body.{Body}
-use Rattle.omf_body.specs.declared.body.Body.TheVariants.{ModuleHeader, ModuleEnd, Content, LineNumbers, EndOfFile, Ancestor, LocalSymbols, PublicDeclarations, ExternalNames, ExternalReferences, Relocation, IntersegmentReferences, NamedCommons}
+use Rattle.omf_body.specs.declared.body.Body.TheVariants.{Content, PublicDeclarations, ExternalReferences, Relocation, IntersegmentReferences}
 use Rattle.omf_core.specs.Name.{is_name}
 use Rattle.omf_body.specs.Entries.{is_paged}
 use Rattle.omf_body.specs.Bodies.{body_bytes, are_distinct}
@@ -27,10 +26,10 @@ use Rattle.omf_module.specs.Segments.{has_segment}
 use Rattle.omf_module.specs.Modules.{ModuleValue}
 use Rattle.omf_module.specs.Rules.{each_after, is_new_entry, is_new_common, has_target, is_fitting, end_of, lies_within, is_placed, has_fitting, is_content, is_start, is_sound, keeps_rules}
 use Rattle.omf_module.specs.Records.{SpellsBodies, commons_in, commons_of, stands_within, may_follow, each_follows, ModuleRecords, SpellsModuleRecords}
-use Rattle.omf_module.specs.Gathered as gathered
-use Rattle.omf_module.specs.Gathered.{publics_in, fixups_in, with_fixups, content_after, contents_from, parts_of}
+use Rattle.omf_module.specs.Gathered.{publics_in, fixups_in, with_fixups, content_after, begins_content, contents_from, parts_of}
 use Rattle.omf_module.specs.Uses.{unknown_id, ids_in, place_fault, lacks_external, fixup_fault, fixups_fault, reference_fault, body_fault, fault_by, bodies_fault, header_fault, end_fault, use_fault}
-use Rattle.omf_module.proofs.ListLemmas.{and_both}
+use Rattle.omf_module.proofs.ListLemmas.{each_after_both}
+use Rattle.omf_module.proofs.RuleLemmas.{placed_parts}
 
 -- ---- options and tests
 
@@ -51,44 +50,17 @@ passed_if : {A : Type 0} (b : Bool) (why : A) (o : Option A) → (if b then o el
 passed_if true why o e = (refl, e)
 passed_if false why o e = absurd cc
 
-not_false : (b : Bool) → b ≡ false → not b ≡ true
-not_false true e = absurd cc
-not_false false e = refl
-
-from_not : (b : Bool) → not b ≡ false → b ≡ true
-from_not true e = refl
-from_not false e = absurd cc
-
-is_false : (b : Bool) → not b ≡ true → b ≡ false
-is_false true e = absurd cc
-is_false false e = refl
-
-or_both : (a b : Bool) → a ≡ false → b ≡ false → (a || b) ≡ false
-or_both true b p q = absurd cc
-or_both false b p q = q
-
-or_neither : (a b : Bool) → (a || b) ≡ false → (a ≡ false) × (b ≡ false)
-or_neither true b e = absurd cc
-or_neither false b e = (refl, e)
-
 other_back : (a b : ℕ) → (a == b) ≡ false → (b == a) ≡ false
 other_back a b e = ne_eqb b a (λ s. eqb-false a b e (sym s))
 
 -- ---- lists
 
 all_both : {A : Type 0} (p : A → Bool) (xs ys : List A) → list_all p xs ≡ true → list_all p ys ≡ true → list_all p (xs ++ ys) ≡ true
-all_both p xs ys a b = list_all-append p xs ys ∙ and_both (list_all p xs) (list_all p ys) a b
+all_both p xs ys a b = list_all-append p xs ys ∙ and_from (list_all p xs) (list_all p ys) a b
 
 all_mapped : {A B : Type 0} (p : B → Bool) (f : A → B) (xs : List A) → ((x : A) → p (f x) ≡ true) → list_all p (map f xs) ≡ true
 all_mapped p f [] each = refl
-all_mapped p f (x ∷ xs) each = and_both (p (f x)) (list_all p (map f xs)) (each x) (all_mapped p f xs each)
-
-each_after_both : {A : Type 0} (test : List A → A → Bool) (before xs ys : List A) → each_after test before xs ≡ true → each_after test (before ++ xs) ys ≡ true → each_after test before (xs ++ ys) ≡ true
-each_after_both {A} test before [] ys a b = subst (λ (z : List A). each_after test z ys ≡ true) (append-nil before) b
-each_after_both {A} test before (x ∷ xs) ys a b =
-    let parts = and_parts (test before x) (each_after test (before ++ x ∷ []) xs) a in
-    and_both (test before x) (each_after test (before ++ x ∷ []) (xs ++ ys)) parts.0
-    (each_after_both test (before ++ x ∷ []) xs ys parts.1 (subst (λ (z : List A). each_after test z ys ≡ true) (sym (append_assoc before (x ∷ []) xs)) b))
+all_mapped p f (x ∷ xs) each = and_from (p (f x)) (list_all p (map f xs)) (each x) (all_mapped p f xs each)
 
 -- ---- ids
 
@@ -96,7 +68,7 @@ all_known : (m : ModuleValue) (ids : List ℕ) → unknown_id m ids ≡ None →
 all_known m [] e = refl
 all_known m (id ∷ ids) e =
     let first = passed_if (has_segment m.commons id) (SegmentUnknown id) (unknown_id m ids) e in
-    and_both (has_segment m.commons id) (list_all (has_segment m.commons) ids) first.0 (all_known m ids first.1)
+    and_from (has_segment m.commons id) (list_all (has_segment m.commons) ids) first.0 (all_known m ids first.1)
 
 one_known : (m : ModuleValue) (id : ℕ) → unknown_id m (id ∷ []) ≡ None → has_segment m.commons id ≡ true
 one_known m id e = (passed_if (has_segment m.commons id) (SegmentUnknown id) None e).0
@@ -116,16 +88,16 @@ are_apart before es = list_all (λ e. not (list_any (has_id e.id) before)) es
 apart_one : (before : List (ℕ × Segment)) (e x : SegmentEntry) → list_any (has_id x.id) before ≡ false → (x.id == e.id) ≡ false → list_any (has_id x.id) (before ++ entry_of e ∷ []) ≡ false
 apart_one before e x none other =
     list_any-append (has_id x.id) before (entry_of e ∷ [])
-    ∙ or_both (list_any (has_id x.id) before) (list_any (has_id x.id) (entry_of e ∷ [])) none
-    (or_both (e.id == x.id) false (other_back x.id e.id other) refl)
+    ∙ or_from (list_any (has_id x.id) before) (list_any (has_id x.id) (entry_of e ∷ [])) none
+    (or_from (e.id == x.id) false (other_back x.id e.id other) refl)
 
 apart_push : (before : List (ℕ × Segment)) (e : SegmentEntry) (es : List SegmentEntry) → are_apart before es ≡ true → list_any (λ d. d.id == e.id) es ≡ false → are_apart (before ++ entry_of e ∷ []) es ≡ true
 apart_push before e [] apart new = refl
 apart_push before e (x ∷ es) apart new =
     let parts = and_parts (not (list_any (has_id x.id) before)) (are_apart before es) apart in
-    let other = or_neither (x.id == e.id) (list_any (λ d. d.id == e.id) es) new in
-    and_both (not (list_any (has_id x.id) (before ++ entry_of e ∷ []))) (are_apart (before ++ entry_of e ∷ []) es)
-    (not_false (list_any (has_id x.id) (before ++ entry_of e ∷ [])) (apart_one before e x (is_false (list_any (has_id x.id) before) parts.0) other.0))
+    let other = or_parts (x.id == e.id) (list_any (λ d. d.id == e.id) es) new in
+    and_from (not (list_any (has_id x.id) (before ++ entry_of e ∷ []))) (are_apart (before ++ entry_of e ∷ []) es)
+    (not_from_false (list_any (has_id x.id) (before ++ entry_of e ∷ [])) (apart_one before e x (not-true (list_any (has_id x.id) before) parts.0) other.0))
     (apart_push before e es parts.1 other.1)
 
 entries_new : (commons : List Common) (before : List (ℕ × Segment)) (es : List SegmentEntry)
@@ -136,10 +108,10 @@ entries_new commons before (e ∷ es) known distinct apart =
     let k = and_parts (has_segment commons e.id) (list_all (has_segment commons) (map (λ e. e.id) es)) known in
     let d = and_parts (not (list_any (λ d. d.id == e.id) es)) (are_distinct es) distinct in
     let a = and_parts (not (list_any (has_id e.id) before)) (are_apart before es) apart in
-    and_both (is_new_entry commons before (entry_of e)) (each_after (is_new_entry commons) (before ++ entry_of e ∷ []) (map entry_of es))
-    (and_both (has_segment commons e.id) (not (list_any (has_id e.id) before)) k.0 a.0)
+    and_from (is_new_entry commons before (entry_of e)) (each_after (is_new_entry commons) (before ++ entry_of e ∷ []) (map entry_of es))
+    (and_from (has_segment commons e.id) (not (list_any (has_id e.id) before)) k.0 a.0)
     (entries_new commons (before ++ entry_of e ∷ []) es k.1 d.1
-    (apart_push before e es a.1 (is_false (list_any (λ d. d.id == e.id) es) d.0)))
+    (apart_push before e es a.1 (not-true (list_any (λ d. d.id == e.id) es) d.0)))
 
 none_before : (es : List SegmentEntry) → are_apart [] es ≡ true
 none_before [] = refl
@@ -178,19 +150,8 @@ abbrev is_public : List Common → Public → Bool
 is_public commons p = has_segment commons p.segment
 
 publics_there : (m : ModuleValue) (b : Body) → unknown_id m (ids_in b) ≡ None → list_all (is_public m.commons) (publics_in b) ≡ true
-publics_there m (ModuleHeader b) e = refl
-publics_there m (ModuleEnd b) e = refl
-publics_there m (Content b) e = refl
-publics_there m (LineNumbers b) e = refl
-publics_there m (EndOfFile b) e = refl
-publics_there m (Ancestor b) e = refl
-publics_there m (LocalSymbols b) e = refl
 publics_there m (PublicDeclarations b) e = all_mapped (is_public m.commons) (λ p. record { name = p.name; segment = b.segment; offset = p.offset }) b.publics (λ p. one_known m b.segment e)
-publics_there m (ExternalNames b) e = refl
-publics_there m (ExternalReferences b) e = refl
-publics_there m (Relocation b) e = refl
-publics_there m (IntersegmentReferences b) e = refl
-publics_there m (NamedCommons b) e = refl
+publics_there m _ e = refl
 
 publics_keep : (m : ModuleValue) (nearest : Option ContentValue) (ps : List PlacedBody) → bodies_fault m nearest ps ≡ None → list_all (is_public m.commons) (flat_map (λ p. publics_in p.body) ps) ≡ true
 publics_keep m nearest [] e = refl
@@ -209,31 +170,22 @@ abbrev is_reaching : List Common → Fixup → Bool
 is_reaching commons f = is_to_segment_there commons f.target
 
 references_reach : (m : ModuleValue) (own : ℕ) (b : Body) → has_segment m.commons own ≡ true → unknown_id m (ids_in b) ≡ None → list_all (is_reaching m.commons) (fixups_in own b) ≡ true
-references_reach m own (ModuleHeader b) has e = refl
-references_reach m own (ModuleEnd b) has e = refl
-references_reach m own (Content b) has e = refl
-references_reach m own (LineNumbers b) has e = refl
-references_reach m own (EndOfFile b) has e = refl
-references_reach m own (Ancestor b) has e = refl
-references_reach m own (LocalSymbols b) has e = refl
-references_reach m own (PublicDeclarations b) has e = refl
-references_reach m own (ExternalNames b) has e = refl
 references_reach m own (ExternalReferences b) has e = all_mapped (is_reaching m.commons) (λ r. record { offset = r.offset; field = b.field; target = target.External r.index }) b.references (λ r. refl)
 references_reach m own (Relocation b) has e = all_mapped (is_reaching m.commons) (λ r. record { offset = r.offset; field = b.field; target = target.Segment own }) b.references (λ r. has)
 references_reach m own (IntersegmentReferences b) has e = all_mapped (is_reaching m.commons) (λ r. record { offset = r.offset; field = b.field; target = target.Segment b.segment }) b.references (λ r. one_known m b.segment e)
-references_reach m own (NamedCommons b) has e = refl
+references_reach m own _ has e = refl
 
 target_there : (m : ModuleValue) (t : Target) → is_to_segment_there m.commons t ≡ true → lacks_external m t ≡ false → has_target m.commons (length m.externals) t ≡ true
 target_there m (target.Segment id) reaches there = reaches
-target_there m (target.External index) reaches there = from_not (nat_lt index (length m.externals)) there
+target_there m (target.External index) reaches there = not-false (nat_lt index (length m.externals)) there
 
 one_fitting : (m : ModuleValue) (c : ContentValue) (f : Fixup) → is_reaching m.commons f ≡ true → fixup_fault m c f ≡ None → is_fitting m.commons (length m.externals) c.offset (length c.bytes) c.fixups f ≡ true
 one_fitting m c f reaches e =
     let inside = passed (not (is_inside c.offset (length c.bytes) f)) FixupOutside (if shares_a_byte c.fixups f then Some FixupTwice else (if lacks_external m f.target then Some IndexUnknown else None)) e in
     let apart = passed (shares_a_byte c.fixups f) FixupTwice (if lacks_external m f.target then Some IndexUnknown else None) inside.1 in
     let there = passed (lacks_external m f.target) IndexUnknown None apart.1 in
-    and_both (is_inside c.offset (length c.bytes) f && not (shares_a_byte c.fixups f)) (has_target m.commons (length m.externals) f.target)
-    (and_both (is_inside c.offset (length c.bytes) f) (not (shares_a_byte c.fixups f)) (from_not (is_inside c.offset (length c.bytes) f) inside.0) (not_false (shares_a_byte c.fixups f) apart.0))
+    and_from (is_inside c.offset (length c.bytes) f && not (shares_a_byte c.fixups f)) (has_target m.commons (length m.externals) f.target)
+    (and_from (is_inside c.offset (length c.bytes) f) (not (shares_a_byte c.fixups f)) (not-false (is_inside c.offset (length c.bytes) f) inside.0) (not_from_false (shares_a_byte c.fixups f) apart.0))
     (target_there m f.target reaches there.0)
 
 abbrev fitting : ModuleValue → ContentValue → List Fixup → Fixup → Bool
@@ -244,7 +196,7 @@ each_fitting m c [] reach e = refl
 each_fitting m c (f ∷ fs) reach e =
     let r = and_parts (is_reaching m.commons f) (list_all (is_reaching m.commons) fs) reach in
     let a = neither (fixup_fault m c f) (fixups_fault m (with_fixups c (f ∷ [])) fs) e in
-    and_both (fitting m c c.fixups f) (each_after (fitting m c) (c.fixups ++ f ∷ []) fs) (one_fitting m c f r.0 a.0) (each_fitting m (with_fixups c (f ∷ [])) fs r.1 a.1)
+    and_from (fitting m c c.fixups f) (each_after (fitting m c) (c.fixups ++ f ∷ []) fs) (one_fitting m c f r.0 a.0) (each_fitting m (with_fixups c (f ∷ [])) fs r.1 a.1)
 
 -- ---- contents
 
@@ -254,15 +206,11 @@ fits m c = is_content m.segments m.commons (length m.externals) c
 fits_with : (m : ModuleValue) (c : ContentValue) (fs : List Fixup) → fits m c ≡ true → list_all (is_reaching m.commons) fs ≡ true → fixups_fault m c fs ≡ None → fits m (with_fixups c fs) ≡ true
 fits_with m c fs fit reach e =
     let parts = and_parts (is_placed m.segments m.commons c) (has_fitting m.commons (length m.externals) c) fit in
-    and_both (is_placed m.segments m.commons c) (has_fitting m.commons (length m.externals) (with_fixups c fs)) parts.0
+    and_from (is_placed m.segments m.commons c) (has_fitting m.commons (length m.externals) (with_fixups c fs)) parts.0
     (each_after_both (fitting m c) [] c.fixups fs parts.1 (each_fitting m c fs reach e))
 
 own_segment : (m : ModuleValue) (c : ContentValue) → fits m c ≡ true → has_segment m.commons c.segment ≡ true
-own_segment m c fit =
-    let placed = and_parts (is_placed m.segments m.commons c) (has_fitting m.commons (length m.externals) c) fit in
-    let lies = and_parts (lies_within m.segments m.commons c) (nat_le (length c.bytes) 65531) placed.0 in
-    let own = and_parts (has_segment m.commons c.segment && not (c.segment == 3)) (nat_le (c.offset + length c.bytes) (end_of m.segments c.segment)) lies.0 in
-    (and_parts (has_segment m.commons c.segment) (not (c.segment == 3)) own.0).0
+own_segment m c fit = (placed_parts m.segments m.commons c (and_parts (is_placed m.segments m.commons c) (has_fitting m.commons (length m.externals) c) fit).0).has
 
 abbrev content_of : ContentBody → ContentValue
 content_of b = record { segment = b.segment; offset = b.offset; bytes = b.bytes; fixups = [] }
@@ -276,10 +224,10 @@ content_fits m b size known e =
     let outside = passed (nat_lt (end_of m.segments b.segment) (b.offset + length b.bytes)) OffsetOutside None stack.1 in
     let within : b.offset + length b.bytes ≤ end_of m.segments b.segment = ltb-false (end_of m.segments b.segment) (b.offset + length b.bytes) outside.0 in
     let c : ContentValue = content_of b in
-    and_both (is_placed m.segments m.commons c) true
-    (and_both (lies_within m.segments m.commons c) (nat_le (length b.bytes) 65531)
-    (and_both (has_segment m.commons b.segment && not (b.segment == 3)) (nat_le (b.offset + length b.bytes) (end_of m.segments b.segment))
-    (and_both (has_segment m.commons b.segment) (not (b.segment == 3)) (one_known m b.segment known) (not_false (b.segment == 3) stack.0))
+    and_from (is_placed m.segments m.commons c) true
+    (and_from (lies_within m.segments m.commons c) (nat_le (length b.bytes) 65531)
+    (and_from (has_segment m.commons b.segment && not (b.segment == 3)) (nat_le (b.offset + length b.bytes) (end_of m.segments b.segment))
+    (and_from (has_segment m.commons b.segment) (not (b.segment == 3)) (one_known m b.segment known) (not_from_false (b.segment == 3) stack.0))
     (le-leb (b.offset + length b.bytes) (end_of m.segments b.segment) within))
     (content_short b size))
     refl
@@ -294,24 +242,13 @@ references_fit : (m : ModuleValue) (nearest : Option ContentValue) (b : Body) �
 references_fit m None b s fit = refl
 references_fit m (Some c) b s fit =
     let one = and_parts (fits m c) true fit in
-    and_both (fits m (with_fixups c (fixups_in c.segment b))) true
+    and_from (fits m (with_fixups c (fixups_in c.segment b))) true
     (fits_with m c (fixups_in c.segment b) one.0 (references_reach m c.segment b (own_segment m c one.0) s.known) s.references)
     refl
 
 after_fits : (m : ModuleValue) (nearest : Option ContentValue) (b : Body) → length (body_bytes b) ≤ 65534 → Sound m nearest b → all_fit m nearest → all_fit m (content_after nearest b)
-after_fits m nearest (ModuleHeader b) size s fit = references_fit m nearest (ModuleHeader b) s fit
-after_fits m nearest (ModuleEnd b) size s fit = references_fit m nearest (ModuleEnd b) s fit
-after_fits m nearest (Content b) size s fit = and_both (fits m (content_of b)) true (content_fits m b size s.known s.place) refl
-after_fits m nearest (LineNumbers b) size s fit = references_fit m nearest (LineNumbers b) s fit
-after_fits m nearest (EndOfFile b) size s fit = references_fit m nearest (EndOfFile b) s fit
-after_fits m nearest (Ancestor b) size s fit = references_fit m nearest (Ancestor b) s fit
-after_fits m nearest (LocalSymbols b) size s fit = references_fit m nearest (LocalSymbols b) s fit
-after_fits m nearest (PublicDeclarations b) size s fit = references_fit m nearest (PublicDeclarations b) s fit
-after_fits m nearest (ExternalNames b) size s fit = references_fit m nearest (ExternalNames b) s fit
-after_fits m nearest (ExternalReferences b) size s fit = references_fit m nearest (ExternalReferences b) s fit
-after_fits m nearest (Relocation b) size s fit = references_fit m nearest (Relocation b) s fit
-after_fits m nearest (IntersegmentReferences b) size s fit = references_fit m nearest (IntersegmentReferences b) s fit
-after_fits m nearest (NamedCommons b) size s fit = references_fit m nearest (NamedCommons b) s fit
+after_fits m nearest (Content b) size s fit = and_from (fits m (content_of b)) true (content_fits m b size s.known s.place) refl
+after_fits m nearest b size s fit = references_fit m nearest b s fit
 
 all_if : {A : Type 0} (p : A → Bool) (b : Bool) (xs : List A) → list_all p xs ≡ true → list_all p (if b then xs else []) ≡ true
 all_if p true xs e = e
@@ -322,8 +259,8 @@ contents_keep : (bytes : List ℕ) (from to : ℕ) (m : ModuleValue) (nearest : 
 contents_keep bytes from to m nearest [] s e fit = fit
 contents_keep bytes from to m nearest (p ∷ ps) s e fit =
     let here = first_sound m nearest p ps e in
-    all_both (fits m) (if gathered.is_content p.body then option_to_list nearest else []) (contents_from (content_after nearest p.body) ps)
-    (all_if (fits m) (gathered.is_content p.body) (option_to_list nearest) fit)
+    all_both (fits m) (if begins_content p.body then option_to_list nearest else []) (contents_from (content_after nearest p.body) ps)
+    (all_if (fits m) (begins_content p.body) (option_to_list nearest) fit)
     (contents_keep bytes s.1.0 to m (content_after nearest p.body) ps s.1.2 here.1 (after_fits m nearest p.body s.1.1.fits here.0 fit))
 
 -- ---- the start
@@ -340,8 +277,8 @@ rules_kept m segments commons publics contents start =
     let a : Bool = each_after is_new_common [] m.commons in
     let b : Bool = list_all (is_public m.commons) m.publics in
     let c : Bool = list_all (fits m) m.contents in
-    and_both (each_after (is_new_entry m.commons) [] m.segments) (is_sound m) segments
-    (and_both (a && b && c) (is_start m.commons m.start) (and_both (a && b) c (and_both a b commons publics) contents) start)
+    and_from (each_after (is_new_entry m.commons) [] m.segments) (is_sound m) segments
+    (and_from (a && b && c) (is_start m.commons m.start) (and_from (a && b) c (and_from a b commons publics) contents) start)
 
 pub keeps : (bytes : List ℕ) (after : ℕ) (r : ModuleRecords) → SpellsModuleRecords bytes after r → use_fault r ≡ None → IsTrue (keeps_rules (parts_of r))
 keeps bytes after r s e =

@@ -1,5 +1,7 @@
 -- Marks of bytes.
 use Rattle.std.proofs.Common.{◌≡◌, ◌≢◌, ℕ, ◌+◌, ◌-◌, ◌<◌, ◌≤◌, Bool, true, false, ◌||◌, ◌&&◌, List, [], ◌∷◌, ◌++◌, length, refl, sym, ◌∙◌, ap, arith, inl, inr, get_or, set, get_or-set_other, get_or-set_same, subst}
+use Rattle.std.proofs.lemmas.Bool.{or_right}
+use Rattle.std.proofs.Math.Bool.{or-false}
 use Rattle.std.proofs.lemmas.List.{length-set}
 use Rattle.std.proofs.lemmas.Bool.Decides.{eqb_tells}
 use Rattle.std.specs.List.{list_any}
@@ -8,10 +10,6 @@ use Rattle.omf_module.specs.declared.fixup.Fixup.{Fixup}
 use Rattle.omf_module.specs.Contents.{is_taken, offsets_of}
 use Rattle.omf_module.specs.Marks.{AreMarks}
 
-or_false : (b : Bool) → (b || false) ≡ b
-or_false true = refl
-or_false false = refl
-
 or_join : (a b c d : Bool) → b ≡ (c || d) → (a || b) ≡ ((a || c) || d)
 or_join true b c d e = refl
 or_join false b c d e = e
@@ -19,13 +17,13 @@ or_join false b c d e = e
 or_regroup : (a b c : Bool) → ((a || b) || c) ≡ (a || (b || (c || false)))
 or_regroup true b c = refl
 or_regroup false true c = refl
-or_regroup false false c = sym (or_false c)
+or_regroup false false c = sym (or-false c)
 
 or_end : (a b : Bool) → (a || b) ≡ (a || (b || false))
-or_end a b = ap (λ x. a || x) (sym (or_false b))
+or_end a b = ap (λ x. a || x) (sym (or-false b))
 
 list_any-push : {A : Type 0} (test : A → Bool) (xs : List A) (y : A) → list_any test (xs ++ y ∷ []) ≡ (list_any test xs || test y)
-list_any-push test [] y = or_false (test y)
+list_any-push test [] y = or-false (test y)
 list_any-push test (x ∷ xs) y = or_join (test x) (list_any test (xs ++ y ∷ [])) (list_any test xs) (test y) (list_any-push test xs y)
 
 -- one more reference has its own bytes too
@@ -35,18 +33,6 @@ is_taken-push before f o = list_any-push (λ (g : Fixup). list_any (λ x. x == o
 abbrev with_byte : (ℕ → Bool) → ℕ → ℕ → Bool
 with_byte taken o x = taken x || (o == x)
 
-or_true : (a : Bool) → true ≡ (a || true)
-or_true true = refl
-or_true false = refl
-
-from_true : (a b : Bool) → b ≡ true → true ≡ (a || b)
-from_true true b e = refl
-from_true false b e = sym e
-
-from_false : (a b c : Bool) → c ≡ false → b ≡ a → b ≡ (a || c)
-from_false a b true c e = absurd cc
-from_false a b false c e = e ∙ sym (or_false a)
-
 pub marked_byte : (marks : List Bool) (first o : ℕ) (taken : ℕ → Bool) → first ≤ o → AreMarks marks first taken → AreMarks (set marks (o - first) true) first (with_byte taken o)
 marked_byte marks first o taken above told = record {
   at = λ place below.
@@ -55,12 +41,12 @@ marked_byte marks first o taken above told = record {
             let here : place ≡ o - first = omega (arith, is.1) in
             let within : o - first < length marks = omega (arith, length-set marks (o - first) true) in
             subst (λ p. get_or (set marks (o - first) true) p false ≡ with_byte taken o (first + place)) (sym here)
-            (get_or-set_same marks (o - first) true false within ∙ from_true (taken (first + place)) (o == (first + place)) is.0)
+            (get_or-set_same marks (o - first) true false within ∙ sym (or_right (taken (first + place)) (o == (first + place)) is.0))
         | inr other ↦
             let elsewhere : place ≢ o - first = λ e. other.1 (omega (arith, e)) in
             let inside : place < length marks = omega (arith, length-set marks (o - first) true) in
-            from_false (taken (first + place)) (get_or (set marks (o - first) true) place false) (o == (first + place)) other.0
-            (get_or-set_other marks (o - first) place true false elsewhere ∙ told.at place inside)
+            get_or-set_other marks (o - first) place true false elsewhere
+            ∙ (told.at place inside ∙ (sym (or-false (taken (first + place))) ∙ ap (λ b. taken (first + place) || b) (sym other.0)))
       ];
 }
 
@@ -73,7 +59,7 @@ free_byte marks first o taken above within told = told.at (o - first) within ∙
 -- a reference of one byte
 pub one_byte_free : (marks : List Bool) (first o : ℕ) (taken : ℕ → Bool) → first ≤ o → o - first < length marks → AreMarks marks first taken
     → not (get_or marks (o - first) false) ≡ not (taken o || false)
-one_byte_free marks first o taken above within told = ap not (free_byte marks first o taken above within told ∙ sym (or_false (taken o)))
+one_byte_free marks first o taken above within told = ap not (free_byte marks first o taken above within told ∙ sym (or-false (taken o)))
 
 pub one_byte_marked : (marks : List Bool) (before : List Fixup) (f : Fixup) (first : ℕ) → first ≤ f.offset → offsets_of f ≡ f.offset ∷ [] → AreMarks marks first (is_taken before)
     → AreMarks (set marks (f.offset - first) true) first (is_taken (before ++ f ∷ []))
@@ -85,7 +71,7 @@ one_byte_marked marks before f first above one told =
 -- a reference of two
 not_or : (a b : Bool) → (not a && not b) ≡ not (a || (b || false))
 not_or true b = refl
-not_or false b = ap not (sym (or_false b))
+not_or false b = ap not (sym (or-false b))
 
 pub two_bytes_free : (marks : List Bool) (first o : ℕ) (taken : ℕ → Bool) → first ≤ o → o + 1 - first < length marks → AreMarks marks first taken
     → (not (get_or marks (o - first) false) && not (get_or (set marks (o - first) true) (o - first + 1) false)) ≡ not (taken o || (taken (o + 1) || false))

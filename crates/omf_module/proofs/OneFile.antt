@@ -9,7 +9,7 @@ use Rattle.omf_module.specs.Records.{SpellsBody}
 use Rattle.omf_module.specs.Uses.{fault_by}
 use Rattle.omf_module.specs.Spelled.{SpellsModule, FaultsModule, SpellsModules, EndsFile, SpellsFile, FaultsFile, first_module, later_module, no_end}
 use Rattle.omf_module.specs.ReadingLaws.{OneFile, OneFileFault, NeverBothFile}
-use Rattle.omf_module.proofs.OneReading.{Below, past_spelled, past_within}
+use Rattle.omf_module.proofs.OneReading.{Below, past_spelled, past_within, left_same, left_right}
 use Rattle.omf_module.proofs.OneModule.{one_module, one_fault, never_both}
 
 -- how a file goes on after its modules, of which there are none where `first` holds: it ends, or has a fault
@@ -93,25 +93,13 @@ fault_run bytes f (no_end at ms some s past) = record { modules = ms; run = from
 pub one_file : Below → OneFile
 one_file b bytes ms ns s t = (one_run b bytes true 0 ms ns (inr tt) (inr tt) (file_run bytes ms s) (file_run bytes ns t)).modules
 
-left_same : (o : Out) (x y : ModuleFault) → o ≡ inl x → o ≡ inl y → x ≡ y
-left_same o x y e f = ap (value x) (sym e ∙ f)
-  where
-    value : ModuleFault → Out → ModuleFault
-    value d (inl f) = f
-    value d (inr v) = d
-
-left_right : (o : Out) (a : ModuleFault) → o ≡ inl a → o ≡ inr tt → ⊥
-left_right o a e f = absurd cc
-
 pub one_file_fault : Below → OneFileFault
 one_file_fault b bytes f g x y =
     let r = fault_run bytes f x in
     let s = fault_run bytes g y in
-    let o : Out = inl f in
-    left_same o f g refl (one_run b bytes true 0 r.modules s.modules (inl f) (inl g) r.run s.run).out
+    left_same (inl f) f g refl (one_run b bytes true 0 r.modules s.modules (inl f) (inl g) r.run s.run).out
 
 pub never_both_file : Below → NeverBothFile
 never_both_file b bytes ms f s x =
     let r = fault_run bytes f x in
-    let o : Out = inl f in
-    left_right o f refl (one_run b bytes true 0 r.modules ms (inl f) (inr tt) r.run (file_run bytes ms s)).out
+    left_right (inl f) f tt refl (one_run b bytes true 0 r.modules ms (inl f) (inr tt) r.run (file_run bytes ms s)).out

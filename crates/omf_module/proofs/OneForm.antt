@@ -1,34 +1,26 @@
 -- The one form of the segments of a module has the segments that were listed, and is its own one form.
-use Rattle.std.proofs.Common.{◌≡◌, ℕ, zero, suc, ◌+◌, ◌<◌, ◌≤◌, Bool, true, false, ◌||◌, ◌&&◌, List, [], ◌∷◌, ◌++◌, length, Option, Some, None, ◌⊎◌, refl, sym, ◌∙◌, ap, arith, inl, inr, subst, IsTrue}
-use Rattle.std.proofs.lemmas.Bool.{and_parts, leb-true, ltb-false, eqb-true}
+use Rattle.std.proofs.Common.{◌≡◌, ℕ, zero, suc, ◌+◌, ◌<◌, ◌≤◌, Bool, true, false, ◌||◌, ◌&&◌, List, [], ◌∷◌, ◌++◌, length, Option, Some, None, refl, sym, ◌∙◌, ap, arith, inl, inr, subst, IsTrue}
+use Rattle.std.proofs.lemmas.Bool.{and_parts, and_from, or_parts, or_cases, or_right, leb-true, ltb-false, eqb-true}
 use Rattle.std.proofs.lemmas.Bool.Decides.{eqb_tells}
-use Rattle.std.specs.Cmp.Lexicographic.{pointwise}
 use Rattle.std.specs.List.{list_any, list_all, range_with_len, cons_option, find}
 use Rattle.std.specs.Option.{option_map_or}
-use Rattle.std.specs.Prelude.{not, ◌==◌, nat_eq, nat_le, nat_lt, if◌then◌else◌}
+use Rattle.std.specs.Prelude.{not, ◌==◌, nat_le, nat_lt, if◌then◌else◌}
 use Rattle.omf_module.specs.declared.segment.Segment.{Segment}
 use Rattle.omf_module.specs.declared.symbols.Common.{Common}
-use Rattle.omf_module.specs.Segments.{empty_segment, segment_in, entries_for, listed_ids, in_one_form, names_common, has_segment, is_used, is_common_id, is_fixed_id}
+use Rattle.omf_module.specs.Segments.{empty_segment, segment_in, entries_for, listed_ids, in_one_form, names_common, has_segment, is_used, is_fixed_id}
 use Rattle.omf_module.specs.Contents.{ContentValue}
 use Rattle.omf_module.specs.Modules.{ModuleValue, made_of, segment_of}
 use Rattle.omf_module.specs.Rules.{each_after, is_new_entry, is_new_common, end_of, is_placed, is_content, is_fitting, is_start, is_sound, keeps_rules, has_names, IsModule}
+use Rattle.omf_module.proofs.RuleLemmas.{sound_parts, placed_parts, new_common}
 
 abbrev segment_by : ℕ → Bool → Segment
 segment_by length paged = record { length = length; paged = paged }
 
-or_left : (a b : Bool) → (a || b) ≡ false → a ≡ false
-or_left true b e = absurd cc
-or_left false b e = refl
-
-or_right : (a b : Bool) → (a || b) ≡ false → b ≡ false
-or_right true b e = absurd cc
-or_right false b e = e
-
 -- a segment that is not used is the empty one
 unused : (s : Segment) → is_used s ≡ false → s ≡ empty_segment
 unused s off =
-    let none : s.length ≡ 0 = omega (arith, ltb-false 0 s.length (or_left (nat_lt 0 s.length) s.paged off)) in
-    ap (λ n. segment_by n s.paged) none ∙ ap (segment_by 0) (or_right (nat_lt 0 s.length) s.paged off)
+    let none : s.length ≡ 0 = omega (arith, ltb-false 0 s.length (or_parts (nat_lt 0 s.length) s.paged off).0) in
+    ap (λ n. segment_by n s.paged) none ∙ ap (segment_by 0) (or_parts (nat_lt 0 s.length) s.paged off).1
 
 -- the segment of a listed id, or none
 abbrev chosen : Bool → Segment → Segment
@@ -63,7 +55,7 @@ segment_in-entries_for e c id (i ∷ is) =
     at_head (names_common c i || is_used (segment_in e i)) (i == id) (list_any (λ j. j == id) is) i id (segment_in e i) (segment_in e id) (entries_for e c is)
     refl
     (λ here. same_by_test (segment_in e) i id here)
-    (λ here off. unused (segment_in e id) (sym (ap is_used (same_by_test (segment_in e) i id here)) ∙ or_right (names_common c i) (is_used (segment_in e i)) off))
+    (λ here off. unused (segment_in e id) (sym (ap is_used (same_by_test (segment_in e) i id here)) ∙ (or_parts (names_common c i) (is_used (segment_in e i)) off).1))
     (segment_in-entries_for e c id is)
 
 range_has : (id a n : ℕ) → a ≤ id → id < a + n → list_any (λ i. i == id) (range_with_len a n) ≡ true
@@ -120,17 +112,9 @@ used_exists c (x ∷ xs) id all used =
       | inr off ↦ used_exists c xs id parts.1 (subst (λ (b : Bool). is_used (option_map_or (λ (d : ℕ × Segment). d.1) (if b then Some x else find (λ (d : ℕ × Segment). d.0 == id) xs) empty_segment) ≡ true) off.0 used)
     ]
 
-or_true : (a b : Bool) → b ≡ true → (a || b) ≡ true
-or_true true b e = refl
-or_true false b e = e
-
 all_cons : (p : ℕ × Segment → Bool) (b : Bool) (x : ℕ × Segment) (rest : List (ℕ × Segment)) → (b ≡ true → p x ≡ true) → list_all p rest ≡ true → list_all p (cons_option (if b then Some x else None) rest) ≡ true
 all_cons p true x rest one others = rw (one refl) others
 all_cons p false x rest one others = others
-
-or_cases : (a b : Bool) → (a || b) ≡ true → (a ≡ true) ⊎ (b ≡ true)
-or_cases true b e = inl refl
-or_cases false b e = inr e
 
 listed_exists : (c : List Common) (e : List (ℕ × Segment)) (ids : List ℕ) → list_all (λ d. has_segment c d.0) e ≡ true → list_all (λ d. has_segment c d.0) (entries_for e c ids) ≡ true
 unfolding entries_for
@@ -138,7 +122,7 @@ listed_exists c e [] all = refl
 listed_exists c e (i ∷ is) all =
     all_cons (λ d. has_segment c d.0) (names_common c i || is_used (segment_in e i)) (i, segment_in e i) (entries_for e c is)
     (λ listed. elim (or_cases (names_common c i) (is_used (segment_in e i)) listed) [
-      | inl named ↦ or_true (is_fixed_id i) (names_common c i) named
+      | inl named ↦ or_right (is_fixed_id i) (names_common c i) named
       | inr used ↦ used_exists c e i all used
     ])
     (listed_exists c e is all)
@@ -146,12 +130,7 @@ listed_exists c e (i ∷ is) all =
 -- ---- the rules stay
 
 id_below : (before : List Common) (x : Common) (id : ℕ) → is_new_common before x ≡ true → x.id ≡ id → id < 256
-id_below before x id ok is =
-    let ids = and_parts (is_common_id x.id && not (list_any (λ d. d.id == x.id) before)) (not (list_any (λ d. pointwise nat_eq d.name x.name) before)) ok in
-    let one = and_parts (is_common_id x.id) (not (list_any (λ d. d.id == x.id) before)) ids.0 in
-    let range = and_parts (nat_le 6 x.id) (nat_le x.id 254) one.0 in
-    let top = leb-true x.id 254 range.1 in
-    omega arith
+id_below before x id ok is = omega (arith, leb-true x.id 254 (and_parts (nat_le 6 x.id) (nat_le x.id 254) (new_common before x ok).id).1)
 
 common_below : (before c : List Common) (id : ℕ) → each_after is_new_common before c ≡ true → names_common c id ≡ true → id < 256
 common_below before [] id all named = absurd cc
@@ -198,10 +177,7 @@ placed_by has stack x end = has && not stack && nat_le (x.offset + length x.byte
 
 is_placed-one_form : (e : List (ℕ × Segment)) (c : List Common) (x : ContentValue) → each_after is_new_common [] c ≡ true → is_placed e c x ≡ true → is_placed (in_one_form e c) c x ≡ true
 is_placed-one_form e c x commons placed =
-    let a = and_parts (has_segment c x.segment && not (x.segment == 3) && nat_le (x.offset + length x.bytes) (end_of e x.segment)) (nat_le (length x.bytes) 65531) placed in
-    let b = and_parts (has_segment c x.segment && not (x.segment == 3)) (nat_le (x.offset + length x.bytes) (end_of e x.segment)) a.0 in
-    let d = and_parts (has_segment c x.segment) (not (x.segment == 3)) b.0 in
-    ap (placed_by (has_segment c x.segment) (x.segment == 3) x) (end_of-one_form e c x.segment (has_segment_below c x.segment commons d.0)) ∙ placed
+    ap (placed_by (has_segment c x.segment) (x.segment == 3) x) (end_of-one_form e c x.segment (has_segment_below c x.segment commons (placed_parts e c x placed).has)) ∙ placed
 
 contents-one_form : (e : List (ℕ × Segment)) (c : List Common) (externals : ℕ) (xs : List ContentValue) → each_after is_new_common [] c ≡ true
     → list_all (is_content e c externals) xs ≡ true → list_all (is_content (in_one_form e c) c externals) xs ≡ true
@@ -211,21 +187,16 @@ contents-one_form e c externals (x ∷ xs) commons all =
     let one = and_parts (is_placed e c x) (each_after (is_fitting c externals x.offset (length x.bytes)) [] x.fixups) parts.0 in
     rw (is_placed-one_form e c x commons one.0, one.1) (contents-one_form e c externals xs commons parts.1)
 
-and_join : (a b : Bool) → a ≡ true → b ≡ true → (a && b) ≡ true
-and_join true b e f = f
-and_join false b e f = absurd cc
-
 pub made_is_module : (p : ModuleValue) → IsTrue (keeps_rules p) → IsTrue (has_names p) → IsModule (made_of p)
 made_is_module p kept names =
     let parts = and_parts (each_after (is_new_entry p.commons) [] p.segments) (is_sound p) kept in
-    let c = and_parts (each_after is_new_common [] p.commons && list_all (λ q. has_segment p.commons q.segment) p.publics && list_all (is_content p.segments p.commons (length p.externals)) p.contents) (is_start p.commons p.start) parts.1 in
-    let b = and_parts (each_after is_new_common [] p.commons && list_all (λ q. has_segment p.commons q.segment) p.publics) (list_all (is_content p.segments p.commons (length p.externals)) p.contents) c.0 in
-    let a = and_parts (each_after is_new_common [] p.commons) (list_all (λ q. has_segment p.commons q.segment) p.publics) b.0 in
+    let r = sound_parts p parts.1 in
+    let a : Bool = each_after is_new_common [] p.commons in
+    let b : Bool = list_all (λ q. has_segment p.commons q.segment) p.publics in
+    let c : Bool = list_all (is_content (in_one_form p.segments p.commons) p.commons (length p.externals)) p.contents in
     record {
-      sound =
-          and_join (each_after is_new_common [] p.commons && list_all (λ q. has_segment p.commons q.segment) p.publics && list_all (is_content (in_one_form p.segments p.commons) p.commons (length p.externals)) p.contents) (is_start p.commons p.start)
-          (and_join (each_after is_new_common [] p.commons && list_all (λ q. has_segment p.commons q.segment) p.publics) (list_all (is_content (in_one_form p.segments p.commons) p.commons (length p.externals)) p.contents) b.0
-          (contents-one_form p.segments p.commons (length p.externals) p.contents a.0 b.1)) c.1;
+      sound = and_from (a && b && c) (is_start p.commons p.start)
+          (and_from (a && b) c (and_from a b r.commons r.publics) (contents-one_form p.segments p.commons (length p.externals) p.contents r.commons r.contents)) r.start;
       own = listed_exists p.commons p.segments listed_ids (entries_exist p.commons [] p.segments parts.0);
       one_form = one_form_twice p.segments p.commons;
       names = names;

@@ -16,7 +16,7 @@ use Rattle.omf_module.specs.Gathered.{parts_of}
 use Rattle.omf_module.specs.Uses.{fault_by, use_fault}
 use Rattle.omf_module.specs.Spelled.{FaultsWithin, FaultsRecords, in_header, in_records, in_uses}
 use Rattle.omf_module.specs.ReadingLaws.{OneModule, OneFault, NeverBoth}
-use Rattle.omf_module.proofs.OneReading.{Below, same_body, header_sound, one_header_fault, one_within, within_sound, some_none, some_same}
+use Rattle.omf_module.proofs.OneReading.{Below, same_body, header_sound, one_header_fault, one_within, within_sound, some_none, some_same, left_same, left_right}
 
 -- ---- records
 
@@ -46,18 +46,10 @@ to_run bytes commons from to (p ∷ ps) out s f t =
     )
 
 end_same : (x y : EndBody) → ModuleEnd x ≡ ModuleEnd y → x ≡ y
-end_same x y e = ap (value x) e
-  where
-    value : EndBody → Body → EndBody
-    value d (ModuleEnd b) = b
-    value d _ = d
+end_same x y e = cc
 
 header_same : (x y : HeaderBody) → ModuleHeader x ≡ ModuleHeader y → x ≡ y
-header_same x y e = ap (value x) e
-  where
-    value : HeaderBody → Body → HeaderBody
-    value d (ModuleHeader b) = b
-    value d _ = d
+header_same x y e = cc
 
 end_follows : (commons : List Common) (x : EndBody) (b : Body) → ModuleEnd x ≡ b → IsTrue (may_follow commons b) → ⊥
 end_follows commons x b e f = bad (subst (λ (y : Body). IsTrue (may_follow commons y)) (sym e) f)
@@ -109,22 +101,8 @@ fault_run bytes first f s = to_run bytes [] first s.here s.before (inl f) s.spel
 abbrev Out : Type 0
 Out = ModuleFault ⊎ (ℕ × EndBody × ℕ)
 
-left_right : (o : Out) (a : ModuleFault) (b : ℕ × EndBody × ℕ) → o ≡ inl a → o ≡ inr b → ⊥
-left_right o a b e f = absurd cc
-
-left_same : (o : Out) (x y : ModuleFault) → o ≡ inl x → o ≡ inl y → x ≡ y
-left_same o x y e f = ap (value x) (sym e ∙ f)
-  where
-    value : ModuleFault → Out → ModuleFault
-    value d (inl f) = f
-    value d (inr v) = d
-
 right_same : (o : Out) (x y : ℕ × EndBody × ℕ) → o ≡ inr x → o ≡ inr y → x ≡ y
-right_same o x y e f = ap (value x) (sym e ∙ f)
-  where
-    value : ℕ × EndBody × ℕ → Out → ℕ × EndBody × ℕ
-    value d (inl f) = d
-    value d (inr v) = v
+right_same o x y e f = cc
 
 record SameRecords (after after' : ℕ) (r s : ModuleRecords) : Type 0 where
   records : r ≡ s
@@ -135,8 +113,7 @@ same_records b bytes after after' r s at x y =
     let head = same_body b bytes s.at x.first y.first (ModuleHeader r.header) (ModuleHeader s.header) (subst (λ (a : ℕ). SpellsBody bytes a x.first (ModuleHeader r.header)) at x.header) y.header in
     let run = one_run b bytes [] y.first r.within s.within (inr (r.end_at, r.end, after)) (inr (s.end_at, s.end, after'))
     (subst (λ (f : ℕ). Run bytes [] f r.within (inr (r.end_at, r.end, after))) head.1 (module_run bytes after r x)) (module_run bytes after' s y) in
-    let o : Out = inr (r.end_at, r.end, after) in
-    let ends = right_same o (r.end_at, r.end, after) (s.end_at, s.end, after') refl run.out in
+    let ends = right_same (inr (r.end_at, r.end, after)) (r.end_at, r.end, after) (s.end_at, s.end, after') refl run.out in
     record {
       records =
           ap (λ (a : ℕ). by_parts a r.header r.within r.end_at r.end) at
@@ -160,16 +137,14 @@ ends_once b bytes after first r h f x head y =
     let same = same_body b bytes r.at x.first first (ModuleHeader r.header) (ModuleHeader h) x.header head in
     let run = one_run b bytes [] first r.within y.before (inr (r.end_at, r.end, after)) (inl f)
     (subst (λ (n : ℕ). Run bytes [] n r.within (inr (r.end_at, r.end, after))) same.1 (module_run bytes after r x)) (fault_run bytes first f y) in
-    let o : Out = inl f in
-    left_right o f (r.end_at, r.end, after) refl (sym run.out)
+    left_right (inl f) f (r.end_at, r.end, after) refl (sym run.out)
 
 faults_once : Below → (bytes : List ℕ) (at first first' : ℕ) (h h' : HeaderBody) (f g : ModuleFault)
     → SpellsBody bytes at first (ModuleHeader h) → FaultsRecords bytes first f → SpellsBody bytes at first' (ModuleHeader h') → FaultsRecords bytes first' g → f ≡ g
 faults_once b bytes at first first' h h' f g hx x hy y =
     let same = same_body b bytes at first first' (ModuleHeader h) (ModuleHeader h') hx hy in
     let run = one_run b bytes [] first' x.before y.before (inl f) (inl g) (subst (λ (n : ℕ). Run bytes [] n x.before (inl f)) same.1 (fault_run bytes first f x)) (fault_run bytes first' g y) in
-    let o : Out = inl f in
-    left_same o f g refl run.out
+    left_same (inl f) f g refl run.out
 
 header_at : (bytes : List ℕ) (at : ℕ) (after : ℕ) (r : ModuleRecords) (s : SpellsModuleRecords bytes after r) → r.at ≡ at → SpellsBody bytes at s.first (ModuleHeader r.header)
 header_at bytes at after r s e = subst (λ (a : ℕ). SpellsBody bytes a s.first (ModuleHeader r.header)) e s.header

@@ -2,7 +2,7 @@
 use Rattle.std.proofs.Common.{◌≡◌, ◌⊎◌, inl, inr, ℕ, ◌<◌, ◌≤◌, Bool, true, false, ◌&&◌, Option, Some, None, List, [], ◌∷◌, ◌++◌, length, map, drop, Result, Ok, Err, refl, sym, ap, subst, ◌∙◌, arith, IsTrue}
 use Rattle.std.specs.Prelude.{not, ◌==◌, if◌then◌else◌}
 use Rattle.std.specs.List.{flat_map, list_all}
-use Rattle.std.proofs.lemmas.Bool.{and_parts}
+use Rattle.std.proofs.lemmas.Bool.{and_parts, and_from, not-true, cond-true, cond-false}
 use Rattle.omf_core.specs.declared.fault.RecordFault.{RecordFault}
 use Rattle.omf_core.specs.Kind.{kind_byte}
 use Rattle.omf_core.specs.Name.{is_name, name_spelling}
@@ -13,7 +13,7 @@ use Rattle.omf_body.specs.declared.fault.FieldFault.{FieldFault}
 use Rattle.omf_body.specs.declared.fault.FieldFault.TheVariants.{BadBody as BadField}
 use Rattle.omf_body.specs.declared.fault.BodyFault.{BodyFault}
 use Rattle.omf_body.specs.declared.body.Body.{Body}
-use Rattle.omf_body.specs.declared.body.Body.TheVariants.{ModuleHeader, ModuleEnd, Content, LineNumbers, EndOfFile, Ancestor, LocalSymbols, PublicDeclarations, ExternalNames, ExternalReferences, Relocation, IntersegmentReferences, NamedCommons}
+use Rattle.omf_body.specs.declared.body.Body.TheVariants.{ModuleHeader, EndOfFile, NamedCommons}
 use Rattle.omf_body.specs.Fields.{◌>>=◌, read_name}
 use Rattle.omf_body.specs.FieldsAgain.{name_again}
 use Rattle.omf_body.specs.Entries.{is_common_id, common_bytes, common_layout}
@@ -23,11 +23,13 @@ use Rattle.omf_body.specs.Laws.{OneBody, OneFault as OneBodyFault, NeverBoth as 
 use Rattle.omf_module.specs.declared.fault.Cause.{Cause}
 use Rattle.omf_module.specs.declared.fault.Cause.TheVariants.{Record, UnknownKind, NoEnd}
 use Rattle.omf_module.specs.declared.symbols.Common.{Common}
-use Rattle.omf_module.specs.Rules.{each_after, is_new_common}
+use Rattle.omf_module.specs.Rules.{each_after, has_name, is_new_common}
+use Rattle.omf_module.specs.Segments.{names_common}
 use Rattle.omf_module.specs.Records.{SpellsBody, may_follow}
-use Rattle.omf_module.specs.Spelled.{cause_of, no_header_byte, no_header_record, other_kind, in_header_body, has_id, has_name, read_new_common, FaultsCommons, here, later, commons_cause, FaultsWithin, no_byte, no_record, file_ends, second_header, in_body, in_commons}
+use Rattle.omf_module.specs.Spelled.{cause_of, no_header_byte, no_header_record, other_kind, in_header_body, read_new_common, FaultsCommons, here, later, commons_cause, FaultsWithin, no_byte, no_record, file_ends, second_header, in_body, in_commons}
 use Rattle.omf_module.specs.Reading.{common_of, is_end}
 use Rattle.omf_module.specs.ReadingLaws.{OneHeaderFault, SoundHeader}
+use Rattle.omf_module.proofs.RuleLemmas.{new_common}
 
 -- what holds of records and bodies
 pub record Below : Type 0 where
@@ -68,11 +70,7 @@ header_sound b bytes at next header why s (in_header_body n body fault r e) =
     b.never_both 2 body (ModuleHeader header) fault (record { of_kind = refl; joined = same.1; sound = s.sound }) e
 
 pub some_same : {A : Type 0} (o : Option A) (x y : A) → o ≡ Some x → o ≡ Some y → x ≡ y
-some_same {A} o x y e f = ap (value x) (sym e ∙ f)
-  where
-    value : {A : Type 0} → A → Option A → A
-    value d (Some a) = a
-    value d None = d
+some_same {A} o x y e f = cc
 
 pub one_header_fault : Below → OneHeaderFault
 one_header_fault b bytes at why why' (no_header_byte p) (no_header_byte q) = refl
@@ -96,22 +94,14 @@ one_header_fault b bytes at why why' (in_header_body n body f r e) (in_header_bo
 
 -- ---- commons
 
-ok_err : {A E : Type 0} (r : Result A E) (x : A) (e : E) → r ≡ Ok x → r ≡ Err e → ⊥
+pub ok_err : {A E : Type 0} (r : Result A E) (x : A) (e : E) → r ≡ Ok x → r ≡ Err e → ⊥
 ok_err {A} {E} r x e p q = absurd cc
 
 pub err_same : {A E : Type 0} (r : Result A E) (e f : E) → r ≡ Err e → r ≡ Err f → e ≡ f
-err_same {A} {E} r e f p q = ap (fault e) (sym p ∙ q)
-  where
-    fault : {A E : Type 0} → E → Result A E → E
-    fault d (Ok a) = d
-    fault d (Err x) = x
+err_same {A} {E} r e f p q = cc
 
 pub ok_same : {A E : Type 0} (r : Result A E) (x y : A) → r ≡ Ok x → r ≡ Ok y → x ≡ y
-ok_same {A} {E} r x y p q = ap (value x) (sym p ∙ q)
-  where
-    value : {A E : Type 0} → A → Result A E → A
-    value d (Ok a) = a
-    value d (Err e) = d
+ok_same {A} {E} r x y p q = cc
 
 pub one_commons : (before : List Common) (bytes : List ℕ) (f g : FieldFault) → FaultsCommons before bytes f → FaultsCommons before bytes g → f ≡ g
 one_commons before bytes f g (here _ _ _ some e) (here _ _ _ some' d) = err_same (read_new_common before bytes) f g e d
@@ -122,25 +112,17 @@ one_commons before bytes f g (later _ c _ rest _ d more) (later _ c' _ rest' _ d
     one_commons (before ++ c' ∷ []) rest' f g
     (subst (λ (p : Common × List ℕ). FaultsCommons (before ++ p.0 ∷ []) p.1 f) same more) more'
 
-chosen : {A : Type 0} (test : Bool) (x y : A) → test ≡ true → (if test then x else y) ≡ x
-chosen true x y e = refl
-chosen false x y e = absurd cc
-
-unchosen : {A : Type 0} (test : Bool) (x y : A) → not test ≡ true → (if test then x else y) ≡ y
-unchosen true x y e = absurd cc
-unchosen false x y e = refl
-
 -- a common that is new is read
 read_new : (before : List Common) (e : CommonEntry) (rest : List ℕ) → IsTrue (is_common_id e.id && is_name e.name) → IsTrue (is_new_common before (common_of e))
     → read_new_common before (common_bytes e ++ rest) ≡ Ok (common_of e, rest)
 read_new before e rest sound new =
     let s = and_parts (is_common_id e.id) (is_name e.name) sound in
-    let n = and_parts (is_common_id e.id && not (has_id before e.id)) (not (has_name before e.name)) new in
-    chosen (is_common_id e.id && not (has_id before e.id))
+    let n = new_common before (common_of e) new in
+    cond-true (is_common_id e.id && not (names_common before e.id))
     (read_name (name_spelling e.name ++ rest) >>= λ name. if has_name before name.0 then Err BadField else Ok (record { id = e.id; name = name.0 }, name.1))
-    (Err BadField) n.0
+    (Err BadField) (and_from (is_common_id e.id) (not (names_common before e.id)) n.id n.new_id)
     ∙ (ap (λ (r : Result (List ℕ × List ℕ) FieldFault). r >>= λ name. if has_name before name.0 then Err BadField else Ok (record { id = e.id; name = name.0 }, name.1)) (name_again e.name rest s.1)
-    ∙ unchosen (has_name before e.name) (Err BadField) (Ok (common_of e, rest)) n.1)
+    ∙ cond-false (has_name before e.name) (Err BadField) (Ok (common_of e, rest)) (not-true (has_name before e.name) n.new_name))
 
 pub commons_sound : (before : List Common) (bytes : List ℕ) (f : FieldFault) → FaultsCommons before bytes f → (es : List CommonEntry)
     → bytes ≡ flat_map common_bytes es → IsTrue (list_all common_layout.is_sound es) → IsTrue (each_after is_new_common before (map common_of es)) → ⊥
@@ -241,20 +223,11 @@ stands_sound : Below → (commons : List Common) (x : Body) (why : Cause) → Is
     → RecordFaulted commons (kind_byte (body_kind x)) (body_bytes x) why → ⊥
 stands_sound b commons (ModuleHeader x) why sound (inl e) f = absurd cc
 stands_sound b commons (ModuleHeader x) why sound (inr e) f = absurd cc
-stands_sound b commons (ModuleEnd x) why sound s f = b.never_both 0x04 (body_bytes (ModuleEnd x)) (ModuleEnd x) f.fault (record { of_kind = refl; joined = refl; sound = sound }) f.faults
-stands_sound b commons (Content x) why sound s f = b.never_both 0x06 (body_bytes (Content x)) (Content x) f.fault (record { of_kind = refl; joined = refl; sound = sound }) f.faults
-stands_sound b commons (LineNumbers x) why sound s f = b.never_both 0x08 x (LineNumbers x) f.fault (record { of_kind = refl; joined = refl; sound = sound }) f.faults
 stands_sound b commons (EndOfFile x) why sound (inl e) f = absurd cc
 stands_sound b commons (EndOfFile x) why sound (inr e) f = absurd cc
-stands_sound b commons (Ancestor x) why sound s f = b.never_both 0x10 x (Ancestor x) f.fault (record { of_kind = refl; joined = refl; sound = sound }) f.faults
-stands_sound b commons (LocalSymbols x) why sound s f = b.never_both 0x12 x (LocalSymbols x) f.fault (record { of_kind = refl; joined = refl; sound = sound }) f.faults
-stands_sound b commons (PublicDeclarations x) why sound s f = b.never_both 0x16 (body_bytes (PublicDeclarations x)) (PublicDeclarations x) f.fault (record { of_kind = refl; joined = refl; sound = sound }) f.faults
-stands_sound b commons (ExternalNames x) why sound s f = b.never_both 0x18 (body_bytes (ExternalNames x)) (ExternalNames x) f.fault (record { of_kind = refl; joined = refl; sound = sound }) f.faults
-stands_sound b commons (ExternalReferences x) why sound s f = b.never_both 0x20 (body_bytes (ExternalReferences x)) (ExternalReferences x) f.fault (record { of_kind = refl; joined = refl; sound = sound }) f.faults
-stands_sound b commons (Relocation x) why sound s f = b.never_both 0x22 (body_bytes (Relocation x)) (Relocation x) f.fault (record { of_kind = refl; joined = refl; sound = sound }) f.faults
-stands_sound b commons (IntersegmentReferences x) why sound s f = b.never_both 0x24 (body_bytes (IntersegmentReferences x)) (IntersegmentReferences x) f.fault (record { of_kind = refl; joined = refl; sound = sound }) f.faults
 stands_sound b commons (NamedCommons x) why sound (inl e) f = absurd cc
 stands_sound b commons (NamedCommons x) why sound (inr e) f = commons_sound commons (flat_map common_bytes x) f.fault f.faults x refl sound e
+stands_sound b commons x why sound s f = b.never_both (kind_byte (body_kind x)) (body_bytes x) x f.fault (record { of_kind = refl; joined = refl; sound = sound }) f.faults
 
 view_sound : Below → (bytes : List ℕ) (at next : ℕ) (commons : List Common) (x : Body) (why : Cause)
     → SpellsBody bytes at next x → (IsTrue (is_end x) ⊎ IsTrue (may_follow commons x)) → View bytes at commons why → ⊥
@@ -268,6 +241,12 @@ view_sound b bytes at next commons x why s may (stands n k body _ r e) =
 pub within_sound : Below → (bytes : List ℕ) (at next : ℕ) (commons : List Common) (x : Body) (why : Cause)
     → SpellsBody bytes at next x → (IsTrue (is_end x) ⊎ IsTrue (may_follow commons x)) → FaultsWithin bytes at commons why → ⊥
 within_sound b bytes at next commons x why s may f = view_sound b bytes at next commons x why s may (view bytes at commons why f)
+
+pub left_right : {A B : Type 0} (o : A ⊎ B) (a : A) (b : B) → o ≡ inl a → o ≡ inr b → ⊥
+left_right {A} {B} o a b e f = absurd cc
+
+pub left_same : {A B : Type 0} (o : A ⊎ B) (x y : A) → o ≡ inl x → o ≡ inl y → x ≡ y
+left_same {A} {B} o x y e f = cc
 
 pub of_laws : OneRecordAtEachPlace → NoFaultExactlyAtRecords → OneBody → OneBodyFault → NeverBothBody → Below
 of_laws r n o f b = record { one_record = r; no_fault = n; one_body = o; one_fault = f; never_both = b }

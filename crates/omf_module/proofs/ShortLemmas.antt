@@ -1,14 +1,14 @@
 -- Segments in their one form are few, and contents that keep the rules are short.
 use Rattle.std.proofs.Common.{◌≡◌, ℕ, ◌+◌, ◌≤◌, true, List, [], ◌∷◌, length, arith, Option, Some, None}
 use Rattle.std.specs.List.{cons_option, AllByRecursion, list_all}
-use Rattle.std.specs.Prelude.{not, ◌==◌, ◌&&◌, nat_le}
-use Rattle.std.proofs.lemmas.Bool.{and_parts, leb-true}
+use Rattle.std.proofs.lemmas.Bool.{and_parts}
 use Rattle.omf_module.specs.declared.segment.Segment.{Segment}
 use Rattle.omf_module.specs.declared.symbols.Common.{Common}
 use Rattle.omf_module.specs.Contents.{ContentValue}
-use Rattle.omf_module.specs.Segments.{has_segment, entry_for, entries_for, listed_ids, in_one_form}
+use Rattle.omf_module.specs.Segments.{entry_for, entries_for, listed_ids, in_one_form}
 use Rattle.omf_module.specs.Modules.{ModuleValue}
-use Rattle.omf_module.specs.Rules.{each_after, is_new_common, is_fitting, is_content, is_placed, is_start, end_of, IsModule}
+use Rattle.omf_module.specs.Rules.{is_content, is_placed, has_fitting, IsModule}
+use Rattle.omf_module.proofs.RuleLemmas.{sound_parts, placed_parts}
 
 length-cons_option : {A : Type 0} (o : Option A) (xs : List A) (n : ℕ) → length xs ≤ n → length (cons_option o xs) ≤ n + 1
 length-cons_option None xs n few = omega (arith, few)
@@ -31,12 +31,7 @@ pub contents_short : (s : List (ℕ × Segment)) (c : List Common) (externals : 
 contents_short s c externals [] all = tt
 contents_short s c externals (x ∷ xs) all =
     let parts = and_parts (is_content s c externals x) (list_all (is_content s c externals) xs) all in
-    let one = and_parts (is_placed s c x) (each_after (is_fitting c externals x.offset (length x.bytes)) [] x.fixups) parts.0 in
-    let short = and_parts (has_segment c x.segment && not (x.segment == 3) && nat_le (x.offset + length x.bytes) (end_of s x.segment)) (nat_le (length x.bytes) 65531) one.0 in
-    (leb-true (length x.bytes) 65531 short.1, contents_short s c externals xs parts.1)
+    ((placed_parts s c x (and_parts (is_placed s c x) (has_fitting c externals x) parts.0).0).short, contents_short s c externals xs parts.1)
 
 pub module_contents_short : (m : ModuleValue) → IsModule m → AllByRecursion (λ (x : ContentValue). length x.bytes ≤ 65531) m.contents
-module_contents_short m is =
-    let c = and_parts (each_after is_new_common [] m.commons && list_all (λ q. has_segment m.commons q.segment) m.publics && list_all (is_content m.segments m.commons (length m.externals)) m.contents) (is_start m.commons m.start) is.sound in
-    let b = and_parts (each_after is_new_common [] m.commons && list_all (λ q. has_segment m.commons q.segment) m.publics) (list_all (is_content m.segments m.commons (length m.externals)) m.contents) c.0 in
-    contents_short m.segments m.commons (length m.externals) m.contents b.1
+module_contents_short m is = contents_short m.segments m.commons (length m.externals) m.contents (sound_parts m is.sound).contents

@@ -11,7 +11,7 @@ use Rattle.omf_module.specs.Fault.{fault_of}
 use Rattle.omf_module.specs.Contents.{ContentValue}
 use Rattle.omf_module.specs.Modules.{ModuleValue}
 use Rattle.omf_module.specs.Segments.{has_segment}
-use Rattle.omf_module.specs.Gathered.{content_after, contents_from, is_content}
+use Rattle.omf_module.specs.Gathered.{content_after, contents_from, begins_content}
 use Rattle.omf_module.specs.Uses.{unknown_id, body_fault, bodies_fault, fault_by}
 use Rattle.omf_module.specs.Reading.{with_contents, TakesBody, OrNoMemory}
 use Rattle.omf_module.proofs.WithinLemmas.{by_cause}
@@ -56,7 +56,7 @@ pub one_looked_at : (parts : ModuleValue) (all : List PlacedBody) (p : PlacedBod
 one_looked_at parts all p ps nearest after old new s t = record {
   sound = λ cs. ap (λ (n : Option ContentValue). bodies_fault (with_contents parts cs) n ps) t.nearest ∙ (sym (fault_later (with_contents parts cs) nearest p ps (t.sound cs)) ∙ s.sound cs);
   contents =
-      let begun = if is_content p.body then option_to_list nearest else [] in
+      let begun = if begins_content p.body then option_to_list nearest else [] in
       ap (λ (n : Option ContentValue). new ++ contents_from n ps) t.nearest
       ∙ (ap (λ (w : List ContentValue). w ++ contents_from (content_after nearest p.body) ps) t.whole
       ∙ (append_assoc old begun (contents_from (content_after nearest p.body) ps) ∙ s.contents));

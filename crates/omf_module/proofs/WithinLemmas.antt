@@ -1,14 +1,14 @@
 -- Records of a module, one after another.
 use Rattle.std.proofs.Common.{◌≡◌, ◌≢◌, ◌⊎◌, inl, inr, ℕ, true, List, [], ◌∷◌, ◌++◌, refl, sym, ap, subst, ◌∙◌, append_assoc, IsTrue}
-use Rattle.std.proofs.lemmas.Bool.{and_parts}
+use Rattle.std.proofs.lemmas.Bool.{and_parts, and_from}
 use Rattle.std.proofs.lemmas.List.{append-nil}
 use Rattle.std.proofs.lemmas.Grind.{flat_map-append}
 use Rattle.omf_body.specs.declared.body.Body.{Body}
 use Rattle.omf_body.specs.declared.body.EndBody.{EndBody}
 use Rattle.omf_body.specs.declared.body.HeaderBody.{HeaderBody}
-use Rattle.omf_body.specs.declared.body.Body.TheVariants.{ModuleHeader, ModuleEnd, Content, LineNumbers, EndOfFile, Ancestor, LocalSymbols, PublicDeclarations, ExternalNames, ExternalReferences, Relocation, IntersegmentReferences, NamedCommons}
+use Rattle.omf_body.specs.declared.body.Body.TheVariants.{ModuleHeader, ModuleEnd}
 use Rattle.omf_module.specs.declared.fault.Cause.{Cause}
-use Rattle.omf_module.specs.declared.fault.Cause.TheVariants.{Record, NoHeader, UnknownKind, BadBody, BadName, SegmentUnknown, OffsetOutside, FixupBeforeContent, FixupOutside, FixupTwice, IndexUnknown, NoEnd, Memory}
+use Rattle.omf_module.specs.declared.fault.Cause.TheVariants.{Memory}
 use Rattle.omf_module.specs.declared.fault.ModuleFault.{ModuleFault}
 use Rattle.omf_module.specs.declared.records.PlacedBody.{PlacedBody}
 use Rattle.omf_module.specs.declared.symbols.Common.{Common}
@@ -17,7 +17,6 @@ use Rattle.omf_module.specs.Records.{SpellsBody, SpellsBodies, commons_in, commo
 use Rattle.omf_module.specs.Uses.{fault_by}
 use Rattle.omf_module.specs.Spelled.{FaultsWithin, FaultsRecords, FaultsModule, in_records}
 use Rattle.omf_module.specs.Reading.{Follows, is_end, OrNoMemory}
-use Rattle.omf_module.proofs.ListLemmas.{and_both}
 
 abbrev placed : ℕ → Body → PlacedBody
 placed at body = record { at = at; body = body }
@@ -27,10 +26,10 @@ spells_push bytes from to next [] b s one = (sym s, (next, subst (λ (f : ℕ). 
 spells_push bytes from to next (p ∷ ps) b s one = (s.0, (s.1.0, s.1.1, spells_push bytes s.1.0 to next ps b s.1.2 one))
 
 pub follows_push : (commons : List Common) (ps : List PlacedBody) (at : ℕ) (b : Body) → each_follows commons ps ≡ true → may_follow (commons ++ commons_of ps) b ≡ true → each_follows commons (ps ++ placed at b ∷ []) ≡ true
-follows_push commons [] at b all one = and_both (may_follow commons b) true (subst (λ (c : List Common). may_follow c b ≡ true) (append-nil commons) one) refl
+follows_push commons [] at b all one = and_from (may_follow commons b) true (subst (λ (c : List Common). may_follow c b ≡ true) (append-nil commons) one) refl
 follows_push commons (p ∷ ps) at b all one =
     let parts = and_parts (may_follow commons p.body) (each_follows (commons ++ commons_in p.body) ps) all in
-    and_both (may_follow commons p.body) (each_follows (commons ++ commons_in p.body) (ps ++ placed at b ∷ [])) parts.0
+    and_from (may_follow commons p.body) (each_follows (commons ++ commons_in p.body) (ps ++ placed at b ∷ [])) parts.0
     (follows_push (commons ++ commons_in p.body) ps at b parts.1 (subst (λ (c : List Common). may_follow c b ≡ true) (sym (append_assoc commons (commons_in p.body) (commons_of ps))) one))
 
 pub commons_push : (ps : List PlacedBody) (at : ℕ) (b : Body) → commons_of (ps ++ placed at b ∷ []) ≡ commons_of ps ++ commons_in b
@@ -59,19 +58,8 @@ one_within bytes first here next bodies commons after b s f other = record {
 
 -- a cause at its place, or out of memory
 pub by_cause : (P : ModuleFault → Type 0) (here : ℕ) (why : Cause) → (why ≢ Memory → P (fault_by here why)) → OrNoMemory P (fault_of here why)
-by_cause P here (Record f) is = inr (is (λ e. absurd cc))
-by_cause P here NoHeader is = inr (is (λ e. absurd cc))
-by_cause P here (UnknownKind k) is = inr (is (λ e. absurd cc))
-by_cause P here (BadBody k) is = inr (is (λ e. absurd cc))
-by_cause P here BadName is = inr (is (λ e. absurd cc))
-by_cause P here (SegmentUnknown i) is = inr (is (λ e. absurd cc))
-by_cause P here OffsetOutside is = inr (is (λ e. absurd cc))
-by_cause P here FixupBeforeContent is = inr (is (λ e. absurd cc))
-by_cause P here FixupOutside is = inr (is (λ e. absurd cc))
-by_cause P here FixupTwice is = inr (is (λ e. absurd cc))
-by_cause P here IndexUnknown is = inr (is (λ e. absurd cc))
-by_cause P here NoEnd is = inr (is (λ e. absurd cc))
 by_cause P here Memory is = inl refl
+by_cause P here _ is = inr (is (λ e. absurd cc))
 
 pub records_fault : (bytes : List ℕ) (first here : ℕ) (bodies : List PlacedBody) (commons : List Common) (why : Cause)
     → WithinSoFar bytes first here bodies commons → (why ≢ Memory → FaultsWithin bytes here commons why) → OrNoMemory (FaultsRecords bytes first) (fault_of here why)
@@ -87,19 +75,8 @@ records_fault bytes first here bodies commons why s f =
     })
 
 pub other_than_end : (b : Body) → ((end : EndBody) → b ≡ ModuleEnd end → ⊥) → is_end b ≢ true
-other_than_end (ModuleHeader b) other = λ e. absurd cc
 other_than_end (ModuleEnd b) other = absurd (other b refl)
-other_than_end (Content b) other = λ e. absurd cc
-other_than_end (LineNumbers b) other = λ e. absurd cc
-other_than_end (EndOfFile b) other = λ e. absurd cc
-other_than_end (Ancestor b) other = λ e. absurd cc
-other_than_end (LocalSymbols b) other = λ e. absurd cc
-other_than_end (PublicDeclarations b) other = λ e. absurd cc
-other_than_end (ExternalNames b) other = λ e. absurd cc
-other_than_end (ExternalReferences b) other = λ e. absurd cc
-other_than_end (Relocation b) other = λ e. absurd cc
-other_than_end (IntersegmentReferences b) other = λ e. absurd cc
-other_than_end (NamedCommons b) other = λ e. absurd cc
+other_than_end _ other = λ e. absurd cc
 
 -- what goes wrong after a header goes wrong in its module
 pub header_then : (bytes : List ℕ) (at first : ℕ) (header : HeaderBody) (fault : ModuleFault)

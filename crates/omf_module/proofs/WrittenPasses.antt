@@ -1,12 +1,11 @@
 -- What comes of the records that are written of a sound module: each can be written and is read again, may follow those before
 -- it, and uses nothing that isn't there; and they say what the module has.
 use Rattle.std.proofs.Common.{◌≡◌, ℕ, ◌+◌, Bool, true, false, ◌&&◌, List, [], ◌∷◌, ◌++◌, length, map, Option, Some, None, refl, sym, ap, ◌∙◌, subst, append_assoc, inl, inr}
-use Rattle.std.specs.Prelude.{not, ◌==◌, nat_eq, nat_le, nat_lt, if◌then◌else◌, option_map}
-use Rattle.std.specs.Cmp.Lexicographic.{pointwise}
+use Rattle.std.specs.Prelude.{not, ◌==◌, nat_lt, if◌then◌else◌, option_map}
 use Rattle.omf_core.specs.Name.{is_name}
-use Rattle.std.specs.List.{flat_map, list_all, list_any, AllByRecursion}
+use Rattle.std.specs.List.{flat_map, list_all, AllByRecursion}
 use Rattle.std.specs.Option.{option_or, option_to_list}
-use Rattle.std.proofs.lemmas.Bool.{and_parts, le-ltb, leb-true}
+use Rattle.std.proofs.lemmas.Bool.{and_parts, and_from, not-true, le-ltb}
 use Rattle.std.proofs.lemmas.Bool.Decides.{eqb_tells}
 use Rattle.std.proofs.lemmas.List.{append-nil}
 use Rattle.omf_body.specs.declared.field.Field.{Field}
@@ -21,15 +20,16 @@ use Rattle.omf_module.specs.declared.fixup.Fixup.{Fixup}
 use Rattle.omf_module.specs.declared.fixup.Target.{Target}
 use Rattle.omf_module.specs.declared.fixup.Target.TheVariants as target
 use Rattle.omf_module.specs.Contents.{ContentValue, is_inside, shares_a_byte}
-use Rattle.omf_module.specs.Segments.{has_segment, is_common_id}
+use Rattle.omf_module.specs.Segments.{has_segment}
 use Rattle.omf_module.specs.Modules.{ModuleValue}
-use Rattle.omf_module.specs.Rules.{each_after, is_new_common, is_fitting, has_target, end_of, lies_within, is_placed, has_fitting, is_content as is_sound_content}
+use Rattle.omf_module.specs.Rules.{each_after, is_new_common, is_fitting, has_target, end_of, is_placed, has_fitting, is_content}
 use Rattle.omf_module.specs.Records.{commons_in, may_follow, each_follows}
-use Rattle.omf_module.specs.Gathered.{publics_in, externals_in, with_fixups, content_after, is_content, contents_from}
+use Rattle.omf_module.specs.Gathered.{publics_in, externals_in, with_fixups, content_after, begins_content, contents_from}
 use Rattle.omf_module.specs.Uses.{unknown_id, place_fault, lacks_external, fixups_fault, reference_fault, body_fault, fault_by, bodies_fault}
 use Rattle.omf_module.specs.Writing.{common_body, public_body, external_body, fixup_by, fixup_body, content_body, content_bodies}
+use Rattle.omf_module.proofs.RuleLemmas.{PlacedParts, placed_parts, new_common}
 use Rattle.omf_module.proofs.WrittenSpelled.{Fits, placed_after}
-use Rattle.omf_module.proofs.WrittenSound.{and_join, chosen_by, common_fits, public_fits, external_fits, own_fits, other_fits, external_reference_fits, content_fits}
+use Rattle.omf_module.proofs.WrittenSound.{chosen_by, common_fits, public_fits, external_fits, own_fits, other_fits, external_reference_fits, content_fits}
 
 -- what records say in all
 pub record Said : Type 0 where
@@ -59,7 +59,7 @@ record Passed (m : ModuleValue) (known : List Common) (nearest : Option ContentV
   next : content_after nearest body ≡ after
 
 abbrev cut : Option ContentValue → Body → List ContentValue
-cut nearest body = if is_content body then option_to_list nearest else []
+cut nearest body = if begins_content body then option_to_list nearest else []
 
 joined : {A : Type 0} (a b c d : List A) → a ≡ b → c ≡ d → a ++ c ≡ b ++ d
 joined a b c d e f = ap (λ x. x ++ c) e ∙ ap (λ x. b ++ x) f
@@ -75,7 +75,7 @@ passes_more m known declared cs ps xs nearest after body bodies said declares on
       ∙ (ap (λ (c : Option ContentValue). bodies_fault m c rest) one.next ∙ others.used (before ++ record_bytes body));
   follow = λ before.
       let rest = placed_after (before ++ record_bytes body) bodies in
-      and_join (may_follow known body) (each_follows (known ++ commons_in body) rest) one.follow
+      and_from (may_follow known body) (each_follows (known ++ commons_in body) rest) one.follow
       (ap (λ (k : List Common). each_follows k rest) (ap (λ (k : List Common). known ++ k) one.commons ∙ declares) ∙ others.follow (before ++ record_bytes body));
   commons = λ before. joined (commons_in body) cs _ said.commons one.commons (others.commons (before ++ record_bytes body));
   publics = λ before. joined (publics_in body) ps _ said.publics one.publics (others.publics (before ++ record_bytes body));
@@ -88,11 +88,6 @@ passes_more m known declared cs ps xs nearest after body bodies said declares on
 
 -- ---- commons, publics and externals
 
-common_id : (before : List Common) (c : Common) → is_new_common before c ≡ true → is_common_id c.id ≡ true
-common_id before c new =
-    let p = and_parts (is_common_id c.id && not (list_any (λ d. d.id == c.id) before)) (not (list_any (λ d. pointwise nat_eq d.name c.name) before)) new in
-    (and_parts (is_common_id c.id) (not (list_any (λ d. d.id == c.id) before)) p.0).0
-
 pub commons_pass : (m : ModuleValue) (before cs : List Common) (bodies : List Body) (said : Said) → each_after is_new_common before cs ≡ true → list_all (λ c. is_name c.name) cs ≡ true
     → Passes m (before ++ cs) None bodies said → Passes m before None (map common_body cs ++ bodies) (record said { commons = cs ++ said.commons })
 commons_pass m before [] bodies said new names others = subst (λ (k : List Common). Passes m k None bodies said) (append-nil before) others
@@ -100,7 +95,7 @@ commons_pass m before (c ∷ cs) bodies said new names others =
     let p = and_parts (is_new_common before c) (each_after is_new_common (before ++ c ∷ []) cs) new in
     let n = and_parts (is_name c.name) (list_all (λ d. is_name d.name) cs) names in
     passes_more m before (before ++ c ∷ []) (c ∷ []) [] [] None None (common_body c) (map common_body cs ++ bodies) (record said { commons = cs ++ said.commons }) refl
-    record { fits = common_fits c (common_id before c p.0) n.0; used = refl; follow = and_join (is_new_common before c) true p.0 refl; commons = refl; publics = refl; externals = refl; next = refl }
+    record { fits = common_fits c ((new_common before c p.0).id) n.0; used = refl; follow = and_from (is_new_common before c) true p.0 refl; commons = refl; publics = refl; externals = refl; next = refl }
     (commons_pass m (before ++ c ∷ []) cs bodies said p.1 n.1 (subst (λ (k : List Common). Passes m k None bodies said) (sym (append_assoc before (c ∷ []) cs)) others))
 
 known : (m : ModuleValue) (id : ℕ) → has_segment m.commons id ≡ true → unknown_id m (id ∷ []) ≡ None
@@ -127,14 +122,6 @@ externals_pass m commons (x ∷ xs) bodies said names others =
 
 -- ---- a fixup
 
-off_by_not : (b : Bool) → not b ≡ true → b ≡ false
-off_by_not true e = absurd cc
-off_by_not false e = refl
-
-test_on : {A : Type 0} (b : Bool) (x y : A) → b ≡ true → (if b then x else y) ≡ x
-test_on true x y e = refl
-test_on false x y e = absurd cc
-
 test_off : {A : Type 0} (b : Bool) (x y : A) → b ≡ false → (if b then x else y) ≡ y
 test_off true x y e = absurd cc
 test_off false x y e = refl
@@ -152,7 +139,7 @@ fixup_used m c f fit =
     let twice = if shares_a_byte c.fixups f then Some FixupTwice else lacks in
     ap (λ (o : Option Cause). option_or o None)
     (test_off (not (is_inside c.offset (length c.bytes) f)) (Some FixupOutside) twice inside
-    ∙ (test_off (shares_a_byte c.fixups f) (Some FixupTwice) lacks (off_by_not (shares_a_byte c.fixups f) q.1)
+    ∙ (test_off (shares_a_byte c.fixups f) (Some FixupTwice) lacks (not-true (shares_a_byte c.fixups f) q.1)
     ∙ test_off (lacks_external m f.target) (Some IndexUnknown) None (lacks_none m f.target p.1)))
 
 abbrev fixup_at : Field → ℕ → Target → Fixup
@@ -161,7 +148,7 @@ fixup_at field offset to = record { offset = offset; field = field; target = to 
 -- what comes of a body that says one fixup in the nearest content
 record Fixed (m : ModuleValue) (commons : List Common) (c : ContentValue) (f : Fixup) (body : Body) : Type 0 where
   passed : Passed m commons (Some c) body [] [] [] (Some (with_fixups c (f ∷ [])))
-  none : is_content body ≡ false
+  none : begins_content body ≡ false
 
 abbrev own_reference : Field → ℕ → Body
 own_reference field offset = Relocation (record { field = field; references = record { offset = offset } ∷ [] })
@@ -235,26 +222,18 @@ fixups_pass m commons c (f ∷ fs) bodies said fit others =
     subst (λ (b : Bool). Passes m commons (Some c) (map (fixup_body c.segment) (f ∷ fs) ++ bodies) (record said { contents = (if b then c ∷ [] else []) ++ said.contents })) one.none
     (passes_more m commons commons [] [] [] (Some c) (Some (with_fixups c (f ∷ []))) (fixup_body c.segment f) (map (fixup_body c.segment) fs ++ bodies) said (append-nil commons) one.passed last)
 
-fits_within : (m : ModuleValue) (c : ContentValue) → lies_within m.segments m.commons c ≡ true → place_fault m (content_body c) ≡ None
-fits_within m c lies =
-    let b = and_parts (has_segment m.commons c.segment && not (c.segment == 3)) (nat_le (c.offset + length c.bytes) (end_of m.segments c.segment)) lies in
-    let d = and_parts (has_segment m.commons c.segment) (not (c.segment == 3)) b.0 in
-    let outside = if nat_lt (end_of m.segments c.segment) (c.offset + length c.bytes) then Some OffsetOutside else None in
-    test_off (c.segment == 3) (Some (SegmentUnknown 3)) outside (off_by_not (c.segment == 3) d.1)
-    ∙ test_off (nat_lt (end_of m.segments c.segment) (c.offset + length c.bytes)) (Some OffsetOutside) None
-    (le-ltb (end_of m.segments c.segment) (c.offset + length c.bytes) (leb-true (c.offset + length c.bytes) (end_of m.segments c.segment) b.1))
-
 refers_to_none : (m : ModuleValue) (nearest : Option ContentValue) (c : ContentValue) → reference_fault m nearest (content_body c) ≡ None
 refers_to_none m None c = refl
 refers_to_none m (Some d) c = refl
 
-content_used : (m : ModuleValue) (nearest : Option ContentValue) (c : ContentValue) → is_placed m.segments m.commons c ≡ true → body_fault m nearest (content_body c) ≡ None
-content_used m nearest c placed =
-    let a = and_parts (lies_within m.segments m.commons c) (nat_le (length c.bytes) 65531) placed in
-    let b = and_parts (has_segment m.commons c.segment && not (c.segment == 3)) (nat_le (c.offset + length c.bytes) (end_of m.segments c.segment)) a.0 in
-    let d = and_parts (has_segment m.commons c.segment) (not (c.segment == 3)) b.0 in
-    ap (λ (o : Option Cause). option_or o (option_or (place_fault m (content_body c)) (reference_fault m nearest (content_body c)))) (known m c.segment d.0)
-    ∙ (ap (λ (o : Option Cause). option_or o (reference_fault m nearest (content_body c))) (fits_within m c a.0) ∙ refers_to_none m nearest c)
+content_used : (m : ModuleValue) (nearest : Option ContentValue) (c : ContentValue) → PlacedParts m.segments m.commons c → body_fault m nearest (content_body c) ≡ None
+content_used m nearest c p =
+    let outside = if nat_lt (end_of m.segments c.segment) (c.offset + length c.bytes) then Some OffsetOutside else None in
+    ap (λ (o : Option Cause). option_or o (option_or (place_fault m (content_body c)) (reference_fault m nearest (content_body c)))) (known m c.segment p.has)
+    ∙ (ap (λ (o : Option Cause). option_or o (reference_fault m nearest (content_body c)))
+    (test_off (c.segment == 3) (Some (SegmentUnknown 3)) outside p.not_stack
+    ∙ test_off (nat_lt (end_of m.segments c.segment) (c.offset + length c.bytes)) (Some OffsetOutside) None (le-ltb (end_of m.segments c.segment) (c.offset + length c.bytes) p.within))
+    ∙ refers_to_none m nearest c)
 
 abbrev unreferred : ContentValue → ContentValue
 unreferred c = record c { fixups = [] }
@@ -262,7 +241,7 @@ unreferred c = record c { fixups = [] }
 abbrev pub only : List ContentValue → Said
 only contents = record { commons = []; publics = []; externals = []; contents = contents }
 
-pub contents_pass : (m : ModuleValue) (commons : List Common) (nearest : Option ContentValue) (cs : List ContentValue) → list_all (is_sound_content m.segments m.commons (length m.externals)) cs ≡ true
+pub contents_pass : (m : ModuleValue) (commons : List Common) (nearest : Option ContentValue) (cs : List ContentValue) → list_all (is_content m.segments m.commons (length m.externals)) cs ≡ true
     → Passes m commons nearest (flat_map content_bodies cs) (only (option_to_list nearest ++ cs))
 contents_pass m commons nearest [] sound = record {
   fit = tt;
@@ -274,9 +253,9 @@ contents_pass m commons nearest [] sound = record {
   contents = λ before. sym (append-nil (option_to_list nearest));
 }
 contents_pass m commons nearest (c ∷ cs) sound =
-    let p = and_parts (is_sound_content m.segments m.commons (length m.externals) c) (list_all (is_sound_content m.segments m.commons (length m.externals)) cs) sound in
+    let p = and_parts (is_content m.segments m.commons (length m.externals) c) (list_all (is_content m.segments m.commons (length m.externals)) cs) sound in
     let q = and_parts (is_placed m.segments m.commons c) (has_fitting m.commons (length m.externals) c) p.0 in
-    let short = and_parts (lies_within m.segments m.commons c) (nat_le (length c.bytes) 65531) q.0 in
+    let placed = placed_parts m.segments m.commons c q.0 in
     passes_more m commons commons [] [] [] nearest (Some (unreferred c)) (content_body c) (map (fixup_body c.segment) c.fixups ++ flat_map content_bodies cs) (only (c ∷ cs)) (append-nil commons)
-    record { fits = content_fits c (leb-true (length c.bytes) 65531 short.1); used = content_used m nearest c q.0; follow = refl; commons = refl; publics = refl; externals = refl; next = refl }
+    record { fits = content_fits c placed.short; used = content_used m nearest c placed; follow = refl; commons = refl; publics = refl; externals = refl; next = refl }
     (fixups_pass m commons (unreferred c) c.fixups (flat_map content_bodies cs) (only (c ∷ cs)) q.1 (contents_pass m commons (Some c) cs p.1))

@@ -1,5 +1,5 @@
 -- What the records say that are written of a module: the module.
-use Rattle.std.proofs.Common.{◌≡◌, ℕ, Bool, true, false, ◌&&◌, length, List, [], ◌∷◌, ◌++◌, map, Option, Some, None, refl, sym, ap, ◌∙◌, subst, append_assoc}
+use Rattle.std.proofs.Common.{◌≡◌, ℕ, Bool, true, false, ◌&&◌, List, [], ◌∷◌, ◌++◌, map, Option, Some, None, refl, sym, ap, ◌∙◌, subst, append_assoc}
 use Rattle.std.specs.Prelude.{not, ◌==◌, if◌then◌else◌, option_map}
 use Rattle.std.specs.List.{flat_map, list_all}
 use Rattle.omf_core.specs.Name.{is_name}
@@ -18,27 +18,14 @@ use Rattle.omf_module.specs.declared.fault.ModuleFault.{ModuleFault}
 use Rattle.omf_module.specs.Contents.{ContentValue}
 use Rattle.omf_module.specs.Segments.{has_segment}
 use Rattle.omf_module.specs.Modules.{ModuleValue}
-use Rattle.omf_module.specs.Rules.{each_after, is_new_common, is_content, is_start, is_sound, has_names, IsModule}
+use Rattle.omf_module.specs.Rules.{is_start, has_names, IsModule}
 use Rattle.omf_module.specs.Records.{commons_of, ModuleRecords}
 use Rattle.omf_module.specs.Gathered.{segments_in, publics_in, externals_in, contents_from, start_in, parts_of}
 use Rattle.omf_module.specs.Uses.{unknown_id, fault_by, header_fault, bodies_fault, end_fault, use_fault}
 use Rattle.omf_module.specs.Writing.{segment_entry, header_body, common_body, public_body, external_body, content_bodies, place_of, end_body, bodies_within}
+use Rattle.omf_module.proofs.RuleLemmas.{sound_parts}
 use Rattle.omf_module.proofs.WrittenSpelled.{placed_after}
 use Rattle.omf_module.proofs.WrittenPasses.{Passes, commons_pass, publics_pass, externals_pass, contents_pass}
-
--- the rules of a module one by one
-pub record SoundParts (m : ModuleValue) : Type 0 where
-  pub commons : each_after is_new_common [] m.commons ≡ true
-  pub publics : list_all (λ p. has_segment m.commons p.segment) m.publics ≡ true
-  pub contents : list_all (is_content m.segments m.commons (length m.externals)) m.contents ≡ true
-  pub start : is_start m.commons m.start ≡ true
-
-pub sound_parts : (m : ModuleValue) → is_sound m ≡ true → SoundParts m
-sound_parts m sound =
-    let c = and_parts (each_after is_new_common [] m.commons && list_all (λ q. has_segment m.commons q.segment) m.publics && list_all (is_content m.segments m.commons (length m.externals)) m.contents) (is_start m.commons m.start) sound in
-    let b = and_parts (each_after is_new_common [] m.commons && list_all (λ q. has_segment m.commons q.segment) m.publics) (list_all (is_content m.segments m.commons (length m.externals)) m.contents) c.0 in
-    let a = and_parts (each_after is_new_common [] m.commons) (list_all (λ q. has_segment m.commons q.segment) m.publics) b.0 in
-    record { commons = a.0; publics = a.1; contents = b.1; start = c.1 }
 
 -- ---- each list
 

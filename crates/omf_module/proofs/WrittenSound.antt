@@ -2,7 +2,7 @@
 use Rattle.std.proofs.Common.{◌≡◌, ℕ, zero, suc, ◌+◌, ◌*◌, ◌≤◌, ◌<◌, Bool, true, false, ◌&&◌, ◌||◌, List, [], ◌∷◌, ◌++◌, length, map, Option, Some, None, refl, sym, subst, arith, inl, inr}
 use Rattle.std.specs.Prelude.{◌==◌, nat_le, if◌then◌else◌}
 use Rattle.std.specs.List.{flat_map, list_all, list_any, range_with_len, cons_option}
-use Rattle.std.proofs.lemmas.Bool.{and_parts, leb-true}
+use Rattle.std.proofs.lemmas.Bool.{and_parts, and_from, leb-true}
 use Rattle.std.proofs.lemmas.Bool.Decides.{eqb_tells}
 use Rattle.std.proofs.lemmas.List.{length-append}
 use Rattle.omf_core.specs.Name.{is_name, is_name_byte, name_spelling}
@@ -19,10 +19,6 @@ use Rattle.omf_module.specs.Modules.{ModuleValue}
 use Rattle.omf_module.specs.Writing.{segment_entry, header_body, common_body, public_body, external_body, content_body, end_body}
 use Rattle.omf_module.proofs.ShortLemmas.{one_form_few}
 use Rattle.omf_module.proofs.WrittenSpelled.{Fits}
-
-pub and_join : (a b : Bool) → a ≡ true → b ≡ true → (a && b) ≡ true
-and_join true b e f = f
-and_join false b e f = absurd cc
 
 pub chosen_by : {A : Type 0} (P : A → Type 0) (b : Bool) (x y : A) → (b ≡ true → P x) → P y → P (if b then x else y)
 chosen_by P true x y own other = own refl
@@ -82,7 +78,7 @@ pub header_fits : (m : ModuleValue) → m.segments ≡ in_one_form m.segments m.
 header_fits m form name =
     let few : length m.segments ≤ 255 = subst (λ (ss : List (ℕ × Segment)). length ss ≤ 255) (sym form) (one_form_few m.segments m.commons) in
     record {
-      sound = and_join (is_name m.name) (are_distinct (map segment_entry m.segments)) name
+      sound = and_from (is_name m.name) (are_distinct (map segment_entry m.segments)) name
           (subst (λ (ss : List (ℕ × Segment)). are_distinct (map segment_entry ss) ≡ true) (sym form) (one_form_distinct m.segments m.commons));
       short = header_short m.name m.segments name few;
     }
@@ -91,19 +87,19 @@ header_fits m form name =
 
 pub common_fits : (c : Common) → is_common_id c.id ≡ true → is_name c.name ≡ true → Fits (common_body c)
 common_fits c id name = record {
-  sound = and_join (is_common_id c.id && is_name c.name) true (and_join (is_common_id c.id) (is_name c.name) id name) refl;
+  sound = and_from (is_common_id c.id && is_name c.name) true (and_from (is_common_id c.id) (is_name c.name) id name) refl;
   short = omega (arith, name_short c.name name, length-append (c.id ∷ name_spelling c.name) []);
 }
 
 pub public_fits : (p : Public) → is_name p.name ≡ true → Fits (public_body p)
 public_fits p name = record {
-  sound = and_join (is_name p.name) true name refl;
+  sound = and_from (is_name p.name) true name refl;
   short = omega (arith, name_short p.name name, length-append p.name (0 ∷ []), length-append (p.name ++ 0 ∷ []) []);
 }
 
 pub external_fits : (name : List ℕ) → is_name name ≡ true → Fits (external_body name)
 external_fits name is = record {
-  sound = and_join (is_name name) true is refl;
+  sound = and_from (is_name name) true is refl;
   short = omega (arith, name_short name is, length-append name (0 ∷ []), length-append (name ++ 0 ∷ []) []);
 }
 

@@ -47,14 +47,15 @@ abbrev pub content_after : Option ContentValue → Body → Option ContentValue
 content_after nearest (Content b) = Some (record { segment = b.segment; offset = b.offset; bytes = b.bytes; fixups = [] })
 content_after nearest body = option_map (λ c. with_fixups c (fixups_in c.segment body)) nearest
 
-abbrev pub is_content : Body → Bool
-is_content (Content b) = true
-is_content _ = false
+-- a record that begins a content
+abbrev pub begins_content : Body → Bool
+begins_content (Content b) = true
+begins_content _ = false
 
 -- the nearest content and those that follow, each with the fixups of the records up to the next one
 abbrev pub contents_from : Option ContentValue → List PlacedBody → List ContentValue
 contents_from nearest [] = option_to_list nearest
-contents_from nearest (p ∷ ps) = (if is_content p.body then option_to_list nearest else []) ++ contents_from (content_after nearest p.body) ps
+contents_from nearest (p ∷ ps) = (if begins_content p.body then option_to_list nearest else []) ++ contents_from (content_after nearest p.body) ps
 
 -- the start of a main program
 abbrev pub start_in : EndBody → Option (ℕ × ℕ)

@@ -18,7 +18,7 @@ use Rattle.omf_module.specs.Rules.{each_after, is_new_common}
 use Rattle.omf_module.specs.Records.{SpellsBody, SpellsBodies, commons_in, commons_of, may_follow, each_follows, ModuleRecords}
 use Rattle.omf_module.specs.Contents.{ContentValue}
 use Rattle.omf_module.specs.Modules.{ModuleValue}
-use Rattle.omf_module.specs.Gathered.{content_after, is_content}
+use Rattle.omf_module.specs.Gathered.{content_after, begins_content}
 use Rattle.omf_module.specs.Uses.{body_fault}
 use Rattle.omf_module.specs.Spelled.{commons_cause, FaultsCommons}
 
@@ -81,4 +81,4 @@ with_contents p contents = record p { contents = contents }
 pub record TakesBody (p : ModuleValue) (before : Option ContentValue) (body : Body) (old new : List ContentValue) (after : Option ContentValue) : Type 0 where
   pub sound : (cs : List ContentValue) → body_fault (with_contents p cs) before body ≡ None
   pub nearest : after ≡ content_after before body
-  pub whole : new ≡ old ++ (if is_content body then option_to_list before else [])
+  pub whole : new ≡ old ++ (if begins_content body then option_to_list before else [])

@@ -19,10 +19,11 @@ OneFault = (bytes : List ℕ) (at : ℕ) (f f' : ModuleFault) → FaultsModule b
 abbrev pub NeverBoth : Type 0
 NeverBoth = (bytes : List ℕ) (at after : ℕ) (m : ModuleValue) (f : ModuleFault) → SpellsModule bytes at after m → FaultsModule bytes at f → ⊥
 
--- no header has a fault, and one that has any has one first
+-- where a header is to stand, there is one first fault at most
 abbrev pub OneHeaderFault : Type 0
 OneHeaderFault = (bytes : List ℕ) (at : ℕ) (why why' : Cause) → FaultsHeader bytes at why → FaultsHeader bytes at why' → why ≡ why'
 
+-- where a header stands, there is none
 abbrev pub SoundHeader : Type 0
 SoundHeader = (bytes : List ℕ) (at next : ℕ) (header : HeaderBody) (why : Cause) → SpellsBody bytes at next (ModuleHeader header) → FaultsHeader bytes at why → ⊥
 

@@ -10,7 +10,7 @@ use Rattle.omf_module.specs.declared.fixup.Fixup.{Fixup}
 use Rattle.omf_module.specs.declared.fixup.Target.{Target}
 use Rattle.omf_module.specs.declared.fixup.Target.TheVariants as target
 use Rattle.omf_module.specs.Contents.{ContentValue, is_inside, shares_a_byte}
-use Rattle.omf_module.specs.Segments.{has_segment, is_common_id, segment_in, in_one_form}
+use Rattle.omf_module.specs.Segments.{names_common, has_segment, is_common_id, segment_in, in_one_form}
 use Rattle.omf_module.specs.Modules.{ModuleValue}
 
 -- Each item passes the test, which also looks at the items before it: those of `before`, and of the list.
@@ -22,12 +22,13 @@ each_after test before (x ∷ xs) = test before x && each_after test (before ++ 
 abbrev pub is_new_entry : List Common → List (ℕ × Segment) → ℕ × Segment → Bool
 is_new_entry commons before e = has_segment commons e.0 && not (list_any (λ d. d.0 == e.0) before)
 
+-- one of the commons has this name
+abbrev pub has_name : List Common → List ℕ → Bool
+has_name commons name = list_any (λ c. pointwise nat_eq c.name name) commons
+
 -- the common's id is one for commons, and neither id nor name stands before
 abbrev pub is_new_common : List Common → Common → Bool
-is_new_common before c =
-    is_common_id c.id
-    && not (list_any (λ d. d.id == c.id) before)
-    && not (list_any (λ d. pointwise nat_eq d.name c.name) before)
+is_new_common before c = is_common_id c.id && not (names_common before c.id) && not (has_name before c.name)
 
 -- what a reference is to is there
 abbrev pub has_target : List Common → ℕ → Target → Bool
@@ -56,10 +57,7 @@ is_placed segments commons c = lies_within segments commons c && nat_le (length 
 abbrev pub has_fitting : List Common → ℕ → ContentValue → Bool
 has_fitting commons externals c = each_after (is_fitting commons externals c.offset (length c.bytes)) [] c.fixups
 
--- what is asked of a content that stands in a record
-abbrev pub is_sound_content : List (ℕ × Segment) → List Common → ℕ → ContentValue → Bool
-is_sound_content segments commons externals c = lies_within segments commons c && has_fitting commons externals c
-
+-- what is asked of a content
 abbrev pub is_content : List (ℕ × Segment) → List Common → ℕ → ContentValue → Bool
 is_content segments commons externals c =
     is_placed segments commons c && has_fitting commons externals c

@@ -1,8 +1,9 @@
 -- The segments of a module.
 -- (8080 Object Module Formats: segment ids, module header and named common definitions records.)
-use Rattle.std.specs.Prelude.{ℕ, ◌==◌, Bool, false, ◌&&◌, ◌||◌, nat_lt, nat_le, if◌then◌else◌, Option, Some, None, List}
+use Rattle.std.specs.Prelude.{ℕ, ◌==◌, Bool, false, ◌||◌, nat_lt, nat_le, if◌then◌else◌, Option, Some, None, List}
 use Rattle.std.specs.List.{list_any, find, filter_map, range_with_len}
 use Rattle.std.specs.Option.{option_map_or}
+pub use Rattle.omf_body.specs.Entries.{is_common_id}
 use Rattle.omf_module.specs.declared.segment.Segment.{Segment}
 use Rattle.omf_module.specs.declared.symbols.Common.{Common}
 
@@ -13,10 +14,6 @@ empty_segment = record { length = 0; paged = false }
 -- absolute, CODE, DATA, STACK, MEMORY and the unnamed common: every module has them
 abbrev pub is_fixed_id : ℕ → Bool
 is_fixed_id id = nat_le id 4 || id == 255
-
--- an id that a named common may have
-abbrev pub is_common_id : ℕ → Bool
-is_common_id id = nat_le 6 id && nat_le id 254
 
 -- one of the commons has this id
 abbrev pub names_common : List Common → ℕ → Bool

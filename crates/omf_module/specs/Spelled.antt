@@ -1,10 +1,9 @@
 -- How bytes spell modules and object files, and why they spell none: the first fault.
 -- (8080 Object Module Formats, module and object file. The faults and their order are this project's own.)
 use Rattle.std.specs.Prelude.{◌≡◌, ◌≢◌, ℕ, ◌≤◌, ◌<◌, not, ◌==◌, ◌&&◌, Bool, Some, None, List, [], ◌∷◌, ◌++◌, length, drop, Result, Ok, Err, if◌then◌else◌, IsTrue}
-use Rattle.std.specs.List.{list_any}
-use Rattle.std.specs.Cmp.Lexicographic.{pointwise}
-use Rattle.std.specs.Prelude.{nat_eq}
 use Rattle.omf_core.specs.declared.fault.RecordFault.{RecordFault}
+use Rattle.omf_core.specs.declared.kind.RecordKind.TheVariants as kind
+use Rattle.omf_core.specs.Kind.{kind_byte}
 use Rattle.omf_core.specs.Record.{SpellsRecord, fault_at}
 use Rattle.omf_body.specs.declared.fault.FieldFault.{FieldFault}
 use Rattle.omf_body.specs.declared.fault.FieldFault.TheVariants as field
@@ -20,6 +19,8 @@ use Rattle.omf_module.specs.declared.fault.Cause.TheVariants as cause
 use Rattle.omf_module.specs.declared.fault.ModuleFault.{ModuleFault}
 use Rattle.omf_module.specs.declared.symbols.Common.{Common}
 use Rattle.omf_module.specs.declared.records.PlacedBody.{PlacedBody}
+use Rattle.omf_module.specs.Segments.{names_common}
+use Rattle.omf_module.specs.Rules.{has_name}
 use Rattle.omf_module.specs.Modules.{ModuleValue, made_of}
 use Rattle.omf_module.specs.Records.{SpellsBody, SpellsBodies, commons_of, each_follows, ModuleRecords, SpellsModuleRecords}
 use Rattle.omf_module.specs.Gathered.{parts_of}
@@ -48,20 +49,14 @@ cause_of of_body.BadName = cause.BadName
 pub data FaultsHeader (bytes : List ℕ) (at : ℕ) : Cause → Type 0 where
   no_header_byte : length bytes ≤ at → FaultsHeader bytes at cause.NoHeader
   no_header_record : (fault : RecordFault) → at < length bytes → fault_at (drop at bytes) at ≡ Some fault → FaultsHeader bytes at (cause.Record fault)
-  other_kind : (next kind : ℕ) (body : List ℕ) → SpellsRecord bytes at next kind body → kind ≢ 0x02 → FaultsHeader bytes at cause.NoHeader
-  in_header_body : (next : ℕ) (body : List ℕ) (fault : BodyFault) → SpellsRecord bytes at next 0x02 body → FirstFault 0x02 body fault → FaultsHeader bytes at (cause_of fault)
+  other_kind : (next byte : ℕ) (body : List ℕ) → SpellsRecord bytes at next byte body → byte ≢ kind_byte kind.ModuleHeader → FaultsHeader bytes at cause.NoHeader
+  in_header_body : (next : ℕ) (body : List ℕ) (fault : BodyFault) → SpellsRecord bytes at next (kind_byte kind.ModuleHeader) body → FirstFault (kind_byte kind.ModuleHeader) body fault → FaultsHeader bytes at (cause_of fault)
 
 -- a common, after those that stand before: its id is one for commons and new, and so is its name
-abbrev pub has_id : List Common → ℕ → Bool
-has_id commons id = list_any (λ c. c.id == id) commons
-
-abbrev pub has_name : List Common → List ℕ → Bool
-has_name commons name = list_any (λ c. pointwise nat_eq c.name name) commons
-
 abbrev pub read_new_common : List Common → List ℕ → Result (Common × List ℕ) FieldFault
 read_new_common before bytes = do
   id ← read_byte bytes
-  if is_common_id id.0 && not (has_id before id.0)
+  if is_common_id id.0 && not (names_common before id.0)
       then (read_name id.1 >>= λ name. if has_name before name.0 then Err field.BadBody else Ok (record { id = id.0; name = name.0 }, name.1))
       else Err field.BadBody
 
@@ -72,22 +67,22 @@ pub data FaultsCommons : List Common → List ℕ → FieldFault → Type 0 wher
       → read_new_common before bytes ≡ Ok (common, rest) → FaultsCommons (before ++ common ∷ []) rest fault → FaultsCommons before bytes fault
 
 abbrev pub commons_cause : FieldFault → Cause
-commons_cause field.BadBody = cause.BadBody 0x2E
+commons_cause field.BadBody = cause.BadBody (kind_byte kind.NamedCommons)
 commons_cause field.BadName = cause.BadName
 
 -- the kinds of which no more is asked than a body: not a header, which may not stand here, the end of a file, or commons
 abbrev pub stands_alone : ℕ → Bool
-stands_alone kind = not (kind == 0x02) && not (kind == 0x0E) && not (kind == 0x2E)
+stands_alone byte = not (byte == kind_byte kind.ModuleHeader) && not (byte == kind_byte kind.EndOfFile) && not (byte == kind_byte kind.NamedCommons)
 
 -- after a header and records that declare these commons, no record that may stand there stands at a place
 pub data FaultsWithin (bytes : List ℕ) (at : ℕ) (commons : List Common) : Cause → Type 0 where
   no_byte : length bytes ≤ at → FaultsWithin bytes at commons cause.NoEnd
   no_record : (fault : RecordFault) → at < length bytes → fault_at (drop at bytes) at ≡ Some fault → FaultsWithin bytes at commons (cause.Record fault)
-  file_ends : (next : ℕ) (body : List ℕ) → SpellsRecord bytes at next 0x0E body → FaultsWithin bytes at commons cause.NoEnd
-  second_header : (next : ℕ) (body : List ℕ) → SpellsRecord bytes at next 0x02 body → FaultsWithin bytes at commons (cause.UnknownKind 0x02)
-  in_body : (next kind : ℕ) (body : List ℕ) (fault : BodyFault) → SpellsRecord bytes at next kind body → IsTrue (stands_alone kind) → FirstFault kind body fault
+  file_ends : (next : ℕ) (body : List ℕ) → SpellsRecord bytes at next (kind_byte kind.EndOfFile) body → FaultsWithin bytes at commons cause.NoEnd
+  second_header : (next : ℕ) (body : List ℕ) → SpellsRecord bytes at next (kind_byte kind.ModuleHeader) body → FaultsWithin bytes at commons (cause.UnknownKind (kind_byte kind.ModuleHeader))
+  in_body : (next byte : ℕ) (body : List ℕ) (fault : BodyFault) → SpellsRecord bytes at next byte body → IsTrue (stands_alone byte) → FirstFault byte body fault
       → FaultsWithin bytes at commons (cause_of fault)
-  in_commons : (next : ℕ) (body : List ℕ) (fault : FieldFault) → SpellsRecord bytes at next 0x2E body → FaultsCommons commons body fault
+  in_commons : (next : ℕ) (body : List ℕ) (fault : FieldFault) → SpellsRecord bytes at next (kind_byte kind.NamedCommons) body → FaultsCommons commons body fault
       → FaultsWithin bytes at commons (commons_cause fault)
 
 -- records stand from a place on, each of which may follow, and then none does
@@ -120,7 +115,7 @@ SpellsModules bytes from to (m ∷ ms) = (next : ℕ) × SpellsModule bytes from
 pub record EndsFile (bytes : List ℕ) (at : ℕ) : Type 0 where
   pub next : ℕ
   pub body : List ℕ
-  pub spelled : SpellsRecord bytes at next 0x0E body
+  pub spelled : SpellsRecord bytes at next (kind_byte kind.EndOfFile) body
 
 -- The bytes spell the modules as an object file: one at least, and an end-of-file record. What stands after it isn't looked at.
 pub record SpellsFile (bytes : List ℕ) (modules : List ModuleValue) : Type 0 where

@@ -4,10 +4,12 @@ ghost use Rattle.std.specs.Prelude.{◌≡◌, ◌≢◌, ◌++◌, Ok, Err, IfO
 ghost use Rattle.omf_core.specs.Name.{is_name};
 ghost use Rattle.omf_body.specs.Entries.{common_bytes};
 ghost use Rattle.omf_module.specs.Rules.{is_new_common};
-ghost use Rattle.omf_module.specs.Spelled.{has_id, has_name, read_new_common};
+ghost use Rattle.omf_module.specs.Spelled.{read_new_common};
 ghost use Rattle.omf_module.specs.Reading.{common_of, TakesCommons, RefusesCommons};
 
+use crate::distinct::names_name;
 use crate::fault::Cause;
+use crate::rules::names_common;
 use crate::symbols::Common;
 use omf_body::segment_id::{FIRST_COMMON, LAST_COMMON};
 use omf_body::{CommonEntry, Cursor, FieldFault, NameBytes};
@@ -25,18 +27,6 @@ pub(crate) fn kept(alloc: Global, name: &NameBytes) -> Result<Name, AllocError>
     }
 }
 
-fn has_id(commons: &[Common], id: u8) -> bool
-    ensures { result ≡ has_id commons.now id }
-{
-    commons.iter().any(|common| common.id == id)
-}
-
-fn has_name(commons: &[Common], name: &[u8]) -> bool
-    ensures { result ≡ has_name commons.now name.now }
-{
-    commons.iter().any(|common| common.name.bytes() == name)
-}
-
 /// Reads a common that is new after those before: first its id is looked at, then its name.
 fn new_common<'a>(cursor: &mut Cursor<'a>, before: &[Common]) -> Result<CommonEntry<'a>, FieldFault>
     ensures read { IfOk result (λ common. read_new_common before.now cursor.old ≡ Ok (common_of common, cursor.new)) }
@@ -46,11 +36,11 @@ fn new_common<'a>(cursor: &mut Cursor<'a>, before: &[Common]) -> Result<CommonEn
     ensures fault { IfErr result (λ fault. read_new_common before.now cursor.old ≡ Err fault) }
 {
     let id = cursor.byte()?;
-    if !(FIRST_COMMON <= id && id <= LAST_COMMON) || has_id(before, id) {
+    if !(FIRST_COMMON <= id && id <= LAST_COMMON) || names_common(before, id) {
         return Err(FieldFault::BadBody);
     }
     let name = cursor.name()?;
-    if has_name(before, name.bytes()) {
+    if names_name(before, name.bytes()) {
         return Err(FieldFault::BadBody);
     }
     Ok(CommonEntry { id, name })

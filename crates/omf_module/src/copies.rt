@@ -17,35 +17,17 @@ pub(crate) fn copy_names(alloc: Global, names: &[Name]) -> Result<Vec<Name>, All
     Ok(copies)
 }
 
-fn copy_common(alloc: Global, common: &Common) -> Result<Common, AllocError>
-    ensures { IfOk result (λ copied. copied ≡ common.now) }
-{
-    let name = common.name.copy(alloc)?;
-    Ok(Common {
-        id: common.id,
-        name,
-    })
-}
-
 pub(crate) fn copy_commons(alloc: Global, commons: &[Common]) -> Result<Vec<Common>, AllocError>
     ensures { IfOk result (λ copies. copies.items ≡ commons.now) }
 {
     let mut copies = Vec::new(alloc);
     for common in commons {
-        copies.push(copy_common(alloc, common)?)?;
+        copies.push(Common {
+            id: common.id,
+            name: common.name.copy(alloc)?,
+        })?;
     }
     Ok(copies)
-}
-
-fn copy_public(alloc: Global, public: &Public) -> Result<Public, AllocError>
-    ensures { IfOk result (λ copied. copied ≡ public.now) }
-{
-    let name = public.name.copy(alloc)?;
-    Ok(Public {
-        name,
-        segment: public.segment,
-        offset: public.offset,
-    })
 }
 
 pub(crate) fn copy_publics(alloc: Global, publics: &[Public]) -> Result<Vec<Public>, AllocError>
@@ -53,22 +35,13 @@ pub(crate) fn copy_publics(alloc: Global, publics: &[Public]) -> Result<Vec<Publ
 {
     let mut copies = Vec::new(alloc);
     for public in publics {
-        copies.push(copy_public(alloc, public)?)?;
+        copies.push(Public {
+            name: public.name.copy(alloc)?,
+            segment: public.segment,
+            offset: public.offset,
+        })?;
     }
     Ok(copies)
-}
-
-fn copy_content(alloc: Global, content: &Content) -> Result<Content, AllocError>
-    ensures { IfOk result (λ copied. copied ≡ content.now) }
-{
-    let bytes = Vec::from_slice(alloc, &content.bytes)?;
-    let fixups = Vec::from_slice(alloc, &content.fixups)?;
-    Ok(Content {
-        segment: content.segment,
-        offset: content.offset,
-        bytes,
-        fixups,
-    })
 }
 
 pub(crate) fn copy_contents(alloc: Global, contents: &[Content]) -> Result<Vec<Content>, AllocError>
@@ -76,7 +49,14 @@ pub(crate) fn copy_contents(alloc: Global, contents: &[Content]) -> Result<Vec<C
 {
     let mut copies = Vec::new(alloc);
     for content in contents {
-        copies.push(copy_content(alloc, content)?)?;
+        let bytes = Vec::from_slice(alloc, &content.bytes)?;
+        let fixups = Vec::from_slice(alloc, &content.fixups)?;
+        copies.push(Content {
+            segment: content.segment,
+            offset: content.offset,
+            bytes,
+            fixups,
+        })?;
     }
     Ok(copies)
 }

@@ -1,32 +1,25 @@
 //! Nothing is listed twice.
 
-ghost use Rattle.std.specs.Prelude.{◌≡◌, ◌==◌, nat_eq, []};
+ghost use Rattle.std.specs.Prelude.{◌≡◌, ◌==◌, []};
 ghost use Rattle.std.specs.List.{list_any};
-ghost use Rattle.std.specs.Cmp.Lexicographic.{pointwise};
 ghost use Rattle.omf_module.specs.Segments.{has_segment};
-ghost use Rattle.omf_module.specs.Rules.{each_after, is_new_entry, is_new_common};
+ghost use Rattle.omf_module.specs.Rules.{each_after, has_name, is_new_entry, is_new_common};
 
 use crate::rules::{has_segment, names_common};
 use crate::segment::Segment;
 use crate::symbols::Common;
-use omf_core::Name;
+use omf_body::segment_id::{FIRST_COMMON, LAST_COMMON};
 
-pub(crate) fn lists_id(entries: &[(u8, Segment)], id: u8) -> bool
+fn lists_id(entries: &[(u8, Segment)], id: u8) -> bool
     ensures { result ≡ list_any (λ d. d.0 == id) entries.now }
 {
     entries.iter().any(|d| d.0 == id)
 }
 
-pub(crate) fn names_name(commons: &[Common], name: &Name) -> bool
-    ensures { result ≡ list_any (λ d. pointwise nat_eq d.name name.now) commons.now }
+pub(crate) fn names_name(commons: &[Common], name: &[u8]) -> bool
+    ensures { result ≡ has_name commons.now name.now }
 {
-    commons.iter().any(|d| d.name == *name)
-}
-
-fn is_new_entry(commons: &[Common], before: &[(u8, Segment)], id: u8, segment: Segment) -> bool
-    ensures { result ≡ is_new_entry commons.now before.now (id, segment) }
-{
-    has_segment(commons, id) && !lists_id(before, id)
+    commons.iter().any(|common| common.name.bytes() == name)
 }
 
 /// Whether each entry is of a segment that the module has, and no id is listed twice.
@@ -34,7 +27,7 @@ pub(crate) fn are_entries(commons: &[Common], entries: &[(u8, Segment)]) -> bool
     ensures { result ≡ each_after (is_new_entry commons.now) [] entries.now }
 {
     for (place, entry) in entries.iter().enumerate() {
-        if !is_new_entry(commons, &entries[..place], entry.0, entry.1) {
+        if !has_segment(commons, entry.0) || lists_id(&entries[..place], entry.0) {
             return false;
         }
     }
@@ -42,12 +35,12 @@ pub(crate) fn are_entries(commons: &[Common], entries: &[(u8, Segment)]) -> bool
 }
 
 /// Whether the common's id is one for commons, and neither its id nor its name stands before.
-pub(crate) fn is_new_common(before: &[Common], common: &Common) -> bool
+fn is_new_common(before: &[Common], common: &Common) -> bool
     ensures { result ≡ is_new_common before.now common.now }
 {
-    (6 <= common.id && common.id <= 254)
+    (FIRST_COMMON <= common.id && common.id <= LAST_COMMON)
         && !names_common(before, common.id)
-        && !names_name(before, &common.name)
+        && !names_name(before, common.name.bytes())
 }
 
 /// Whether no id and no name stands twice, and each id is one for commons.

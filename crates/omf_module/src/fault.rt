@@ -6,7 +6,7 @@ ghost use Rattle.omf_module.specs.Spelled.{cause_of, commons_cause};
 ghost use Rattle.omf_module.specs.declared.fault.Cause.TheVariants.{Memory as OutOfMemory, Record as OfRecord};
 
 use omf_body::{BodyFault, FieldFault};
-use omf_core::RecordFault;
+use omf_core::{RecordFault, RecordKind};
 use std::alloc::{AllocError, AllocFailed};
 use std::{error, fmt};
 use thiserror::Error;
@@ -121,7 +121,7 @@ impl Cause {
         ensures { result ≡ commons_cause fault }
     {
         match fault {
-            FieldFault::BadBody => Cause::BadBody(0x2E),
+            FieldFault::BadBody => Cause::BadBody(RecordKind::NamedCommons.byte()),
             FieldFault::BadName => Cause::BadName,
         }
     }

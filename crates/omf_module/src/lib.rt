@@ -9,7 +9,7 @@
 //! | [`Content`], [`Fixup`], [`Field`], [`Target`] | bytes of a segment, and the references that stand in them |
 //! | [`read_module`], [`read_file`] | the module that begins at a place; the modules of an object file |
 //! | [`write_module`], [`write_file`] | a module as records; modules as an object file |
-//! | [`laws`] | what is read is spelled by records, and what is spelled or written is read |
+//! | [`laws`] | bytes spell one module or have one first fault, what is written spells its module, segments are kept |
 //! | [`ModuleFault`], [`Cause`], [`PartsFault`] | why bytes, or parts, make no module |
 #![tactic(auto)]
 

@@ -1,6 +1,6 @@
 //! The bytes of a content record that a reference has: a mark for each byte, so that a test looks at one mark.
 
-ghost use Rattle.std.specs.Prelude.{◌≡◌, ◌<◌, true, false, not, List, [], ◌∷◌, ◌++◌, length, IsTrue, IfOk, slice_index_or, slice_set, vec_len};
+ghost use Rattle.std.specs.Prelude.{◌≡◌, ◌<◌, true, false, not, ℕ, List, [], ◌∷◌, ◌++◌, length, IsTrue, IfOk, slice_index_or, slice_set, vec_len};
 ghost use Rattle.omf_module.specs.declared.fixup.Fixup.{Fixup};
 ghost use Rattle.omf_module.specs.Contents.{is_taken, is_inside, shares_a_byte};
 ghost use Rattle.omf_module.specs.Marks.{AreMarks};
@@ -83,8 +83,8 @@ pub(crate) fn mark(marks: &mut Vec<bool>, first: u16, fixup: Fixup) -> bool
 }
 
 /// Marks that tell of no reference.
-pub(crate) fn no_marks(alloc: Global, first: u16, size: usize) -> Result<Vec<bool>, AllocError>
-    ensures none { IfOk result (λ marks. AreMarks marks.items first (is_taken [])) }
+pub(crate) fn no_marks(alloc: Global, size: usize) -> Result<Vec<bool>, AllocError>
+    ensures none { IfOk result (λ marks. (first : ℕ) → AreMarks marks.items first (is_taken [])) }
     ensures as_many { IfOk result (λ marks. vec_len marks ≡ size) }
 {
     let marks = vec![in alloc; false; size]?;
@@ -103,7 +103,7 @@ pub(crate) fn are_fitting(
 ) -> Result<bool, AllocError>
     ensures { IfOk result (λ kept. kept ≡ each_after (is_fitting commons.now externals first size) [] fixups.now) }
 {
-    let mut marks = no_marks(alloc, first, size)?;
+    let mut marks = no_marks(alloc, size)?;
     for fixup in fixups {
         let fits = is_inside(first, size, *fixup) && has_target(commons, externals, fixup.target);
         if !fits || !mark(&mut marks, first, *fixup) {

@@ -8,7 +8,7 @@ use crate::parts::Parts;
 use std::alloc::{AllocError, Global};
 use std::marker::Model;
 
-#[derive(Debug, Drop)]
+#[derive(Drop)]
 pub(crate) struct Open<'a> {
     segment: u8,
     offset: u16,
@@ -46,7 +46,7 @@ impl<'a> Open<'a> {
     ) -> Result<Open<'a>, AllocError>
         ensures { IfOk result (λ o. o ≡ record { segment = segment; offset = offset; bytes = bytes.now; fixups = [] }) }
     {
-        let marks = no_marks(alloc, offset, bytes.len())?;
+        let marks = no_marks(alloc, bytes.len())?;
         Ok(Open {
             segment,
             offset,
@@ -75,7 +75,9 @@ impl<'a> Open<'a> {
         if !is_free(&self.marks, self.offset, fixup) {
             return Err(Cause::FixupTwice);
         }
-        if lacks_external(parts, fixup.target) {
+        if let Target::External(index) = fixup.target
+            && parts.externals.len() <= index as usize
+        {
             return Err(Cause::IndexUnknown);
         }
         self.fixups.push(fixup)?;
@@ -106,18 +108,5 @@ impl<'a> Open<'a> {
             bytes,
             fixups: self.fixups,
         })
-    }
-}
-
-ghost use Rattle.std.specs.Prelude.{◌≡◌};
-ghost use Rattle.omf_module.specs.Uses.{lacks_external};
-
-/// Whether the module has no external of a fixup's index.
-fn lacks_external(parts: &Parts, target: Target) -> bool
-    ensures { result ≡ lacks_external parts.now target }
-{
-    match target {
-        Target::Segment(_) => false,
-        Target::External(index) => parts.externals.len() <= index as usize,
     }
 }

@@ -24,21 +24,8 @@ use crate::symbols::Common;
 use crate::uses::{contents_of, look_at_header, look_at_start};
 use crate::within::{header_at, records_at};
 use omf_body::{HeaderBody, Place};
-use omf_core::next_record;
+use omf_core::{RecordKind, next_record};
 use std::alloc::{AllocError, Global};
-
-/// The type byte of the record that ends a file.
-const END_OF_FILE: u8 = 0x0E;
-
-/// The start of a main program.
-fn start_of(start: Option<Place>) -> Option<(u8, u16)>
-    ensures { result ≡ option_map (λ place. (place.segment, place.offset)) start }
-{
-    match start {
-        Some(place) => Some((place.segment, place.offset)),
-        None => None,
-    }
-}
 
 /// The parts that records say, but for their contents.
 fn without_contents(
@@ -69,7 +56,7 @@ fn without_contents(
         publics,
         externals,
         contents: Vec::new(alloc),
-        start: start_of(start),
+        start: start.map(|place| (place.segment, place.offset)),
     })
 }
 
@@ -114,7 +101,7 @@ fn ends_file(bytes: &[u8], at: usize) -> bool
     ensures goes_on { result ≡ false → EndsFile bytes.now at → ⊥ }
 {
     match next_record(bytes, at) {
-        Ok((record, _)) => record.kind == END_OF_FILE,
+        Ok((record, _)) => record.kind == RecordKind::EndOfFile.byte(),
         Err(_) => false,
     }
 }

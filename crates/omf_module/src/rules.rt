@@ -2,7 +2,7 @@
 
 ghost use Rattle.std.specs.Prelude.{◌≡◌, ℕ, ◌+◌, length, IfOk};
 ghost use Rattle.std.specs.List.{list_all};
-ghost use Rattle.omf_module.specs.Segments.{is_fixed_id, names_common, has_segment, segment_in};
+ghost use Rattle.omf_module.specs.Segments.{names_common, has_segment, segment_in};
 ghost use Rattle.omf_module.specs.Rules.{end_of, is_placed, has_fitting, is_start, keeps_rules_but_for_fixups, keeps_fixup_rules};
 
 use crate::content::Content;
@@ -11,22 +11,11 @@ use crate::marks::are_fitting;
 use crate::parts::Parts;
 use crate::segment::Segment;
 use crate::symbols::{Common, Public};
+use omf_body::segment_id::{ABSOLUTE, MEMORY, STACK, UNNAMED_COMMON};
 use std::alloc::{AllocError, Global};
-
-/// The id of absolute bytes.
-const ABSOLUTE: u8 = 0;
-
-/// The id of the segment of the stack.
-pub(crate) const STACK: u8 = 3;
 
 /// How many bytes one content record carries.
 const LONGEST_CONTENT: usize = 65531;
-
-fn is_fixed_id(id: u8) -> bool
-    ensures { result ≡ is_fixed_id id }
-{
-    id <= 4 || id == 255
-}
 
 /// Whether one of the commons has this id. It takes no memory.
 pub fn names_common(commons: &[Common], id: u8) -> bool
@@ -39,7 +28,7 @@ pub fn names_common(commons: &[Common], id: u8) -> bool
 pub(crate) fn has_segment(commons: &[Common], id: u8) -> bool
     ensures { result ≡ has_segment commons.now id }
 {
-    is_fixed_id(id) || names_common(commons, id)
+    id <= MEMORY || id == UNNAMED_COMMON || names_common(commons, id)
 }
 
 /// The listed segment of this id, and an empty one where none is listed.

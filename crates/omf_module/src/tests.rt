@@ -7,7 +7,7 @@ use std::alloc::Global;
 use std::test::Fail;
 
 /// A main program `A` with one byte of code, and nothing else.
-const MAIN: [u8; 32] = [
+static MAIN: [u8; 32] = [
     0x02, 0x09, 0x00, 0x01, 0x41, 0x00, 0x00, 0x01, 0x01, 0x00, 0x03, 0xAE, // module header
     0x06, 0x05, 0x00, 0x01, 0x00, 0x00, 0x76, 0x7E, // content
     0x04, 0x05, 0x00, 0x01, 0x01, 0x00, 0x00, 0xF5, // module end
@@ -15,7 +15,7 @@ const MAIN: [u8; 32] = [
 ];
 
 /// A module with every kind of record that is kept, as it is written.
-const ALL: [u8; 108] = [
+static ALL: [u8; 108] = [
     0x02, 0x17, 0x00, 0x03, 0x41, 0x4C, 0x4C, 0x00, 0x00, 0x01, 0x08, 0x00, 0x02, 0x03, 0x10, 0x00,
     0x03, 0x06, 0x04, 0x00, 0x03, 0xFF, 0x01, 0x00, 0x03, 0xDA, 0x2E, 0x06, 0x00, 0x06, 0x03, 0x42,
     0x55, 0x46, 0xE6, 0x16, 0x07, 0x00, 0x01, 0x02, 0x00, 0x01, 0x50, 0x00, 0x8F, 0x18, 0x04, 0x00,
@@ -26,7 +26,7 @@ const ALL: [u8; 108] = [
 ];
 
 /// The same module, listed in another order, with records and bytes that aren't kept.
-const ALL_AGAIN: [u8; 132] = [
+static ALL_AGAIN: [u8; 132] = [
     0x02, 0x1F, 0x00, 0x03, 0x41, 0x4C, 0x4C, 0x09, 0x09, 0xFF, 0x01, 0x00, 0x03, 0x02, 0x00, 0x00,
     0x03, 0x06, 0x04, 0x00, 0x03, 0x03, 0x10, 0x00, 0x03, 0x00, 0x07, 0x00, 0x01, 0x01, 0x08, 0x00,
     0x00, 0xB5, 0x10, 0x04, 0x00, 0x01, 0x02, 0x03, 0xE6, 0x06, 0x09, 0x00, 0x01, 0x01, 0x00, 0x10,
@@ -86,11 +86,18 @@ fn file_of(alloc: Global, module: Module) -> Result<Vec<u8>, Fail> {
     Ok(out)
 }
 
+/// The file of the module of these parts.
+fn file_of_parts(alloc: Global, parts: Parts) -> Result<Vec<u8>, Fail> {
+    match Module::from_parts(alloc, parts) {
+        Ok(module) => file_of(alloc, module),
+        Err((_, fault)) => Err(fault.into()),
+    }
+}
+
 #[test]
 fn a_main_program_is_made_and_written(rt: HostRuntime) -> Result<(), Fail> {
     let parts = parts(rt.alloc(), &[ONE], &[0x76], &[])?;
-    let module = Module::from_parts(rt.alloc(), parts).map_err(|(_, fault)| fault)?;
-    assert_eq!(rt; file_of(rt.alloc(), module)?.as_slice(), MAIN.as_slice());
+    assert!(rt; file_of_parts(rt.alloc(), parts)?.as_slice() == MAIN.as_slice());
     Ok(())
 }
 
@@ -115,27 +122,54 @@ fn a_main_program_is_copied(rt: HostRuntime) -> Result<(), Fail> {
 }
 
 /// A segment listed twice, a byte that two references share, a reference outside the content, an unknown external.
+static BROKEN: [(&[(u8, Segment)], &[Fixup]); 4] = [
+    (&[FOUR, FOUR], &[]),
+    (
+        &[FOUR],
+        &[
+            Fixup {
+                offset: 0,
+                field: Field::Both,
+                target: Target::Segment(1),
+            },
+            Fixup {
+                offset: 1,
+                field: Field::Both,
+                target: Target::Segment(1),
+            },
+        ],
+    ),
+    (
+        &[FOUR],
+        &[Fixup {
+            offset: 3,
+            field: Field::Both,
+            target: Target::Segment(1),
+        }],
+    ),
+    (
+        &[FOUR],
+        &[Fixup {
+            offset: 0,
+            field: Field::Both,
+            target: Target::External(0),
+        }],
+    ),
+];
+
+/// How many segments are handed back with the refusal of parts, and why.
+fn refused(alloc: Global, parts: Parts) -> Option<(usize, PartsFault)> {
+    match Module::from_parts(alloc, parts) {
+        Ok(_) => None,
+        Err((back, fault)) => Some((back.segments.len(), fault)),
+    }
+}
+
 #[test]
 fn parts_that_break_a_rule(rt: HostRuntime) -> Result<(), Fail> {
-    let at = |offset: u16, target: Target| Fixup {
-        offset,
-        field: Field::Both,
-        target,
-    };
-    let own = Target::Segment(1);
-    let cases: [(&[(u8, Segment)], &[Fixup]); 4] = [
-        (&[FOUR, FOUR], &[]),
-        (&[FOUR], &[at(0, own), at(1, own)]),
-        (&[FOUR], &[at(3, own)]),
-        (&[FOUR], &[at(0, Target::External(0))]),
-    ];
-    for (segments, fixups) in cases {
+    for (segments, fixups) in &BROKEN {
         let parts = parts(rt.alloc(), segments, &[0; 4], fixups)?;
-        let back = Module::from_parts(rt.alloc(), parts).map_err(|(back, fault)| (
-            back.segments.len(),
-            fault,
-        ));
-        assert_eq!(rt; back.err(), Some((segments.len(), PartsFault::Rule)));
+        assert!(rt; refused(rt.alloc(), parts) == Some((segments.len(), PartsFault::Rule)));
     }
     Ok(())
 }
@@ -182,84 +216,8 @@ fn a_file_cut_at_each_byte(rt: HostRuntime) {
             32 => None,
             _ => Some((begun, Cause::Record(RecordFault::Truncated(begun)))),
         };
-        assert_eq!(rt;
-            fault_of(rt.alloc(), &MAIN[..size]),
-            want,
-            "cut to {size} bytes"
-        );
+        assert_eq!(rt; fault_of(rt.alloc(), &MAIN[..size]), want);
     }
-}
-
-/// The place in the main program's file from which bytes are replaced, the place up to which they are, the record that
-/// stands there instead, and the fault.
-const CHANGES: [(usize, usize, &[u8], Cause); 10] = [
-    (
-        12,
-        12,
-        b"\x22\x04\x00\x03\x00\x00\xD7",
-        Cause::FixupBeforeContent,
-    ),
-    (
-        12,
-        12,
-        b"\x24\x05\x00\x09\x01\x00\x00\xCD",
-        Cause::SegmentUnknown(9),
-    ),
-    (20, 20, b"\x22\x04\x00\x03\x00\x00\xD7", Cause::FixupOutside),
-    (
-        20,
-        20,
-        b"\x22\x06\x00\x01\x00\x00\x00\x00\xD7",
-        Cause::FixupTwice,
-    ),
-    (
-        20,
-        20,
-        b"\x20\x06\x00\x01\x00\x00\x00\x00\xD9",
-        Cause::IndexUnknown,
-    ),
-    (
-        12,
-        20,
-        b"\x06\x05\x00\x03\x00\x00\x76\x7C",
-        Cause::SegmentUnknown(3),
-    ),
-    (
-        12,
-        20,
-        b"\x06\x05\x00\x01\x01\x00\x76\x7D",
-        Cause::OffsetOutside,
-    ),
-    (12, 12, b"\x30\x01\x00\xCF", Cause::UnknownKind(0x30)),
-    (
-        20,
-        28,
-        b"\x04\x05\x00\x02\x01\x00\x00\xF4",
-        Cause::BadBody(0x04),
-    ),
-    (0, 12, b"\x02\x04\x00\x00\x00\x00\xFA", Cause::BadName),
-];
-
-/// The main program's file with a record in place of the bytes from one place up to another.
-fn changed(alloc: Global, from: usize, to: usize, record: &[u8]) -> Result<Vec<u8>, Fail> {
-    let mut file = Vec::new(alloc);
-    file.extend_from_slice(MAIN.get(..from).ok_or("past the end")?)?;
-    file.extend_from_slice(record)?;
-    file.extend_from_slice(MAIN.get(to..).ok_or("past the end")?)?;
-    Ok(file)
-}
-
-#[test]
-fn faults_at_their_places(rt: HostRuntime) -> Result<(), Fail> {
-    for (from, to, record, cause) in CHANGES {
-        let file = changed(rt.alloc(), from, to, record)?;
-        assert_eq!(rt;
-            fault_of(rt.alloc(), &file),
-            Some((from, cause)),
-            "{record:?}"
-        );
-    }
-    Ok(())
 }
 
 #[test]

@@ -13,15 +13,8 @@ use crate::fault::{Cause, ModuleFault};
 use crate::records::{ModuleFile, PlacedBody, Within};
 use crate::symbols::Common;
 use omf_body::{Body, HeaderBody, parse};
-use omf_core::next_record;
+use omf_core::{RecordKind, next_record};
 use std::alloc::Global;
-
-/// The type bytes of a module header, of the end of a file, and of named commons.
-const MODULE_HEADER: u8 = 0x02;
-
-const END_OF_FILE: u8 = 0x0E;
-
-const NAMED_COMMONS: u8 = 0x2E;
 
 /// The module header at a place, and the place after it. It takes no memory.
 pub(crate) fn header_at<'a>(bytes: &'a [u8], at: usize) -> Result<(HeaderBody<'a>, usize), Cause>
@@ -33,7 +26,7 @@ pub(crate) fn header_at<'a>(bytes: &'a [u8], at: usize) -> Result<(HeaderBody<'a
         return Err(Cause::NoHeader);
     }
     let (record, after) = next_record(bytes, at)?;
-    if record.kind != MODULE_HEADER {
+    if record.kind != RecordKind::ModuleHeader.byte() {
         return Err(Cause::NoHeader);
     }
     match parse(record)? {
@@ -56,10 +49,13 @@ fn next_body<'a>(
         return Err(Cause::NoEnd);
     }
     let (record, after) = next_record(bytes, at)?;
-    match record.kind {
-        MODULE_HEADER => Err(Cause::UnknownKind(MODULE_HEADER)),
-        END_OF_FILE => Err(Cause::NoEnd),
-        NAMED_COMMONS => {
+    let Some(kind) = RecordKind::from_byte(record.kind) else {
+        return Err(Cause::UnknownKind(record.kind));
+    };
+    match kind {
+        RecordKind::ModuleHeader => Err(Cause::UnknownKind(record.kind)),
+        RecordKind::EndOfFile => Err(Cause::NoEnd),
+        RecordKind::NamedCommons => {
             take_commons(alloc, record.body, commons)?;
             match parse(record) {
                 Ok(body) => Ok((body, after)),

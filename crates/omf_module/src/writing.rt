@@ -8,7 +8,7 @@ ghost use Rattle.omf_body.specs.declared.body.Body.TheVariants.{ModuleHeader, Mo
 ghost use Rattle.omf_body.specs.Bodies.{record_bytes};
 ghost use Rattle.omf_module.specs.Rules.{IsModule};
 ghost use Rattle.omf_module.specs.Spelled.{SpellsFile};
-ghost use Rattle.omf_module.specs.Writing.{segment_entry, header_body, common_body, public_body, external_body, fixup_body, content_body, content_bodies, place_of, end_body, module_bytes, file_bytes};
+ghost use Rattle.omf_module.specs.Writing.{segment_entry, header_body, common_body, public_body, external_body, fixup_body, content_bodies, place_of, end_body, module_bytes, file_bytes};
 ghost use Rattle.omf_module.specs.WritingLaws.{IsReadAgain};
 
 use crate::content::Content;
@@ -50,16 +50,6 @@ fn name_bytes(name: &Name) -> NameBytes
     bytes
 }
 
-fn segment_entry(entry: &(u8, Segment)) -> SegmentEntry
-    ensures { result ≡ segment_entry entry.now }
-{
-    SegmentEntry {
-        id: entry.0,
-        length: entry.1.length,
-        alignment: if entry.1.paged { PAGED } else { ANY_BYTE },
-    }
-}
-
 fn segment_entries(
     alloc: Global,
     segments: &[(u8, Segment)],
@@ -68,7 +58,11 @@ fn segment_entries(
 {
     let mut entries = Vec::new(alloc);
     for segment in segments {
-        entries.push(segment_entry(segment))?;
+        entries.push(SegmentEntry {
+            id: segment.0,
+            length: segment.1.length,
+            alignment: if segment.1.paged { PAGED } else { ANY_BYTE },
+        })?;
     }
     Ok(entries)
 }
@@ -79,37 +73,6 @@ fn append_header(alloc: Global, source: &Module, out: &mut Vec<u8>) -> Result<()
     let entries = segment_entries(alloc, source.segments())?;
     let name = name_bytes(source.name());
     never_too_long(put_header(alloc, &name, &entries, out))
-}
-
-fn append_common(alloc: Global, common: &Common, out: &mut Vec<u8>) -> Result<(), AllocError>
-    ensures { OnOk result (out.new.items ≡ out.old.items ++ record_bytes (common_body common.now)) }
-{
-    let entry = CommonEntry {
-        id: common.id,
-        name: name_bytes(&common.name),
-    };
-    never_too_long(put_commons(alloc, &[entry], out))
-}
-
-fn append_public(alloc: Global, public: &Public, out: &mut Vec<u8>) -> Result<(), AllocError>
-    ensures { OnOk result (out.new.items ≡ out.old.items ++ record_bytes (public_body public.now)) }
-{
-    let entry = PublicEntry {
-        offset: public.offset,
-        name: name_bytes(&public.name),
-        unread: 0,
-    };
-    never_too_long(put_publics(alloc, public.segment, &[entry], out))
-}
-
-fn append_external(alloc: Global, name: &Name, out: &mut Vec<u8>) -> Result<(), AllocError>
-    ensures { OnOk result (out.new.items ≡ out.old.items ++ record_bytes (external_body name.now)) }
-{
-    let entry = ExternalEntry {
-        name: name_bytes(name),
-        unread: 0,
-    };
-    never_too_long(put_externals(alloc, &[entry], out))
 }
 
 fn append_fixup(alloc: Global, own: u8, fixup: Fixup, out: &mut Vec<u8>) -> Result<(), AllocError>
@@ -132,13 +95,6 @@ fn append_fixup(alloc: Global, own: u8, fixup: Fixup, out: &mut Vec<u8>) -> Resu
     }
 }
 
-fn append_bytes(alloc: Global, content: &Content, out: &mut Vec<u8>) -> Result<(), AllocError>
-    requires { length content.now.bytes ≤ 65531 }
-    ensures { OnOk result (out.new.items ≡ out.old.items ++ record_bytes (content_body content.now)) }
-{
-    never_too_long(put_content(alloc, content.segment, content.offset, &content.bytes, out))
-}
-
 fn append_end(alloc: Global, start: Option<(u8, u16)>, out: &mut Vec<u8>) -> Result<(), AllocError>
     ensures { OnOk result (out.new.items ≡ out.old.items ++ record_bytes (ModuleEnd (end_body start))) }
 {
@@ -150,7 +106,11 @@ fn append_commons(alloc: Global, commons: &[Common], out: &mut Vec<u8>) -> Resul
     ensures { OnOk result (out.new.items ≡ out.old.items ++ flat_map record_bytes (map common_body commons.now)) }
 {
     for common in commons {
-        append_common(alloc, common, out)?;
+        let entry = CommonEntry {
+            id: common.id,
+            name: name_bytes(&common.name),
+        };
+        never_too_long(put_commons(alloc, &[entry], out))?;
     }
     Ok(())
 }
@@ -159,7 +119,12 @@ fn append_publics(alloc: Global, publics: &[Public], out: &mut Vec<u8>) -> Resul
     ensures { OnOk result (out.new.items ≡ out.old.items ++ flat_map record_bytes (map public_body publics.now)) }
 {
     for public in publics {
-        append_public(alloc, public, out)?;
+        let entry = PublicEntry {
+            offset: public.offset,
+            name: name_bytes(&public.name),
+            unread: 0,
+        };
+        never_too_long(put_publics(alloc, public.segment, &[entry], out))?;
     }
     Ok(())
 }
@@ -168,7 +133,11 @@ fn append_externals(alloc: Global, externals: &[Name], out: &mut Vec<u8>) -> Res
     ensures { OnOk result (out.new.items ≡ out.old.items ++ flat_map record_bytes (map external_body externals.now)) }
 {
     for name in externals {
-        append_external(alloc, name, out)?;
+        let entry = ExternalEntry {
+            name: name_bytes(name),
+            unread: 0,
+        };
+        never_too_long(put_externals(alloc, &[entry], out))?;
     }
     Ok(())
 }
@@ -191,7 +160,7 @@ fn append_content(alloc: Global, content: &Content, out: &mut Vec<u8>) -> Result
     requires { length content.now.bytes ≤ 65531 }
     ensures { OnOk result (out.new.items ≡ out.old.items ++ flat_map record_bytes (content_bodies content.now)) }
 {
-    append_bytes(alloc, content, out)?;
+    never_too_long(put_content(alloc, content.segment, content.offset, &content.bytes, out))?;
     append_fixups(alloc, content.segment, &content.fixups, out)
 }
 

@@ -5,6 +5,7 @@ use Rattle.std.specs.List.{list_any, enumerate_from}
 use Rattle.omf_body.specs.declared.field.Field.{Field}
 use Rattle.omf_body.specs.declared.field.Field.TheVariants.{Low, High, Both}
 use Rattle.omf_module.specs.declared.fixup.Fixup.{Fixup}
+use Rattle.omf_module.specs.declared.fixup.Target.{Target}
 use Rattle.omf_module.specs.Modules.{ModuleValue}
 use Rattle.omf_relocation.specs.Place.{Bases}
 use Rattle.omf_relocation.specs.ImageByte.{target_word}
@@ -14,9 +15,12 @@ is_high Low = false
 is_high High = true
 is_high Both = false
 
--- the fixup takes the high byte of a word that isn't a multiple of 256
+-- the fixup takes the high byte of a word that isn't a multiple of 256, where each target has a word
+abbrev pub loses_with : (Target → ℕ) → Fixup → Bool
+loses_with word f = is_high f.field && not (word f.target % 256 == 0)
+
 abbrev pub loses_low_byte : Bases → List ModuleValue → ℕ × ModuleValue → Fixup → Bool
-loses_low_byte bases modules m f = is_high f.field && not (target_word bases modules m f.target % 256 == 0)
+loses_low_byte bases modules m = loses_with (target_word bases modules m)
 
 -- one of the modules' fixups does
 abbrev pub any_loses_low_byte : Bases → List ModuleValue → Bool

@@ -35,24 +35,33 @@ name_word bases publics name = option_map_or (λ p. p.word) (find (λ p. pointwi
 abbrev pub name_at : List (List ℕ) → ℕ → List ℕ
 name_at names index = unwrap_or (slice_get names index) []
 
--- what a reference of a module is to
+-- what a reference is to: where a segment begins, or what an external stands for
+abbrev pub word_to : (segment external : ℕ → ℕ) → Target → ℕ
+word_to segment external (target.Segment id) = segment id
+word_to segment external (target.External index) = external index
+
+-- a fixup of a content that begins at offset `first`, where each target has a word
+abbrev pub patch_with : (Target → ℕ) → (first : ℕ) → Fixup → Patch
+patch_with word first f = record { at = f.offset - first; field = f.field; word = word f.target }
+
+-- in a module
 abbrev pub target_word : Bases → List ModuleValue → ℕ × ModuleValue → Target → ℕ
-target_word bases modules m (target.Segment id) = place_in bases modules m.0 m.1 id 0
-target_word bases modules m (target.External index) = name_word bases (placed_publics bases modules) (name_at m.1.externals index)
+target_word bases modules m = word_to (λ id. place_in bases modules m.0 m.1 id 0) (λ index. name_word bases (placed_publics bases modules) (name_at m.1.externals index))
 
 abbrev pub patch_of : Bases → List ModuleValue → ℕ × ModuleValue → ContentValue → Fixup → Patch
-patch_of bases modules m c f = record { at = f.offset - c.offset; field = f.field; word = target_word bases modules m f.target }
+patch_of bases modules m c = patch_with (target_word bases modules m) c.offset
 
 -- bytes at a place
 pub record ByteChunk : Type 0 where
   pub place : ℕ
   pub bytes : List ℕ
 
+-- a content at its place, with its references increased
+abbrev pub chunk_at : (place : ℕ) → (Target → ℕ) → ContentValue → ByteChunk
+chunk_at place word c = record { place = place; bytes = with_patches (map (patch_with word c.offset) c.fixups) c.bytes }
+
 abbrev pub chunk_of : Bases → List ModuleValue → ℕ × ModuleValue → ContentValue → ByteChunk
-chunk_of bases modules m c = record {
-  place = place_in bases modules m.0 m.1 c.segment c.offset;
-  bytes = with_patches (map (patch_of bases modules m c) c.fixups) c.bytes;
-}
+chunk_of bases modules m c = chunk_at (place_in bases modules m.0 m.1 c.segment c.offset) (target_word bases modules m) c
 
 -- the chunks of all contents, by module and then by record
 abbrev pub chunks_of : Bases → List ModuleValue → List ByteChunk

@@ -54,10 +54,14 @@ starts_from id before (m ∷ ms) =
 abbrev pub part_start : List ModuleValue → (number id : ℕ) → ℕ
 part_start modules number id = if is_laid_out id then slice_index (starts_from id 0 modules) number else 0
 
--- the place of an offset in a segment of a module: absolute offsets stand as they are, all of STACK is spoken of from its
--- top, and everything else lies at its base and its part's start
-abbrev pub place_in : Bases → List ModuleValue → (number : ℕ) → ModuleValue → (id offset : ℕ) → ℕ
-place_in bases modules number m id offset =
+-- the place of an offset in a segment: absolute offsets stand as they are, all of STACK is spoken of from its top, and
+-- everything else from where it begins
+abbrev pub place_at : (begin top id offset : ℕ) → ℕ
+place_at begin top id offset =
     if id == 0 then offset
-    else if id == 3 then (bases.top + offset) % 65536
-    else (base_of bases m id + part_start modules number id + offset) % 65536
+    else if id == 3 then (top + offset) % 65536
+    else (begin + offset) % 65536
+
+-- in a module a segment begins at its base and its part's start
+abbrev pub place_in : Bases → List ModuleValue → (number : ℕ) → ModuleValue → (id offset : ℕ) → ℕ
+place_in bases modules number m id offset = place_at (base_of bases m id + part_start modules number id) bases.top id offset

@@ -1,5 +1,5 @@
 -- The module of an image keeps the rules of modules, and is read as the image.
-use Rattle.std.proofs.Common.{◌≡◌, ◌≢◌, ◌⊎◌, inl, inr, ℕ, ◌+◌, ◌<◌, arith, Result, Bool, true, false, ◌&&◌, List, [], ◌∷◌, length, map, Some, Ok, Err, refl, sym, ap, subst, ◌∙◌, true≢false}
+use Rattle.std.proofs.Common.{◌≡◌, ◌≢◌, inl, inr, ℕ, ◌+◌, arith, Result, Bool, true, false, ◌&&◌, List, [], ◌∷◌, length, map, Some, Ok, Err, refl, sym, ap, subst, ◌∙◌, true≢false}
 use Rattle.std.specs.Prelude.{◌==◌, nat_le, not, if◌then◌else◌, IfErr}
 use Rattle.std.specs.List.{list_all, AllByRecursion}
 use Rattle.std.proofs.lemmas.Bool.{and_parts, le-leb, leb-true, eqb-true}
@@ -19,7 +19,7 @@ use Rattle.omf_module.specs.WritingLaws.{WrittenFileIsSpelled}
 use Rattle.place80.specs.declared.image_fault.ImageFault.{ImageFault}
 use Rattle.place80.specs.declared.image_fault.ImageFault.TheVariants.{NotAbsolute, Module, Memory as OutOfMemory}
 use Rattle.place80.specs.Image.{PlacedBytes, Located, IsChunk}
-use Rattle.place80.specs.ImageFile.{without_regions, chunk_content, content_chunk, image_module, is_absolute_content, is_absolute_start, is_absolute, program_from, program_of, program_of_one, of_cause, of_module_fault, SpellsImage, FaultsImage, of_file, of_modules, WrittenImageIsSpelled, OneImage, OneImageFault, NeverBothImage}
+use Rattle.place80.specs.ImageFile.{without_regions, chunk_content, content_chunk, image_module, is_absolute_content, is_absolute_start, is_absolute, program_from, program_of, program_of_one, of_cause, of_module_fault, FaultsImage, of_file, of_modules, WrittenImageIsSpelled, OneImage, OneImageFault, NeverBothImage}
 
 -- ---- the module of an image
 

@@ -16,15 +16,15 @@ use Rattle.omf_module.specs.Segments.{has_segment}
 use Rattle.omf_module.specs.Modules.{ModuleValue}
 use Rattle.omf_module.specs.Rules.{has_target, is_start, is_sound}
 use Rattle.omf_relocation.specs.Place.{Bases, place_in}
-use Rattle.omf_relocation.specs.ImageByte.{target_word, patch_of, chunk_of}
-use Rattle.omf_relocation.specs.HighReferences.{is_high, loses_low_byte, any_loses_low_byte}
+use Rattle.omf_relocation.specs.ImageByte.{target_word, patch_with, patch_of, chunk_of}
+use Rattle.omf_relocation.specs.HighReferences.{is_high, loses_with, loses_low_byte, any_loses_low_byte}
 use Rattle.omf_relocation.specs.SoundModules.{LiesIn, HasItsFixups}
 use Rattle.std.proofs.Math.Bool.{or-false}
 use Rattle.place80.specs.declared.options.Options.{Options}
 use Rattle.place80.specs.declared.placed.Placed.{Placed}
 use Rattle.place80.specs.Image.{PlacedBytes}
-use Rattle.place80.specs.Layout.{placed_in, place_by, bases_of, layout_of, program_bases}
-use Rattle.place80.specs.Locating.{target_by, patch_by, loses_by, chunk_by, CanBePlaced, placed_bytes, located_chunks}
+use Rattle.place80.specs.Layout.{placed_in, place_among, bases_of, layout_of, program_bases}
+use Rattle.place80.specs.Locating.{word_among, chunk_among, CanBePlaced, placed_bytes, located_chunks}
 use Rattle.place80.specs.PlaceFault.{is_outside, overlaps, pairs, high_not_paged, is_in_placed, start_place, start_not_code, unresolved, no_start, layout_fault, locate_fault}
 use Rattle.place80.specs.declared.place_fault.PlaceFault.{PlaceFault}
 use Rattle.place80.specs.declared.place_fault.PlaceFault.TheVariants.{HighNotPaged, StartNotCode}
@@ -44,7 +44,7 @@ map_same P f g same (x ∷ xs) all = ap (λ y. y ∷ map f xs) (same x all.0) �
 
 -- what a reference is to, where the module has no external
 target_same : ModuleLaws → (segments : List Placed) (m : ModuleValue) (t : Target) → IsTrue (is_sound m) → IsTrue (has_target m.commons 0 t) →
-    target_word (bases_of m.commons segments) (m ∷ []) (0, m) t ≡ target_by segments t
+    target_word (bases_of m.commons segments) (m ∷ []) (0, m) t ≡ word_among segments t
 target_same laws segments m (target.Segment id) sound has = place_of_id laws segments m id 0 (laws.rules m sound).commons has
 target_same laws segments m (target.External index) sound has = let below : index < 0 = ltb-true index 0 has in absurd (omega arith)
 
@@ -58,15 +58,15 @@ targets_there : (m : ModuleValue) (c : ContentValue) → m.externals ≡ [] → 
 targets_there m c none good = subst (λ n. AllByRecursion (λ f. IsTrue (has_target m.commons n f.target)) c.fixups) (no_externals m none) good.targets
 
 -- references that lose their low bytes
-loses_same : ModuleLaws → (segments : List Placed) (m : ModuleValue) (f : Fixup) → IsTrue (is_sound m) → IsTrue (has_target m.commons 0 f.target) → loses_by segments f ≡ loses_low_byte (bases_of m.commons segments) (m ∷ []) (0, m) f
+loses_same : ModuleLaws → (segments : List Placed) (m : ModuleValue) (f : Fixup) → IsTrue (is_sound m) → IsTrue (has_target m.commons 0 f.target) → loses_with (word_among segments) f ≡ loses_low_byte (bases_of m.commons segments) (m ∷ []) (0, m) f
 loses_same laws segments m f sound has = ap (λ n. is_high f.field && not (n % 256 == 0)) (sym (target_same laws segments m f.target sound has))
 
 pub any_loses_same : ModuleLaws → (segments : List Placed) (m : ModuleValue) → IsTrue (is_sound m) → m.externals ≡ [] →
-    list_any (λ c. list_any (loses_by segments) c.fixups) m.contents ≡ any_loses_low_byte (bases_of m.commons segments) (m ∷ [])
+    list_any (λ c. list_any (loses_with (word_among segments)) c.fixups) m.contents ≡ any_loses_low_byte (bases_of m.commons segments) (m ∷ [])
 any_loses_same laws segments m sound none =
     let loses : Fixup → Bool = loses_low_byte (bases_of m.commons segments) (m ∷ []) (0, m) in
-    any_same (HasItsFixups m) (λ c. list_any (loses_by segments) c.fixups) (λ c. list_any loses c.fixups)
-    (λ c good. any_same (HasTarget m) (loses_by segments) loses (λ f has. loses_same laws segments m f sound has) c.fixups (targets_there m c none good))
+    any_same (HasItsFixups m) (λ c. list_any (loses_with (word_among segments)) c.fixups) (λ c. list_any loses c.fixups)
+    (λ c good. any_same (HasTarget m) (loses_with (word_among segments)) loses (λ f has. loses_same laws segments m f sound has) c.fixups (targets_there m c none good))
     m.contents (laws.rules m sound).fixups
     ∙ sym (or-false (list_any (λ c. list_any loses c.fixups) m.contents))
 
@@ -75,7 +75,7 @@ abbrev one_chunk : List Placed → ModuleValue → ContentValue → PlacedBytes
 one_chunk segments m c = placed_bytes (chunk_of (bases_of m.commons segments) (m ∷ []) (0, m) c)
 
 patch_same : ModuleLaws → (segments : List Placed) (m : ModuleValue) (c : ContentValue) (f : Fixup) → IsTrue (is_sound m) → IsTrue (has_target m.commons 0 f.target) →
-    patch_by segments c.offset f ≡ patch_of (bases_of m.commons segments) (m ∷ []) (0, m) c f
+    patch_with (word_among segments) c.offset f ≡ patch_of (bases_of m.commons segments) (m ∷ []) (0, m) c f
 patch_same laws segments m c f sound has = ap (λ (n : ℕ). record { at = f.offset - c.offset; field = f.field; word = n }) (sym (target_same laws segments m f.target sound has))
 
 pub record IsGood (m : ModuleValue) (c : ContentValue) : Type 0 where
@@ -89,32 +89,32 @@ all_good m (c ∷ cs) lie have = (record { lies = lie.0; fixups = have.0 }, all_
 pub good_contents : ModuleLaws → (m : ModuleValue) → IsTrue (is_sound m) → AllByRecursion (IsGood m) m.contents
 good_contents laws m sound = all_good m m.contents (laws.rules m sound).contents (laws.rules m sound).fixups
 
-chunk_same : ModuleLaws → (segments : List Placed) (m : ModuleValue) (c : ContentValue) → IsTrue (is_sound m) → m.externals ≡ [] → IsGood m c → chunk_by segments c ≡ one_chunk segments m c
+chunk_same : ModuleLaws → (segments : List Placed) (m : ModuleValue) (c : ContentValue) → IsTrue (is_sound m) → m.externals ≡ [] → IsGood m c → chunk_among segments c ≡ one_chunk segments m c
 chunk_same laws segments m c sound none good =
-    let patches = map_same (HasTarget m) (patch_by segments c.offset) (patch_of (bases_of m.commons segments) (m ∷ []) (0, m) c)
+    let patches = map_same (HasTarget m) (patch_with (word_among segments) c.offset) (patch_of (bases_of m.commons segments) (m ∷ []) (0, m) c)
     (λ f has. patch_same laws segments m c f sound has) c.fixups (targets_there m c none good.fixups) in
     let place = place_of_id laws segments m c.segment c.offset (laws.rules m sound).commons good.lies.has in
-    ap (λ (n : ℕ). record { address = n; bytes = with_patches (map (patch_by segments c.offset) c.fixups) c.bytes }) (sym place)
+    ap (λ (n : ℕ). record { address = n; bytes = with_patches (map (patch_with (word_among segments) c.offset) c.fixups) c.bytes }) (sym place)
     ∙ ap (λ (l : List Patch). record { address = place_in (bases_of m.commons segments) (m ∷ []) 0 m c.segment c.offset; bytes = with_patches l c.bytes }) patches
 
 map_both : {A B C : Type 0} (f : B → C) (g : A → B) (xs : List A) → map f (map g xs) ≡ map (λ x. f (g x)) xs
 map_both f g [] = refl
 map_both f g (x ∷ xs) = ap (λ l. f (g x) ∷ l) (map_both f g xs)
 
-pub chunks_same : ModuleLaws → (options : Options) (m : ModuleValue) → IsTrue (is_sound m) → m.externals ≡ [] → map (chunk_by (layout_of options m)) m.contents ≡ located_chunks options m
+pub chunks_same : ModuleLaws → (options : Options) (m : ModuleValue) → IsTrue (is_sound m) → m.externals ≡ [] → map (chunk_among (layout_of options m)) m.contents ≡ located_chunks options m
 chunks_same laws options m sound none =
     let segments : List Placed = layout_of options m in
-    map_same (IsGood m) (chunk_by segments) (one_chunk segments m) (λ c good. chunk_same laws segments m c sound none good) m.contents (good_contents laws m sound)
+    map_same (IsGood m) (chunk_among segments) (one_chunk segments m) (λ c good. chunk_same laws segments m c sound none good) m.contents (good_contents laws m sound)
     ∙ sym (map_both placed_bytes (chunk_of (bases_of m.commons segments) (m ∷ []) (0, m)) m.contents)
     ∙ ap (map placed_bytes) (sym (append-nil (map (chunk_of (bases_of m.commons segments) (m ∷ []) (0, m)) m.contents)))
 
 -- the start
-pub start_same : ModuleLaws → (segments : List Placed) (m : ModuleValue) (id offset : ℕ) → IsTrue (is_sound m) → m.start ≡ Some (id, offset) → place_by segments id offset ≡ start_place (bases_of m.commons segments) m (id, offset)
+pub start_same : ModuleLaws → (segments : List Placed) (m : ModuleValue) (id offset : ℕ) → IsTrue (is_sound m) → m.start ≡ Some (id, offset) → place_among segments id offset ≡ start_place (bases_of m.commons segments) m (id, offset)
 start_same laws segments m id offset sound is =
     let has : has_segment m.commons id ≡ true = subst (λ (s : Option (ℕ × ℕ)). IsTrue (is_start m.commons s)) is (laws.rules m sound).start in
     sym (place_of_id laws segments m id offset (laws.rules m sound).commons has)
 
-pub start_found : ModuleLaws → (segments : List Placed) (m : ModuleValue) (id offset : ℕ) → IsTrue (is_sound m) → m.start ≡ Some (id, offset) → Some (place_by segments id offset) ≡ option_map (start_place (bases_of m.commons segments) m) m.start
+pub start_found : ModuleLaws → (segments : List Placed) (m : ModuleValue) (id offset : ℕ) → IsTrue (is_sound m) → m.start ≡ Some (id, offset) → Some (place_among segments id offset) ≡ option_map (start_place (bases_of m.commons segments) m) m.start
 start_found laws segments m id offset sound is =
     ap (λ (n : ℕ). Some n) (start_same laws segments m id offset sound is) ∙ ap (λ (s : Option (ℕ × ℕ)). option_map (start_place (bases_of m.commons segments) m) s) (sym is)
 
@@ -164,8 +164,8 @@ can_be_placed laws options m i d sound none below =
     let good : IsGood m c = all_at (IsGood m) m.contents i d (good_contents laws m sound) below in
     record {
       begin = good.fixups.begin;
-      inside = good.fixups.inside (λ f. target_by segments f.target);
-      apart = good.fixups.apart (λ f. target_by segments f.target);
+      inside = good.fixups.inside (λ f. word_among segments f.target);
+      apart = good.fixups.apart (λ f. word_among segments f.target);
       in_record = good.lies.in_record;
       in_memory = subst (λ n. n + length c.bytes ≤ 65536) (place_of_id laws segments m c.segment c.offset (laws.rules m sound).commons good.lies.has) (content_in_memory laws options m i d sound none below);
     }
@@ -183,19 +183,19 @@ no_first [] none = refl
 no_first (x ∷ xs) none = absurd cc
 
 pub high_told : ModuleLaws → (options : Options) (m : ModuleValue) (segments : List Placed) (contents : List ContentValue) (b : Bool) → IsTrue (is_sound m) → m.externals ≡ [] →
-    segments ≡ layout_of options m → contents ≡ m.contents → b ≡ list_any (λ c. list_any (loses_by segments) c.fixups) contents →
+    segments ≡ layout_of options m → contents ≡ m.contents → b ≡ list_any (λ c. list_any (loses_with (word_among segments)) c.fixups) contents →
     b ≡ any_loses_low_byte (program_bases options m) (m ∷ [])
 high_told laws options m segments contents b sound closed places same told =
     told
-    ∙ ap (λ (s : List Placed). list_any (λ c. list_any (loses_by s) c.fixups) contents) places
-    ∙ ap (λ (l : List ContentValue). list_any (λ c. list_any (loses_by (layout_of options m)) c.fixups) l) same
+    ∙ ap (λ (s : List Placed). list_any (λ c. list_any (loses_with (word_among s)) c.fixups) contents) places
+    ∙ ap (λ (l : List ContentValue). list_any (λ c. list_any (loses_with (word_among (layout_of options m))) c.fixups) l) same
     ∙ any_loses_same laws (layout_of options m) m sound closed
 
-pub place_told : (options : Options) (m : ModuleValue) (segments : List Placed) (id offset place : ℕ) → segments ≡ layout_of options m → place ≡ place_by segments id offset → place ≡ place_by (layout_of options m) id offset
-place_told options m segments id offset place places told = told ∙ ap (λ (s : List Placed). place_by s id offset) places
+pub place_told : (options : Options) (m : ModuleValue) (segments : List Placed) (id offset place : ℕ) → segments ≡ layout_of options m → place ≡ place_among segments id offset → place ≡ place_among (layout_of options m) id offset
+place_told options m segments id offset place places told = told ∙ ap (λ (s : List Placed). place_among s id offset) places
 
 pub inside_told : ModuleLaws → (options : Options) (m : ModuleValue) (segments : List Placed) (id offset place : ℕ) (p : Placed) (b : Bool) → IsTrue (is_sound m) → m.start ≡ Some (id, offset) →
-    segments ≡ layout_of options m → place ≡ place_by (layout_of options m) id offset → p ≡ placed_in segments 1 → b ≡ is_in_placed p place →
+    segments ≡ layout_of options m → place ≡ place_among (layout_of options m) id offset → p ≡ placed_in segments 1 → b ≡ is_in_placed p place →
     b ≡ is_in_placed (placed_in (layout_of options m) 1) (start_place (program_bases options m) m (id, offset))
 inside_told laws options m segments id offset place p b sound is places placed code told =
     told
@@ -203,11 +203,11 @@ inside_told laws options m segments id offset place p b sound is places placed c
     ∙ ap (λ (n : ℕ). is_in_placed (placed_in (layout_of options m) 1) n) (placed ∙ start_same laws (layout_of options m) m id offset sound is)
 
 pub chunks_told : ModuleLaws → (options : Options) (m : ModuleValue) (segments : List Placed) (contents : List ContentValue) (chunks : List PlacedBytes) → IsTrue (is_sound m) → m.externals ≡ [] →
-    segments ≡ layout_of options m → contents ≡ m.contents → chunks ≡ map (chunk_by segments) contents → chunks ≡ located_chunks options m
+    segments ≡ layout_of options m → contents ≡ m.contents → chunks ≡ map (chunk_among segments) contents → chunks ≡ located_chunks options m
 chunks_told laws options m segments contents chunks sound closed places same told =
     told
-    ∙ ap (λ (s : List Placed). map (chunk_by s) contents) places
-    ∙ ap (map (chunk_by (layout_of options m))) same
+    ∙ ap (λ (s : List Placed). map (chunk_among s) contents) places
+    ∙ ap (map (chunk_among (layout_of options m))) same
     ∙ chunks_same laws options m sound closed
 
 -- ranges of a layout without a fault

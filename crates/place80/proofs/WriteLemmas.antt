@@ -1,5 +1,5 @@
 -- The text of regions spells them.
-use Rattle.std.proofs.Common.{◌≡◌, ℕ, zero, suc, ◌/◌, ◌%◌, ◌<◌, ◌≤◌, false, cond, List, [], ◌∷◌, ◌++◌, length, map, append_assoc, append-nil, lit≤, refl, ap, sym, subst, ◌∙◌, arith}
+use Rattle.std.proofs.Common.{◌≡◌, ℕ, zero, suc, ◌/◌, ◌%◌, ◌<◌, ◌≤◌, false, cond, List, [], ◌∷◌, ◌++◌, length, map, append_assoc, append-nil, lit≤, refl, ap, sym, subst, ◌∙◌}
 use Rattle.std.specs.Prelude.{All, IsPermutation, slice_index, filter_map, codes, Option, Some, None, Result, Ok, Err, OnOk}
 use Rattle.std.specs.List.{flat_map, cons_option}
 use Rattle.std.proofs.lemmas.Bool.{lt-ltb}

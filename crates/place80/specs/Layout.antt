@@ -7,7 +7,7 @@ use Rattle.omf_module.specs.declared.symbols.Common.{Common}
 use Rattle.omf_module.specs.declared.segment.Segment.{Segment}
 use Rattle.omf_module.specs.Segments.{names_common, empty_segment}
 use Rattle.omf_module.specs.Modules.{ModuleValue, segment_of}
-use Rattle.omf_relocation.specs.Place.{Bases, rounded}
+use Rattle.omf_relocation.specs.Place.{Bases, place_at, rounded}
 use Rattle.place80.specs.declared.options.Options.{Options}
 use Rattle.place80.specs.declared.placed.Placed.{Placed}
 
@@ -75,13 +75,9 @@ base_in segments id = (placed_in segments id).base
 abbrev pub top_in : List Placed → ℕ
 top_in segments = let stack = placed_in segments 3 in (stack.base + stack.length) % 65536
 
--- The place of an offset in a segment of the one module that is located: absolute offsets stand as they are, STACK is spoken
--- of from its top, anything else from its base.
-abbrev pub place_by : List Placed → (id offset : ℕ) → ℕ
-place_by segments id offset =
-    if id == 0 then offset
-    else if id == 3 then (top_in segments + offset) % 65536
-    else (base_in segments id + offset) % 65536
+-- the place of an offset in a segment of the one module that is located
+abbrev pub place_among : List Placed → (id offset : ℕ) → ℕ
+place_among segments id = place_at (base_in segments id) (top_in segments) id
 
 -- the bases that these places give, those of named commons by name; no name stands for a word
 abbrev pub bases_of : List Common → List Placed → Bases

@@ -1,22 +1,18 @@
 -- The image of a located program: its chunks, its regions and its start, by the places of its segments.
 -- (ISIS-II User's Guide, LOCATE: an absolute module.)
-use Rattle.std.specs.Prelude.{ℕ, ◌+◌, ◌-◌, ◌≤◌, IsTrue, length, ◌%◌, ◌==◌, Bool, ◌&&◌, ◌||◌, not, List, [], ◌∷◌, filter, map}
+use Rattle.std.specs.Prelude.{ℕ, ◌+◌, ◌≤◌, IsTrue, length, ◌%◌, ◌==◌, Bool, ◌||◌, not, List, [], ◌∷◌, filter, map}
 use Rattle.std.specs.List.{AllByRecursion}
 use Rattle.omf_module.specs.Modules.{ModuleValue}
-use Rattle.omf_module.specs.declared.fixup.Fixup.{Fixup}
 use Rattle.omf_module.specs.declared.fixup.Target.{Target}
-use Rattle.omf_module.specs.declared.fixup.Target.TheVariants as target
-use Rattle.omf_relocation.specs.declared.patching.Patch.{Patch}
 use Rattle.omf_module.specs.Contents.{ContentValue}
-use Rattle.omf_relocation.specs.Patches.{with_patches, are_inside, are_apart}
-use Rattle.omf_relocation.specs.ImageByte.{ByteChunk, chunks_of}
-use Rattle.omf_relocation.specs.HighReferences.{is_high}
+use Rattle.omf_relocation.specs.Patches.{are_inside, are_apart}
+use Rattle.omf_relocation.specs.ImageByte.{word_to, patch_with, ByteChunk, chunk_at, chunks_of}
 use Rattle.place80.specs.declared.range.Range.{Range}
 use Rattle.place80.specs.declared.options.Options.{Options}
 use Rattle.place80.specs.declared.placed.Placed.{Placed}
 use Rattle.place80.specs.Image.{PlacedBytes}
 use Rattle.place80.specs.RegionsText.{filled}
-use Rattle.place80.specs.Layout.{placed_in, place_by, program_bases}
+use Rattle.place80.specs.Layout.{placed_in, place_among, program_bases}
 
 -- a chunk of an image
 abbrev pub placed_bytes : ByteChunk → PlacedBytes
@@ -26,31 +22,21 @@ placed_bytes c = record { address = c.place; bytes = c.bytes }
 abbrev pub located_chunks : Options → ModuleValue → List PlacedBytes
 located_chunks options m = map placed_bytes (chunks_of (program_bases options m) (m ∷ []))
 
--- The same by the placed segments of the one module, which has no external: the word that a reference is increased by, the
--- patch that this is, whether it loses the word's low byte, and the chunk of a content.
-abbrev pub target_by : List Placed → Target → ℕ
-target_by segments (target.Segment id) = place_by segments id 0
-target_by segments (target.External index) = 0
+-- The same by the placed segments of the one module, which has no external: the word that a reference is increased by, and
+-- the chunk of a content.
+abbrev pub word_among : List Placed → Target → ℕ
+word_among segments = word_to (λ id. place_among segments id 0) (λ index. 0)
 
-abbrev pub patch_by : List Placed → (first : ℕ) → Fixup → Patch
-patch_by segments first f = record { at = f.offset - first; field = f.field; word = target_by segments f.target }
-
-abbrev pub loses_by : List Placed → Fixup → Bool
-loses_by segments f = is_high f.field && not (target_by segments f.target % 256 == 0)
-
-abbrev pub chunk_by : List Placed → ContentValue → PlacedBytes
-chunk_by segments c = record {
-  address = place_by segments c.segment c.offset;
-  bytes = with_patches (map (patch_by segments c.offset) c.fixups) c.bytes;
-}
+abbrev pub chunk_among : List Placed → ContentValue → PlacedBytes
+chunk_among segments c = placed_bytes (chunk_at (place_among segments c.segment c.offset) (word_among segments) c)
 
 -- a content that fits its place: its references begin in it, lie inside it and share no byte, and its chunk is one
 pub record CanBePlaced (segments : List Placed) (c : ContentValue) : Type 0 where
   pub begin : AllByRecursion (λ f. c.offset ≤ f.offset) c.fixups
-  pub inside : IsTrue (are_inside (length c.bytes) (map (patch_by segments c.offset) c.fixups))
-  pub apart : IsTrue (are_apart (map (patch_by segments c.offset) c.fixups))
+  pub inside : IsTrue (are_inside (length c.bytes) (map (patch_with (word_among segments) c.offset) c.fixups))
+  pub apart : IsTrue (are_apart (map (patch_with (word_among segments) c.offset) c.fixups))
   pub in_record : length c.bytes ≤ 65531
-  pub in_memory : place_by segments c.segment c.offset + length c.bytes ≤ 65536
+  pub in_memory : place_among segments c.segment c.offset + length c.bytes ≤ 65536
 
 -- the range of a placed segment; one of no bytes at the end of memory is told at 0
 abbrev pub range_at : Placed → Range

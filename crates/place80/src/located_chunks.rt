@@ -3,8 +3,9 @@
 ghost use Rattle.std.specs.Prelude.{◌≡◌, ◌+◌, ◌≤◌, [], map, length, IsTrue, IfOk};
 ghost use Rattle.std.specs.List.{AllByRecursion, list_all, list_any};
 ghost use Rattle.omf_relocation.specs.Patches.{are_inside, are_apart};
-ghost use Rattle.place80.specs.Layout.{place_by};
-ghost use Rattle.place80.specs.Locating.{target_by, patch_by, loses_by, chunk_by, CanBePlaced};
+ghost use Rattle.omf_relocation.specs.ImageByte.{patch_with};
+ghost use Rattle.omf_relocation.specs.HighReferences.{loses_with};
+ghost use Rattle.place80.specs.Locating.{word_among, chunk_among, CanBePlaced};
 
 use crate::chunk::Chunk;
 use crate::placed::Placed;
@@ -15,7 +16,7 @@ use std::alloc::{AllocError, Global};
 
 /// Whether a reference of the contents takes the high byte of a word that isn't a multiple of 256.
 pub(crate) fn any_loses_its_low_byte(segments: &[Placed], contents: &[Content]) -> bool
-    ensures { result ≡ list_any (λ c. list_any (loses_by segments.now) c.fixups) contents.now }
+    ensures { result ≡ list_any (λ c. list_any (loses_with (word_among segments.now)) c.fixups) contents.now }
 {
     contents
         .iter()
@@ -23,7 +24,7 @@ pub(crate) fn any_loses_its_low_byte(segments: &[Placed], contents: &[Content]) 
 }
 
 fn content_loses_a_low_byte(segments: &[Placed], content: &Content) -> bool
-    ensures { result ≡ list_any (loses_by segments.now) content.now.fixups }
+    ensures { result ≡ list_any (loses_with (word_among segments.now)) content.now.fixups }
 {
     content
         .fixups
@@ -33,7 +34,7 @@ fn content_loses_a_low_byte(segments: &[Placed], content: &Content) -> bool
 
 /// Whether the reference takes the high byte of a word that isn't a multiple of 256.
 fn loses_its_low_byte(segments: &[Placed], fixup: Fixup) -> bool
-    ensures { result ≡ loses_by segments.now fixup }
+    ensures { result ≡ loses_with (word_among segments.now) fixup }
 {
     match fixup.field {
         Field::High => target_word(segments, fixup.target) % 256 != 0,
@@ -43,7 +44,7 @@ fn loses_its_low_byte(segments: &[Placed], fixup: Fixup) -> bool
 
 /// The word that a reference is increased by. No external is left where a program is located.
 fn target_word(segments: &[Placed], target: Target) -> u16
-    ensures { result ≡ target_by segments.now target }
+    ensures { result ≡ word_among segments.now target }
 {
     match target {
         Target::Segment(id) => place_of(segments, id, 0),
@@ -58,7 +59,7 @@ pub(crate) fn located_chunks(
     contents: &[Content],
 ) -> Result<Vec<Chunk>, AllocError>
     requires { AllByRecursion (CanBePlaced segments.now) contents.now }
-    ensures { IfOk result (λ chunks. chunks.items ≡ map (chunk_by segments.now) contents.now) }
+    ensures { IfOk result (λ chunks. chunks.items ≡ map (chunk_among segments.now) contents.now) }
 {
     let mut chunks = Vec::new(alloc);
     for content in contents {
@@ -70,7 +71,7 @@ pub(crate) fn located_chunks(
 /// The chunk of a content.
 fn located_chunk(alloc: Global, segments: &[Placed], content: &Content) -> Result<Chunk, AllocError>
     requires { CanBePlaced segments.now content.now }
-    ensures { IfOk result (λ chunk. chunk ≡ chunk_by segments.now content.now) }
+    ensures { IfOk result (λ chunk. chunk ≡ chunk_among segments.now content.now) }
 {
     let mut bytes = Vec::from_slice(alloc, &content.bytes)?;
     let patches = patches_of(alloc, segments, content.offset, &content.fixups)?;
@@ -89,7 +90,7 @@ fn patches_of(
     fixups: &[Fixup],
 ) -> Result<Vec<Patch>, AllocError>
     requires { AllByRecursion (λ f. first ≤ f.offset) fixups.now }
-    ensures { IfOk result (λ patches. patches.items ≡ map (patch_by segments.now first) fixups.now) }
+    ensures { IfOk result (λ patches. patches.items ≡ map (patch_with (word_among segments.now) first) fixups.now) }
 {
     let mut patches = Vec::new(alloc);
     for fixup in fixups {

@@ -1,7 +1,7 @@
 //! Places by the segments that were laid out.
 
 ghost use Rattle.std.specs.Prelude.{◌≡◌};
-ghost use Rattle.place80.specs.Layout.{top_in, place_by};
+ghost use Rattle.place80.specs.Layout.{top_in, place_among};
 ghost use Rattle.place80.specs.PlaceFault.{is_in_placed};
 
 use crate::placed::{Placed, placed_in};
@@ -17,7 +17,7 @@ fn top_in(segments: &[Placed]) -> u16
 /// The place of an offset in a segment: absolute offsets stand as they are, STACK is spoken of from its top, and anything
 /// else from its base.
 pub(crate) fn place_of(segments: &[Placed], id: u8, offset: u16) -> u16
-    ensures { result ≡ place_by segments.now id offset }
+    ensures { result ≡ place_among segments.now id offset }
 {
     match id {
         0 => offset,

@@ -41,23 +41,6 @@ fn lines_in_any_order(rt: HostRuntime) -> Result<(), Fail> {
     Ok(())
 }
 
-static REFUSED: [(&[u8], RegionsFault); 4] = [
-    (
-        b"REGIONS 1\nCODE 3000 0010\nSTACK 300F 0002\n",
-        RegionsFault::RegionsOverlap,
-    ),
-    (b"REGIONS 1\nCODE 3000 0010\n", RegionsFault::NoStack),
-    (b"REGIONS 1\nCODE FFFF 0002\n", RegionsFault::BadLine(2)),
-    (b"REGIONS 9\n", RegionsFault::BadVersion),
-];
-
-#[test]
-fn texts_that_are_refused(rt: HostRuntime) {
-    for (text, fault) in &REFUSED {
-        assert_eq!(rt; read_regions(rt.alloc(), text).err(), Some(*fault));
-    }
-}
-
 fn map(alloc: Global) -> Result<RegionMap, Fail> {
     Ok(RegionMap::new(alloc, &read_regions(alloc, REGIONS)?)?)
 }
@@ -96,7 +79,10 @@ static THREE: [u8; 50] = [
 
 fn image(alloc: Global) -> Result<Image, Fail> {
     let regions = read_regions(alloc, REGIONS)?;
-    Ok(read_image(alloc, &THREE, regions).map_err(|(_, fault)| fault)?)
+    match read_image(alloc, &THREE, regions) {
+        Ok(image) => Ok(image),
+        Err((_, fault)) => Err(fault.into()),
+    }
 }
 
 /// The bytes at some addresses: of two contents that overlap the later one counts, and what none covers is 0.

@@ -4,10 +4,13 @@ use Rattle.std.specs.Option.{option_map}
 use Rattle.std.specs.Str.{bytes_eq}
 use Rattle.std.proofs.Math.Seq.{take-add}
 use Rattle.std.proofs.lemmas.List.{take_at, drop_at, drop-drop, take_all}
-use Rattle.std.proofs.lemmas.List.Splits.{join_with_byte-slice_split}
-use Rattle.place80.specs.Lines.{parts}
+use Rattle.std.proofs.lemmas.List.Splits.{join_with_byte-slice_split, length-slice_split}
+use Rattle.place80.specs.Lines.{is_line_feed, parts}
 use Rattle.plm80.specs.BundleText.{Sides, sides_after, sides_of, text_joined}
-use Rattle.loader80.proofs.InputsLemmas.{parts-some}
+
+-- a text has a part, be it an empty one
+parts-some : (text : List ℕ) → 0 < length (parts text)
+parts-some text = omega (arith, length-slice_split is_line_feed text)
 
 -- a line `INPUTS` parts the text
 sides_of-found : (line : List ℕ) (lines : List (List ℕ)) → 0 < length lines → bytes_eq line (codes "INPUTS") ≡ true

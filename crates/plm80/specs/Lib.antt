@@ -3,3 +3,4 @@ pub mod Bundle
 pub mod Fault
 pub mod Listing
 pub mod NumberText
+pub mod LinkedImage

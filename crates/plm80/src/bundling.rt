@@ -8,6 +8,7 @@ ghost use Rattle.plm80.specs.Bundle.{BundleSends, BundleTooLong, bundle_read_fai
 
 use crate::bundle_text::part_bundle;
 use crate::fault::BundleFault;
+use loader80::laws::what_is_said_is_sent;
 use loader80::{
     Failed, Outcome, ReadAllFault, SessionFault, SessionTexts, Sink, Source, TEXT_LIMIT,
     answer_texts, read_all, write_all,
@@ -37,6 +38,7 @@ pub fn bundle<S: Source, K: Sink>(
     ensures out_failures { K.failed out.new ≡ K.failed out.old + bundle_write_failures result }
     ensures taken { TakesAtMost (BUNDLE_LIMIT + 1) (S.left input.old) (S.left input.new) }
 {
+    what_is_said_is_sent();
     let bytes = match read_all(alloc, input, BUNDLE_LIMIT) {
         Ok(bytes) => bytes,
         Err(ReadAllFault::Read) => return Err(BundleFault::Session(SessionFault::Read(1))),

@@ -10,8 +10,7 @@ mod bundle_text;
 mod bundling;
 mod commands;
 mod fault;
-#[cfg(test)]
-mod tests;
+pub mod laws;
 
 pub use bundling::{BUNDLE_LIMIT, bundle};
 use commands::{answer_words, fail, refuse_words};

@@ -1,7 +1,7 @@
-use Rattle.std.proofs.Common.{arith, false, ◌∙◌, sym}
+use Rattle.std.proofs.Common.{arith, ℕ, false, get_or, ◌∙◌, ap, sym}
 use Rattle.std.proofs.lemmas.List.{get_or_read}
 use Rattle.std.proofs.lemmas.List.Elements.{Contains-get_or}
-use Rattle.bounds80.proofs.FollowLemmas.{following_first, following_next, following_end}
+use Rattle.bounds80.proofs.FollowLemmas.{fewer_unmet, following_first, following_next, following_end}
 use Rattle.bounds80.proofs.SumLemmas.{no_call, none_of}
 use Rattle.bounds80.proofs.cycles.cycle.Goals as goal
 
@@ -22,3 +22,21 @@ returns c =
     (omega (arith, c.slot-in-loop-caller.ensures.within, c.loop-caller.invariant.met_places)) c.index.ensures false in
     following_end c.args.calls.now c.in_ok-next.next.items c.loop-caller.met.items c.loop-caller.call c.slot-in-loop-caller.result c.loop-caller.invariant
     c.slot-in-loop-caller.ensures.is (sym read ∙ c.loop-caller-test.false)
+
+pub index-requires : goal.index-requires
+index-requires c = omega (arith, c.slot-in-loop-caller.ensures.within, c.loop-caller.invariant.met_places)
+
+pub index_mut-requires : goal.index_mut-requires
+index_mut-requires c = omega (arith, c.slot-caller.ensures.within, c.loop-caller.invariant.met_places)
+
+pub index-call-requires-in-loop-caller : goal.index-call-requires-in-loop-caller
+index-call-requires-in-loop-caller c = omega (arith, c.slot-in-loop-caller-2.ensures.within, c.in_ok-next.ensures.places)
+
+pub loop-caller-smaller : goal.loop-caller-smaller
+loop-caller-smaller c =
+    let met = c.loop-caller.met.items in
+    let same = c.slot-caller.ensures.is ∙ sym c.slot-in-loop-caller.ensures.is in
+    let read = get_or_read met c.slot-in-loop-caller.result c.index.result.now
+    (omega (arith, c.slot-in-loop-caller.ensures.within, c.loop-caller.invariant.met_places)) c.index.ensures false in
+    fewer_unmet met c.slot-caller.result (omega (arith, c.slot-caller.ensures.within, c.loop-caller.invariant.met_places))
+    (ap (λ (k : ℕ). get_or met k false) same ∙ sym read ∙ c.loop-caller-test.true)

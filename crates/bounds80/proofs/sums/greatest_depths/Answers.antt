@@ -1,6 +1,8 @@
-use Rattle.std.proofs.Common.{arith, ◌∙◌}
+use Rattle.std.proofs.Common.{List, arith, subst, ◌∙◌}
 use Rattle.std.proofs.lemmas.Int.{ints}
-use Rattle.std.proofs.lemmas.List.{get_or_read, length-set}
+use Rattle.std.proofs.lemmas.List.{get_or_read, length-set, take_all}
+use Rattle.bounds80.specs.declared.graph.Depth.{Depth}
+use Rattle.bounds80.specs.Sums.{AreDepths}
 use Rattle.bounds80.proofs.SumLemmas.{depth_at, no_depth, no_depths, none_of}
 use Rattle.bounds80.proofs.sums.greatest_depths.Goals as goal
 
@@ -16,3 +18,17 @@ loop-depth-preserved c =
           (omega (arith, ints, modest.low, modest.high)) c.raise.ensures modest c.loop-depth.invariant.0,
       length-set c.loop-depth.sums.items c.slot-place.result c.raise.result ∙ c.loop-depth.invariant.1,
     )
+
+pub index-requires : goal.index-requires
+index-requires c = omega (arith, c.loop-depth.invariant.1, c.slot-place.ensures.within)
+
+pub index_mut-requires : goal.index_mut-requires
+index_mut-requires c = omega (arith, c.loop-depth.invariant.1, c.slot-place.ensures.within)
+
+pub returns-clause-depths : goal.returns-clause-depths
+returns-clause-depths c =
+    subst (λ (l : List Depth). AreDepths l c.loop-depth.sums.items)
+    (take_all c.loop-depth.depth-index c.args.depths.now (omega (arith, c.loop-depth-test.false))) c.loop-depth.invariant.0
+
+pub returns-clause-slots : goal.returns-clause-slots
+returns-clause-slots c = c.loop-depth.invariant.1

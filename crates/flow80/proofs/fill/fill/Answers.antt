@@ -1,4 +1,5 @@
 use Rattle.std.proofs.Common.{true≢false}
+use Rattle.std.proofs.lemmas.Result.{err_from_is_err_and}
 use Rattle.flow80.proofs.LookLemmas.{nothing_stands, nothing_small}
 use Rattle.flow80.proofs.fill.fill.Goals as goal
 
@@ -7,4 +8,26 @@ loop-changes-init g c = record {
   small = nothing_small c.in_ok-table.table c.in_ok-table.ensures;
   stands = nothing_stands (g.C.Code.code c.args.program.now) c.in_ok-table.table c.in_ok-table.ensures;
   closed = λ e. absurd (true≢false e);
+}
+
+pub sweep-requires : goal.sweep-requires
+sweep-requires g c = c.loop-changes.invariant.small
+
+pub returns-in_err-changes-clause-refused : goal.returns-in_err-changes-clause-refused
+returns-in_err-changes-clause-refused g c =
+    let p = err_from_is_err_and c.from_residual-in_err-changes.result c.from_residual-in_err-changes.ensures.1 in
+    rw (p.1, p.2) (c.in_err-changes.ensures.looks.refused c.loop-changes.invariant.stands)
+
+pub loop-changes-preserved : goal.loop-changes-preserved
+loop-changes-preserved g c = record {
+  small = c.in_ok-changes.ensures.looks.ongoing.small;
+  stands = c.in_ok-changes.ensures.looks.ongoing.stands c.loop-changes.invariant.stands;
+  closed = c.in_ok-changes.ensures.closed;
+}
+
+pub returns-clause-filled : goal.returns-clause-filled
+returns-clause-filled g c = record {
+  small = c.loop-changes.invariant.small;
+  stands = c.loop-changes.invariant.stands;
+  closed = c.loop-changes.invariant.closed c.loop-changes-test.false;
 }

@@ -1,5 +1,6 @@
-use Rattle.std.specs.Prelude.{◌≡◌, ◌++◌, ◌+◌, List, map, drop, slice_get}
+use Rattle.std.specs.Prelude.{◌≡◌, ◌++◌, ◌+◌, List, map, drop, slice_get, length}
 use Rattle.std.specs.List.{flat_map, enumerate_from}
+use Rattle.std.proofs.lemmas.Option.{slice_get_within}
 use Rattle.std.proofs.Common.{◌∙◌, ap, sym, arith}
 use Rattle.omf_module.specs.Modules.{ModuleValue}
 use Rattle.omf_module.specs.Rules.{IsModule}
@@ -15,4 +16,4 @@ loop-number-preserved c =
     one_further IsModule c.args.tables.now c.loop-number.number c.get.result.now (ap (λ (ms : List ModuleValue). slice_get ms c.loop-number.number) (sym c.tables.view_is) ∙ c.get.ensures) c.loop-number.invariant.1 c.in_ok-add_contents.ensures.sound)
 
 pub returns-clause-sound : goal.returns-clause-sound
-returns-clause-sound c = holds_of_all IsModule c.args.tables.now (λ k m at. c.loop-number.invariant.1 k m ?below at)
+returns-clause-sound c = holds_of_all IsModule c.args.tables.now (λ k m at. c.loop-number.invariant.1 k m (omega (arith, slice_get_within c.args.tables.now k m at, c.loop-number-test.false, c.len-number-end.ensures, ap length c.tables.view_is)) at)

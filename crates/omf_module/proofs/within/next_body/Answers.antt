@@ -1,11 +1,17 @@
-use Rattle.std.proofs.Common.{rules, ℕ, sym, subst, arith, refl, Ok}
+use Rattle.std.proofs.Common.{ℕ, sym, ap, subst, ◌∙◌, arith, refl, Ok, Err, IsTrue}
 use Rattle.std.proofs.lemmas.Result.{err_from_is_err_and}
+use Rattle.omf_core.specs.declared.kind.RecordKind.TheVariants.{ModuleHeader, EndOfFile, NamedCommons}
+use Rattle.omf_core.specs.Kind.{kind_byte}
 use Rattle.omf_core.specs.Record.{SpellsRecord}
-use Rattle.omf_body.specs.declared.body.Body.TheVariants.{NamedCommons}
-use Rattle.omf_body.specs.Bodies.{Spells}
+use Rattle.omf_body.specs.declared.body.Body.TheVariants as body_of
+use Rattle.omf_body.specs.declared.fault.BodyFault.TheVariants as body_fault
+use Rattle.omf_body.specs.Bodies.{body_kind, Spells}
+use Rattle.omf_body.specs.FirstFault.{unknown}
 use Rattle.omf_module.specs.declared.fault.Cause.{Cause}
-use Rattle.omf_module.specs.Spelled.{FaultsWithin, no_byte, no_record, file_ends, second_header, in_body, in_commons}
-use Rattle.omf_module.proofs.FollowLemmas.{followed_commons, commons_spelled, is_alone, err_not_ok, ok_same}
+use Rattle.omf_module.specs.declared.fault.Cause.TheVariants.{UnknownKind}
+use Rattle.omf_module.specs.Spelled.{stands_alone, FaultsWithin, no_byte, no_record, file_ends, second_header, in_body, in_commons}
+use Rattle.omf_module.proofs.FollowLemmas.{followed_commons, commons_spelled, is_alone, is_alone_kind}
+use Rattle.omf_module.proofs.OneReading.{ok_same, ok_err}
 use Rattle.omf_module.proofs.within.next_body.Goals as goal
 
 pub returns-then-bytes-at-clause-fault : goal.returns-then-bytes-at-clause-fault
@@ -16,42 +22,56 @@ returns-in_err-record-clause-fault c =
     let p = err_from_is_err_and c.from_residual.result c.from_residual.ensures.1 in
     rw (p.1, p.2) (λ _. no_record c.in_err-record.field-0.0 (omega (arith, c.if-bytes-at.false)) (sym c.in_err-record.ensures.fault))
 
-pub returns-in-2-clause-fault : goal.returns-in-2-clause-fault
-returns-in-2-clause-fault c = λ _.
-    second_header c.in_ok-record.after c.in_ok-record.record.body.now
-    (subst (λ (k : ℕ). SpellsRecord c.args.bytes.now c.args.at c.in_ok-record.after k c.in_ok-record.record.body.now) c.in-2.is c.in_ok-record.ensures.read)
+pub returns-in-ModuleHeader-clause-fault : goal.returns-in-ModuleHeader-clause-fault
+returns-in-ModuleHeader-clause-fault c = λ _.
+    let is = sym c.in-Some.ensures.kind ∙ ap kind_byte c.in-ModuleHeader.is in
+    subst (λ (k : ℕ). FaultsWithin c.args.bytes.now c.args.at c.args.commons.now.items (UnknownKind k)) (sym is)
+    (second_header c.in_ok-record.after c.in_ok-record.record.body.now
+    (subst (λ (k : ℕ). SpellsRecord c.args.bytes.now c.args.at c.in_ok-record.after k c.in_ok-record.record.body.now) is c.in_ok-record.ensures.read))
 
-pub returns-in-14-clause-fault : goal.returns-in-14-clause-fault
-returns-in-14-clause-fault c = λ _.
+pub returns-in-EndOfFile-clause-fault : goal.returns-in-EndOfFile-clause-fault
+returns-in-EndOfFile-clause-fault c = λ _.
+    let is = sym c.in-Some.ensures.kind ∙ ap kind_byte c.in-EndOfFile.is in
     file_ends c.in_ok-record.after c.in_ok-record.record.body.now
-    (subst (λ (k : ℕ). SpellsRecord c.args.bytes.now c.args.at c.in_ok-record.after k c.in_ok-record.record.body.now) c.in-14.is c.in_ok-record.ensures.read)
+    (subst (λ (k : ℕ). SpellsRecord c.args.bytes.now c.args.at c.in_ok-record.after k c.in_ok-record.record.body.now) is c.in_ok-record.ensures.read)
 
-pub returns-in_err-take_commons-in-46-clause-fault :
-    goal.returns-in_err-take_commons-in-46-clause-fault
-returns-in_err-take_commons-in-46-clause-fault c =
-    let p = err_from_is_err_and c.from_residual-in_err-take_commons-in-46.result c.from_residual-in_err-take_commons-in-46.ensures.1 in
+pub returns-in_err-take_commons-in-NamedCommons-clause-fault :
+    goal.returns-in_err-take_commons-in-NamedCommons-clause-fault
+returns-in_err-take_commons-in-NamedCommons-clause-fault c =
+    let p = err_from_is_err_and c.from_residual-in_err-take_commons-in-NamedCommons.result c.from_residual-in_err-take_commons-in-NamedCommons.ensures.1 in
     rw (p.1, p.2) (λ ne.
-    let r = c.in_err-take_commons-in-46.ensures.fault ne in
+    let r = c.in_err-take_commons-in-NamedCommons.ensures.fault ne in
     subst (λ (x : Cause). FaultsWithin c.args.bytes.now c.args.at c.args.commons.now.items x) (sym r.is)
     (in_commons c.in_ok-record.after c.in_ok-record.record.body.now r.fault
-    (subst (λ (k : ℕ). SpellsRecord c.args.bytes.now c.args.at c.in_ok-record.after k c.in_ok-record.record.body.now) c.in-46.is c.in_ok-record.ensures.read) r.faults))
+    (subst (λ (k : ℕ). SpellsRecord c.args.bytes.now c.args.at c.in_ok-record.after k c.in_ok-record.record.body.now) (sym c.in-Some.ensures.kind ∙ ap kind_byte c.in-NamedCommons.is) c.in_ok-record.ensures.read) r.faults))
 
 pub unreachable-requires : goal.unreachable-requires
 unreachable-requires c =
-    let t = c.in_ok-take_commons-in-46.ensures.taken in
-    let spelled = subst (λ (k : ℕ). Spells k c.in_ok-record.record.body.now (NamedCommons t.entries)) (sym c.in-46.is) (commons_spelled c.args.commons.now.items c.take_commons.new.commons.items c.in_ok-record.record.body.now t) in
-    err_not_ok c.in-Err.field-0 (NamedCommons t.entries) (c.in-Err.ensures.every_body (NamedCommons t.entries) spelled)
+    let t = c.in_ok-take_commons-in-NamedCommons.ensures.taken in
+    let spelled = subst (λ (k : ℕ). Spells k c.in_ok-record.record.body.now (body_of.NamedCommons t.entries)) (sym (sym c.in-Some.ensures.kind ∙ ap kind_byte c.in-NamedCommons.is)) (commons_spelled c.args.commons.now.items c.take_commons.new.commons.items c.in_ok-record.record.body.now t) in
+    ok_err (Err c.in-Err.field-0) (body_of.NamedCommons t.entries) c.in-Err.field-0 (c.in-Err.ensures.every_body (body_of.NamedCommons t.entries) spelled) refl
 
 pub returns-in-Ok-clause-follows : goal.returns-in-Ok-clause-follows
 returns-in-Ok-clause-follows c =
-    let t = c.in_ok-take_commons-in-46.ensures.taken in
+    let t = c.in_ok-take_commons-in-NamedCommons.ensures.taken in
     followed_commons c.args.bytes.now c.args.at c.in_ok-record.after c.in_ok-record.record.kind c.in_ok-record.record.body.now c.args.commons.now.items c.take_commons.new.commons.items c.in-Ok.body t
-    c.in-46.is c.in_ok-record.ensures.read c.in_ok-record.ensures.longest (ok_same (Ok c.in-Ok.body) c.in-Ok.body (NamedCommons t.entries) refl
-    (c.in-Ok.ensures.every_body (NamedCommons t.entries)
-    (subst (λ (k : ℕ). Spells k c.in_ok-record.record.body.now (NamedCommons t.entries)) (sym c.in-46.is) (commons_spelled c.args.commons.now.items c.take_commons.new.commons.items c.in_ok-record.record.body.now t))))
+    (sym c.in-Some.ensures.kind ∙ ap kind_byte c.in-NamedCommons.is) c.in_ok-record.ensures.read c.in_ok-record.ensures.longest (ok_same (Ok c.in-Ok.body) c.in-Ok.body (body_of.NamedCommons t.entries) refl
+    (c.in-Ok.ensures.every_body (body_of.NamedCommons t.entries)
+    (subst (λ (k : ℕ). Spells k c.in_ok-record.record.body.now (body_of.NamedCommons t.entries)) (sym (sym c.in-Some.ensures.kind ∙ ap kind_byte c.in-NamedCommons.is)) (commons_spelled c.args.commons.now.items c.take_commons.new.commons.items c.in_ok-record.record.body.now t))))
 
-pub returns-in_err-parse-in_default-clause-fault : goal.returns-in_err-parse-in_default-clause-fault
-returns-in_err-parse-in_default-clause-fault c =
-    let p = err_from_is_err_and c.from_residual-in_err-parse-in_default.result c.from_residual-in_err-parse-in_default.ensures.1 in
-    rw (p.1, p.2) (λ _. in_body c.in_ok-record.after c.in_ok-record.record.kind c.in_ok-record.record.body.now c.in_err-parse-in_default.field-0.0 c.in_ok-record.ensures.read
-    (is_alone c.in_ok-record.record.kind (search rules) (search rules) (search rules)) c.in_err-parse-in_default.ensures.fault)
+pub returns-in_default-clause-fault : goal.returns-in_default-clause-fault
+returns-in_default-clause-fault c = λ _.
+    let other = c.in_default.ensures.unknown in
+    in_body c.in_ok-record.after c.in_ok-record.record.kind c.in_ok-record.record.body.now (body_fault.UnknownKind c.in_ok-record.record.kind) c.in_ok-record.ensures.read
+    (is_alone c.in_ok-record.record.kind (λ e. other ModuleHeader (sym e)) (λ e. other EndOfFile (sym e)) (λ e. other NamedCommons (sym e)))
+    (unknown c.in_ok-record.record.kind c.in_ok-record.record.body.now (λ b. other (body_kind b)))
+
+pub returns-in_err-parse-in_default-kind : goal.returns-in_err-parse-in_default-kind
+returns-in_err-parse-in_default-kind c =
+    let p = err_from_is_err_and c.from_residual-in_err-parse-in_default-kind.result c.from_residual-in_err-parse-in_default-kind.ensures.1 in
+    let alone : IsTrue (stands_alone c.in_ok-record.record.kind) =
+    subst (λ (k : ℕ). IsTrue (stands_alone k)) c.in-Some.ensures.kind (is_alone_kind c.in-Some.kind c.in_default-kind.not-ModuleHeader c.in_default-kind.not-EndOfFile c.in_default-kind.not-NamedCommons) in
+    rw (p.1, p.2) (record {
+      follows = tt;
+      fault = λ _. in_body c.in_ok-record.after c.in_ok-record.record.kind c.in_ok-record.record.body.now c.in_err-parse-in_default-kind.field-0.0 c.in_ok-record.ensures.read alone c.in_err-parse-in_default-kind.ensures.fault;
+    })

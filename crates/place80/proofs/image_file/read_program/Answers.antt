@@ -1,6 +1,5 @@
-use Rattle.std.proofs.Common.{rules, ◌≡◌, List, [], ◌∷◌, length, Err, arith, refl}
+use Rattle.std.proofs.Common.{rules, ◌≡◌, Err}
 use Rattle.std.proofs.lemmas.Result.{err_from_is_err_and}
-use Rattle.omf_module.specs.Modules.{ModuleValue}
 use Rattle.place80.specs.declared.image_fault.ImageFault.TheVariants.{NotOneModule}
 use Rattle.place80.specs.ImageFile.{program_of, program_of_one, of_modules}
 use Rattle.place80.proofs.ImageFileLemmas.{fault_of_file, refused_by_module}

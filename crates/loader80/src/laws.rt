@@ -1,0 +1,11 @@
+//! What holds of what is answered for three texts, whatever calls are made. The law is ensured by a function that does nothing: a
+//! layer above that calls it has the law in its proof.
+
+ghost use Rattle.loader80.specs.SendsLaws.{WrittenAnswersAreSent, PrefixesAreSent};
+
+/// What is said of three texts that are within the limit is sent where its text was written whole; and where a part from its
+/// front was written, that is a prefix of what is sent.
+pub fn what_is_said_is_sent()
+    ensures whole { WrittenAnswersAreSent }
+    ensures prefix { PrefixesAreSent }
+{}
