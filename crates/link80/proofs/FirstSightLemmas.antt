@@ -1,6 +1,5 @@
 -- Names that are put last where they are new are the distinct names in order of first sight.
-use Rattle.std.specs.Prelude.{◌≡◌, ℕ, nat_eq, Bool, true, false, not, ◌&&◌, ◌||◌, if◌then◌else◌, List, [], ◌∷◌, ◌++◌, filter, refl}
-use Rattle.std.specs.List.{list_any}
+use Rattle.std.specs.Prelude.{◌≡◌, ℕ, nat_eq, Bool, true, false, not, ◌&&◌, ◌||◌, List, [], ◌∷◌, ◌++◌, filter, refl}
 use Rattle.std.specs.Cmp.Lexicographic.{pointwise}
 use Rattle.std.proofs.Common.{◌∙◌, ap, sym, arith, inl, inr, cond, append_assoc}
 use Rattle.std.proofs.lemmas.Bool.{cases_Bool}
@@ -8,7 +7,7 @@ use Rattle.std.proofs.lemmas.Bool.Decides.{nat_tests}
 use Rattle.std.proofs.lemmas.List.Folds.{list_any-append}
 use Rattle.link80.specs.FirstSight.{is_among, with_name, with_names}
 use Rattle.link80.specs.Linked.{distinct}
-use Rattle.link80.proofs.NameLemmas.{name_is, name_itself}
+use Rattle.link80.proofs.NameLemmas.{name_is}
 
 -- ---- filters
 
@@ -105,7 +104,7 @@ distinct_passed test (n ∷ ns) = elim (cases_Bool (test n)) [
       ap (λ b. distinct (cond b (n ∷ filter test ns) (filter test ns))) passes
       ∙ ap (λ l. n ∷ filter (λ o. not (pointwise nat_eq n o)) l) (distinct_passed test ns)
       ∙ ap (λ l. n ∷ l) (filter_twice (λ o. not (pointwise nat_eq n o)) test (distinct ns) ∙ filter_same _ _ (λ x. both_ways (test x) (not (pointwise nat_eq n x))) (distinct ns)
-          ∙ sym (filter_twice test (λ o. not (pointwise nat_eq n o)) (distinct ns)))
+      ∙ sym (filter_twice test (λ o. not (pointwise nat_eq n o)) (distinct ns)))
       ∙ ap (λ b. cond b (n ∷ filter test (filter (λ o. not (pointwise nat_eq n o)) (distinct ns))) (filter test (filter (λ o. not (pointwise nat_eq n o)) (distinct ns)))) (sym passes)
   | inr fails ↦
       ap (λ b. distinct (cond b (n ∷ filter test ns) (filter test ns))) fails
@@ -119,6 +118,7 @@ distinct_passed test (n ∷ ns) = elim (cases_Bool (test n)) [
     both_ways true false = refl
     both_ways false true = refl
     both_ways false false = refl
+
     passed_differs : test n ≡ false → (x : List ℕ) → (not (pointwise nat_eq n x) && test x) ≡ test x
     passed_differs fails x = elim (cases_Bool (pointwise nat_eq n x)) [
       | inl same ↦ ap (λ b. not b && test x) same ∙ sym (ap test (sym (name_is n x same)) ∙ fails)

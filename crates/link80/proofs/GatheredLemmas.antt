@@ -1,8 +1,8 @@
 -- The names of all publics, and the main programs.
-use Rattle.std.specs.Prelude.{◌≡◌, ◌<◌, ℕ, suc, ◌+◌, nat_eq, nat_lt, Bool, true, false, ◌||◌, if◌then◌else◌, Option, Some, None, option_map, List, [], ◌∷◌, ◌++◌, drop, length, map, slice_get, is_some, refl}
+use Rattle.std.specs.Prelude.{◌≡◌, ◌<◌, ℕ, ◌+◌, nat_eq, true, false, ◌||◌, if◌then◌else◌, Option, Some, None, option_map, List, [], ◌∷◌, ◌++◌, drop, length, map, slice_get, is_some, refl}
 use Rattle.std.specs.List.{list_any, flat_map, enumerate_from, cons_option}
 use Rattle.std.specs.Cmp.Lexicographic.{pointwise}
-use Rattle.std.proofs.Common.{◌∙◌, ap, sym, arith, cond}
+use Rattle.std.proofs.Common.{◌∙◌, ap, sym, arith}
 use Rattle.omf_module.specs.declared.symbols.Public.{Public}
 use Rattle.omf_module.specs.Modules.{ModuleValue}
 use Rattle.link80.specs.FirstSight.{is_among}
@@ -14,7 +14,6 @@ use Rattle.link80.proofs.ListLemmas.{map_append}
 use Rattle.link80.proofs.LoopLemmas.{left_at}
 
 -- ---- publics by their names
-
 
 stands_before : (before : List Public) (name : List ℕ) → list_any (λ q. pointwise nat_eq q.name name) before ≡ is_among (map (λ q. q.name) before) name
 stands_before [] name = refl

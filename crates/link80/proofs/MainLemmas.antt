@@ -1,5 +1,5 @@
 -- The start of the linked module is that of the one main program.
-use Rattle.std.specs.Prelude.{◌≡◌, ◌<◌, ℕ, zero, suc, ◌+◌, nat_lt, Bool, true, false, if◌then◌else◌, Option, Some, None, option_map, List, [], ◌∷◌, filter_map, length, slice_get, refl}
+use Rattle.std.specs.Prelude.{◌≡◌, ◌<◌, ℕ, suc, ◌+◌, nat_lt, true, false, if◌then◌else◌, Option, Some, None, option_map, List, [], ◌∷◌, filter_map, length, slice_get, refl}
 use Rattle.std.specs.List.{cons_option, enumerate_from}
 use Rattle.std.proofs.Common.{◌∙◌, ap, sym, arith}
 use Rattle.std.proofs.lemmas.Bool.Decides.{nat_tests}
@@ -83,9 +83,9 @@ one_of all k m ms n (Some s) from later is =
       there = refl;
       start_is = from;
       starts_are =
-        ap (λ o. cons_option (option_map (moved_start all (k, m)) o) (starts_of all (k + 1) ms)) from
-        ∙ ap (λ l. moved_start all (k, m) s ∷ l) (no_start all (k + 1) ms parts.1)
-        ∙ ap (λ i. moved_start all (i, m) s ∷ []) parts.0;
+          ap (λ o. cons_option (option_map (moved_start all (k, m)) o) (starts_of all (k + 1) ms)) from
+          ∙ ap (λ l. moved_start all (k, m) s ∷ l) (no_start all (k + 1) ms parts.1)
+          ∙ ap (λ i. moved_start all (i, m) s ∷ []) parts.0;
     }
 
 pub one_start : (all : List ModuleValue) (k : ℕ) (ms : List ModuleValue) (n : ℕ) → mains_from k ms ≡ n ∷ [] → OneStart all k ms n

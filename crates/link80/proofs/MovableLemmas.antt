@@ -1,7 +1,7 @@
 -- The contents of modules can be moved, where no linked segment is too long.
-use Rattle.std.specs.Prelude.{◌≡◌, ◌≤◌, ◌<◌, ◌⊎◌, ℕ, zero, suc, ◌+◌, ◌-◌, ◌==◌, nat_eq, nat_lt, nat_le, Bool, true, false, ◌&&◌, ◌||◌, if◌then◌else◌, find, Option, Some, None, option_map, List, [], ◌∷◌, length, map, slice_get, slice_index, IsTrue, refl}
+use Rattle.std.specs.Prelude.{◌≡◌, ◌≤◌, ◌<◌, ◌⊎◌, ℕ, zero, suc, ◌+◌, ◌-◌, ◌==◌, nat_lt, true, ◌&&◌, Some, None, List, [], ◌∷◌, length, map, slice_get, slice_index}
 use Rattle.std.specs.List.{AllByRecursion, list_all, enumerate_from}
-use Rattle.std.proofs.Common.{◌∙◌, ap, sym, arith, cond, inl, inr, subst, eqb-true}
+use Rattle.std.proofs.Common.{ap, arith, cond, inl, inr, subst, eqb-true}
 use Rattle.std.proofs.lemmas.Bool.{cases_Bool, and_parts}
 use Rattle.std.proofs.lemmas.Bool.Decides.{nat_tests}
 use Rattle.omf_body.specs.declared.field.Field.{Field}
@@ -11,9 +11,9 @@ use Rattle.omf_module.specs.Contents.{ContentValue, offsets_by}
 use Rattle.omf_module.specs.Segments.{segment_in}
 use Rattle.omf_module.specs.Modules.{ModuleValue}
 use Rattle.omf_module.specs.Rules.{IsModule, end_of}
-use Rattle.omf_relocation.specs.Patches.{are_inside, is_inside_bytes}
+use Rattle.omf_relocation.specs.Patches.{is_inside_bytes}
 use Rattle.omf_relocation.specs.Place.{is_laid_out, part_start, starts_from}
-use Rattle.omf_relocation.specs.SoundModules.{SoundModulesKeepRules, RulesOf, LiesIn, HasItsFixups, as_patch}
+use Rattle.omf_relocation.specs.SoundModules.{SoundModulesKeepRules, LiesIn, HasItsFixups, as_patch}
 use Rattle.link80.specs.Linked.{greatest, linked_commons, part_of, parts_end, linked_length}
 use Rattle.link80.specs.LinkFault.{segment_too_long}
 use Rattle.link80.specs.Movable.{CanBeMoved}
@@ -70,11 +70,10 @@ content_fits modules number m c at fit lies = elim (cases_Bool (c.segment == 0))
 each_can : (modules : List ModuleValue) (number : ℕ) (m : ModuleValue) (cs : List ContentValue) → slice_get modules number ≡ Some m → segment_too_long modules ≡ None →
     AllByRecursion (LiesIn m) cs → AllByRecursion (HasItsFixups m) cs → AllByRecursion (CanBeMoved modules number m) cs
 each_can modules number m [] at fit lie have = tt
-each_can modules number m (c ∷ cs) at fit lie have =
-    (
-      record { fits = content_fits modules number m c at fit lie.0; fixups = have.0; ends = fixups_end c.offset (length c.bytes) c.fixups (have.0.inside (λ _. 0)) have.0.begin },
-      each_can modules number m cs at fit lie.1 have.1
-    )
+each_can modules number m (c ∷ cs) at fit lie have = (
+  record { fits = content_fits modules number m c at fit lie.0; fixups = have.0; ends = fixups_end c.offset (length c.bytes) c.fixups (have.0.inside (λ _. 0)) have.0.begin },
+  each_can modules number m cs at fit lie.1 have.1,
+)
 
 pub can_be_moved : SoundModulesKeepRules → (modules : List ModuleValue) (number : ℕ) (m : ModuleValue) → slice_get modules number ≡ Some m → segment_too_long modules ≡ None → IsModule m →
     AllByRecursion (CanBeMoved modules number m) m.contents

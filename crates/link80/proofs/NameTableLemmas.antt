@@ -3,7 +3,7 @@ use Rattle.std.specs.Prelude.{◌≡◌, ℕ, ◌+◌, nat_eq, Bool, ◌||◌, i
 use Rattle.std.specs.Borrow.{Bor}
 use Rattle.std.specs.List.{list_any, prefix_len}
 use Rattle.std.specs.Cmp.Lexicographic.{pointwise}
-use Rattle.std.proofs.Common.{◌∙◌, ap, sym}
+use Rattle.std.proofs.Common.{◌∙◌, ap}
 use Rattle.indexmap.specs.IndexSet.{insert_key}
 use Rattle.link80.specs.FirstSight.{is_among, with_name}
 use Rattle.link80.proofs.ListLemmas.{map_append}

@@ -3,7 +3,7 @@ use Rattle.std.specs.Prelude.{◌≡◌, ◌≤◌, ◌<◌, ℕ, suc, ◌+◌, 
 use Rattle.std.specs.List.{position_from}
 use Rattle.std.specs.Option.{option_map_or}
 use Rattle.std.specs.Cmp.Lexicographic.{pointwise}
-use Rattle.std.proofs.Common.{◌∙◌, ap, sym, arith, cond}
+use Rattle.std.proofs.Common.{◌∙◌, ap, arith, cond}
 use Rattle.std.proofs.lemmas.Bool.Decides.{nat_tests}
 use Rattle.std.proofs.lemmas.Iterator.Adapters.{position_from-zero}
 use Rattle.omf_module.specs.declared.symbols.Public.{Public}
@@ -124,8 +124,10 @@ number_within (n ∷ ns) name k is = (elim (pointwise nat_eq n name) as (λ b. c
   where
     zero_is : (k : ℕ) → Some 0 ≡ Some k → 0 ≡ k
     zero_is k e = cc
+
     suc_is : (j k : ℕ) → Some (suc j) ≡ Some k → suc j ≡ k
     suc_is j k e = cc
+
     next : (o : Option ℕ) (k : ℕ) → ((j : ℕ) → o ≡ Some j → j < length ns) → option_map suc o ≡ Some k → k < suc (length ns)
     next None k later e = absurd cc
     next (Some j) k later e = omega (arith, later j refl, suc_is j k e)

@@ -22,10 +22,13 @@ is_next_part before s start end is = by (nat_le first_end 65535) refl is
   where
     first : ℕ
     first = rounded s.paged before
+
     first_end : ℕ
     first_end = first + s.length
+
     pair_is : (a b : ℕ × ℕ) → Some a ≡ Some b → a ≡ b
     pair_is a b e = cc
+
     by : (b : Bool) → nat_le first_end 65535 ≡ b → (if◌then◌else◌ {A = Option (ℕ × ℕ)} b (Some (first, first_end)) None) ≡ Some (start, end) → IsNextPart before s start end
     by true fits some = record { start_is = sym (ap (λ (p : ℕ × ℕ). p.0) (pair_is _ _ some)); end_is = sym (ap (λ (p : ℕ × ℕ). p.1) (pair_is _ _ some)); fits = grind (arith, nat_tests, fits, pair_is _ _ some) }
     by false long none = absurd cc
@@ -49,10 +52,10 @@ part_is_laid id before ms n m start end made at is =
     let rest : List ModuleValue = drop (n + 1) ms in
     record {
       starts =
-        append_assoc made (start ∷ []) (starts_from id end rest)
-        ∙ ap (λ a. made ++ a ∷ starts_from id end rest) next.start_is
-        ∙ ap (λ e. made ++ rounded (segment_in m.segments id).paged before ∷ starts_from id e rest) next.end_is
-        ∙ ap (λ l. made ++ starts_from id before l) (sym (left_at ms n m at));
+          append_assoc made (start ∷ []) (starts_from id end rest)
+          ∙ ap (λ a. made ++ a ∷ starts_from id end rest) next.start_is
+          ∙ ap (λ e. made ++ rounded (segment_in m.segments id).paged before ∷ starts_from id e rest) next.end_is
+          ∙ ap (λ l. made ++ starts_from id before l) (sym (left_at ms n m at));
       ends = ap (λ e. parts_end id e rest) next.end_is ∙ ap (parts_end id before) (sym (left_at ms n m at));
       fits = next.fits;
     }

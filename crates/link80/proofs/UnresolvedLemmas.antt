@@ -1,20 +1,17 @@
 -- Names that no module declares, and the publics that bear names.
-use Rattle.std.specs.Prelude.{◌≡◌, ◌<◌, ◌≤◌, ℕ, zero, suc, nat_eq, nat_lt, Bool, true, false, not, ◌||◌, if◌then◌else◌, Option, Some, None, is_none, is_some, option_map, List, [], ◌∷◌, ◌++◌, filter, find, length, map, slice_get, refl}
-use Rattle.std.specs.List.{list_any, flat_map}
+use Rattle.std.specs.Prelude.{◌≡◌, ◌<◌, ◌≤◌, ℕ, zero, suc, nat_eq, nat_lt, Bool, true, false, ◌||◌, if◌then◌else◌, Option, Some, None, is_none, is_some, List, [], ◌∷◌, ◌++◌, filter, length, map, slice_get, refl}
+use Rattle.std.specs.List.{flat_map}
 use Rattle.std.specs.Cmp.Lexicographic.{pointwise}
-use Rattle.std.proofs.Common.{◌∙◌, ap, sym, arith, cond, inl, inr}
-use Rattle.std.proofs.lemmas.Bool.{cases_Bool}
+use Rattle.std.proofs.Common.{◌∙◌, ap, sym, arith, cond}
 use Rattle.std.proofs.lemmas.Bool.Decides.{nat_tests}
-use Rattle.std.proofs.lemmas.Option.{slice_get-get_or}
 use Rattle.omf_module.specs.declared.symbols.Public.{Public}
-use Rattle.omf_module.specs.declared.fixup.Target.{Target}
 use Rattle.omf_module.specs.declared.fixup.Target.TheVariants as target
 use Rattle.omf_module.specs.Modules.{ModuleValue}
 use Rattle.link80.specs.declared.reference.Reference.{Reference}
 use Rattle.link80.specs.declared.fault.LinkFault.{LinkFault}
 use Rattle.link80.specs.declared.fault.LinkFault.TheVariants.{TooManyExternals}
 use Rattle.link80.specs.FirstSight.{is_among, number_in, with_names}
-use Rattle.link80.specs.Linked.{distinct, linked_publics, public_of, unresolved, to_place, to_public, index_of}
+use Rattle.link80.specs.Linked.{distinct, linked_publics, public_of, unresolved, to_place, to_public}
 use Rattle.link80.specs.LinkFault.{too_many_externals}
 use Rattle.link80.proofs.FirstSightLemmas.{filter_same, first_sights, distinct_passed, same_both_ways}
 use Rattle.link80.proofs.ListLemmas.{any_front, any_back}
@@ -60,10 +57,10 @@ none_at ps (Some k) within = some_at (slice_get ps k) (slice_there ps k (within 
     some_at o e = sym e
 
 pub undeclared_test : (modules : List ModuleValue) (declared : List (List ℕ)) → declared ≡ map (λ p. p.name) (linked_publics modules) → (name : List ℕ) → is_none (number_in declared name) ≡ is_none (public_of modules name)
-undeclared_test modules declared are name = 
+undeclared_test modules declared are name =
     ap (λ names. is_none (number_in names name)) are
     ∙ none_at (linked_publics modules) (number_in (map (λ p. p.name) (linked_publics modules)) name)
-      (λ k is. omega (arith, number_within (map (λ p. p.name) (linked_publics modules)) name k is, map_length (linked_publics modules)))
+    (λ k is. omega (arith, number_within (map (λ p. p.name) (linked_publics modules)) name k is, map_length (linked_publics modules)))
     ∙ ap is_none (sym (declared_number modules name))
 
 -- ---- the names that no module declares
@@ -88,7 +85,7 @@ pub is_unresolved : (modules : List ModuleValue) (name : List ℕ) → is_among 
 is_unresolved modules name here none =
     numbered_has (unresolved modules) name
     ∙ passed_has (λ n. is_none (public_of modules n)) (distinct (flat_map (λ m. m.externals) modules)) name none
-      (distinct_has (flat_map (λ m. m.externals) modules) name (sym (among_is (flat_map (λ m. m.externals) modules) name) ∙ here))
+    (distinct_has (flat_map (λ m. m.externals) modules) name (sym (among_is (flat_map (λ m. m.externals) modules) name) ∙ here))
 
 -- ---- what a name stands for
 

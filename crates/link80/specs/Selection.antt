@@ -1,6 +1,6 @@
 -- The modules that are linked: the roots, and those that are taken from the libraries.
 -- (ISIS-II User's Guide, LINK.)
-use Rattle.std.specs.Prelude.{◌≡◌, ◌↔◌, None, Some, List, ◌++◌, filter_map, Contains}
+use Rattle.std.specs.Prelude.{◌≡◌, ◌↔◌, Some, List, ◌++◌, filter_map, Contains}
 use Rattle.omf_module.specs.Modules.{ModuleValue}
 use Rattle.link80.specs.declared.chosen.Chosen.{Chosen}
 use Rattle.link80.specs.declared.fault.LinkFault.{LinkFault}

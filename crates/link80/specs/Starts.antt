@@ -1,6 +1,6 @@
 -- Where the parts of CODE, DATA and STACK start, for all modules at once.
 -- (ISIS-II User's Guide, LINK.)
-use Rattle.std.specs.Prelude.{◌≡◌, ℕ, ◌+◌, nat_le, Bool, if◌then◌else◌, Option, Some, None, List}
+use Rattle.std.specs.Prelude.{◌≡◌, ℕ, ◌+◌, nat_le, if◌then◌else◌, Option, Some, None, List}
 use Rattle.omf_module.specs.declared.segment.Segment.{Segment}
 use Rattle.omf_module.specs.Modules.{ModuleValue}
 use Rattle.omf_relocation.specs.Place.{rounded, starts_from}

@@ -130,7 +130,13 @@ pub(crate) fn linked_contents(alloc: Global, tables: &Tables) -> Result<Vec<Cont
 {
     let mut contents = Vec::new(alloc);
     for number in 0..tables.joined.len() {
-        add_contents(alloc, tables, number, tables.joined.get(number), &mut contents)?;
+        add_contents(
+            alloc,
+            tables,
+            number,
+            tables.joined.get(number),
+            &mut contents,
+        )?;
     }
     Ok(contents)
 }

@@ -94,8 +94,22 @@ fn a_call_is_resolved(rt: HostRuntime) -> Result<(), Fail> {
     assert!(rt; made.taken.is_empty() && made.unresolved.is_empty());
     let first = made.module.contents().first().expect(&rt, "a content");
     assert!(rt; first.bytes.as_slice() == [0xCD, 4, 0, 0x76].as_slice());
-    assert!(rt; first.fixups.as_slice() == [Fixup { offset: 1, field: Field::Both, target: Target::Segment(1) }].as_slice());
-    assert!(rt; made.module.segment(1) == Some(Segment { length: 5, paged: false }));
+    assert!(rt;
+        first.fixups.as_slice()
+            == [Fixup {
+                offset: 1,
+                field: Field::Both,
+                target: Target::Segment(1)
+            }]
+            .as_slice()
+    );
+    assert!(rt;
+        made.module.segment(1)
+            == Some(Segment {
+                length: 5,
+                paged: false
+            })
+    );
     assert!(rt; made.module.start() == Some((1, 0)));
     Ok(())
 }

@@ -1,12 +1,10 @@
-use Rattle.std.specs.Prelude.{◌≡◌, ◌<◌, ◌+◌, ℕ, List, length, map, filter_map, slice_get}
-use Rattle.std.proofs.Common.{◌∙◌, ap, sym, arith, subst, IsTrue}
+use Rattle.std.specs.Prelude.{◌+◌, ℕ, List, length}
+use Rattle.std.proofs.Common.{◌∙◌, ap, arith}
 use Rattle.std.proofs.lemmas.Option.{slice_get_within}
 use Rattle.omf_module.specs.Contents.{ContentValue}
 use Rattle.omf_module.specs.Modules.{ModuleValue}
-use Rattle.omf_relocation.specs.declared.patching.Patch.{Patch}
-use Rattle.omf_relocation.specs.Patches.{with_patches, are_inside, are_apart}
 use Rattle.omf_relocation.specs.Place.{part_start}
-use Rattle.link80.specs.Linked.{linked_id, linked_reference, link_patch, linked_fixup}
+use Rattle.link80.specs.Linked.{linked_id}
 use Rattle.link80.proofs.contents.linked_content.Goals as goal
 
 pub start-requires : goal.start-requires

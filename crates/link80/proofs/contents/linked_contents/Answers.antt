@@ -1,4 +1,4 @@
-use Rattle.std.specs.Prelude.{◌≡◌, ◌++◌, ◌+◌, List, map, drop, slice_get, length}
+use Rattle.std.specs.Prelude.{◌++◌, ◌+◌, List, map, drop, slice_get, length}
 use Rattle.std.specs.List.{flat_map, enumerate_from}
 use Rattle.std.proofs.lemmas.Option.{slice_get_within}
 use Rattle.std.proofs.Common.{◌∙◌, ap, sym, arith}
@@ -9,11 +9,12 @@ use Rattle.link80.proofs.LoopLemmas.{more_numbered, one_further, holds_of_all}
 use Rattle.link80.proofs.contents.linked_contents.Goals as goal
 
 pub loop-number-preserved : goal.loop-number-preserved
-loop-number-preserved c =
-    (ap (λ l. l ++ flat_map (λ m. map (linked_content c.args.tables.now m) m.1.contents) (enumerate_from (c.loop-number.number + 1) (drop (c.loop-number.number + 1) c.args.tables.now))) c.in_ok-add_contents.ensures.contents
-    ∙ more_numbered (λ m. map (linked_content c.args.tables.now m) m.1.contents) c.args.tables.now c.loop-number.number c.get.result.now c.loop-number.contents.items (ap (λ (ms : List ModuleValue). slice_get ms c.loop-number.number) (sym c.tables.view_is) ∙ c.get.ensures)
-    ∙ c.loop-number.invariant.0,
-    one_further IsModule c.args.tables.now c.loop-number.number c.get.result.now (ap (λ (ms : List ModuleValue). slice_get ms c.loop-number.number) (sym c.tables.view_is) ∙ c.get.ensures) c.loop-number.invariant.1 c.in_ok-add_contents.ensures.sound)
+loop-number-preserved c = (
+  ap (λ l. l ++ flat_map (λ m. map (linked_content c.args.tables.now m) m.1.contents) (enumerate_from (c.loop-number.number + 1) (drop (c.loop-number.number + 1) c.args.tables.now))) c.in_ok-add_contents.ensures.contents
+      ∙ more_numbered (λ m. map (linked_content c.args.tables.now m) m.1.contents) c.args.tables.now c.loop-number.number c.get.result.now c.loop-number.contents.items (ap (λ (ms : List ModuleValue). slice_get ms c.loop-number.number) (sym c.tables.view_is) ∙ c.get.ensures)
+      ∙ c.loop-number.invariant.0,
+  one_further IsModule c.args.tables.now c.loop-number.number c.get.result.now (ap (λ (ms : List ModuleValue). slice_get ms c.loop-number.number) (sym c.tables.view_is) ∙ c.get.ensures) c.loop-number.invariant.1 c.in_ok-add_contents.ensures.sound,
+)
 
 pub returns-clause-sound : goal.returns-clause-sound
 returns-clause-sound c = holds_of_all IsModule c.args.tables.now (λ k m at. c.loop-number.invariant.1 k m (omega (arith, slice_get_within c.args.tables.now k m at, c.loop-number-test.false, c.len-number-end.ensures, ap length c.tables.view_is)) at)

@@ -1,9 +1,8 @@
-use Rattle.std.specs.Prelude.{◌≡◌, ◌≤◌, ◌+◌, ◌++◌, List, ℕ, [], Some, None, option_map, drop, length}
+use Rattle.std.specs.Prelude.{◌≡◌, ◌≤◌, ◌+◌, ◌++◌, List, ℕ, [], option_map, drop, length}
 use Rattle.std.specs.List.{flat_map}
 use Rattle.std.proofs.Common.{◌∙◌, ap, sym, arith, append_assoc, append-nil}
 use Rattle.std.proofs.lemmas.List.{drop_all}
 use Rattle.std.proofs.lemmas.Result.{err_from_is_err_and}
-use Rattle.omf_module.specs.Modules.{ModuleValue}
 use Rattle.link80.specs.declared.fault.LinkFault.TheVariants.{DuplicatePublic}
 use Rattle.link80.specs.Gathered.{names_of_publics, again_in}
 use Rattle.link80.proofs.GatheredLemmas.{names_linked, names_at, again_linked}
@@ -14,19 +13,18 @@ pub returns-in_err-add_publics-clause-fault : goal.returns-in_err-add_publics-cl
 returns-in_err-add_publics-clause-fault c =
     let p = err_from_is_err_and c.from_residual.result c.from_residual.ensures.1 in
     rw (p.1, p.2) (λ real.
-      ap (option_map DuplicatePublic)
-      (again_linked c.args.modules.now ∙ c.loop-number.invariant.1
-      ∙ ap (again_in c.loop-number.names) (names_at c.args.modules.now c.loop-number.number c.get.result.now c.get.ensures))
-      ∙ c.in_err-add_publics.ensures.fault real (flat_map names_of_publics (drop (c.loop-number.number + 1) c.args.modules.now)))
+    ap (option_map DuplicatePublic)
+    (again_linked c.args.modules.now ∙ c.loop-number.invariant.1
+    ∙ ap (again_in c.loop-number.names) (names_at c.args.modules.now c.loop-number.number c.get.result.now c.get.ensures))
+    ∙ c.in_err-add_publics.ensures.fault real (flat_map names_of_publics (drop (c.loop-number.number + 1) c.args.modules.now)))
 
 pub loop-number-preserved : goal.loop-number-preserved
 loop-number-preserved c =
     let rest : List (List ℕ) = flat_map names_of_publics (drop (c.loop-number.number + 1) c.args.modules.now) in
     let taken = c.in_ok-add_publics.ensures.taken in
-    let next = names_at c.args.modules.now c.loop-number.number c.get.result.now c.get.ensures in
-    (
+    let next = names_at c.args.modules.now c.loop-number.number c.get.result.now c.get.ensures in (
       ap (λ l. l ++ rest) taken.after_is ∙ append_assoc c.loop-number.names (names_of_publics c.get.result.now) rest ∙ ap (λ l. c.loop-number.names ++ l) (sym next) ∙ c.loop-number.invariant.0,
-      c.loop-number.invariant.1 ∙ ap (again_in c.loop-number.names) next ∙ taken.again rest
+      c.loop-number.invariant.1 ∙ ap (again_in c.loop-number.names) next ∙ taken.again rest,
     )
 
 -- no module is left

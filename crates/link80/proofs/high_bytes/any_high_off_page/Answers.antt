@@ -17,7 +17,7 @@ step : (modules : List ModuleValue) (n : ℕ) (m : ModuleValue) (contents : List
 step modules n m contents has at same is =
     passes_at (has_one modules) modules n m at
     ∙ ap (λ b. b || list_any (has_one modules) (enumerate_from (n + 1) (drop (n + 1) modules)))
-      (sym (is ∙ ap (λ (l : List ContentValue). list_any (λ k. list_any (is_high_off_page modules n) k.fixups) l) same))
+    (sym (is ∙ ap (λ (l : List ContentValue). list_any (λ k. list_any (is_high_off_page modules n) k.fixups) l) same))
 
 pub returns-then-has_high_off_page : goal.returns-then-has_high_off_page
 returns-then-has_high_off_page c =

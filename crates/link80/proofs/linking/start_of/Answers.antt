@@ -1,7 +1,6 @@
-use Rattle.std.specs.Prelude.{◌≡◌, ℕ, List, [], Option, Some, None, slice_get}
+use Rattle.std.specs.Prelude.{ℕ, List, [], Option, Some, slice_get}
 use Rattle.std.specs.List.{cons_option}
 use Rattle.std.proofs.Common.{◌∙◌, ap, sym}
-use Rattle.omf_module.specs.Modules.{ModuleValue}
 use Rattle.link80.proofs.MainLemmas.{no_start, main_within, main_has_start, start_from}
 use Rattle.link80.proofs.linking.start_of.Goals as goal
 
@@ -25,4 +24,4 @@ pub returns : goal.returns
 returns c =
     (λ j. Some (c.linked_id.ensures j, c.moved.ensures j))
     ∙ sym (start_from c.tables.inside.joined c.args.tables.now c.in_ok-number.number c.get-of.result.now c.in_ok-id.id c.in_ok-id.offset c.tables.view_is
-      (sym c.requires ∙ ap (λ (o : Option ℕ). cons_option o []) c.in_ok-number.was) c.get-of.ensures (sym c.in_ok-id.ensures.value))
+    (sym c.requires ∙ ap (λ (o : Option ℕ). cons_option o []) c.in_ok-number.was) c.get-of.ensures (sym c.in_ok-id.ensures.value))

@@ -1,8 +1,8 @@
-use Rattle.std.specs.Prelude.{◌≡◌, ◌++◌, ◌+◌, List, map, drop}
+use Rattle.std.specs.Prelude.{◌++◌, ◌+◌, map, drop}
 use Rattle.std.specs.List.{flat_map, enumerate_from}
-use Rattle.std.proofs.Common.{◌∙◌, ap, sym, arith}
+use Rattle.std.proofs.Common.{◌∙◌, ap}
 use Rattle.link80.specs.Linked.{linked_public}
-use Rattle.link80.proofs.LoopLemmas.{more_numbered, all_made}
+use Rattle.link80.proofs.LoopLemmas.{more_numbered}
 use Rattle.link80.proofs.tables.linked_publics.Goals as goal
 
 pub loop-number-preserved : goal.loop-number-preserved

@@ -1,10 +1,10 @@
-use Rattle.std.specs.Prelude.{◌≡◌, ◌<◌, ℕ, List, Option, Some, None, map, is_some, is_none, length, slice_get, true, false, refl}
+use Rattle.std.specs.Prelude.{◌≡◌, ◌<◌, ℕ, List, Option, map, is_some, is_none, length, slice_get, refl}
 use Rattle.std.proofs.Common.{◌∙◌, ap, sym, arith, true≢false}
 use Rattle.std.proofs.lemmas.Option.{slice_get_read}
 use Rattle.omf_module.specs.declared.symbols.Public.{Public}
 use Rattle.omf_module.specs.Modules.{ModuleValue}
 use Rattle.link80.specs.FirstSight.{number_in}
-use Rattle.link80.specs.Linked.{linked_publics, public_of, to_place, to_public, unresolved}
+use Rattle.link80.specs.Linked.{linked_publics, unresolved}
 use Rattle.link80.specs.Tables.{AreTables}
 use Rattle.link80.proofs.UnresolvedLemmas.{borne, not_borne, left_open, is_unresolved, map_length}
 use Rattle.link80.proofs.tables.Tables.named.Goals as goal
