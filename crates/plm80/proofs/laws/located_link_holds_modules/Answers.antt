@@ -12,8 +12,8 @@ returns c name roots libraries taken program options image linked located =
     let high = ap (λ (m : ModuleValue). any_loses_low_byte bases (m ∷ [])) (sym linked.program_is) ∙ located.high in
     record {
       bytes = λ address.
-        located.memory address
-        ∙ ap (λ (m : ModuleValue). image_byte bases (m ∷ []) address) linked.program_is
-        ∙ c.linking_keeps_bytes.ensures.bytes name (modules_with roots libraries taken) bases linked.sound linked.no_fault high address;
+          located.memory address
+          ∙ ap (λ (m : ModuleValue). image_byte bases (m ∷ []) address) linked.program_is
+          ∙ c.linking_keeps_bytes.ensures.bytes name (modules_with roots libraries taken) bases linked.sound linked.no_fault high address;
       regions = located.regions;
     }
