@@ -6,7 +6,7 @@
 #   make test      proves every crate from nothing and runs every test
 #   make commands  builds plm80 and runs the tests of its commands alone
 #   make faults    runs the tests, and plm80 on the examples, with one call for memory, a read or a write refused
-#   make bench     builds plm80 and prints million steps per second of four loops, and what it takes to verify programs and to link modules
+#   make bench     builds plm80 and prints million steps per second of four loops, and what it takes to verify programs, to link modules and to read libraries
 #   make help      prints this
 
 .PHONY: help run try install test commands faults bench build need-rt need-python3 need-cc
@@ -64,3 +64,4 @@ bench: need-python3 build
 	@bench/run $(PROGRAM)
 	@bench/verifier $(PROGRAM)
 	@bench/link $(PROGRAM)
+	@bench/library $(PROGRAM)
