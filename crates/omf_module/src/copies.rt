@@ -56,7 +56,7 @@ pub fn copy_publics(alloc: Global, publics: &[Public]) -> Result<Vec<Public>, Al
     Ok(copies)
 }
 
-/// The same contents, with their fixups once more.
+/// The same contents once more, with their fixups.
 ///
 /// # Errors
 /// `AllocError` only where there is no memory for them.
