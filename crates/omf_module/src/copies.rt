@@ -1,4 +1,4 @@
-//! A module once more, and its parts.
+//! A module once more.
 
 ghost use Rattle.std.specs.Prelude.{◌≡◌, IfOk};
 
@@ -7,11 +7,7 @@ use crate::symbols::{Common, Public};
 use omf_core::Name;
 use std::alloc::{AllocError, Global};
 
-/// The same names once more.
-///
-/// # Errors
-/// `AllocError` only where there is no memory for them.
-pub fn copy_names(alloc: Global, names: &[Name]) -> Result<Vec<Name>, AllocError>
+pub(crate) fn copy_names(alloc: Global, names: &[Name]) -> Result<Vec<Name>, AllocError>
     ensures { IfOk result (λ copies. copies.items ≡ names.now) }
 {
     let mut copies = Vec::new(alloc);
@@ -21,11 +17,7 @@ pub fn copy_names(alloc: Global, names: &[Name]) -> Result<Vec<Name>, AllocError
     Ok(copies)
 }
 
-/// The same named commons once more.
-///
-/// # Errors
-/// `AllocError` only where there is no memory for them.
-pub fn copy_commons(alloc: Global, commons: &[Common]) -> Result<Vec<Common>, AllocError>
+pub(crate) fn copy_commons(alloc: Global, commons: &[Common]) -> Result<Vec<Common>, AllocError>
     ensures { IfOk result (λ copies. copies.items ≡ commons.now) }
 {
     let mut copies = Vec::new(alloc);
@@ -38,11 +30,7 @@ pub fn copy_commons(alloc: Global, commons: &[Common]) -> Result<Vec<Common>, Al
     Ok(copies)
 }
 
-/// The same publics once more.
-///
-/// # Errors
-/// `AllocError` only where there is no memory for them.
-pub fn copy_publics(alloc: Global, publics: &[Public]) -> Result<Vec<Public>, AllocError>
+pub(crate) fn copy_publics(alloc: Global, publics: &[Public]) -> Result<Vec<Public>, AllocError>
     ensures { IfOk result (λ copies. copies.items ≡ publics.now) }
 {
     let mut copies = Vec::new(alloc);
@@ -56,11 +44,7 @@ pub fn copy_publics(alloc: Global, publics: &[Public]) -> Result<Vec<Public>, Al
     Ok(copies)
 }
 
-/// The same contents once more, with their fixups.
-///
-/// # Errors
-/// `AllocError` only where there is no memory for them.
-pub fn copy_contents(alloc: Global, contents: &[Content]) -> Result<Vec<Content>, AllocError>
+pub(crate) fn copy_contents(alloc: Global, contents: &[Content]) -> Result<Vec<Content>, AllocError>
     ensures { IfOk result (λ copies. copies.items ≡ contents.now) }
 {
     let mut copies = Vec::new(alloc);
