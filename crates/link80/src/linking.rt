@@ -24,7 +24,7 @@ use crate::starts::LaidModules;
 use crate::tables::Tables;
 use omf_core::Name;
 use omf_library::Library;
-use omf_module::{Module, Parts, PartsFault};
+use omf_module::{Module, Parts, PartsFault, copy_names};
 use std::alloc::{AllocError, Global};
 
 /// What a link makes: one module, the places of the modules that were taken from libraries, and the names that no module
@@ -63,16 +63,6 @@ fn modules_with<'a>(
         }
     }
     Ok(modules)
-}
-
-fn copy_names(alloc: Global, names: &[Name]) -> Result<Vec<Name>, AllocError>
-    ensures { IfOk result (λ copies. copies.items ≡ names.now) }
-{
-    let mut copies = Vec::new(alloc);
-    for name in names {
-        copies.push(name.copy(alloc)?)?;
-    }
-    Ok(copies)
 }
 
 /// The start of the main program, moved with its part.

@@ -1,4 +1,4 @@
-//! A module once more.
+//! A module once more, and its parts.
 
 ghost use Rattle.std.specs.Prelude.{◌≡◌, IfOk};
 
@@ -7,7 +7,11 @@ use crate::symbols::{Common, Public};
 use omf_core::Name;
 use std::alloc::{AllocError, Global};
 
-pub(crate) fn copy_names(alloc: Global, names: &[Name]) -> Result<Vec<Name>, AllocError>
+/// The same names once more.
+///
+/// # Errors
+/// `AllocError` only where there is no memory for them.
+pub fn copy_names(alloc: Global, names: &[Name]) -> Result<Vec<Name>, AllocError>
     ensures { IfOk result (λ copies. copies.items ≡ names.now) }
 {
     let mut copies = Vec::new(alloc);
@@ -17,7 +21,11 @@ pub(crate) fn copy_names(alloc: Global, names: &[Name]) -> Result<Vec<Name>, All
     Ok(copies)
 }
 
-pub(crate) fn copy_commons(alloc: Global, commons: &[Common]) -> Result<Vec<Common>, AllocError>
+/// The same named commons once more.
+///
+/// # Errors
+/// `AllocError` only where there is no memory for them.
+pub fn copy_commons(alloc: Global, commons: &[Common]) -> Result<Vec<Common>, AllocError>
     ensures { IfOk result (λ copies. copies.items ≡ commons.now) }
 {
     let mut copies = Vec::new(alloc);
@@ -30,7 +38,11 @@ pub(crate) fn copy_commons(alloc: Global, commons: &[Common]) -> Result<Vec<Comm
     Ok(copies)
 }
 
-pub(crate) fn copy_publics(alloc: Global, publics: &[Public]) -> Result<Vec<Public>, AllocError>
+/// The same publics once more.
+///
+/// # Errors
+/// `AllocError` only where there is no memory for them.
+pub fn copy_publics(alloc: Global, publics: &[Public]) -> Result<Vec<Public>, AllocError>
     ensures { IfOk result (λ copies. copies.items ≡ publics.now) }
 {
     let mut copies = Vec::new(alloc);
@@ -44,7 +56,11 @@ pub(crate) fn copy_publics(alloc: Global, publics: &[Public]) -> Result<Vec<Publ
     Ok(copies)
 }
 
-pub(crate) fn copy_contents(alloc: Global, contents: &[Content]) -> Result<Vec<Content>, AllocError>
+/// The same contents once more, with their fixups.
+///
+/// # Errors
+/// `AllocError` only where there is no memory for them.
+pub fn copy_contents(alloc: Global, contents: &[Content]) -> Result<Vec<Content>, AllocError>
     ensures { IfOk result (λ copies. copies.items ≡ contents.now) }
 {
     let mut copies = Vec::new(alloc);
