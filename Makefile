@@ -2,7 +2,7 @@
 #
 #   make run       proves every crate, builds plm80 and runs it on the stored examples; says how far it is
 #   make try       shows the transcript of a stored example within a minute or two: plm80 is built without any proof
-#   make install   puts plm80, as `make run` builds it, into PREFIX/bin: make install PREFIX=/usr/local
+#   make install   builds plm80 as `make run` does, and installs it with its manual page, its faults and its completion: make install PREFIX=/usr/local
 #   make test      proves every crate from nothing and runs every test
 #   make commands  builds plm80 and runs the tests of its commands alone
 #   make faults    runs the tests, and plm80 on the examples, with one call for memory, a read or a write refused
@@ -40,8 +40,10 @@ try: need-rt
 	@cd crates/plm80 && rt try < ../../examples/echo.bundle 2>&1 | sed '/^checked: /,$$d'
 
 install: build
-	install -d $(DESTDIR)$(PREFIX)/bin
-	install -m 755 $(PROGRAM) $(DESTDIR)$(PREFIX)/bin/plm80
+	install -D -m 755 $(PROGRAM) $(DESTDIR)$(PREFIX)/bin/plm80
+	install -D -m 644 share/plm80.1 $(DESTDIR)$(PREFIX)/share/man/man1/plm80.1
+	install -D -m 644 docs/FAULTS.md $(DESTDIR)$(PREFIX)/share/doc/plm80/FAULTS.md
+	install -D -m 644 share/plm80.bash $(DESTDIR)$(PREFIX)/share/bash-completion/completions/plm80
 
 # (rt ci has built the program that it proved.)
 test: need-rt need-python3
@@ -50,11 +52,15 @@ test: need-rt need-python3
 	@tests/commands/run $(PROGRAM)
 	@tests/commands/walk $(PROGRAM)
 	@tests/commands/sums $(PROGRAM)
+	@tests/commands/completion $(PROGRAM)
+	@tests/commands/faults
 
 commands: need-python3 build
 	@tests/commands/run $(PROGRAM)
 	@tests/commands/walk $(PROGRAM)
 	@tests/commands/sums $(PROGRAM)
+	@tests/commands/completion $(PROGRAM)
+	@tests/commands/faults
 
 # FAULTS=".." tries that alone, as FAULTS="program", FAULTS="machine80" or FAULTS="place80=1..20".
 faults: need-cc build

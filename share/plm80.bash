@@ -1,0 +1,34 @@
+# Completion of plm80's commands, options and files for bash; `make install` puts it where bash-completion looks for it.
+# tests/commands/completion compares its words with the help texts.
+
+_plm80() {
+    local word=${COMP_WORDS[COMP_CWORD]} before=${COMP_WORDS[COMP_CWORD - 1]} options
+    COMPREPLY=()
+    case $before in
+        --name | --code | --stack | --common | --data | --memory | --stack-size | --memory-size | --steps | --outputs)
+            return
+            ;;
+    esac
+    if [[ $COMP_CWORD -eq 1 ]]; then
+        COMPREPLY=($(compgen -W 'link locate run list check lib help -h --help -V --version' -- "$word"))
+        return
+    fi
+    case ${COMP_WORDS[1]} in
+        link) options='--name --out -h --help' ;;
+        locate) options='--code --stack --common --data --memory --stack-size --memory-size -h --help' ;;
+        run) options='--steps --outputs -h --help' ;;
+        list | check | lib) options='-h --help' ;;
+        help)
+            [[ $COMP_CWORD -eq 2 ]] && COMPREPLY=($(compgen -W 'link locate run list check lib help' -- "$word"))
+            return
+            ;;
+        *) return ;;
+    esac
+    if [[ $word == -* ]]; then
+        COMPREPLY=($(compgen -W "$options" -- "$word"))
+    else
+        compopt -o filenames 2> /dev/null
+        COMPREPLY=($(compgen -f -- "$word"))
+    fi
+}
+complete -F _plm80 plm80
