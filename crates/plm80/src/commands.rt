@@ -1,5 +1,6 @@
-//! The commands of the program: what the words ask for, done with files. Tests show what they print.
+//! The commands of the program, done with files. Tests show what they print.
 
+mod arguments;
 mod check_text;
 mod checking;
 mod fault_line;
@@ -13,19 +14,18 @@ pub mod number_text;
 mod object_files;
 mod running;
 mod syntax;
-mod words;
 
+use arguments::{Request, read_arguments};
 use fault_line::{Reported, report, report_memory};
 use std::fmt::Display;
 use std::process::ExitCode;
-use words::{Request, read_words};
 
-/// Does what the words ask for, and gives the exit status: 1 where an image is refused, 2 at a fault, 3 and 4 as a run
-/// ends so, and else 0. A fault is one line on standard error; what clap has to say stands there too.
-pub fn answer_words(rt: &HostRuntime, words: &[String]) -> ExitCode {
-    let request = match read_words(rt.alloc(), words) {
+/// Does the command, and gives the exit status: 1 where an image is refused, 2 at a fault, 3 or 4 as a run ends, and else 0. A
+/// fault is one line on standard error; clap's errors and help are printed there too.
+pub fn run_command(rt: &HostRuntime, arguments: &[String]) -> ExitCode {
+    let request = match read_arguments(rt.alloc(), arguments) {
         Ok(request) => request,
-        Err(error) => return tell_words(rt, &error),
+        Err(error) => return print_error(rt, &error),
     };
     match perform(rt, request) {
         Ok(status) => ExitCode::from(status),
@@ -33,9 +33,9 @@ pub fn answer_words(rt: &HostRuntime, words: &[String]) -> ExitCode {
     }
 }
 
-/// Prints what clap says of words that no text spells, and gives the exit status.
-pub fn refuse_words(rt: &HostRuntime) -> ExitCode {
-    tell_words(rt, &words::no_text(rt.alloc()))
+/// Prints the error of arguments that are no text, and gives the exit status.
+pub fn refuse_arguments(rt: &HostRuntime) -> ExitCode {
+    print_error(rt, &arguments::no_text(rt.alloc()))
 }
 
 /// Prints a fault on standard error, and gives its exit status.
@@ -47,17 +47,17 @@ pub fn fail(rt: &HostRuntime, fault: impl Display + Drop) -> ExitCode {
 /// Does what is asked for, and gives the exit status.
 fn perform(rt: &HostRuntime, request: Request<'_>) -> Result<u8, Reported> {
     match request {
-        Request::Link(words) => linking::link_files(rt, &words),
-        Request::Locate(words) => locating::locate_file(rt, words),
-        Request::Run(words) => running::run_files(rt, words),
-        Request::List(words) => listing::list_files(rt, words),
-        Request::Check(words) => checking::check_files(rt, words),
-        Request::Library(words) => library::write_library_file(rt, &words),
+        Request::Link(arguments) => linking::link_files(rt, &arguments),
+        Request::Locate(arguments) => locating::locate_file(rt, arguments),
+        Request::Run(arguments) => running::run_files(rt, arguments),
+        Request::List(arguments) => listing::list_files(rt, arguments),
+        Request::Check(arguments) => checking::check_files(rt, arguments),
+        Request::Library(arguments) => library::write_library_file(rt, &arguments),
     }
 }
 
-/// Prints what clap says of the words, a mistake or help, on standard error, and gives the exit status.
-fn tell_words(rt: &HostRuntime, error: &clap::Error) -> ExitCode {
+/// Prints an error of clap, which may be a help text, on standard error, and gives the exit status.
+fn print_error(rt: &HostRuntime, error: &clap::Error) -> ExitCode {
     if error.kind() == clap::error::ErrorKind::OutOfMemory {
         let Reported = report_memory(rt);
         return ExitCode::from(2);

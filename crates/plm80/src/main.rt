@@ -1,9 +1,9 @@
-//! `plm80`: the program, from its words, files and standard input to the calls of the layers below.
+//! `plm80`: the program, from its arguments, files and standard input to the calls of the layers below.
 //!
 //! | Item | What it is |
 //! |---|---|
 //! | [`bundle`] | one input with an image, regions and inputs, to the transcript of a run |
-//! | `commands` | `link`, `locate`, `run`, `list`, `check` and `lib`, as clap reads their words |
+//! | `commands` | `link`, `locate`, `run`, `list`, `check` and `lib`, with their arguments |
 #![tactic(auto)]
 
 mod bundle_text;
@@ -13,7 +13,7 @@ mod fault;
 pub mod laws;
 
 pub use bundling::{BUNDLE_LIMIT, bundle};
-use commands::{answer_words, fail, refuse_words};
+use commands::{fail, refuse_arguments, run_command};
 pub use fault::BundleFault;
 use loader80::{Reading, SessionFault, Writing};
 use machine80::End;
@@ -28,20 +28,20 @@ const STEPS: u64 = 1_000_000;
 /// The outputs that a bundle's run keeps at most.
 const OUTPUTS: usize = 65_536;
 
-/// With no words on the command line, runs the bundle on standard input and writes its transcript to standard output; with
-/// words, does what they ask for.
+/// Without arguments, runs the bundle on standard input and writes its transcript to standard output; with arguments, does the
+/// command that they name.
 ///
 /// The exit status is 0 where the run halted or a command is done, 1 where the image is refused, 2 at a fault, 3 where the
 /// run ended at a port or at a store outside data, and 4 where its steps were used up. A fault is one line on standard
 /// error.
 fn main(rt: HostRuntime) -> ExitCode {
-    let words = match env::args(&rt) {
-        Ok(words) => words.collect::<Vec<String>>(rt.alloc()),
+    let arguments = match env::args(&rt) {
+        Ok(arguments) => arguments.collect::<Vec<String>>(rt.alloc()),
         Err(error) if error.kind() == ErrorKind::OutOfMemory => Err(AllocError),
-        Err(_) => return refuse_words(&rt),
+        Err(_) => return refuse_arguments(&rt),
     };
-    match words {
-        Ok(words) if words.len() > 1 => answer_words(&rt, &words),
+    match arguments {
+        Ok(arguments) if arguments.len() > 1 => run_command(&rt, &arguments),
         Ok(_) => run_bundle(&rt),
         Err(AllocError) => fail(&rt, SessionFault::Memory),
     }

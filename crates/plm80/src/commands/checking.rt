@@ -1,32 +1,35 @@
 //! `plm80 check`: the verifier's report on a located program, or its refusal.
 
+use crate::commands::arguments::path_of;
 use crate::commands::check_text::report_text;
 use crate::commands::fault_line::{Reported, report_memory};
 use crate::commands::files::print;
 use crate::commands::listing::read_program;
 use crate::commands::syntax::{Argument, Kind, Syntax};
-use crate::commands::words::path_of;
 use clap::ArgMatches;
 use loader80::{Refusal, refusal_text, vouch};
 use place80::Image;
 use std::alloc::{AllocError, Global};
 
-/// The words of `check`.
+/// The arguments of `check`.
 #[derive(Clone, Copy)]
-pub struct CheckWords<'a> {
+pub struct CheckArguments<'a> {
     image: &'a str,
     regions: &'a str,
 }
 
-const ABOUT: &str = "Verifies an image: prints a report, or why it is refused";
+const ABOUT: &str = "Verifies an image: prints a report, or the refusal";
 
 const AFTER_HELP: &str = "\
 The report is a line for the bytes of stack that the program needs and has, and
-a line for each procedure: its entry, how many words it takes from beneath its
-return address and how many it wants there, the bytes of stack that it needs
-below its return address, and whether it ever returns.
+a line for each procedure: its address; how many words of arguments it has taken
+from beneath its return address when it returns (TAKES), and at most on any path
+(WANTS); the bytes of stack that it needs below its return address (BOUND); and
+whether it returns (RETURNS or NEVER).
 
-Example: plm80 check readings.img readings.regions";
+Example: plm80 check readings.img readings.regions
+
+Faults and what to do: docs/FAULTS.md (installed: share/doc/plm80), man plm80.";
 
 /// `check` and its arguments.
 pub const CHECK: Syntax<'static> = Syntax {
@@ -47,10 +50,10 @@ pub const CHECK: Syntax<'static> = Syntax {
     ],
 };
 
-impl<'a> CheckWords<'a> {
-    /// The words that clap has read.
-    pub fn of(matches: &ArgMatches<'a>) -> CheckWords<'a> {
-        CheckWords {
+impl<'a> CheckArguments<'a> {
+    /// The arguments as clap has read them.
+    pub fn of(matches: &ArgMatches<'a>) -> CheckArguments<'a> {
+        CheckArguments {
             image: path_of(matches, "IMAGE"),
             regions: path_of(matches, "REGIONS"),
         }
@@ -58,8 +61,8 @@ impl<'a> CheckWords<'a> {
 }
 
 /// Prints the report on the image, or its refusal, and gives the exit status.
-pub fn check_files(rt: &HostRuntime, words: CheckWords<'_>) -> Result<u8, Reported> {
-    let image = read_program(rt, words.image, words.regions)?;
+pub fn check_files(rt: &HostRuntime, arguments: CheckArguments<'_>) -> Result<u8, Reported> {
+    let image = read_program(rt, arguments.image, arguments.regions)?;
     let Ok((text, status)) = verdict(rt.alloc(), image) else {
         return Err(report_memory(rt));
     };

@@ -18,7 +18,7 @@ pub fn report_file(rt: &HostRuntime, path: &str, fault: impl Display + Drop) -> 
     Reported
 }
 
-/// Reports that no memory was left.
+/// Reports that memory ran out.
 pub fn report_memory(rt: &HostRuntime) -> Reported {
     report(rt, "Memory")
 }

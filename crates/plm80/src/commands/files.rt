@@ -6,7 +6,7 @@ use std::fs::File;
 use std::io::Read;
 use std::{fs, io};
 
-/// A file that is opened when it is first read, so that a file which isn't there is told when its turn comes.
+/// A file that is opened when it is first read, so that a missing file is reported when its turn comes.
 #[derive(Drop)]
 pub struct LateFile<'a> {
     rt: &'a HostRuntime,

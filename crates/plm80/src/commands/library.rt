@@ -1,18 +1,18 @@
 //! `plm80 lib`: a library of the modules of object files.
 
+use crate::commands::arguments::path_of;
 use crate::commands::fault_line::{Reported, report, report_memory};
 use crate::commands::files::{read_whole, replace};
 use crate::commands::object_files::append_modules;
 use crate::commands::syntax::{Argument, Kind, Syntax};
-use crate::commands::words::path_of;
 use clap::ArgMatches;
 use omf_library::{LibraryPutFault, write_library};
 use omf_module::Module;
 use std::alloc::{AllocError, Global};
 
-/// The words of `lib`.
+/// The arguments of `lib`.
 #[derive(Drop)]
-pub struct LibraryWords<'a> {
+pub struct LibraryArguments<'a> {
     library: &'a str,
     files: Vec<&'a str>,
 }
@@ -21,10 +21,12 @@ const ABOUT: &str = "Writes a library of all modules of object files, in order";
 
 const AFTER_HELP: &str = "\
 The library has the modules of the first file, then those of the second, and so
-on, with an index of their names, places and public names. It is written only
-where every file is read.
+on, with an index of their names, places and public names. It is written only if
+every file could be read.
 
-Example: plm80 lib plm80.lib input.obj output.obj";
+Example: plm80 lib plm80.lib input.obj output.obj
+
+Faults and what to do: docs/FAULTS.md (installed: share/doc/plm80), man plm80.";
 
 /// `lib` and its arguments.
 pub const LIB: Syntax<'static> = Syntax {
@@ -45,10 +47,10 @@ pub const LIB: Syntax<'static> = Syntax {
     ],
 };
 
-impl<'a> LibraryWords<'a> {
-    /// The words that clap has read.
-    pub fn of(alloc: Global, matches: &ArgMatches<'a>) -> Result<LibraryWords<'a>, AllocError> {
-        Ok(LibraryWords {
+impl<'a> LibraryArguments<'a> {
+    /// The arguments as clap has read them.
+    pub fn of(alloc: Global, matches: &ArgMatches<'a>) -> Result<LibraryArguments<'a>, AllocError> {
+        Ok(LibraryArguments {
             library: path_of(matches, "OUT"),
             files: Vec::from_slice(alloc, matches.get_strs("FILE").unwrap_or(&[]))?,
         })
@@ -57,10 +59,13 @@ impl<'a> LibraryWords<'a> {
 
 /// Writes the library of all modules of the object files. No file is created or changed before every other fault is
 /// excluded.
-pub fn write_library_file(rt: &HostRuntime, words: &LibraryWords<'_>) -> Result<u8, Reported> {
-    let modules = modules_of(rt, &words.files)?;
+pub fn write_library_file(
+    rt: &HostRuntime,
+    arguments: &LibraryArguments<'_>,
+) -> Result<u8, Reported> {
+    let modules = modules_of(rt, &arguments.files)?;
     let library = library_of(rt, &modules)?;
-    replace(rt, words.library, &library)?;
+    replace(rt, arguments.library, &library)?;
     Ok(0)
 }
 

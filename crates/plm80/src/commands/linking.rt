@@ -1,10 +1,10 @@
 //! `plm80 link`: the modules of object files, and what they need of libraries, linked into one.
 
+use crate::commands::arguments::path_of;
 use crate::commands::fault_line::{Reported, report, report_file, report_memory};
 use crate::commands::files::{print, read_whole, replace};
 use crate::commands::object_files::append_modules;
 use crate::commands::syntax::{Argument, Kind, Syntax};
-use crate::commands::words::path_of;
 use clap::ArgMatches;
 use link80::{Chosen, Linked, link};
 use omf_core::{Name, NameFault};
@@ -14,9 +14,9 @@ use std::alloc::{AllocError, Global};
 use std::fmt::Write;
 use std::slice;
 
-/// The words of `link`.
+/// The arguments of `link`.
 #[derive(Drop)]
-pub struct LinkWords<'a> {
+pub struct LinkArguments<'a> {
     name: &'a str,
     out: &'a str,
     files: Vec<&'a str>,
@@ -25,15 +25,17 @@ pub struct LinkWords<'a> {
 const ABOUT: &str = "Links modules of object files and libraries into one";
 
 const AFTER_HELP: &str = "\
-A file whose first byte is 2C is a library, every other an object file. All
-modules of the object files are linked, in order, and then those of the
-libraries that declare a name which is needed: of several the first one.
+A file whose first byte is 2C is a library, any other an object file. All
+modules of the object files are linked, in order, and after them the library
+modules that declare a name which is needed: of several, the first one.
 
-It prints TAKEN and a name for each module that is taken of a library, and
+It prints TAKEN and a name for each module that is taken from a library, and
 UNRESOLVED and a name for each name that no module declares. The object file is
-written only where there is no fault.
+written only if there is no fault.
 
-Example: plm80 link --name METER --out meter.obj main.obj show.obj plm80.lib";
+Example: plm80 link --name METER --out meter.obj main.obj show.obj plm80.lib
+
+Faults and what to do: docs/FAULTS.md (installed: share/doc/plm80), man plm80.";
 
 /// `link` and its arguments.
 pub const LINK: Syntax<'static> = Syntax {
@@ -59,10 +61,10 @@ pub const LINK: Syntax<'static> = Syntax {
     ],
 };
 
-impl<'a> LinkWords<'a> {
-    /// The words that clap has read.
-    pub fn of(alloc: Global, matches: &ArgMatches<'a>) -> Result<LinkWords<'a>, AllocError> {
-        Ok(LinkWords {
+impl<'a> LinkArguments<'a> {
+    /// The arguments as clap has read them.
+    pub fn of(alloc: Global, matches: &ArgMatches<'a>) -> Result<LinkArguments<'a>, AllocError> {
+        Ok(LinkArguments {
             name: path_of(matches, "name"),
             out: path_of(matches, "out"),
             files: Vec::from_slice(alloc, matches.get_strs("FILE").unwrap_or(&[]))?,
@@ -79,14 +81,14 @@ struct LinkFiles {
 
 /// Links the modules of the files, writes the linked one and prints which were taken and which names are unresolved. No file
 /// is created or changed before every other fault is excluded.
-pub fn link_files(rt: &HostRuntime, words: &LinkWords<'_>) -> Result<u8, Reported> {
-    let name = name_of(rt, words.name)?;
-    let files = read_files(rt, &words.files)?;
+pub fn link_files(rt: &HostRuntime, arguments: &LinkArguments<'_>) -> Result<u8, Reported> {
+    let name = name_of(rt, arguments.name)?;
+    let files = read_files(rt, &arguments.files)?;
     let linked = linked(rt, &name, &files)?;
     let Ok((object, lines)) = outputs_of(rt.alloc(), &linked, &files.libraries) else {
         return Err(report_memory(rt));
     };
-    replace(rt, words.out, &object)?;
+    replace(rt, arguments.out, &object)?;
     print(rt, lines.as_bytes())?;
     Ok(0)
 }

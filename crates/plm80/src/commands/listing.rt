@@ -1,16 +1,16 @@
 //! `plm80 list`: the instructions of a located program.
 
+use crate::commands::arguments::path_of;
 use crate::commands::fault_line::{Reported, report_file, report_memory};
 use crate::commands::files::{print, read_whole};
 use crate::commands::list_text::listing;
 use crate::commands::syntax::{Argument, Kind, Syntax};
-use crate::commands::words::path_of;
 use clap::ArgMatches;
 use place80::{Image, ImageFault, Regions, RegionsFault, read_image, read_regions};
 
-/// The words of `list`.
+/// The arguments of `list`.
 #[derive(Clone, Copy)]
-pub struct ListWords<'a> {
+pub struct ListArguments<'a> {
     image: &'a str,
     regions: &'a str,
 }
@@ -20,9 +20,11 @@ const ABOUT: &str = "Prints the instructions of an image's code";
 const AFTER_HELP: &str = "\
 Each range of code is listed from its first byte on: the address, the bytes and
 the text of each instruction, in hexadecimal. A byte that begins no instruction,
-or whose instruction leaves the range, stands alone with the text ??.
+or whose instruction leaves the range, has a line of its own with the text ??.
 
-Example: plm80 list readings.img readings.regions";
+Example: plm80 list readings.img readings.regions
+
+Faults and what to do: docs/FAULTS.md (installed: share/doc/plm80), man plm80.";
 
 /// `list` and its arguments.
 pub const LIST: Syntax<'static> = Syntax {
@@ -43,10 +45,10 @@ pub const LIST: Syntax<'static> = Syntax {
     ],
 };
 
-impl<'a> ListWords<'a> {
-    /// The words that clap has read.
-    pub fn of(matches: &ArgMatches<'a>) -> ListWords<'a> {
-        ListWords {
+impl<'a> ListArguments<'a> {
+    /// The arguments as clap has read them.
+    pub fn of(matches: &ArgMatches<'a>) -> ListArguments<'a> {
+        ListArguments {
             image: path_of(matches, "IMAGE"),
             regions: path_of(matches, "REGIONS"),
         }
@@ -54,8 +56,8 @@ impl<'a> ListWords<'a> {
 }
 
 /// Prints the listing of the image.
-pub fn list_files(rt: &HostRuntime, words: ListWords<'_>) -> Result<u8, Reported> {
-    let image = read_program(rt, words.image, words.regions)?;
+pub fn list_files(rt: &HostRuntime, arguments: ListArguments<'_>) -> Result<u8, Reported> {
+    let image = read_program(rt, arguments.image, arguments.regions)?;
     let Ok(text) = listing(rt.alloc(), &image) else {
         return Err(report_memory(rt));
     };

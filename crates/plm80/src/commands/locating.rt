@@ -1,18 +1,18 @@
 //! `plm80 locate`: an object file's one module at its places, as an image and its regions.
 
+use crate::commands::arguments::path_of;
 use crate::commands::fault_line::{Reported, report, report_file, report_memory};
 use crate::commands::files::replace;
 use crate::commands::number_text::word_of_digits;
 use crate::commands::object_files::read_modules;
 use crate::commands::syntax::{Argument, Kind, Syntax};
-use crate::commands::words::path_of;
 use clap::ArgMatches;
 use place80::{Image, Options, locate, write_image, write_regions};
 use std::alloc::{AllocError, Global};
 
-/// The words of `locate`.
+/// The arguments of `locate`.
 #[derive(Clone, Copy)]
-pub struct LocateWords<'a> {
+pub struct LocateArguments<'a> {
     object: &'a str,
     image: &'a str,
     regions: &'a str,
@@ -31,20 +31,20 @@ struct LocateTexts<'a> {
     memory_size: Option<&'a str>,
 }
 
-const ABOUT: &str =
-    "Places the module of an object file in memory: writes its image and its regions";
+const ABOUT: &str = "Places a module in memory: writes its image and its regions";
 
 const AFTER_HELP: &str = "\
-Bases are addresses, sizes are in bytes, and each is one to four hexadecimal
-digits in either case.
+Bases are addresses, sizes are in bytes. Both are one to four hexadecimal digits
+in either case, without h or 0x. The three paths must differ.
 
-Segments stand in the order CODE, STACK, named commons, unnamed common, DATA,
-MEMORY. One with a base stands there; any other stands where the one before it
-ends, on the next multiple of 100h where it is paged. References are increased
-by the places of their targets, those to STACK by the address after its last
-byte.
+Segments are placed in the order CODE, STACK, named commons, unnamed common,
+DATA, MEMORY. One with a base is placed there; any other begins where the one
+before it ends, rounded up to a multiple of 100h if it is paged. Relocations add
+the base of their segment, those to STACK the address after its last byte.
 
-Example: plm80 locate readings.obj readings.img readings.regions --data 4000";
+Example: plm80 locate readings.obj readings.img readings.regions --data 4000
+
+Faults and what to do: docs/FAULTS.md (installed: share/doc/plm80), man plm80.";
 
 /// `locate` and its arguments.
 pub const LOCATE: Syntax<'static> = Syntax {
@@ -55,7 +55,7 @@ pub const LOCATE: Syntax<'static> = Syntax {
         Argument {
             name: "IN",
             kind: Kind::Path,
-            help: "The object file to read, of one module with a start and no external",
+            help: "The object file to read, of one module with a start",
         },
         Argument {
             name: "IMAGE",
@@ -65,7 +65,7 @@ pub const LOCATE: Syntax<'static> = Syntax {
         Argument {
             name: "REGIONS",
             kind: Kind::Path,
-            help: "The file to write the regions to, a text of code, data and stack ranges",
+            help: "The file to write the regions to, a text of address ranges",
         },
         Argument {
             name: "code",
@@ -105,10 +105,10 @@ pub const LOCATE: Syntax<'static> = Syntax {
     ],
 };
 
-impl<'a> LocateWords<'a> {
-    /// The words that clap has read.
-    pub fn of(matches: &ArgMatches<'a>) -> LocateWords<'a> {
-        LocateWords {
+impl<'a> LocateArguments<'a> {
+    /// The arguments as clap has read them.
+    pub fn of(matches: &ArgMatches<'a>) -> LocateArguments<'a> {
+        LocateArguments {
             object: path_of(matches, "IN"),
             image: path_of(matches, "IMAGE"),
             regions: path_of(matches, "REGIONS"),
@@ -130,7 +130,7 @@ impl<'a> LocateWords<'a> {
 struct BadNumber;
 
 impl<'a> LocateTexts<'a> {
-    /// The numbers that the texts spell.
+    /// The numbers of the options.
     fn numbers(self) -> Result<Options, BadNumber> {
         Ok(Options {
             code: word_given(self.code)?,
@@ -157,12 +157,12 @@ fn word_given(text: Option<&str>) -> Result<Option<u16>, BadNumber> {
 
 /// Locates the module of the object file, and writes its image and regions. No file is created or changed before every
 /// other fault is excluded.
-pub fn locate_file(rt: &HostRuntime, words: LocateWords<'_>) -> Result<u8, Reported> {
-    let Ok(options) = words.options.numbers() else {
+pub fn locate_file(rt: &HostRuntime, arguments: LocateArguments<'_>) -> Result<u8, Reported> {
+    let Ok(options) = arguments.options.numbers() else {
         return Err(report(rt, "BadNumber"));
     };
-    let image = located(rt, words.object, &options)?;
-    write_files(rt, words, &image)?;
+    let image = located(rt, arguments.object, &options)?;
+    write_files(rt, arguments, &image)?;
     Ok(0)
 }
 
@@ -179,12 +179,16 @@ fn located(rt: &HostRuntime, path: &str, options: &Options) -> Result<Image, Rep
 }
 
 /// Writes the files of an image.
-fn write_files(rt: &HostRuntime, words: LocateWords<'_>, image: &Image) -> Result<(), Reported> {
+fn write_files(
+    rt: &HostRuntime,
+    arguments: LocateArguments<'_>,
+    image: &Image,
+) -> Result<(), Reported> {
     let Ok(files) = files_of(rt.alloc(), image) else {
         return Err(report_memory(rt));
     };
-    replace(rt, words.image, &files.image)?;
-    replace(rt, words.regions, &files.regions)
+    replace(rt, arguments.image, &files.image)?;
+    replace(rt, arguments.regions, &files.regions)
 }
 
 /// The bytes of the two files that `locate` writes.

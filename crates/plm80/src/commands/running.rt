@@ -1,17 +1,17 @@
 //! `plm80 run`: the transcript of a located program's run.
 
+use crate::commands::arguments::path_of;
 use crate::commands::fault_line::{Reported, report, report_file};
 use crate::commands::files::LateFile;
 use crate::commands::number_text::count_of_digits;
 use crate::commands::syntax::{Argument, Kind, Syntax};
-use crate::commands::words::path_of;
 use crate::status_of;
 use clap::ArgMatches;
 use loader80::{Outcome, Reading, SessionFault, Writing, session};
 
-/// The words of `run`.
+/// The arguments of `run`.
 #[derive(Clone, Copy)]
-pub struct RunWords<'a> {
+pub struct RunArguments<'a> {
     image: &'a str,
     regions: &'a str,
     inputs: &'a str,
@@ -19,19 +19,20 @@ pub struct RunWords<'a> {
     outputs: &'a str,
 }
 
-const ABOUT: &str =
-    "Verifies an image and runs it: prints the transcript, or why the image is refused";
+const ABOUT: &str = "Verifies an image and runs it: prints the transcript, or the refusal";
 
 const AFTER_HELP: &str = "\
 N is a decimal number, at most 18446744073709551615. A line of INPUTS is a port,
-a space and the bytes that the program reads there, all of two hexadecimal
+a blank and the bytes that the program reads there, all of two hexadecimal
 digits, as in 02 41FF; an empty file is no input.
 
-The transcript is a line for the bytes of stack that the program needs, a line
-for each byte that it writes to a port, and a line for how it ends and after how
-many steps.
+The transcript is printed when the run has ended: a line for the bytes of stack
+that the program needs, a line for each byte that it writes to a port, and a
+line for how it ended and after how many steps.
 
-Example: plm80 run readings.img readings.regions readings.inputs --steps 5000";
+Example: plm80 run readings.img readings.regions readings.inputs --steps 5000
+
+Faults and what to do: docs/FAULTS.md (installed: share/doc/plm80), man plm80.";
 
 /// `run` and its arguments.
 pub const RUN: Syntax<'static> = Syntax {
@@ -57,20 +58,20 @@ pub const RUN: Syntax<'static> = Syntax {
         Argument {
             name: "steps",
             kind: Kind::Count("1000000"),
-            help: "Steps that the run makes at most, each one instruction",
+            help: "Steps at most; a step is one instruction",
         },
         Argument {
             name: "outputs",
             kind: Kind::Count("65536"),
-            help: "Outputs that are taken at most; the next one is refused",
+            help: "Outputs at most; the next one is refused",
         },
     ],
 };
 
-impl<'a> RunWords<'a> {
-    /// The words that clap has read.
-    pub fn of(matches: &ArgMatches<'a>) -> RunWords<'a> {
-        RunWords {
+impl<'a> RunArguments<'a> {
+    /// The arguments as clap has read them.
+    pub fn of(matches: &ArgMatches<'a>) -> RunArguments<'a> {
+        RunArguments {
             image: path_of(matches, "IMAGE"),
             regions: path_of(matches, "REGIONS"),
             inputs: path_of(matches, "INPUTS"),
@@ -88,7 +89,7 @@ impl<'a> RunWords<'a> {
         }
     }
 
-    /// The exit status after a session's answer; its fault is reported with the path of the file that it is of.
+    /// The exit status after a session's answer; its fault is reported with the path of its file.
     fn status_after(
         &self,
         rt: &HostRuntime,
@@ -116,26 +117,26 @@ impl<'a> RunWords<'a> {
 }
 
 /// Runs a session on the files, and gives the exit status.
-pub fn run_files(rt: &HostRuntime, words: RunWords<'_>) -> Result<u8, Reported> {
+pub fn run_files(rt: &HostRuntime, arguments: RunArguments<'_>) -> Result<u8, Reported> {
     let (Some(steps), Some(outputs)) = (
-        count_of_digits(words.steps),
-        count_of_digits(words.outputs),
+        count_of_digits(arguments.steps),
+        count_of_digits(arguments.outputs),
     ) else {
         return Err(report(rt, "BadNumber"));
     };
-    words.status_after(rt, session_of(rt, words, steps, outputs as usize))
+    arguments.status_after(rt, session_of(rt, arguments, steps, outputs as usize))
 }
 
 /// The answer of a session on the files, with its transcript on standard output.
 fn session_of(
     rt: &HostRuntime,
-    words: RunWords<'_>,
+    arguments: RunArguments<'_>,
     steps: u64,
     outputs: usize,
 ) -> Result<Outcome, SessionFault> {
-    let mut image = Reading::new(LateFile::new(rt, words.image));
-    let mut regions = Reading::new(LateFile::new(rt, words.regions));
-    let mut inputs = Reading::new(LateFile::new(rt, words.inputs));
+    let mut image = Reading::new(LateFile::new(rt, arguments.image));
+    let mut regions = Reading::new(LateFile::new(rt, arguments.regions));
+    let mut inputs = Reading::new(LateFile::new(rt, arguments.inputs));
     let mut out = Writing::new(rt.stdout());
     session(
         rt.alloc(),

@@ -1,4 +1,4 @@
-//! What clap is told of a command: its name, its help text and its arguments, as a table.
+//! A command for clap: its name, its help text and its arguments, as a table.
 
 use clap::{Arg, ArgAction, Command};
 use std::alloc::{AllocError, Global};

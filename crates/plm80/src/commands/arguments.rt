@@ -1,0 +1,124 @@
+//! The command line, read by clap.
+
+use crate::commands::checking::{CHECK, CheckArguments};
+use crate::commands::library::{LIB, LibraryArguments};
+use crate::commands::linking::{LINK, LinkArguments};
+use crate::commands::listing::{LIST, ListArguments};
+use crate::commands::locating::{LOCATE, LocateArguments};
+use crate::commands::running::{RUN, RunArguments};
+use crate::commands::syntax::Syntax;
+use clap::error::ErrorKind;
+use clap::{ArgMatches, Command, Error};
+use std::alloc::{AllocError, Global};
+
+/// A command with its arguments.
+#[derive(Drop)]
+pub enum Request<'a> {
+    Link(LinkArguments<'a>),
+    Locate(LocateArguments<'a>),
+    Run(RunArguments<'a>),
+    List(ListArguments<'a>),
+    Check(CheckArguments<'a>),
+    Library(LibraryArguments<'a>),
+}
+
+const ABOUT: &str = "Links, locates, verifies and runs 8080 programs from OMF-80 object files";
+
+const AFTER_HELP: &str = "\
+Without arguments it reads a bundle from standard input (an image in
+hexadecimal, its regions, a line INPUTS, its inputs) and prints the transcript
+of its run. Files have at most 1048576 bytes, a bundle 4194312.
+
+The exit status is 0 if the command is done or the program halted, 1 if the
+verifier refuses the program, 2 at a fault of the arguments or of a file, and
+for help, 3 if the program stops at an empty port, a refused output or a store
+outside data, and 4 if its steps are used up.
+
+Example: plm80 locate readings.obj readings.img readings.regions
+         plm80 run readings.img readings.regions readings.inputs
+
+Faults and what to do: docs/FAULTS.md (installed: share/doc/plm80), man plm80.";
+
+/// What `--version` prints: the program's version, and the toolchain by which it was proved.
+const VERSION: &str = "1.0 (rattle-kit-13b logic dac8208d650f15bf)";
+
+/// The commands.
+static COMMANDS: [Syntax<'static>; 6] = [LINK, LOCATE, RUN, LIST, CHECK, LIB];
+
+/// The command of a command line, whose first argument is the program's own name.
+pub fn read_arguments<'a>(alloc: Global, arguments: &'a [String]) -> Result<Request<'a>, Error> {
+    match asked_for(alloc, &matches_of(alloc, arguments)?)? {
+        Some(request) => Ok(request),
+        None => Err(refusal(alloc, ErrorKind::MissingSubcommand, "no command")),
+    }
+}
+
+/// The arguments as clap reads them.
+fn matches_of<'a>(alloc: Global, arguments: &'a [String]) -> Result<ArgMatches<'a>, Error> {
+    program(alloc)?.try_get_matches_from(arguments)
+}
+
+/// The error of arguments that are no text.
+pub fn no_text(alloc: Global) -> Error {
+    refusal(
+        alloc,
+        ErrorKind::InvalidValue,
+        "invalid UTF-8 was detected in one or more arguments",
+    )
+}
+
+/// An error of the command line, as clap prints it.
+fn refusal(alloc: Global, kind: ErrorKind, text: &str) -> Error {
+    match refuse(alloc, kind, text) {
+        Ok(error) => error,
+        Err(refused) => Error::from(refused),
+    }
+}
+
+fn refuse(alloc: Global, kind: ErrorKind, text: &str) -> Result<Error, AllocError> {
+    program(alloc)?.error(kind, text)
+}
+
+/// The program with its commands, for clap.
+fn program<'a>(alloc: Global) -> Result<Command<'a>, AllocError> {
+    let mut program = bare_program(alloc)?;
+    for command in &COMMANDS {
+        program = command.add_to(alloc, program)?;
+    }
+    Ok(program)
+}
+
+/// The program before its commands are added.
+fn bare_program<'a>(alloc: Global) -> Result<Command<'a>, AllocError> {
+    Command::new(alloc, "plm80")
+        .version(VERSION)
+        .about(ABOUT)
+        .after_help(AFTER_HELP)
+        .subcommand_required(true)
+        .bin_name("plm80")
+}
+
+/// The command that clap has read.
+fn asked_for<'a>(
+    alloc: Global,
+    matches: &ArgMatches<'a>,
+) -> Result<Option<Request<'a>>, AllocError> {
+    let Some((name, arguments)) = matches.subcommand() else {
+        return Ok(None);
+    };
+    let request = match name {
+        "link" => Request::Link(LinkArguments::of(alloc, arguments)?),
+        "locate" => Request::Locate(LocateArguments::of(arguments)),
+        "run" => Request::Run(RunArguments::of(arguments)),
+        "list" => Request::List(ListArguments::of(arguments)),
+        "check" => Request::Check(CheckArguments::of(arguments)),
+        "lib" => Request::Library(LibraryArguments::of(alloc, arguments)?),
+        _ => return Ok(None),
+    };
+    Ok(Some(request))
+}
+
+/// The text of an argument that clap requires.
+pub fn path_of<'a>(matches: &ArgMatches<'a>, name: &str) -> &'a str {
+    matches.get_str(name).unwrap_or("")
+}
