@@ -49,7 +49,7 @@ filled_up front n three counted =
       sum_zero = ap byte_sum (all ∙ parts) ∙ byte_sum-checksum (front ++ replicate n 0);
     }
 
--- The same for a front of which the first bytes are there.
+-- The same for a prefix whose first bytes are there.
 completed : (rest more : List ℕ) (n at : ℕ) → All (λ byte. byte < 256) more → 3 ≤ length (rest ++ more) → length (rest ++ more) + n + 1 ≡ record_size (rest ++ more)
     → (after : List ℕ) × All (λ byte. byte < 256) after × (fault_at (rest ++ after) at ≡ None)
 completed rest more n at small three counted = (

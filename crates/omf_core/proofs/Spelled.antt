@@ -95,7 +95,7 @@ written_is_spelled before after kind body =
     records_stay (before ++ spelling kind body) after (length before) (length before + 4 + length body) kind body
     (subst (λ to. SpellsRecord (before ++ spelling kind body) (length before) to kind body) (omega arith) placed)
 
--- What it means that no fault is told of the rest.
+-- What it means that there is no fault in the rest.
 pub record NoFault (rest : List ℕ) : Type 0 where
   pub counts : 0 < word_at rest 1
   pub whole : record_size rest ≤ length rest

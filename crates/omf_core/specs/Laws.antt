@@ -21,7 +21,7 @@ NoSpellingBeginsAnother =
     → SpellsRecord (spelled ++ more) 0 (length (spelled ++ more)) kind' body'
     → more ≡ []
 
--- No fault is told of a place exactly where a record is spelled there.
+-- A place has no fault exactly where a record is spelled there.
 abbrev pub NoFaultExactlyAtRecords : Type 0
 NoFaultExactlyAtRecords =
     (bytes : List ℕ) (from : ℕ)
@@ -35,7 +35,7 @@ RecordsStay =
     → SpellsRecord bytes from to kind body
     → SpellsRecord (bytes ++ more) from to kind body
 
--- A wrong sum and a zero length are told whatever bytes follow.
+-- A wrong sum and a zero length are reported whatever bytes follow.
 abbrev pub FaultsStay : Type 0
 FaultsStay =
     (rest more : List ℕ) (at : ℕ)

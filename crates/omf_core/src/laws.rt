@@ -15,7 +15,7 @@ pub fn no_spelling_begins_another()
     ensures { NoSpellingBeginsAnother }
 {}
 
-/// No fault is told of a place exactly where a record is spelled there.
+/// A place has no fault exactly where a record is spelled there.
 #[tactic(auto, using(crate::proofs::Spelled::no_fault_exactly_at_records))]
 pub fn no_fault_exactly_at_records()
     ensures { NoFaultExactlyAtRecords }
@@ -27,13 +27,13 @@ pub fn records_stay()
     ensures { RecordsStay }
 {}
 
-/// `BadSum` and `ZeroLength` are told whatever bytes follow.
+/// `BadSum` and `ZeroLength` are reported whatever bytes follow.
 #[tactic(auto, using(crate::proofs::Spelled::faults_stay))]
 pub fn faults_stay()
     ensures { FaultsStay }
 {}
 
-/// `Truncated` isn't told whatever bytes follow: some bytes complete the record.
+/// `Truncated` doesn't stay whatever bytes follow: some bytes complete the record.
 #[tactic(auto, using(crate::proofs::Completed::truncated_can_be_completed))]
 pub fn truncated_can_be_completed()
     ensures { TruncatedCanBeCompleted }
