@@ -1,4 +1,4 @@
--- What it means that nothing is told of the places of segments.
+-- What it means that the places of segments have no fault.
 use Rattle.std.proofs.Common.{◌≡◌, ℕ, suc, ◌+◌, ◌<◌, ◌≤◌, Bool, false, cond, ◌&&◌, ◌||◌, List, [], ◌∷◌, map, length, refl, sym, ap, ◌∙◌, arith, inl, inr, true≢false}
 use Rattle.std.specs.Prelude.{nat_lt, ◌==◌, ◌↔◌, Option, None, Some, option_map, filter, find, All, AllPairs}
 use Rattle.std.specs.List.{list_any}

@@ -23,7 +23,7 @@ use Rattle.place80.specs.ImageFile.{without_regions, chunk_content, content_chun
 
 -- ---- the module of an image
 
--- a module without commons lists no segments where none is told
+-- a module without commons lists no segments where none is listed
 pub none_listed : in_one_form [] [] ≡ []
 unfolding entries_for listed_ids
 none_listed = refl

@@ -176,7 +176,7 @@ all_can_be_placed laws options m sound laid =
     recursion_from_All (CanBePlaced (layout_of options m)) m.contents
     (All-from_get_or (CanBePlaced (layout_of options m)) m.contents d (λ i below. can_be_placed laws options m i d sound (in_memory_and_apart options m laid).0 below))
 
--- ---- as the calls tell it
+-- ---- as the calls answer it
 
 pub no_first : {A : Type 0} (xs : List A) → slice_get xs 0 ≡ None → xs ≡ []
 no_first [] none = refl

@@ -103,7 +103,7 @@ NeverBothImage = (bytes : List ℕ) (p : AbsoluteProgram) (f : ImageFault) → S
 
 -- ---- faults
 
--- what is told of a fault of the object file: want of memory is told as such
+-- the fault for a fault of the object file: running out of memory is `Memory`
 abbrev pub of_cause : Cause → ModuleFault → ImageFault
 of_cause OutOfMemory fault = Memory
 of_cause cause fault = Module fault

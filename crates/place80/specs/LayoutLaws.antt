@@ -60,6 +60,6 @@ pub record Fit (m : ModuleValue) (segments : List Placed) : Type 0 where
   pub apart : AllPairs AreApart segments
   pub absolute_apart : All (λ c. c.segment ≡ 0 → All (AreApart (absolute_place c)) segments) m.contents
 
--- nothing is told of a layout exactly where its segments fit
+-- a layout has no fault exactly where its segments fit
 abbrev pub NothingIsToldWhereSegmentsFit : Type 0
 NothingIsToldWhereSegmentsFit = (options : Options) (m : ModuleValue) → layout_fault options m ≡ None ↔ Fit m (layout_of options m)

@@ -1,4 +1,4 @@
--- What the regions of a located program are, said by addresses.
+-- What the regions of a located program are, in terms of addresses.
 -- (ISIS-II User's Guide, LOCATE: the segments CODE, DATA, STACK and MEMORY, and the stack's top.)
 use Rattle.std.specs.Prelude.{◌≡◌, ℕ, ◌+◌, ◌≤◌, ◌==◌, Bool, ◌&&◌, List, All}
 use Rattle.std.specs.List.{list_any}

@@ -38,7 +38,7 @@ pub record CanBePlaced (segments : List Placed) (c : ContentValue) : Type 0 wher
   pub in_record : length c.bytes ≤ 65531
   pub in_memory : place_among segments c.segment c.offset + length c.bytes ≤ 65536
 
--- the range of a placed segment; one of no bytes at the end of memory is told at 0
+-- the range of a placed segment; an empty one at the end of memory begins at 0
 abbrev pub range_at : Placed → Range
 range_at p = record { first = p.base % 65536; length = p.length }
 

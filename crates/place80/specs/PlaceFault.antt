@@ -1,4 +1,4 @@
--- Why a program can't be located: each cause as a test, and the order in which they are told.
+-- Why a program can't be located: each cause as a test, and the order in which they are reported.
 -- (ISIS-II User's Guide, LOCATE: unresolved references, overlapping and out of bounds segments. Their order and numbers are
 -- this project's own.)
 use Rattle.std.specs.Prelude.{ℕ, ◌+◌, ◌==◌, Bool, ◌&&◌, ◌||◌, nat_lt, nat_le, if◌then◌else◌, Option, Some, None, is_none, option_and_then, option_map, List, [], ◌∷◌, ◌++◌, filter, find, map, length, slice_get}

@@ -2,7 +2,7 @@ use std::alloc::{AllocError, AllocFailed};
 use thiserror::Error;
 
 /// Why bytes are no regions text, the first that holds in the order `BadVersion`, `BadLine`,
-/// `NoStack`, `RegionsOverlap`; or that a growth was refused.
+/// `NoStack`, `RegionsOverlap`; or that memory ran out.
 #[derive(Clone, Copy, Debug, PartialEq, Eq, Error)]
 pub enum RegionsFault {
     /// The first line of that number, counted from 1, that is no line of a regions text, is a
@@ -18,7 +18,7 @@ pub enum RegionsFault {
     /// There is no STACK line.
     #[error("NoStack")]
     NoStack,
-    /// A growth was refused.
+    /// Out of memory.
     #[error("Memory")]
     Memory,
 }

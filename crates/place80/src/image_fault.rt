@@ -2,7 +2,7 @@ use omf_module::{Cause, ModuleFault};
 use std::alloc::AllocError;
 use thiserror::Error;
 
-/// Why bytes are no image: the first of these that holds, in the order of their numbers, or that a growth was refused.
+/// Why bytes are no image: the first of these that holds, in the order of their numbers, or that memory ran out.
 #[derive(Clone, Copy, Debug, PartialEq, Eq, Error)]
 pub enum ImageFault {
     /// The bytes are no object file.
@@ -17,7 +17,7 @@ pub enum ImageFault {
     /// The module is no main program.
     #[error("NoStart")]
     NoStart,
-    /// A growth was refused.
+    /// Out of memory.
     #[error("Memory")]
     Memory,
 }
@@ -57,7 +57,7 @@ impl From<ModuleFault> for ImageFault {
 
     ghost from_gives = { λ cause fault. fault ≡ of_module_fault cause };
 
-    /// Want of memory is told as such, and not as a fault of the module.
+    /// Running out of memory is reported as such, and not as a fault of the module.
     fn from(fault: ModuleFault) -> ImageFault {
         match fault.cause {
             Cause::Memory => ImageFault::Memory,

@@ -12,7 +12,7 @@ ghost use Rattle.place80.specs.declared.fault.RegionsFault.{RegionsFault};
 
 use omf_module::laws::{one_file_reading, written_file_is_spelled};
 
-/// A text spells one list of regions at most, and none where it is refused, for want of memory
+/// A text spells one list of regions at most, and none where it is refused, when memory runs out
 /// aside; it is refused for one cause at most; and the text that is written for regions spells
 /// them. So what is written is read as itself.
 pub fn text_of_regions_is_read_as_itself()
@@ -75,7 +75,7 @@ pub fn segments_overlap_at_an_address()
     ensures { OverlapIsASharedAddress }
 {}
 
-/// Nothing is told of the places of a program's segments exactly where they fit: each ends with memory or before it, MEMORY
+/// The places of a program's segments have no fault exactly where they fit: each ends with memory or before it, MEMORY
 /// holds its content, and no address lies in two of them, or in one and in an absolute content.
 pub fn nothing_is_told_where_segments_fit()
     ensures { NothingIsToldWhereSegmentsFit }

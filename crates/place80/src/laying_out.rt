@@ -25,7 +25,7 @@ const USUAL_BASE: u32 = 0x3000;
 /// like others and overlap nothing. (ISIS-II User's Guide, LOCATE.)
 ///
 /// # Errors
-/// The first that holds of `OutsideMemory` and `Overlap`; `Memory` only where a growth was refused.
+/// The first that holds of `OutsideMemory` and `Overlap`; `Memory` only where memory ran out.
 pub fn layout(alloc: Global, program: &Module, options: &Options) -> Result<Layout, PlaceFault>
     ensures places { IfOk result (λ layout. layout.segments.items ≡ layout_of options.now program.now) }
     ensures lengths { IfOk result (λ layout. AllByRecursion (λ p. p.length < 65536) layout.segments.items) }

@@ -4,7 +4,7 @@
 //! | Item | What it is |
 //! |---|---|
 //! | [`layout`], [`Layout`], [`Placed`] | the segments of a program at their places |
-//! | [`locate`], [`Options`], [`PlaceFault`] | a program made an image, what is told of its places, and why it can't be |
+//! | [`locate`], [`Options`], [`PlaceFault`] | a program made an image, where its segments go, and why it can't be located |
 //! | [`Range`] | consecutive addresses |
 //! | [`Regions`] | the ranges of code and of data, and the one range of the stack |
 //! | [`RegionMap`] | whether an address is in the code or in the data, at the same cost for any number of ranges |

@@ -82,7 +82,7 @@ fn stack_range(segments: &[Placed]) -> Range
     range_at(placed_in(segments, 3))
 }
 
-/// The range of a placed segment; one of no bytes at the end of memory is told at 0.
+/// The range of a placed segment; an empty one at the end of memory begins at 0.
 fn range_at(placed: Placed) -> Range
     requires { placed.length < 65536 }
     ensures { result ≡ range_at placed }

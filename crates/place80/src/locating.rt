@@ -31,9 +31,16 @@ use std::alloc::Global;
 /// with its references increased, and 0 where none covers it. There is one chunk for each content, in order. Code is CODE,
 /// data are DATA, MEMORY and all commons, and the stack is STACK. No fixup lost the low byte of its word.
 ///
+/// # Example
+/// ```
+/// let image = locate(rt.alloc(), &module, &Options::default())?;
+/// assert_eq!(rt; image.start, 0x3000);
+/// assert_eq!(rt; image.byte(0x3000), 0x76);
+/// ```
+///
 /// # Errors
 /// The first that holds of `Unresolved`, `NoStart`, `OutsideMemory`, `Overlap`, `HighNotPaged` and `StartNotCode`; `Memory`
-/// only where a growth was refused, and never of a module without externals that is no main program.
+/// only where memory ran out, and never of a module without externals that is no main program.
 pub fn locate(alloc: Global, program: &Module, options: &Options) -> Result<Image, PlaceFault>
     ensures name { IfOk result (λ image. image.name ≡ program.now.name) }
     ensures chunks { IfOk result (λ image. image.chunks ≡ located_chunks options.now program.now) }

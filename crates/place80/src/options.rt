@@ -1,4 +1,4 @@
-/// What LOCATE is told: bases of segments, and sizes in place of those of STACK and MEMORY, all in bytes.
+/// The options of LOCATE: bases of segments, and sizes in place of those of STACK and MEMORY, all in bytes.
 /// (ISIS-II User's Guide, LOCATE: the controls CODE, STACK, DATA, MEMORY and STACKSIZE; the others are this project's.)
 #[derive(Clone, Copy, Debug, Default, PartialEq, Eq)]
 pub struct Options {

@@ -2,8 +2,8 @@ use omf_core::Name;
 use std::alloc::{AllocError, AllocFailed};
 use thiserror::Error;
 
-/// Why a program can't be located: the first of these that holds, in the order of their numbers, or that a growth was
-/// refused. Segments and pairs of them are looked at in the order of their places: CODE, STACK, the named commons by id,
+/// Why a program can't be located: the first of these that holds, in the order of their numbers, or that memory
+/// ran out. Segments and pairs of them are looked at in the order of their places: CODE, STACK, the named commons by id,
 /// the unnamed common, DATA, MEMORY.
 #[derive(Debug, PartialEq, Eq, Drop, Error)]
 pub enum PlaceFault {
@@ -16,7 +16,7 @@ pub enum PlaceFault {
     /// The first segment, by its id, that passes the end of memory, or MEMORY where its length no longer holds its content.
     #[error("OutsideMemory {0:02X}")]
     OutsideMemory(u8),
-    /// The first two segments that share an address, by their ids, or else the first absolute content, told as 0, and
+    /// The first two segments that share an address, by their ids, or else the first absolute content, named 0, and
     /// the first segment with which it does.
     #[error("Overlap {0:02X} {1:02X}")]
     Overlap(u8, u8),
@@ -26,7 +26,7 @@ pub enum PlaceFault {
     /// The program starts outside CODE.
     #[error("StartNotCode")]
     StartNotCode,
-    /// A growth was refused.
+    /// Out of memory.
     #[error("Memory")]
     Memory,
 }

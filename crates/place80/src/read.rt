@@ -21,7 +21,7 @@ const HEADING: &[u8] = b"REGIONS 1";
 /// `STACK ffff llll`, the first address and the length of a range in upper case hexadecimal, in
 /// any order, and each line ends with its line feed. Code and data of length 0 are left out. The
 /// faults are looked for in the order `BadVersion`, `BadLine` with the first such line, `NoStack`,
-/// `RegionsOverlap`; `Memory` comes only where a growth was refused, and never in place of `BadVersion`.
+/// `RegionsOverlap`; `Memory` comes only where memory ran out, and never in place of `BadVersion`.
 pub fn read_regions(alloc: Global, bytes: &[u8]) -> Result<Regions, RegionsFault>
     ensures spelled { IfOk result (Spells bytes.now) }
     ensures refused { IfErr result (Refuses bytes.now) }

@@ -12,7 +12,7 @@ use decode80::word_digits;
 use std::alloc::{AllocError, Global};
 
 /// Appends the text of the regions, version 1: the line `REGIONS 1`, the code lines by address, the
-/// stack line, the data lines by address. It is read as the same regions. Where a growth is refused,
+/// stack line, the data lines by address. It is read as the same regions. When memory runs out,
 /// `out` keeps what it held.
 pub fn write_regions(alloc: Global, regions: &Regions, out: &mut Vec<u8>) -> Result<(), AllocError>
     ensures ok { OnOk result (out.new.items ≡ out.old.items ++ regions_text regions.now) }
