@@ -202,7 +202,7 @@ made_is_module p kept names =
       names = names;
     }
 
--- ---- what a reader of segments is told of a module that is made of parts
+-- ---- what a reader of segments gets of a module that is made of parts
 
 pub segments_kept : (p : ModuleValue) (id : ℕ) → 1 ≤ id → id ≤ 255 → segment_of (made_of p) id ≡ segment_of p id
 segments_kept p id low high =

@@ -1,10 +1,10 @@
--- A mark for each byte of a content record, which tells whether a reference has that byte.
+-- A mark for each byte of a content record: whether a fixup has that byte.
 -- (8080 Object Module Formats, fixup records; that two of them share no byte is this project's rule.)
 use Rattle.std.specs.Prelude.{◌≡◌, ℕ, ◌+◌, ◌<◌, Bool, false, List, length, slice_index_or}
 use Rattle.omf_module.specs.declared.fixup.Fixup.{Fixup}
 use Rattle.omf_module.specs.Contents.{is_taken}
 
--- the marks of the bytes from offset `first` on tell which offsets are taken
+-- the marks of the bytes from offset `first` on say which offsets are taken
 pub record AreMarks (marks : List Bool) (first : ℕ) (taken : ℕ → Bool) : Type 0 where
   pub at : (place : ℕ) → place < length marks → slice_index_or marks place false ≡ taken (first + place)
 

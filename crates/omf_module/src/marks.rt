@@ -35,7 +35,7 @@ pub(crate) fn is_inside(first: u16, size: usize, fixup: Fixup) -> bool
     }
 }
 
-/// Marks a byte, and tells whether it had no mark.
+/// Marks a byte, and answers whether it had no mark.
 fn take_byte(marks: &mut Vec<bool>, place: usize) -> bool
     requires { place < vec_len marks.old }
     ensures marked { marks.new.items ≡ slice_set marks.old.items place true }
@@ -60,7 +60,7 @@ pub(crate) fn is_free(marks: &[bool], first: u16, fixup: Fixup) -> bool
     }
 }
 
-/// Marks the bytes of a reference, and tells whether none of them had a mark.
+/// Marks the bytes of a fixup, and answers whether none of them had a mark.
 pub(crate) fn mark(marks: &mut Vec<bool>, first: u16, fixup: Fixup) -> bool
     requires { IsTrue (is_inside first (vec_len marks.old) fixup) }
     ensures free { (before : List Fixup)
@@ -82,7 +82,7 @@ pub(crate) fn mark(marks: &mut Vec<bool>, first: u16, fixup: Fixup) -> bool
     }
 }
 
-/// Marks that tell of no reference.
+/// Marks of no fixup.
 pub(crate) fn no_marks(alloc: Global, size: usize) -> Result<Vec<bool>, AllocError>
     ensures none { IfOk result (λ marks. (first : ℕ) → AreMarks marks.items first (is_taken [])) }
     ensures as_many { IfOk result (λ marks. vec_len marks ≡ size) }

@@ -1,4 +1,4 @@
-//! The names of a module are names: their type keeps it, and a look at each of them tells it to the proof.
+//! The names of a module are names: their type keeps it, and a look at each of them makes it known to the proof.
 
 ghost use Rattle.std.specs.Prelude.{◌≡◌, IsTrue};
 ghost use Rattle.std.specs.List.{list_all};

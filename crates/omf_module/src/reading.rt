@@ -137,6 +137,13 @@ fn modules_of(alloc: Global, bytes: &[u8]) -> Result<Vec<Module>, ModuleFault>
 /// in order, and for one entry in this order.
 /// (8080 Object Module Formats, module.)
 ///
+/// # Example
+/// ```
+/// let (module, after) = read_module(rt.alloc(), &HALT, 0)?;
+/// assert_eq!(rt; module.start(), Some((1, 0)));
+/// assert_eq!(rt; after, 28);
+/// ```
+///
 /// # Errors
 /// The first fault, at the place of its record; or `Memory` at place 0, only where there is none: not before the module's
 /// header is read, so that bytes where no module begins are reported in any case.
