@@ -144,6 +144,15 @@ fn link_modules(
 /// one another; publics and contents move with their parts; references to segments and to names that are declared are resolved;
 /// the main program's start is the linked module's. (ISIS-II User's Guide, LINK.)
 ///
+/// # Example
+/// ```
+/// let roots = vec![in rt.alloc(); module_of(rt.alloc())?]?;
+/// let name = Name::new(rt.alloc(), b"PROGRAM")?;
+/// let linked = link(rt.alloc(), &name, roots.as_slice(), &[])?;
+/// assert_eq!(rt; linked.module.start(), Some((1, 0)));
+/// assert!(rt; linked.taken.is_empty() && linked.unresolved.is_empty());
+/// ```
+///
 /// # Errors
 /// The first of these that holds of the roots and the modules that are taken: `DuplicatePublic` with the first public whose name
 /// stands before; `SegmentTooLong` with the first of CODE, DATA and STACK that comes to more than 65535 bytes; `TwoMains`;
