@@ -17,10 +17,8 @@ use std::alloc::Global;
 /// # Example
 /// ```
 /// let report = verify(rt.alloc(), &image)?;
-/// println!(rt; "{} bytes of stack", report.stack_bytes)?;
-/// for row in &report.procedures {
-///     println!(rt; "{:04X} takes {} words", row.entry, row.takes)?;
-/// }
+/// assert_eq!(rt; report.stack_bytes, 0);
+/// assert!(rt; report.procedures.is_empty());
 /// ```
 ///
 /// # Errors
