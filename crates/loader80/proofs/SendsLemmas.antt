@@ -9,7 +9,7 @@ use Rattle.loader80.specs.Texts.{Texts}
 use Rattle.loader80.specs.Session.{Says}
 use Rattle.loader80.specs.Sends.{AreWithin, Answers, Sends, SendsPrefix, read_failures_at, write_failures_of}
 
--- a text that is told and read
+-- a text that is known and read
 pub told_text : (left : Option (List ℕ)) (bytes text : List ℕ) → IfSome left (λ told. bytes ≡ told) → left ≡ Some text → bytes ≡ text
 told_text left bytes text whole told = subst (λ (o : Option (List ℕ)). IfSome o (λ x. bytes ≡ x)) told whole
 

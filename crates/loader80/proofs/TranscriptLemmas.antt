@@ -12,7 +12,7 @@ use Rattle.loader80.specs.declared.replies.Outcome.{Outcome}
 use Rattle.loader80.specs.Session.{IsTranscript}
 use Rattle.loader80.specs.TranscriptText.{transcript}
 
--- the ports before and after a run: they were new, and the count of refusals tells the end
+-- the ports before and after a run: they were new, and the count of refusals decides the end
 pub record RanOn (inputs : List (List ℕ)) (limit : ℕ) (before after : Lists) (ending : Option End) : Type 0 where
   pub inputs_before : before.inputs ≡ inputs
   pub outputs_before : before.outputs ≡ []

@@ -34,7 +34,7 @@ bad_part n (line ∷ next ∷ lines) = if is_some (line_input line) then bad_par
 abbrev pub bad_line : List ℕ → Option ℕ
 bad_line text = bad_part 1 (parts text)
 
--- the fault holds of the text; want of memory may come at any
+-- the fault holds of the text; memory may run out at any
 abbrev pub InputsFaultHolds : List ℕ → InputsFault → Type 0
 InputsFaultHolds text (BadLine n) = bad_line text ≡ Some n
 InputsFaultHolds text Memory = Unit {0}

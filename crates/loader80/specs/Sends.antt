@@ -1,4 +1,4 @@
--- What a session reads, answers and writes, over readers and a writer that tell their bytes.
+-- What a session reads, answers and writes, over readers and a writer whose bytes are known.
 use Rattle.std.specs.Prelude.{◌≡◌, ℕ, ◌<◌, ◌≤◌, ◌==◌, List, [], Option, Result, Err, IfSome, length, take, if◌then◌else◌}
 use Rattle.std.specs.Io.KnownBytes.{Appends}
 use Rattle.loader80.specs.declared.replies.Outcome.{Outcome}
@@ -63,7 +63,7 @@ abbrev pub Sends : (limit steps : ℕ) → Texts → Result Outcome SessionFault
 Sends limit steps t (Err Write) old new = SendsPrefix limit steps t old new
 Sends limit steps t answer old new = SendsAll limit steps t answer old new
 
--- the failures of the reader of a number, and of the writer, that an answer tells
+-- the failures of the reader of a number, and of the writer, that an answer means
 abbrev pub read_failures_at : {A : Type 0} → ℕ → Result A SessionFault → ℕ
 read_failures_at number (Err (Read k)) = if k == number then 1 else 0
 read_failures_at number answer = 0

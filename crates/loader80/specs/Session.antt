@@ -23,7 +23,7 @@ use Rattle.flow80.specs.Faults.{Holds}
 use Rattle.verify80.specs.Looking.{code_of}
 use Rattle.loader80.specs.Vouched.{IsVouched}
 
--- the image's bytes tell the image but for its regions, and the regions' text spells those
+-- the image's bytes spell the image but for its regions, and the regions' text spells those
 pub record SpellsProgram (t : Texts) (image : Located) : Type 0 where
   pub contents : SpellsImage t.image (without_regions image)
   pub regions : Spells t.regions image.regions
@@ -61,11 +61,11 @@ abbrev pub Says : (limit steps : ℕ) → Texts → Result Outcome SessionFault 
 Says limit steps t (Ok o) text = Runs limit steps t o text
 Says limit steps t (Err f) text = Faults t f text
 
--- a refusal's line, or want of memory
+-- a refusal's line, or out of memory
 abbrev pub IsRefused : Refusal → Result Outcome SessionFault → List ℕ → Type 0
 IsRefused refusal answer text = ((answer ≡ Err Memory) × (text ≡ [])) ⊎ ((answer ≡ Err (Refused refusal)) × (refusal ≢ NoMemory) × (text ≡ refusal_line refusal))
 
--- the transcript of a run of the image with the bytes that were found, or want of memory
+-- the transcript of a run of the image with the bytes that were found, or out of memory
 abbrev pub Transcribes : Located → (bytes : ℕ) → List (List ℕ) → (limit steps : ℕ) → Result Outcome SessionFault → List ℕ → Type 0
 Transcribes image bytes inputs limit steps (Ok o) text = (o.stack_bytes ≡ bytes) × IsTranscript image inputs limit steps o text
 Transcribes image bytes inputs limit steps (Err fault) text = (fault ≡ Memory) × (text ≡ [])

@@ -1,4 +1,4 @@
--- What reading a whole source does to the bytes that it tells, and which of its answers is a failure of the source.
+-- What reading a whole source does to the bytes that it delivers, and which of its answers is a failure of the source.
 use Rattle.std.specs.Prelude.{ℕ, ◌≤◌, List, length, Option, Result, Ok, Err}
 use Rattle.std.specs.Io.KnownBytes.{Consumes}
 use Rattle.loader80.specs.declared.whole.ReadAllFault.{ReadAllFault}

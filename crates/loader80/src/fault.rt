@@ -28,7 +28,7 @@ pub enum SessionFault {
     /// The check refuses the image.
     #[error("{0}")]
     Refused(Refusal),
-    /// A growth was refused.
+    /// Out of memory.
     #[error("Memory")]
     Memory,
     /// More than 1,048,576 bytes came: of the image 1, the regions 2 or the inputs 3.

@@ -16,7 +16,7 @@ pub enum InputsFault {
     /// feed at its end.
     #[error("BadLine {0}")]
     BadLine(usize),
-    /// Memory for the inputs wasn't to be had.
+    /// Out of memory for the inputs.
     #[error("Memory")]
     Memory,
 }

@@ -1,4 +1,4 @@
-//! The verifying loader: an image is checked, runs, and what comes of it is told as a transcript.
+//! The verifying loader: an image is verified and run, and its run is written as a transcript.
 //!
 //! | Item | What it is |
 //! |---|---|

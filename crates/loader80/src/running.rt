@@ -25,6 +25,15 @@ pub struct Ended {
 ///
 /// The bus holds the image's content, and the count of refused outputs is below the greatest `u64`. It is one higher
 /// after [`End::OutputRefused`], and stays otherwise.
+///
+/// # Example
+/// ```
+/// let inputs = read_inputs(rt.alloc(), b"02 41FF\n")?;
+/// let mut bus = FlatBus::new(rt.alloc(), vouched.image())?;
+/// let mut ports = ListPorts::new(rt.alloc(), inputs, 65_536);
+/// let ended = run(&vouched, &mut bus, &mut ports, 1_000_000);
+/// assert!(rt; ended.end == Some(End::Halt) && ended.steps == 1);
+/// ```
 pub fn run<B: Bus, P: Ports>(vouched: &Vouched, bus: &mut B, ports: &mut P, steps: u64) -> Ended
     requires content { B.memory bus.old ≡ memory_of vouched.now.image.chunks }
     requires count { P.refused ports.old < 2 ^ 64 - 1 }

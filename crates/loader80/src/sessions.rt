@@ -20,7 +20,7 @@ pub const TEXT_LIMIT: usize = 1_048_576;
 /// # Errors
 /// The first of: `Read` and `TooLong` with the number of the text, 1 to 3, while it is read; `Regions`, `Image`,
 /// `Inputs` with the number of its line; `Refused`, after its line was written; `Write`, after which what went out is a
-/// prefix of the text. `Memory` comes where a growth was refused, also that of the outputs. After every other fault but
+/// prefix of the text. `Memory` comes where memory ran out, also for the outputs. After every other fault but
 /// `Refused` nothing was written.
 pub fn session<A: Source, B: Source, C: Source, K: Sink>(
     alloc: Global,

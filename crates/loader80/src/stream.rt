@@ -1,19 +1,19 @@
 //! Readers and writers whose failures are counted.
 //!
 //! A [`Source`] gives bytes and a [`Sink`] takes them. Each counts the calls that failed, so that a
-//! caller can tell a failure of the outside from an answer of its own making.
+//! caller can distinguish a failure of the outside from an answer of its own making.
 ghost use Rattle.std.specs.Prelude.{◌≡◌, ℕ, ◌+◌, ◌<◌, List, Option, length};
 ghost use Rattle.std.specs.Io.{ReadsAtMost, WritesAtMost};
 ghost use Rattle.std.specs.Io.KnownBytes.{ReadConsumes, WriteAppends};
 ghost use Rattle.loader80.specs.Failures.{read_failures, write_failures};
 
-/// A read or a write that was refused. What was refused it isn't told.
+/// A read or a write that failed, without the reason.
 #[derive(Clone, Copy, Debug, PartialEq, Eq)]
 pub struct Failed;
 
 /// What gives bytes, and counts the reads that failed.
 pub trait Source {
-    // The bytes that are left, where they are told.
+    // The bytes that are left, where they are known.
     ghost left: { Self → Option (List ℕ) };
 
     // How many reads failed so far.
@@ -36,7 +36,7 @@ pub trait Source {
 
 /// What takes bytes, and counts the writes that failed.
 pub trait Sink {
-    // The bytes that were written, where they are told.
+    // The bytes that were written, where they are known.
     ghost written: { Self → Option (List ℕ) };
 
     // How many writes failed so far.

@@ -87,8 +87,17 @@ impl Vouched {
 
 /// Verifies an image.
 ///
+/// # Example
+/// ```
+/// let vouched = match vouch(rt.alloc(), image) {
+///     Ok(vouched) => vouched,
+///     Err((_image, refusal)) => return Err(refusal.into()),
+/// };
+/// assert_eq!(rt; vouched.stack_bytes(), 0);
+/// ```
+///
 /// # Errors
-/// The image, unchanged, and a refusal that holds of it, or want of memory.
+/// The image, unchanged, and a refusal that holds of it, or `Memory`.
 pub fn vouch(alloc: Global, image: Image) -> Result<Vouched, (Image, Refusal)>
     ensures image { IfOk result (λ vouched. vouched.image ≡ image) }
     ensures vouched { IfOk result (λ vouched. IsVouched image vouched.rows vouched.stack_bytes) }

@@ -14,7 +14,7 @@ pub enum ReadAllFault {
     Read,
     /// More bytes than the limit came.
     TooLong,
-    /// Memory for the bytes wasn't to be had.
+    /// Out of memory for the bytes.
     Memory,
 }
 
