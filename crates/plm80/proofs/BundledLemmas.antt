@@ -23,7 +23,7 @@ bundled limit steps t (Ok o) text old new says sends = sends
 bundled limit steps t (Err (Read k)) text old new says sends = absurd says
 bundled limit steps t (Err fault) text old new says sends = sends
 
--- a text that is told and read
+-- a text that is known and read
 pub told_text : (left : Option (List ℕ)) (bytes text : List ℕ) → IfSome left (λ told. bytes ≡ told) → left ≡ Some text → bytes ≡ text
 told_text left bytes text whole told = subst (λ (o : Option (List ℕ)). IfSome o (λ x. bytes ≡ x)) told whole
 

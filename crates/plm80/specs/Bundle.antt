@@ -1,4 +1,4 @@
--- What a bundle answers and writes, over a reader and a writer that tell their bytes.
+-- What a bundle answers and writes, over a reader and a writer whose bytes are known.
 use Rattle.std.specs.Prelude.{◌≡◌, ℕ, List, [], Option, None, Some, Result, Ok, Err}
 use Rattle.std.specs.Io.KnownBytes.{Appends}
 use Rattle.loader80.specs.declared.replies.Outcome.{Outcome}
@@ -13,7 +13,7 @@ use Rattle.loader80.specs.Sends.{Sends}
 abbrev pub texts_read : (image regions inputs : List ℕ) → Texts
 texts_read image regions inputs = record { image = image; regions = regions; inputs = inputs }
 
--- a bundle of three parts is answered as a session on them, and one without is bad. A read that fails is told of the
+-- a bundle of three parts is answered as a session on them, and one without is bad. A read that fails is reported of the
 -- bundle itself, and in either case memory may be wanting
 abbrev pub BundleSends : (limit steps : ℕ) → Option Texts → Result Outcome BundleFault → (old new : Option (List ℕ)) → Type 0
 BundleSends limit steps (Some t) (Ok o) old new = Sends limit steps t (Ok o) old new
@@ -32,7 +32,7 @@ BundleTooLong (Err (Session (Read k))) old new = (k ≡ 1) × Appends old new []
 BundleTooLong (Err (Session Memory)) old new = Appends old new []
 BundleTooLong answer old new = ⊥
 
--- the failures of the reader and of the writer that an answer tells
+-- the failures of the reader and of the writer that an answer means
 abbrev pub bundle_read_failures : Result Outcome BundleFault → ℕ
 bundle_read_failures (Err (Session (Read k))) = 1
 bundle_read_failures answer = 0

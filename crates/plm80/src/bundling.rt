@@ -21,7 +21,7 @@ pub const BUNDLE_LIMIT: usize = 4_194_312;
 /// Reads a bundle whole and does with its three parts as a session does.
 ///
 /// # Errors
-/// Those of a session on the three parts, where `Read` and `TooLong` are told of the bundle itself with the number 1;
+/// Those of a session on the three parts, where `Read` and `TooLong` are of the bundle itself with the number 1;
 /// and `BadBundle` where it has no three parts.
 pub fn bundle<S: Source, K: Sink>(
     alloc: Global,
