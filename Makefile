@@ -48,6 +48,7 @@ install: build
 # (rt ci has built the program that it proved.)
 test: need-rt need-python3
 	@tests/layers/run
+	@tests/examples/run
 	rt ci
 	@tests/commands/run $(PROGRAM)
 	@tests/commands/walk $(PROGRAM)
