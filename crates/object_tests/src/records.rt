@@ -1,7 +1,9 @@
 //! Worked values of the format, computed by hand, and each call once where it answers. Files of bad records are rows of the
 //! program's tests.
 
-use super::*;
+use omf_core::{
+    Name, NameFault, PutFault, RecordFault, RecordKind, next_record, put_record, split_name, sum_of,
+};
 use std::test::Fail;
 
 #[test]

@@ -1,8 +1,12 @@
 //! The worked records of the format, computed by hand from the record layouts, each kind of body once read and once written,
 //! and a row for each fault.
 
-use super::*;
-use omf_core::{Name, Record, RecordKind, next_record};
+use omf_body::{
+    Body, BodyFault, CommonEntry, ExternalEntry, Field, IndexEntry, NameBytes, OffsetEntry, Place,
+    PublicEntry, SegmentEntry, parse, put_commons, put_content, put_end, put_external_references,
+    put_externals, put_header, put_intersegment, put_publics, put_relocation, segment_id,
+};
+use omf_core::{Name, PutFault, Record, RecordKind, next_record};
 use std::alloc::Global;
 use std::test::Fail;
 
@@ -244,7 +248,7 @@ fn a_body_that_is_too_long(rt: HostRuntime) -> Result<(), Fail> {
     let bytes = vec![in rt.alloc(); 0u8; 65532]?;
     let mut out = vec![in rt.alloc(); 0x11u8]?;
     let refused = put_content(rt.alloc(), 1, 0, &bytes, &mut out);
-    assert_eq!(rt; refused.err(), Some(omf_core::PutFault::TooLong));
+    assert_eq!(rt; refused.err(), Some(PutFault::TooLong));
     assert_eq!(rt; out.as_slice(), [0x11].as_slice());
     Ok(())
 }

@@ -1,8 +1,11 @@
 //! Worked files, computed by hand from the record layouts, and each call once where it answers. Files that are refused are
 //! rows of the program's tests.
 
-use super::*;
 use omf_core::{Name, RecordFault};
+use omf_module::{
+    Cause, Content, Field, Fixup, Module, ModuleFault, Parts, PartsFault, Segment, Target,
+    read_file, read_module, write_file, write_module,
+};
 use std::alloc::Global;
 use std::test::Fail;
 

@@ -1,7 +1,7 @@
 //! Worked libraries, computed by hand from the record layouts, and each call once where it answers.
 
-use super::*;
 use omf_core::{Name, RecordFault};
+use omf_library::{Library, LibraryFault, LibraryPutFault, Providers, read_library, write_library};
 use omf_module::{Cause, Module, ModuleFault, Parts, Public, read_module};
 use std::alloc::Global;
 use std::test::Fail;
