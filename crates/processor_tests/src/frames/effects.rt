@@ -1,7 +1,7 @@
 //! The effect of each opcode, by the rows of the opcode table.
 
-use crate::{Change, Effect, FrameFault, FramePair, effect_of};
 use decode80::decode;
+use frames80::{Change, Effect, FrameFault, FramePair, effect_of};
 use std::test::Fail;
 
 /// Each effect and the first bytes of its instructions, before the word 3200, by the rows of the opcode table.

@@ -2,8 +2,8 @@
 
 ghost use Rattle.std.specs.Prelude.{◌≤◌, length};
 
-use crate::{Frame, FrameFault, Moves, Role, Word, next};
 use decode80::decode;
+use frames80::{Frame, FrameFault, Moves, Role, Word, next};
 use std::alloc::{AllocError, Global};
 use std::process::Abort;
 use std::test::Fail;

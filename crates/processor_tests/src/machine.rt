@@ -1,6 +1,6 @@
 //! Programs with their ends, ports that are lists, and a new memory.
 
-use super::{Bus, Cpu, End, FlatBus, Inputs, ListPorts, PortRefused, Ports, advance, step};
+use machine80::{Bus, Cpu, End, FlatBus, Inputs, ListPorts, PortRefused, Ports, advance, step};
 use omf_core::Name;
 use place80::{Image, Regions, read_image, read_regions};
 use std::alloc::{AllocError, Global};

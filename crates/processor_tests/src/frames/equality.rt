@@ -1,8 +1,8 @@
 //! Frames as keys of a set.
 
 use super::{Parts, frame_of};
-use crate::Frame;
-use crate::Word::{Any, Own};
+use frames80::Frame;
+use frames80::Word::{Any, Own};
 use std::collections::HashSet;
 use std::test::Fail;
 

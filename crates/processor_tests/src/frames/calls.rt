@@ -1,9 +1,9 @@
 //! The caller's frame after a call, and how deep frames are.
 
 use super::{MAIN, Parts, assert_small, frame_of};
-use crate::Role::Entry;
-use crate::Word::{Any, Own};
-use crate::{CallFault, Frame, FrameFault, HeightsDiffer, Role, after, depth};
+use frames80::Role::Entry;
+use frames80::Word::{Any, Own};
+use frames80::{CallFault, Frame, FrameFault, HeightsDiffer, Role, after, depth};
 use std::alloc::Global;
 use std::process::Abort;
 use std::test::Fail;

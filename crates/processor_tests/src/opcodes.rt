@@ -1,6 +1,6 @@
 //! The opcode table against outside disassemblers, and what addresses hold.
 
-use crate::{FetchFault, Fetched, Instr, Program, Register, decode, fetch, write_text};
+use decode80::{FetchFault, Fetched, Instr, Program, Register, decode, fetch, write_text};
 use std::alloc::{AllocError, Global};
 use std::test::Fail;
 

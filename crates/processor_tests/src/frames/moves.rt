@@ -2,9 +2,9 @@
 //! program that has it.
 
 use super::{MAIN, Parts, frame_of, moved};
-use crate::Role::Entry;
-use crate::Word::{Any, Own};
-use crate::{Frame, FrameFault, Moves, Role};
+use frames80::Role::Entry;
+use frames80::Word::{Any, Own};
+use frames80::{Frame, FrameFault, Moves, Role};
 use std::test::Fail;
 
 /// Instructions that go on to the next one, each with the frame before it and after it.

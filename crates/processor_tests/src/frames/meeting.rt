@@ -1,8 +1,8 @@
 //! Frames that meet.
 
 use super::{Parts, frame_of};
-use crate::Word::{Any, Own};
-use crate::{HeightsDiffer, meet};
+use frames80::Word::{Any, Own};
+use frames80::{HeightsDiffer, meet};
 use std::test::Fail;
 
 /// A frame, one that it meets, what is answered, and the frame then. A word stays the return address only where both frames have

@@ -1,6 +1,6 @@
 //! Programs, and what is known of them from the manual's description of each instruction.
 
-use crate::End;
+use machine80::End;
 
 /// Code from 3000 on, a stack of 256 bytes at 3100, no data.
 pub const PLAIN: &[u8] = b"REGIONS 1\nCODE 3000 0100\nSTACK 3100 0100\n";

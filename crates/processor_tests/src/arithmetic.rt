@@ -1,14 +1,16 @@
 //! The arithmetic against an outside 8080 core.
 
-use super::vectors::LINES;
-use super::{
-    Answer, add_pairs, complement, complement_carry, decimal_adjust, decrement, increment, operate,
-    rotate, set_carry,
-};
-use crate::flags::Flags;
 use decode80::{Operation, Rotation};
+use machine80::{
+    Answer, Flags, add_pairs, complement, complement_carry, decimal_adjust, decrement, increment,
+    operate, rotate, set_carry,
+};
 use std::process::Abort;
 use std::test::Fail;
+
+mod vectors;
+
+use vectors::LINES;
 
 /// The operation of that name.
 fn operation_named(name: &str) -> Option<Operation> {
