@@ -1,6 +1,6 @@
 //! Worked texts, and each call once where it answers. Texts and files that are refused are rows of the program's tests.
 
-use super::*;
+use place80::{Image, RegionMap, Regions, read_image, read_regions, write_regions};
 use std::alloc::{AllocError, Global};
 use std::test::Fail;
 

@@ -1,6 +1,6 @@
 //! What is taken from libraries, by hand.
 
-use crate::*;
+use link80::{Chosen, select};
 use omf_core::Name;
 use omf_library::Library;
 use omf_module::{Module, Parts, Public};

@@ -1,6 +1,6 @@
 //! Images that are read from object files, and written.
 
-use crate::*;
+use place80::{Image, read_image, read_regions, write_image};
 use std::alloc::Global;
 use std::test::Fail;
 

@@ -1,6 +1,6 @@
 //! Two modules linked, by hand.
 
-use crate::*;
+use link80::{LinkFault, link};
 use omf_core::Name;
 use omf_module::{Content, Field, Fixup, Module, Parts, Public, Segment, Target};
 use std::alloc::Global;

@@ -1,8 +1,8 @@
 //! Programs that are laid out and located.
 
 use super::text_of;
-use crate::*;
 use omf_module::{Module, read_module};
+use place80::{Image, ImageFault, Options, PlaceFault, RegionsFault, layout, locate};
 use std::alloc::Global;
 use std::test::Fail;
 
