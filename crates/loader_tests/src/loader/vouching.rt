@@ -1,6 +1,6 @@
 //! An image that is vouched for, and run.
 
-use crate::{Vouched, run, vouch};
+use loader80::{Vouched, run, vouch};
 use machine80::{Cpu, End, FlatBus, Inputs, ListPorts};
 use place80::{Image, read_image, read_regions};
 use std::alloc::Global;

@@ -1,6 +1,6 @@
 //! The text of a run's inputs.
 
-use crate::{InputsFault, read_inputs};
+use loader80::{InputsFault, read_inputs};
 use std::test::Fail;
 
 #[test]

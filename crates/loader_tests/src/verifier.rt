@@ -1,10 +1,10 @@
 //! Programs with their reports, and the least program of each refusal. The table of `tests/commands` for `check` has more.
 
-use crate::{ProcRow, Refusal, Report, verify};
 use omf_core::Name;
 use place80::{Chunk, Image, read_regions};
 use std::alloc::Global;
 use std::test::Fail;
+use verify80::{ProcRow, Refusal, Report, verify};
 
 /// 18 bytes of code at 3000, 256 bytes of stack at 3100, no data.
 const REGIONS: &[u8] = b"REGIONS 1\nCODE 3000 0012\nSTACK 3100 0100\n";

@@ -1,7 +1,7 @@
 //! Sessions: three readers and a writer.
 
 use super::{IMAGE, REGIONS, SlowReader, SlowWriter};
-use crate::{Outcome, Reading, SessionFault, Writing, session};
+use loader80::{Outcome, Reading, SessionFault, Writing, session};
 use std::alloc::Global;
 use std::test::Fail;
 
