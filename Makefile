@@ -63,7 +63,7 @@ commands: need-python3 build
 	@tests/commands/completion $(PROGRAM)
 	@tests/commands/faults
 
-# FAULTS=".." tries that alone, as FAULTS="program", FAULTS="machine80" or FAULTS="place80=1..20".
+# FAULTS=".." tries that alone, as FAULTS="program", FAULTS="processor_tests" or FAULTS="chain_tests=1..20".
 faults: need-cc build
 	@tests/faults/run $(PROGRAM) $(FAULTS)
 

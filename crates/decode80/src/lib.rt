@@ -29,8 +29,6 @@ mod register;
 mod restart;
 mod rotation;
 mod table;
-#[cfg(test)]
-mod tests;
 mod text;
 
 pub use condition::Condition;

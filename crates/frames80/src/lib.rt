@@ -23,8 +23,6 @@ mod merge;
 mod moves;
 mod role;
 mod table;
-#[cfg(test)]
-mod tests;
 mod word;
 
 pub use call::after;

@@ -27,8 +27,6 @@ mod segments;
 mod selecting;
 mod starts;
 mod tables;
-#[cfg(test)]
-mod tests;
 
 pub use chosen::Chosen;
 pub use fault::LinkFault;

@@ -24,8 +24,6 @@ mod replies;
 mod running;
 mod sessions;
 mod stream;
-#[cfg(test)]
-mod tests;
 mod transcript;
 mod vouched;
 mod whole;

@@ -8,11 +8,6 @@ ghost use Rattle.machine80.specs.Arithmetic.{sum_answer, difference_answer, byte
 use crate::flags::Flags;
 use decode80::{Operation, Rotation};
 
-#[cfg(test)]
-mod tests;
-#[cfg(test)]
-mod vectors;
-
 /// A byte that was computed, and the flags after it.
 #[derive(Clone, Copy, PartialEq, Eq, Debug)]
 pub struct Answer {

@@ -37,6 +37,3 @@ pub use list_ports::ListPorts;
 pub use ports::{PortRefused, Ports};
 pub use registers::Registers;
 pub use stepping::step;
-
-#[cfg(test)]
-mod tests;

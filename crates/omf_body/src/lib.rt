@@ -47,6 +47,3 @@ pub use writing::{
     put_commons, put_content, put_end, put_external_references, put_externals, put_header,
     put_intersegment, put_publics, put_relocation,
 };
-
-#[cfg(test)]
-mod tests;

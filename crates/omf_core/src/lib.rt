@@ -25,6 +25,3 @@ pub use put::put_record;
 pub use record::{Record, next_record};
 pub use split::split_name;
 pub use sum::sum_of;
-
-#[cfg(test)]
-mod tests;

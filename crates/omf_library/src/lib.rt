@@ -23,6 +23,3 @@ pub use library::Library;
 pub use providers::Providers;
 pub use reading::read_library;
 pub use writing::write_library;
-
-#[cfg(test)]
-mod tests;

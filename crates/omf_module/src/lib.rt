@@ -49,6 +49,3 @@ pub use rules::names_common;
 pub use segment::Segment;
 pub use symbols::{Common, Public};
 pub use writing::{write_file, write_module};
-
-#[cfg(test)]
-mod tests;

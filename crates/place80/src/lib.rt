@@ -57,6 +57,3 @@ pub use read::read_regions;
 pub use region_map::RegionMap;
 pub use regions::Regions;
 pub use write::write_regions;
-
-#[cfg(test)]
-mod tests;

@@ -10,8 +10,6 @@
 
 mod image_code;
 mod laws;
-#[cfg(test)]
-mod tests;
 mod verifying;
 
 pub use flow80::{ProcRow, Refusal, Report};

@@ -1,0 +1,132 @@
+//! Worked texts, and each call once where it answers. Texts and files that are refused are rows of the program's tests.
+
+use place80::{Image, RegionMap, Regions, read_image, read_regions, write_regions};
+use std::alloc::{AllocError, Global};
+use std::test::Fail;
+
+mod images;
+mod locating;
+
+/// The text that is written for regions.
+fn text_of(alloc: Global, regions: &Regions) -> Result<Vec<u8>, AllocError> {
+    let mut out = Vec::new(alloc);
+    write_regions(alloc, regions, &mut out)?;
+    Ok(out)
+}
+
+/// Regions whose lines are in no order, with an empty code line and a stack that ends with memory.
+const REGIONS: &[u8] =
+    b"REGIONS 1\nDATA 3002 0001\nSTACK FF00 0100\nCODE 3000 0000\nCODE 3000 0002\nDATA 0000 0001\n";
+
+/// The text that is written for them.
+static IN_ORDER: &[u8] =
+    b"REGIONS 1\nCODE 3000 0002\nSTACK FF00 0100\nDATA 0000 0001\nDATA 3002 0001\n";
+
+/// Whether they have the parts of that text.
+fn has_its_parts(regions: &Regions) -> bool {
+    regions.code().len() == 1
+        && regions.data_ranges().len() == 2
+        && regions.stack().first == 0xFF00
+        && regions.top() == 0
+        && regions.in_code(0x3001)
+        && regions.in_data(0x3002)
+}
+
+#[test]
+fn lines_in_any_order(rt: HostRuntime) -> Result<(), Fail> {
+    let regions = read_regions(rt.alloc(), REGIONS)?;
+    assert!(rt; has_its_parts(&regions));
+    let text = text_of(rt.alloc(), &regions)?;
+    assert!(rt; text.as_slice() == IN_ORDER);
+    Ok(())
+}
+
+fn map(alloc: Global) -> Result<RegionMap, Fail> {
+    Ok(RegionMap::new(alloc, &read_regions(alloc, REGIONS)?)?)
+}
+
+/// Which addresses are code and data.
+static MAP: [(u16, bool, bool); 8] = [
+    (0x0000, false, true),
+    (0x0001, false, false),
+    (0x2FFF, false, false),
+    (0x3000, true, false),
+    (0x3001, true, false),
+    (0x3002, false, true),
+    (0x3003, false, false),
+    (0xFFFF, false, false),
+];
+
+#[test]
+fn the_map_of_regions(rt: HostRuntime) -> Result<(), Fail> {
+    let map = map(rt.alloc())?;
+    for (address, code, data) in &MAP {
+        assert_eq!(rt; map.is_code(*address), *code);
+        assert_eq!(rt; map.is_data(*address), *data);
+    }
+    Ok(())
+}
+
+/// An image of three contents, of which the second overlaps the first.
+static THREE: [u8; 50] = [
+    0x02, 0x05, 0x00, 0x01, 0x41, 0x00, 0x00, 0xB7, // module header
+    0x06, 0x07, 0x00, 0x00, 0x00, 0x30, 0x11, 0x22, 0x33, 0x5D, // content at 3000
+    0x06, 0x07, 0x00, 0x00, 0x01, 0x30, 0xC3, 0x34, 0x12, 0xB9, // content at 3001
+    0x06, 0x07, 0x00, 0x00, 0xFC, 0xFF, 0x55, 0x66, 0x77, 0xC6, // content at FFFC
+    0x04, 0x05, 0x00, 0x01, 0x00, 0x00, 0x30, 0xC6, // module end
+    0x0E, 0x01, 0x00, 0xF1, // end of file
+];
+
+fn image(alloc: Global) -> Result<Image, Fail> {
+    let regions = read_regions(alloc, REGIONS)?;
+    match read_image(alloc, &THREE, regions) {
+        Ok(image) => Ok(image),
+        Err((_, fault)) => Err(fault.into()),
+    }
+}
+
+/// The bytes at some addresses: of two contents that overlap the later one counts, and what none covers is 0.
+static BYTES: [(u16, u8); 7] = [
+    (0x2FFF, 0x00),
+    (0x3000, 0x11),
+    (0x3001, 0xC3),
+    (0x3003, 0x12),
+    (0x3004, 0x00),
+    (0xFFFE, 0x77),
+    (0xFFFF, 0x00),
+];
+
+#[test]
+fn the_bytes_of_an_image(rt: HostRuntime) -> Result<(), Fail> {
+    let image = image(rt.alloc())?;
+    for (address, byte) in &BYTES {
+        assert_eq!(rt; image.byte(*address), *byte);
+    }
+    Ok(())
+}
+
+#[test]
+fn the_memory_of_an_image(rt: HostRuntime) -> Result<(), Fail> {
+    let memory = image(rt.alloc())?.memory(rt.alloc())?;
+    for (address, byte) in &BYTES {
+        assert_eq!(rt; memory.get(usize::from(*address)).copied(), Some(*byte));
+    }
+    Ok(())
+}
+
+/// A text of 65,537 lines, the ranges from the highest address down.
+fn long_text(alloc: Global) -> Result<String, AllocError> {
+    let mut text = String::from_str(alloc, "REGIONS 1\nSTACK 0000 0000\n")?;
+    for address in (0..65535u16).rev() {
+        text.push_str(format!(in alloc; "DATA {address:04X} 0001\n")?.as_str())?;
+    }
+    Ok(text)
+}
+
+#[test]
+fn a_million_bytes(rt: HostRuntime) -> Result<(), Fail> {
+    let text = long_text(rt.alloc())?;
+    let regions = read_regions(rt.alloc(), text.as_bytes())?;
+    assert_eq!(rt; regions.data_ranges().len(), 65535);
+    Ok(())
+}

@@ -1,4 +1,0 @@
-//! Worked links, and each call once where it answers.
-
-mod linking;
-mod selecting;

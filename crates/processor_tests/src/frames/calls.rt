@@ -1,0 +1,88 @@
+//! The caller's frame after a call, and how deep frames are.
+
+use super::{MAIN, Parts, assert_small, frame_of};
+use frames80::Role::Entry;
+use frames80::Word::{Any, Own};
+use frames80::{CallFault, Frame, FrameFault, HeightsDiffer, Role, after, depth};
+use std::alloc::Global;
+use std::process::Abort;
+use std::test::Fail;
+
+/// Calls of procedures that want and take so many words, and the caller's frame before and after.
+#[rattlefmt::skip]
+static CALLS: [(Role, Parts, u32, u32, Parts); 2] = [
+    (Entry, (3, &[Own, Own, Any], [Own, Own, Own]), 2, 1, (3, &[Own, Own], [Any, Any, Any])),
+    (MAIN, (0, &[Any], [Any, Any, Any]), 1, 1, (0, &[], [Any, Any, Any])),
+];
+
+#[test]
+fn a_call_comes_back(rt: HostRuntime) -> Result<(), Fail> {
+    for (role, before, wants, takes, back) in &CALLS {
+        let came = called(&rt, rt.alloc(), *role, before, *wants, *takes)?;
+        let wanted = frame_of(rt.alloc(), back)?;
+        assert!(rt; matches!(&came, Ok(frame) if *frame == wanted));
+    }
+    Ok(())
+}
+
+/// The frame after a call of a procedure that wants and takes so many words.
+fn called(
+    rt: &impl Abort,
+    alloc: Global,
+    role: Role,
+    parts: &Parts,
+    wants: u32,
+    takes: u32,
+) -> Result<Result<Frame, CallFault>, Fail> {
+    let frame = frame_of(alloc, parts)?;
+    assert_small(rt, &frame);
+    assert!(rt; takes <= wants);
+    Ok(after(alloc, &frame, role, wants, takes))
+}
+
+/// Callers that are short of the word that a callee wants: the main program needs one, a procedure one above its bottom word,
+/// whatever that is.
+#[rattlefmt::skip]
+static SHORT: [(Role, Parts); 3] = [
+    (MAIN, (0, &[], [Any, Any, Any])),
+    (Entry, (0, &[], [Any, Any, Any])),
+    (Entry, (0, &[Any], [Any, Any, Any])),
+];
+
+#[test]
+fn a_caller_is_short(rt: HostRuntime) -> Result<(), Fail> {
+    for (role, parts) in &SHORT {
+        let came = called(&rt, rt.alloc(), *role, parts, 1, 0)?;
+        assert!(rt; came.err() == Some(CallFault::ShortArguments));
+    }
+    Ok(())
+}
+
+#[test]
+fn numbers_of_faults(rt: HostRuntime) {
+    assert!(rt; FrameFault::Memory.code() == 18);
+    assert!(rt; CallFault::ShortArguments.code() == 14);
+    assert!(rt; CallFault::Memory.code() == 18);
+    assert!(rt; HeightsDiffer.code() == 12);
+}
+
+/// Roles and frames, and how deep they are.
+#[rattlefmt::skip]
+static DEPTHS: [(Role, Parts, i64); 6] = [
+    (MAIN, (0, &[], [Any, Any, Any]), 0),
+    (MAIN, (0, &[Any], [Any, Any, Any]), 2),
+    (Entry, (0, &[Own], [Any, Any, Any]), 0),
+    (Entry, (0, &[], [Any, Own, Any]), -2),
+    (Entry, (1, &[], [Any, Own, Any]), -4),
+    (Entry, (1, &[Own], [Any, Own, Any]), -2),
+];
+
+#[test]
+fn frames_are_so_deep(rt: HostRuntime) -> Result<(), Fail> {
+    for (role, parts, wanted) in &DEPTHS {
+        let frame = frame_of(rt.alloc(), parts)?;
+        assert_small(&rt, &frame);
+        assert!(rt; depth(&frame, *role) == *wanted);
+    }
+    Ok(())
+}

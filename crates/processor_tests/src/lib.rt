@@ -1,0 +1,18 @@
+//! Tests of the processor's crates from outside, by their public names.
+//!
+//! | Module | What it tests |
+//! |---|---|
+//! | `opcodes` | `decode80`: the opcode table, and what is fetched |
+//! | `frames` | `frames80`: what instructions, calls and meetings make of frames |
+//! | `arithmetic` | `machine80`: results and flags, against an outside core |
+//! | `machine` | `machine80`: programs with their ends, ports that are lists, a new memory |
+#![tactic(auto)]
+
+#[cfg(test)]
+mod arithmetic;
+#[cfg(test)]
+mod frames;
+#[cfg(test)]
+mod machine;
+#[cfg(test)]
+mod opcodes;
