@@ -6,10 +6,9 @@ ghost use Rattle.omf_module.specs.Rules.{IsModule};
 ghost use Rattle.link80.specs.Gathered.{mains_from};
 ghost use Rattle.link80.specs.Linked.{linked, linked_parts, starts, unresolved};
 ghost use Rattle.link80.specs.LinkFault.{link_fault};
-ghost use Rattle.link80.specs.Selected.{module_at};
 ghost use Rattle.link80.specs.Selection.{IsSelection, modules_with, CannotBeLinked};
+ghost use Rattle.select80.specs.Selected.{module_at};
 
-use crate::chosen::Chosen;
 use crate::commons::JoinedModules;
 use crate::contents::linked_contents;
 use crate::declared::declared_names;
@@ -25,6 +24,7 @@ use crate::tables::Tables;
 use omf_core::Name;
 use omf_library::Library;
 use omf_module::{Module, Parts, PartsFault, copy_names};
+use select80::Chosen;
 use std::alloc::{AllocError, Global};
 
 /// What a link makes: one module, the places of the modules that were taken from libraries, and the names that no module
