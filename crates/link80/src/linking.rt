@@ -79,6 +79,33 @@ fn start_of(tables: &Tables, main: Option<usize>) -> Option<(u8, u16)>
     ))
 }
 
+/// The parts of the linked module but for its publics, which are still among the tables.
+fn parts_without_publics(
+    alloc: Global,
+    name: &Name,
+    tables: &Tables,
+    main: Option<usize>,
+) -> Result<Parts, AllocError>
+    requires { cons_option main [] ≡ mains_from 0 tables.now }
+    ensures parts { IfOk result (λ parts. parts ≡ record (linked_parts name.now tables.now) { publics = [] }) }
+    ensures sound { OnOk result (AllByRecursion IsModule tables.now) }
+{
+    let segments = linked_segments(alloc, &tables.joined)?;
+    let commons = tables.joined.linked_commons(alloc)?;
+    let externals = copy_names(alloc, tables.unresolved())?;
+    let contents = linked_contents(alloc, tables)?;
+    let start = start_of(tables, main);
+    Ok(Parts {
+        name: name.copy(alloc)?,
+        segments,
+        commons,
+        publics: Vec::new(alloc),
+        externals,
+        contents,
+        start,
+    })
+}
+
 /// The parts of the linked module, and the names that no module declares.
 fn parts_of(
     alloc: Global,
@@ -91,22 +118,9 @@ fn parts_of(
     ensures unresolved { IfOk result (λ made. made.1.items ≡ unresolved tables.entry) }
     ensures sound { OnOk result (AllByRecursion IsModule tables.entry) }
 {
-    let segments = linked_segments(alloc, &tables.joined)?;
-    let commons = tables.joined.linked_commons(alloc)?;
-    let contents = linked_contents(alloc, &tables)?;
-    let start = start_of(&tables, main);
-    let (publics, externals) = tables.into_names();
-    let unresolved = copy_names(alloc, &externals)?;
-    let parts = Parts {
-        name: name.copy(alloc)?,
-        segments,
-        commons,
-        publics,
-        externals,
-        contents,
-        start,
-    };
-    Ok((parts, unresolved))
+    let parts = parts_without_publics(alloc, name, &tables, main)?;
+    let (publics, unresolved) = tables.into_names();
+    Ok((Parts { publics, ..parts }, unresolved))
 }
 
 /// The module that is linked of these, and the names that none of them declares.

@@ -158,6 +158,13 @@ impl<'a> Tables<'a> {
         })
     }
 
+    /// The names that no module declares.
+    pub(crate) fn unresolved(&self) -> &[Name]
+        ensures { result.now ≡ unresolved self.now }
+    {
+        &self.names
+    }
+
     /// The publics, and the names that no module declares.
     pub(crate) fn into_names(self) -> (Vec<Public>, Vec<Name>)
         ensures publics { result.0.items ≡ linked_publics self.entry }
