@@ -1,11 +1,11 @@
 //! Modules are linked into one.
 
-ghost use Rattle.std.specs.Prelude.{◌≡◌, ◌≢◌, ◌<◌, ◌++◌, [], None, Some, filter_map, length, option_copied, slice_get, IfOk, IfErr, OnOk};
+ghost use Rattle.std.specs.Prelude.{◌≡◌, ◌≢◌, ◌<◌, ◌++◌, [], None, Some, filter_map, length, map, option_copied, slice_get, IfOk, IfErr, OnOk};
 ghost use Rattle.std.specs.List.{AllByRecursion, cons_option};
 ghost use Rattle.omf_module.specs.Rules.{IsModule};
 ghost use Rattle.link80.specs.Gathered.{mains_from};
-ghost use Rattle.link80.specs.Linked.{linked, linked_parts, starts, unresolved};
-ghost use Rattle.link80.specs.LinkFault.{link_fault};
+ghost use Rattle.link80.specs.Linked.{linked, linked_parts, linked_publics, starts, unresolved};
+ghost use Rattle.link80.specs.LinkFault.{link_fault, segment_too_long, too_many_externals};
 ghost use Rattle.link80.specs.Selection.{IsSelection, modules_with, CannotBeLinked};
 ghost use Rattle.select80.specs.Selected.{module_at};
 
@@ -17,6 +17,7 @@ use crate::high_bytes::any_high_off_page;
 use crate::laws::linked_module_keeps_rules;
 use crate::mains::main_of;
 use crate::modules::Modules;
+use crate::name_table::NameTable;
 use crate::segments::linked_segments;
 use crate::selecting::select;
 use crate::starts::LaidModules;
@@ -90,7 +91,7 @@ fn parts_without_publics(
     ensures parts { IfOk result (λ parts. parts ≡ record (linked_parts name.now tables.now) { publics = [] }) }
     ensures sound { OnOk result (AllByRecursion IsModule tables.now) }
 {
-    let segments = linked_segments(alloc, &tables.joined)?;
+    let segments = linked_segments(alloc, tables.joined)?;
     let commons = tables.joined.linked_commons(alloc)?;
     let externals = copy_names(alloc, tables.unresolved())?;
     let contents = linked_contents(alloc, tables)?;
@@ -123,6 +124,37 @@ fn parts_of(
     Ok((Parts { publics, ..parts }, unresolved))
 }
 
+/// The module that is linked of joined modules, and the names that none of them declares.
+///
+/// # Errors
+/// `TooManyExternals` exactly where these are more than 65536; `Memory` where memory runs out.
+fn link_joined(
+    alloc: Global,
+    name: &Name,
+    joined: &JoinedModules,
+    declared: &NameTable,
+    main: Option<usize>,
+) -> Result<(Module, Vec<Name>), LinkFault>
+    requires names { declared.now ≡ map (λ p. p.name) (linked_publics joined.now) }
+    requires main { cons_option main [] ≡ mains_from 0 joined.now }
+    requires segments_fit { segment_too_long joined.now ≡ None }
+    requires no_other_fault { link_fault joined.now ≡ too_many_externals joined.now }
+    ensures made { IfOk result (λ made. made.0 ≡ linked name.now joined.now) }
+    ensures unresolved { IfOk result (λ made. made.1.items ≡ unresolved joined.now) }
+    ensures no_fault { OnOk result (link_fault joined.now ≡ None) }
+    ensures sound { OnOk result (AllByRecursion IsModule joined.now) }
+    ensures fault { IfErr result (λ fault. fault ≢ LinkFault.Memory → link_fault joined.now ≡ Some fault) }
+{
+    linked_module_keeps_rules();
+    let tables = Tables::new(alloc, joined, declared)?;
+    let (parts, unresolved) = parts_of(alloc, name, tables, main)?;
+    match Module::from_parts(alloc, parts) {
+        Ok(linked) => Ok((linked, unresolved)),
+        Err((_, PartsFault::Memory)) => Err(LinkFault::Memory),
+        Err((_, PartsFault::Rule)) => unreachable!(),
+    }
+}
+
 /// The module that is linked of these, and the names that none of them declares.
 fn link_modules(
     alloc: Global,
@@ -135,7 +167,6 @@ fn link_modules(
     ensures sound { OnOk result (AllByRecursion IsModule modules.entry) }
     ensures fault { IfErr result (λ fault. fault ≢ LinkFault.Memory → link_fault modules.entry ≡ Some fault) }
 {
-    linked_module_keeps_rules();
     let declared = declared_names(alloc, &modules)?;
     let laid = LaidModules::new(alloc, modules)?;
     let main = main_of(&laid)?;
@@ -143,13 +174,7 @@ fn link_modules(
         return Err(LinkFault::HighNotPaged);
     }
     let joined = JoinedModules::new(alloc, laid)?;
-    let tables = Tables::new(alloc, joined, declared)?;
-    let (parts, unresolved) = parts_of(alloc, name, tables, main)?;
-    match Module::from_parts(alloc, parts) {
-        Ok(linked) => Ok((linked, unresolved)),
-        Err((_, PartsFault::Memory)) => Err(LinkFault::Memory),
-        Err((_, PartsFault::Rule)) => unreachable!(),
-    }
+    link_joined(alloc, name, &joined, &declared, main)
 }
 
 /// Links modules, and the modules that they need of libraries, into one of the given name.

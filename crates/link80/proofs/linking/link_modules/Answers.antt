@@ -1,11 +1,12 @@
-use Rattle.std.specs.Prelude.{◌≡◌, ℕ, List, [], true, false, Option, Some, None}
+use Rattle.std.specs.Prelude.{◌≡◌, ◌≢◌, ℕ, List, [], true, false, Option, Some, None, IfOk, IfErr, OnOk}
 use Rattle.std.specs.List.{AllByRecursion, list_any, enumerate_from, cons_option}
-use Rattle.std.proofs.Common.{◌∙◌, ap, sym, subst, IsTrue, true≢false}
+use Rattle.std.proofs.Common.{◌∙◌, ap, sym, subst}
 use Rattle.std.proofs.lemmas.Result.{err_from_is_err_and}
 use Rattle.omf_module.specs.Modules.{ModuleValue}
-use Rattle.omf_module.specs.Rules.{IsModule, keeps_rules}
+use Rattle.omf_module.specs.Rules.{IsModule}
 use Rattle.link80.specs.Gathered.{mains_from}
-use Rattle.link80.specs.Linked.{linked_parts}
+use Rattle.link80.specs.declared.fault.LinkFault.TheVariants.{Memory}
+use Rattle.link80.specs.Linked.{linked, unresolved}
 use Rattle.link80.specs.LinkFault.{two_mains, high_not_paged, is_high_off_page, too_many_commons, too_many_externals, link_fault}
 use Rattle.link80.proofs.MainLemmas.{two_mains_are, one_main_is}
 use Rattle.link80.proofs.OrderLemmas.{from_sixth, high_by, mains_first, high_first, commons_first}
@@ -40,37 +41,21 @@ returns-in_err-joined-clause-fault c =
     (paged c.args.modules c.in_ok-laid.laid c.in_ok-laid.ensures.same c.if-any_high_off_page.ensures)
     (ap too_many_commons (sym c.in_ok-laid.ensures.same) ∙ c.in_err-joined.ensures.fault real))
 
-pub returns-in_err-tables-clause-fault : goal.returns-in_err-tables-clause-fault
-returns-in_err-tables-clause-fault c =
-    let p = err_from_is_err_and c.from_residual-in_err-tables.result c.from_residual-in_err-tables.ensures.1 in
+pub link_joined-requires-clause-no_other_fault : goal.link_joined-requires-clause-no_other_fault
+link_joined-requires-clause-no_other_fault c =
     let few : too_many_commons c.args.modules ≡ None = ap too_many_commons (sym c.in_ok-laid.ensures.same) ∙ c.in_ok-joined.ensures.fit in
-    rw (p.1, p.2) (λ real.
-    from_sixth c.args.modules c.in_ok-declared.ensures.once c.in_ok-laid.ensures.fit
+    subst (λ (ms : List ModuleValue). link_fault ms ≡ too_many_externals ms) (sym (c.in_ok-joined.ensures.same ∙ c.in_ok-laid.ensures.same))
+    (from_sixth c.args.modules c.in_ok-declared.ensures.once c.in_ok-laid.ensures.fit
     (one_of c.args.modules c.in_ok-laid.laid c.in_ok-main.main c.in_ok-laid.ensures.same c.in_ok-main.ensures.main)
-    (paged c.args.modules c.in_ok-laid.laid c.in_ok-laid.ensures.same c.if-any_high_off_page.ensures) few
-    ∙ ap too_many_externals (sym (c.in_ok-joined.ensures.same ∙ c.in_ok-laid.ensures.same)) ∙ c.in_err-tables.ensures.fault real)
+    (paged c.args.modules c.in_ok-laid.laid c.in_ok-laid.ensures.same c.if-any_high_off_page.ensures) few)
 
-pub unreachable-requires : goal.unreachable-requires
-unreachable-requires c =
-    let few : too_many_commons c.args.modules ≡ None = ap too_many_commons (sym c.in_ok-laid.ensures.same) ∙ c.in_ok-joined.ensures.fit in
-    let none : link_fault c.args.modules ≡ None =
-    from_sixth c.args.modules c.in_ok-declared.ensures.once c.in_ok-laid.ensures.fit
-    (one_of c.args.modules c.in_ok-laid.laid c.in_ok-main.main c.in_ok-laid.ensures.same c.in_ok-main.ensures.main)
-    (paged c.args.modules c.in_ok-laid.laid c.in_ok-laid.ensures.same c.if-any_high_off_page.ensures) few
-    ∙ ap too_many_externals (sym (c.in_ok-joined.ensures.same ∙ c.in_ok-laid.ensures.same)) ∙ c.in_ok-tables.ensures.fit in
-    let same : c.in_ok-tables.tables ≡ c.args.modules = c.in_ok-tables.ensures.same ∙ c.in_ok-joined.ensures.same ∙ c.in_ok-laid.ensures.same in
-    let sound : AllByRecursion IsModule c.args.modules = subst (AllByRecursion IsModule) same c.in_ok-parts.ensures.sound in
-    let keeps : IsTrue (keeps_rules (linked_parts c.args.name.now c.args.modules)) = c.linked_module_keeps_rules.ensures.rules c.args.name.now c.args.modules sound none in
-    let parts_are = c.in_ok-parts.ensures.parts ∙ ap (linked_parts c.args.name.now) same in
-    true≢false (sym keeps ∙ ap keeps_rules (sym parts_are) ∙ c.in-Err-default-Rule.ensures.rule c.in-Err-default-Rule.field-0-1-is)
-
-pub returns-in-Ok-clause-no_fault : goal.returns-in-Ok-clause-no_fault
-returns-in-Ok-clause-no_fault c =
-    let few : too_many_commons c.args.modules ≡ None = ap too_many_commons (sym c.in_ok-laid.ensures.same) ∙ c.in_ok-joined.ensures.fit in
-    from_sixth c.args.modules c.in_ok-declared.ensures.once c.in_ok-laid.ensures.fit
-    (one_of c.args.modules c.in_ok-laid.laid c.in_ok-main.main c.in_ok-laid.ensures.same c.in_ok-main.ensures.main)
-    (paged c.args.modules c.in_ok-laid.laid c.in_ok-laid.ensures.same c.if-any_high_off_page.ensures) few
-    ∙ ap too_many_externals (sym (c.in_ok-joined.ensures.same ∙ c.in_ok-laid.ensures.same)) ∙ c.in_ok-tables.ensures.fit
-
-pub returns-in-Ok-clause-sound : goal.returns-in-Ok-clause-sound
-returns-in-Ok-clause-sound c = subst (AllByRecursion IsModule) (c.in_ok-tables.ensures.same ∙ c.in_ok-joined.ensures.same ∙ c.in_ok-laid.ensures.same) c.in_ok-parts.ensures.sound
+pub returns : goal.returns
+returns c =
+    let same = c.in_ok-joined.ensures.same ∙ c.in_ok-laid.ensures.same in
+    record {
+      made = subst (λ (ms : List ModuleValue). IfOk c.link_joined.result (λ made. made.0 ≡ linked c.args.name.now ms)) same c.link_joined.ensures.made;
+      unresolved = subst (λ (ms : List ModuleValue). IfOk c.link_joined.result (λ made. made.1.items ≡ unresolved ms)) same c.link_joined.ensures.unresolved;
+      no_fault = subst (λ (ms : List ModuleValue). OnOk c.link_joined.result (link_fault ms ≡ None)) same c.link_joined.ensures.no_fault;
+      sound = subst (λ (ms : List ModuleValue). OnOk c.link_joined.result (AllByRecursion IsModule ms)) same c.link_joined.ensures.sound;
+      fault = subst (λ (ms : List ModuleValue). IfErr c.link_joined.result (λ fault. fault ≢ Memory → link_fault ms ≡ Some fault)) same c.link_joined.ensures.fault;
+    }
