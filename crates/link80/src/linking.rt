@@ -5,7 +5,7 @@ ghost use Rattle.std.specs.List.{AllByRecursion, cons_option};
 ghost use Rattle.omf_module.specs.Rules.{IsModule};
 ghost use Rattle.link80.specs.Gathered.{mains_from};
 ghost use Rattle.link80.specs.Linked.{linked, linked_parts, linked_publics, starts, unresolved};
-ghost use Rattle.link80.specs.LinkFault.{link_fault, segment_too_long, too_many_externals};
+ghost use Rattle.link80.specs.LinkFault.{duplicate_public, link_fault, segment_too_long, too_many_externals};
 ghost use Rattle.link80.specs.Selection.{IsSelection, modules_with, CannotBeLinked};
 ghost use Rattle.select80.specs.Selected.{module_at};
 
@@ -155,6 +155,30 @@ fn link_joined(
     }
 }
 
+/// The module that is linked of laid modules, and the names that none of them declares.
+fn link_laid(
+    alloc: Global,
+    name: &Name,
+    laid: LaidModules,
+    declared: &NameTable,
+) -> Result<(Module, Vec<Name>), LinkFault>
+    requires names { declared.now ≡ map (λ p. p.name) (linked_publics laid) }
+    requires once { duplicate_public laid ≡ None }
+    requires segments_fit { segment_too_long laid ≡ None }
+    ensures made { IfOk result (λ made. made.0 ≡ linked name.now laid.entry) }
+    ensures unresolved { IfOk result (λ made. made.1.items ≡ unresolved laid.entry) }
+    ensures no_fault { OnOk result (link_fault laid.entry ≡ None) }
+    ensures sound { OnOk result (AllByRecursion IsModule laid.entry) }
+    ensures fault { IfErr result (λ fault. fault ≢ LinkFault.Memory → link_fault laid.entry ≡ Some fault) }
+{
+    let main = main_of(&laid)?;
+    if any_high_off_page(&laid) {
+        return Err(LinkFault::HighNotPaged);
+    }
+    let joined = JoinedModules::new(alloc, laid)?;
+    link_joined(alloc, name, &joined, declared, main)
+}
+
 /// The module that is linked of these, and the names that none of them declares.
 fn link_modules(
     alloc: Global,
@@ -169,12 +193,7 @@ fn link_modules(
 {
     let declared = declared_names(alloc, &modules)?;
     let laid = LaidModules::new(alloc, modules)?;
-    let main = main_of(&laid)?;
-    if any_high_off_page(&laid) {
-        return Err(LinkFault::HighNotPaged);
-    }
-    let joined = JoinedModules::new(alloc, laid)?;
-    link_joined(alloc, name, &joined, &declared, main)
+    link_laid(alloc, name, laid, &declared)
 }
 
 /// Links modules, and the modules that they need of libraries, into one of the given name.
