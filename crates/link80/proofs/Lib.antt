@@ -19,7 +19,4 @@ pub mod SegmentLemmas
 pub mod FittingLemmas
 pub mod RuleLemmas
 pub mod WordLemmas
-pub mod SelectMarks
-pub mod SelectPlaces
-pub mod SelectChosen
 pub mod JoinedLemmas

@@ -7,6 +7,5 @@ pub mod Tables
 pub mod Movable
 pub mod LinkFault
 pub mod LinkLaws
-pub mod Selected
 pub mod Selection
-pub mod Selecting
+pub use Rattle.select80.specs.Selected

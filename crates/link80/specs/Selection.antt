@@ -2,10 +2,10 @@
 -- (ISIS-II User's Guide, LINK.)
 use Rattle.std.specs.Prelude.{◌≡◌, ◌↔◌, Some, List, ◌++◌, filter_map, Contains}
 use Rattle.omf_module.specs.Modules.{ModuleValue}
-use Rattle.link80.specs.declared.chosen.Chosen.{Chosen}
 use Rattle.link80.specs.declared.fault.LinkFault.{LinkFault}
 use Rattle.link80.specs.LinkFault.{link_fault}
-use Rattle.link80.specs.Selected.{module_at, IsChosen, AreAscending}
+use Rattle.select80.specs.declared.chosen.Chosen.{Chosen}
+use Rattle.select80.specs.Selected.{module_at, IsChosen, AreAscending}
 
 -- the places of all that are chosen and no others, in ascending order
 pub record IsSelection (roots : List ModuleValue) (libraries : List (List ModuleValue)) (taken : List Chosen) : Type 0 where

@@ -1,9 +1,9 @@
 //! Contents moved with their parts, with what is known of their references added.
 
-ghost use Rattle.std.specs.Prelude.{◌≡◌, ◌++◌, None, Some, filter_map, map, slice_get, IfOk, OnOk};
+ghost use Rattle.std.specs.Prelude.{◌≡◌, ◌++◌, None, Some, filter_map, length, map, slice_get, IfOk, OnOk, IsTrue};
 ghost use Rattle.std.specs.List.{AllByRecursion};
 ghost use Rattle.omf_module.specs.Rules.{IsModule};
-ghost use Rattle.omf_relocation.specs.Patches.{with_patches};
+ghost use Rattle.omf_relocation.specs.Patches.{are_apart, are_inside, with_patches};
 ghost use Rattle.link80.specs.Linked.{link_patch, linked_content, linked_contents, linked_fixup};
 ghost use Rattle.link80.specs.LinkFault.{segment_too_long};
 ghost use Rattle.link80.specs.Movable.{CanBeMoved};
@@ -14,74 +14,53 @@ use omf_relocation::laws::sound_modules_keep_rules;
 use omf_relocation::{Patch, apply_patches};
 use std::alloc::{AllocError, Global};
 
-/// The words that LINK adds to a content's bytes, one for each fixup.
-fn patches_of(
+/// What LINK makes of a content's fixups: the words that it adds to the bytes, one for each fixup, and the fixups that are left,
+/// as those to absolute bytes are done with.
+fn resolved(
     alloc: Global,
     tables: &Tables,
     number: usize,
     of: &Module,
     content: &Content,
-) -> Result<Vec<Patch>, AllocError>
+) -> Result<(Vec<Patch>, Vec<Fixup>), AllocError>
     requires here { slice_get tables.now number ≡ Some of.now }
     requires movable { CanBeMoved tables.now number of.now content.now }
-    ensures { IfOk result (λ patches. patches.items ≡ map (link_patch tables.now (number, of.now) content.now) content.now.fixups) }
+    ensures patches { IfOk result (λ made. made.0.items ≡ map (link_patch tables.now (number, of.now) content.now) content.now.fixups) }
+    ensures left { IfOk result (λ made. made.1.items ≡ filter_map (linked_fixup tables.now (number, of.now) content.now) content.now.fixups) }
 {
+    let start = tables.joined.start(number, content.segment);
     let mut patches = Vec::new(alloc);
+    let mut left = Vec::new(alloc);
     for fixup in &content.fixups {
+        let reference = tables.reference(number, of, fixup.target);
         patches.push(Patch {
             at: usize::from(fixup.offset - content.offset),
             field: fixup.field,
-            word: tables.reference(number, of, fixup.target).word,
+            word: reference.word,
         })?;
-    }
-    Ok(patches)
-}
-
-/// The fixups that are left of a content's: those to absolute bytes are done with.
-fn fixups_left(
-    alloc: Global,
-    tables: &Tables,
-    number: usize,
-    of: &Module,
-    content: &Content,
-) -> Result<Vec<Fixup>, AllocError>
-    requires here { slice_get tables.now number ≡ Some of.now }
-    requires movable { CanBeMoved tables.now number of.now content.now }
-    ensures { IfOk result (λ fixups. fixups.items ≡ filter_map (linked_fixup tables.now (number, of.now) content.now) content.now.fixups) }
-{
-    let start = tables.joined.start(number, content.segment);
-    let mut fixups = Vec::new(alloc);
-    for fixup in &content.fixups {
-        if let Some(target) = tables.reference(number, of, fixup.target).target {
-            fixups.push(Fixup {
+        if let Some(target) = reference.target {
+            left.push(Fixup {
                 offset: fixup.offset + start,
                 field: fixup.field,
                 target,
             })?;
         }
     }
-    Ok(fixups)
+    Ok((patches, left))
 }
 
-/// A content's bytes, with the words added that LINK adds to them.
-fn linked_bytes(
-    alloc: Global,
-    tables: &Tables,
-    number: usize,
-    of: &Module,
-    content: &Content,
-) -> Result<Vec<u8>, AllocError>
-    requires here { slice_get tables.now number ≡ Some of.now }
-    requires movable { CanBeMoved tables.now number of.now content.now }
-    ensures { IfOk result (λ bytes. bytes.items ≡ with_patches (map (link_patch tables.now (number, of.now) content.now) content.now.fixups) content.now.bytes) }
+/// A copy of bytes, with words added at their places.
+fn patched(alloc: Global, bytes: &[u8], patches: &[Patch]) -> Result<Vec<u8>, AllocError>
+    requires inside { IsTrue (are_inside (length bytes.now) patches.now) }
+    requires apart { IsTrue (are_apart patches.now) }
+    ensures { IfOk result (λ copy. copy.items ≡ with_patches patches.now bytes.now) }
 {
-    let mut bytes = Vec::from_slice(alloc, &content.bytes)?;
-    let patches = patches_of(alloc, tables, number, of, content)?;
-    apply_patches(&mut bytes, &patches);
-    Ok(bytes)
+    let mut copy = Vec::from_slice(alloc, bytes)?;
+    apply_patches(&mut copy, patches);
+    Ok(copy)
 }
 
-/// A content, moved with its part.
+/// A content, moved with its part, with the words added that LINK adds to its bytes.
 fn linked_content(
     alloc: Global,
     tables: &Tables,
@@ -93,8 +72,8 @@ fn linked_content(
     requires movable { CanBeMoved tables.now number of.now content.now }
     ensures { IfOk result (λ moved. moved ≡ linked_content tables.now (number, of.now) content.now) }
 {
-    let bytes = linked_bytes(alloc, tables, number, of, content)?;
-    let fixups = fixups_left(alloc, tables, number, of, content)?;
+    let (patches, fixups) = resolved(alloc, tables, number, of, content)?;
+    let bytes = patched(alloc, &content.bytes, &patches)?;
     Ok(Content {
         segment: tables.joined.linked_id(of, content.segment),
         offset: content.offset + tables.joined.start(number, content.segment),

@@ -5,12 +5,11 @@
 //! |---|---|
 //! | [`link`], [`Linked`] | modules, and what they need of libraries, linked into one |
 //! | [`select`] | which modules a link takes from its libraries |
-//! | [`Chosen`] | the place of a module in libraries |
+//! | [`Chosen`] | the place of a module in libraries (`select80`) |
 //! | [`LinkFault`] | why modules can't be linked |
 //! | [`laws`] | the linked module defines the bytes that its modules define |
 #![tactic(auto)]
 
-mod chosen;
 mod commons;
 mod contents;
 mod declared;
@@ -22,13 +21,12 @@ mod mains;
 mod modules;
 mod name_table;
 mod reference;
-mod row;
 mod segments;
 mod selecting;
 mod starts;
 mod tables;
 
-pub use chosen::Chosen;
 pub use fault::LinkFault;
 pub use linking::{Linked, link};
+pub use select80::Chosen;
 pub use selecting::select;

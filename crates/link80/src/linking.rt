@@ -1,15 +1,14 @@
 //! Modules are linked into one.
 
-ghost use Rattle.std.specs.Prelude.{◌≡◌, ◌≢◌, ◌<◌, ◌++◌, [], None, Some, filter_map, length, option_copied, slice_get, IfOk, IfErr, OnOk};
+ghost use Rattle.std.specs.Prelude.{◌≡◌, ◌≢◌, ◌<◌, ◌++◌, [], None, Some, filter_map, length, map, option_copied, slice_get, IfOk, IfErr, OnOk};
 ghost use Rattle.std.specs.List.{AllByRecursion, cons_option};
 ghost use Rattle.omf_module.specs.Rules.{IsModule};
 ghost use Rattle.link80.specs.Gathered.{mains_from};
-ghost use Rattle.link80.specs.Linked.{linked, linked_parts, starts, unresolved};
-ghost use Rattle.link80.specs.LinkFault.{link_fault};
-ghost use Rattle.link80.specs.Selected.{module_at};
+ghost use Rattle.link80.specs.Linked.{linked, linked_parts, linked_publics, starts, unresolved};
+ghost use Rattle.link80.specs.LinkFault.{duplicate_public, link_fault, segment_too_long, too_many_externals};
 ghost use Rattle.link80.specs.Selection.{IsSelection, modules_with, CannotBeLinked};
+ghost use Rattle.select80.specs.Selected.{module_at};
 
-use crate::chosen::Chosen;
 use crate::commons::JoinedModules;
 use crate::contents::linked_contents;
 use crate::declared::declared_names;
@@ -18,6 +17,7 @@ use crate::high_bytes::any_high_off_page;
 use crate::laws::linked_module_keeps_rules;
 use crate::mains::main_of;
 use crate::modules::Modules;
+use crate::name_table::NameTable;
 use crate::segments::linked_segments;
 use crate::selecting::select;
 use crate::starts::LaidModules;
@@ -25,6 +25,7 @@ use crate::tables::Tables;
 use omf_core::Name;
 use omf_library::Library;
 use omf_module::{Module, Parts, PartsFault, copy_names};
+use select80::Chosen;
 use std::alloc::{AllocError, Global};
 
 /// What a link makes: one module, the places of the modules that were taken from libraries, and the names that no module
@@ -79,6 +80,33 @@ fn start_of(tables: &Tables, main: Option<usize>) -> Option<(u8, u16)>
     ))
 }
 
+/// The parts of the linked module but for its publics, which are still among the tables.
+fn parts_without_publics(
+    alloc: Global,
+    name: &Name,
+    tables: &Tables,
+    main: Option<usize>,
+) -> Result<Parts, AllocError>
+    requires { cons_option main [] ≡ mains_from 0 tables.now }
+    ensures parts { IfOk result (λ parts. parts ≡ record (linked_parts name.now tables.now) { publics = [] }) }
+    ensures sound { OnOk result (AllByRecursion IsModule tables.now) }
+{
+    let segments = linked_segments(alloc, tables.joined)?;
+    let commons = tables.joined.linked_commons(alloc)?;
+    let externals = copy_names(alloc, tables.unresolved())?;
+    let contents = linked_contents(alloc, tables)?;
+    let start = start_of(tables, main);
+    Ok(Parts {
+        name: name.copy(alloc)?,
+        segments,
+        commons,
+        publics: Vec::new(alloc),
+        externals,
+        contents,
+        start,
+    })
+}
+
 /// The parts of the linked module, and the names that no module declares.
 fn parts_of(
     alloc: Global,
@@ -91,22 +119,64 @@ fn parts_of(
     ensures unresolved { IfOk result (λ made. made.1.items ≡ unresolved tables.entry) }
     ensures sound { OnOk result (AllByRecursion IsModule tables.entry) }
 {
-    let segments = linked_segments(alloc, &tables.joined)?;
-    let commons = tables.joined.linked_commons(alloc)?;
-    let contents = linked_contents(alloc, &tables)?;
-    let start = start_of(&tables, main);
-    let (publics, externals) = tables.into_names();
-    let unresolved = copy_names(alloc, &externals)?;
-    let parts = Parts {
-        name: name.copy(alloc)?,
-        segments,
-        commons,
-        publics,
-        externals,
-        contents,
-        start,
-    };
-    Ok((parts, unresolved))
+    let parts = parts_without_publics(alloc, name, &tables, main)?;
+    let (publics, unresolved) = tables.into_names();
+    Ok((Parts { publics, ..parts }, unresolved))
+}
+
+/// The module that is linked of joined modules, and the names that none of them declares.
+///
+/// # Errors
+/// `TooManyExternals` exactly where these are more than 65536; `Memory` where memory runs out.
+fn link_joined(
+    alloc: Global,
+    name: &Name,
+    joined: &JoinedModules,
+    declared: &NameTable,
+    main: Option<usize>,
+) -> Result<(Module, Vec<Name>), LinkFault>
+    requires names { declared.now ≡ map (λ p. p.name) (linked_publics joined.now) }
+    requires main { cons_option main [] ≡ mains_from 0 joined.now }
+    requires segments_fit { segment_too_long joined.now ≡ None }
+    requires no_other_fault { link_fault joined.now ≡ too_many_externals joined.now }
+    ensures made { IfOk result (λ made. made.0 ≡ linked name.now joined.now) }
+    ensures unresolved { IfOk result (λ made. made.1.items ≡ unresolved joined.now) }
+    ensures no_fault { OnOk result (link_fault joined.now ≡ None) }
+    ensures sound { OnOk result (AllByRecursion IsModule joined.now) }
+    ensures fault { IfErr result (λ fault. fault ≢ LinkFault.Memory → link_fault joined.now ≡ Some fault) }
+{
+    linked_module_keeps_rules();
+    let tables = Tables::new(alloc, joined, declared)?;
+    let (parts, unresolved) = parts_of(alloc, name, tables, main)?;
+    match Module::from_parts(alloc, parts) {
+        Ok(linked) => Ok((linked, unresolved)),
+        Err((_, PartsFault::Memory)) => Err(LinkFault::Memory),
+        Err((_, PartsFault::Rule)) => unreachable!(),
+    }
+}
+
+/// The module that is linked of laid modules, and the names that none of them declares.
+fn link_laid(
+    alloc: Global,
+    name: &Name,
+    laid: LaidModules,
+    declared: &NameTable,
+) -> Result<(Module, Vec<Name>), LinkFault>
+    requires names { declared.now ≡ map (λ p. p.name) (linked_publics laid) }
+    requires once { duplicate_public laid ≡ None }
+    requires segments_fit { segment_too_long laid ≡ None }
+    ensures made { IfOk result (λ made. made.0 ≡ linked name.now laid.entry) }
+    ensures unresolved { IfOk result (λ made. made.1.items ≡ unresolved laid.entry) }
+    ensures no_fault { OnOk result (link_fault laid.entry ≡ None) }
+    ensures sound { OnOk result (AllByRecursion IsModule laid.entry) }
+    ensures fault { IfErr result (λ fault. fault ≢ LinkFault.Memory → link_fault laid.entry ≡ Some fault) }
+{
+    let main = main_of(&laid)?;
+    if any_high_off_page(&laid) {
+        return Err(LinkFault::HighNotPaged);
+    }
+    let joined = JoinedModules::new(alloc, laid)?;
+    link_joined(alloc, name, &joined, declared, main)
 }
 
 /// The module that is linked of these, and the names that none of them declares.
@@ -121,21 +191,9 @@ fn link_modules(
     ensures sound { OnOk result (AllByRecursion IsModule modules.entry) }
     ensures fault { IfErr result (λ fault. fault ≢ LinkFault.Memory → link_fault modules.entry ≡ Some fault) }
 {
-    linked_module_keeps_rules();
     let declared = declared_names(alloc, &modules)?;
     let laid = LaidModules::new(alloc, modules)?;
-    let main = main_of(&laid)?;
-    if any_high_off_page(&laid) {
-        return Err(LinkFault::HighNotPaged);
-    }
-    let joined = JoinedModules::new(alloc, laid)?;
-    let tables = Tables::new(alloc, joined, declared)?;
-    let (parts, unresolved) = parts_of(alloc, name, tables, main)?;
-    match Module::from_parts(alloc, parts) {
-        Ok(linked) => Ok((linked, unresolved)),
-        Err((_, PartsFault::Memory)) => Err(LinkFault::Memory),
-        Err((_, PartsFault::Rule)) => unreachable!(),
-    }
+    link_laid(alloc, name, laid, &declared)
 }
 
 /// Links modules, and the modules that they need of libraries, into one of the given name.

@@ -1,120 +1,13 @@
 //! Which modules of its libraries a link takes.
 
-ghost use Rattle.std.specs.Prelude.{◌≡◌, ◌↔◌, ◌<◌, ◌≤◌, [], ◌∷◌, ◌++◌, length, Contains, IfOk, IfErr, OnOk};
-ghost use Rattle.link80.specs.Selected.{IsChosen, AreAscending};
-ghost use Rattle.link80.specs.Selecting.{members, places_in, places_from, marked_places, needed, AreReached, Marks, IsSearched};
+ghost use Rattle.std.specs.Prelude.{◌≡◌, ◌↔◌, Contains, IfOk, IfErr};
+ghost use Rattle.select80.specs.Selected.{IsChosen, AreAscending};
 
-use crate::chosen::Chosen;
 use crate::fault::LinkFault;
-use crate::row::Row;
 use omf_library::Library;
 use omf_module::Module;
-use std::alloc::{AllocError, Global};
-
-/// Marks on a row of modules, and the queue of the numbers that have one, in the order in which they got it.
-#[derive(Drop)]
-struct Search {
-    marked: Vec<bool>,
-    queue: Vec<usize>,
-}
-
-impl Search {
-    /// A search with the first `roots` modules marked.
-    fn from_roots(alloc: Global, row: &Row<'_>, roots: usize) -> Result<Search, AllocError>
-        requires { roots ≤ length row.now }
-        ensures { IfOk result (λ search. IsSearched row.now roots 0 search.marked.items search.queue.items) }
-    {
-        let mut search = Search {
-            marked: vec![in alloc; false; row.len()]?,
-            queue: Vec::new(alloc),
-        };
-        for number in 0..roots {
-            search.mark(number)?;
-        }
-        Ok(search)
-    }
-
-    /// Marks a module, and puts it last in the queue, where it isn't marked yet.
-    fn mark(&mut self, number: usize) -> Result<(), AllocError>
-        requires { number < length self.old.marked.items }
-        ensures { OnOk result (Marks (number ∷ []) self.old.marked.items self.old.queue.items self.new.marked.items self.new.queue.items) }
-    {
-        if !self.marked[number] {
-            self.marked[number] = true;
-            self.queue.push(number)?;
-        }
-        Ok(())
-    }
-
-    /// Marks the modules that a module needs.
-    fn mark_needed(&mut self, row: &Row<'_>, user: &Module) -> Result<(), AllocError>
-        requires { length self.old.marked.items ≡ length row.now }
-        ensures { OnOk result (Marks (needed row.now user.now) self.old.marked.items self.old.queue.items self.new.marked.items self.new.queue.items) }
-    {
-        for name in user.externals() {
-            if let Some(number) = row.first(name.bytes()) {
-                self.mark(number)?;
-            }
-        }
-        Ok(())
-    }
-}
-
-/// Marks of the first `roots` modules of a row and of all that they need, by themselves or through others.
-fn reached(alloc: Global, row: &Row<'_>, roots: usize) -> Result<Vec<bool>, AllocError>
-    requires { roots ≤ length row.now }
-    ensures { IfOk result (λ marked. AreReached row.now roots marked.items) }
-{
-    let mut search = Search::from_roots(alloc, row, roots)?;
-    let mut looked_at = 0;
-    while looked_at < search.queue.len() {
-        let number = search.queue[looked_at];
-        search.mark_needed(row, row.get(number))?;
-        looked_at += 1;
-    }
-    Ok(search.marked)
-}
-
-/// Puts the places of a library's modules last.
-fn push_places(
-    places: &mut Vec<Chosen>,
-    library: usize,
-    modules: &[Module],
-) -> Result<(), AllocError>
-    ensures { OnOk result (places.new.items ≡ places.old.items ++ places_in library 0 modules.now) }
-{
-    for (number, _) in modules.iter().enumerate() {
-        places.push(Chosen {
-            library,
-            module: number,
-        })?;
-    }
-    Ok(())
-}
-
-/// The places of the modules of all libraries.
-fn places_of(alloc: Global, libraries: &[Library]) -> Result<Vec<Chosen>, AllocError>
-    ensures { IfOk result (λ places. places.items ≡ places_from 0 libraries.now) }
-{
-    let mut places = Vec::new(alloc);
-    for (number, library) in libraries.iter().enumerate() {
-        push_places(&mut places, number, library.modules.as_slice())?;
-    }
-    Ok(places)
-}
-
-/// The places that have a mark.
-fn with_mark(alloc: Global, places: &[Chosen], marked: &[bool]) -> Result<Vec<Chosen>, AllocError>
-    ensures { IfOk result (λ taken. taken.items ≡ marked_places places.now marked.now) }
-{
-    let mut taken = Vec::new(alloc);
-    for (place, mark) in places.iter().zip(marked) {
-        if *mark {
-            taken.push(*place)?;
-        }
-    }
-    Ok(taken)
-}
+use select80::Chosen;
+use std::alloc::Global;
 
 /// The modules that a link of these roots takes from these libraries: the first that declares a name which a root has as
 /// external and no root declares, and so on for the modules taken. They come by library and, in each, by module.
@@ -131,9 +24,5 @@ pub fn select(
     ensures ascending { IfOk result (λ taken. AreAscending taken.items) }
     ensures fault { IfErr result (λ fault. fault ≡ LinkFault.Memory) }
 {
-    let row = Row::of(alloc, roots, libraries)?;
-    let marked = reached(alloc, &row, roots.len())?;
-    let places = places_of(alloc, libraries)?;
-    let taken = with_mark(alloc, places.as_slice(), &marked[roots.len()..])?;
-    Ok(taken)
+    Ok(select80::select(alloc, roots, libraries)?)
 }

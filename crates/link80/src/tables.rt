@@ -105,47 +105,47 @@ fn to_place(id: u8, offset: u16) -> Reference
 
 /// Joined modules, their publics and their unresolved names. A contract sees the modules.
 #[derive(Drop)]
-pub(crate) struct Tables<'a> {
+pub(crate) struct Tables<'t, 'a> {
     /// The modules.
-    pub joined: JoinedModules<'a>,
+    pub joined: &'t JoinedModules<'a>,
     /// The names of the publics; each public has its name's number.
-    declared: NameTable<'a>,
+    declared: &'t NameTable<'a>,
     publics: Vec<Public>,
     /// The numbers of the names that no module declares, and the names.
     unresolved: NameTable<'a>,
     names: Vec<Name>,
 }
 
-impl<'a> Model for Tables<'a> {
+impl<'t, 'a> Model for Tables<'t, 'a> {
     ghost use Rattle.std.specs.Prelude.{List};
     ghost use Rattle.omf_module.specs.Modules.{ModuleValue};
     ghost use Rattle.link80.specs.Tables.{AreTables};
 
     ghost Value = { List ModuleValue };
 
-    ghost view = { λ t. t.joined };
+    ghost view = { λ t. t.joined.now };
 
-    ghost invariant = { λ t. AreTables t.joined t.declared t.publics.items t.unresolved t.names.items };
+    ghost invariant = { λ t. AreTables t.joined.now t.declared.now t.publics.items t.unresolved t.names.items };
 }
 
-impl<'a> Tables<'a> {
+impl<'t, 'a> Tables<'t, 'a> {
     /// Moves the publics and finds the names that no module declares.
     ///
     /// # Errors
     /// `TooManyExternals` exactly where these are more than 65536; `Memory` where memory runs out.
     pub(crate) fn new(
         alloc: Global,
-        joined: JoinedModules<'a>,
-        declared: NameTable<'a>,
-    ) -> Result<Tables<'a>, LinkFault>
-        requires names { declared ≡ map (λ p. p.name) (linked_publics joined) }
-        requires segments_fit { segment_too_long joined ≡ None }
-        ensures same { IfOk result (λ tables. tables ≡ joined.entry) }
-        ensures fit { OnOk result (too_many_externals joined.entry ≡ None) }
-        ensures fault { IfErr result (λ fault. fault ≢ LinkFault.Memory → too_many_externals joined.entry ≡ Some fault) }
+        joined: &'t JoinedModules<'a>,
+        declared: &'t NameTable<'a>,
+    ) -> Result<Tables<'t, 'a>, LinkFault>
+        requires names { declared.now ≡ map (λ p. p.name) (linked_publics joined.now) }
+        requires segments_fit { segment_too_long joined.now ≡ None }
+        ensures same { IfOk result (λ tables. tables ≡ joined.now) }
+        ensures fit { OnOk result (too_many_externals joined.now ≡ None) }
+        ensures fault { IfErr result (λ fault. fault ≢ LinkFault.Memory → too_many_externals joined.now ≡ Some fault) }
     {
-        let publics = linked_publics(alloc, &joined)?;
-        let (unresolved, names) = unresolved(alloc, &joined, &declared)?;
+        let publics = linked_publics(alloc, joined)?;
+        let (unresolved, names) = unresolved(alloc, joined, declared)?;
         if unresolved.len() > MOST_EXTERNALS {
             return Err(LinkFault::TooManyExternals);
         }
@@ -156,6 +156,13 @@ impl<'a> Tables<'a> {
             unresolved,
             names,
         })
+    }
+
+    /// The names that no module declares.
+    pub(crate) fn unresolved(&self) -> &[Name]
+        ensures { result.now ≡ unresolved self.now }
+    {
+        &self.names
     }
 
     /// The publics, and the names that no module declares.

@@ -6,7 +6,7 @@ use Rattle.omf_module.specs.Modules.{ModuleValue}
 use Rattle.omf_module.specs.Rules.{IsModule}
 use Rattle.omf_relocation.specs.HighReferences.{any_loses_low_byte}
 use Rattle.omf_relocation.specs.ImageByte.{image_byte}
-use Rattle.link80.specs.declared.chosen.Chosen.{Chosen}
+use Rattle.select80.specs.declared.chosen.Chosen.{Chosen}
 use Rattle.link80.specs.Linked.{linked}
 use Rattle.link80.specs.LinkFault.{link_fault}
 use Rattle.link80.specs.Selection.{IsSelection, modules_with}

@@ -24,7 +24,7 @@ returns-in-Some c =
     let modules : List ModuleValue = c.args.self.now in
     let number = number_is modules _ _ _ _ _ c.args.name.now c.number_of.result c.self.view_is c.self.invariant c.number_of.ensures.number ∙ c.in-Some.is in
     let publics_are : c.self.inside.publics.items ≡ linked_publics modules = c.self.invariant.publics_are ∙ ap linked_publics c.self.view_is in
-    let names_are : c.self.inside.declared ≡ map (λ (p : Public). p.name) (linked_publics modules) = c.self.invariant.declared_are ∙ ap (λ ms. map (λ (p : Public). p.name) (linked_publics ms)) c.self.view_is in
+    let names_are : c.self.inside.declared.now ≡ map (λ (p : Public). p.name) (linked_publics modules) = c.self.invariant.declared_are ∙ ap (λ ms. map (λ (p : Public). p.name) (linked_publics ms)) c.self.view_is in
     let within : c.in-Some.number < length c.self.inside.publics.items = omega (arith, c.in-Some.ensures.within, ap length names_are, map_length (linked_publics modules), ap length publics_are) in
     let at = slice_get_read c.self.inside.publics.items (length c.self.inside.publics.items) c.in-Some.number c.index-public.result.now refl within c.index-public.ensures in
     c.to_place.ensures ∙ sym (borne modules c.args.name.now c.in-Some.number c.index-public.result.now number (ap (λ ps. slice_get ps c.in-Some.number) (sym publics_are) ∙ at))

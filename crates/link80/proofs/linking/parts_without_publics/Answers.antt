@@ -1,0 +1,20 @@
+use Rattle.std.specs.Prelude.{ℕ, List, map}
+use Rattle.std.proofs.Common.{◌∙◌, ap}
+use Rattle.omf_module.specs.Modules.{ModuleValue}
+use Rattle.link80.specs.Linked.{linked_commons, linked_ids, linked_segment}
+use Rattle.link80.proofs.linking.parts_without_publics.Goals as goal
+
+pub returns-clause-parts : goal.returns-clause-parts
+returns-clause-parts c =
+    let segments_are = c.in_ok-segments.ensures ∙ ap (λ (ms : List ModuleValue). map (λ (id : ℕ). (id, linked_segment ms id)) (linked_ids ms)) c.tables.view_is in
+    let commons_are = c.in_ok-commons.ensures ∙ ap linked_commons c.tables.view_is in
+    let externals_are = c.in_ok-externals.ensures ∙ c.unresolved.ensures in
+    λ j. record {
+      name = c.in_ok-copy.ensures.same j;
+      segments = segments_are j;
+      commons = commons_are j;
+      publics = c.new.ensures.items j;
+      externals = externals_are j;
+      contents = c.in_ok-contents.ensures.contents j;
+      start = c.start_of-start.ensures j;
+    }

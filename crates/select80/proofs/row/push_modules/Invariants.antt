@@ -1,0 +1,6 @@
+-- the modules put into the row so far, and those that are left
+use Rattle.std.proofs.Common.{◌≡◌, ◌++◌, map, drop}
+use Rattle.select80.proofs.row.push_modules.Given as goal
+
+abbrev pub invariant-loop-one : goal.invariant-loop-one
+invariant-loop-one l = map (λ m. m.now) l.row.items ++ drop l.one-index l.modules ≡ map (λ m. m.now) l.initial.row.items ++ l.modules
