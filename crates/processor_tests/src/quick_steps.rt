@@ -1,0 +1,125 @@
+//! A quick step is the step: both are made from the same states, and must leave the same.
+
+use decode80::length_of;
+use machine80::{
+    Bus, Cpu, End, Flags, FlatBus, Inputs, ListPorts, Ports, Registers, quick_step, step,
+};
+use omf_core::Name;
+use place80::{Image, Regions, read_regions};
+use std::alloc::Global;
+use std::test::Fail;
+
+/// Code up to FFFF, and room for all data and stack that the states point to.
+const REGIONS: &[u8] = b"REGIONS 1\nCODE F000 1000\nDATA 0000 8000\nSTACK 8000 1000\n";
+
+/// A, B, C, D, E, H and L. The pairs point to data, but for the last one's BC, DE and HL.
+static SETS: [[u8; 7]; 4] = [
+    [0x00, 0x20, 0x01, 0x7F, 0xFF, 0x12, 0x34],
+    [0x9A, 0x00, 0xFF, 0x10, 0x00, 0x7F, 0xFE],
+    [0xFF, 0x7F, 0x80, 0x01, 0x0F, 0x00, 0x00],
+    [0x01, 0xFF, 0xFF, 0x80, 0x00, 0xF0, 0x10],
+];
+
+/// Two machines in the same state, one for each kind of step.
+#[derive(Drop)]
+struct Pair {
+    slow: FlatBus,
+    quick: FlatBus,
+    regions: Regions,
+}
+
+fn new_bus(alloc: Global) -> Result<FlatBus, Fail> {
+    let image = Image {
+        name: Name::new(alloc, b"A")?,
+        chunks: Vec::new(alloc),
+        regions: read_regions(alloc, REGIONS)?,
+        start: 0xF000,
+    };
+    Ok(FlatBus::new(alloc, &image)?)
+}
+
+fn new_pair(alloc: Global) -> Result<Pair, Fail> {
+    Ok(Pair {
+        slow: new_bus(alloc)?,
+        quick: new_bus(alloc)?,
+        regions: read_regions(alloc, REGIONS)?,
+    })
+}
+
+/// A port list with one input byte at port 34, and room for one output.
+fn new_ports(alloc: Global) -> Result<ListPorts, Fail> {
+    let mut pairs = Vec::new(alloc);
+    pairs.push((0x34, 0x56))?;
+    Ok(ListPorts::new(alloc, Inputs { pairs }, 1))
+}
+
+fn same_memory(left: &FlatBus, right: &FlatBus) -> bool {
+    for address in 0..=u16::MAX {
+        if left.load(address) != right.load(address) {
+            return false;
+        }
+    }
+    true
+}
+
+/// The state before a step: the instruction ends at FFFF where it is at the end of memory.
+fn state(set: &[u8; 7], flags: u8, pc: u16) -> Cpu {
+    let [a, b, c, d, e, h, l] = *set;
+    Cpu {
+        registers: Registers {
+            a,
+            b,
+            c,
+            d,
+            e,
+            h,
+            l,
+            flags: Flags::from_byte(flags),
+        },
+        sp: 0x8100,
+        pc,
+    }
+}
+
+/// Puts an instruction with the operand 1234 at an address, in both memories.
+fn put(pair: &mut Pair, opcode: u8, pc: u16) {
+    for (n, byte) in [opcode, 0x34, 0x12].into_iter().enumerate() {
+        let address = pc.wrapping_add(n as u16);
+        pair.slow.store(address, byte);
+        pair.quick.store(address, byte);
+    }
+}
+
+/// Whether both steps from a state come to the same end, registers, outputs and inputs.
+fn steps_agree(alloc: Global, pair: &mut Pair, before: Cpu) -> Result<bool, Fail> {
+    let (mut cpu, mut quick) = (before, before);
+    let (mut ports, mut quick_ports) = (new_ports(alloc)?, new_ports(alloc)?);
+    let end = step(&mut cpu, &mut pair.slow, &mut ports, &pair.regions);
+    let quick_end = quick_step(&mut quick, &mut pair.quick, &mut quick_ports, &pair.regions);
+    Ok(end == quick_end
+        && cpu == quick
+        && ports.outputs() == quick_ports.outputs()
+        && ports.take(0x34) == quick_ports.take(0x34))
+}
+
+/// Every opcode, with every setting of the flags, from each set of registers, in the midst of the code and at the end of memory.
+#[test]
+fn every_opcode_agrees(rt: HostRuntime) -> Result<(), Fail> {
+    let mut pair = new_pair(rt.alloc())?;
+    for opcode in 0..=255u8 {
+        let Some(length) = length_of(opcode) else {
+            continue;
+        };
+        for pc in [0xF100, (65536 - length) as u16] {
+            for set in &SETS {
+                for flags in 0..=255u8 {
+                    put(&mut pair, opcode, pc);
+                    let before = state(set, flags, pc);
+                    assert!(rt; steps_agree(rt.alloc(), &mut pair, before)?, "{} at {}", opcode, pc);
+                }
+                assert!(rt; same_memory(&pair.slow, &pair.quick), "memory after {}", opcode);
+            }
+        }
+    }
+    Ok(())
+}
