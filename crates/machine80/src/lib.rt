@@ -15,6 +15,9 @@ mod inputs;
 pub mod laws;
 mod list_ports;
 mod ports;
+mod quick;
+mod quick_advancing;
+mod quick_stepping;
 mod registers;
 mod stack;
 mod stepping;
@@ -35,6 +38,8 @@ pub use flat_bus::FlatBus;
 pub use inputs::Inputs;
 pub use list_ports::ListPorts;
 pub use ports::{PortRefused, Ports};
+pub use quick_advancing::quick_advance;
+pub use quick_stepping::quick_step;
 pub use registers::Registers;
 pub use stepping::step;
 
