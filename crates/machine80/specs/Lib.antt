@@ -9,4 +9,5 @@ pub mod Effects
 pub mod Kinds
 pub mod Step
 pub mod World
+pub mod Quick
 pub mod Run
