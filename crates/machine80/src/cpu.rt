@@ -122,7 +122,7 @@ impl Cpu {
     }
 
     /// Adds a word to HL.
-    #[inline]
+    #[inline(always)]
     pub(crate) fn add(&mut self, word: u16)
         ensures { self.new ≡ with_sum self.old (hl_of self.old.registers) word }
     {
