@@ -69,8 +69,8 @@ fn sum(a: u8, value: u8, carry: bool) -> Answer
     Answer::of_byte((sum % 256) as u8, nibbles > 15, sum > 255)
 }
 
-/// A subtraction by the adder: `a`, the complement of `value` and the borrow turned over; the carry that comes out
-/// is turned over too.
+/// A subtraction by the adder: `a`, the complement of `value` and the complemented borrow; the carry that comes out
+/// is complemented too.
 #[inline]
 #[tactic(auto, using(crate::proofs::ArithmeticLemmas::difference_by_adder), unfolding(crate::specs::ArithmeticLaws::with_carry_turned))]
 fn difference(a: u8, value: u8, borrow: bool) -> Answer
@@ -157,7 +157,7 @@ pub fn add_pairs(hl: u16, pair: u16, flags: Flags) -> (u16, Flags)
     ((sum % 65536) as u16, flags.with_carry(sum > 65535))
 }
 
-/// CMA: every bit of the accumulator turned over. No flag changes.
+/// CMA: every bit of the accumulator is complemented. No flag changes.
 #[inline]
 #[tactic(auto, unfolding(crate::specs::Arithmetic::complement_of))]
 pub fn complement(a: u8) -> u8
@@ -175,7 +175,7 @@ pub fn set_carry(flags: Flags) -> Flags
     flags.with_carry(true)
 }
 
-/// CMC: CY is turned over, the other flags stay.
+/// CMC: CY is complemented, the other flags stay.
 #[inline]
 #[tactic(auto, unfolding(crate::specs::Arithmetic::carry_turned))]
 pub fn complement_carry(flags: Flags) -> Flags

@@ -7,7 +7,7 @@ ghost use Rattle.machine80.specs.World.{world_at_start, NeverGoesWrong};
 ghost use Rattle.machine80.specs.Quick.{StaysRight};
 
 /// ADD, ADC, SUB, SBB and CMP are one adder: a subtraction adds the complement of its operand, and its borrow is a
-/// carry turned over.
+/// complemented carry.
 pub fn one_adder()
     ensures { OneAdder }
 {}

@@ -6,6 +6,7 @@
 //! | `frames` | `frames80`: what instructions, calls and meetings make of frames |
 //! | `arithmetic` | `machine80`: results and flags, against an outside core |
 //! | `machine` | `machine80`: programs with their ends, ports that are lists, a new memory |
+//! | `quick_steps` | `machine80`: quick steps, compared with steps |
 #![tactic(auto)]
 
 #[cfg(test)]
@@ -16,3 +17,5 @@ mod frames;
 mod machine;
 #[cfg(test)]
 mod opcodes;
+#[cfg(test)]
+mod quick_steps;
