@@ -6,7 +6,7 @@
 #   make test      proves every crate from nothing and runs every test
 #   make commands  builds plm80 and runs the tests of its commands alone
 #   make faults    runs the tests, and plm80 on the examples, with one call for memory, a read or a write refused
-#   make bench     builds plm80 and prints million steps per second of four loops, and what it takes to verify programs, to link modules and to read libraries
+#   make bench     builds plm80 and prints million steps per second and host instructions per step of four programs, its start-up, and what it takes to verify programs, to link modules and to read libraries
 #   make help      prints this
 
 .PHONY: help run try install test commands faults bench build need-rt need-python3 need-cc
@@ -68,6 +68,7 @@ faults: need-cc build
 	@tests/faults/run $(PROGRAM) $(FAULTS)
 
 bench: need-python3 build
+	@bench/make_programs $(PROGRAM)
 	@bench/run $(PROGRAM)
 	@bench/verifier $(PROGRAM)
 	@bench/link $(PROGRAM)

@@ -14,9 +14,9 @@ returns-clause-run g c = λ most agrees.
     let cpu : c.start-cpu.result ≡ started c.args.vouched.now.image.start c.args.vouched.now.image.regions =
     c.start-cpu.ensures ∙ ap (λ (n : ℕ). started n c.image.inside.regions) start ∙ ap (λ (r : Areas). started c.args.vouched.now.image.start r) regions in
     let stays = parts_stay_right c.args.vouched.now.image c.image.inside.regions c.start-cpu.result _ (g.P.Ports.inputs c.args.ports.now) (g.P.Ports.outputs c.args.ports.now) regions cpu c.requires.content
-      (c.images_that_never_go_wrong_stay_right.ensures c.args.vouched.now.image c.args.vouched.now.stack_bytes _ _ c.image-image.ensures.vouched.never_goes_wrong) in
+    (c.images_that_never_go_wrong_stay_right.ensures c.args.vouched.now.image c.args.vouched.now.stack_bytes _ _ c.image-image.ensures.vouched.never_goes_wrong) in
     parts_run c.args.vouched.now.image c.image.inside.regions c.start-cpu.result _ _ _ most c.args.steps _ _ _ regions cpu c.requires.content
-      (c.quick_advance-advanced.ensures.run stays most agrees)
+    (c.quick_advance-advanced.ensures.run stays most agrees)
 
 pub returns-clause-proper : goal.returns-clause-proper
 returns-clause-proper g c =
