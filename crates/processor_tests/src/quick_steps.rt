@@ -49,13 +49,13 @@ fn new_pair(alloc: Global) -> Result<Pair, Fail> {
     })
 }
 
-/// Ports with one input byte at port 34, or with none, and with room for one output, or for none.
-fn new_ports(alloc: Global, kind: usize) -> Result<ListPorts, Fail> {
+/// One input byte at port 34, or none.
+fn inputs(alloc: Global, kind: usize) -> Result<Inputs, Fail> {
     let mut pairs = Vec::new(alloc);
     if kind % 2 == 0 {
         pairs.push((0x34, 0x56))?;
     }
-    Ok(ListPorts::new(alloc, Inputs { pairs }, kind / 2 % 2))
+    Ok(Inputs { pairs })
 }
 
 fn same_memory(left: &FlatBus, right: &FlatBus) -> bool {
@@ -95,10 +95,12 @@ fn put(pair: &mut Pair, opcode: u8, pc: u16) {
     }
 }
 
-/// Whether both steps from a state come to the same end, registers, outputs and inputs, with ports of this kind.
+/// Whether both steps from a state come to the same end, registers, outputs and inputs, where ports of this kind have an input byte
+/// or none, and room for one output or for none.
 fn steps_agree(alloc: Global, pair: &mut Pair, before: Cpu, kind: usize) -> Result<bool, Fail> {
     let (mut cpu, mut quick) = (before, before);
-    let (mut ports, mut quick_ports) = (new_ports(alloc, kind)?, new_ports(alloc, kind)?);
+    let mut ports = ListPorts::new(alloc, inputs(alloc, kind)?, kind / 2 % 2);
+    let mut quick_ports = ListPorts::new(alloc, inputs(alloc, kind)?, kind / 2 % 2);
     let end = step(&mut cpu, &mut pair.slow, &mut ports, &pair.regions);
     let quick_end = quick_step(&mut quick, &mut pair.quick, &mut quick_ports, &pair.regions);
     Ok(
