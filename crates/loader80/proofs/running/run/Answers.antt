@@ -1,4 +1,4 @@
-use Rattle.std.proofs.Common.{◌≡◌, ◌∙◌, ℕ, ap, sym, subst}
+use Rattle.std.proofs.Common.{◌≡◌, ◌∙◌, ℕ, ap}
 use Rattle.std.specs.Prelude.{Bool, nat_lt, Option}
 use Rattle.place80.specs.Regions.{Areas}
 use Rattle.place80.specs.Image.{Located}
