@@ -15,7 +15,7 @@ use Rattle.omf_module.specs.declared.fixup.Target.TheVariants as target
 use Rattle.omf_module.specs.Contents.{ContentValue}
 use Rattle.omf_module.specs.Segments.{is_fixed_id, names_common, has_segment, segment_in}
 use Rattle.omf_module.specs.Modules.{ModuleValue}
-use Rattle.omf_module.specs.Rules.{each_after, is_new_entry, is_new_common, has_target, is_fitting, has_fitting, lies_within, is_placed, is_content, end_of, is_start}
+use Rattle.omf_module.specs.Rules.{each_after, is_new_entry, is_new_common, has_target, is_fitting, has_fitting, lies_within, is_in_bounds, is_content, end_of, is_start}
 use Rattle.omf_relocation.specs.Patches.{byte_with}
 use Rattle.omf_relocation.specs.Place.{common_name, is_laid_out, starts_from, part_start}
 use Rattle.omf_relocation.specs.ImageByte.{name_at}
@@ -286,7 +286,7 @@ content_kept by_name name modules m c few all listed fits lies fixups =
     let fitting : has_fitting commons (length (unresolved modules)) d ≡ true =
     ap (λ n. each_after (is_fitting commons (length (unresolved modules)) (c.offset + start) n) [] d.fixups) long
     ∙ fitting_moved m.1.commons commons (length m.1.externals) (length (unresolved modules)) c.offset (length c.bytes) start (λ f. (linked_reference modules m f.target).target) [] c.fixups fixups.fitting (targets_there modules m all listed c.fixups fixups.targets) in
-    and_from (is_placed segments commons d) (has_fitting commons (length (unresolved modules)) d)
+    and_from (is_in_bounds segments commons d) (has_fitting commons (length (unresolved modules)) d)
     (and_from (lies_within segments commons d) (nat_le (length d.bytes) 65531)
     (and_from (has_segment commons d.segment && not (d.segment == 3)) (nat_le (d.offset + length d.bytes) (end_of segments d.segment))
     (and_from (has_segment commons d.segment) (not (d.segment == 3)) has other) inside)

@@ -24,12 +24,12 @@ use Rattle.omf_module.specs.declared.records.PlacedBody.{PlacedBody}
 use Rattle.omf_module.specs.Contents.{ContentValue, is_inside, shares_a_byte}
 use Rattle.omf_module.specs.Segments.{has_segment}
 use Rattle.omf_module.specs.Modules.{ModuleValue}
-use Rattle.omf_module.specs.Rules.{each_after, is_new_entry, is_new_common, has_target, is_fitting, end_of, lies_within, is_placed, has_fitting, is_content, is_start, is_sound, keeps_rules}
+use Rattle.omf_module.specs.Rules.{each_after, is_new_entry, is_new_common, has_target, is_fitting, end_of, lies_within, is_in_bounds, has_fitting, is_content, is_start, is_sound, keeps_rules}
 use Rattle.omf_module.specs.Records.{SpellsBodies, commons_in, commons_of, stands_within, may_follow, each_follows, ModuleRecords, SpellsModuleRecords}
 use Rattle.omf_module.specs.Gathered.{publics_in, fixups_in, with_fixups, content_after, begins_content, contents_from, parts_of}
 use Rattle.omf_module.specs.Uses.{unknown_id, ids_in, place_fault, lacks_external, fixup_fault, fixups_fault, reference_fault, body_fault, fault_by, bodies_fault, header_fault, end_fault, use_fault}
 use Rattle.omf_module.proofs.ListLemmas.{each_after_both}
-use Rattle.omf_module.proofs.RuleLemmas.{placed_parts}
+use Rattle.omf_module.proofs.RuleLemmas.{in_bounds_parts}
 
 -- ---- options and tests
 
@@ -205,12 +205,12 @@ fits m c = is_content m.segments m.commons (length m.externals) c
 
 fits_with : (m : ModuleValue) (c : ContentValue) (fs : List Fixup) → fits m c ≡ true → list_all (is_reaching m.commons) fs ≡ true → fixups_fault m c fs ≡ None → fits m (with_fixups c fs) ≡ true
 fits_with m c fs fit reach e =
-    let parts = and_parts (is_placed m.segments m.commons c) (has_fitting m.commons (length m.externals) c) fit in
-    and_from (is_placed m.segments m.commons c) (has_fitting m.commons (length m.externals) (with_fixups c fs)) parts.0
+    let parts = and_parts (is_in_bounds m.segments m.commons c) (has_fitting m.commons (length m.externals) c) fit in
+    and_from (is_in_bounds m.segments m.commons c) (has_fitting m.commons (length m.externals) (with_fixups c fs)) parts.0
     (each_after_both (fitting m c) [] c.fixups fs parts.1 (each_fitting m c fs reach e))
 
 own_segment : (m : ModuleValue) (c : ContentValue) → fits m c ≡ true → has_segment m.commons c.segment ≡ true
-own_segment m c fit = (placed_parts m.segments m.commons c (and_parts (is_placed m.segments m.commons c) (has_fitting m.commons (length m.externals) c) fit).0).has
+own_segment m c fit = (in_bounds_parts m.segments m.commons c (and_parts (is_in_bounds m.segments m.commons c) (has_fitting m.commons (length m.externals) c) fit).0).has
 
 abbrev content_of : ContentBody → ContentValue
 content_of b = record { segment = b.segment; offset = b.offset; bytes = b.bytes; fixups = [] }
@@ -224,7 +224,7 @@ content_fits m b size known e =
     let outside = passed (nat_lt (end_of m.segments b.segment) (b.offset + length b.bytes)) OffsetOutside None stack.1 in
     let within : b.offset + length b.bytes ≤ end_of m.segments b.segment = ltb-false (end_of m.segments b.segment) (b.offset + length b.bytes) outside.0 in
     let c : ContentValue = content_of b in
-    and_from (is_placed m.segments m.commons c) true
+    and_from (is_in_bounds m.segments m.commons c) true
     (and_from (lies_within m.segments m.commons c) (nat_le (length b.bytes) 65531)
     (and_from (has_segment m.commons b.segment && not (b.segment == 3)) (nat_le (b.offset + length b.bytes) (end_of m.segments b.segment))
     (and_from (has_segment m.commons b.segment) (not (b.segment == 3)) (one_known m b.segment known) (not_from_false (b.segment == 3) stack.0))

@@ -10,8 +10,8 @@ use Rattle.omf_module.specs.declared.symbols.Common.{Common}
 use Rattle.omf_module.specs.Segments.{empty_segment, segment_in, entries_for, listed_ids, in_one_form, names_common, has_segment, is_used, is_fixed_id}
 use Rattle.omf_module.specs.Contents.{ContentValue}
 use Rattle.omf_module.specs.Modules.{ModuleValue, made_of, segment_of}
-use Rattle.omf_module.specs.Rules.{each_after, is_new_entry, is_new_common, end_of, is_placed, is_content, is_fitting, is_start, is_sound, keeps_rules, has_names, IsModule}
-use Rattle.omf_module.proofs.RuleLemmas.{sound_parts, placed_parts, new_common}
+use Rattle.omf_module.specs.Rules.{each_after, is_new_entry, is_new_common, end_of, is_in_bounds, is_content, is_fitting, is_start, is_sound, keeps_rules, has_names, IsModule}
+use Rattle.omf_module.proofs.RuleLemmas.{sound_parts, in_bounds_parts, new_common}
 
 abbrev segment_by : ℕ → Bool → Segment
 segment_by length paged = record { length = length; paged = paged }
@@ -175,17 +175,17 @@ end_of-one_form e c id below =
 abbrev placed_by : Bool → Bool → ContentValue → ℕ → Bool
 placed_by has stack x end = has && not stack && nat_le (x.offset + length x.bytes) end && nat_le (length x.bytes) 65531
 
-is_placed-one_form : (e : List (ℕ × Segment)) (c : List Common) (x : ContentValue) → each_after is_new_common [] c ≡ true → is_placed e c x ≡ true → is_placed (in_one_form e c) c x ≡ true
-is_placed-one_form e c x commons placed =
-    ap (placed_by (has_segment c x.segment) (x.segment == 3) x) (end_of-one_form e c x.segment (has_segment_below c x.segment commons (placed_parts e c x placed).has)) ∙ placed
+is_in_bounds-one_form : (e : List (ℕ × Segment)) (c : List Common) (x : ContentValue) → each_after is_new_common [] c ≡ true → is_in_bounds e c x ≡ true → is_in_bounds (in_one_form e c) c x ≡ true
+is_in_bounds-one_form e c x commons placed =
+    ap (placed_by (has_segment c x.segment) (x.segment == 3) x) (end_of-one_form e c x.segment (has_segment_below c x.segment commons (in_bounds_parts e c x placed).has)) ∙ placed
 
 contents-one_form : (e : List (ℕ × Segment)) (c : List Common) (externals : ℕ) (xs : List ContentValue) → each_after is_new_common [] c ≡ true
     → list_all (is_content e c externals) xs ≡ true → list_all (is_content (in_one_form e c) c externals) xs ≡ true
 contents-one_form e c externals [] commons all = refl
 contents-one_form e c externals (x ∷ xs) commons all =
     let parts = and_parts (is_content e c externals x) (list_all (is_content e c externals) xs) all in
-    let one = and_parts (is_placed e c x) (each_after (is_fitting c externals x.offset (length x.bytes)) [] x.fixups) parts.0 in
-    rw (is_placed-one_form e c x commons one.0, one.1) (contents-one_form e c externals xs commons parts.1)
+    let one = and_parts (is_in_bounds e c x) (each_after (is_fitting c externals x.offset (length x.bytes)) [] x.fixups) parts.0 in
+    rw (is_in_bounds-one_form e c x commons one.0, one.1) (contents-one_form e c externals xs commons parts.1)
 
 pub made_is_module : (p : ModuleValue) → IsTrue (keeps_rules p) → IsTrue (has_names p) → IsModule (made_of p)
 made_is_module p kept names =

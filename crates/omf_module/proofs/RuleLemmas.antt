@@ -8,7 +8,7 @@ use Rattle.omf_module.specs.declared.symbols.Common.{Common}
 use Rattle.omf_module.specs.Contents.{ContentValue}
 use Rattle.omf_module.specs.Segments.{is_common_id, names_common, has_segment}
 use Rattle.omf_module.specs.Modules.{ModuleValue}
-use Rattle.omf_module.specs.Rules.{each_after, has_name, is_new_entry, is_new_common, end_of, lies_within, is_placed, has_fitting, is_content, is_start, is_sound, keeps_rules, keeps_rules_but_for_fixups, keeps_fixup_rules}
+use Rattle.omf_module.specs.Rules.{each_after, has_name, is_new_entry, is_new_common, end_of, lies_within, is_in_bounds, has_fitting, is_content, is_start, is_sound, keeps_rules, keeps_rules_but_for_fixups, keeps_fixup_rules}
 
 crossed : (a b c d : Bool) → (a && b && (c && d)) ≡ (a && c && (b && d))
 crossed false b c d = refl
@@ -37,8 +37,8 @@ rules_apart m =
     let commons : Bool = each_after is_new_common [] m.commons in
     let publics : Bool = list_all (λ p. has_segment m.commons p.segment) m.publics in
     let start : Bool = is_start m.commons m.start in
-    ap (λ (b : Bool). entries && (commons && publics && b && start)) (all_both (is_placed m.segments m.commons) (has_fitting m.commons (length m.externals)) m.contents)
-    ∙ moved entries commons publics (list_all (is_placed m.segments m.commons) m.contents) (list_all (has_fitting m.commons (length m.externals)) m.contents) start
+    ap (λ (b : Bool). entries && (commons && publics && b && start)) (all_both (is_in_bounds m.segments m.commons) (has_fitting m.commons (length m.externals)) m.contents)
+    ∙ moved entries commons publics (list_all (is_in_bounds m.segments m.commons) m.contents) (list_all (has_fitting m.commons (length m.externals)) m.contents) start
 
 -- ---- one by one
 
@@ -56,14 +56,14 @@ sound_parts m sound =
     record { commons = a.0; publics = a.1; contents = b.1; start = c.1 }
 
 -- a content that lies where it may
-pub record PlacedParts (segments : List (ℕ × Segment)) (commons : List Common) (c : ContentValue) : Type 0 where
+pub record InBoundsParts (segments : List (ℕ × Segment)) (commons : List Common) (c : ContentValue) : Type 0 where
   pub has : has_segment commons c.segment ≡ true
   pub not_stack : (c.segment == 3) ≡ false
   pub within : c.offset + length c.bytes ≤ end_of segments c.segment
   pub short : length c.bytes ≤ 65531
 
-pub placed_parts : (segments : List (ℕ × Segment)) (commons : List Common) (c : ContentValue) → is_placed segments commons c ≡ true → PlacedParts segments commons c
-placed_parts segments commons c placed =
+pub in_bounds_parts : (segments : List (ℕ × Segment)) (commons : List Common) (c : ContentValue) → is_in_bounds segments commons c ≡ true → InBoundsParts segments commons c
+in_bounds_parts segments commons c placed =
     let a = and_parts (lies_within segments commons c) (nat_le (length c.bytes) 65531) placed in
     let b = and_parts (has_segment commons c.segment && not (c.segment == 3)) (nat_le (c.offset + length c.bytes) (end_of segments c.segment)) a.0 in
     let d = and_parts (has_segment commons c.segment) (not (c.segment == 3)) b.0 in

@@ -7,8 +7,8 @@ use Rattle.omf_module.specs.declared.symbols.Common.{Common}
 use Rattle.omf_module.specs.Contents.{ContentValue}
 use Rattle.omf_module.specs.Segments.{entry_for, entries_for, listed_ids, in_one_form}
 use Rattle.omf_module.specs.Modules.{ModuleValue}
-use Rattle.omf_module.specs.Rules.{is_content, is_placed, has_fitting, IsModule}
-use Rattle.omf_module.proofs.RuleLemmas.{sound_parts, placed_parts}
+use Rattle.omf_module.specs.Rules.{is_content, is_in_bounds, has_fitting, IsModule}
+use Rattle.omf_module.proofs.RuleLemmas.{sound_parts, in_bounds_parts}
 
 length-cons_option : {A : Type 0} (o : Option A) (xs : List A) (n : ℕ) → length xs ≤ n → length (cons_option o xs) ≤ n + 1
 length-cons_option None xs n few = omega (arith, few)
@@ -31,7 +31,7 @@ pub contents_short : (s : List (ℕ × Segment)) (c : List Common) (externals : 
 contents_short s c externals [] all = tt
 contents_short s c externals (x ∷ xs) all =
     let parts = and_parts (is_content s c externals x) (list_all (is_content s c externals) xs) all in
-    ((placed_parts s c x (and_parts (is_placed s c x) (has_fitting c externals x) parts.0).0).short, contents_short s c externals xs parts.1)
+    ((in_bounds_parts s c x (and_parts (is_in_bounds s c x) (has_fitting c externals x) parts.0).0).short, contents_short s c externals xs parts.1)
 
 pub module_contents_short : (m : ModuleValue) → IsModule m → AllByRecursion (λ (x : ContentValue). length x.bytes ≤ 65531) m.contents
 module_contents_short m is = contents_short m.segments m.commons (length m.externals) m.contents (sound_parts m is.sound).contents

@@ -22,12 +22,12 @@ use Rattle.omf_module.specs.declared.fixup.Target.TheVariants as target
 use Rattle.omf_module.specs.Contents.{ContentValue, is_inside, shares_a_byte}
 use Rattle.omf_module.specs.Segments.{has_segment}
 use Rattle.omf_module.specs.Modules.{ModuleValue}
-use Rattle.omf_module.specs.Rules.{each_after, is_new_common, is_fitting, has_target, end_of, is_placed, has_fitting, is_content}
+use Rattle.omf_module.specs.Rules.{each_after, is_new_common, is_fitting, has_target, end_of, is_in_bounds, has_fitting, is_content}
 use Rattle.omf_module.specs.Records.{commons_in, may_follow, each_follows}
 use Rattle.omf_module.specs.Gathered.{publics_in, externals_in, with_fixups, content_after, begins_content, contents_from}
 use Rattle.omf_module.specs.Uses.{unknown_id, place_fault, lacks_external, fixups_fault, reference_fault, body_fault, fault_by, bodies_fault}
 use Rattle.omf_module.specs.Writing.{common_body, public_body, external_body, fixup_by, fixup_body, content_body, content_bodies}
-use Rattle.omf_module.proofs.RuleLemmas.{PlacedParts, placed_parts, new_common}
+use Rattle.omf_module.proofs.RuleLemmas.{InBoundsParts, in_bounds_parts, new_common}
 use Rattle.omf_module.proofs.WrittenSpelled.{Fits, placed_after}
 use Rattle.omf_module.proofs.WrittenSound.{chosen_by, common_fits, public_fits, external_fits, own_fits, other_fits, external_reference_fits, content_fits}
 
@@ -226,7 +226,7 @@ refers_to_none : (m : ModuleValue) (nearest : Option ContentValue) (c : ContentV
 refers_to_none m None c = refl
 refers_to_none m (Some d) c = refl
 
-content_used : (m : ModuleValue) (nearest : Option ContentValue) (c : ContentValue) → PlacedParts m.segments m.commons c → body_fault m nearest (content_body c) ≡ None
+content_used : (m : ModuleValue) (nearest : Option ContentValue) (c : ContentValue) → InBoundsParts m.segments m.commons c → body_fault m nearest (content_body c) ≡ None
 content_used m nearest c p =
     let outside = if nat_lt (end_of m.segments c.segment) (c.offset + length c.bytes) then Some OffsetOutside else None in
     ap (λ (o : Option Cause). option_or o (option_or (place_fault m (content_body c)) (reference_fault m nearest (content_body c)))) (known m c.segment p.has)
@@ -254,8 +254,8 @@ contents_pass m commons nearest [] sound = record {
 }
 contents_pass m commons nearest (c ∷ cs) sound =
     let p = and_parts (is_content m.segments m.commons (length m.externals) c) (list_all (is_content m.segments m.commons (length m.externals)) cs) sound in
-    let q = and_parts (is_placed m.segments m.commons c) (has_fitting m.commons (length m.externals) c) p.0 in
-    let placed = placed_parts m.segments m.commons c q.0 in
+    let q = and_parts (is_in_bounds m.segments m.commons c) (has_fitting m.commons (length m.externals) c) p.0 in
+    let placed = in_bounds_parts m.segments m.commons c q.0 in
     passes_more m commons commons [] [] [] nearest (Some (unreferred c)) (content_body c) (map (fixup_body c.segment) c.fixups ++ flat_map content_bodies cs) (only (c ∷ cs)) (append-nil commons)
     record { fits = content_fits c placed.short; used = content_used m nearest c placed; follow = refl; commons = refl; publics = refl; externals = refl; next = refl }
     (fixups_pass m commons (unreferred c) c.fixups (flat_map content_bodies cs) (only (c ∷ cs)) q.1 (contents_pass m commons (Some c) cs p.1))

@@ -50,8 +50,8 @@ lies_within segments commons c =
     has_segment commons c.segment && not (c.segment == 3) && nat_le (c.offset + length c.bytes) (end_of segments c.segment)
 
 -- and fits one record of a file
-abbrev pub is_placed : List (ℕ × Segment) → List Common → ContentValue → Bool
-is_placed segments commons c = lies_within segments commons c && nat_le (length c.bytes) 65531
+abbrev pub is_in_bounds : List (ℕ × Segment) → List Common → ContentValue → Bool
+is_in_bounds segments commons c = lies_within segments commons c && nat_le (length c.bytes) 65531
 
 -- its references are each in its own bytes, apart from those before, and to what is there
 abbrev pub has_fitting : List Common → ℕ → ContentValue → Bool
@@ -60,7 +60,7 @@ has_fitting commons externals c = each_after (is_fitting commons externals c.off
 -- what is asked of a content
 abbrev pub is_content : List (ℕ × Segment) → List Common → ℕ → ContentValue → Bool
 is_content segments commons externals c =
-    is_placed segments commons c && has_fitting commons externals c
+    is_in_bounds segments commons c && has_fitting commons externals c
 
 -- the start, if there is one, is in a segment that the module has
 abbrev pub is_start : List Common → Option (ℕ × ℕ) → Bool
@@ -85,7 +85,7 @@ keeps_rules_but_for_fixups m =
     each_after (is_new_entry m.commons) [] m.segments
     && each_after is_new_common [] m.commons
     && list_all (λ p. has_segment m.commons p.segment) m.publics
-    && list_all (is_placed m.segments m.commons) m.contents
+    && list_all (is_in_bounds m.segments m.commons) m.contents
     && is_start m.commons m.start
 
 -- the rules of references

@@ -3,7 +3,7 @@
 ghost use Rattle.std.specs.Prelude.{◌≡◌, ℕ, ◌+◌, length, IfOk};
 ghost use Rattle.std.specs.List.{list_all};
 ghost use Rattle.omf_module.specs.Segments.{names_common, has_segment, segment_in};
-ghost use Rattle.omf_module.specs.Rules.{end_of, is_placed, has_fitting, is_start, keeps_rules_but_for_fixups, keeps_fixup_rules};
+ghost use Rattle.omf_module.specs.Rules.{end_of, is_in_bounds, has_fitting, is_start, keeps_rules_but_for_fixups, keeps_fixup_rules};
 
 use crate::content::Content;
 use crate::distinct::{are_commons, are_entries};
@@ -57,8 +57,8 @@ pub(crate) fn end_of(segments: &[(u8, Segment)], id: u8) -> usize
     }
 }
 
-fn is_placed(segments: &[(u8, Segment)], commons: &[Common], content: &Content) -> bool
-    ensures { result ≡ is_placed segments.now commons.now content.now }
+fn is_in_bounds(segments: &[(u8, Segment)], commons: &[Common], content: &Content) -> bool
+    ensures { result ≡ is_in_bounds segments.now commons.now content.now }
 {
     has_segment(commons, content.segment)
         && content.segment != STACK
@@ -68,9 +68,9 @@ fn is_placed(segments: &[(u8, Segment)], commons: &[Common], content: &Content) 
 
 /// Whether each content lies where it may.
 fn are_placed(segments: &[(u8, Segment)], commons: &[Common], contents: &[Content]) -> bool
-    ensures { result ≡ list_all (is_placed segments.now commons.now) contents.now }
+    ensures { result ≡ list_all (is_in_bounds segments.now commons.now) contents.now }
 {
-    contents.iter().all(|c| is_placed(segments, commons, c))
+    contents.iter().all(|c| is_in_bounds(segments, commons, c))
 }
 
 fn are_publics(commons: &[Common], publics: &[Public]) -> bool

@@ -11,7 +11,7 @@ use Rattle.omf_body.specs.declared.field.Field.TheVariants.{Low, High, Both}
 use Rattle.omf_module.specs.declared.fixup.Fixup.{Fixup}
 use Rattle.omf_module.specs.Contents.{ContentValue, offsets_by, offsets_of, is_among, is_inside, is_taken, shares_a_byte}
 use Rattle.omf_relocation.specs.Patches.{is_inside_bytes, are_inside, meets, are_apart}
-use Rattle.omf_module.specs.Rules.{each_after, is_fitting, has_target, is_placed, is_content}
+use Rattle.omf_module.specs.Rules.{each_after, is_fitting, has_target, is_in_bounds, is_content}
 use Rattle.omf_relocation.specs.SoundModules.{as_patch}
 use Rattle.omf_relocation.proofs.AfterLemmas.{all_after, all_after_one, rest_after, none_at, not_true}
 
@@ -147,7 +147,7 @@ fixups_apart commons externals first size word before (f ∷ fs) fits =
 
 fits_of : (segments : List (ℕ × Segment)) (commons : List Common) (externals : ℕ) (c : ContentValue) → IsTrue (is_content segments commons externals c) →
     IsTrue (each_after (is_fitting commons externals c.offset (length c.bytes)) [] c.fixups)
-fits_of segments commons externals c good = (and_parts (is_placed segments commons c) (each_after (is_fitting commons externals c.offset (length c.bytes)) [] c.fixups) good).1
+fits_of segments commons externals c good = (and_parts (is_in_bounds segments commons c) (each_after (is_fitting commons externals c.offset (length c.bytes)) [] c.fixups) good).1
 
 -- the references of a content are inside its bytes as patches, and share none of them
 pub content_inside : (segments : List (ℕ × Segment)) (commons : List Common) (externals : ℕ) (c : ContentValue) (word : Fixup → ℕ) → IsTrue (is_content segments commons externals c) →

@@ -9,7 +9,7 @@ use Rattle.omf_module.specs.declared.symbols.Common.{Common}
 use Rattle.omf_module.specs.Contents.{ContentValue}
 use Rattle.omf_module.specs.Segments.{is_common_id, names_common, has_segment}
 use Rattle.omf_module.specs.Modules.{ModuleValue}
-use Rattle.omf_module.specs.Rules.{each_after, is_new_common, is_fitting, has_target, is_placed, is_content, end_of, is_start, is_sound}
+use Rattle.omf_module.specs.Rules.{each_after, is_new_common, is_fitting, has_target, is_in_bounds, is_content, end_of, is_start, is_sound}
 use Rattle.omf_relocation.specs.SoundModules.{LiesIn, HasItsFixups, SoundModulesKeepRules}
 use Rattle.omf_relocation.proofs.FixupLemmas.{content_above, content_inside, content_apart, content_targets}
 use Rattle.omf_relocation.proofs.AfterLemmas.{all_after, not_true}
@@ -71,7 +71,7 @@ content_lies m c good =
     let other : Bool = not (c.segment == 3) in
     let inside : Bool = nat_le (c.offset + length c.bytes) (end_of segments c.segment) in
     let short : Bool = nat_le (length c.bytes) 65531 in
-    let last = and_parts (has && other && inside) short (and_parts (is_placed segments commons c) (each_after (is_fitting commons externals c.offset (length c.bytes)) [] c.fixups) good).0 in
+    let last = and_parts (has && other && inside) short (and_parts (is_in_bounds segments commons c) (each_after (is_fitting commons externals c.offset (length c.bytes)) [] c.fixups) good).0 in
     let third = and_parts (has && other) inside last.0 in
     let first = and_parts has other third.0 in
     record {
@@ -91,7 +91,7 @@ from_tests test P gives (x ∷ xs) all =
 
 content_fixups : (m : ModuleValue) (c : ContentValue) → IsTrue (is_content m.segments m.commons (length m.externals) c) → HasItsFixups m c
 content_fixups m c good = record {
-  fitting = (and_parts (is_placed m.segments m.commons c) (each_after (is_fitting m.commons (length m.externals) c.offset (length c.bytes)) [] c.fixups) good).1;
+  fitting = (and_parts (is_in_bounds m.segments m.commons c) (each_after (is_fitting m.commons (length m.externals) c.offset (length c.bytes)) [] c.fixups) good).1;
   begin = from_tests (λ f. nat_le c.offset f.offset) (λ f. c.offset ≤ f.offset) (λ f h. leb-true c.offset f.offset h) c.fixups (content_above m.segments m.commons (length m.externals) c good);
   targets = from_tests (λ f. has_target m.commons (length m.externals) f.target) (λ f. IsTrue (has_target m.commons (length m.externals) f.target)) (λ f h. h) c.fixups (content_targets m.segments m.commons (length m.externals) c good);
   inside = λ word. content_inside m.segments m.commons (length m.externals) c word good;

@@ -8,7 +8,7 @@ use Rattle.omf_module.specs.declared.segment.Segment.{Segment}
 use Rattle.omf_module.specs.Contents.{ContentValue}
 use Rattle.omf_module.specs.Segments.{entries_for, listed_ids, in_one_form, has_segment}
 use Rattle.omf_module.specs.Modules.{ModuleValue, made_of}
-use Rattle.omf_module.specs.Rules.{IsModule, keeps_rules, is_content, is_placed, is_fitting, is_start, each_after, is_new_common, end_of}
+use Rattle.omf_module.specs.Rules.{IsModule, keeps_rules, is_content, is_in_bounds, is_fitting, is_start, each_after, is_new_common, end_of}
 use Rattle.omf_module.specs.declared.fault.Cause.{Cause}
 use Rattle.omf_module.specs.declared.fault.Cause.TheVariants.{Record, NoHeader, UnknownKind, BadBody, BadName, SegmentUnknown, OffsetOutside, FixupBeforeContent, FixupOutside, FixupTwice, IndexUnknown, NoEnd, Memory}
 use Rattle.omf_module.specs.declared.fault.ModuleFault.{ModuleFault}
@@ -37,7 +37,7 @@ both false b e f = absurd cc
 
 -- a chunk keeps the rules of a content
 content_placed : (chunk : PlacedBytes) → IsChunk chunk → is_content [] [] 0 (chunk_content chunk) ≡ true
-content_placed chunk w = both (is_placed [] [] (chunk_content chunk)) true (both (nat_le (chunk.address + length chunk.bytes) 65536) (nat_le (length chunk.bytes) 65531) (le-leb (chunk.address + length chunk.bytes) 65536 w.in_memory) (le-leb (length chunk.bytes) 65531 w.in_record)) refl
+content_placed chunk w = both (is_in_bounds [] [] (chunk_content chunk)) true (both (nat_le (chunk.address + length chunk.bytes) 65536) (nat_le (length chunk.bytes) 65531) (le-leb (chunk.address + length chunk.bytes) 65536 w.in_memory) (le-leb (length chunk.bytes) 65531 w.in_record)) refl
 
 contents_placed : (chunks : List PlacedBytes) → AllByRecursion IsChunk chunks → list_all (is_content [] [] 0) (map chunk_content chunks) ≡ true
 contents_placed [] w = refl
@@ -146,7 +146,7 @@ fault_of_file bytes fault (inr x) real = by_fault fault.cause refl
 content_is_chunk : (m : ModuleValue) (content : ContentValue) → is_absolute_content content ≡ true → is_content m.segments m.commons (length m.externals) content ≡ true → IsChunk (content_chunk content)
 content_is_chunk m content absolute kept =
     let own : content.segment ≡ 0 = eqb-true content.segment 0 (and_parts (content.segment == 0) (length content.fixups == 0) absolute).0 in
-    let placed = (and_parts (is_placed m.segments m.commons content) (each_after (is_fitting m.commons (length m.externals) content.offset (length content.bytes)) [] content.fixups) kept).0 in
+    let placed = (and_parts (is_in_bounds m.segments m.commons content) (each_after (is_fitting m.commons (length m.externals) content.offset (length content.bytes)) [] content.fixups) kept).0 in
     let p = and_parts (has_segment m.commons content.segment && not (content.segment == 3) && nat_le (content.offset + length content.bytes) (end_of m.segments content.segment)) (nat_le (length content.bytes) 65531) placed in
     let q = and_parts (has_segment m.commons content.segment && not (content.segment == 3)) (nat_le (content.offset + length content.bytes) (end_of m.segments content.segment)) p.0 in
     record {
