@@ -67,7 +67,7 @@ fn is_in_bounds(segments: &[(u8, Segment)], commons: &[Common], content: &Conten
 }
 
 /// Whether each content lies where it may.
-fn are_placed(segments: &[(u8, Segment)], commons: &[Common], contents: &[Content]) -> bool
+fn are_in_bounds(segments: &[(u8, Segment)], commons: &[Common], contents: &[Content]) -> bool
     ensures { result ≡ list_all (is_in_bounds segments.now commons.now) contents.now }
 {
     contents.iter().all(|c| is_in_bounds(segments, commons, c))
@@ -97,7 +97,7 @@ pub(crate) fn keeps_rules_but_for_fixups(parts: &Parts) -> bool
     are_entries(commons, segments)
         && are_commons(commons)
         && are_publics(commons, &parts.publics)
-        && are_placed(segments, commons, &parts.contents)
+        && are_in_bounds(segments, commons, &parts.contents)
         && is_start(commons, parts.start)
 }
 
