@@ -5,11 +5,12 @@ ghost use Rattle.place80.specs.Image.{memory_of};
 ghost use Rattle.machine80.specs.Ports.{has_room};
 ghost use Rattle.machine80.specs.Step.{machine, refusals_at};
 ghost use Rattle.machine80.specs.World.{world_at_start, IsProperEnd};
-ghost use Rattle.machine80.specs.Run.{IsRun, Agrees};
+ghost use Rattle.quick80.specs.Run.{IsRun, Agrees};
 
 use crate::vouched::Vouched;
-use machine80::laws::images_that_never_go_wrong_stay_right;
-use machine80::{Bus, Cpu, End, Ports, quick_advance};
+use machine80::{Bus, Cpu, End, Ports};
+use quick80::laws::images_that_never_go_wrong_stay_right;
+use quick80::quick_advance;
 
 /// How a run ended.
 #[derive(Clone, Copy, Debug, PartialEq, Eq)]
@@ -24,7 +25,7 @@ pub struct Ended {
 
 /// Runs a vouched image for so many steps at most, from its start.
 ///
-/// It makes [quick steps](machine80::quick_step), which leave out the checks that the verifier has made needless.
+/// It makes [quick steps](quick80::quick_step), which leave out the checks that the verifier has made needless.
 ///
 /// The bus holds the image's content, and the count of refused outputs is below the greatest `u64`. It is one higher
 /// after [`End::OutputRefused`], and stays otherwise.
@@ -51,7 +52,7 @@ pub fn run<B: Bus, P: Ports>(vouched: &Vouched, bus: &mut B, ports: &mut P, step
     images_that_never_go_wrong_stay_right();
     let image = vouched.image();
     let mut cpu = Cpu::start(image.start, &image.regions);
-    let advanced = quick_advance(&mut cpu, bus, ports, &image.regions, steps);
+    let advanced = quick_advance(&mut cpu, bus, ports, &image.regions, vouched.map(), steps);
     Ended {
         end: advanced.end,
         steps: advanced.steps,

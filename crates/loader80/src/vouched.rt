@@ -7,9 +7,9 @@ ghost use Rattle.machine80.specs.World.{NeverGoesWrong};
 ghost use Rattle.verify80.specs.Looking.{code_of};
 ghost use Rattle.loader80.specs.Vouched.{IsVouched};
 
-use place80::Image;
+use place80::{Image, RegionMap};
 use soundness80::fitted_images_never_go_wrong;
-use std::alloc::Global;
+use std::alloc::{AllocError, Global};
 use std::marker::Model;
 use verify80::{ProcRow, Refusal, Report, verify};
 
@@ -19,36 +19,42 @@ use verify80::{ProcRow, Refusal, Report, verify};
 #[derive(Drop)]
 pub struct Vouched {
     image: Image,
+    map: RegionMap,
     stack_bytes: u64,
     rows: Vec<ProcRow>,
 }
 
 impl Model for Vouched {
+    ghost use Rattle.std.specs.Prelude.{◌×◌};
+    ghost use Rattle.place80.specs.RegionMap.{Maps};
     ghost use Rattle.loader80.specs.Vouched.{IsVouched, Voucher};
 
     ghost Value = { Voucher };
 
     ghost view = { λ v. record { image = v.image; stack_bytes = v.stack_bytes; rows = v.rows.items } };
 
-    ghost invariant = { λ v. IsVouched v.image v.rows.items v.stack_bytes };
+    ghost invariant = { λ v. IsVouched v.image v.rows.items v.stack_bytes × Maps v.image.regions v.map };
 }
 
 impl Vouched {
     ghost use Rattle.std.specs.Prelude.{◌≡◌, ◌≤◌};
     ghost use Rattle.machine80.specs.World.{NeverGoesWrong};
     ghost use Rattle.flow80.specs.Accepted.{IsAccepted};
+    ghost use Rattle.place80.specs.RegionMap.{Maps};
     ghost use Rattle.verify80.specs.Looking.{code_of};
     ghost use Rattle.loader80.specs.Vouched.{IsVouched};
 
     /// An image that is accepted with this report.
-    fn new(image: Image, report: Report) -> Vouched
-        requires { IsAccepted (code_of image) report.procedures.items report.stack_bytes }
+    fn new(image: Image, map: RegionMap, report: Report) -> Vouched
+        requires accepted { IsAccepted (code_of image) report.procedures.items report.stack_bytes }
+        requires maps { Maps image.regions map }
         ensures image { result.image ≡ image }
         ensures vouched { IsVouched image result.rows result.stack_bytes }
     {
         runs_as_verified(&image);
         Vouched {
             image,
+            map,
             stack_bytes: report.stack_bytes,
             rows: report.procedures,
         }
@@ -60,6 +66,13 @@ impl Vouched {
         ensures vouched { IsVouched self.now.image self.now.rows self.now.stack_bytes }
     {
         &self.image
+    }
+
+    /// Which region each address of the image is in.
+    pub(crate) fn map(&self) -> &RegionMap
+        ensures { Maps self.now.image.regions result.now }
+    {
+        &self.map
     }
 
     /// The number of bytes below the stack's top that the program touches as stack at most.
@@ -106,9 +119,13 @@ pub fn vouch(alloc: Global, image: Image) -> Result<Vouched, (Image, Refusal)>
     ensures handed_back { IfErr result (λ refused. refused.0 ≡ image) }
     ensures refused { IfErr result (λ refused. Holds (code_of image) refused.1) }
 {
-    match verify(alloc, &image) {
-        Ok(report) => Ok(Vouched::new(image, report)),
-        Err(refusal) => Err((image, refusal)),
+    let report = match verify(alloc, &image) {
+        Ok(report) => report,
+        Err(refusal) => return Err((image, refusal)),
+    };
+    match RegionMap::new(alloc, &image.regions) {
+        Ok(map) => Ok(Vouched::new(image, map, report)),
+        Err(AllocError) => Err((image, Refusal::Memory)),
     }
 }
 

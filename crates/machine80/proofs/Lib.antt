@@ -3,8 +3,5 @@ pub mod DecimalLemmas
 pub mod FlagsLemmas
 pub mod PortsLemmas
 pub mod Queues
-pub mod QuickLemmas
-pub mod QuickArms
-pub mod Running
 pub mod Spans
 pub mod Tables

@@ -9,5 +9,3 @@ pub mod Effects
 pub mod Kinds
 pub mod Step
 pub mod World
-pub mod Quick
-pub mod Run

@@ -105,7 +105,7 @@ impl Cpu {
 
     /// Puts an answer into the accumulator and the flags.
     #[inline]
-    pub(crate) fn put(&mut self, answer: Answer)
+    pub fn put(&mut self, answer: Answer)
         ensures { self.new ≡ with_answer self.old answer }
     {
         self.registers.a = answer.value;
@@ -114,7 +114,7 @@ impl Cpu {
 
     /// Puts an answer into a register and the flags.
     #[inline]
-    pub(crate) fn put_in(&mut self, register: Register, answer: Answer)
+    pub fn put_in(&mut self, register: Register, answer: Answer)
         ensures { self.new ≡ with_register_answer self.old register answer }
     {
         self.registers.assign(register, answer.value);
@@ -123,7 +123,7 @@ impl Cpu {
 
     /// Adds a word to HL.
     #[inline(always)]
-    pub(crate) fn add(&mut self, word: u16)
+    pub fn add(&mut self, word: u16)
         ensures { self.new ≡ with_sum self.old (hl_of self.old.registers) word }
     {
         let (sum, flags) = add_pairs(self.registers.hl(), word, self.registers.flags);

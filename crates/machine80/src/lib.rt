@@ -1,8 +1,7 @@
 //! One step of the 8080, over any memory and any ports.
 #![tactic(auto)]
 
-mod advancing;
-mod alu;
+pub mod alu;
 mod bus;
 mod cpu;
 mod end;
@@ -15,20 +14,12 @@ mod inputs;
 pub mod laws;
 mod list_ports;
 mod ports;
-mod quick;
-mod quick_advancing;
-mod quick_stepping;
 mod registers;
 mod stack;
 mod stepping;
 mod stores;
-mod words;
+pub mod words;
 
-pub use advancing::{Advanced, advance};
-pub use alu::{
-    Answer, add_pairs, complement, complement_carry, decimal_adjust, decrement, increment, operate,
-    rotate, set_carry,
-};
 pub use bus::Bus;
 pub use cpu::Cpu;
 pub use end::End;
@@ -38,7 +29,5 @@ pub use flat_bus::FlatBus;
 pub use inputs::Inputs;
 pub use list_ports::ListPorts;
 pub use ports::{PortRefused, Ports};
-pub use quick_advancing::quick_advance;
-pub use quick_stepping::quick_step;
 pub use registers::Registers;
 pub use stepping::step;

@@ -9,7 +9,7 @@ use decode80::{ahead, behind};
 
 /// The word at an address and the one after it, low byte first.
 #[inline]
-pub(crate) fn load_word<B: Bus>(bus: &B, address: u16) -> u16
+pub fn load_word<B: Bus>(bus: &B, address: u16) -> u16
     ensures { result ≡ word_in (B.memory bus.now) address }
 {
     u16::from_be_bytes([bus.load(ahead(address, 1)), bus.load(address)])
@@ -17,7 +17,7 @@ pub(crate) fn load_word<B: Bus>(bus: &B, address: u16) -> u16
 
 /// Writes a high and a low byte below the stack pointer.
 #[inline]
-pub(crate) fn push<B: Bus>(bus: &mut B, sp: u16, high: u8, low: u8)
+pub fn push<B: Bus>(bus: &mut B, sp: u16, high: u8, low: u8)
     ensures { B.memory bus.new ≡ stored (B.memory bus.old) (push_bytes sp high low) }
 {
     bus.store(behind(sp, 1), high);
@@ -26,7 +26,7 @@ pub(crate) fn push<B: Bus>(bus: &mut B, sp: u16, high: u8, low: u8)
 
 /// Writes a word below the stack pointer, the high byte first.
 #[inline]
-pub(crate) fn push_word<B: Bus>(bus: &mut B, sp: u16, word: u16)
+pub fn push_word<B: Bus>(bus: &mut B, sp: u16, word: u16)
     ensures { B.memory bus.new ≡ stored (B.memory bus.old) (push_bytes sp (word / 256) (word % 256)) }
 {
     let [high, low] = word.to_be_bytes();

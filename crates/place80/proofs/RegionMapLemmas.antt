@@ -59,8 +59,8 @@ maps areas zeros first second rules none code data' =
     data'.marks address
     ∙ ap (λ (old : ℕ). if in_data areas address then 2 else old) (code.marks address ∙ ap (λ (old : ℕ). if in_code areas address then 1 else old) (none address)) in
     record {
-      code = λ address _. ap (λ (n : ℕ). n == 1) (mark address) ∙ code_is (in_code areas address) (in_data areas address) (code_is_not_data areas address rules);
-      data_ranges = λ address _. ap (λ (n : ℕ). n == 2) (mark address) ∙ data_is (in_code areas address) (in_data areas address);
+      code = λ address. ap (λ (n : ℕ). n == 1) (mark address) ∙ code_is (in_code areas address) (in_data areas address) (code_is_not_data areas address rules);
+      data_ranges = λ address. ap (λ (n : ℕ). n == 2) (mark address) ∙ data_is (in_code areas address) (in_data areas address);
     }
 
 -- the ranges of regions lie in memory

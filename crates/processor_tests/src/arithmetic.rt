@@ -1,9 +1,10 @@
 //! The arithmetic against an outside 8080 core.
 
 use decode80::{Operation, Rotation};
-use machine80::{
-    Answer, Flags, add_pairs, complement, complement_carry, decimal_adjust, decrement, increment,
-    operate, rotate, set_carry,
+use machine80::Flags;
+use machine80::alu::{
+    Answer, add_pairs, complement, complement_carry, decimal_adjust, decrement, increment, operate,
+    rotate, set_carry,
 };
 use std::process::Abort;
 use std::test::Fail;

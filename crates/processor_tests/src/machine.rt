@@ -1,6 +1,6 @@
 //! Programs with their ends, ports that are lists, and a new memory.
 
-use machine80::{Bus, Cpu, End, FlatBus, Inputs, ListPorts, PortRefused, Ports, advance, step};
+use machine80::{Bus, Cpu, End, FlatBus, Inputs, ListPorts, PortRefused, Ports, step};
 use omf_core::Name;
 use place80::{Image, Regions, read_image, read_regions};
 use std::alloc::{AllocError, Global};
@@ -59,17 +59,15 @@ fn new_board(alloc: Global, regions: &[u8], start: u16, bytes: &[u8]) -> Result<
 fn goes_as_said(alloc: Global, program: &Program) -> Result<bool, Fail> {
     let mut board = new_board(alloc, program.regions, program.start, program.bytes)?;
     let mut ports = ListPorts::new(alloc, no_inputs(alloc), 8);
-    let advanced = advance(
-        &mut board.cpu,
-        &mut board.bus,
-        &mut ports,
-        &board.regions,
-        100,
-    );
-    if ports.refusals() > 0 {
-        return Err(Fail::from(NO_MEMORY));
+    let (mut end, mut steps) = (None, 0);
+    while end.is_none() && steps < 100 {
+        end = step(&mut board.cpu, &mut board.bus, &mut ports, &board.regions);
+        steps += 1;
+        if ports.refusals() > 0 {
+            return Err(Fail::from(NO_MEMORY));
+        }
     }
-    let ends = (advanced.end, advanced.steps, board.cpu.pc(), board.cpu.sp());
+    let ends = (end, steps, board.cpu.pc(), board.cpu.sp());
     Ok(ends == program.ends && ports.outputs() == program.shows)
 }
 

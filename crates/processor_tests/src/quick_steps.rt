@@ -1,11 +1,12 @@
 //! A quick step is the step: both are made from the same states, and must leave the same.
 
+ghost use Rattle.place80.specs.RegionMap.{Maps};
+
 use decode80::length_of;
-use machine80::{
-    Bus, Cpu, End, Flags, FlatBus, Inputs, ListPorts, Ports, Registers, quick_step, step,
-};
+use machine80::{Bus, Cpu, End, Flags, FlatBus, Inputs, ListPorts, Ports, Registers, step};
 use omf_core::Name;
-use place80::{Image, Regions, read_regions};
+use place80::{Image, RegionMap, Regions, read_regions};
+use quick80::quick_step;
 use std::alloc::Global;
 use std::test::Fail;
 
@@ -23,12 +24,11 @@ static SETS: [[u8; 7]; 4] = [
 /// The flags: none, each alone, CY with AC, all.
 static FLAGS: [u8; 8] = [0x00, 0x01, 0x04, 0x10, 0x40, 0x80, 0x11, 0xD5];
 
-/// Two machines in the same state, one for each kind of step.
+/// Two memories with the same bytes, one for each kind of step.
 #[derive(Drop)]
 struct Pair {
     slow: FlatBus,
     quick: FlatBus,
-    regions: Regions,
 }
 
 fn new_bus(alloc: Global) -> Result<FlatBus, Fail> {
@@ -45,7 +45,6 @@ fn new_pair(alloc: Global) -> Result<Pair, Fail> {
     Ok(Pair {
         slow: new_bus(alloc)?,
         quick: new_bus(alloc)?,
-        regions: read_regions(alloc, REGIONS)?,
     })
 }
 
@@ -97,12 +96,21 @@ fn put(pair: &mut Pair, opcode: u8, pc: u16) {
 
 /// Whether both steps from a state come to the same end, registers, outputs and inputs, where ports of this kind have an input byte
 /// or none, and room for one output or for none.
-fn steps_agree(alloc: Global, pair: &mut Pair, before: Cpu, kind: usize) -> Result<bool, Fail> {
+fn steps_agree(
+    alloc: Global,
+    pair: &mut Pair,
+    regions: &Regions,
+    map: &RegionMap,
+    before: Cpu,
+    kind: usize,
+) -> Result<bool, Fail>
+    requires { Maps regions.now map.now }
+{
     let (mut cpu, mut quick) = (before, before);
     let mut ports = ListPorts::new(alloc, inputs(alloc, kind)?, kind / 2 % 2);
     let mut quick_ports = ListPorts::new(alloc, inputs(alloc, kind)?, kind / 2 % 2);
-    let end = step(&mut cpu, &mut pair.slow, &mut ports, &pair.regions);
-    let quick_end = quick_step(&mut quick, &mut pair.quick, &mut quick_ports, &pair.regions);
+    let end = step(&mut cpu, &mut pair.slow, &mut ports, regions);
+    let quick_end = quick_step(&mut quick, &mut pair.quick, &mut quick_ports, regions, map);
     Ok(
         end == quick_end
             && cpu == quick
@@ -112,11 +120,20 @@ fn steps_agree(alloc: Global, pair: &mut Pair, before: Cpu, kind: usize) -> Resu
 }
 
 /// Whether both steps of an instruction agree, from each state, and leave the same memory.
-fn all_agree(alloc: Global, pair: &mut Pair, opcode: u8, pc: u16) -> Result<bool, Fail> {
+fn all_agree(
+    alloc: Global,
+    pair: &mut Pair,
+    regions: &Regions,
+    map: &RegionMap,
+    opcode: u8,
+    pc: u16,
+) -> Result<bool, Fail>
+    requires { Maps regions.now map.now }
+{
     for set in &SETS {
         for (kind, flags) in FLAGS.iter().enumerate() {
             put(pair, opcode, pc);
-            if !steps_agree(alloc, pair, state(set, *flags, pc), kind)? {
+            if !steps_agree(alloc, pair, regions, map, state(set, *flags, pc), kind)? {
                 return Ok(false);
             }
         }
@@ -128,13 +145,15 @@ fn all_agree(alloc: Global, pair: &mut Pair, opcode: u8, pc: u16) -> Result<bool
 #[test]
 fn every_opcode_agrees(rt: HostRuntime) -> Result<(), Fail> {
     let mut pair = new_pair(rt.alloc())?;
+    let regions = read_regions(rt.alloc(), REGIONS)?;
+    let map = RegionMap::new(rt.alloc(), &regions)?;
     for opcode in 0..=255u8 {
         let Some(length) = length_of(opcode) else {
             continue;
         };
         for pc in [0xF100, (65536 - length) as u16] {
             assert!(rt;
-                all_agree(rt.alloc(), &mut pair, opcode, pc)?,
+                all_agree(rt.alloc(), &mut pair, &regions, &map, opcode, pc)?,
                 "{} at {}",
                 opcode,
                 pc
