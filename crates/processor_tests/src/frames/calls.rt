@@ -18,9 +18,9 @@ static CALLS: [(Role, Parts, u32, u32, Parts); 2] = [
 #[test]
 fn a_call_comes_back(rt: HostRuntime) -> Result<(), Fail> {
     for (role, before, wants, takes, back) in &CALLS {
-        let came = called(&rt, rt.alloc(), *role, before, *wants, *takes)?;
+        let came = called(&rt, rt.alloc(), *role, before, *wants, *takes)??;
         let wanted = frame_of(rt.alloc(), back)?;
-        assert!(rt; matches!(&came, Ok(frame) if *frame == wanted));
+        assert!(rt; came == wanted);
     }
     Ok(())
 }

@@ -46,10 +46,10 @@ static CHANGES: [(Role, [u8; 3], Parts, Parts); 24] = [
 #[test]
 fn frames_change(rt: HostRuntime) -> Result<(), Fail> {
     for (role, bytes, before, after) in &CHANGES {
-        let moves = moved(&rt, rt.alloc(), *role, before, *bytes)?;
+        let moves = moved(&rt, rt.alloc(), *role, before, *bytes)??;
         let wanted = frame_of(rt.alloc(), after)?;
         assert!(rt;
-            matches!(&moves, Ok(Moves::On(frame)) if *frame == wanted),
+            matches!(&moves, Moves::On(frame) if *frame == wanted),
             "{bytes:?}"
         );
     }
