@@ -427,11 +427,7 @@ impl Table {
 fn no_exits(alloc: Global) -> Result<Vec<Option<u32>>, AllocError>
     ensures { IfOk result (λ exits. exits.items ≡ replicate 65536 None) }
 {
-    let mut exits = Vec::new(alloc);
-    while exits.len() < 65536 {
-        exits.push(None)?;
-    }
-    Ok(exits)
+    Ok(vec![in alloc; None; 65536]?)
 }
 
 /// The caller's frame after a call of a procedure that takes so many words.
