@@ -1,7 +1,5 @@
 //! A quick step is the step: both are made from the same states, and must leave the same.
 
-ghost use Rattle.place80.specs.RegionMap.{Maps};
-
 use decode80::length_of;
 use machine80::{Bus, Cpu, End, Flags, FlatBus, Inputs, ListPorts, Ports, Registers, step};
 use omf_core::Name;
@@ -103,9 +101,7 @@ fn steps_agree(
     map: &RegionMap,
     before: Cpu,
     kind: usize,
-) -> Result<bool, Fail>
-    requires { Maps regions.now map.now }
-{
+) -> Result<bool, Fail> {
     let (mut cpu, mut quick) = (before, before);
     let mut ports = ListPorts::new(alloc, inputs(alloc, kind)?, kind / 2 % 2);
     let mut quick_ports = ListPorts::new(alloc, inputs(alloc, kind)?, kind / 2 % 2);
@@ -127,9 +123,7 @@ fn all_agree(
     map: &RegionMap,
     opcode: u8,
     pc: u16,
-) -> Result<bool, Fail>
-    requires { Maps regions.now map.now }
-{
+) -> Result<bool, Fail> {
     for set in &SETS {
         for (kind, flags) in FLAGS.iter().enumerate() {
             put(pair, opcode, pc);
