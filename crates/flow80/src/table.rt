@@ -427,7 +427,11 @@ impl Table {
 fn no_exits(alloc: Global) -> Result<Vec<Option<u32>>, AllocError>
     ensures { IfOk result (λ exits. exits.items ≡ replicate 65536 None) }
 {
-    Ok(vec![in alloc; None; 65536]?)
+    let mut exits = Vec::new(alloc);
+    while exits.len() < 65536 {
+        exits.push(None)?;
+    }
+    Ok(exits)
 }
 
 /// The caller's frame after a call of a procedure that takes so many words.
