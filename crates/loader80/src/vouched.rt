@@ -25,7 +25,6 @@ pub struct Vouched {
 }
 
 impl Model for Vouched {
-    ghost use Rattle.std.specs.Prelude.{◌×◌};
     ghost use Rattle.place80.specs.RegionMap.{Maps};
     ghost use Rattle.loader80.specs.Vouched.{IsVouched, Voucher};
 
