@@ -60,12 +60,18 @@ fn goes_as_said(alloc: Global, program: &Program) -> Result<bool, Fail> {
     let mut board = new_board(alloc, program.regions, program.start, program.bytes)?;
     let mut ports = ListPorts::new(alloc, no_inputs(alloc), 8);
     let (mut end, mut steps) = (None, 0);
-    while end.is_none() && steps < 100 {
-        end = step(&mut board.cpu, &mut board.bus, &mut ports, &board.regions);
-        steps += 1;
+    for made in 1..=100 {
         if ports.refusals() > 0 {
             return Err(Fail::from(NO_MEMORY));
         }
+        end = step(&mut board.cpu, &mut board.bus, &mut ports, &board.regions);
+        steps = made;
+        if end.is_some() {
+            break;
+        }
+    }
+    if ports.refusals() > 0 {
+        return Err(Fail::from(NO_MEMORY));
     }
     let ends = (end, steps, board.cpu.pc(), board.cpu.sp());
     Ok(ends == program.ends && ports.outputs() == program.shows)
