@@ -1,4 +1,1 @@
-mod BundleLemmas
-mod BundledLemmas
-mod ListingLemmas
 mod NumberLemmas

@@ -1,6 +1,2 @@
-pub mod BundleText
-pub mod Bundle
-pub mod Fault
-pub mod Listing
 pub mod NumberText
 pub mod LinkedImage

@@ -7,7 +7,6 @@ mod fault_line;
 mod files;
 mod library;
 mod linking;
-pub mod list_text;
 mod listing;
 mod locating;
 pub mod number_text;

@@ -6,15 +6,11 @@
 //! | `commands` | `link`, `locate`, `run`, `list`, `check` and `lib`, with their arguments |
 #![tactic(auto)]
 
-mod bundle_text;
-mod bundling;
 mod commands;
-mod fault;
 pub mod laws;
 
-pub use bundling::{BUNDLE_LIMIT, bundle};
+pub use bundle80::{BUNDLE_LIMIT, BundleFault, bundle};
 use commands::{fail, refuse_arguments, run_command};
-pub use fault::BundleFault;
 use loader80::{Reading, SessionFault, Writing};
 use machine80::End;
 use std::alloc::AllocError;

@@ -3,9 +3,9 @@
 use crate::commands::arguments::path_of;
 use crate::commands::fault_line::{Reported, report_file, report_memory};
 use crate::commands::files::{print, read_whole};
-use crate::commands::list_text::listing;
 use crate::commands::syntax::{Argument, Kind, Syntax};
 use clap::ArgMatches;
+use listing80::listing;
 use place80::{Image, ImageFault, Regions, RegionsFault, read_image, read_regions};
 
 /// The arguments of `list`.

@@ -1,0 +1,2 @@
+mod BundleLemmas
+mod BundledLemmas

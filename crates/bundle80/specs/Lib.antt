@@ -1,0 +1,3 @@
+pub mod BundleText
+pub mod Bundle
+pub mod Fault

@@ -1,0 +1,93 @@
+//! A bundle: one input with an image, regions and inputs, and the transcript of its run.
+
+ghost use Rattle.std.specs.Prelude.{◌≡◌, ℕ, ◌+◌, ◌<◌, ◌≤◌, List, Some, None, length, IfSome, IfNone};
+ghost use Rattle.bundle80.specs.BundleText.{bundle_texts};
+ghost use Rattle.loader80.specs.WholeText.{TakesAtMost};
+ghost use Rattle.loader80.specs.Sends.{AreWithin, IsTooLong};
+ghost use Rattle.bundle80.specs.Bundle.{BundleSends, BundleTooLong, bundle_read_failures, bundle_write_failures, of_session, texts_read};
+
+use crate::bundle_text::part_bundle;
+use crate::fault::BundleFault;
+use loader80::laws::what_is_said_is_sent;
+use loader80::{
+    Failed, Outcome, ReadAllFault, SessionFault, SessionTexts, Sink, Source, TEXT_LIMIT,
+    answer_texts, read_all, write_all,
+};
+use std::alloc::Global;
+
+/// The greatest number of bytes of a bundle whose three parts can be within their limits.
+pub const BUNDLE_LIMIT: usize = 4_194_312;
+
+/// Reads a bundle whole and does with its three parts as a session does.
+///
+/// # Errors
+/// Those of a session on the three parts, where `Read` and `TooLong` are of the bundle itself with the number 1;
+/// and `BadBundle` where it has no three parts.
+pub fn bundle<S: Source, K: Sink>(
+    alloc: Global,
+    input: &mut S,
+    out: &mut K,
+    steps: u64,
+    outputs: usize,
+) -> Result<Outcome, BundleFault>
+    requires input { S.failed input.old < u64.MAX }
+    requires out { K.failed out.old < u64.MAX }
+    ensures sends { (bytes : List ℕ) → S.left input.old ≡ Some bytes → length bytes ≤ BUNDLE_LIMIT → BundleSends outputs steps (bundle_texts bytes) result (K.written out.old) (K.written out.new) }
+    ensures too_long { (bytes : List ℕ) → S.left input.old ≡ Some bytes → BUNDLE_LIMIT < length bytes → BundleTooLong result (K.written out.old) (K.written out.new) }
+    ensures input_failures { S.failed input.new ≡ S.failed input.old + bundle_read_failures result }
+    ensures out_failures { K.failed out.new ≡ K.failed out.old + bundle_write_failures result }
+    ensures taken { TakesAtMost (BUNDLE_LIMIT + 1) (S.left input.old) (S.left input.new) }
+{
+    what_is_said_is_sent();
+    let bytes = match read_all(alloc, input, BUNDLE_LIMIT) {
+        Ok(bytes) => bytes,
+        Err(ReadAllFault::Read) => return Err(BundleFault::Session(SessionFault::Read(1))),
+        Err(ReadAllFault::TooLong) => return Err(BundleFault::Session(SessionFault::TooLong(1))),
+        Err(ReadAllFault::Memory) => return Err(BundleFault::Session(SessionFault::Memory)),
+    };
+    let Ok(parted) = part_bundle(alloc, &bytes) else {
+        return Err(BundleFault::Session(SessionFault::Memory));
+    };
+    let Some(parts) = parted else {
+        return Err(BundleFault::BadBundle);
+    };
+    let texts = SessionTexts {
+        image: &parts.image,
+        regions: parts.regions,
+        inputs: parts.inputs,
+    };
+    if let Some(number) = first_too_long(texts) {
+        return Err(BundleFault::Session(SessionFault::TooLong(number)));
+    }
+    let reply = answer_texts(alloc, texts, steps, outputs);
+    match write_all(out, reply.text.as_bytes()) {
+        Ok(()) => of_session(reply.answer),
+        Err(Failed) => Err(BundleFault::Session(SessionFault::Write)),
+    }
+}
+
+/// The answer of a session as that of a bundle.
+fn of_session(answer: Result<Outcome, SessionFault>) -> Result<Outcome, BundleFault>
+    ensures { result ≡ of_session answer }
+{
+    match answer {
+        Ok(outcome) => Ok(outcome),
+        Err(fault) => Err(BundleFault::Session(fault)),
+    }
+}
+
+/// The number of the first text that is too long.
+fn first_too_long(texts: SessionTexts<'_>) -> Option<u8>
+    ensures within { IfNone result (AreWithin (texts_read texts.entry.image.now texts.entry.regions.now texts.entry.inputs.now)) }
+    ensures first { IfSome result (IsTooLong (texts_read texts.entry.image.now texts.entry.regions.now texts.entry.inputs.now)) }
+{
+    if texts.image.len() > TEXT_LIMIT {
+        Some(1)
+    } else if texts.regions.len() > TEXT_LIMIT {
+        Some(2)
+    } else if texts.inputs.len() > TEXT_LIMIT {
+        Some(3)
+    } else {
+        None
+    }
+}
