@@ -1,11 +1,11 @@
 # plm80: LINK, LOCATE and a verifying loader for 8080 programs.
 #
-#   make run       proves every crate, builds plm80 and runs it on the stored examples; says how far it is
+#   make run       proves every crate, shows its progress, builds plm80 and runs it on the stored examples
 #   make try       shows the transcript of a stored example within a minute or two: plm80 is built without any proof
-#   make install   builds plm80 as `make run` does, and installs it with its manual page, its faults and its completion: make install PREFIX=/usr/local
+#   make install   builds plm80 as `make run` does, and installs it with its manual page, FAULTS.md and its completion for bash: make install PREFIX=/usr/local
 #   make test      proves every crate from nothing and runs every test
 #   make commands  builds plm80 and runs the tests of its commands alone
-#   make faults    runs the tests, and plm80 on the examples, with one call for memory, a read or a write refused
+#   make faults    runs the tests, and plm80 on the examples, refusing one allocation, read or write at a time
 #   make bench     builds plm80 and prints million steps per second and host instructions per step of four programs, its start-up, and what it takes to verify programs, to link modules and to read libraries
 #   make help      prints this
 
@@ -17,7 +17,7 @@ PROGRAM = crates/plm80/out/plm80
 help:
 	@sed -n 's/^#  //p' Makefile
 	@command -v rt > /dev/null || echo "Missing here: rt, of the Rattle kit. Everything needs it: put the kit's bin folder on PATH."
-	@command -v python3 > /dev/null || echo "Missing here: python3. make test and make commands need it."
+	@command -v python3 > /dev/null || echo "Missing here: python3. make test, make commands and make bench need it."
 	@command -v cc > /dev/null || echo "Missing here: cc, a C compiler. make faults needs it, and make test passes over a few cases without it."
 
 need-rt:
