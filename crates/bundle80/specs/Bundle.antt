@@ -14,7 +14,7 @@ abbrev pub texts_read : (image regions inputs : List ℕ) → Texts
 texts_read image regions inputs = record { image = image; regions = regions; inputs = inputs }
 
 -- a bundle of three parts is answered as a session on them, and one without is bad. A read that fails is reported of the
--- bundle itself, and in either case memory may be wanting
+-- bundle itself, and in either case memory may run out
 abbrev pub BundleSends : (limit steps : ℕ) → Option Texts → Result Outcome BundleFault → (old new : Option (List ℕ)) → Type 0
 BundleSends limit steps (Some t) (Ok o) old new = Sends limit steps t (Ok o) old new
 BundleSends limit steps (Some t) (Err (Session (Read k))) old new = (k ≡ 1) × Appends old new []
@@ -25,7 +25,7 @@ BundleSends limit steps None (Err (Session (Read k))) old new = (k ≡ 1) × App
 BundleSends limit steps None (Err (Session Memory)) old new = Appends old new []
 BundleSends limit steps None answer old new = ⊥
 
--- a bundle that is too long is answered so, unless a read fails or memory is wanting before; nothing is written
+-- a bundle that is too long is answered so, unless a read fails or memory runs out before; nothing is written
 abbrev pub BundleTooLong : Result Outcome BundleFault → (old new : Option (List ℕ)) → Type 0
 BundleTooLong (Err (Session (TooLong k))) old new = (k ≡ 1) × Appends old new []
 BundleTooLong (Err (Session (Read k))) old new = (k ≡ 1) × Appends old new []

@@ -13,10 +13,10 @@ text_limit = 1048576
 
 -- why the text of a number is not read
 abbrev pub TextFault : ℕ → Option (List ℕ) → SessionFault → Type 0
-TextFault number told (Read k) = k ≡ number
-TextFault number told (TooLong k) = (k ≡ number) × IfSome told (λ text. text_limit < length text)
-TextFault number told Memory = Unit {0}
-TextFault number told fault = ⊥
+TextFault number left (Read k) = k ≡ number
+TextFault number left (TooLong k) = (k ≡ number) × IfSome left (λ text. text_limit < length text)
+TextFault number left Memory = Unit {0}
+TextFault number left fault = ⊥
 
 -- each text is within the limit
 pub record AreWithin (t : Texts) : Type 0 where

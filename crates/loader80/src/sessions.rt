@@ -62,7 +62,7 @@ pub fn session<A: Source, B: Source, C: Source, K: Sink>(
 /// Reads the text of this number whole.
 fn read_text<S: Source>(alloc: Global, source: &mut S, number: u8) -> Result<Vec<u8>, SessionFault>
     requires countable { S.failed source.old < u64.MAX }
-    ensures whole { IfOk result (λ bytes. IfSome (S.left source.old) (λ told. bytes.items ≡ told)) }
+    ensures whole { IfOk result (λ bytes. IfSome (S.left source.old) (λ text. bytes.items ≡ text)) }
     ensures within { IfOk result (λ bytes. vec_len bytes ≤ TEXT_LIMIT) }
     ensures fault { IfErr result (TextFault number (S.left source.old)) }
     ensures failures { S.failed source.new ≡ S.failed source.old + read_failures_at number result }

@@ -50,10 +50,10 @@ pub fn read_all<S: Source>(
 ) -> Result<Vec<u8>, ReadAllFault>
     requires countable { S.failed source.old < u64.MAX }
     requires bounded { limit < usize.MAX }
-    ensures whole { IfOk result (λ bytes. IfSome (S.left source.old) (λ told. bytes.items ≡ told)) }
+    ensures whole { IfOk result (λ bytes. IfSome (S.left source.old) (λ text. bytes.items ≡ text)) }
     ensures at_end { OnOk result (IsAtEnd (S.left source.new)) }
     ensures within { IfOk result (λ bytes. vec_len bytes ≤ limit) }
-    ensures too_long { result ≡ Err ReadAllFault.TooLong → IfSome (S.left source.old) (λ told. limit < length told) }
+    ensures too_long { result ≡ Err ReadAllFault.TooLong → IfSome (S.left source.old) (λ text. limit < length text) }
     ensures taken { TakesAtMost (limit + 1) (S.left source.old) (S.left source.new) }
     ensures count { S.failed source.new ≡ S.failed source.old + read_all_failures result }
 {

@@ -44,7 +44,7 @@ impl<'a, E: ReadEntry<'a>> Row<'a, E> {
         })
     }
 
-    /// The same entries once more.
+    /// The same entries, from the first one.
     pub fn again(&self) -> Row<'a, E>
         ensures { result ≡ self.now }
     {

@@ -48,7 +48,7 @@ impl Name {
         Ok(Name { bytes })
     }
 
-    /// The same name once more.
+    /// A copy of the name.
     ///
     /// # Errors
     /// `AllocError` only where there is no memory for it.

@@ -10,5 +10,5 @@ pub record AreMarks (marks : List Bool) (first : ℕ) (taken : ℕ → Bool) : T
 
 -- the marks are those of a content of `size` bytes with these references
 pub record IsMarked (marks : List Bool) (first size : ℕ) (fixups : List Fixup) : Type 0 where
-  pub told : AreMarks marks first (is_taken fixups)
+  pub marked : AreMarks marks first (is_taken fixups)
   pub as_many : length marks ≡ size

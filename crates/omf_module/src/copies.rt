@@ -1,4 +1,4 @@
-//! A module once more, and its parts.
+//! Copies of a module's parts.
 
 ghost use Rattle.std.specs.Prelude.{◌≡◌, IfOk};
 
@@ -7,7 +7,7 @@ use crate::symbols::{Common, Public};
 use omf_core::Name;
 use std::alloc::{AllocError, Global};
 
-/// The same names once more.
+/// A copy of the names.
 ///
 /// # Errors
 /// `AllocError` only where there is no memory for them.
@@ -21,7 +21,7 @@ pub fn copy_names(alloc: Global, names: &[Name]) -> Result<Vec<Name>, AllocError
     Ok(copies)
 }
 
-/// The same named commons once more.
+/// A copy of the named commons.
 ///
 /// # Errors
 /// `AllocError` only where there is no memory for them.
@@ -38,7 +38,7 @@ pub fn copy_commons(alloc: Global, commons: &[Common]) -> Result<Vec<Common>, Al
     Ok(copies)
 }
 
-/// The same publics once more.
+/// A copy of the publics.
 ///
 /// # Errors
 /// `AllocError` only where there is no memory for them.
@@ -56,7 +56,7 @@ pub fn copy_publics(alloc: Global, publics: &[Public]) -> Result<Vec<Public>, Al
     Ok(copies)
 }
 
-/// The same contents once more, with their fixups.
+/// A copy of the contents, with their fixups.
 ///
 /// # Errors
 /// `AllocError` only where there is no memory for them.

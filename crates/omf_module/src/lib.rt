@@ -9,7 +9,7 @@
 //! | [`Content`], [`Fixup`], [`Field`], [`Target`] | bytes of a segment, and the references that stand in them |
 //! | [`read_module`], [`read_file`] | the module that begins at a place; the modules of an object file |
 //! | [`write_module`], [`write_file`] | a module as records; modules as an object file |
-//! | [`copy_names`], [`copy_commons`], [`copy_publics`], [`copy_contents`] | the parts of a module once more |
+//! | [`copy_names`], [`copy_commons`], [`copy_publics`], [`copy_contents`] | copies of a module's parts |
 //! | [`laws`] | bytes spell one module or have one first fault, what is written spells its module, segments are kept |
 //! | [`ModuleFault`], [`Cause`], [`PartsFault`] | why bytes, or parts, make no module |
 #![tactic(auto)]

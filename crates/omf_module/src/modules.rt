@@ -105,7 +105,7 @@ impl Module {
         }
     }
 
-    /// The same module once more.
+    /// A copy of the module.
     ///
     /// # Errors
     /// `AllocError` only where there is no memory for it.

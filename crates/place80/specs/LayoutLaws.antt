@@ -61,5 +61,5 @@ pub record Fit (m : ModuleValue) (segments : List Placed) : Type 0 where
   pub absolute_apart : All (λ c. c.segment ≡ 0 → All (AreApart (absolute_place c)) segments) m.contents
 
 -- a layout has no fault exactly where its segments fit
-abbrev pub NothingIsToldWhereSegmentsFit : Type 0
-NothingIsToldWhereSegmentsFit = (options : Options) (m : ModuleValue) → layout_fault options m ≡ None ↔ Fit m (layout_of options m)
+abbrev pub NoFaultWhereSegmentsFit : Type 0
+NoFaultWhereSegmentsFit = (options : Options) (m : ModuleValue) → layout_fault options m ≡ None ↔ Fit m (layout_of options m)

@@ -131,7 +131,7 @@ fn read_program(alloc: Global, bytes: &[u8]) -> Result<AbsoluteProgram, ImageFau
 fn program_of(alloc: Global, program: &Module) -> Result<AbsoluteProgram, ImageFault>
     ensures read { IfOk result (λ read. program_of program.now ≡ Ok read) }
     ensures fault { IfErr result (λ fault. fault ≢ ImageFault.Memory → program_of program.now ≡ Err fault) }
-    ensures told { IfErr result (λ fault. (cause : ImageFault) → program_of program.now ≡ Err cause → fault ≡ cause) }
+    ensures reported { IfErr result (λ fault. (cause : ImageFault) → program_of program.now ≡ Err cause → fault ≡ cause) }
 {
     if !is_absolute(program) {
         return Err(ImageFault::NotAbsolute);

@@ -3,7 +3,7 @@
 ghost use Rattle.std.specs.Prelude.{◌≡◌, ◌≢◌, ℕ, ◌<◌, List, [], ◌∷◌, ◌++◌, length, slice_index, true, false, if◌then◌else◌};
 ghost use Rattle.place80.specs.Image.{PlacedBytes, covers, byte_of, byte_at, memory_of};
 ghost use Rattle.place80.specs.Range.{in_range};
-ghost use Rattle.place80.specs.LayoutLaws.{LayoutIsLaidOut, LaidOutInOneWay, OverlapIsASharedAddress, NothingIsToldWhereSegmentsFit};
+ghost use Rattle.place80.specs.LayoutLaws.{LayoutIsLaidOut, LaidOutInOneWay, OverlapIsASharedAddress, NoFaultWhereSegmentsFit};
 ghost use Rattle.place80.specs.LocatedLaws.{LocatedRegionsHoldSegments};
 ghost use Rattle.place80.specs.Regions.{Areas, AreRegions, in_code, in_data};
 ghost use Rattle.place80.specs.RegionsText.{regions_text, Spells, Refuses};
@@ -77,12 +77,12 @@ pub fn segments_overlap_at_an_address()
 
 /// The places of a program's segments have no fault exactly where they fit: each ends with memory or before it, MEMORY
 /// holds its content, and no address lies in two of them, or in one and in an absolute content.
-pub fn nothing_is_told_where_segments_fit()
-    ensures { NothingIsToldWhereSegmentsFit }
+pub fn no_fault_where_segments_fit()
+    ensures { NoFaultWhereSegmentsFit }
 {}
 
 /// The regions of a located program hold the addresses of its segments: code those of CODE, data those of DATA, MEMORY and all
-/// commons, and the stack those of STACK; and their stack's top is the one that references to STACK are increased by.
+/// commons, and the stack those of STACK; and the top of their stack is the one that references to STACK are relocated by.
 pub fn located_regions_hold_the_segments()
     ensures { LocatedRegionsHoldSegments }
 {}

@@ -8,6 +8,6 @@ use Rattle.omf_module.proofs.marks.are_fitting.Given as goal
 abbrev pub invariant-loop-fixup : goal.invariant-loop-fixup
 invariant-loop-fixup l = record {
   all : each_after (is_fitting l.commons l.externals l.first l.size) (take l.fixup-index l.fixups) (drop l.fixup-index l.fixups) ≡ each_after (is_fitting l.commons l.externals l.first l.size) [] l.fixups;
-  told : AreMarks l.marks.items l.first (is_taken (take l.fixup-index l.fixups));
+  marked : AreMarks l.marks.items l.first (is_taken (take l.fixup-index l.fixups));
   as_many : vec_len l.marks ≡ l.size;
 }
