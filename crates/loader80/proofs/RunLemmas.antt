@@ -8,7 +8,7 @@ use Rattle.machine80.specs.Cpu.{started}
 use Rattle.machine80.specs.declared.end.End.{End}
 use Rattle.machine80.specs.Step.{Machine, machine}
 use Rattle.machine80.specs.World.{world_at_start, IsProperEnd, NeverGoesWrong}
-use Rattle.quick80.specs.Run.{IsRun, Agrees, world_of}
+use Rattle.machine80.specs.Run.{IsRun, Agrees, world_of}
 use Rattle.quick80.specs.Quick.{StaysRight}
 
 -- some number of outputs agrees with each run

@@ -7,7 +7,7 @@ use Rattle.machine80.specs.declared.end.End.{End}
 use Rattle.machine80.specs.Ports.{Lists, has_room}
 use Rattle.machine80.specs.Step.{Machine, refusals_at}
 use Rattle.machine80.specs.World.{world_at_start}
-use Rattle.quick80.specs.Run.{IsRun, Agrees}
+use Rattle.machine80.specs.Run.{IsRun, Agrees}
 use Rattle.loader80.specs.declared.replies.Outcome.{Outcome}
 use Rattle.loader80.specs.Session.{IsTranscript}
 use Rattle.loader80.specs.TranscriptText.{transcript}

@@ -9,7 +9,7 @@ use Rattle.place80.specs.ImageFile.{SpellsImage, FaultsImage, without_regions}
 use Rattle.machine80.specs.Ports.{lists_of}
 use Rattle.machine80.specs.Step.{Machine}
 use Rattle.machine80.specs.World.{world_at_start}
-use Rattle.quick80.specs.Run.{IsRun}
+use Rattle.machine80.specs.Run.{IsRun}
 use Rattle.loader80.specs.declared.replies.Outcome.{Outcome}
 use Rattle.loader80.specs.declared.fault.SessionFault.{SessionFault}
 use Rattle.loader80.specs.declared.fault.SessionFault.TheVariants.{Read, Write, Image, Regions, Inputs, Refused, Memory, TooLong}

@@ -5,7 +5,7 @@ ghost use Rattle.place80.specs.Image.{memory_of};
 ghost use Rattle.machine80.specs.Ports.{has_room};
 ghost use Rattle.machine80.specs.Step.{machine, refusals_at};
 ghost use Rattle.machine80.specs.World.{world_at_start, IsProperEnd};
-ghost use Rattle.quick80.specs.Run.{IsRun, Agrees};
+ghost use Rattle.machine80.specs.Run.{IsRun, Agrees};
 
 use crate::vouched::Vouched;
 use machine80::{Bus, Cpu, End, Ports};

@@ -9,3 +9,4 @@ pub mod Effects
 pub mod Kinds
 pub mod Step
 pub mod World
+pub mod Run

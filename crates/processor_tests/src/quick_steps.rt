@@ -135,16 +135,14 @@ fn all_agree(
     Ok(same_memory(&pair.slow, &pair.quick))
 }
 
-/// Every opcode, with settings of each flag, from each set of registers, in the midst of the code and at the end of memory.
+/// Every first byte, unused ones too, with settings of each flag, from each set of registers, in the midst of the code and at the end of memory.
 #[test]
-fn every_opcode_agrees(rt: HostRuntime) -> Result<(), Fail> {
+fn every_first_byte_agrees(rt: HostRuntime) -> Result<(), Fail> {
     let mut pair = new_pair(rt.alloc())?;
     let regions = read_regions(rt.alloc(), REGIONS)?;
     let map = RegionMap::new(rt.alloc(), &regions)?;
     for opcode in 0..=255u8 {
-        let Some(length) = length_of(opcode) else {
-            continue;
-        };
+        let length = length_of(opcode).unwrap_or(1);
         for pc in [0xF100, (65536 - length) as u16] {
             assert!(rt;
                 all_agree(rt.alloc(), &mut pair, &regions, &map, opcode, pc)?,
