@@ -23,7 +23,7 @@ pub trait Program {
     fn byte(&self, address: u16) -> u8
         ensures { result ≡ held self.now address };
 
-    /// Whether so many bytes from an address on, one to three, are code, and none of them is past FFFF.
+    /// Whether `count` bytes from an address on, one to three, are code, and none of them is past FFFF.
     ///
     /// It asks for each of them; an implementation that knows its ranges can answer at once.
     #[inline]
@@ -83,8 +83,8 @@ pub fn behind(address: u16, bytes: u16) -> u16
 /// The instruction at an address of a program, and the address after it.
 ///
 /// # Errors
-/// [`FetchFault::Outside`] where the address is no code. Else [`FetchFault::Unused`] where its byte begins no instruction,
-/// and [`FetchFault::Outside`] where another byte of the instruction is no code or lies past FFFF.
+/// [`FetchFault::Outside`] where the address isn't code; otherwise [`FetchFault::Unused`] where its byte begins no instruction,
+/// and [`FetchFault::Outside`] where another byte of the instruction isn't code or lies past FFFF.
 #[inline(always)]
 #[tactic(auto, unfolding(crate::specs::Fetch::fetch))]
 pub fn fetch<P: Program>(address: u16, program: &P) -> Result<Fetched, FetchFault>

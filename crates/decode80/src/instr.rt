@@ -75,11 +75,11 @@ pub enum Instr {
     Rotate(Rotation),
     /// DAA: decimal adjust A.
     Daa,
-    /// CMA: turn over the bits of A.
+    /// CMA: complement A.
     Cma,
     /// STC: set the carry.
     Stc,
-    /// CMC: turn over the carry.
+    /// CMC: complement the carry.
     Cmc,
     /// XTHL: exchange HL with the word on top of the stack.
     Xthl,

@@ -1,4 +1,4 @@
--- The numbers and names of the refusals, the addresses that they name, and the refusals for the faults of looks and of frames at an address. (They are this project's own.)
+-- Refusals: their numbers, names and addresses, and those for faults of looks and of frames at an address. (This project's own.)
 use Rattle.std.specs.Prelude.{ℕ, List, Option, Some, None, codes}
 use Rattle.frames80.specs.declared.fault.FrameFault.{FrameFault}
 use Rattle.frames80.specs.declared.fault.FrameFault.TheVariants.{Sphl as FrameSphl, Pchl as FramePchl, StackByByte as FrameStackByByte, SetsStack as FrameSetsStack, PopsBelow as FramePopsBelow, ReturnNotOwn as FrameReturnNotOwn, ReturnFromMain as FrameReturnFromMain, Memory as FrameMemory}

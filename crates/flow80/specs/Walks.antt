@@ -96,7 +96,7 @@ pub record GoesOnAfter (code : Code) (p : Procedure) (f : StackFrame) (taken : �
   pub enough : taken ≤ room (role_of code p) f.words
   pub frame : g ≡ returned taken f
 
--- the walks: at this address of this procedure this frame may be had
+-- the walks: a walk of this procedure can come to this address with this frame
 pub data Walk (code : Code) : Procedure → ℕ → StackFrame → Type 0 where
   begins : (p : Procedure) (at : ℕ) (f : StackFrame) → Begins code p at f → Walk code p at f
   goes_on : (p : Procedure) (at : ℕ) (f : StackFrame) (to : ℕ) (g : StackFrame) →

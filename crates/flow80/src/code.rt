@@ -1,4 +1,4 @@
-//! What the verifier goes by.
+//! A program as the verifier sees it.
 
 ghost use Rattle.std.specs.Prelude.{◌≡◌};
 ghost use Rattle.flow80.specs.Code.{Code as CodeSeen};
@@ -18,7 +18,7 @@ pub enum LookFault {
     DirectStore,
 }
 
-/// A program as the verifier goes by it.
+/// A program as the verifier sees it.
 pub trait Code {
     /// The instruction at each address, the start, and the stack's top and length.
     ghost code: { Self → CodeSeen };

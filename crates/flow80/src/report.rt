@@ -1,4 +1,4 @@
-//! What the verifier finds out of an image that it accepts.
+//! What the verifier finds out about an image that it accepts.
 
 /// A procedure that a call or RST reaches.
 #[derive(Clone, Copy, Debug, PartialEq, Eq)]

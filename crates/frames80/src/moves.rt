@@ -30,9 +30,9 @@ pub enum Moves {
     Call(Frame, u16),
     /// It calls an address or goes on to the next instruction.
     MaybeCall(Frame, u16),
-    /// It returns, with so many words taken from beneath its own.
+    /// It returns, with this many words taken from beneath its own.
     Return(u32),
-    /// It returns, with so many words taken, or goes on to the next instruction.
+    /// It returns, with this many words taken, or goes on to the next instruction.
     MaybeReturn(Frame, u32),
 }
 

@@ -4,7 +4,7 @@
 #[derive(Clone, Copy, Debug, PartialEq, Eq)]
 pub enum Role {
     /// The main program, which starts with an empty stack and has no place to return to. `top` is the address just above
-    /// the stack's first byte, the one word that it may load into the stack pointer.
+    /// the stack, the one word that it may load into the stack pointer.
     Main { top: u16 },
     /// A procedure that a call or RST reaches.
     Entry,

@@ -1,4 +1,4 @@
-//! Contents moved with their parts, with what is known of their references added.
+//! Contents moved with their parts, with their fixups applied as far as their targets are known.
 
 ghost use Rattle.std.specs.Prelude.{◌≡◌, ◌++◌, None, Some, filter_map, length, map, slice_get, IfOk, OnOk, IsTrue};
 ghost use Rattle.std.specs.List.{AllByRecursion};

@@ -5,7 +5,7 @@ use thiserror::Error;
 /// Why modules can't be linked: the first of these that holds, in the order of their numbers, or that memory ran out.
 #[derive(Debug, PartialEq, Eq, Drop, Error)]
 pub enum LinkFault {
-    /// The first public, by module and then by record, whose name stands before.
+    /// The first public, by module and then by record, whose name occurred before.
     #[error("DuplicatePublic {0}")]
     DuplicatePublic(Name),
     /// The first of CODE, DATA and STACK, by its id, whose parts come to more than 65535 bytes.

@@ -183,7 +183,7 @@ impl<'a> LaidModules<'a> {
         }
     }
 
-    /// An offset in a module's segment, moved with its part: absolute offsets stand as they are, and STACK is spoken of
+    /// An offset in a module's segment, moved with its part: absolute offsets aren't moved, and those in STACK count
     /// from its top.
     pub(crate) fn moved(&self, number: usize, id: u8, offset: u16) -> u16
         requires { number < length self.now }

@@ -44,8 +44,8 @@ Answers limit steps t (Err (TooLong k)) text = IsTooLong t k × (text ≡ [])
 Answers limit steps t (Err Memory) text = text ≡ []
 Answers limit steps t answer text = AreWithin t × Says limit steps t answer text
 
--- the writer holds the whole text of the answer; after a failed write it holds a part from the front of the text of some
--- answer, and not all of it
+-- the writer holds the whole text of the answer; after a failed write it holds a proper prefix of the text of some
+-- answer
 pub record SendsAll (limit steps : ℕ) (t : Texts) (answer : Result Outcome SessionFault) (old new : Option (List ℕ)) : Type 0 where
   pub text : List ℕ
   pub answers : Answers limit steps t answer text

@@ -16,7 +16,7 @@ pub enum SessionFault {
     /// A write failed, or took no byte.
     #[error("Write")]
     Write,
-    /// The image's bytes are no image.
+    /// The image's bytes aren't those of an image.
     #[error("{0}")]
     Image(ImageFault),
     /// The regions' text spells none.
@@ -25,7 +25,7 @@ pub enum SessionFault {
     /// The first line of the inputs' text, counted from 1, that has another form.
     #[error("Inputs {0}")]
     Inputs(usize),
-    /// The check refuses the image.
+    /// The verifier refuses the image.
     #[error("{0}")]
     Refused(Refusal),
     /// Out of memory.

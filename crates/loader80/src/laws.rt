@@ -3,8 +3,8 @@
 
 ghost use Rattle.loader80.specs.SendsLaws.{WrittenAnswersAreSent, PrefixesAreSent};
 
-/// What is said of three texts that are within the limit is sent where its text was written whole; and where a part from its
-/// front was written, that is a prefix of what is sent.
+/// An answer to three texts that are within the limit is sent where its text was written whole; and where a prefix of it
+/// was written, that is a prefix of what is sent.
 pub fn what_is_said_is_sent()
     ensures whole { WrittenAnswersAreSent }
     ensures prefix { PrefixesAreSent }

@@ -140,7 +140,7 @@ fn transcribe(alloc: Global, vouched: &Vouched, inputs: Inputs, steps: u64, outp
     }
 }
 
-/// Whether an output was refused below the limit: no memory was there to keep it.
+/// Whether an output was refused below the limit, because memory ran out.
 fn was_out_of_memory(ports: &ListPorts, limit: usize) -> bool
     ensures { result ≡ false → 0 < ports.now.refused → limit ≤ length ports.now.outputs }
 {

@@ -23,7 +23,7 @@ pub struct Ended {
     pub cpu: Cpu,
 }
 
-/// Runs a vouched image for so many steps at most, from its start.
+/// Runs a vouched image from its start, for at most `steps` steps.
 ///
 /// It makes [quick steps](quick80::quick_step), which leave out the checks that the verifier has made needless.
 ///

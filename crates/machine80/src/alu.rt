@@ -36,7 +36,7 @@ impl Answer {
 ///
 /// Of `flags` only CY is read, by ADC and SBB; all five flags of the answer are new. CY after a subtraction is the
 /// borrow; AC is the carry out of bit 3 of the addition of the complement, so it is set where the low nibble does not
-/// borrow. After ANA, AC is bit 3 of the two operands joined by or.
+/// borrow. After ANA, AC is bit 3 of the OR of the two operands.
 #[inline]
 #[tactic(auto, unfolding(crate::specs::Arithmetic::operation_answer, crate::specs::Flags::bit_of, crate::specs::Flags::has_bit))]
 pub fn operate(operation: Operation, a: u8, value: u8, flags: Flags) -> Answer
@@ -119,7 +119,7 @@ pub fn decimal_adjust(a: u8, flags: Flags) -> Answer
     Answer::of_byte((second % 256) as u8, low, high)
 }
 
-/// RLC, RRC, RAL and RAR: the accumulator `a` turned by one bit. Of the flags only CY changes.
+/// RLC, RRC, RAL and RAR: the accumulator `a` rotated by one bit. Of the flags only CY changes.
 #[inline]
 #[tactic(auto, using(crate::proofs::ArithmeticLemmas::or_after_turn), unfolding(crate::specs::Arithmetic::rotation_answer, crate::specs::Flags::bit_of, crate::specs::Flags::has_bit))]
 pub fn rotate(rotation: Rotation, a: u8, flags: Flags) -> Answer

@@ -11,7 +11,7 @@ use omf_module::{Cause, ModuleFault};
 use std::alloc::{AllocError, AllocFailed};
 use thiserror::Error;
 
-/// Why bytes are no library. Places are in bytes from the start of the file.
+/// Why bytes aren't a library. Places are in bytes from the start of the file.
 #[derive(Clone, Copy, PartialEq, Eq, Debug, Error)]
 pub enum LibraryFault {
     /// A record outside a module is no record, or of a type that may not stand there; or a module has this fault.

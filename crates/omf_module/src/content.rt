@@ -1,7 +1,7 @@
 use crate::fixup::Fixup;
 use std::marker::Model;
 
-/// Bytes of a segment from an offset on, and the references in them, by offsets in the segment.
+/// Bytes of a segment from an offset on, and the fixups in them, by offsets in the segment.
 /// (8080 Object Module Formats, content record, and the fixup records that follow it.)
 #[derive(Debug, Drop)]
 pub struct Content {

@@ -12,7 +12,7 @@ use std::alloc::{AllocError, Global};
 use std::marker::Model;
 
 /// A relocatable module that keeps the rules of the standard: what is used exists, nothing is listed twice,
-/// contents lie within their segments, and the references in them lie within them and share no byte.
+/// contents lie within their segments, and the fixups in each lie within it and share no byte.
 /// (8080 Object Module Formats, module.)
 #[derive(Debug, Drop)]
 pub struct Module {
@@ -172,7 +172,7 @@ impl Module {
         self.publics.as_slice()
     }
 
-    /// The names of other modules that references are to, by their index.
+    /// The names of other modules that fixups refer to, by their index.
     pub fn externals(&self) -> &[Name]
         ensures value { result.now ≡ self.now.externals }
         ensures rules { IsModule self.now }

@@ -56,7 +56,7 @@ pub record ByteChunk : Type 0 where
   pub place : ℕ
   pub bytes : List ℕ
 
--- a content at its place, with its references increased
+-- a content at its place, with its fixups applied
 abbrev pub chunk_at : (place : ℕ) → (Target → ℕ) → ContentValue → ByteChunk
 chunk_at place word c = record { place = place; bytes = with_patches (map (patch_with word c.offset) c.fixups) c.bytes }
 

@@ -18,7 +18,7 @@ BothTwice = (w u v : ℕ) → ((w + u) % 65536 + v) % 65536 ≡ (w + (u + v) % 6
 abbrev pub HighTwice : Type 0
 HighTwice = (b u v : ℕ) → (u % 256 ≡ 0) ⊎ (v % 256 ≡ 0) → ((b + u / 256 % 256) % 256 + v / 256 % 256) % 256 ≡ (b + (u + v) % 65536 / 256 % 256) % 256
 
--- So it is in bytes: a reference that is increased by one word and then by another is increased by their sum.
+-- The same holds in bytes: a fixup applied with one word and then with another is applied with their sum.
 abbrev pub patch_by : Field → ℕ → ℕ → Patch
 patch_by field at word = record { at = at; field = field; word = word }
 

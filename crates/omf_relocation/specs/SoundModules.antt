@@ -23,8 +23,8 @@ pub record LiesIn (m : ModuleValue) (c : ContentValue) : Type 0 where
 abbrev pub as_patch : ℕ → (Fixup → ℕ) → Fixup → Patch
 as_patch first word f = record { at = f.offset - first; field = f.field; word = word f }
 
--- The fixups of a content keep their rules: they begin in it and are to what is there, and as patches, whatever words they add, they lie inside its
--- bytes and share none of them.
+-- The fixups of a content keep their rules: they begin in it and their targets exist; as patches, whatever words they add, they
+-- lie inside its bytes and share none of them.
 pub record HasItsFixups (m : ModuleValue) (c : ContentValue) : Type 0 where
   pub fitting : IsTrue (has_fitting m.commons (length m.externals) c)
   pub begin : AllByRecursion (λ f. c.offset ≤ f.offset) c.fixups

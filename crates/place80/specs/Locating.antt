@@ -22,7 +22,7 @@ placed_bytes c = record { address = c.place; bytes = c.bytes }
 abbrev pub located_chunks : Options → ModuleValue → List PlacedBytes
 located_chunks options m = map placed_bytes (chunks_of (program_bases options m) (m ∷ []))
 
--- The same by the placed segments of the one module, which has no external: the word that a reference is increased by, and
+-- The same by the placed segments of the one module, which has no external: the word that a fixup adds, and
 -- the chunk of a content.
 abbrev pub word_among : List Placed → Target → ℕ
 word_among segments = word_to (λ id. place_among segments id 0) (λ index. 0)

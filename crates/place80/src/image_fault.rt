@@ -11,7 +11,7 @@ pub enum ImageFault {
     /// The object file has other than one module.
     #[error("NotOneModule")]
     NotOneModule,
-    /// The module has an external name or a reference, or content or its start stand in a segment other than 0.
+    /// The module has an external name or a reference, or has content or its start in a segment other than 0.
     #[error("NotAbsolute")]
     NotAbsolute,
     /// The module is no main program.

@@ -10,7 +10,7 @@ use std::alloc::{AllocError, Global};
 
 impl Image {
     /// The image's memory: 65536 bytes by address, each that of the last chunk over it, and 0 where there is none. The time
-    /// is that of the chunks' bytes.
+    /// grows with the number of the chunks' bytes.
     ///
     /// # Errors
     /// `AllocError` where there is no memory for the bytes.

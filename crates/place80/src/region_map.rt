@@ -36,7 +36,7 @@ impl RegionMap {
     ghost use Rattle.std.specs.Prelude.{◌≡◌, IfOk};
     ghost use Rattle.place80.specs.RegionMap.{Maps, marks_code, marks_data};
 
-    /// The map of the regions. The time is that of their addresses and ranges.
+    /// The map of the regions. It takes time linear in their addresses and ranges.
     ///
     /// # Errors
     /// `AllocError` where there is no memory for the map.

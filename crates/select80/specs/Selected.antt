@@ -29,7 +29,7 @@ pub record Needs (roots : List ModuleValue) (libraries : List (List ModuleValue)
   pub in_no_root : list_any (declares name) roots ≡ false
   pub first : IsFirstProvider libraries name place
 
--- the places of what is taken: what a root needs, and what a module needs that is taken itself
+-- the places of what is taken: what a root needs, and what a taken module needs
 pub data IsChosen (roots : List ModuleValue) (libraries : List (List ModuleValue)) : Chosen → Type 0 where
   by_root : (root : ModuleValue) (place : Chosen) → Contains roots root → Needs roots libraries root place → IsChosen roots libraries place
   by_member : (member place : Chosen) (m : ModuleValue) → IsChosen roots libraries member → module_at libraries member ≡ Some m →

@@ -6,7 +6,7 @@ use Rattle.machine80.specs.World.{NeverGoesWrong}
 use Rattle.flow80.specs.Fitting.{IsFitted}
 use Rattle.verify80.specs.Looking.{code_of}
 
--- an image never goes wrong, within so many bytes of stack, where a table of frames fits it with so many bytes, and the stack
+-- an image never goes wrong, within a number of bytes of stack, where a table of frames fits it with that number and the stack
 -- has them
 abbrev pub FittedImagesNeverGoWrong : Type 0
 FittedImagesNeverGoWrong = (image : Located) (bytes : ℕ) → AreRegions image.regions → IsFitted (code_of image) bytes →
