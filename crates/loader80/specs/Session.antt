@@ -50,7 +50,7 @@ abbrev pub Faults : Texts → SessionFault → List ℕ → Type 0
 Faults t (Regions f) text = Refuses t.regions f × (f ≢ RegionsMemory) × (text ≡ [])
 Faults t (Image f) text = ((areas : Areas) × Spells t.regions areas) × FaultsImage t.image f × (f ≢ ImageMemory) × (text ≡ [])
 Faults t (Inputs n) text = ((image : Located) × SpellsProgram t image) × (bad_line t.inputs ≡ Some n) × (text ≡ [])
-Faults t (Refused r) text = ((image : Located) × SpellsProgram t image × Holds (code_of image) r) × (bad_line t.inputs ≡ None) × (text ≡ refusal_line r)
+Faults t (Refused r) text = ((image : Located) × SpellsProgram t image × Holds (code_of image) r) × (r ≢ NoMemory) × (bad_line t.inputs ≡ None) × (text ≡ refusal_line r)
 Faults t Memory text = text ≡ []
 Faults t (Read k) text = ⊥
 Faults t Write text = ⊥
