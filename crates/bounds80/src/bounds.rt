@@ -67,8 +67,11 @@ fn settle(alloc: Global, depths: &[Depth], calls: &[CallSite]) -> Result<Settled
 /// The most bytes of stack that each procedure needs below its return address, its callees' included, from the depths of the
 /// program's frames and its calls.
 ///
+/// Each depth must be from -2,097,152 to 2,097,152 bytes, and there may be 262,144 calls at most.
+///
 /// # Errors
-/// `Recursion`, with the address of the call, where a call leads back to its own procedure; `Memory`.
+/// `Recursion`, with the address of a call that leads back to its own procedure, where there is one; `Memory` where memory runs
+/// out.
 pub fn find_bounds(
     alloc: Global,
     depths: &[Depth],

@@ -20,6 +20,9 @@ fn raise(sum: u64, bytes: i64) -> u64
 }
 
 /// A table with the same value at each place.
+///
+/// # Errors
+/// `AllocError` only where memory runs out.
 pub fn table<T: Copy>(alloc: Global, value: T, places: usize) -> Result<Vec<T>, AllocError>
     ensures places { IfOk result (λ v. length v.items ≡ places) }
     ensures values { IfOk result (λ v. All (λ x. x ≡ value) v.items) }

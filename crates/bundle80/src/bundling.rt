@@ -18,11 +18,14 @@ use std::alloc::Global;
 /// The greatest number of bytes of a bundle whose three parts can be within their limits.
 pub const BUNDLE_LIMIT: usize = 4_194_312;
 
-/// Reads a bundle whole and does with its three parts as a session does.
+/// Reads a bundle whole and does with its three parts as a session does (docs/FORMATS.md: bundles).
+///
+/// A bundle has [`BUNDLE_LIMIT`] bytes at most; one byte more is taken of a longer one. The counts of failures of the reader and
+/// of the writer must be below the greatest `u64`.
 ///
 /// # Errors
-/// Those of a session on the three parts, where `Read` and `TooLong` are of the bundle itself with the number 1;
-/// and `BadBundle` where it has no three parts.
+/// `Read(1)` where a read fails; `TooLong(1)` where the bundle has more bytes than the limit; `BadBundle` where it has no three
+/// parts; else those of a session on the three parts. After every fault but `Refused` and `Write` nothing was written.
 pub fn bundle<S: Source, K: Sink>(
     alloc: Global,
     input: &mut S,

@@ -18,7 +18,7 @@ pub enum BundleFault {
 }
 
 impl BundleFault {
-    /// The fault's number.
+    /// The fault's number: 1 to 8 as that of a session, 9 `BadBundle`.
     pub fn code(&self) -> u8
         ensures { result ≡ bundle_code self.now }
     {

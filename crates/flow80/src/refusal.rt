@@ -52,7 +52,7 @@ pub enum Refusal {
 }
 
 impl Refusal {
-    /// The refusal's number.
+    /// The refusal's number, 1 to 18 in the order of docs/VERIFIER.md's table; 18 is `Memory`.
     pub fn code(&self) -> u8
         ensures { result ≡ refusal_code self.now }
     {

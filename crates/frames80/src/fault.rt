@@ -36,7 +36,7 @@ pub enum FrameFault {
 }
 
 impl FrameFault {
-    /// The number of this fault.
+    /// The number of this fault, as above; the verifier refuses a program with the same number.
     pub fn code(&self) -> u8
         ensures { result ≡ frame_fault_code self.now }
     {

@@ -13,6 +13,9 @@ use std::alloc::{AllocError, Global};
 /// The instructions of each range of code, by address, from the range's first byte on: a line has the address, the bytes
 /// as digits filled with spaces to six places, and the text. A byte that begins no instruction, or one whose instruction
 /// leaves the range, is a line of its own with the text `??`.
+///
+/// # Errors
+/// `AllocError` only where memory runs out.
 pub fn listing(alloc: Global, image: &Image) -> Result<Vec<u8>, AllocError>
     ensures { IfOk result (λ text. text.items ≡ listing_of image.now) }
 {

@@ -37,7 +37,7 @@ pub enum SessionFault {
 }
 
 impl SessionFault {
-    /// The fault's number.
+    /// The fault's number, 1 to 8 in the order above.
     pub fn code(&self) -> u8
         ensures { result ≡ session_code self.now }
     {

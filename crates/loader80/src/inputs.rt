@@ -45,7 +45,11 @@ impl From<AllocError> for InputsFault {
 
 /// Reads lines `pp hh..`: a port in two hexadecimal digits, one space, and the bytes that wait
 /// there, at least one, each in two digits. Digits are of either case. The lines of one port
-/// follow one another, and no text is no input.
+/// follow one another, and an empty text means no input.
+///
+/// # Errors
+/// `BadLine` with the number of the first line of another form, counted from 1; the last line too must end in LF. `Memory` where
+/// memory runs out.
 pub fn read_inputs(alloc: Global, bytes: &[u8]) -> Result<Inputs, InputsFault>
     ensures lines { OnOk result (bad_line bytes.now ≡ None) }
     ensures pairs { IfOk result (λ inputs. inputs.pairs.items ≡ inputs_of bytes.now) }

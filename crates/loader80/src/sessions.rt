@@ -17,11 +17,15 @@ pub const TEXT_LIMIT: usize = 1_048_576;
 /// Reads an image, regions and inputs, each whole, in this order; checks the image and runs it for `steps` steps at most,
 /// keeping `outputs` outputs at most; and writes the transcript, or the line of the refusal.
 ///
+/// Each text has [`TEXT_LIMIT`] bytes at most; one byte more is taken of a longer one. The counts of failures of the readers and
+/// of the writer must be below the greatest `u64`.
+///
 /// # Errors
-/// The first of: `Read` and `TooLong` with the number of the text, 1 to 3, while it is read; `Regions`, `Image`,
-/// `Inputs` with the number of its line; `Refused`, after its line was written; `Write`, after which what went out is a
-/// prefix of the text. `Memory` comes where memory ran out, also for the outputs. After every other fault but
-/// `Refused` nothing was written.
+/// The first of: `Read` with the number of the text, 1 to 3, where a read of it fails; `TooLong` with that number where it has
+/// more bytes than the limit; `Regions`, `Image`, or `Inputs` with the number of the line, counted from 1, where a text isn't of
+/// its form; `Refused` where the verifier refuses the image, after its line was written; `Write` where a write fails or takes no
+/// byte, after which a prefix of the text was written. `Memory` where memory runs out, also for the outputs; it is never a
+/// refusal's line. After every fault but `Refused` and `Write` nothing was written.
 pub fn session<A: Source, B: Source, C: Source, K: Sink>(
     alloc: Global,
     image: &mut A,

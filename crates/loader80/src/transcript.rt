@@ -59,6 +59,9 @@ fn append_end(text: &mut String, end: Option<End>, at: u16, steps: u64) -> Resul
 }
 
 /// The line for an image that is refused.
+///
+/// # Errors
+/// `AllocError` only where memory runs out.
 pub fn refusal_text(alloc: Global, refusal: Refusal) -> Result<String, AllocError>
     ensures { IfOk result (λ text. string_bytes text ≡ refusal_line refusal) }
 {

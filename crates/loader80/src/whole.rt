@@ -41,8 +41,11 @@ impl From<Failed> for ReadAllFault {
 // How many bytes are read at a time.
 const PIECE: usize = 4096;
 
-/// All bytes of `source`, which are at most `limit`. It takes no more than `limit` + 1 of them, the
-/// last of which shows that they are too many.
+/// All bytes of `source`, which are at most `limit`. It takes no more than `limit` + 1 of them, the last of which shows that they
+/// are too many. The limit must be below the greatest `usize`, and the source's count of failures below the greatest `u64`.
+///
+/// # Errors
+/// `Read` where a read fails; `TooLong` where there are more than `limit` bytes; `Memory` where memory runs out.
 pub fn read_all<S: Source>(
     alloc: Global,
     source: &mut S,
@@ -70,7 +73,10 @@ pub fn read_all<S: Source>(
     Err(ReadAllFault::TooLong)
 }
 
-/// Writes all of `bytes`. At a failure some of them may have been written, from the front, but not all.
+/// Writes all of `bytes`. The sink's count of failures must be below the greatest `u64`.
+///
+/// # Errors
+/// `Failed` where a write fails or takes no byte; a proper prefix of the bytes has then been written.
 pub fn write_all<K: Sink>(sink: &mut K, bytes: &[u8]) -> Result<(), Failed>
     requires { K.failed sink.old < u64.MAX }
     ensures whole { OnOk result (Appends (K.written sink.old) (K.written sink.new) bytes.now) }

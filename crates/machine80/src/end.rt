@@ -23,7 +23,7 @@ pub enum End {
 }
 
 impl End {
-    /// The number of this end.
+    /// The number of this end, 1 to 7 in the order above.
     pub fn code(&self) -> u8
         ensures { result ≡ code_of self.now }
     {

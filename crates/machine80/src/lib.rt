@@ -1,4 +1,14 @@
 //! One step of the 8080, over any memory and any ports.
+//!
+//! | Item | What it is |
+//! |---|---|
+//! | [`step`], [`fetch`] | one step with all its checks; the instruction at an address of code |
+//! | [`End`] | how a run ends |
+//! | [`Cpu`], [`Registers`], [`Flags`] | the processor |
+//! | [`Bus`], [`FlatBus`] | 65,536 bytes of memory; those of an image |
+//! | [`Ports`], [`PortRefused`], [`ListPorts`], [`Inputs`] | input and output; over lists of bytes |
+//! | [`condition_holds`], [`alu`], [`words`] | parts of a step: conditions, arithmetic, words in memory |
+//! | [`laws`] | well-known laws of the arithmetic |
 #![tactic(auto)]
 
 pub mod alu;

@@ -38,7 +38,7 @@ pub trait Ports {
     /// Puts out a byte at a port, or refuses it; a refused byte is counted and changes nothing else.
     ///
     /// # Errors
-    /// `PortRefused` where the byte isn't kept.
+    /// `PortRefused` where the limit is reached, or memory runs out; never while there is room.
     fn give(&mut self, port: u8, byte: u8) -> Result<(), PortRefused>
         requires { refused self.old < 2 ^ 64 - 1 }
         ensures kept { OnOk result (outputs self.new ≡ outputs self.old ++ (port, byte) ∷ []) }

@@ -13,7 +13,10 @@ use crate::ports::Ports;
 use decode80::{Fetched, Instr};
 use place80::Regions;
 
-/// Makes one step: the instruction at the program counter is fetched, guarded and executed.
+/// Makes one step: the instruction at the program counter is fetched, guarded and executed (Intel 8080 Microcomputer Systems User's
+/// Manual, chapter 4; docs/MACHINE.md). The answer is `None`, or how the run ends: [`End::Fetch`] where no instruction is fetched;
+/// else [`End::Stack`], [`End::Direct`] or [`End::StoreOutside`] at the first byte that it would touch outside its region; else
+/// [`End::Halt`] at HLT, [`End::InputEnd`] at IN where no byte waits, [`End::OutputRefused`] at OUT where the ports refuse the byte.
 ///
 /// Where the run ends, nothing has changed but the count of refused outputs, which is one higher after
 /// [`End::OutputRefused`]. The count must be below the greatest `u64`.

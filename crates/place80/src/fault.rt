@@ -27,7 +27,7 @@ impl RegionsFault {
     ghost use Rattle.std.specs.Prelude.{◌≡◌};
     ghost use Rattle.place80.specs.RegionsFault.{code_of};
 
-    /// The number of the fault.
+    /// The number of the fault, 1 to 5 in the order above.
     pub fn code(&self) -> u8
         ensures { result ≡ code_of self.now }
     {
