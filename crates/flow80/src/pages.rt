@@ -81,6 +81,7 @@ fn block_at(codes: &mut Vec<u32>, at: usize, blocks: &mut Vec<u32>) -> Result<us
     }
     let len = blocks.len();
     let block = len / 256;
+    // (So many blocks take 4 TiB.)
     if block >= u32::MAX as usize {
         return Err(AllocError);
     }

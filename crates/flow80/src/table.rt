@@ -321,6 +321,8 @@ impl Table {
         ensures { Looks (C.code program.now) self.old self.new result }
     {
         let mut changed = false;
+        // (The bound is never met: a point is put there only where a frame has changed, which no frame can do for ever. Nothing rests
+        // on it, since a pass over all points follows.)
         for _ in 0..u64::MAX {
             let Some(point) = self.next_pending() else {
                 break;
