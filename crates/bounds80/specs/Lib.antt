@@ -1,2 +1,3 @@
 pub mod Chains
+-- what the crate's own functions promise one another: no public contract cites these
 pub mod Sums

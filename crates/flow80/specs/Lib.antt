@@ -5,6 +5,9 @@ pub mod Use
 pub mod Faults
 pub mod Fitting
 pub mod Rows
+pub mod FittingLaws
+pub mod Accepted
+-- what the crate's own functions promise one another: no public contract cites these
 pub mod Points
 pub mod Graph
 pub mod Shown
@@ -12,6 +15,4 @@ pub mod Known
 pub mod Interned
 pub mod Pages
 pub mod PointStore
-pub mod FittingLaws
 pub mod Survey
-pub mod Accepted

@@ -6,7 +6,8 @@ pub mod ArithmeticLaws
 pub mod End
 pub mod Cpu
 pub mod Effects
-pub mod Kinds
 pub mod Step
 pub mod World
 pub mod Run
+-- what the crate's own functions promise one another: no public contract cites these
+pub mod Kinds

@@ -1,3 +1,4 @@
 pub mod Looking
-pub mod Kept
 pub mod LookLaws
+-- what the crate's own functions promise one another: no public contract cites these
+pub mod Kept
