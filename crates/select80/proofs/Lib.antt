@@ -1,3 +1,4 @@
 pub mod MarkLemmas
 pub mod PlaceLemmas
 pub mod ChosenLemmas
+pub mod UniqueLemmas

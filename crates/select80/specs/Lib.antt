@@ -1,2 +1,3 @@
 pub mod Selected
 pub mod Selecting
+pub mod SelectionLaws

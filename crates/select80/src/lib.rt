@@ -5,9 +5,11 @@
 //! |---|---|
 //! | [`select`] | which modules a link takes from its libraries |
 //! | [`Chosen`] | the place of a module in libraries |
+//! | [`laws`] | what a link takes is determined |
 #![tactic(auto)]
 
 mod chosen;
+pub mod laws;
 mod row;
 mod selecting;
 
