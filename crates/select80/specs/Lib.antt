@@ -1,3 +1,4 @@
 pub mod Selected
-pub mod Selecting
 pub mod SelectionLaws
+-- what the crate's own functions promise one another: no public contract cites these
+pub mod Selecting
