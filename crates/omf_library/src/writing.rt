@@ -115,16 +115,30 @@ fn dictionary_of(alloc: Global, modules: &[Module]) -> Result<Vec<u8>, AllocErro
     Ok(body)
 }
 
-/// Whether one of these is too great for a library: the number of modules, the bytes of their names, the number of their
-/// places, the bytes of the dictionary, or the place of the index.
-fn exceeds(modules: usize, names: usize, places: usize, dictionary: usize, index: usize) -> bool
-    ensures { result ≡ (nat_lt 65535 modules || nat_lt 65534 names || nat_lt 16383 places || nat_lt 65534 dictionary || nat_lt 65535 (index / 128)) }
+/// What is counted in a library by words, or stands in a body.
+#[derive(Clone, Copy)]
+struct Sizes {
+    /// The number of modules.
+    modules: usize,
+    /// The bytes of the modules' names.
+    names: usize,
+    /// The number of the modules' places.
+    places: usize,
+    /// The bytes of the dictionary.
+    dictionary: usize,
+    /// The place of the index.
+    index: usize,
+}
+
+/// Whether one of them is too great for a library.
+fn exceeds(sizes: Sizes) -> bool
+    ensures { result ≡ (nat_lt 65535 sizes.modules || nat_lt 65534 sizes.names || nat_lt 16383 sizes.places || nat_lt 65534 sizes.dictionary || nat_lt 65535 (sizes.index / 128)) }
 {
-    modules > GREATEST_WORD
-        || names > LONGEST_BODY
-        || places > LONGEST_BODY / LOCATION
-        || dictionary > LONGEST_BODY
-        || index / BLOCK > GREATEST_WORD
+    sizes.modules > GREATEST_WORD
+        || sizes.names > LONGEST_BODY
+        || sizes.places > LONGEST_BODY / LOCATION
+        || sizes.dictionary > LONGEST_BODY
+        || sizes.index / BLOCK > GREATEST_WORD
 }
 
 /// Whether the library of these modules isn't written: their names, places, public names and bytes are these.
@@ -141,13 +155,13 @@ fn is_too_large(
     requires bytes { bytes.now ≡ flat_map module_bytes modules.now }
     ensures { result ≡ is_too_large modules.now }
 {
-    exceeds(
-        modules.len(),
-        names.len(),
-        places.len(),
-        dictionary.len(),
-        FIRST_PLACE + bytes.len(),
-    )
+    exceeds(Sizes {
+        modules: modules.len(),
+        names: names.len(),
+        places: places.len(),
+        dictionary: dictionary.len(),
+        index: FIRST_PLACE + bytes.len(),
+    })
 }
 
 /// What came of a body that fits its record: if it wasn't appended, memory ran out.
