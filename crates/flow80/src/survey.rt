@@ -126,13 +126,7 @@ fn target_of(moves: Moves) -> Option<u16>
     ensures { result ≡ called moves }
 {
     match moves {
-        Moves::Call(_, target) => Some(target),
-        Moves::MaybeCall(_, target) => Some(target),
-        Moves::End => None,
-        Moves::On(_) => None,
-        Moves::Jump(_, _) => None,
-        Moves::Either(_, _) => None,
-        Moves::Return(_) => None,
-        Moves::MaybeReturn(_, _) => None,
+        Moves::Call(_, target) | Moves::MaybeCall(_, target) => Some(target),
+        _ => None,
     }
 }
