@@ -83,8 +83,7 @@ fn append_one(operand: &[u8], out: &mut Vec<u8>) -> Result<(), AllocError>
     ensures full { OnErr result (vec_capacity out.old < vec_len out.old + length (codes " " ++ operand.now)) }
     ensures capacity { vec_capacity out.old ≤ vec_capacity out.new }
 {
-    append(b" ", out)?;
-    append(operand, out)
+    append_after(b" ", operand, out)
 }
 
 // Appends a space and two operands, with a comma between them.
@@ -94,9 +93,19 @@ fn append_two(first: &[u8], second: &[u8], out: &mut Vec<u8>) -> Result<(), Allo
     ensures full { OnErr result (vec_capacity out.old < vec_len out.old + length (codes " " ++ first.now ++ (codes "," ++ second.now))) }
     ensures capacity { vec_capacity out.old ≤ vec_capacity out.new }
 {
-    append_one(first, out)?;
-    append(b",", out)?;
-    append(second, out)
+    append_after(b" ", first, out)?;
+    append_after(b",", second, out)
+}
+
+// Appends a separator and an operand.
+fn append_after(separator: &[u8], operand: &[u8], out: &mut Vec<u8>) -> Result<(), AllocError>
+    ensures ok { OnOk result (out.new.items ≡ out.old.items ++ (separator.now ++ operand.now)) }
+    ensures err { OnErr result (take (vec_len out.old) out.new.items ≡ out.old.items) }
+    ensures full { OnErr result (vec_capacity out.old < vec_len out.old + length (separator.now ++ operand.now)) }
+    ensures capacity { vec_capacity out.old ≤ vec_capacity out.new }
+{
+    append(separator, out)?;
+    append(operand, out)
 }
 
 // Appends bytes, or leaves `out` as it is.
