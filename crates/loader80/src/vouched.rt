@@ -79,7 +79,7 @@ impl Vouched {
     /// Whatever waits at the ports, however many outputs are taken and however long the program runs, each of its steps
     /// fetches only inside code, stores directly only to data, touches as stack only so many bytes below the stack's
     /// top, and returns only to the place after the newest call that hasn't returned; and it ends, if at all, by HLT,
-    /// at an empty port, at a refused output or at a store through a register pair outside data.
+    /// at an empty port, at a refused output or at a register-indirect store outside data.
     pub fn stack_bytes(&self) -> u64
         ensures bytes { result ≡ self.now.stack_bytes }
         ensures never_goes_wrong { NeverGoesWrong self.now.image result }

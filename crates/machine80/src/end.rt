@@ -12,13 +12,13 @@ pub enum End {
     InputEnd(u8),
     /// OUT at a port that refuses the byte.
     OutputRefused(u8),
-    /// A store through a register pair to this address, which is no data.
+    /// A register-indirect store (STAX, MOV M and its like) to this address, which isn't data.
     StoreOutside(u16),
     /// The instruction at this address has a byte outside code or past FFFF, or its first byte is unused.
     Fetch(u16),
-    /// A push or a pop touches this address, which is no byte of the stack.
+    /// A push or a pop touches this address, which isn't a byte of the stack.
     Stack(u16),
-    /// STA or SHLD stores to this address, which is no data.
+    /// STA or SHLD stores to this address, which isn't data.
     Direct(u16),
 }
 

@@ -54,7 +54,7 @@ pub(crate) fn guard_direct(address: u16, regions: &Regions) -> Result<(), End>
     }
 }
 
-/// A byte that is stored through a pair has to be data.
+/// A byte of a register-indirect store has to be data.
 #[inline]
 pub(crate) fn guard_store(address: u16, regions: &Regions) -> Result<(), End>
     ensures { result_err result ≡ ends_at (first_outside (in_data regions.now) (address ∷ [])) StoreOutside None }

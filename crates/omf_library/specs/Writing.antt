@@ -1,4 +1,4 @@
--- The one form in which a library is written: header, modules, library module names, library module locations, library
+-- The canonical form in which a library is written: header, modules, library module names, library module locations, library
 -- dictionary, end of file. (8080 Object Module Formats, library file; the order of its index records is this project's.)
 use Rattle.std.specs.Prelude.{ℕ, ◌+◌, ◌/◌, ◌%◌, ◌||◌, Bool, nat_lt, List, [], ◌∷◌, ◌++◌, length}
 use Rattle.std.specs.List.{flat_map, AllByRecursion}

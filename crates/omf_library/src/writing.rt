@@ -1,4 +1,4 @@
-//! Libraries as bytes, in one form.
+//! Libraries as bytes, in canonical form.
 
 ghost use Rattle.std.specs.Prelude.{◌≡◌, ◌≢◌, ◌≤◌, [], ◌++◌, ◌/◌, ◌||◌, length, nat_lt, is_ok, Err, IfOk, OnOk, OnErr, IsErrOf, IsTrue, false};
 ghost use Rattle.std.specs.List.{flat_map, AllByRecursion};
