@@ -1,9 +1,9 @@
 -- Where the records of a module use nothing that isn't there, the parts that they say keep all rules.
-use Rattle.std.proofs.Common.{◌≡◌, ℕ, ◌+◌, ◌≤◌, Bool, true, false, ◌&&◌, Option, Some, None, option_map, List, [], ◌∷◌, ◌++◌, length, map, refl, sym, ◌∙◌, arith, IsTrue}
+use Rattle.std.proofs.Common.{◌≡◌, ℕ, ◌+◌, ◌≤◌, Bool, true, false, Option, Some, None, option_map, List, [], ◌∷◌, ◌++◌, length, map, refl, sym, ◌∙◌, arith, IsTrue}
 use Rattle.std.specs.Prelude.{not, ◌==◌, nat_lt, nat_le, if◌then◌else◌}
 use Rattle.std.specs.List.{list_all, list_any, flat_map}
 use Rattle.std.specs.Option.{option_or, option_to_list}
-use Rattle.std.proofs.lemmas.Bool.{and_parts, and_from, or_parts, or_from, not-true, not-false, not_from_false, ltb-false, le-leb, eqb-false, ne_eqb}
+use Rattle.std.proofs.lemmas.Bool.{and_parts, and_from, or_parts, or_from, not-true, not-false, ltb-false, le-leb, eqb-false, ne_eqb}
 use Rattle.std.proofs.lemmas.List.Folds.{list_all-append, list_any-append}
 use Rattle.omf_body.specs.declared.entries.SegmentEntry.{SegmentEntry}
 use Rattle.omf_body.specs.declared.body.Place.{Place}
@@ -24,7 +24,7 @@ use Rattle.omf_module.specs.declared.records.PlacedBody.{PlacedBody}
 use Rattle.omf_module.specs.Contents.{ContentValue, is_inside, shares_a_byte}
 use Rattle.omf_module.specs.Segments.{has_segment}
 use Rattle.omf_module.specs.Modules.{ModuleValue}
-use Rattle.omf_module.specs.Rules.{each_after, is_new_entry, is_new_common, has_target, is_fitting, end_of, lies_within, is_in_bounds, has_fitting, is_content, is_start, is_sound, keeps_rules}
+use Rattle.omf_module.specs.Rules.{each_after, is_new_entry, is_new_common, has_target, is_fitting, end_of, is_in_bounds, has_fitting, is_content, is_start, keeps_rules}
 use Rattle.omf_module.specs.Records.{SpellsBodies, commons_in, commons_of, stands_within, may_follow, each_follows, ModuleRecords, SpellsModuleRecords}
 use Rattle.omf_module.specs.Gathered.{publics_in, fixups_in, with_fixups, content_after, begins_content, contents_from, parts_of}
 use Rattle.omf_module.specs.Uses.{unknown_id, ids_in, place_fault, lacks_external, fixup_fault, fixups_fault, reference_fault, body_fault, fault_by, bodies_fault, header_fault, end_fault, use_fault}
@@ -42,7 +42,7 @@ none_mapped f None e = refl
 none_mapped f (Some x) e = absurd cc
 
 -- a test that stops where it holds, and one that stops where it doesn't
-passed : {A : Type 0} (b : Bool) (why : A) (o : Option A) → (if b then Some why else o) ≡ None → (b ≡ false) × (o ≡ None)
+pub passed : {A : Type 0} (b : Bool) (why : A) (o : Option A) → (if b then Some why else o) ≡ None → (b ≡ false) × (o ≡ None)
 passed true why o e = absurd cc
 passed false why o e = (refl, e)
 
@@ -64,18 +64,18 @@ all_mapped p f (x ∷ xs) each = and_from (p (f x)) (list_all p (map f xs)) (eac
 
 -- ---- ids
 
-all_known : (m : ModuleValue) (ids : List ℕ) → unknown_id m ids ≡ None → list_all (has_segment m.commons) ids ≡ true
+pub all_known : (m : ModuleValue) (ids : List ℕ) → unknown_id m ids ≡ None → list_all (has_segment m.commons) ids ≡ true
 all_known m [] e = refl
 all_known m (id ∷ ids) e =
     let first = passed_if (has_segment m.commons id) (SegmentUnknown id) (unknown_id m ids) e in
     and_from (has_segment m.commons id) (list_all (has_segment m.commons) ids) first.0 (all_known m ids first.1)
 
-one_known : (m : ModuleValue) (id : ℕ) → unknown_id m (id ∷ []) ≡ None → has_segment m.commons id ≡ true
+pub one_known : (m : ModuleValue) (id : ℕ) → unknown_id m (id ∷ []) ≡ None → has_segment m.commons id ≡ true
 one_known m id e = (passed_if (has_segment m.commons id) (SegmentUnknown id) None e).0
 
 -- ---- segments
 
-abbrev entry_of : SegmentEntry → ℕ × Segment
+abbrev pub entry_of : SegmentEntry → ℕ × Segment
 entry_of e = (e.id, record { length = e.length; paged = is_paged e })
 
 abbrev has_id : ℕ → ℕ × Segment → Bool
@@ -96,9 +96,7 @@ apart_push before e [] apart new = refl
 apart_push before e (x ∷ es) apart new =
     let parts = and_parts (not (list_any (has_id x.id) before)) (are_apart before es) apart in
     let other = or_parts (x.id == e.id) (list_any (λ d. d.id == e.id) es) new in
-    and_from (not (list_any (has_id x.id) (before ++ entry_of e ∷ []))) (are_apart (before ++ entry_of e ∷ []) es)
-    (not_from_false (list_any (has_id x.id) (before ++ entry_of e ∷ [])) (apart_one before e x (not-true (list_any (has_id x.id) before) parts.0) other.0))
-    (apart_push before e es parts.1 other.1)
+    rw (apart_one before e x (not-true (list_any (has_id x.id) before) parts.0) other.0) (apart_push before e es parts.1 other.1)
 
 entries_new : (commons : List Common) (before : List (ℕ × Segment)) (es : List SegmentEntry)
     → list_all (has_segment commons) (map (λ e. e.id) es) ≡ true → are_distinct es ≡ true → are_apart before es ≡ true
@@ -108,10 +106,7 @@ entries_new commons before (e ∷ es) known distinct apart =
     let k = and_parts (has_segment commons e.id) (list_all (has_segment commons) (map (λ e. e.id) es)) known in
     let d = and_parts (not (list_any (λ d. d.id == e.id) es)) (are_distinct es) distinct in
     let a = and_parts (not (list_any (has_id e.id) before)) (are_apart before es) apart in
-    and_from (is_new_entry commons before (entry_of e)) (each_after (is_new_entry commons) (before ++ entry_of e ∷ []) (map entry_of es))
-    (and_from (has_segment commons e.id) (not (list_any (has_id e.id) before)) k.0 a.0)
-    (entries_new commons (before ++ entry_of e ∷ []) es k.1 d.1
-    (apart_push before e es a.1 (not-true (list_any (λ d. d.id == e.id) es) d.0)))
+    rw (k.0, a.0) (entries_new commons (before ++ entry_of e ∷ []) es k.1 d.1 (apart_push before e es a.1 (not-true (list_any (λ d. d.id == e.id) es) d.0)))
 
 none_before : (es : List SegmentEntry) → are_apart [] es ≡ true
 none_before [] = refl
@@ -129,10 +124,10 @@ commons_new commons (p ∷ ps) e =
 -- ---- publics
 
 -- what a record without fault shows: its ids are known, its place is good, and its references are
-record Sound (m : ModuleValue) (nearest : Option ContentValue) (body : Body) : Type 0 where
-  known : unknown_id m (ids_in body) ≡ None
-  place : place_fault m body ≡ None
-  references : reference_fault m nearest body ≡ None
+pub record Sound (m : ModuleValue) (nearest : Option ContentValue) (body : Body) : Type 0 where
+  pub known : unknown_id m (ids_in body) ≡ None
+  pub place : place_fault m body ≡ None
+  pub references : reference_fault m nearest body ≡ None
 
 body_sound : (m : ModuleValue) (nearest : Option ContentValue) (body : Body) → body_fault m nearest body ≡ None → Sound m nearest body
 body_sound m nearest body e =
@@ -140,7 +135,7 @@ body_sound m nearest body e =
     let b = neither (place_fault m body) (reference_fault m nearest body) a.1 in
     record { known = a.0; place = b.0; references = b.1 }
 
-first_sound : (m : ModuleValue) (nearest : Option ContentValue) (p : PlacedBody) (ps : List PlacedBody) → bodies_fault m nearest (p ∷ ps) ≡ None
+pub first_sound : (m : ModuleValue) (nearest : Option ContentValue) (p : PlacedBody) (ps : List PlacedBody) → bodies_fault m nearest (p ∷ ps) ≡ None
     → Sound m nearest p.body × (bodies_fault m (content_after nearest p.body) ps ≡ None)
 first_sound m nearest p ps e =
     let a = neither (option_map (fault_by p.at) (body_fault m nearest p.body)) (bodies_fault m (content_after nearest p.body) ps) e in
@@ -184,11 +179,9 @@ one_fitting m c f reaches e =
     let inside = passed (not (is_inside c.offset (length c.bytes) f)) FixupOutside (if shares_a_byte c.fixups f then Some FixupTwice else (if lacks_external m f.target then Some IndexUnknown else None)) e in
     let apart = passed (shares_a_byte c.fixups f) FixupTwice (if lacks_external m f.target then Some IndexUnknown else None) inside.1 in
     let there = passed (lacks_external m f.target) IndexUnknown None apart.1 in
-    and_from (is_inside c.offset (length c.bytes) f && not (shares_a_byte c.fixups f)) (has_target m.commons (length m.externals) f.target)
-    (and_from (is_inside c.offset (length c.bytes) f) (not (shares_a_byte c.fixups f)) (not-false (is_inside c.offset (length c.bytes) f) inside.0) (not_from_false (shares_a_byte c.fixups f) apart.0))
-    (target_there m f.target reaches there.0)
+    rw (not-false (is_inside c.offset (length c.bytes) f) inside.0, apart.0) (target_there m f.target reaches there.0)
 
-abbrev fitting : ModuleValue → ContentValue → List Fixup → Fixup → Bool
+abbrev pub fitting : ModuleValue → ContentValue → List Fixup → Fixup → Bool
 fitting m c = is_fitting m.commons (length m.externals) c.offset (length c.bytes)
 
 each_fitting : (m : ModuleValue) (c : ContentValue) (fs : List Fixup) → list_all (is_reaching m.commons) fs ≡ true → fixups_fault m c fs ≡ None → each_after (fitting m c) c.fixups fs ≡ true
@@ -196,21 +189,17 @@ each_fitting m c [] reach e = refl
 each_fitting m c (f ∷ fs) reach e =
     let r = and_parts (is_reaching m.commons f) (list_all (is_reaching m.commons) fs) reach in
     let a = neither (fixup_fault m c f) (fixups_fault m (with_fixups c (f ∷ [])) fs) e in
-    and_from (fitting m c c.fixups f) (each_after (fitting m c) (c.fixups ++ f ∷ []) fs) (one_fitting m c f r.0 a.0) (each_fitting m (with_fixups c (f ∷ [])) fs r.1 a.1)
+    rw (one_fitting m c f r.0 a.0) (each_fitting m (with_fixups c (f ∷ [])) fs r.1 a.1)
 
 -- ---- contents
 
-abbrev fits : ModuleValue → ContentValue → Bool
+abbrev pub fits : ModuleValue → ContentValue → Bool
 fits m c = is_content m.segments m.commons (length m.externals) c
 
 fits_with : (m : ModuleValue) (c : ContentValue) (fs : List Fixup) → fits m c ≡ true → list_all (is_reaching m.commons) fs ≡ true → fixups_fault m c fs ≡ None → fits m (with_fixups c fs) ≡ true
 fits_with m c fs fit reach e =
     let parts = and_parts (is_in_bounds m.segments m.commons c) (has_fitting m.commons (length m.externals) c) fit in
-    and_from (is_in_bounds m.segments m.commons c) (has_fitting m.commons (length m.externals) (with_fixups c fs)) parts.0
-    (each_after_both (fitting m c) [] c.fixups fs parts.1 (each_fitting m c fs reach e))
-
-own_segment : (m : ModuleValue) (c : ContentValue) → fits m c ≡ true → has_segment m.commons c.segment ≡ true
-own_segment m c fit = (in_bounds_parts m.segments m.commons c (and_parts (is_in_bounds m.segments m.commons c) (has_fitting m.commons (length m.externals) c) fit).0).has
+    rw parts.0 (each_after_both (fitting m c) [] c.fixups fs parts.1 (each_fitting m c fs reach e))
 
 abbrev content_of : ContentBody → ContentValue
 content_of b = record { segment = b.segment; offset = b.offset; bytes = b.bytes; fixups = [] }
@@ -223,16 +212,9 @@ content_fits m b size known e =
     let stack = passed (b.segment == 3) (SegmentUnknown 3) (if nat_lt (end_of m.segments b.segment) (b.offset + length b.bytes) then Some OffsetOutside else None) e in
     let outside = passed (nat_lt (end_of m.segments b.segment) (b.offset + length b.bytes)) OffsetOutside None stack.1 in
     let within : b.offset + length b.bytes ≤ end_of m.segments b.segment = ltb-false (end_of m.segments b.segment) (b.offset + length b.bytes) outside.0 in
-    let c : ContentValue = content_of b in
-    and_from (is_in_bounds m.segments m.commons c) true
-    (and_from (lies_within m.segments m.commons c) (nat_le (length b.bytes) 65531)
-    (and_from (has_segment m.commons b.segment && not (b.segment == 3)) (nat_le (b.offset + length b.bytes) (end_of m.segments b.segment))
-    (and_from (has_segment m.commons b.segment) (not (b.segment == 3)) (one_known m b.segment known) (not_from_false (b.segment == 3) stack.0))
-    (le-leb (b.offset + length b.bytes) (end_of m.segments b.segment) within))
-    (content_short b size))
-    refl
+    rw (one_known m b.segment known, stack.0, le-leb (b.offset + length b.bytes) (end_of m.segments b.segment) within, content_short b size)
 
-abbrev all_fit : ModuleValue → Option ContentValue → Type 0
+abbrev pub all_fit : ModuleValue → Option ContentValue → Type 0
 all_fit m nearest = list_all (fits m) (option_to_list nearest) ≡ true
 
 abbrev with_references : Body → Option ContentValue → Option ContentValue
@@ -242,12 +224,11 @@ references_fit : (m : ModuleValue) (nearest : Option ContentValue) (b : Body) �
 references_fit m None b s fit = refl
 references_fit m (Some c) b s fit =
     let one = and_parts (fits m c) true fit in
-    and_from (fits m (with_fixups c (fixups_in c.segment b))) true
-    (fits_with m c (fixups_in c.segment b) one.0 (references_reach m c.segment b (own_segment m c one.0) s.known) s.references)
-    refl
+    let placed = and_parts (is_in_bounds m.segments m.commons c) (has_fitting m.commons (length m.externals) c) one.0 in
+    rw (fits_with m c (fixups_in c.segment b) one.0 (references_reach m c.segment b (in_bounds_parts m.segments m.commons c placed.0).has s.known) s.references)
 
 after_fits : (m : ModuleValue) (nearest : Option ContentValue) (b : Body) → length (body_bytes b) ≤ 65534 → Sound m nearest b → all_fit m nearest → all_fit m (content_after nearest b)
-after_fits m nearest (Content b) size s fit = and_from (fits m (content_of b)) true (content_fits m b size s.known s.place) refl
+after_fits m nearest (Content b) size s fit = rw (content_fits m b size s.known s.place)
 after_fits m nearest b size s fit = references_fit m nearest b s fit
 
 all_if : {A : Type 0} (p : A → Bool) (b : Bool) (xs : List A) → list_all p xs ≡ true → list_all p (if b then xs else []) ≡ true
@@ -271,26 +252,18 @@ start_there m (Some place) e = one_known m place.segment e
 
 -- ---- all rules
 
-rules_kept : (m : ModuleValue) → each_after (is_new_entry m.commons) [] m.segments ≡ true → each_after is_new_common [] m.commons ≡ true → list_all (is_public m.commons) m.publics ≡ true
-    → list_all (fits m) m.contents ≡ true → is_start m.commons m.start ≡ true → keeps_rules m ≡ true
-rules_kept m segments commons publics contents start =
-    let a : Bool = each_after is_new_common [] m.commons in
-    let b : Bool = list_all (is_public m.commons) m.publics in
-    let c : Bool = list_all (fits m) m.contents in
-    and_from (each_after (is_new_entry m.commons) [] m.segments) (is_sound m) segments
-    (and_from (a && b && c) (is_start m.commons m.start) (and_from (a && b) c (and_from a b commons publics) contents) start)
+pub each_without : (r : ModuleRecords) → use_fault r ≡ None → (header_fault (parts_of r) r ≡ None) × ((bodies_fault (parts_of r) None r.within ≡ None) × (end_fault (parts_of r) r ≡ None))
+each_without r e =
+    let m : ModuleValue = parts_of r in
+    let others = neither (header_fault m r) (option_or (bodies_fault m None r.within) (end_fault m r)) e in
+    (others.0, neither (bodies_fault m None r.within) (end_fault m r) others.1)
 
 pub keeps : (bytes : List ℕ) (after : ℕ) (r : ModuleRecords) → SpellsModuleRecords bytes after r → use_fault r ≡ None → IsTrue (keeps_rules (parts_of r))
 keeps bytes after r s e =
     let m : ModuleValue = parts_of r in
-    let header = neither (header_fault m r) (option_or (bodies_fault m None r.within) (end_fault m r)) e in
-    let others = neither (bodies_fault m None r.within) (end_fault m r) header.1 in
-    let listed = all_known m (map (λ e. e.id) r.header.segments) (none_mapped (fault_by r.at) (unknown_id m (map (λ e. e.id) r.header.segments)) header.0) in
+    let none = each_without r e in
+    let listed = all_known m (map (λ e. e.id) r.header.segments) (none_mapped (fault_by r.at) (unknown_id m (map (λ e. e.id) r.header.segments)) none.0) in
     let distinct = and_parts (is_name r.header.name) (are_distinct r.header.segments) s.header.sound in
     let ids = option_to_list (option_map (λ place. place.segment) r.end.start) in
-    rules_kept m
-    (entries_new m.commons [] r.header.segments listed distinct.1 (none_before r.header.segments))
-    (commons_new [] r.within s.follow)
-    (publics_keep m None r.within others.0)
-    (contents_keep bytes s.first r.end_at m None r.within s.within others.0 refl)
-    (start_there m r.end.start (none_mapped (fault_by r.end_at) (unknown_id m ids) others.1))
+    rw (entries_new m.commons [] r.header.segments listed distinct.1 (none_before r.header.segments), commons_new [] r.within s.follow, publics_keep m None r.within none.1.0)
+    (rw (contents_keep bytes s.first r.end_at m None r.within s.within none.1.0 refl) (start_there m r.end.start (none_mapped (fault_by r.end_at) (unknown_id m ids) none.1.1)))

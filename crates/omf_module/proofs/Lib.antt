@@ -10,6 +10,7 @@ pub mod UseLemmas
 pub mod UsedLemmas
 pub mod FileLemmas
 pub mod KeepsLemmas
+pub mod UsesThere
 pub mod OneReading
 pub mod OneModule
 pub mod OneFile

@@ -11,5 +11,12 @@ each_after_both {A} test before (x ∷ xs) ys a b =
     and_from (test before x) (each_after test (before ++ x ∷ []) (xs ++ ys)) parts.0
     (each_after_both test (before ++ x ∷ []) xs ys parts.1 (subst (λ (z : List A). each_after test z ys ≡ true) (sym (append_assoc before (x ∷ []) xs)) b))
 
+pub each_after_parts : {A : Type 0} (test : List A → A → Bool) (before xs ys : List A) → each_after test before (xs ++ ys) ≡ true → (each_after test before xs ≡ true) × (each_after test (before ++ xs) ys ≡ true)
+each_after_parts {A} test before [] ys e = (refl, rw append-nil e)
+each_after_parts {A} test before (x ∷ xs) ys e =
+    let p = and_parts (test before x) (each_after test (before ++ x ∷ []) (xs ++ ys)) e in
+    let q = each_after_parts test (before ++ x ∷ []) xs ys p.1 in
+    (rw p.0 q.0, subst (λ (z : List A). each_after test z ys ≡ true) (append_assoc before (x ∷ []) xs) q.1)
+
 pub each_after_push : {A : Type 0} (test : List A → A → Bool) (before xs : List A) (y : A) → each_after test before xs ≡ true → test (before ++ xs) y ≡ true → each_after test before (xs ++ y ∷ []) ≡ true
 each_after_push test before xs y all one = each_after_both test before xs (y ∷ []) all (and_from (test (before ++ xs) y) true one refl)

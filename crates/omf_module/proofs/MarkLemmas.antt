@@ -15,9 +15,7 @@ or_join true b c d e = refl
 or_join false b c d e = e
 
 or_regroup : (a b c : Bool) → ((a || b) || c) ≡ (a || (b || (c || false)))
-or_regroup true b c = refl
-or_regroup false true c = refl
-or_regroup false false c = sym (or-false c)
+or_regroup a b c = grind arith
 
 or_end : (a b : Bool) → (a || b) ≡ (a || (b || false))
 or_end a b = ap (λ x. a || x) (sym (or-false b))

@@ -5,12 +5,11 @@ use Rattle.omf_body.specs.Bodies.{body_bytes}
 use Rattle.omf_module.specs.declared.fault.Cause.TheVariants.{NoEnd}
 use Rattle.omf_module.specs.declared.fault.ModuleFault.{ModuleFault}
 use Rattle.omf_module.specs.Modules.{ModuleValue}
-use Rattle.omf_module.specs.Records.{SpellsBody}
 use Rattle.omf_module.specs.Uses.{fault_by}
 use Rattle.omf_module.specs.Spelled.{SpellsModule, FaultsModule, SpellsModules, EndsFile, SpellsFile, FaultsFile, first_module, later_module, no_end}
 use Rattle.omf_module.specs.ReadingLaws.{OneFile, OneFileFault, NeverBothFile}
 use Rattle.omf_module.proofs.OneReading.{Below, past_spelled, past_within, left_same, left_right}
-use Rattle.omf_module.proofs.OneModule.{one_module, one_fault, never_both}
+use Rattle.omf_module.proofs.OneModule.{header_at, one_module, one_fault, never_both}
 
 -- how a file goes on after its modules, of which there are none where `first` holds: it ends, or has a fault
 abbrev Out : Type 0
@@ -33,12 +32,9 @@ from_start : (bytes : List ℕ) (to : ℕ) (ms : List ModuleValue) (out : Out) �
 from_start bytes to [] out some s t = absurd (omega (arith, some))
 from_start bytes to (m ∷ ms) out some s t = (s.0, s.1, to_run bytes s.0 to ms out s.2 t)
 
-header_of : (bytes : List ℕ) (at after : ℕ) (m : ModuleValue) (s : SpellsModule bytes at after m) → SpellsBody bytes at s.spelled.first (ModuleHeader s.records.header)
-header_of bytes at after m s = subst (λ (a : ℕ). SpellsBody bytes a s.spelled.first (ModuleHeader s.records.header)) s.begins s.spelled.header
-
 module_ends : Below → (bytes : List ℕ) (at after : ℕ) (m : ModuleValue) → SpellsModule bytes at after m → EndsFile bytes at → ⊥
 module_ends b bytes at after m s e =
-    let h = header_of bytes at after m s in
+    let h = header_at bytes at after s.records s.spelled s.begins in
     other_kinds 0x02 0x0E refl refl (b.one_record bytes at s.spelled.first e.next 0x02 0x0E (body_bytes (ModuleHeader s.records.header)) e.body h.framed e.spelled).0
   where
     other_kinds : (x y : ℕ) → x ≡ 2 → y ≡ 14 → x ≡ y → ⊥
@@ -48,7 +44,7 @@ tail_module : Below → (bytes : List ℕ) (first : Bool) (at after : ℕ) (m : 
 tail_module b bytes first at after m o (ended n e) s = module_ends b bytes at after m s e
 tail_module b bytes first at after m o (faulted f x y) s = never_both b bytes at after m f s x
 tail_module b bytes first at after m o (unended n past) s =
-    let h = header_of bytes at after m s in past_spelled bytes at s.spelled.first 0x02 (body_bytes (ModuleHeader s.records.header)) past h.framed
+    let h = header_at bytes at after s.records s.spelled s.begins in past_spelled bytes at s.spelled.first 0x02 (body_bytes (ModuleHeader s.records.header)) past h.framed
 
 goes_on : (bytes : List ℕ) (first : Bool) (at : ℕ) → first ≡ false → ((first ≡ true) ⊎ ((at < length bytes) × (EndsFile bytes at → ⊥))) → (at < length bytes) × (EndsFile bytes at → ⊥)
 goes_on bytes first at n (inl y) = absurd (true≢false (sym y ∙ n))

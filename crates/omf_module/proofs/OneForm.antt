@@ -1,6 +1,6 @@
 -- The one form of the segments of a module has the segments that were listed, and is its own one form.
 use Rattle.std.proofs.Common.{◌≡◌, ℕ, zero, suc, ◌+◌, ◌<◌, ◌≤◌, Bool, true, false, ◌||◌, ◌&&◌, List, [], ◌∷◌, ◌++◌, length, Option, Some, None, refl, sym, ◌∙◌, ap, arith, inl, inr, subst, IsTrue}
-use Rattle.std.proofs.lemmas.Bool.{and_parts, and_from, or_parts, or_cases, or_right, leb-true, ltb-false, eqb-true}
+use Rattle.std.proofs.lemmas.Bool.{and_parts, or_parts, or_cases, or_right, leb-true, ltb-false, eqb-true}
 use Rattle.std.proofs.lemmas.Bool.Decides.{eqb_tells}
 use Rattle.std.specs.List.{list_any, list_all, range_with_len, cons_option, find}
 use Rattle.std.specs.Option.{option_map_or}
@@ -10,7 +10,7 @@ use Rattle.omf_module.specs.declared.symbols.Common.{Common}
 use Rattle.omf_module.specs.Segments.{empty_segment, segment_in, entries_for, listed_ids, in_one_form, names_common, has_segment, is_used, is_fixed_id}
 use Rattle.omf_module.specs.Contents.{ContentValue}
 use Rattle.omf_module.specs.Modules.{ModuleValue, made_of, segment_of}
-use Rattle.omf_module.specs.Rules.{each_after, is_new_entry, is_new_common, end_of, is_in_bounds, is_content, is_fitting, is_start, is_sound, keeps_rules, has_names, IsModule}
+use Rattle.omf_module.specs.Rules.{each_after, is_new_entry, is_new_common, end_of, is_in_bounds, is_content, is_fitting, is_sound, keeps_rules, has_names, IsModule}
 use Rattle.omf_module.proofs.RuleLemmas.{sound_parts, in_bounds_parts, new_common}
 
 abbrev segment_by : ℕ → Bool → Segment
@@ -191,12 +191,8 @@ pub made_is_module : (p : ModuleValue) → IsTrue (keeps_rules p) → IsTrue (ha
 made_is_module p kept names =
     let parts = and_parts (each_after (is_new_entry p.commons) [] p.segments) (is_sound p) kept in
     let r = sound_parts p parts.1 in
-    let a : Bool = each_after is_new_common [] p.commons in
-    let b : Bool = list_all (λ q. has_segment p.commons q.segment) p.publics in
-    let c : Bool = list_all (is_content (in_one_form p.segments p.commons) p.commons (length p.externals)) p.contents in
     record {
-      sound = and_from (a && b && c) (is_start p.commons p.start)
-          (and_from (a && b) c (and_from a b r.commons r.publics) (contents-one_form p.segments p.commons (length p.externals) p.contents r.commons r.contents)) r.start;
+      sound = rw (r.commons, r.publics, contents-one_form p.segments p.commons (length p.externals) p.contents r.commons r.contents) r.start;
       own = listed_exists p.commons p.segments listed_ids (entries_exist p.commons [] p.segments parts.0);
       one_form = one_form_twice p.segments p.commons;
       names = names;

@@ -34,16 +34,9 @@ to_run : (bytes : List ℕ) (commons : List Common) (from to : ℕ) (ps : List P
     → SpellsBodies bytes from to ps → IsTrue (each_follows commons ps) → Tail bytes (commons ++ commons_of ps) to out → Run bytes commons from ps out
 to_run bytes commons from to [] out s f t = subst (λ (c : List Common). Tail bytes c from out) (append-nil commons) (subst (λ (a : ℕ). Tail bytes (commons ++ []) a out) (sym s) t)
 to_run bytes commons from to (p ∷ ps) out s f t =
-    let parts = and_parts (may_follow commons p.body) (each_follows (commons ++ commons_in p.body) ps) f in (
-      s.0,
-      (
-        s.1.0,
-        s.1.1,
-        parts.0,
-        to_run bytes (commons ++ commons_in p.body) s.1.0 to ps out s.1.2 parts.1
-            (subst (λ (c : List Common). Tail bytes c to out) (sym (append_assoc commons (commons_in p.body) (commons_of ps))) t),
-      ),
-    )
+    let parts = and_parts (may_follow commons p.body) (each_follows (commons ++ commons_in p.body) ps) f in
+    let tail = subst (λ (c : List Common). Tail bytes c to out) (sym (append_assoc commons (commons_in p.body) (commons_of ps))) t in
+    (s.0, (s.1.0, s.1.1, parts.0, to_run bytes (commons ++ commons_in p.body) s.1.0 to ps out s.1.2 parts.1 tail))
 
 end_same : (x y : EndBody) → ModuleEnd x ≡ ModuleEnd y → x ≡ y
 end_same x y e = cc
@@ -146,7 +139,7 @@ faults_once b bytes at first first' h h' f g hx x hy y =
     let run = one_run b bytes [] first' x.before y.before (inl f) (inl g) (subst (λ (n : ℕ). Run bytes [] n x.before (inl f)) same.1 (fault_run bytes first f x)) (fault_run bytes first' g y) in
     left_same (inl f) f g refl run.out
 
-header_at : (bytes : List ℕ) (at : ℕ) (after : ℕ) (r : ModuleRecords) (s : SpellsModuleRecords bytes after r) → r.at ≡ at → SpellsBody bytes at s.first (ModuleHeader r.header)
+pub header_at : (bytes : List ℕ) (at : ℕ) (after : ℕ) (r : ModuleRecords) (s : SpellsModuleRecords bytes after r) → r.at ≡ at → SpellsBody bytes at s.first (ModuleHeader r.header)
 header_at bytes at after r s e = subst (λ (a : ℕ). SpellsBody bytes a s.first (ModuleHeader r.header)) e s.header
 
 uses_same : Below → (bytes : List ℕ) (at after after' : ℕ) (r s : ModuleRecords) (o p : Option ModuleFault) → r.at ≡ at → s.at ≡ at → SpellsModuleRecords bytes after r → SpellsModuleRecords bytes after' s

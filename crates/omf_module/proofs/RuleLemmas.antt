@@ -1,5 +1,5 @@
 -- The rules of a module, one by one, and as those of references and all others.
-use Rattle.std.proofs.Common.{◌≡◌, ℕ, ◌+◌, ◌≤◌, Bool, true, false, ◌&&◌, List, [], ◌∷◌, length, refl, sym, ap, ◌∙◌}
+use Rattle.std.proofs.Common.{◌≡◌, ℕ, ◌+◌, ◌≤◌, Bool, true, false, ◌&&◌, List, [], ◌∷◌, length, refl, sym, ap, arith, ◌∙◌}
 use Rattle.std.specs.Prelude.{not, ◌==◌, nat_le}
 use Rattle.std.specs.List.{list_all}
 use Rattle.std.proofs.lemmas.Bool.{and_parts, not-true, leb-true}
@@ -11,25 +11,14 @@ use Rattle.omf_module.specs.Modules.{ModuleValue}
 use Rattle.omf_module.specs.Rules.{each_after, has_name, is_new_entry, is_new_common, end_of, lies_within, is_in_bounds, has_fitting, is_content, is_start, is_sound, keeps_rules, keeps_rules_but_for_fixups, keeps_fixup_rules}
 
 crossed : (a b c d : Bool) → (a && b && (c && d)) ≡ (a && c && (b && d))
-crossed false b c d = refl
-crossed true false false d = refl
-crossed true false true d = refl
-crossed true true false d = refl
-crossed true true true d = refl
+crossed a b c d = grind arith
 
 all_both : {A : Type 0} (p q : A → Bool) (xs : List A) → list_all (λ x. p x && q x) xs ≡ (list_all p xs && list_all q xs)
 all_both p q [] = refl
 all_both p q (x ∷ xs) = ap (λ (b : Bool). p x && q x && b) (all_both p q xs) ∙ crossed (p x) (q x) (list_all p xs) (list_all q xs)
 
 moved : (a b c d e f : Bool) → (a && (b && c && (d && e) && f)) ≡ (a && b && c && d && f && e)
-moved false b c d e f = refl
-moved true false c d e f = refl
-moved true true false d e f = refl
-moved true true true false e f = refl
-moved true true true true false false = refl
-moved true true true true false true = refl
-moved true true true true true false = refl
-moved true true true true true true = refl
+moved a b c d e f = grind arith
 
 rules_apart : (m : ModuleValue) → keeps_rules m ≡ (keeps_rules_but_for_fixups m && keeps_fixup_rules m)
 rules_apart m =

@@ -14,6 +14,7 @@ use Rattle.omf_module.specs.Segments.{has_segment}
 use Rattle.omf_module.specs.Gathered.{content_after, contents_from, begins_content}
 use Rattle.omf_module.specs.Uses.{unknown_id, body_fault, bodies_fault, fault_by}
 use Rattle.omf_module.specs.Reading.{with_contents, TakesBody, OrNoMemory}
+use Rattle.omf_module.proofs.KeepsLemmas.{one_known}
 use Rattle.omf_module.proofs.WithinLemmas.{by_cause}
 
 -- ---- ids
@@ -25,12 +26,8 @@ by_test false f rest other e = sym e
 pub unknown_first : (m : ModuleValue) (id : ℕ) (ids : List ℕ) (f : Cause) → Some f ≡ unknown_id m (id ∷ []) → unknown_id m (id ∷ ids) ≡ Some f
 unknown_first m id ids f e = by_test (has_segment m.commons id) f (unknown_id m ids) (Some (SegmentUnknown id)) e
 
-or_rest : (test : Bool) (rest : Option Cause) (f : Cause) → None ≡ (if test then None else Some f) → (if test then rest else Some f) ≡ rest
-or_rest true rest f e = refl
-or_rest false rest f e = absurd cc
-
 pub known_first : (m : ModuleValue) (id : ℕ) (ids : List ℕ) → None ≡ unknown_id m (id ∷ []) → unknown_id m (id ∷ ids) ≡ unknown_id m ids
-known_first m id ids e = or_rest (has_segment m.commons id) (unknown_id m ids) (SegmentUnknown id) e
+known_first m id ids e = rw (one_known m id (sym e))
 
 -- ---- bodies
 

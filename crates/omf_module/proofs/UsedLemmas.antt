@@ -49,15 +49,12 @@ whole f r p a is e = subst (λ (q : ModuleValue). f (with_contents q (contents_f
 
 pub header_refused : (r : ModuleRecords) (p : ModuleValue) (why : Cause) → p ≡ draft_of r → ((cs : List ContentValue) → Some why ≡ unknown_id (with_contents p cs) (header_ids r))
     → OrNoMemory (λ fault. use_fault r ≡ Some fault) (fault_of r.at why)
-header_refused r p why is e = by_cause (λ (fault : ModuleFault). use_fault r ≡ Some fault) r.at why (λ _.
-    ap (λ (o : Option Cause). option_or (option_map (fault_by r.at) o) (option_or (bodies_fault (parts_of r) None r.within) (end_fault (parts_of r) r)))
-    (whole (λ (m : ModuleValue). unknown_id m (header_ids r)) r p (Some why) is (λ cs. sym (e cs))))
+header_refused r p why is e =
+    by_cause (λ (fault : ModuleFault). use_fault r ≡ Some fault) r.at why (λ _. rw (whole (λ (m : ModuleValue). unknown_id m (header_ids r)) r p (Some why) is (λ cs. sym (e cs))))
 
 past_header : (r : ModuleRecords) (p : ModuleValue) → p ≡ draft_of r → ((cs : List ContentValue) → None ≡ unknown_id (with_contents p cs) (header_ids r))
     → use_fault r ≡ option_or (bodies_fault (parts_of r) None r.within) (end_fault (parts_of r) r)
-past_header r p is e =
-    ap (λ (o : Option Cause). option_or (option_map (fault_by r.at) o) (option_or (bodies_fault (parts_of r) None r.within) (end_fault (parts_of r) r)))
-    (whole (λ (m : ModuleValue). unknown_id m (header_ids r)) r p None is (λ cs. sym (e cs)))
+past_header r p is e = rw (whole (λ (m : ModuleValue). unknown_id m (header_ids r)) r p None is (λ cs. sym (e cs)))
 
 pub contents_refused : (r : ModuleRecords) (p : ModuleValue) (fault : ModuleFault) → p ≡ draft_of r → ((cs : List ContentValue) → None ≡ unknown_id (with_contents p cs) (header_ids r))
     → OrNoMemory (λ fault. (cs : List ContentValue) → bodies_fault (with_contents p cs) None r.within ≡ Some fault) fault → OrNoMemory (λ fault. use_fault r ≡ Some fault) fault

@@ -64,15 +64,9 @@ by_cause P here _ is = inr (is (λ e. absurd cc))
 pub records_fault : (bytes : List ℕ) (first here : ℕ) (bodies : List PlacedBody) (commons : List Common) (why : Cause)
     → WithinSoFar bytes first here bodies commons → (why ≢ Memory → FaultsWithin bytes here commons why) → OrNoMemory (FaultsRecords bytes first) (fault_of here why)
 records_fault bytes first here bodies commons why s f =
-    by_cause (FaultsRecords bytes first) here why (λ real. record {
-      here = here;
-      before = bodies;
-      why = why;
-      spelled = s.spelled;
-      follow = s.follow;
-      faults = subst (λ (c : List Common). FaultsWithin bytes here c why) s.declared (f real);
-      is = refl;
-    })
+    by_cause (FaultsRecords bytes first) here why (λ real.
+    let faults = subst (λ (c : List Common). FaultsWithin bytes here c why) s.declared (f real) in
+    record { here = here; before = bodies; why = why; spelled = s.spelled; follow = s.follow; faults = faults; is = refl })
 
 pub other_than_end : (b : Body) → ((end : EndBody) → b ≡ ModuleEnd end → ⊥) → is_end b ≢ true
 other_than_end (ModuleEnd b) other = absurd (other b refl)

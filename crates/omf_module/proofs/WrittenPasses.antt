@@ -1,11 +1,11 @@
 -- What comes of the records that are written of a sound module: each can be written and is read again, may follow those before
 -- it, and uses nothing that isn't there; and they say what the module has.
-use Rattle.std.proofs.Common.{◌≡◌, ℕ, ◌+◌, Bool, true, false, ◌&&◌, List, [], ◌∷◌, ◌++◌, length, map, Option, Some, None, refl, sym, ap, ◌∙◌, subst, append_assoc, inl, inr}
-use Rattle.std.specs.Prelude.{not, ◌==◌, nat_lt, if◌then◌else◌, option_map}
+use Rattle.std.proofs.Common.{◌≡◌, ℕ, Bool, true, false, ◌&&◌, List, [], ◌∷◌, ◌++◌, length, map, Option, Some, None, is_some, refl, sym, ap, ◌∙◌, subst, append_assoc, inl, inr}
+use Rattle.std.specs.Prelude.{not, ◌==◌, if◌then◌else◌, option_map}
 use Rattle.omf_core.specs.Name.{is_name}
 use Rattle.std.specs.List.{flat_map, list_all, AllByRecursion}
 use Rattle.std.specs.Option.{option_or, option_to_list}
-use Rattle.std.proofs.lemmas.Bool.{and_parts, and_from, not-true, le-ltb}
+use Rattle.std.proofs.lemmas.Bool.{and_parts, and_from, or_right}
 use Rattle.std.proofs.lemmas.Bool.Decides.{eqb_tells}
 use Rattle.std.proofs.lemmas.List.{append-nil}
 use Rattle.omf_body.specs.declared.field.Field.{Field}
@@ -15,19 +15,19 @@ use Rattle.omf_body.specs.Bodies.{record_bytes}
 use Rattle.omf_module.specs.declared.symbols.Common.{Common}
 use Rattle.omf_module.specs.declared.symbols.Public.{Public}
 use Rattle.omf_module.specs.declared.fault.Cause.{Cause}
-use Rattle.omf_module.specs.declared.fault.Cause.TheVariants.{SegmentUnknown, OffsetOutside, FixupOutside, FixupTwice, IndexUnknown}
 use Rattle.omf_module.specs.declared.fixup.Fixup.{Fixup}
 use Rattle.omf_module.specs.declared.fixup.Target.{Target}
 use Rattle.omf_module.specs.declared.fixup.Target.TheVariants as target
 use Rattle.omf_module.specs.Contents.{ContentValue, is_inside, shares_a_byte}
 use Rattle.omf_module.specs.Segments.{has_segment}
 use Rattle.omf_module.specs.Modules.{ModuleValue}
-use Rattle.omf_module.specs.Rules.{each_after, is_new_common, is_fitting, has_target, end_of, is_in_bounds, has_fitting, is_content}
+use Rattle.omf_module.specs.Rules.{each_after, is_new_common, is_fitting, is_in_bounds, has_fitting, is_content}
 use Rattle.omf_module.specs.Records.{commons_in, may_follow, each_follows}
 use Rattle.omf_module.specs.Gathered.{publics_in, externals_in, with_fixups, content_after, begins_content, contents_from}
-use Rattle.omf_module.specs.Uses.{unknown_id, place_fault, lacks_external, fixups_fault, reference_fault, body_fault, fault_by, bodies_fault}
+use Rattle.omf_module.specs.Uses.{fixups_fault, body_fault, fault_by, bodies_fault}
 use Rattle.omf_module.specs.Writing.{common_body, public_body, external_body, fixup_by, fixup_body, content_body, content_bodies}
-use Rattle.omf_module.proofs.RuleLemmas.{InBoundsParts, in_bounds_parts, new_common}
+use Rattle.omf_module.proofs.RuleLemmas.{in_bounds_parts, new_common}
+use Rattle.omf_module.proofs.UsesThere.{fixups_fit, body_fits}
 use Rattle.omf_module.proofs.WrittenSpelled.{Fits, placed_after}
 use Rattle.omf_module.proofs.WrittenSound.{chosen_by, common_fits, public_fits, external_fits, own_fits, other_fits, external_reference_fits, content_fits}
 
@@ -98,9 +98,6 @@ commons_pass m before (c ∷ cs) bodies said new names others =
     record { fits = common_fits c ((new_common before c p.0).id) n.0; used = refl; follow = and_from (is_new_common before c) true p.0 refl; commons = refl; publics = refl; externals = refl; next = refl }
     (commons_pass m (before ++ c ∷ []) cs bodies said p.1 n.1 (subst (λ (k : List Common). Passes m k None bodies said) (sym (append_assoc before (c ∷ []) cs)) others))
 
-known : (m : ModuleValue) (id : ℕ) → has_segment m.commons id ≡ true → unknown_id m (id ∷ []) ≡ None
-known m id has = ap (λ (b : Bool). if b then None else Some (SegmentUnknown id)) has
-
 pub publics_pass : (m : ModuleValue) (commons : List Common) (ps : List Public) (bodies : List Body) (said : Said) → list_all (λ p. has_segment m.commons p.segment) ps ≡ true → list_all (λ p. is_name p.name) ps ≡ true
     → Passes m commons None bodies said → Passes m commons None (map public_body ps ++ bodies) (record said { publics = ps ++ said.publics })
 publics_pass m commons [] bodies said has names others = others
@@ -108,7 +105,7 @@ publics_pass m commons (p ∷ ps) bodies said has names others =
     let q = and_parts (has_segment m.commons p.segment) (list_all (λ r. has_segment m.commons r.segment) ps) has in
     let n = and_parts (is_name p.name) (list_all (λ r. is_name r.name) ps) names in
     passes_more m commons commons [] (p ∷ []) [] None None (public_body p) (map public_body ps ++ bodies) (record said { publics = ps ++ said.publics }) (append-nil commons)
-    record { fits = public_fits p n.0; used = ap (λ (o : Option Cause). option_or o None) (known m p.segment q.0); follow = refl; commons = refl; publics = refl; externals = refl; next = refl }
+    record { fits = public_fits p n.0; used = rw q.0; follow = refl; commons = refl; publics = refl; externals = refl; next = refl }
     (publics_pass m commons ps bodies said q.1 n.1 others)
 
 pub externals_pass : (m : ModuleValue) (commons : List Common) (xs : List (List ℕ)) (bodies : List Body) (said : Said) → list_all is_name xs ≡ true
@@ -121,26 +118,6 @@ externals_pass m commons (x ∷ xs) bodies said names others =
     (externals_pass m commons xs bodies said n.1 others)
 
 -- ---- a fixup
-
-test_off : {A : Type 0} (b : Bool) (x y : A) → b ≡ false → (if b then x else y) ≡ y
-test_off true x y e = absurd cc
-test_off false x y e = refl
-
-lacks_none : (m : ModuleValue) (to : Target) → has_target m.commons (length m.externals) to ≡ true → lacks_external m to ≡ false
-lacks_none m (target.Segment id) has = refl
-lacks_none m (target.External index) has = ap not has
-
-fixup_used : (m : ModuleValue) (c : ContentValue) (f : Fixup) → is_fitting m.commons (length m.externals) c.offset (length c.bytes) c.fixups f ≡ true → fixups_fault m c (f ∷ []) ≡ None
-fixup_used m c f fit =
-    let p = and_parts (is_inside c.offset (length c.bytes) f && not (shares_a_byte c.fixups f)) (has_target m.commons (length m.externals) f.target) fit in
-    let q = and_parts (is_inside c.offset (length c.bytes) f) (not (shares_a_byte c.fixups f)) p.0 in
-    let inside : not (is_inside c.offset (length c.bytes) f) ≡ false = ap not q.0 in
-    let lacks = if lacks_external m f.target then Some IndexUnknown else None in
-    let twice = if shares_a_byte c.fixups f then Some FixupTwice else lacks in
-    ap (λ (o : Option Cause). option_or o None)
-    (test_off (not (is_inside c.offset (length c.bytes) f)) (Some FixupOutside) twice inside
-    ∙ (test_off (shares_a_byte c.fixups f) (Some FixupTwice) lacks (not-true (shares_a_byte c.fixups f) q.1)
-    ∙ test_off (lacks_external m f.target) (Some IndexUnknown) None (lacks_none m f.target p.1)))
 
 abbrev fixup_at : Field → ℕ → Target → Fixup
 fixup_at field offset to = record { offset = offset; field = field; target = to }
@@ -159,30 +136,14 @@ other_reference id field offset = IntersegmentReferences (record { segment = id;
 own_fixed : (m : ModuleValue) (commons : List Common) (c : ContentValue) (field : Field) (offset id : ℕ) → c.segment ≡ id → fixups_fault m c (fixup_at field offset (target.Segment id) ∷ []) ≡ None
     → Fits (own_reference field offset) → Fixed m commons c (fixup_at field offset (target.Segment id)) (own_reference field offset)
 own_fixed m commons c field offset id same used fits = record {
-  passed = record {
-    fits = fits;
-    used = ap (λ (i : ℕ). fixups_fault m c (fixup_at field offset (target.Segment i) ∷ [])) same ∙ used;
-    follow = refl;
-    commons = refl;
-    publics = refl;
-    externals = refl;
-    next = ap (λ (i : ℕ). Some (with_fixups c (fixup_at field offset (target.Segment i) ∷ []))) same;
-  };
+  passed = record { fits = fits; used = ap (λ (i : ℕ). fixups_fault m c (fixup_at field offset (target.Segment i) ∷ [])) same ∙ used; follow = refl; commons = refl; publics = refl; externals = refl; next = ap (λ (i : ℕ). Some (with_fixups c (fixup_at field offset (target.Segment i) ∷ []))) same };
   none = refl;
 }
 
 other_fixed : (m : ModuleValue) (commons : List Common) (c : ContentValue) (field : Field) (offset id : ℕ) → has_segment m.commons id ≡ true → fixups_fault m c (fixup_at field offset (target.Segment id) ∷ []) ≡ None
     → Fits (other_reference id field offset) → Fixed m commons c (fixup_at field offset (target.Segment id)) (other_reference id field offset)
 other_fixed m commons c field offset id has used fits = record {
-  passed = record {
-    fits = fits;
-    used = ap (λ (o : Option Cause). option_or o (fixups_fault m c (fixup_at field offset (target.Segment id) ∷ []))) (known m id has) ∙ used;
-    follow = refl;
-    commons = refl;
-    publics = refl;
-    externals = refl;
-    next = refl;
-  };
+  passed = record { fits = fits; used = rw has used; follow = refl; commons = refl; publics = refl; externals = refl; next = refl };
   none = refl;
 }
 
@@ -199,11 +160,11 @@ fixed : (m : ModuleValue) (commons : List Common) (c : ContentValue) (field : Fi
 fixed m commons c field offset (target.Segment id) fits =
     let f = fixup_at field offset (target.Segment id) in
     let p = and_parts (is_inside c.offset (length c.bytes) f && not (shares_a_byte c.fixups f)) (has_segment m.commons id) fits in
-    let used = fixup_used m c f fits in
+    let used = fixups_fit m c (f ∷ []) (and_from (is_fitting m.commons (length m.externals) c.offset (length c.bytes) c.fixups f) true fits refl) in
     chosen_by (Fixed m commons c f) (id == c.segment) (own_reference field offset) (other_reference id field offset)
     (λ same. own_fixed m commons c field offset id (same_id id c.segment same) used (own_fits field offset)) (other_fixed m commons c field offset id p.1 used (other_fits id field offset))
 fixed m commons c field offset (target.External index) fits = record {
-  passed = record { fits = external_reference_fits index field offset; used = fixup_used m c (fixup_at field offset (target.External index)) fits; follow = refl; commons = refl; publics = refl; externals = refl; next = refl };
+  passed = record { fits = external_reference_fits index field offset; used = fixups_fit m c (fixup_at field offset (target.External index) ∷ []) (rw fits); follow = refl; commons = refl; publics = refl; externals = refl; next = refl };
   none = refl;
 }
 
@@ -222,19 +183,6 @@ fixups_pass m commons c (f ∷ fs) bodies said fit others =
     subst (λ (b : Bool). Passes m commons (Some c) (map (fixup_body c.segment) (f ∷ fs) ++ bodies) (record said { contents = (if b then c ∷ [] else []) ++ said.contents })) one.none
     (passes_more m commons commons [] [] [] (Some c) (Some (with_fixups c (f ∷ []))) (fixup_body c.segment f) (map (fixup_body c.segment) fs ++ bodies) said (append-nil commons) one.passed last)
 
-refers_to_none : (m : ModuleValue) (nearest : Option ContentValue) (c : ContentValue) → reference_fault m nearest (content_body c) ≡ None
-refers_to_none m None c = refl
-refers_to_none m (Some d) c = refl
-
-content_used : (m : ModuleValue) (nearest : Option ContentValue) (c : ContentValue) → InBoundsParts m.segments m.commons c → body_fault m nearest (content_body c) ≡ None
-content_used m nearest c p =
-    let outside = if nat_lt (end_of m.segments c.segment) (c.offset + length c.bytes) then Some OffsetOutside else None in
-    ap (λ (o : Option Cause). option_or o (option_or (place_fault m (content_body c)) (reference_fault m nearest (content_body c)))) (known m c.segment p.has)
-    ∙ (ap (λ (o : Option Cause). option_or o (reference_fault m nearest (content_body c)))
-    (test_off (c.segment == 3) (Some (SegmentUnknown 3)) outside p.not_stack
-    ∙ test_off (nat_lt (end_of m.segments c.segment) (c.offset + length c.bytes)) (Some OffsetOutside) None (le-ltb (end_of m.segments c.segment) (c.offset + length c.bytes) p.within))
-    ∙ refers_to_none m nearest c)
-
 abbrev unreferred : ContentValue → ContentValue
 unreferred c = record c { fixups = [] }
 
@@ -243,19 +191,12 @@ only contents = record { commons = []; publics = []; externals = []; contents = 
 
 pub contents_pass : (m : ModuleValue) (commons : List Common) (nearest : Option ContentValue) (cs : List ContentValue) → list_all (is_content m.segments m.commons (length m.externals)) cs ≡ true
     → Passes m commons nearest (flat_map content_bodies cs) (only (option_to_list nearest ++ cs))
-contents_pass m commons nearest [] sound = record {
-  fit = tt;
-  used = λ before. refl;
-  follow = λ before. refl;
-  commons = λ before. refl;
-  publics = λ before. refl;
-  externals = λ before. refl;
-  contents = λ before. sym (append-nil (option_to_list nearest));
-}
+contents_pass m commons nearest [] sound =
+    record { fit = tt; used = λ b. refl; follow = λ b. refl; commons = λ b. refl; publics = λ b. refl; externals = λ b. refl; contents = λ b. sym (append-nil (option_to_list nearest)) }
 contents_pass m commons nearest (c ∷ cs) sound =
     let p = and_parts (is_content m.segments m.commons (length m.externals) c) (list_all (is_content m.segments m.commons (length m.externals)) cs) sound in
     let q = and_parts (is_in_bounds m.segments m.commons c) (has_fitting m.commons (length m.externals) c) p.0 in
     let placed = in_bounds_parts m.segments m.commons c q.0 in
     passes_more m commons commons [] [] [] nearest (Some (unreferred c)) (content_body c) (map (fixup_body c.segment) c.fixups ++ flat_map content_bodies cs) (only (c ∷ cs)) (append-nil commons)
-    record { fits = content_fits c placed.short; used = content_used m nearest c placed; follow = refl; commons = refl; publics = refl; externals = refl; next = refl }
+    record { fits = content_fits c placed.short; used = body_fits m nearest (content_body c) (rw placed.has) (or_right (is_some nearest) true refl) (rw q.0); follow = refl; commons = refl; publics = refl; externals = refl; next = refl }
     (fixups_pass m commons (unreferred c) c.fixups (flat_map content_bodies cs) (only (c ∷ cs)) q.1 (contents_pass m commons (Some c) cs p.1))

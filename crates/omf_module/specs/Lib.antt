@@ -11,5 +11,6 @@ pub mod Spelled
 pub mod Reading
 pub mod Laws
 pub mod ReadingLaws
+pub mod UseLaws
 pub mod Writing
 pub mod WritingLaws

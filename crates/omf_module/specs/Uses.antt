@@ -1,5 +1,5 @@
 -- What the records of a module use, and the first use of what isn't there: all records are gone through again when every
--- common, segment and external is known.
+-- common, segment and external is known. (specs/UseLaws.antt says by the rules of modules when there is none.)
 -- (8080 Object Module Formats: a record may use what a later one declares. The faults and their order are this project's own.)
 use Rattle.std.specs.Prelude.{ℕ, ◌+◌, ◌==◌, Bool, true, false, not, nat_lt, if◌then◌else◌, Option, Some, None, option_map, List, [], ◌∷◌, length, map}
 use Rattle.std.specs.Option.{option_or, option_to_list}

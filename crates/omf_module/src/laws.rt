@@ -3,6 +3,7 @@
 
 ghost use Rattle.omf_module.specs.Laws.{SegmentsAreKept, AbsoluteIsEmpty};
 ghost use Rattle.omf_module.specs.ReadingLaws.{OneModule, OneFault, NeverBoth, OneHeaderFault, SoundHeader, OneFile, OneFileFault, NeverBothFile};
+ghost use Rattle.omf_module.specs.UseLaws.{NoFaultExactlyWhereUsesAreThere};
 ghost use Rattle.omf_module.specs.WritingLaws.{WrittenModuleIsSpelled, WrittenFileIsSpelled};
 
 use omf_body::laws::{one_body, one_fault};
@@ -33,6 +34,12 @@ pub fn one_file_reading()
     one_body();
     one_fault();
 }
+
+/// The records of a module have no fault of use exactly where what they say keeps the rules, each segment that they speak of is
+/// there, and each record of fixups comes after a content.
+pub fn records_without_fault_keep_the_rules()
+    ensures { NoFaultExactlyWhereUsesAreThere }
+{}
 
 /// A module that is made of parts has their segments, in whatever order they were listed; absolute bytes have no length.
 pub fn segments_are_kept()

@@ -5,7 +5,7 @@ ghost use Rattle.std.specs.Option.{option_to_list};
 ghost use Rattle.std.specs.Result.{result_err};
 ghost use Rattle.omf_module.specs.Contents.{ContentValue};
 ghost use Rattle.omf_module.specs.Gathered.{content_after, contents_from, fixups_in, with_fixups};
-ghost use Rattle.omf_module.specs.Uses.{unknown_id, ids_in, place_fault, is_reference, reference_fault, body_fault, bodies_fault};
+ghost use Rattle.omf_module.specs.Uses.{unknown_id, ids_in, place_fault, reference_fault, body_fault, bodies_fault};
 ghost use Rattle.omf_module.specs.Reading.{with_contents, TakesBody, OrNoMemory};
 
 use crate::content::Content;
@@ -79,17 +79,6 @@ fn look_at_place(parts: &Parts, body: &Body) -> Result<(), Cause>
     Ok(())
 }
 
-fn is_reference(body: &Body) -> bool
-    ensures { result ≡ is_reference body.now }
-{
-    match body {
-        Body::ExternalReferences(_) => true,
-        Body::Relocation(_) => true,
-        Body::IntersegmentReferences(_) => true,
-        _ => false,
-    }
-}
-
 /// Takes the fixups of a record that isn't content into the nearest content before it.
 fn take_fixups<'a>(
     alloc: Global,
@@ -102,10 +91,12 @@ fn take_fixups<'a>(
     ensures fault { IfErr result (λ why. why ≢ Cause.Memory → (cs : List ContentValue) → reference_fault (with_contents parts.now cs) nearest.entry body.now ≡ Some why) }
 {
     let Some(mut open) = nearest else {
-        if is_reference(body) {
-            return Err(Cause::FixupBeforeContent);
-        }
-        return Ok(None);
+        return match body {
+            Body::ExternalReferences(_) => Err(Cause::FixupBeforeContent),
+            Body::Relocation(_) => Err(Cause::FixupBeforeContent),
+            Body::IntersegmentReferences(_) => Err(Cause::FixupBeforeContent),
+            _ => Ok(None),
+        };
     };
     let fixups = fixups_in(alloc, open.segment(), body)?;
     open.take_all(parts, &fixups)?;

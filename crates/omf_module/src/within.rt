@@ -84,18 +84,16 @@ fn within_at<'a>(
             Ok(read) => read,
             Err(why) => return Err(why.at(here)),
         };
-        match body {
-            Body::ModuleEnd(end) => {
-                let within = Within {
-                    bodies,
-                    commons,
-                    end_at: here,
-                    end,
-                };
-                return Ok((within, next));
-            }
-            body => bodies.push(PlacedBody { at: here, body })?,
+        if let Body::ModuleEnd(end) = body {
+            let within = Within {
+                bodies,
+                commons,
+                end_at: here,
+                end,
+            };
+            return Ok((within, next));
         }
+        bodies.push(PlacedBody { at: here, body })?;
         here = next;
     }
 }
