@@ -2,5 +2,6 @@ pub mod Fault
 pub mod Providers
 pub mod Spelled
 pub mod Laws
-pub mod Reading
 pub mod Writing
+-- what the crate's own functions promise one another: no public contract cites these
+pub mod Reading

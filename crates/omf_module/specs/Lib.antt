@@ -1,6 +1,5 @@
 pub mod Contents
 pub mod Fault
-pub mod Marks
 pub mod Modules
 pub mod Rules
 pub mod Segments
@@ -14,3 +13,5 @@ pub mod ReadingLaws
 pub mod UseLaws
 pub mod Writing
 pub mod WritingLaws
+-- what the crate's own functions promise one another: no public contract cites these
+pub mod Marks

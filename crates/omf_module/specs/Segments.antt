@@ -31,7 +31,7 @@ segment_in entries id = option_map_or (λ e. e.1) (find (λ e. e.0 == id) entrie
 abbrev pub is_used : Segment → Bool
 is_used s = nat_lt 0 s.length || s.paged
 
--- The one form of the segments of a module: in ascending order of ids, every named common,
+-- The canonical form of the segments of a module: in ascending order of ids, every named common,
 -- and of the others those that have bytes or are paged. Id 0 is never listed.
 abbrev pub entry_for : List (ℕ × Segment) → List Common → ℕ → Option (ℕ × Segment)
 entry_for entries commons id =

@@ -1,4 +1,4 @@
--- The one form in which a module is written, as the bodies of its records: header, commons, publics, externals, contents
+-- The canonical form in which a module is written, as the bodies of its records: header, commons, publics, externals, contents
 -- with their fixups, end. Bytes that aren't looked at are written as 00.
 -- (8080 Object Module Formats; the order of the records is this project's.)
 use Rattle.std.specs.Prelude.{ℕ, ◌==◌, if◌then◌else◌, Option, option_map, List, [], ◌∷◌, ◌++◌, map}

@@ -59,7 +59,7 @@ pub enum Cause {
     /// Content passes the end of its segment.
     #[error("OffsetOutside")]
     OffsetOutside,
-    /// No content stands before a reference.
+    /// No content stands before a fixup.
     #[error("FixupBeforeContent")]
     FixupBeforeContent,
     /// The bytes of a reference aren't all in its content.

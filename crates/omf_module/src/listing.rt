@@ -1,4 +1,4 @@
-//! The one form in which a module lists its segments.
+//! The canonical form in which a module lists its segments.
 
 ghost use Rattle.std.specs.Prelude.{◌≡◌, IfOk};
 ghost use Rattle.omf_module.specs.Segments.{entry_for, in_one_form};

@@ -1,4 +1,4 @@
-//! Modules as records, in one form: each kind of record is appended by its own function.
+//! Modules as records, in canonical form: each kind of record is appended by its own function.
 
 ghost use Rattle.std.specs.Prelude.{◌≡◌, ◌≢◌, ◌≤◌, ◌<◌, ◌++◌, [], length, map, is_ok, option_map, Err, IfOk, OnOk, OnErr, IsTrue};
 ghost use Rattle.std.specs.List.{flat_map, AllByRecursion};
