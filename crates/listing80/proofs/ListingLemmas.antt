@@ -1,8 +1,13 @@
 -- The lines of a range, one after another.
-use Rattle.std.specs.Prelude.{◌≡◌, ℕ, zero, suc, ◌+◌, ◌-◌, ◌%◌, ◌<◌, ◌≤◌, List, [], ◌∷◌, ◌++◌, None, Some, Option, take, codes}
-use Rattle.std.proofs.Common.{◌∙◌, ap, arith, append_assoc}
+use Rattle.std.specs.Prelude.{◌≡◌, ℕ, zero, suc, ◌+◌, ◌-◌, ◌%◌, ◌<◌, ◌≤◌, Bool, true, false, nat_le, List, [], ◌∷◌, ◌++◌, None, Some, Option, length, take, codes, if◌then◌else◌}
+use Rattle.std.specs.Option.{option_map}
+use Rattle.std.proofs.lemmas.Bool.Decides.{nat_tests}
+use Rattle.std.proofs.Common.{◌∙◌, ap, arith, append_assoc, refl, subst, sym}
 use Rattle.decode80.specs.declared.instr.Instr.{Instr}
-use Rattle.listing80.specs.Listing.{bytes_from, columns, instruction_of, line_length, list_line, lines_from}
+use Rattle.decode80.specs.Decoded.{completed, decoded, row}
+use Rattle.decode80.specs.Spelling.{spelling}
+use Rattle.listing80.specs.Listing.{bytes_from, columns, fitting, instruction_of, line_length, list_line, lines_from}
+use Rattle.listing80.specs.ListingLaws.{AreLines, no_line, line}
 
 -- the address after so many and one more
 address-next : (at n : ℕ) → ((at + 1) % 65536 + n) % 65536 ≡ (at + suc n) % 65536
@@ -39,3 +44,31 @@ pub list_line-alone : (at : ℕ) (bytes before : List ℕ) (found : Option (Inst
     (before ++ columns at (take 1 bytes)) ++ (codes "??" ++ 10 ∷ []) ≡ before ++ list_line at bytes found
 list_line-alone at bytes before None none = append_assoc before (columns at (take 1 bytes)) (codes "??" ++ 10 ∷ [])
 list_line-alone at bytes before (Some i) none = cc
+
+-- a line has one byte at least, and no more than are left
+abbrev Fits : (left : ℕ) → Option (Instr × ℕ) → Type 0
+Fits left found = (0 < line_length found) × (line_length found ≤ left)
+
+fits-if : (b : Bool) (left n : ℕ) (i : Instr) → nat_le n left ≡ b → 0 < n → 0 < left → Fits left (if b then Some (i, n) else None)
+fits-if true left n i e some there = (some, grind (arith, nat_tests))
+fits-if false left n i e some there = (omega arith, omega arith)
+
+fits : (left low high : ℕ) (o : Option Instr) → ((i : Instr) → 1 ≤ length (spelling i)) → 0 < left → Fits left (fitting left (option_map (completed low high) o))
+fits left low high None sizes there = (omega arith, there)
+fits left low high (Some i) sizes there = fits-if (nat_le (length (spelling i)) left) left (length (spelling i)) (completed low high i).0 refl (sizes i) there
+
+line-fits : (bytes : List ℕ) (left : ℕ) → ((i : Instr) → 1 ≤ length (spelling i)) → 0 < left → Fits left (instruction_of bytes left)
+unfolding decoded
+line-fits bytes left sizes there = fits left _ _ _ sizes there
+
+-- the lines of what is left of a range
+pub lines_from-are_lines : ((i : Instr) → 1 ≤ length (spelling i)) → (memory : List ℕ) (most at left : ℕ) → at < 65536 → left ≤ most → AreLines memory at left (lines_from memory at 0 left)
+unfolding lines_from
+lines_from-are_lines sizes memory most at zero below enough = no_line at
+lines_from-are_lines sizes memory zero at (suc left) below enough = absurd (omega arith)
+lines_from-are_lines sizes memory (suc most) at (suc left) below enough =
+    let found : Option (Instr × ℕ) = instruction_of (bytes_from memory at) (suc left) in
+    let n : ℕ = line_length found in
+    let fitted : (0 < n) × (n ≤ suc left) = line-fits (bytes_from memory at) (suc left) sizes (omega arith) in
+    subst (λ (t : List ℕ). AreLines memory at (suc left) t) (sym (lines_from-line memory at (suc left) n (suc left - n) below refl (omega arith) (omega arith)))
+    (line at (suc left) n found _ refl refl fitted.0 fitted.1 (lines_from-are_lines sizes memory most ((at + n) % 65536) (suc left - n) (omega arith) (omega arith)))

@@ -3,8 +3,10 @@
 //! | Item | What it is |
 //! |---|---|
 //! | [`listing`] | the instructions of an image's code, a line each |
+//! | [`laws`] | the lines of a range take all of its bytes, as a contract |
 #![tactic(auto)]
 
+pub mod laws;
 mod list_text;
 
 pub use list_text::listing;
