@@ -6,7 +6,7 @@ use Rattle.omf_module.specs.Modules.{ModuleValue}
 use Rattle.omf_relocation.specs.Place.{rounded}
 use Rattle.place80.specs.declared.options.Options.{Options}
 use Rattle.place80.specs.declared.placed.Placed.{Placed}
-use Rattle.place80.specs.Layout.{usual_base, common_ids, order_of, given_length, own_segment, placed_after, placed_from, layout_of}
+use Rattle.place80.specs.Layout.{default_base, common_ids, order_of, given_length, own_segment, placed_after, placed_from, layout_of}
 use Rattle.place80.specs.LayoutLaws.{HasItsLength, AllFollow, IsLaidOut}
 
 ids_from : (options : Options) (m : ModuleValue) (before : ℕ) (ids : List ℕ) → map (λ p. p.id) (placed_from options m before ids) ≡ ids
@@ -29,19 +29,19 @@ follow_from options m before (id ∷ ids) = (refl, follow_from options m (placed
 abbrev later_ids : ModuleValue → List ℕ
 later_ids m = 3 ∷ (common_ids m.commons ++ 255 ∷ 2 ∷ 4 ∷ [])
 
-first_base : (options : Options) (m : ModuleValue) → (placed_after options m usual_base 1).base ≡ unwrap_or options.code usual_base
-first_base options m = elim (own_segment m 1).paged as (λ b. unwrap_or options.code (rounded b usual_base) ≡ unwrap_or options.code usual_base) [ true ↦ refl | false ↦ refl ]
+first_base : (options : Options) (m : ModuleValue) → (placed_after options m default_base 1).base ≡ unwrap_or options.code default_base
+first_base options m = elim (own_segment m 1).paged as (λ b. unwrap_or options.code (rounded b default_base) ≡ unwrap_or options.code default_base) [ true ↦ refl | false ↦ refl ]
 
 pub layout_is_laid_out : (options : Options) (m : ModuleValue) → IsLaidOut options m (layout_of options m)
 unfolding layout_of
 layout_is_laid_out options m =
-    let code = placed_after options m usual_base 1 in
+    let code = placed_after options m default_base 1 in
     record {
       code = code;
       others = placed_from options m (code.base + code.length) (later_ids m);
       whole = refl;
-      order = ids_from options m usual_base (order_of m.commons);
-      lengths = lengths_from options m usual_base (order_of m.commons);
+      order = ids_from options m default_base (order_of m.commons);
+      lengths = lengths_from options m default_base (order_of m.commons);
       first = first_base options m;
       follow = follow_from options m code (later_ids m);
     }
@@ -81,6 +81,6 @@ laid_out_in_one_way options m segments laid =
     let lengths : AllByRecursion (HasItsLength options m) (code ∷ others) = subst (AllByRecursion (HasItsLength options m)) laid.whole laid.lengths in
     let is_code : code.id ≡ 1 = ap (λ (l : List ℕ). head_or l 0) order in
     let long = lengths.0 ∙ ap (λ (n : ℕ). unwrap_or (given_length options n) (own_segment m n).length) is_code in
-    let here = same_placed code (placed_after options m usual_base 1) is_code (laid.first ∙ sym (first_base options m)) long in
+    let here = same_placed code (placed_after options m default_base 1) is_code (laid.first ∙ sym (first_base options m)) long in
     let later = followers options m code others (later_ids m) (ap (λ (l : List ℕ). tail_of l) order) lengths.1 laid.follow in
     laid.whole ∙ ap (λ (l : List Placed). code ∷ l) later ∙ ap (λ (q : Placed). q ∷ placed_from options m (q.base + q.length) (later_ids m)) here

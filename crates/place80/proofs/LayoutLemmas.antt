@@ -11,7 +11,7 @@ use Rattle.omf_module.specs.Segments.{has_segment, names_common, is_fixed_id}
 use Rattle.omf_module.specs.Modules.{ModuleValue}
 use Rattle.place80.specs.declared.options.Options.{Options}
 use Rattle.place80.specs.declared.placed.Placed.{Placed}
-use Rattle.place80.specs.Layout.{usual_base, common_ids, order_of, given_length, own_segment, common_numbers, placed_after, placed_from, layout_of}
+use Rattle.place80.specs.Layout.{default_base, common_ids, order_of, given_length, own_segment, common_numbers, placed_after, placed_from, layout_of}
 use Rattle.place80.specs.PlaceFault.{ids_of, overlap_of, first_shared, with_each, is_outside, overlaps, pairs, all_pairs, absolute_places, outside_memory, overlap, layout_fault}
 use Rattle.place80.specs.declared.place_fault.PlaceFault.TheVariants.{OutsideMemory}
 use Rattle.place80.proofs.LocatedDisjoint.{HasWord}
@@ -51,7 +51,7 @@ placed_lengths options m before (id ∷ ids) =
 
 pub layout_lengths : (options : Options) (m : ModuleValue) → All (λ p. p.length ≡ length_of_id options m p.id) (layout_of options m)
 unfolding layout_of
-layout_lengths options m = placed_lengths options m usual_base (order_of m.commons)
+layout_lengths options m = placed_lengths options m default_base (order_of m.commons)
 
 -- words where the lengths that are given and the module's own are
 pub layout_has_words : (options : Options) (m : ModuleValue) → ((id : ℕ) → length_of_id options m id < 65536) → All HasWord (layout_of options m)
@@ -68,7 +68,7 @@ placed_ids options m before (i ∷ is) id =
 
 layout_ids : (options : Options) (m : ModuleValue) (id : ℕ) → list_any (λ p. p.id == id) (layout_of options m) ≡ list_any (λ i. i == id) (order_of m.commons)
 unfolding layout_of
-layout_ids options m id = placed_ids options m usual_base (order_of m.commons) id
+layout_ids options m id = placed_ids options m default_base (order_of m.commons) id
 
 or_true : (b : Bool) → (b || true) ≡ true
 or_true true = refl

@@ -4,7 +4,7 @@ use Rattle.std.specs.List.{list_any, AllByRecursion}
 use Rattle.std.specs.Option.{option_or}
 use Rattle.std.proofs.Common.{◌∙◌, ap, sym, subst, arith, ◌<◌, get_or}
 use Rattle.std.proofs.lemmas.Bool.{ltb-true}
-use Rattle.std.proofs.lemmas.List.Elements.{All-from_get_or, All-from_recursion, recursion_from_All}
+use Rattle.std.proofs.lemmas.List.Elements.{All-from_get_or, recursion_from_All}
 use Rattle.std.proofs.lemmas.List.{append-nil}
 use Rattle.omf_module.specs.declared.fixup.Fixup.{Fixup}
 use Rattle.omf_module.specs.declared.fixup.Target.{Target}
@@ -24,13 +24,13 @@ use Rattle.place80.specs.declared.options.Options.{Options}
 use Rattle.place80.specs.declared.placed.Placed.{Placed}
 use Rattle.place80.specs.Image.{PlacedBytes}
 use Rattle.place80.specs.Layout.{placed_in, place_among, bases_of, layout_of, program_bases}
-use Rattle.place80.specs.Locating.{word_among, chunk_among, CanBePlaced, placed_bytes, located_chunks}
+use Rattle.place80.specs.Locating.{Fit, word_among, chunk_among, CanBePlaced, placed_bytes, located_chunks}
 use Rattle.place80.specs.PlaceFault.{is_outside, overlaps, pairs, high_not_paged, is_in_placed, start_place, start_not_code, unresolved, no_start, layout_fault, locate_fault}
 use Rattle.place80.specs.declared.place_fault.PlaceFault.{PlaceFault}
 use Rattle.place80.specs.declared.place_fault.PlaceFault.TheVariants.{HighNotPaged, StartNotCode}
 use Rattle.place80.proofs.ChunkLemmas.{all_at, content_in_memory}
 use Rattle.place80.proofs.LayoutLemmas.{in_memory_and_apart}
-use Rattle.place80.proofs.LocatedDisjoint.{EndsInMemory, HasWord, ends_in_memory}
+use Rattle.place80.proofs.LocatedDisjoint.{EndsInMemory, ends_in_memory}
 use Rattle.place80.proofs.PlaceLemmas.{ModuleLaws, place_of_id}
 
 -- two tests, or two functions, that agree where something holds
@@ -210,17 +210,12 @@ chunks_told laws options m segments contents chunks sound closed places same tol
     ∙ ap (map (chunk_among (layout_of options m))) same
     ∙ chunks_same laws options m sound closed
 
--- ranges of a layout without a fault
-pub record Fit (segments : List Placed) : Type 0 where
-  pub ends : All EndsInMemory segments
-  pub words : All HasWord segments
-  pub apart : find (λ pq. overlaps pq.0 pq.1) (pairs segments) ≡ None
-
+-- the segments of a layout without a fault
 pub laid_fit : (options : Options) (m : ModuleValue) (segments : List Placed) → segments ≡ layout_of options m → AllByRecursion (λ p. p.length < 65536) segments → layout_fault options m ≡ None → Fit segments
 laid_fit options m segments places lengths laid =
     let parts = in_memory_and_apart options m laid in
     record {
       ends = subst (λ (s : List Placed). All EndsInMemory s) (sym places) (ends_in_memory m.contents (layout_of options m) parts.0);
-      words = All-from_recursion HasWord segments lengths;
+      words = lengths;
       apart = subst (λ (s : List Placed). find (λ (pq : Placed × Placed). overlaps pq.0 pq.1) (pairs s) ≡ None) (sym places) parts.1;
     }

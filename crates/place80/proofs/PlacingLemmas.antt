@@ -1,12 +1,14 @@
 -- The places of segments, one after another.
-use Rattle.std.specs.Prelude.{◌≡◌, ℕ, suc, ◌+◌, ◌-◌, ◌<◌, ◌≤◌, Bool, true, false, List, [], ◌∷◌, ◌++◌, filter, refl}
-use Rattle.std.specs.List.{range_with_len}
-use Rattle.std.proofs.Common.{cond, ap, sym, arith, append_assoc}
+use Rattle.std.specs.Prelude.{◌≡◌, ℕ, suc, ◌+◌, ◌-◌, ◌<◌, ◌≤◌, Bool, true, false, List, [], ◌∷◌, ◌++◌, drop, filter, length, refl}
+use Rattle.std.specs.List.{AllByRecursion, range_with_len}
+use Rattle.std.proofs.Common.{cond, ap, sym, arith, append_assoc, get_or, ◌∙◌}
+use Rattle.std.proofs.lemmas.List.{drop_more}
 use Rattle.omf_module.specs.declared.symbols.Common.{Common}
 use Rattle.omf_module.specs.Segments.{names_common}
 use Rattle.omf_module.specs.Modules.{ModuleValue}
 use Rattle.place80.specs.declared.options.Options.{Options}
-use Rattle.place80.specs.Layout.{common_numbers, common_ids, order_of, placed_from, layout_of}
+use Rattle.place80.specs.declared.placed.Placed.{Placed}
+use Rattle.place80.specs.Layout.{common_numbers, common_ids, order_of, placed_after, placed_from, layout_of}
 
 all_numbers : range_with_len 6 (255 - 6) ≡ common_numbers
 unfolding common_numbers
@@ -38,3 +40,15 @@ without_id front rest b id is = rw is refl
 pub whole_layout : (options : Options) (m : ModuleValue) → placed_from options m 12288 (order_of m.commons) ≡ layout_of options m
 unfolding layout_of
 whole_layout options m = refl
+
+-- the places so far and those that are left, with one more
+pub one_place_more : (options : Options) (m : ModuleValue) (before : ℕ) (ids : List ℕ) (i : ℕ) (segments : List Placed) (placed : Placed) → i < length ids → placed ≡ placed_after options m before (get_or ids i 0) →
+    (segments ++ placed ∷ []) ++ placed_from options m (placed.base + placed.length) (drop (i + 1) ids) ≡ segments ++ placed_from options m before (drop i ids)
+one_place_more options m before ids i segments placed inside is =
+    append_assoc segments (placed ∷ []) (placed_from options m (placed.base + placed.length) (drop (i + 1) ids))
+    ∙ ap (λ (p : Placed). segments ++ p ∷ placed_from options m (p.base + p.length) (drop (i + 1) ids)) is
+    ∙ ap (λ l. segments ++ placed_from options m before l) (sym (drop_more ids i 0 inside))
+
+pub one_word_more : (segments : List Placed) (placed : Placed) → AllByRecursion (λ p. p.length < 65536) segments → placed.length < 65536 → AllByRecursion (λ p. p.length < 65536) (segments ++ placed ∷ [])
+one_word_more [] placed all word = (word, tt)
+one_word_more (p ∷ ps) placed all word = (all.0, one_word_more ps placed all.1 word)

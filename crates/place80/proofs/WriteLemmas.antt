@@ -1,9 +1,9 @@
 -- The text of regions spells them.
-use Rattle.std.proofs.Common.{◌≡◌, ℕ, zero, suc, ◌/◌, ◌%◌, ◌<◌, ◌≤◌, false, cond, List, [], ◌∷◌, ◌++◌, length, map, append_assoc, append-nil, lit≤, refl, ap, sym, subst, ◌∙◌}
+use Rattle.std.proofs.Common.{◌≡◌, ℕ, zero, suc, ◌+◌, ◌/◌, ◌%◌, ◌<◌, ◌≤◌, false, cond, List, [], ◌∷◌, ◌++◌, length, drop, get_or, map, append_assoc, append-nil, lit≤, refl, ap, sym, subst, ◌∙◌}
 use Rattle.std.specs.Prelude.{All, IsPermutation, slice_index, filter_map, codes, Option, Some, None, Result, Ok, Err, OnOk}
 use Rattle.std.specs.List.{flat_map, cons_option}
 use Rattle.std.proofs.lemmas.Bool.{lt-ltb}
-use Rattle.std.proofs.lemmas.List.{map-append}
+use Rattle.std.proofs.lemmas.List.{drop_more, map-append}
 use Rattle.std.proofs.lemmas.List.Concat.{flat_map-append}
 use Rattle.std.proofs.lemmas.List.Elements.{All-nil, All-cons, All-head, All-tail, All-append, All-map, All-from_recursion, filter_map-append}
 use Rattle.std.proofs.lemmas.List.Sorted.{IsPermutation-refl}
@@ -176,3 +176,10 @@ steps_are_text areas front with_code with_stack with_data first_line code_word s
 pub on_ok_always : {T E P : Type 0} (result : Result T E) → P → OnOk result P
 on_ok_always (Ok value) p = p
 on_ok_always (Err fault) p = tt
+
+-- the lines so far and those that are left, with one more
+pub one_line_more : (line : Range → List ℕ) (ranges : List Range) (i : ℕ) (d : Range) (text : List ℕ) → i < length ranges →
+    (text ++ line (get_or ranges i d)) ++ flat_map line (drop (i + 1) ranges) ≡ text ++ flat_map line (drop i ranges)
+one_line_more line ranges i d text inside =
+    append_assoc text (line (get_or ranges i d)) (flat_map line (drop (i + 1) ranges))
+    ∙ ap (λ l. text ++ flat_map line l) (sym (drop_more ranges i d inside))

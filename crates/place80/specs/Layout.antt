@@ -12,8 +12,8 @@ use Rattle.place80.specs.declared.options.Options.{Options}
 use Rattle.place80.specs.declared.placed.Placed.{Placed}
 
 -- where CODE stands without an option
-abbrev pub usual_base : ℕ
-usual_base = 0x3000
+abbrev pub default_base : ℕ
+default_base = 0x3000
 
 -- the segments in the order of their places: CODE, STACK, the named commons by id, the unnamed common, DATA, MEMORY
 unfoldable pub common_numbers : List ℕ
@@ -59,7 +59,7 @@ placed_from options m before (id ∷ ids) =
 
 -- all segments of the program, in their order
 unfoldable pub layout_of : Options → ModuleValue → List Placed
-layout_of options m = placed_from options m usual_base (order_of m.commons)
+layout_of options m = placed_from options m default_base (order_of m.commons)
 
 -- the placed segment of an id
 abbrev pub nowhere : ℕ → Placed

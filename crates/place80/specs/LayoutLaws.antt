@@ -7,7 +7,7 @@ use Rattle.omf_module.specs.Modules.{ModuleValue}
 use Rattle.omf_relocation.specs.Place.{rounded}
 use Rattle.place80.specs.declared.options.Options.{Options}
 use Rattle.place80.specs.declared.placed.Placed.{Placed}
-use Rattle.place80.specs.Layout.{usual_base, order_of, given_base, given_length, own_segment, layout_of}
+use Rattle.place80.specs.Layout.{default_base, order_of, given_base, given_length, own_segment, layout_of}
 use Rattle.place80.specs.PlaceFault.{overlaps, is_in_placed, absolute_place, layout_fault}
 
 -- it has the length that is given for it, or its own
@@ -31,7 +31,7 @@ pub record IsLaidOut (options : Options) (m : ModuleValue) (segments : List Plac
   pub whole : segments ≡ code ∷ others
   pub order : map (λ p. p.id) segments ≡ order_of m.commons
   pub lengths : AllByRecursion (HasItsLength options m) segments
-  pub first : code.base ≡ unwrap_or options.code usual_base
+  pub first : code.base ≡ unwrap_or options.code default_base
   pub follow : AllFollow options m code others
 
 -- the layout is laid out, and no other list of segments is

@@ -1,6 +1,6 @@
 -- The image of a located program: its chunks, its regions and its start, by the places of its segments.
 -- (ISIS-II User's Guide, LOCATE: an absolute module.)
-use Rattle.std.specs.Prelude.{ℕ, ◌+◌, ◌≤◌, IsTrue, length, ◌%◌, ◌==◌, Bool, ◌||◌, not, List, [], ◌∷◌, filter, map}
+use Rattle.std.specs.Prelude.{ℕ, ◌≡◌, ◌+◌, ◌≤◌, ◌<◌, All, IsTrue, length, ◌%◌, ◌==◌, Bool, ◌||◌, not, None, List, [], ◌∷◌, filter, find, map}
 use Rattle.std.specs.List.{AllByRecursion}
 use Rattle.omf_module.specs.Modules.{ModuleValue}
 use Rattle.omf_module.specs.declared.fixup.Target.{Target}
@@ -13,6 +13,7 @@ use Rattle.place80.specs.declared.placed.Placed.{Placed}
 use Rattle.place80.specs.Image.{PlacedBytes}
 use Rattle.place80.specs.RegionsText.{filled}
 use Rattle.place80.specs.Layout.{placed_in, place_among, program_bases}
+use Rattle.place80.specs.PlaceFault.{overlaps, pairs}
 
 -- a chunk of an image
 abbrev pub placed_bytes : ByteChunk → PlacedBytes
@@ -37,6 +38,12 @@ pub record CanBePlaced (segments : List Placed) (c : ContentValue) : Type 0 wher
   pub apart : IsTrue (are_apart (map (patch_with (word_among segments) c.offset) c.fixups))
   pub in_record : length c.bytes ≤ 65531
   pub in_memory : place_among segments c.segment c.offset + length c.bytes ≤ 65536
+
+-- segments whose ranges are regions: each ends with memory or before, its length is a word, and no two share an address
+pub record Fit (segments : List Placed) : Type 0 where
+  pub ends : All (λ p. p.base + p.length ≤ 65536) segments
+  pub words : AllByRecursion (λ p. p.length < 65536) segments
+  pub apart : find (λ pq. overlaps pq.0 pq.1) (pairs segments) ≡ None
 
 -- the range of a placed segment; an empty one at the end of memory begins at 0
 abbrev pub range_at : Placed → Range

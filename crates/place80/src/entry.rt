@@ -8,7 +8,7 @@ use crate::range::Range;
 use decode80::word_of_digits;
 
 /// What a line of a regions text gives.
-#[derive(Clone, Copy, Debug, PartialEq, Eq)]
+#[derive(Clone, Copy)]
 pub(crate) enum Entry {
     Code(Range),
     Stack(Range),

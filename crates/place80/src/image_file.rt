@@ -12,6 +12,7 @@ use crate::image::Image;
 use crate::image_fault::ImageFault;
 use crate::laws::written_image_is_spelled;
 use crate::regions::Regions;
+use omf_body::segment_id::ABSOLUTE;
 use omf_module::{Content, Module, Parts, PartsFault, read_file, write_file};
 use std::alloc::{AllocError, Global};
 
@@ -58,7 +59,7 @@ fn parts_of(alloc: Global, image: &Image) -> Result<Parts, AllocError>
         publics: Vec::new(alloc),
         externals: Vec::new(alloc),
         contents: contents_of(alloc, &image.chunks)?,
-        start: Some((0, image.start)),
+        start: Some((ABSOLUTE, image.start)),
     })
 }
 
@@ -80,7 +81,7 @@ fn content_of(alloc: Global, chunk: &Chunk) -> Result<Content, AllocError>
     ensures rule { IsChunk chunk.now }
 {
     Ok(Content {
-        segment: 0,
+        segment: ABSOLUTE,
         offset: chunk.address,
         bytes: Vec::from_slice(alloc, &chunk.bytes)?,
         fixups: Vec::new(alloc),
@@ -159,7 +160,7 @@ fn is_absolute(program: &Module) -> bool
 fn are_absolute(contents: &[Content]) -> bool
     ensures { result ≡ list_all is_absolute_content contents.now }
 {
-    contents.iter().all(|content| content.segment == 0 && content.fixups.is_empty())
+    contents.iter().all(|content| content.segment == ABSOLUTE && content.fixups.is_empty())
 }
 
 /// Whether the start, if there is one, is absolute.
@@ -167,7 +168,7 @@ fn starts_absolute(start: Option<(u8, u16)>) -> bool
     ensures { result ≡ is_absolute_start start }
 {
     match start {
-        Some((segment, _)) => segment == 0,
+        Some((segment, _)) => segment == ABSOLUTE,
         None => true,
     }
 }

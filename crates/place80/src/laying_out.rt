@@ -12,11 +12,12 @@ use crate::outside::first_outside;
 use crate::overlap::first_overlap;
 use crate::place_fault::PlaceFault;
 use crate::placed::{Layout, Placed};
+use omf_body::segment_id::{CODE, DATA, FIRST_COMMON, MEMORY, STACK, UNNAMED_COMMON};
 use omf_module::{Common, Module, Segment, names_common};
 use std::alloc::{AllocError, Global};
 
 /// Where CODE stands without an option.
-const USUAL_BASE: u32 = 0x3000;
+const DEFAULT_BASE: u32 = 0x3000;
 
 /// The places of the program's segments.
 ///
@@ -48,9 +49,9 @@ fn common_ids(alloc: Global, commons: &[Common]) -> Result<Vec<u8>, AllocError>
     ensures few { IfOk result (λ ids. length ids.items ≤ 249) }
 {
     let mut ids = Vec::new(alloc);
-    for id in 6..255u16 {
-        if names_common(commons, id as u8) {
-            ids.push(id as u8)?;
+    for id in FIRST_COMMON..UNNAMED_COMMON {
+        if names_common(commons, id) {
+            ids.push(id)?;
         }
     }
     Ok(ids)
@@ -61,10 +62,10 @@ fn order(alloc: Global, commons: &[Common]) -> Result<Vec<u8>, AllocError>
     ensures order { IfOk result (λ ids. ids.items ≡ order_of commons.now) }
     ensures few { IfOk result (λ ids. length ids.items ≤ 254) }
 {
-    let mut ids = Vec::from_slice(alloc, [1, 3].as_slice())?;
+    let mut ids = Vec::from_slice(alloc, [CODE, STACK].as_slice())?;
     let commons = common_ids(alloc, commons)?;
     ids.extend_from_slice(&commons)?;
-    ids.extend_from_slice([255, 2, 4].as_slice())?;
+    ids.extend_from_slice([UNNAMED_COMMON, DATA, MEMORY].as_slice())?;
     Ok(ids)
 }
 
@@ -75,7 +76,7 @@ fn place_all(alloc: Global, program: &Module, options: &Options) -> Result<Vec<P
 {
     let ids = order(alloc, program.commons())?;
     let mut segments = Vec::new(alloc);
-    let mut before = USUAL_BASE;
+    let mut before = DEFAULT_BASE;
     for id in &ids {
         let placed = place_after(program, options, before, *id);
         before = placed.base + placed.length;

@@ -1,26 +1,20 @@
 //! The regions of a located program.
 
-ghost use Rattle.std.specs.Prelude.{◌≡◌, ◌<◌, ◌%◌, ◌==◌, [], ◌∷◌, ◌++◌, IfOk, OnOk, All};
+ghost use Rattle.std.specs.Prelude.{◌≡◌, ◌<◌, [], ◌∷◌, ◌++◌, IfOk, OnOk};
 ghost use Rattle.place80.specs.RegionsText.{filled};
 ghost use Rattle.std.specs.List.{AllByRecursion};
-ghost use Rattle.place80.specs.Range.{IsInMemory};
-ghost use Rattle.place80.specs.Regions.{AreDisjoint, Arranges};
-ghost use Rattle.place80.specs.Locating.{is_data, range_at, located_code, located_stack, located_data};
+ghost use Rattle.place80.specs.Regions.{Arranges};
+ghost use Rattle.place80.specs.Locating.{Fit, is_data, range_at, located_code, located_stack, located_data};
 
 use crate::placed::{Placed, placed_in};
 use crate::range::Range;
 use crate::regions::Regions;
+use omf_body::segment_id::{CODE, STACK};
 use std::alloc::{AllocError, Global};
 
 /// The regions of the segments: code is CODE, data are DATA, MEMORY and all commons, the stack is STACK.
 pub(crate) fn located_regions(alloc: Global, segments: &[Placed]) -> Result<Regions, AllocError>
-    requires lengths { AllByRecursion (λ p. p.length < 65536) segments.now }
-    requires code_filled { All (λ range. 0 < range.length) (located_code segments.now) }
-    requires data_filled { All (λ range. 0 < range.length) (located_data segments.now) }
-    requires code_in_memory { All IsInMemory (located_code segments.now) }
-    requires stack_in_memory { IsInMemory (located_stack segments.now) }
-    requires data_in_memory { All IsInMemory (located_data segments.now) }
-    requires disjoint { AreDisjoint (located_code segments.now ++ located_stack segments.now ∷ located_data segments.now) }
+    requires { Fit segments.now }
     ensures { IfOk result (Arranges (located_code segments.now) (located_stack segments.now) (located_data segments.now)) }
 {
     let code = code_ranges(alloc, segments)?;
@@ -36,7 +30,7 @@ fn code_ranges(alloc: Global, segments: &[Placed]) -> Result<Vec<Range>, AllocEr
 {
     let mut ranges = Vec::new(alloc);
     for placed in segments {
-        if placed.id == 1 {
+        if placed.id == CODE {
             push_filled(&mut ranges, range_at(*placed))?;
         }
     }
@@ -61,7 +55,7 @@ fn data_ranges(alloc: Global, segments: &[Placed]) -> Result<Vec<Range>, AllocEr
 fn is_data(id: u8) -> bool
     ensures { result ≡ is_data id }
 {
-    !(id == 1 || id == 3)
+    !(id == CODE || id == STACK)
 }
 
 /// Appends the range, where it isn't empty.
@@ -79,7 +73,7 @@ fn stack_range(segments: &[Placed]) -> Range
     requires { AllByRecursion (λ p. p.length < 65536) segments.now }
     ensures { result ≡ located_stack segments.now }
 {
-    range_at(placed_in(segments, 3))
+    range_at(placed_in(segments, STACK))
 }
 
 /// The range of a placed segment; an empty one at the end of memory begins at 0.

@@ -1,12 +1,13 @@
 //! A program at its places.
 
-ghost use Rattle.std.specs.Prelude.{◌≡◌, ◌⊎◌, ℕ, false, None, Some, [], ◌∷◌, option_map, IfOk, IfErr, OnOk};
+ghost use Rattle.std.specs.Prelude.{◌≡◌, ◌⊎◌, ℕ, false, None, Some, [], ◌∷◌, map, option_map, IfOk, IfErr, OnOk};
+ghost use Rattle.std.specs.List.{AllByRecursion};
 ghost use Rattle.omf_relocation.specs.ImageByte.{image_byte};
 ghost use Rattle.omf_relocation.specs.HighReferences.{any_loses_low_byte};
 ghost use Rattle.place80.specs.Image.{byte_at};
 ghost use Rattle.place80.specs.Regions.{Arranges};
 ghost use Rattle.place80.specs.Layout.{layout_of, program_bases};
-ghost use Rattle.place80.specs.Locating.{located_chunks, located_code, located_stack, located_data};
+ghost use Rattle.place80.specs.Locating.{CanBePlaced, Fit, chunk_among, located_chunks, located_code, located_stack, located_data};
 ghost use Rattle.place80.specs.PlaceFault.{locate_fault, start_place};
 ghost use Rattle.place80.specs.declared.place_fault.PlaceFault.TheVariants.{Memory, NoStart, Unresolved};
 
@@ -16,14 +17,15 @@ use crate::located_chunks::{any_loses_its_low_byte, located_chunks};
 use crate::located_regions::located_regions;
 use crate::options::Options;
 use crate::place_fault::PlaceFault;
-use crate::placed::placed_in;
+use crate::placed::{Placed, placed_in};
 use crate::places::{is_in_placed, place_of};
+use omf_body::segment_id::CODE;
 use omf_core::Name;
 use omf_module::Module;
 use omf_relocation::laws::{
     commons_are_found_by_name, parts_of_one_start_at_zero, sound_modules_keep_rules,
 };
-use std::alloc::Global;
+use std::alloc::{AllocError, Global};
 
 /// The program's image at its places.
 ///
@@ -66,13 +68,30 @@ pub fn locate(alloc: Global, program: &Module, options: &Options) -> Result<Imag
         return Err(PlaceFault::HighNotPaged);
     }
     let start = place_of(&segments, segment, offset);
-    if !is_in_placed(placed_in(&segments, 1), start) {
+    if !is_in_placed(placed_in(&segments, CODE), start) {
         return Err(PlaceFault::StartNotCode);
     }
+    Ok(image_of(alloc, program, &segments, start)?)
+}
+
+/// The image of a program with its segments at these places, which starts at this address.
+fn image_of(
+    alloc: Global,
+    program: &Module,
+    segments: &[Placed],
+    start: u16,
+) -> Result<Image, AllocError>
+    requires fit { Fit segments.now }
+    requires contents { AllByRecursion (CanBePlaced segments.now) program.now.contents }
+    ensures name { IfOk result (λ image. image.name ≡ program.now.name) }
+    ensures chunks { IfOk result (λ image. image.chunks ≡ map (chunk_among segments.now) program.now.contents) }
+    ensures regions { IfOk result (λ image. Arranges (located_code segments.now) (located_stack segments.now) (located_data segments.now) image.regions) }
+    ensures start { IfOk result (λ image. image.start ≡ start) }
+{
     Ok(Image {
         name: program.name().copy(alloc)?,
-        chunks: located_chunks(alloc, &segments, program.contents())?,
-        regions: located_regions(alloc, &segments)?,
+        chunks: located_chunks(alloc, segments, program.contents())?,
+        regions: located_regions(alloc, segments)?,
         start,
     })
 }

@@ -1,3 +1,5 @@
+use omf_body::segment_id::{CODE, DATA, MEMORY, STACK, UNNAMED_COMMON};
+
 /// The options of LOCATE: bases of segments, and sizes in place of those of STACK and MEMORY, all in bytes.
 /// (ISIS-II User's Guide, LOCATE: the controls CODE, STACK, DATA, MEMORY and STACKSIZE; the others are this project's.)
 #[derive(Clone, Copy, Debug, Default, PartialEq, Eq)]
@@ -27,11 +29,11 @@ impl Options {
         ensures { result ≡ given_base self.now id }
     {
         match id {
-            1 => self.code,
-            2 => self.data_base,
-            3 => self.stack,
-            4 => self.memory,
-            255 => self.common,
+            CODE => self.code,
+            DATA => self.data_base,
+            STACK => self.stack,
+            MEMORY => self.memory,
+            UNNAMED_COMMON => self.common,
             _ => None,
         }
     }
@@ -41,8 +43,8 @@ impl Options {
         ensures { result ≡ given_length self.now id }
     {
         match id {
-            3 => self.stack_size,
-            4 => self.memory_size,
+            STACK => self.stack_size,
+            MEMORY => self.memory_size,
             _ => None,
         }
     }

@@ -6,6 +6,7 @@ ghost use Rattle.place80.specs.PlaceFault.{passes_memory, is_outside};
 ghost use Rattle.place80.specs.declared.placed.Placed.{Placed};
 
 use crate::placed::Placed;
+use omf_body::segment_id::MEMORY;
 use omf_module::{Content, Module};
 
 /// The first segment that is outside memory, by its id.
@@ -23,7 +24,7 @@ pub(crate) fn first_outside(program: &Module, segments: &[Placed]) -> Option<u8>
 fn is_outside(contents: &[Content], placed: Placed) -> bool
     ensures { result ≡ is_outside contents.now placed }
 {
-    ends_outside(placed) || (placed.id == 4 && any_passes(contents, placed.length))
+    ends_outside(placed) || (placed.id == MEMORY && any_passes(contents, placed.length))
 }
 
 /// Whether the segment ends above 65536.
@@ -44,5 +45,6 @@ fn any_passes(contents: &[Content], size: u32) -> bool
 fn passes_memory(size: u32, content: &Content) -> bool
     ensures { result ≡ passes_memory size content.now }
 {
-    content.segment == 4 && u64::from(size) < u64::from(content.offset) + content.bytes.len() as u64
+    content.segment == MEMORY
+        && u64::from(size) < u64::from(content.offset) + content.bytes.len() as u64
 }

@@ -4,6 +4,7 @@ ghost use Rattle.std.specs.Prelude.{◌≡◌, ◌+◌, ◌<◌, ◌==◌, if◌
 ghost use Rattle.place80.specs.PlaceFault.{overlaps, pairs, first_over, absolute_place, absolute_places, with_each, all_pairs, first_shared};
 
 use crate::placed::Placed;
+use omf_body::segment_id::ABSOLUTE;
 use omf_module::{Content, Module};
 
 /// The first two places that share an address, by their ids: of two segments, or else of an absolute content, whose id is
@@ -43,7 +44,7 @@ fn first_over_absolute(contents: &[Content], segments: &[Placed]) -> Option<(u8,
 {
     for content in contents {
         if let Some(id) = first_over_content(content, segments) {
-            return Some((0, id));
+            return Some((ABSOLUTE, id));
         }
     }
     None
@@ -53,7 +54,7 @@ fn first_over_absolute(contents: &[Content], segments: &[Placed]) -> Option<(u8,
 fn first_over_content(content: &Content, segments: &[Placed]) -> Option<u8>
     ensures { result ≡ (if content.now.segment == 0 then first_over (absolute_place content.now) segments.now else None) }
 {
-    if content.segment == 0 {
+    if content.segment == ABSOLUTE {
         let length = content.bytes.len() as u64;
         first_over(u64::from(content.offset), length, segments)
     } else {

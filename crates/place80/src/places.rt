@@ -5,12 +5,13 @@ ghost use Rattle.place80.specs.Layout.{top_in, place_among};
 ghost use Rattle.place80.specs.PlaceFault.{is_in_placed};
 
 use crate::placed::{Placed, placed_in};
+use omf_body::segment_id::{ABSOLUTE, STACK};
 
 /// The stack's top, as a word.
 fn top_in(segments: &[Placed]) -> u16
     ensures { result ≡ top_in segments.now }
 {
-    let stack = placed_in(segments, 3);
+    let stack = placed_in(segments, STACK);
     ((u64::from(stack.base) + u64::from(stack.length)) % 65536) as u16
 }
 
@@ -20,8 +21,8 @@ pub(crate) fn place_of(segments: &[Placed], id: u8, offset: u16) -> u16
     ensures { result ≡ place_among segments.now id offset }
 {
     match id {
-        0 => offset,
-        3 => top_in(segments).wrapping_add(offset),
+        ABSOLUTE => offset,
+        STACK => top_in(segments).wrapping_add(offset),
         _ => ((u64::from(placed_in(segments, id).base) + u64::from(offset)) % 65536) as u16,
     }
 }

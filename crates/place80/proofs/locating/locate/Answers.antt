@@ -1,14 +1,12 @@
 use Rattle.std.specs.Prelude.{◌≡◌, ℕ, true, false, Some, List, [], slice_get, option_copied, ◌<◌, refl}
 use Rattle.std.specs.List.{AllByRecursion}
 use Rattle.std.proofs.Common.{◌∙◌, ap, sym, subst, inr}
-use Rattle.omf_module.specs.Contents.{ContentValue}
 use Rattle.place80.specs.declared.placed.Placed.{Placed}
 use Rattle.place80.specs.Image.{PlacedBytes, byte_at}
+use Rattle.place80.specs.Regions.{Arranges}
 use Rattle.place80.specs.Layout.{layout_of}
-use Rattle.place80.specs.Locating.{CanBePlaced}
+use Rattle.place80.specs.Locating.{CanBePlaced, located_code, located_stack, located_data}
 use Rattle.place80.proofs.LocatingLemmas.{start_found, by_last_two, all_can_be_placed, no_first, high_told, place_told, inside_told, chunks_told, laid_fit}
-use Rattle.place80.proofs.LocatedDisjoint.{code_not_empty, data_not_empty, code_in_memory, data_in_memory, stack_in_memory}
-use Rattle.place80.proofs.LocatedApart.{disjoint_located}
 use Rattle.place80.proofs.BytesLemmas.{located_byte}
 use Rattle.place80.proofs.LayoutLemmas.{in_memory_and_apart}
 use Rattle.place80.proofs.PlaceLemmas.{module_laws}
@@ -44,37 +42,19 @@ returns-then-not-is_in_placed-clause-fault c =
     let inside = inside_told laws options m c.deref-3.result.now start.0 start.1 c.place_of-start.result c.placed_in.result c.is_in_placed.result sound is (c.deref-3.ensures.value ∙ places) place c.placed_in.ensures c.is_in_placed.ensures in
     inr (by_last_two options m start false false closed is laid (sym c.if-any_loses_its_low_byte.false ∙ loses) (sym c.if-not-is_in_placed.true ∙ inside))
 
-pub located_chunks-requires : goal.located_chunks-requires
-located_chunks-requires c =
-    subst (λ (l : List ContentValue). AllByRecursion (CanBePlaced c.deref-4.result.now) l) (sym c.contents-2.ensures.value)
-    (subst (λ (s : List Placed). AllByRecursion (CanBePlaced s) c.args.program.now.contents) (sym (c.deref-4.ensures.value ∙ c.in_ok-segments.ensures.places))
-    (all_can_be_placed (module_laws c.sound_modules_keep_rules.ensures c.commons_are_found_by_name.ensures c.parts_of_one_start_at_zero.ensures) c.args.options.now c.args.program.now c.contents-2.ensures.rules.sound c.in_ok-segments.ensures.none))
+pub image_of-requires-clause-fit : goal.image_of-requires-clause-fit
+image_of-requires-clause-fit c =
+    laid_fit c.args.options.now c.args.program.now c.deref-4.result.now (c.deref-4.ensures.value ∙ c.in_ok-segments.ensures.places)
+    (subst (λ (s : List Placed). AllByRecursion (λ p. p.length < 65536) s) (sym c.deref-4.ensures.value) c.in_ok-segments.ensures.lengths) c.in_ok-segments.ensures.none
 
-pub located_regions-requires-clause-code_filled : goal.located_regions-requires-clause-code_filled
-located_regions-requires-clause-code_filled c = code_not_empty c.deref-5.result.now
+pub image_of-requires-clause-contents : goal.image_of-requires-clause-contents
+image_of-requires-clause-contents c =
+    subst (λ (s : List Placed). AllByRecursion (CanBePlaced s) c.args.program.now.contents) (sym (c.deref-4.ensures.value ∙ c.in_ok-segments.ensures.places))
+    (all_can_be_placed (module_laws c.sound_modules_keep_rules.ensures c.commons_are_found_by_name.ensures c.parts_of_one_start_at_zero.ensures) c.args.options.now c.args.program.now c.externals.ensures.rules.sound c.in_ok-segments.ensures.none)
 
-pub located_regions-requires-clause-data_filled : goal.located_regions-requires-clause-data_filled
-located_regions-requires-clause-data_filled c = data_not_empty c.deref-5.result.now
-
-pub located_regions-requires-clause-code_in_memory : goal.located_regions-requires-clause-code_in_memory
-located_regions-requires-clause-code_in_memory c =
-    let fit = laid_fit c.args.options.now c.args.program.now c.deref-5.result.now (c.deref-5.ensures.value ∙ c.in_ok-segments.ensures.places) (subst (λ (s : List Placed). AllByRecursion (λ p. p.length < 65536) s) (sym c.deref-5.ensures.value) c.in_ok-segments.ensures.lengths) c.in_ok-segments.ensures.none in
-    code_in_memory c.deref-5.result.now fit.ends fit.words
-
-pub located_regions-requires-clause-stack_in_memory : goal.located_regions-requires-clause-stack_in_memory
-located_regions-requires-clause-stack_in_memory c =
-    let fit = laid_fit c.args.options.now c.args.program.now c.deref-5.result.now (c.deref-5.ensures.value ∙ c.in_ok-segments.ensures.places) (subst (λ (s : List Placed). AllByRecursion (λ p. p.length < 65536) s) (sym c.deref-5.ensures.value) c.in_ok-segments.ensures.lengths) c.in_ok-segments.ensures.none in
-    stack_in_memory c.deref-5.result.now fit.ends fit.words
-
-pub located_regions-requires-clause-data_in_memory : goal.located_regions-requires-clause-data_in_memory
-located_regions-requires-clause-data_in_memory c =
-    let fit = laid_fit c.args.options.now c.args.program.now c.deref-5.result.now (c.deref-5.ensures.value ∙ c.in_ok-segments.ensures.places) (subst (λ (s : List Placed). AllByRecursion (λ p. p.length < 65536) s) (sym c.deref-5.ensures.value) c.in_ok-segments.ensures.lengths) c.in_ok-segments.ensures.none in
-    data_in_memory c.deref-5.result.now fit.ends fit.words
-
-pub located_regions-requires-clause-disjoint : goal.located_regions-requires-clause-disjoint
-located_regions-requires-clause-disjoint c =
-    let fit = laid_fit c.args.options.now c.args.program.now c.deref-5.result.now (c.deref-5.ensures.value ∙ c.in_ok-segments.ensures.places) (subst (λ (s : List Placed). AllByRecursion (λ p. p.length < 65536) s) (sym c.deref-5.ensures.value) c.in_ok-segments.ensures.lengths) c.in_ok-segments.ensures.none in
-    disjoint_located c.deref-5.result.now fit.ends fit.apart
+pub returns-clause-regions : goal.returns-clause-regions
+returns-clause-regions c =
+    subst (λ (s : List Placed). Arranges (located_code s) (located_stack s) (located_data s) c.in_ok-image_of.field-0.regions) (c.deref-4.ensures.value ∙ c.in_ok-segments.ensures.places) c.in_ok-image_of.ensures.regions
 
 pub returns-clause-chunks : goal.returns-clause-chunks
 returns-clause-chunks c =
@@ -84,7 +64,7 @@ returns-clause-chunks c =
     let sound = c.externals.ensures.rules.sound in
     let closed : m.externals ≡ [] = no_first m.externals (ap (λ (l : List (List ℕ)). slice_get l 0) (sym c.externals.ensures.value) ∙ sym c.first.ensures.value ∙ ap option_copied c.in_default.is) in
     let places = c.in_ok-segments.ensures.places in
-    let chunks = chunks_told laws options m c.deref-4.result.now c.contents-2.result.now c.in_ok-located_chunks.field-0.items sound closed (c.deref-4.ensures.value ∙ places) c.contents-2.ensures.value c.in_ok-located_chunks.ensures in
+    let chunks = chunks_told laws options m c.deref-4.result.now m.contents c.in_ok-image_of.field-0.chunks sound closed (c.deref-4.ensures.value ∙ places) refl c.in_ok-image_of.ensures.chunks in
     chunks
 
 pub returns-clause-memory : goal.returns-clause-memory
@@ -95,7 +75,7 @@ returns-clause-memory c =
     let sound = c.externals.ensures.rules.sound in
     let closed : m.externals ≡ [] = no_first m.externals (ap (λ (l : List (List ℕ)). slice_get l 0) (sym c.externals.ensures.value) ∙ sym c.first.ensures.value ∙ ap option_copied c.in_default.is) in
     let places = c.in_ok-segments.ensures.places in
-    let chunks = chunks_told laws options m c.deref-4.result.now c.contents-2.result.now c.in_ok-located_chunks.field-0.items sound closed (c.deref-4.ensures.value ∙ places) c.contents-2.ensures.value c.in_ok-located_chunks.ensures in
+    let chunks = chunks_told laws options m c.deref-4.result.now m.contents c.in_ok-image_of.field-0.chunks sound closed (c.deref-4.ensures.value ∙ places) refl c.in_ok-image_of.ensures.chunks in
     λ address. ap (λ (l : List PlacedBytes). byte_at l address) chunks ∙ located_byte laws options m address sound (in_memory_and_apart options m c.in_ok-segments.ensures.none).0
 
 pub returns-clause-start : goal.returns-clause-start
@@ -108,7 +88,7 @@ returns-clause-start c =
     let is : m.start ≡ Some start = sym c.start.ensures.value ∙ c.in-Some-start.is in
     let places = c.in_ok-segments.ensures.places in
     let place = place_told options m c.deref-2.result.now start.0 start.1 c.place_of-start.result (c.deref-2.ensures.value ∙ places) c.place_of-start.ensures in
-    ap (λ (n : ℕ). Some n) place ∙ start_found laws (layout_of options m) m start.0 start.1 sound is
+    ap (λ (n : ℕ). Some n) (c.in_ok-image_of.ensures.start ∙ place) ∙ start_found laws (layout_of options m) m start.0 start.1 sound is
 
 pub returns-clause-high : goal.returns-clause-high
 returns-clause-high c =
