@@ -1,11 +1,12 @@
 -- Steps of loops over modules by number.
-use Rattle.std.specs.Prelude.{◌≡◌, ◌<◌, ◌≤◌, nat_lt, refl, ℕ, zero, suc, ◌+◌, length, map, [], Bool, ◌||◌, Some, List, ◌∷◌, ◌++◌, drop, slice_get}
+use Rattle.std.specs.Prelude.{◌≡◌, ◌<◌, ◌≤◌, nat_lt, refl, ℕ, zero, suc, ◌+◌, length, map, [], Bool, ◌||◌, true, false, if◌then◌else◌, filter, Some, List, ◌∷◌, ◌++◌, drop, slice_get}
 use Rattle.std.specs.List.{AllByRecursion, list_any, flat_map, enumerate_from}
 use Rattle.std.proofs.Common.{inl, inr, ◌∙◌, ap, sym, subst, arith, append_assoc, append-nil, get_or}
 use Rattle.std.proofs.lemmas.Bool.{cases_Bool}
 use Rattle.std.proofs.lemmas.Bool.Decides.{nat_tests}
 use Rattle.std.proofs.lemmas.List.{drop_more, drop_all}
 use Rattle.std.proofs.lemmas.Option.{slice_get_within, get_or_from_slice_get}
+use Rattle.link80.specs.FirstSight.{with_name, with_names}
 
 -- what is left begins with the one that is read
 pub left_at : {A : Type 0} (xs : List A) (n : ℕ) (x : A) → slice_get xs n ≡ Some x → drop n xs ≡ x ∷ drop (n + 1) xs
@@ -64,3 +65,33 @@ one_further P xs n x at before here k y below is = elim (cases_Bool (nat_lt k n)
 pub holds_of_all : {A : Type 0} (P : A → Type 0) (xs : List A) → ((k : ℕ) (y : A) → slice_get xs k ≡ Some y → P y) → AllByRecursion P xs
 holds_of_all P [] each = tt
 holds_of_all P (x ∷ xs) each = (each 0 x refl, holds_of_all P xs (λ k y at. each (suc k) y at))
+
+-- one more name is put to the names
+pub one_name_more : {A : Type 0} (name : A → List ℕ) (xs : List A) (i : ℕ) (x : A) (names : List (List ℕ)) → i < length xs → x ≡ get_or xs i x →
+    with_names (with_name names (name x)) (map name (drop (i + 1) xs)) ≡ with_names names (map name (drop i xs))
+one_name_more name xs i x names inside is =
+    ap (λ y. with_names (with_name names (name y)) (map name (drop (i + 1) xs))) is
+    ∙ ap (λ l. with_names names (map name l)) (sym (drop_more xs i x inside))
+
+-- and where it passes a test
+pub one_new_more : (test : List ℕ → Bool) (xs : List (List ℕ)) (i : ℕ) (x : List ℕ) (names : List (List ℕ)) → i < length xs → x ≡ get_or xs i x → test x ≡ true →
+    with_names (with_name names x) (filter test (drop (i + 1) xs)) ≡ with_names names (filter test (drop i xs))
+one_new_more test xs i x names inside is passes =
+    let rest : List (List ℕ) = drop (i + 1) xs in
+    ap (λ b. with_names names (if b then x ∷ filter test rest else filter test rest)) (sym passes)
+    ∙ ap (λ y. with_names names (filter test (y ∷ rest))) is
+    ∙ ap (λ l. with_names names (filter test l)) (sym (drop_more xs i x inside))
+
+pub no_new_more : (test : List ℕ → Bool) (xs : List (List ℕ)) (i : ℕ) (x : List ℕ) (names : List (List ℕ)) → i < length xs → x ≡ get_or xs i x → test x ≡ false →
+    with_names names (filter test (drop (i + 1) xs)) ≡ with_names names (filter test (drop i xs))
+no_new_more test xs i x names inside is fails =
+    let rest : List (List ℕ) = drop (i + 1) xs in
+    ap (λ b. with_names names (if b then x ∷ filter test rest else filter test rest)) (sym fails)
+    ∙ ap (λ y. with_names names (filter test (y ∷ rest))) is
+    ∙ ap (λ l. with_names names (filter test l)) (sym (drop_more xs i x inside))
+
+-- one more with its number
+pub one_numbered_more : {A : Type 0} (xs : List A) (i n : ℕ) (d : A) (made : List (ℕ × A)) → i < length xs →
+    (made ++ (n, get_or xs i d) ∷ []) ++ enumerate_from (n + 1) (drop (i + 1) xs) ≡ made ++ enumerate_from n (drop i xs)
+one_numbered_more xs i n d made inside =
+    append_assoc made ((n, get_or xs i d) ∷ []) (enumerate_from (n + 1) (drop (i + 1) xs)) ∙ ap (λ l. made ++ enumerate_from n l) (sym (drop_more xs i d inside))

@@ -78,7 +78,7 @@ fn common_names<'a>(
 #[derive(Drop)]
 pub(crate) struct JoinedModules<'a> {
     /// The modules.
-    laid: LaidModules<'a>,
+    laid: &'a LaidModules<'a>,
     /// The names of the commons, in order of first sight: ids go by their numbers.
     commons: NameTable<'a>,
     names: Vec<Name>,
@@ -92,9 +92,9 @@ impl<'a> Model for JoinedModules<'a> {
 
     ghost Value = { List ModuleValue };
 
-    ghost view = { λ j. j.laid };
+    ghost view = { λ j. j.laid.now };
 
-    ghost invariant = { λ j. (j.commons ≡ common_names j.laid) × (j.names.items ≡ common_names j.laid) × (too_many_commons j.laid ≡ None) };
+    ghost invariant = { λ j. (j.commons ≡ common_names j.laid.now) × (j.names.items ≡ common_names j.laid.now) × (too_many_commons j.laid.now ≡ None) };
 }
 
 impl<'a> JoinedModules<'a> {
@@ -102,12 +102,15 @@ impl<'a> JoinedModules<'a> {
     ///
     /// # Errors
     /// `TooManyCommons` exactly where there are more than 249; `Memory` where memory runs out.
-    pub(crate) fn new(alloc: Global, laid: LaidModules<'a>) -> Result<JoinedModules<'a>, LinkFault>
-        ensures same { IfOk result (λ joined. joined ≡ laid.entry) }
-        ensures fit { OnOk result (too_many_commons laid.entry ≡ None) }
-        ensures fault { IfErr result (λ fault. fault ≢ LinkFault.Memory → too_many_commons laid.entry ≡ Some fault) }
+    pub(crate) fn new(
+        alloc: Global,
+        laid: &'a LaidModules<'a>,
+    ) -> Result<JoinedModules<'a>, LinkFault>
+        ensures same { IfOk result (λ joined. joined ≡ laid.now) }
+        ensures fit { OnOk result (too_many_commons laid.now ≡ None) }
+        ensures fault { IfErr result (λ fault. fault ≢ LinkFault.Memory → too_many_commons laid.now ≡ Some fault) }
     {
-        let (commons, names) = common_names(alloc, &laid)?;
+        let (commons, names) = common_names(alloc, laid)?;
         if commons.len() > MOST_COMMONS {
             return Err(LinkFault::TooManyCommons);
         }

@@ -159,20 +159,20 @@ fn link_joined(
 fn link_laid(
     alloc: Global,
     name: &Name,
-    laid: LaidModules,
+    laid: &LaidModules,
     declared: &NameTable,
 ) -> Result<(Module, Vec<Name>), LinkFault>
-    requires names { declared.now ≡ map (λ p. p.name) (linked_publics laid) }
-    requires once { duplicate_public laid ≡ None }
-    requires segments_fit { segment_too_long laid ≡ None }
-    ensures made { IfOk result (λ made. made.0 ≡ linked name.now laid.entry) }
-    ensures unresolved { IfOk result (λ made. made.1.items ≡ unresolved laid.entry) }
-    ensures no_fault { OnOk result (link_fault laid.entry ≡ None) }
-    ensures sound { OnOk result (AllByRecursion IsModule laid.entry) }
-    ensures fault { IfErr result (λ fault. fault ≢ LinkFault.Memory → link_fault laid.entry ≡ Some fault) }
+    requires names { declared.now ≡ map (λ p. p.name) (linked_publics laid.now) }
+    requires once { duplicate_public laid.now ≡ None }
+    requires segments_fit { segment_too_long laid.now ≡ None }
+    ensures made { IfOk result (λ made. made.0 ≡ linked name.now laid.now) }
+    ensures unresolved { IfOk result (λ made. made.1.items ≡ unresolved laid.now) }
+    ensures no_fault { OnOk result (link_fault laid.now ≡ None) }
+    ensures sound { OnOk result (AllByRecursion IsModule laid.now) }
+    ensures fault { IfErr result (λ fault. fault ≢ LinkFault.Memory → link_fault laid.now ≡ Some fault) }
 {
-    let main = main_of(&laid)?;
-    if any_high_off_page(&laid) {
+    let main = main_of(laid)?;
+    if any_high_off_page(laid) {
         return Err(LinkFault::HighNotPaged);
     }
     let joined = JoinedModules::new(alloc, laid)?;
@@ -183,17 +183,17 @@ fn link_laid(
 fn link_modules(
     alloc: Global,
     name: &Name,
-    modules: Modules,
+    modules: &Modules,
 ) -> Result<(Module, Vec<Name>), LinkFault>
-    ensures made { IfOk result (λ made. made.0 ≡ linked name.now modules.entry) }
-    ensures unresolved { IfOk result (λ made. made.1.items ≡ unresolved modules.entry) }
-    ensures no_fault { OnOk result (link_fault modules.entry ≡ None) }
-    ensures sound { OnOk result (AllByRecursion IsModule modules.entry) }
-    ensures fault { IfErr result (λ fault. fault ≢ LinkFault.Memory → link_fault modules.entry ≡ Some fault) }
+    ensures made { IfOk result (λ made. made.0 ≡ linked name.now modules.now) }
+    ensures unresolved { IfOk result (λ made. made.1.items ≡ unresolved modules.now) }
+    ensures no_fault { OnOk result (link_fault modules.now ≡ None) }
+    ensures sound { OnOk result (AllByRecursion IsModule modules.now) }
+    ensures fault { IfErr result (λ fault. fault ≢ LinkFault.Memory → link_fault modules.now ≡ Some fault) }
 {
-    let declared = declared_names(alloc, &modules)?;
+    let declared = declared_names(alloc, modules)?;
     let laid = LaidModules::new(alloc, modules)?;
-    link_laid(alloc, name, laid, &declared)
+    link_laid(alloc, name, &laid, &declared)
 }
 
 /// Links modules, and the modules that they need of libraries, into one of the given name.
@@ -232,7 +232,7 @@ pub fn link(
 {
     let taken = select(alloc, roots, libraries)?;
     let modules = modules_with(alloc, roots, libraries, &taken)?;
-    let (linked, unresolved) = link_modules(alloc, name, modules)?;
+    let (linked, unresolved) = link_modules(alloc, name, &modules)?;
     Ok(Linked {
         module: linked,
         taken,

@@ -2,7 +2,7 @@ use omf_module::Target;
 
 /// What LINK makes of a reference: the word that it adds to it, and what the reference is to from then on, unless to
 /// absolute bytes.
-#[derive(Clone, Copy, Debug, PartialEq, Eq)]
+#[derive(Clone, Copy)]
 pub struct Reference {
     pub word: u16,
     pub target: Option<Target>,

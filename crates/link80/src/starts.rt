@@ -104,7 +104,7 @@ impl LaidOut {
 /// Modules whose parts of CODE, DATA and STACK are laid one after another. A contract sees the modules.
 #[derive(Drop)]
 pub(crate) struct LaidModules<'a> {
-    modules: Modules<'a>,
+    modules: &'a Modules<'a>,
     code: LaidOut,
     variables: LaidOut,
     stack: LaidOut,
@@ -117,9 +117,9 @@ impl<'a> Model for LaidModules<'a> {
 
     ghost Value = { List ModuleValue };
 
-    ghost view = { λ l. l.modules };
+    ghost view = { λ l. l.modules.now };
 
-    ghost invariant = { λ l. AreLaid l.modules l.code l.variables l.stack };
+    ghost invariant = { λ l. AreLaid l.modules.now l.code l.variables l.stack };
 }
 
 impl<'a> LaidModules<'a> {
@@ -128,14 +128,14 @@ impl<'a> LaidModules<'a> {
     /// # Errors
     /// `SegmentTooLong` with the first of CODE, DATA and STACK, by its id, whose parts come to more than 65535 bytes;
     /// `Memory` where memory runs out.
-    pub(crate) fn new(alloc: Global, modules: Modules<'a>) -> Result<LaidModules<'a>, LinkFault>
-        ensures same { IfOk result (λ laid. laid ≡ modules.entry) }
-        ensures fit { OnOk result (segment_too_long modules.entry ≡ None) }
-        ensures fault { IfErr result (λ fault. fault ≢ LinkFault.Memory → segment_too_long modules.entry ≡ Some fault) }
+    pub(crate) fn new(alloc: Global, modules: &'a Modules<'a>) -> Result<LaidModules<'a>, LinkFault>
+        ensures same { IfOk result (λ laid. laid ≡ modules.now) }
+        ensures fit { OnOk result (segment_too_long modules.now ≡ None) }
+        ensures fault { IfErr result (λ fault. fault ≢ LinkFault.Memory → segment_too_long modules.now ≡ Some fault) }
     {
-        let code = LaidOut::new(alloc, &modules, CODE)?;
-        let variables = LaidOut::new(alloc, &modules, DATA)?;
-        let stack = LaidOut::new(alloc, &modules, STACK)?;
+        let code = LaidOut::new(alloc, modules, CODE)?;
+        let variables = LaidOut::new(alloc, modules, DATA)?;
+        let stack = LaidOut::new(alloc, modules, STACK)?;
         Ok(LaidModules {
             modules,
             code,
