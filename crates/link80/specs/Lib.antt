@@ -1,11 +1,12 @@
-pub mod FirstSight
-pub mod Gathered
 pub mod Linked
-pub mod Joined
-pub mod Starts
-pub mod Tables
-pub mod Movable
 pub mod LinkFault
 pub mod LinkLaws
 pub mod Selection
 pub use Rattle.select80.specs.Selected
+-- what the crate's own functions promise one another: no public contract cites these
+pub mod FirstSight
+pub mod Gathered
+pub mod Joined
+pub mod Starts
+pub mod Tables
+pub mod Movable

@@ -1,8 +1,6 @@
 pub mod Range
 pub mod Regions
 pub mod Image
-pub mod Memory
-pub mod Placing
 pub mod Lines
 pub mod RegionMap
 pub mod RegionsFault
@@ -13,3 +11,6 @@ pub mod Locating
 pub mod ImageFile
 pub mod LayoutLaws
 pub mod LocatedLaws
+-- what the crate's own functions promise one another: no public contract cites these
+pub mod Memory
+pub mod Placing
