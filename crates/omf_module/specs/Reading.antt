@@ -57,11 +57,11 @@ pub record Follows (bytes : List ℕ) (at next : ℕ) (before after : List Commo
   pub further : at < next
   pub inside : next ≤ length bytes
 
--- records that follow a header at a place, up to the end of the module and the place after it
-pub record ReadsWithin (bytes : List ℕ) (first after : ℕ) (w : Within) : Type 0 where
+-- records that follow a header at a place, up to the end of the module and the place after it, and their commons
+pub record ReadsWithin (bytes : List ℕ) (first after : ℕ) (w : Within) (commons : List Common) : Type 0 where
   pub spelled : SpellsBodies bytes first w.end_at w.bodies.items
   pub follow : IsTrue (each_follows [] w.bodies.items)
-  pub commons : w.commons.items ≡ commons_of w.bodies.items
+  pub declared : commons ≡ commons_of w.bodies.items
   pub end : SpellsBody bytes w.end_at after (ModuleEnd w.end)
 
 -- the records of a module, as they were read

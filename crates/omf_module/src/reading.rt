@@ -19,7 +19,7 @@ use crate::gathering::{externals_of, publics_of, segments_in};
 use crate::laws::{one_file_reading, one_reading};
 use crate::modules::Module;
 use crate::parts::Parts;
-use crate::records::{ModuleFile, PlacedBody, Within};
+use crate::records::{ModuleFile, PlacedBody};
 use crate::symbols::Common;
 use crate::uses::{contents_of, look_at_header, look_at_start};
 use crate::within::{header_at, records_at};
@@ -60,37 +60,38 @@ fn without_contents(
     })
 }
 
-/// The parts that the records of a module say, where they use nothing that isn't there.
-fn parts_of(alloc: Global, file: ModuleFile) -> Result<Parts, ModuleFault>
-    requires { file.within.commons.items ≡ commons_of file.within.bodies.items }
-    ensures parts { IfOk result (λ parts. parts ≡ parts_of (records_of file.entry)) }
-    ensures sound { OnOk result (use_fault (records_of file.entry) ≡ None) }
-    ensures fault { IfErr result (OrNoMemory (λ fault. use_fault (records_of file.entry) ≡ Some fault)) }
+/// The parts that the records of a module say, where they use nothing that isn't there, and these are its commons.
+fn parts_of(alloc: Global, file: &ModuleFile, commons: Vec<Common>) -> Result<Parts, ModuleFault>
+    requires { commons.items ≡ commons_of file.now.within.bodies.items }
+    ensures parts { IfOk result (λ parts. parts ≡ parts_of (records_of file.now)) }
+    ensures sound { OnOk result (use_fault (records_of file.now) ≡ None) }
+    ensures fault { IfErr result (OrNoMemory (λ fault. use_fault (records_of file.now) ≡ Some fault)) }
 {
-    let ModuleFile { at, header, within } = file;
-    let Within {
-        bodies,
+    let within = &file.within;
+    let mut parts = without_contents(
+        alloc,
+        &file.header,
+        &within.bodies,
         commons,
-        end_at,
-        end,
-    } = within;
-    let parts = without_contents(alloc, &header, &bodies, commons, end.start)?;
-    if let Err(why) = look_at_header(&parts, &header) {
-        return Err(why.at(at));
+        within.end.start,
+    )?;
+    if let Err(why) = look_at_header(&parts, &file.header) {
+        return Err(why.at(file.at));
     }
-    let contents = contents_of(alloc, &parts, &bodies)?;
-    if let Err(why) = look_at_start(&parts, end.start) {
-        return Err(why.at(end_at));
+    let contents = contents_of(alloc, &parts, &within.bodies)?;
+    if let Err(why) = look_at_start(&parts, within.end.start) {
+        return Err(why.at(within.end_at));
     }
-    Ok(Parts { contents, ..parts })
+    parts.contents = contents;
+    Ok(parts)
 }
 
 fn module_at(alloc: Global, bytes: &[u8], at: usize) -> Result<(Module, usize), ModuleFault>
     ensures read { IfOk result (λ r. SpellsModule bytes.now at r.1 r.0) }
     ensures fault { IfErr result (OrNoMemory (FaultsModule bytes.now at)) }
 {
-    let (file, after) = records_at(alloc, bytes, at)?;
-    let parts = parts_of(alloc, file)?;
+    let (file, commons, after) = records_at(alloc, bytes, at)?;
+    let parts = parts_of(alloc, &file, commons)?;
     let module = Module::of_rules(alloc, parts)?;
     Ok((module, after))
 }

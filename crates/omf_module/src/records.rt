@@ -1,6 +1,5 @@
 //! The records of a module as they lie in a file.
 
-use crate::symbols::Common;
 use omf_body::{Body, EndBody, HeaderBody};
 
 /// The body of a record, and the place of the record in the file.
@@ -10,11 +9,10 @@ pub struct PlacedBody<'a> {
     pub body: Body<'a>,
 }
 
-/// The records that follow a module's header, the commons that they declare, and the module's end at `end_at`.
+/// The records that follow a module's header, and the module's end at `end_at`.
 #[derive(Drop)]
 pub struct Within<'a> {
     pub bodies: Vec<PlacedBody<'a>>,
-    pub commons: Vec<Common>,
     pub end_at: usize,
     pub end: EndBody<'a>,
 }

@@ -66,14 +66,15 @@ fn next_body<'a>(
     }
 }
 
-/// The records that follow a header, from a place on, and the place after the end of the module.
+/// The records that follow a header, from a place on, the commons that they declare, and the place after the end of the
+/// module.
 fn within_at<'a>(
     alloc: Global,
     bytes: &'a [u8],
     first: usize,
-) -> Result<(Within<'a>, usize), ModuleFault>
+) -> Result<(Within<'a>, Vec<Common>, usize), ModuleFault>
     requires { first ≤ length bytes.now }
-    ensures read { IfOk result (λ r. ReadsWithin bytes.now first r.1 r.0) }
+    ensures read { IfOk result (λ r. ReadsWithin bytes.now first r.2 r.0 r.1.items) }
     ensures fault { IfErr result (OrNoMemory (FaultsRecords bytes.now first)) }
 {
     let mut bodies = Vec::new(alloc);
@@ -87,33 +88,32 @@ fn within_at<'a>(
         if let Body::ModuleEnd(end) = body {
             let within = Within {
                 bodies,
-                commons,
                 end_at: here,
                 end,
             };
-            return Ok((within, next));
+            return Ok((within, commons, next));
         }
         bodies.push(PlacedBody { at: here, body })?;
         here = next;
     }
 }
 
-/// The records of the module that should begin at a place, and the place after them.
+/// The records of the module that should begin at a place, the commons that they declare, and the place after them.
 pub(crate) fn records_at<'a>(
     alloc: Global,
     bytes: &'a [u8],
     at: usize,
-) -> Result<(ModuleFile<'a>, usize), ModuleFault>
-    ensures read { IfOk result (λ r. SpellsModuleRecords bytes.now r.1 (records_of r.0)) }
+) -> Result<(ModuleFile<'a>, Vec<Common>, usize), ModuleFault>
+    ensures read { IfOk result (λ r. SpellsModuleRecords bytes.now r.2 (records_of r.0)) }
     ensures begins { IfOk result (λ r. r.0.at ≡ at) }
-    ensures commons { IfOk result (λ r. r.0.within.commons.items ≡ commons_of r.0.within.bodies.items) }
+    ensures commons { IfOk result (λ r. r.1.items ≡ commons_of r.0.within.bodies.items) }
     ensures fault { IfErr result (OrNoMemory (FaultsModule bytes.now at)) }
 {
     let (header, first) = match header_at(bytes, at) {
         Ok(read) => read,
         Err(why) => return Err(why.at(at)),
     };
-    let (within, after) = within_at(alloc, bytes, first)?;
+    let (within, commons, after) = within_at(alloc, bytes, first)?;
     let module = ModuleFile { at, header, within };
-    Ok((module, after))
+    Ok((module, commons, after))
 }
