@@ -91,13 +91,14 @@ fn parts_without_publics(
     ensures parts { IfOk result (λ parts. parts ≡ record (linked_parts name.now tables.now) { publics = [] }) }
     ensures sound { OnOk result (AllByRecursion IsModule tables.now) }
 {
+    let name = name.copy(alloc)?;
     let segments = linked_segments(alloc, tables.joined)?;
     let commons = tables.joined.linked_commons(alloc)?;
     let externals = copy_names(alloc, tables.unresolved())?;
     let contents = linked_contents(alloc, tables)?;
     let start = start_of(tables, main);
     Ok(Parts {
-        name: name.copy(alloc)?,
+        name,
         segments,
         commons,
         publics: Vec::new(alloc),
@@ -119,9 +120,10 @@ fn parts_of(
     ensures unresolved { IfOk result (λ made. made.1.items ≡ unresolved tables.entry) }
     ensures sound { OnOk result (AllByRecursion IsModule tables.entry) }
 {
-    let parts = parts_without_publics(alloc, name, &tables, main)?;
+    let mut parts = parts_without_publics(alloc, name, &tables, main)?;
     let (publics, unresolved) = tables.into_names();
-    Ok((Parts { publics, ..parts }, unresolved))
+    parts.publics = publics;
+    Ok((parts, unresolved))
 }
 
 /// The module that is linked of joined modules, and the names that none of them declares.

@@ -10,7 +10,7 @@ returns-clause-parts c =
     let commons_are = c.in_ok-commons.ensures ∙ ap linked_commons c.tables.view_is in
     let externals_are = c.in_ok-externals.ensures ∙ c.unresolved.ensures in
     λ j. record {
-      name = c.in_ok-copy.ensures.same j;
+      name = c.in_ok-name.ensures.same j;
       segments = segments_are j;
       commons = commons_are j;
       publics = c.new.ensures.items j;
