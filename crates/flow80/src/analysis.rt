@@ -26,7 +26,8 @@ pub fn analyze<C: Code>(alloc: Global, program: &C) -> Result<Report, Refusal>
     ensures accepted { IfOk result (λ r. IsAccepted (C.code program.now) r.procedures.items r.stack_bytes) }
     ensures refused { IfErr result (Holds (C.code program.now)) }
 {
-    let table = fill(alloc, program)?;
+    let mut table = Table::new(alloc)?;
+    fill(alloc, program, &mut table)?;
     report_on(alloc, program, &table)
 }
 
