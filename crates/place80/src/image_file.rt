@@ -52,13 +52,15 @@ fn parts_of(alloc: Global, image: &Image) -> Result<Parts, AllocError>
     ensures name { OnOk result (IsTrue (is_name image.now.name)) }
     ensures rules { OnOk result (AllByRecursion IsChunk image.now.chunks) }
 {
+    let name = image.name.copy(alloc)?;
+    let contents = contents_of(alloc, &image.chunks)?;
     Ok(Parts {
-        name: image.name.copy(alloc)?,
+        name,
         segments: Vec::new(alloc),
         commons: Vec::new(alloc),
         publics: Vec::new(alloc),
         externals: Vec::new(alloc),
-        contents: contents_of(alloc, &image.chunks)?,
+        contents,
         start: Some((ABSOLUTE, image.start)),
     })
 }
@@ -140,9 +142,11 @@ fn program_of(alloc: Global, program: &Module) -> Result<AbsoluteProgram, ImageF
     let Some((_, start)) = program.start() else {
         return Err(ImageFault::NoStart);
     };
+    let name = program.name().copy(alloc)?;
+    let chunks = chunks_of(alloc, program.contents())?;
     Ok(AbsoluteProgram {
-        name: program.name().copy(alloc)?,
-        chunks: chunks_of(alloc, program.contents())?,
+        name,
+        chunks,
         start,
     })
 }

@@ -88,10 +88,13 @@ fn image_of(
     ensures regions { IfOk result (λ image. Arranges (located_code segments.now) (located_stack segments.now) (located_data segments.now) image.regions) }
     ensures start { IfOk result (λ image. image.start ≡ start) }
 {
+    let name = program.name().copy(alloc)?;
+    let regions = located_regions(alloc, segments)?;
+    let chunks = located_chunks(alloc, segments, program.contents())?;
     Ok(Image {
-        name: program.name().copy(alloc)?,
-        chunks: located_chunks(alloc, segments, program.contents())?,
-        regions: located_regions(alloc, segments)?,
+        name,
+        chunks,
+        regions,
         start,
     })
 }
