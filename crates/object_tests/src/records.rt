@@ -5,6 +5,7 @@ use omf_body::put_content;
 use omf_core::{
     Name, PutFault, RecordFault, RecordKind, next_record, put_record, split_name, sum_of,
 };
+use std::alloc::Global;
 use std::test::Fail;
 
 /// An end of file.
@@ -43,20 +44,27 @@ fn an_end_of_file_is_written(rt: HostRuntime) -> Result<(), Fail> {
     Ok(())
 }
 
-/// Bodies of one byte more than a record has room for are refused, and one of just as many is written.
+/// What is answered of a record and of a content whose body has one byte more than there is room for.
+fn too_long(alloc: Global, bytes: &[u8], out: &mut Vec<u8>) -> Result<[Option<PutFault>; 2], Fail> {
+    let content = bytes.get(..65532).ok_or("short")?;
+    let refused = put_record(alloc, 0x06, bytes, out).err();
+    Ok([refused, put_content(alloc, 1, 0, content, out).err()])
+}
+
+/// Writes the longest body.
+fn put_longest(alloc: Global, bytes: &[u8], out: &mut Vec<u8>) -> Result<(), Fail> {
+    let body = bytes.get(1..).ok_or("short")?;
+    Ok(put_record(alloc, 0x06, body, out)?)
+}
+
 #[test]
 fn the_longest_body(rt: HostRuntime) -> Result<(), Fail> {
     let bytes = vec![in rt.alloc(); 0x55u8; 65535]?;
     let mut out = vec![in rt.alloc(); 0x11u8]?;
-    let record = put_record(rt.alloc(), 0x06, &bytes, &mut out).err();
-    let most = bytes.get(..65532).ok_or("short")?;
-    let content = put_content(rt.alloc(), 1, 0, most, &mut out).err();
-    assert_eq!(rt;
-        (record, content),
-        (Some(PutFault::TooLong), Some(PutFault::TooLong))
-    );
+    let refused = too_long(rt.alloc(), &bytes, &mut out)?;
+    assert_eq!(rt; refused, [Some(PutFault::TooLong); 2]);
     assert!(rt; out.as_slice() == [0x11].as_slice());
-    put_record(rt.alloc(), 0x06, bytes.get(1..).ok_or("short")?, &mut out)?;
+    put_longest(rt.alloc(), &bytes, &mut out)?;
     assert!(rt; found(&out, 1) == Ok((0x06, 65534, 1 + 65538)));
     Ok(())
 }
