@@ -1,134 +1,61 @@
-//! Two modules linked, by hand.
+//! Two modules linked, by hand. Links of other modules, and those that are refused, are rows of the program's tests.
 
-use link80::{LinkFault, link};
+use link80::{Linked, link};
 use omf_core::Name;
-use omf_module::{Content, Field, Fixup, Module, Parts, Public, Segment, Target};
+use omf_module::{Field, Fixup, Segment, Target, read_file};
 use std::alloc::Global;
 use std::test::Fail;
 
-/// A module of CODE alone, with 16 bytes of STACK where it is a main program.
-fn module(
-    alloc: Global,
-    publics: Vec<Public>,
-    externals: Vec<Name>,
-    length: u16,
-    bytes: &[u8],
-    fixups: &[Fixup],
-    is_main: bool,
-) -> Result<Module, Fail> {
-    let mut segments = Vec::new(alloc);
-    segments.push((
-        1,
-        Segment {
-            length,
-            paged: false,
-        },
-    ))?;
-    let mut start = None;
-    if is_main {
-        segments.push((
-            3,
-            Segment {
-                length: 16,
-                paged: false,
-            },
-        ))?;
-        start = Some((1, 0));
-    }
-    let mut contents = Vec::new(alloc);
-    contents.push(Content {
-        segment: 1,
-        offset: 0,
-        bytes: Vec::from_slice(alloc, bytes)?,
-        fixups: Vec::from_slice(alloc, fixups)?,
-    })?;
-    let parts = Parts {
-        name: Name::new(alloc, b"M")?,
-        segments,
-        commons: Vec::new(alloc),
-        publics,
-        externals,
-        contents,
-        start,
-    };
-    Ok(Module::from_parts(alloc, parts).map_err(|(_, fault)| fault)?)
+/// A main program that calls SUB, and a module that declares it.
+#[rattlefmt::skip]
+static CALLER_AND_CALLEE: [u8; 97] = [
+    0x02, 0x0D, 0x00, 0x01, 0x4D, 0x00, 0x00, 0x01, 0x04, 0x00, 0x03, 0x03, 0x10, 0x00, 0x03, 0x85, // module header: CODE of 4 bytes, STACK of 16
+    0x18, 0x06, 0x00, 0x03, 0x53, 0x55, 0x42, 0x00, 0xF5, // external SUB
+    0x06, 0x08, 0x00, 0x01, 0x00, 0x00, 0xCD, 0x00, 0x00, 0x76, 0xAE, // CALL SUB, HLT
+    0x20, 0x06, 0x00, 0x03, 0x00, 0x00, 0x01, 0x00, 0xD6, // the word at 0001, to external 0
+    0x04, 0x05, 0x00, 0x01, 0x01, 0x00, 0x00, 0xF5, // module end: the start is 0000 in CODE
+    0x02, 0x09, 0x00, 0x01, 0x4D, 0x00, 0x00, 0x01, 0x01, 0x00, 0x03, 0xA2, // module header: CODE of one byte
+    0x16, 0x09, 0x00, 0x01, 0x00, 0x00, 0x03, 0x53, 0x55, 0x42, 0x00, 0xF3, // public SUB at 0000 in CODE
+    0x06, 0x05, 0x00, 0x01, 0x00, 0x00, 0xC9, 0x2B, // RET
+    0x04, 0x05, 0x00, 0x00, 0x00, 0x00, 0x00, 0xF7, // module end
+    0x0E, 0x01, 0x00, 0xF1, // end of file
+];
+
+/// The call of SUB, which begins after the four bytes of the main program.
+const CALL: Fixup = Fixup {
+    offset: 1,
+    field: Field::Both,
+    target: Target::Segment(1),
+};
+
+const FIVE: Segment = Segment {
+    length: 5,
+    paged: false,
+};
+
+fn linked(alloc: Global) -> Result<Linked, Fail> {
+    let roots = read_file(alloc, &CALLER_AND_CALLEE)?;
+    let name = Name::new(alloc, b"BOTH")?;
+    Ok(link(alloc, &name, &roots, &[])?)
 }
 
-/// CALL SUB and HLT, where SUB is external.
-fn caller(alloc: Global) -> Result<Module, Fail> {
-    let mut externals = Vec::new(alloc);
-    externals.push(Name::new(alloc, b"SUB")?)?;
-    let call = Fixup {
-        offset: 1,
-        field: Field::Both,
-        target: Target::External(0),
+/// Whether the call is resolved, nothing is taken and no name is left open.
+fn is_resolved(linked: &Linked) -> bool {
+    let module = &linked.module;
+    let Some(first) = module.contents().first() else {
+        return false;
     };
-    module(
-        alloc,
-        Vec::new(alloc),
-        externals,
-        4,
-        &[0xCD, 0, 0, 0x76],
-        &[call],
-        true,
-    )
-}
-
-/// SUB: RET.
-fn callee(alloc: Global) -> Result<Module, Fail> {
-    let mut publics = Vec::new(alloc);
-    publics.push(Public {
-        name: Name::new(alloc, b"SUB")?,
-        segment: 1,
-        offset: 0,
-    })?;
-    module(alloc, publics, Vec::new(alloc), 1, &[0xC9], &[], false)
+    linked.taken.is_empty()
+        && linked.unresolved.is_empty()
+        && first.bytes.as_slice() == [0xCD, 4, 0, 0x76].as_slice()
+        && first.fixups.as_slice() == [CALL].as_slice()
+        && module.segment(1) == Some(FIVE)
+        && module.start() == Some((1, 0))
 }
 
 #[test]
 fn a_call_is_resolved(rt: HostRuntime) -> Result<(), Fail> {
-    let alloc = rt.alloc();
-    let name = Name::new(alloc, b"BOTH")?;
-    let roots = [caller(alloc)?, callee(alloc)?];
-    let made = link(alloc, &name, &roots, &[])?;
-    assert!(rt; made.taken.is_empty() && made.unresolved.is_empty());
-    let first = made.module.contents().first().expect(&rt, "a content");
-    assert!(rt; first.bytes.as_slice() == [0xCD, 4, 0, 0x76].as_slice());
-    assert!(rt;
-        first.fixups.as_slice()
-            == [Fixup {
-                offset: 1,
-                field: Field::Both,
-                target: Target::Segment(1)
-            }]
-            .as_slice()
-    );
-    assert!(rt;
-        made.module.segment(1)
-            == Some(Segment {
-                length: 5,
-                paged: false
-            })
-    );
-    assert!(rt; made.module.start() == Some((1, 0)));
-    Ok(())
-}
-
-#[test]
-fn a_name_is_left_open(rt: HostRuntime) -> Result<(), Fail> {
-    let alloc = rt.alloc();
-    let name = Name::new(alloc, b"ALONE")?;
-    let roots = [caller(alloc)?];
-    let made = link(alloc, &name, &roots, &[])?;
-    assert!(rt; made.unresolved.len() == 1 && made.unresolved[0].bytes() == b"SUB".as_slice());
-    Ok(())
-}
-
-#[test]
-fn two_mains_are_refused(rt: HostRuntime) -> Result<(), Fail> {
-    let alloc = rt.alloc();
-    let name = Name::new(alloc, b"TWICE")?;
-    let roots = [caller(alloc)?, caller(alloc)?];
-    assert!(rt; link(alloc, &name, &roots, &[]).err() == Some(LinkFault::TwoMains));
+    let linked = linked(rt.alloc())?;
+    assert!(rt; is_resolved(&linked));
     Ok(())
 }

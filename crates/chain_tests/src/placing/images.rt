@@ -1,7 +1,7 @@
 //! Images that are read from object files, and written.
 
 use place80::{Image, read_image, read_regions, write_image};
-use std::alloc::Global;
+use std::alloc::{AllocError, Global};
 use std::test::Fail;
 
 /// The image of a module A: a halt at 3000, where it starts.
@@ -24,22 +24,18 @@ fn image(alloc: Global) -> Result<Image, Fail> {
 }
 
 /// The file that is written for the image.
-fn written(alloc: Global) -> Result<Vec<u8>, Fail> {
+fn written(alloc: Global, image: &Image) -> Result<Vec<u8>, AllocError> {
     let mut out = Vec::new(alloc);
-    write_image(alloc, &image(alloc)?, &mut out)?;
+    write_image(alloc, image, &mut out)?;
     Ok(out)
 }
 
 #[test]
-fn an_image_is_read(rt: HostRuntime) -> Result<(), Fail> {
+fn an_image_is_read_and_written(rt: HostRuntime) -> Result<(), Fail> {
     let image = image(rt.alloc())?;
-    assert!(rt; image.start == 0x3000 && image.regions.in_code(0x3000));
-    Ok(())
-}
-
-#[test]
-fn an_image_is_written_again(rt: HostRuntime) -> Result<(), Fail> {
-    let out = written(rt.alloc())?;
-    assert!(rt; out.as_slice() == HALT.as_slice());
+    let out = written(rt.alloc(), &image)?;
+    assert!(rt;
+        image.start == 0x3000 && image.regions.in_code(0x3000) && out.as_slice() == HALT.as_slice()
+    );
     Ok(())
 }

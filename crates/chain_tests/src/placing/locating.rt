@@ -1,8 +1,7 @@
-//! Programs that are laid out and located.
+//! A program that is laid out. Programs that are located are rows of the program's tests.
 
-use super::text_of;
-use omf_module::{Module, read_module};
-use place80::{Image, ImageFault, Options, PlaceFault, RegionsFault, layout, locate};
+use omf_module::read_module;
+use place80::{ImageFault, Options, PlaceFault, RegionsFault, layout};
 use std::alloc::Global;
 use std::test::Fail;
 
@@ -13,40 +12,16 @@ static HALT: [u8; 28] = [
     0x04, 0x05, 0x00, 0x01, 0x01, 0x00, 0x00, 0xF5, // module end
 ];
 
-/// No option.
-static USUAL: Options = Options {
-    code: None,
-    stack: None,
-    common: None,
-    data_base: None,
-    memory: None,
-    stack_size: None,
-    memory_size: None,
-};
-
-fn program(alloc: Global) -> Result<Module, Fail> {
-    let (module, _) = read_module(alloc, &HALT, 0)?;
-    Ok(module)
-}
-
-fn located(alloc: Global) -> Result<Image, Fail> {
-    Ok(locate(alloc, &program(alloc)?, &USUAL)?)
-}
-
-#[test]
-fn the_regions_of_a_halt(rt: HostRuntime) -> Result<(), Fail> {
-    let text = text_of(rt.alloc(), &located(rt.alloc())?.regions)?;
-    assert_eq!(rt;
-        text.as_slice(),
-        b"REGIONS 1\nCODE 3000 0001\nSTACK 3001 0000\n".as_slice()
-    );
-    Ok(())
+/// The number of segments that are laid out for the module, with no option.
+fn segments(alloc: Global) -> Result<usize, Fail> {
+    let (program, _) = read_module(alloc, &HALT, 0)?;
+    Ok(layout(alloc, &program, &Options::default())?.segments.len())
 }
 
 #[test]
 fn the_places_of_a_halt(rt: HostRuntime) -> Result<(), Fail> {
-    let segments = layout(rt.alloc(), &program(rt.alloc())?, &USUAL)?.segments;
-    assert_eq!(rt; segments.len(), 5);
+    let segments = segments(rt.alloc())?;
+    assert_eq!(rt; segments, 5);
     Ok(())
 }
 
