@@ -1,4 +1,4 @@
-use Rattle.std.specs.Prelude.{◌+◌, ℕ, List, drop, map}
+use Rattle.std.specs.Prelude.{◌+◌, drop, map}
 use Rattle.std.proofs.Common.{◌∙◌, ap}
 use Rattle.omf_module.specs.declared.symbols.Common.{Common}
 use Rattle.link80.specs.FirstSight.{with_names}

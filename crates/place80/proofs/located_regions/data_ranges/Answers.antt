@@ -1,4 +1,4 @@
-use Rattle.std.specs.Prelude.{◌++◌, ◌+◌, ◌∷◌, ◌==◌, [], Bool, List, drop}
+use Rattle.std.specs.Prelude.{◌++◌, ◌+◌, ◌∷◌, [], Bool, List, drop}
 use Rattle.std.specs.Global.{Vec}
 use Rattle.std.proofs.Common.{◌∙◌, ap, sym}
 use Rattle.place80.specs.declared.placed.Placed.{Placed}
