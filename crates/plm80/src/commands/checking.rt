@@ -7,7 +7,7 @@ use crate::commands::files::print;
 use crate::commands::listing::read_program;
 use crate::commands::syntax::{Argument, Kind, Syntax};
 use clap::ArgMatches;
-use loader80::{Refusal, refusal_text, vouch};
+use loader80::{Refusal, Vouched, refusal_text, vouch};
 use place80::Image;
 use std::alloc::{AllocError, Global};
 
@@ -70,11 +70,21 @@ pub fn check_files(rt: &HostRuntime, arguments: CheckArguments<'_>) -> Result<u8
     Ok(status)
 }
 
-/// What is printed of an image, and the exit status: 1 where it is refused.
+/// What is printed of an image, and the exit status.
 fn verdict(alloc: Global, image: Image) -> Result<(String, u8), AllocError> {
     match vouch(alloc, image) {
-        Ok(vouched) => Ok((report_text(alloc, &vouched)?, 0)),
-        Err((_, Refusal::Memory)) => Err(AllocError),
-        Err((_, refusal)) => Ok((refusal_text(alloc, refusal)?, 1)),
+        Ok(vouched) => accepted(alloc, &vouched),
+        Err((_, refusal)) => refused(alloc, refusal),
+    }
+}
+
+fn accepted(alloc: Global, vouched: &Vouched) -> Result<(String, u8), AllocError> {
+    Ok((report_text(alloc, vouched)?, 0))
+}
+
+fn refused(alloc: Global, refusal: Refusal) -> Result<(String, u8), AllocError> {
+    match refusal {
+        Refusal::Memory => Err(AllocError),
+        _ => Ok((refusal_text(alloc, refusal)?, 1)),
     }
 }

@@ -83,12 +83,31 @@ struct LinkFiles {
 /// is created or changed before every other fault is excluded.
 pub fn link_files(rt: &HostRuntime, arguments: &LinkArguments<'_>) -> Result<u8, Reported> {
     let name = name_of(rt, arguments.name)?;
+    link_named(rt, arguments, &name)
+}
+
+/// Links them into a module of this name.
+fn link_named(
+    rt: &HostRuntime,
+    arguments: &LinkArguments<'_>,
+    name: &Name,
+) -> Result<u8, Reported> {
     let files = read_files(rt, &arguments.files)?;
-    let linked = linked(rt, &name, &files)?;
-    let Ok((object, lines)) = outputs_of(rt.alloc(), &linked, &files.libraries) else {
+    let linked = linked(rt, name, &files)?;
+    write_linked(rt, arguments.out, &linked, &files.libraries)
+}
+
+/// Writes the linked module, and prints what was taken and what is unresolved.
+fn write_linked(
+    rt: &HostRuntime,
+    path: &str,
+    linked: &Linked,
+    libraries: &[Library],
+) -> Result<u8, Reported> {
+    let Ok((object, lines)) = outputs_of(rt.alloc(), linked, libraries) else {
         return Err(report_memory(rt));
     };
-    replace(rt, arguments.out, &object)?;
+    replace(rt, path, &object)?;
     print(rt, lines.as_bytes())?;
     Ok(0)
 }
