@@ -4,13 +4,10 @@
 //! |---|---|
 //! | `opcodes` | `decode80`: the opcode table, and what is fetched |
 //! | `frames` | `frames80`: what instructions, calls and meetings make of frames |
-//! | `arithmetic` | `machine80`: results and flags, against an outside core |
 //! | `machine` | `machine80`: programs with their ends, ports that are lists, a new memory |
 //! | `quick_steps` | `quick80`: quick steps, compared with steps |
 #![tactic(auto)]
 
-#[cfg(test)]
-mod arithmetic;
 #[cfg(test)]
 mod frames;
 #[cfg(test)]
