@@ -1,9 +1,8 @@
 //! Two modules linked, by hand. Links of other modules, and those that are refused, are rows of the program's tests.
 
-use link80::{Linked, link};
+use link80::link;
 use omf_core::Name;
-use omf_module::{Field, Fixup, Segment, Target, read_file};
-use std::alloc::Global;
+use omf_module::{Field, Fixup, Module, Segment, Target, read_file};
 use std::test::Fail;
 
 /// A main program that calls SUB, and a module that declares it.
@@ -21,41 +20,36 @@ static CALLER_AND_CALLEE: [u8; 97] = [
     0x0E, 0x01, 0x00, 0xF1, // end of file
 ];
 
-/// The call of SUB, which begins after the four bytes of the main program.
-const CALL: Fixup = Fixup {
-    offset: 1,
-    field: Field::Both,
-    target: Target::Segment(1),
-};
+/// The linked main program: its call of SUB, which begins after these four bytes.
+static CODE: [u8; 4] = [0xCD, 0x04, 0x00, 0x76];
+
+#[rattlefmt::skip]
+static FIXUPS: [Fixup; 1] = [
+    Fixup { offset: 1, field: Field::Both, target: Target::Segment(1) },
+];
 
 const FIVE: Segment = Segment {
     length: 5,
     paged: false,
 };
 
-fn linked(alloc: Global) -> Result<Linked, Fail> {
-    let roots = read_file(alloc, &CALLER_AND_CALLEE)?;
-    let name = Name::new(alloc, b"BOTH")?;
-    Ok(link(alloc, &name, &roots, &[])?)
-}
-
-/// Whether the call is resolved, nothing is taken and no name is left open.
-fn is_resolved(linked: &Linked) -> bool {
-    let module = &linked.module;
+/// Whether the call is resolved.
+fn is_resolved(module: &Module) -> bool {
     let Some(first) = module.contents().first() else {
         return false;
     };
-    linked.taken.is_empty()
-        && linked.unresolved.is_empty()
-        && first.bytes.as_slice() == [0xCD, 4, 0, 0x76].as_slice()
-        && first.fixups.as_slice() == [CALL].as_slice()
+    first.bytes.as_slice() == CODE.as_slice()
+        && first.fixups.as_slice() == FIXUPS.as_slice()
         && module.segment(1) == Some(FIVE)
-        && module.start() == Some((1, 0))
 }
 
 #[test]
 fn a_call_is_resolved(rt: HostRuntime) -> Result<(), Fail> {
-    let linked = linked(rt.alloc())?;
-    assert!(rt; is_resolved(&linked));
+    let roots = read_file(rt.alloc(), &CALLER_AND_CALLEE)?;
+    let name = Name::new(rt.alloc(), b"PROGRAM")?;
+    let linked = link(rt.alloc(), &name, &roots, &[])?;
+    assert_eq!(rt; linked.module.start(), Some((1, 0)));
+    assert!(rt; linked.taken.is_empty() && linked.unresolved.is_empty());
+    assert!(rt; is_resolved(&linked.module));
     Ok(())
 }

@@ -1,18 +1,10 @@
 //! Worked texts, and each call once where it answers. Texts and files that are refused are rows of the program's tests.
 
-use place80::{Image, RegionMap, Regions, read_image, read_regions, write_regions};
+use place80::{Image, RegionMap, Regions, read_image, read_regions, write_image, write_regions};
 use std::alloc::{AllocError, Global};
 use std::test::Fail;
 
-mod images;
 mod locating;
-
-/// The text that is written for regions.
-fn text_of(alloc: Global, regions: &Regions) -> Result<Vec<u8>, AllocError> {
-    let mut out = Vec::new(alloc);
-    write_regions(alloc, regions, &mut out)?;
-    Ok(out)
-}
 
 /// Regions whose lines are in no order, with an empty code line and a stack that ends with memory.
 const REGIONS: &[u8] =
@@ -32,16 +24,11 @@ fn has_its_parts(regions: &Regions) -> bool {
         && regions.in_data(0x3002)
 }
 
-#[test]
-fn lines_in_any_order(rt: HostRuntime) -> Result<(), Fail> {
-    let regions = read_regions(rt.alloc(), REGIONS)?;
-    let text = text_of(rt.alloc(), &regions)?;
-    assert!(rt; has_its_parts(&regions) && text.as_slice() == IN_ORDER);
-    Ok(())
-}
-
-fn map(alloc: Global) -> Result<RegionMap, Fail> {
-    Ok(RegionMap::new(alloc, &read_regions(alloc, REGIONS)?)?)
+/// The text that is written for regions.
+fn text_of(alloc: Global, regions: &Regions) -> Result<Vec<u8>, AllocError> {
+    let mut out = Vec::new(alloc);
+    write_regions(alloc, regions, &mut out)?;
+    Ok(out)
 }
 
 /// Which addresses are code and data.
@@ -56,19 +43,22 @@ static MAP: [(u16, bool, bool); 8] = [
     (0xFFFF, false, false),
 ];
 
-/// Whether the map has code and data just there.
-fn maps(map: &RegionMap) -> bool {
+/// Whether the map of regions has code and data just there.
+fn are_mapped(alloc: Global, regions: &Regions) -> Result<bool, AllocError> {
+    let map = RegionMap::new(alloc, regions)?;
     let mut all = true;
     for (address, code, data) in &MAP {
         all = all && map.is_code(*address) == *code && map.is_data(*address) == *data;
     }
-    all
+    Ok(all)
 }
 
 #[test]
-fn the_map_of_regions(rt: HostRuntime) -> Result<(), Fail> {
-    let map = map(rt.alloc())?;
-    assert!(rt; maps(&map));
+fn lines_in_any_order(rt: HostRuntime) -> Result<(), Fail> {
+    let regions = read_regions(rt.alloc(), REGIONS)?;
+    let text = text_of(rt.alloc(), &regions)?;
+    assert!(rt; has_its_parts(&regions) && text.as_slice() == IN_ORDER);
+    assert_eq!(rt; are_mapped(rt.alloc(), &regions), Ok(true));
     Ok(())
 }
 
@@ -102,19 +92,28 @@ static BYTES: [(u16, u8); 7] = [
 ];
 
 /// Whether the image and its memory have these bytes.
-fn holds(image: &Image, memory: &[u8]) -> bool {
+fn holds(alloc: Global, image: &Image) -> Result<bool, AllocError> {
+    let memory = image.memory(alloc)?;
     let mut all = true;
     for (address, byte) in &BYTES {
         let kept = memory.get(usize::from(*address)).copied();
         all = all && image.byte(*address) == *byte && kept == Some(*byte);
     }
-    all
+    Ok(all)
+}
+
+/// The file that is written for the image.
+fn file_of(alloc: Global, image: &Image) -> Result<Vec<u8>, AllocError> {
+    let mut out = Vec::new(alloc);
+    write_image(alloc, image, &mut out)?;
+    Ok(out)
 }
 
 #[test]
-fn the_bytes_of_an_image(rt: HostRuntime) -> Result<(), Fail> {
+fn an_image_is_read_and_written(rt: HostRuntime) -> Result<(), Fail> {
     let image = image(rt.alloc())?;
-    let memory = image.memory(rt.alloc())?;
-    assert!(rt; holds(&image, memory.as_slice()));
+    let file = file_of(rt.alloc(), &image)?;
+    assert!(rt; image.start == 0x3000 && file.as_slice() == THREE.as_slice());
+    assert_eq!(rt; holds(rt.alloc(), &image), Ok(true));
     Ok(())
 }

@@ -206,9 +206,9 @@ fn link_modules(
 ///
 /// # Example
 /// ```
-/// let roots = vec![in rt.alloc(); module_of(rt.alloc())?]?;
+/// let roots = read_file(rt.alloc(), &CALLER_AND_CALLEE)?;
 /// let name = Name::new(rt.alloc(), b"PROGRAM")?;
-/// let linked = link(rt.alloc(), &name, roots.as_slice(), &[])?;
+/// let linked = link(rt.alloc(), &name, &roots, &[])?;
 /// assert_eq!(rt; linked.module.start(), Some((1, 0)));
 /// assert!(rt; linked.taken.is_empty() && linked.unresolved.is_empty());
 /// ```

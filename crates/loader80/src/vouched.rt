@@ -105,7 +105,7 @@ impl Vouched {
 ///     Ok(vouched) => vouched,
 ///     Err((_image, refusal)) => return Err(refusal.into()),
 /// };
-/// assert_eq!(rt; vouched.stack_bytes(), 0);
+/// assert_eq!(rt; vouched.stack_bytes(), 4);
 /// ```
 ///
 /// # Errors

@@ -1,12 +1,14 @@
-//! Tests of the verifier and the loader from outside, by their public names.
+//! Tests of the verifier and the loader from outside, by their public names, each call once where memory is there.
 //!
 //! | Module | What it tests |
 //! |---|---|
-//! | `verifier` | `verify80`: reports of programs, and refusals |
-//! | `loader` | `loader80`: images that are vouched for and run, sessions, and the text of inputs |
+//! | `vouching` | `verify80` and `loader80`: an image that is verified, vouched for and run |
+//! | `sessions` | `loader80`: sessions, over readers and writers that give and take a byte at a time |
+//!
+//! What the program shows of texts, images, refusals and transcripts stands in the tables of `tests/commands`.
 #![tactic(auto)]
 
 #[cfg(test)]
-mod loader;
+mod sessions;
 #[cfg(test)]
-mod verifier;
+mod vouching;

@@ -6,11 +6,11 @@ use omf_module::{
     Content, Field, Fixup, Module, Parts, PartsFault, Segment, Target, read_file, read_module,
     write_file, write_module,
 };
-use std::alloc::Global;
+use std::alloc::{AllocError, Global};
 use std::test::Fail;
 
 /// A main program `A` with one byte of code, and nothing else.
-static MAIN: [u8; 32] = [
+static HALT: [u8; 32] = [
     0x02, 0x09, 0x00, 0x01, 0x41, 0x00, 0x00, 0x01, 0x01, 0x00, 0x03, 0xAE, // module header
     0x06, 0x05, 0x00, 0x01, 0x00, 0x00, 0x76, 0x7E, // content
     0x04, 0x05, 0x00, 0x01, 0x01, 0x00, 0x00, 0xF5, // module end
@@ -69,31 +69,31 @@ fn file_of_parts(alloc: Global, parts: Parts) -> Result<Vec<u8>, Fail> {
 #[test]
 fn a_main_program_is_made_and_written(rt: HostRuntime) -> Result<(), Fail> {
     let file = file_of_parts(rt.alloc(), parts(rt.alloc(), &[ONE], &[0x76], &[])?)?;
-    assert!(rt; file.as_slice() == MAIN.as_slice());
+    assert!(rt; file.as_slice() == HALT.as_slice());
     Ok(())
 }
 
 #[test]
 fn a_file_is_read_and_written(rt: HostRuntime) -> Result<(), Fail> {
-    let file = file_of(rt.alloc(), &read_file(rt.alloc(), &MAIN)?)?;
-    assert!(rt; file.as_slice() == MAIN.as_slice());
+    let file = file_of(rt.alloc(), &read_file(rt.alloc(), &HALT)?)?;
+    assert!(rt; file.as_slice() == HALT.as_slice());
     Ok(())
 }
 
-/// The bytes that are written for a copy of the module.
-fn copied(alloc: Global, source: &Module) -> Result<Vec<u8>, Fail> {
+/// Appends the bytes that are written for a copy of the module.
+fn put_copy(alloc: Global, source: &Module, out: &mut Vec<u8>) -> Result<(), AllocError> {
     let copy = source.copy(alloc)?;
-    let mut out = Vec::new(alloc);
-    write_module(alloc, &copy, &mut out)?;
-    Ok(out)
+    write_module(alloc, &copy, out)
 }
 
 #[test]
 fn a_module_is_read_and_copied(rt: HostRuntime) -> Result<(), Fail> {
-    let (module, after) = read_module(rt.alloc(), &MAIN, 0)?;
-    let read = (module.start(), module.segment(1));
-    let out = copied(rt.alloc(), &module)?;
-    assert!(rt; read == (Some((1, 0)), Some(ONE.1)) && out.as_slice() == &MAIN[..after]);
+    let mut out = Vec::new(rt.alloc());
+    let (module, after) = read_module(rt.alloc(), &HALT, 0)?;
+    assert_eq!(rt; module.start(), Some((1, 0)));
+    assert_eq!(rt; after, 28);
+    assert_eq!(rt; put_copy(rt.alloc(), &module, &mut out), Ok(()));
+    assert!(rt; module.segment(1) == Some(ONE.1) && out.as_slice() == &HALT[..28]);
     Ok(())
 }
 

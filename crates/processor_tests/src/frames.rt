@@ -49,8 +49,8 @@ fn moved(
     parts: &Parts,
     bytes: [u8; 3],
 ) -> Result<Result<Moves, FrameFault>, Fail> {
-    let frame = frame_of(alloc, parts)?;
     let (instr, _) = decode(bytes).ok_or("an unused byte")?;
+    let frame = frame_of(alloc, parts)?;
     assert_small(rt, &frame);
     Ok(next(alloc, &frame, instr, role))
 }

@@ -2,20 +2,22 @@
 //!
 //! | Module | What it tests |
 //! |---|---|
-//! | `opcodes` | `decode80`: the opcode table, and what is fetched |
+//! | `texts` | `decode80`: texts of instructions |
 //! | `frames` | `frames80`: what instructions, calls and meetings make of frames |
-//! | `arithmetic` | `machine80`: results and flags, against an outside core |
-//! | `machine` | `machine80`: programs with their ends, ports that are lists, a new memory |
+//! | `machine` | `machine80`: programs with their ends, and ports that are lists |
 //! | `quick_steps` | `quick80`: quick steps, compared with steps |
+//!
+//! The text of each first byte, the results and flags of an outside core, and runs of programs that the verifier accepts are in
+//! `tests/commands`.
 #![tactic(auto)]
 
-#[cfg(test)]
-mod arithmetic;
 #[cfg(test)]
 mod frames;
 #[cfg(test)]
 mod machine;
 #[cfg(test)]
-mod opcodes;
+mod memory;
 #[cfg(test)]
 mod quick_steps;
+#[cfg(test)]
+mod texts;

@@ -1,11 +1,12 @@
 //! A quick step is the step: both are made from the same states, and must leave the same.
 
+use crate::memory::empty_memory;
 use decode80::length_of;
-use machine80::{Bus, Cpu, End, Flags, FlatBus, Inputs, ListPorts, Ports, Registers, step};
-use omf_core::Name;
-use place80::{Image, RegionMap, Regions, read_regions};
+use machine80::{Bus, Cpu, Flags, FlatBus, Inputs, ListPorts, Ports, Registers, step};
+use place80::{RegionMap, Regions, read_regions};
 use quick80::quick_step;
-use std::alloc::Global;
+use std::alloc::{AllocError, Global};
+use std::process::Abort;
 use std::test::Fail;
 
 /// Code up to FFFF, and room for all data and stack that the states point to.
@@ -29,25 +30,14 @@ struct Pair {
     quick: FlatBus,
 }
 
-fn new_bus(alloc: Global) -> Result<FlatBus, Fail> {
-    let image = Image {
-        name: Name::new(alloc, b"A")?,
-        chunks: Vec::new(alloc),
-        regions: read_regions(alloc, REGIONS)?,
-        start: 0xF000,
-    };
-    Ok(FlatBus::new(alloc, &image)?)
-}
-
 fn new_pair(alloc: Global) -> Result<Pair, Fail> {
-    Ok(Pair {
-        slow: new_bus(alloc)?,
-        quick: new_bus(alloc)?,
-    })
+    let slow = empty_memory(alloc)?;
+    let quick = empty_memory(alloc)?;
+    Ok(Pair { slow, quick })
 }
 
 /// One input byte at port 34, or none.
-fn inputs(alloc: Global, kind: usize) -> Result<Inputs, Fail> {
+fn inputs(alloc: Global, kind: usize) -> Result<Inputs, AllocError> {
     let mut pairs = Vec::new(alloc);
     if kind % 2 == 0 {
         pairs.push((0x34, 0x56))?;
@@ -101,10 +91,11 @@ fn steps_agree(
     map: &RegionMap,
     before: Cpu,
     kind: usize,
-) -> Result<bool, Fail> {
+) -> Result<bool, AllocError> {
+    let (left, right) = (inputs(alloc, kind)?, inputs(alloc, kind)?);
     let (mut cpu, mut quick) = (before, before);
-    let mut ports = ListPorts::new(alloc, inputs(alloc, kind)?, kind / 2 % 2);
-    let mut quick_ports = ListPorts::new(alloc, inputs(alloc, kind)?, kind / 2 % 2);
+    let mut ports = ListPorts::new(alloc, left, kind / 2 % 2);
+    let mut quick_ports = ListPorts::new(alloc, right, kind / 2 % 2);
     let end = step(&mut cpu, &mut pair.slow, &mut ports, regions);
     let quick_end = quick_step(&mut quick, &mut pair.quick, &mut quick_ports, regions, map);
     Ok(
@@ -123,7 +114,7 @@ fn all_agree(
     map: &RegionMap,
     opcode: u8,
     pc: u16,
-) -> Result<bool, Fail> {
+) -> Result<bool, AllocError> {
     for set in &SETS {
         for (kind, flags) in FLAGS.iter().enumerate() {
             put(pair, opcode, pc);
@@ -135,22 +126,29 @@ fn all_agree(
     Ok(same_memory(&pair.slow, &pair.quick))
 }
 
-/// Every first byte, unused ones too, with settings of each flag, from each set of registers, in the midst of the code and at the end of memory.
-#[test]
-fn every_first_byte_agrees(rt: HostRuntime) -> Result<(), Fail> {
-    let mut pair = new_pair(rt.alloc())?;
-    let regions = read_regions(rt.alloc(), REGIONS)?;
-    let map = RegionMap::new(rt.alloc(), &regions)?;
+/// Goes through every first byte, unused ones too, with settings of each flag, from each set of registers, in the midst of the code
+/// and at the end of memory.
+fn go_through_bytes(
+    rt: &impl Abort,
+    alloc: Global,
+    pair: &mut Pair,
+    regions: &Regions,
+    map: &RegionMap,
+) -> Result<(), Fail> {
     for opcode in 0..=255u8 {
         let length = length_of(opcode).unwrap_or(1);
         for pc in [0xF100, (65536 - length) as u16] {
-            assert!(rt;
-                all_agree(rt.alloc(), &mut pair, &regions, &map, opcode, pc)?,
-                "{} at {}",
-                opcode,
-                pc
-            );
+            let agree = all_agree(alloc, pair, regions, map, opcode, pc)?;
+            assert!(rt; agree, "{opcode} at {pc}");
         }
     }
     Ok(())
+}
+
+#[test]
+fn every_first_byte_agrees(rt: HostRuntime) -> Result<(), Fail> {
+    let regions = read_regions(rt.alloc(), REGIONS)?;
+    let map = RegionMap::new(rt.alloc(), &regions)?;
+    let mut pair = new_pair(rt.alloc())?;
+    go_through_bytes(&rt, rt.alloc(), &mut pair, &regions, &map)
 }

@@ -17,8 +17,8 @@ use std::alloc::Global;
 /// # Example
 /// ```
 /// let report = verify(rt.alloc(), &image)?;
-/// assert_eq!(rt; report.stack_bytes, 0);
-/// assert!(rt; report.procedures.is_empty());
+/// assert_eq!(rt; report.stack_bytes, 4);
+/// assert_eq!(rt; report.procedures.len(), 1);
 /// ```
 ///
 /// # Errors

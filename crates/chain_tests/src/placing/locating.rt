@@ -1,7 +1,7 @@
-//! A program that is laid out. Programs that are located are rows of the program's tests.
+//! A program that is laid out and located. Other programs are rows of the program's tests.
 
-use omf_module::read_module;
-use place80::{ImageFault, Options, PlaceFault, RegionsFault, layout};
+use omf_module::{Module, read_module};
+use place80::{ImageFault, Options, PlaceFault, RegionsFault, layout, locate};
 use std::alloc::Global;
 use std::test::Fail;
 
@@ -12,16 +12,29 @@ static HALT: [u8; 28] = [
     0x04, 0x05, 0x00, 0x01, 0x01, 0x00, 0x00, 0xF5, // module end
 ];
 
-/// The number of segments that are laid out for the module, with no option.
-fn segments(alloc: Global) -> Result<usize, Fail> {
-    let (program, _) = read_module(alloc, &HALT, 0)?;
-    Ok(layout(alloc, &program, &Options::default())?.segments.len())
+fn module(alloc: Global) -> Result<Module, Fail> {
+    let (module, _) = read_module(alloc, &HALT, 0)?;
+    Ok(module)
+}
+
+/// The number of segments that are laid out for a module, with no option.
+fn segments(alloc: Global, module: &Module) -> Result<usize, PlaceFault> {
+    Ok(layout(alloc, module, &Options::default())?.segments.len())
 }
 
 #[test]
-fn the_places_of_a_halt(rt: HostRuntime) -> Result<(), Fail> {
-    let segments = segments(rt.alloc())?;
-    assert_eq!(rt; segments, 5);
+fn a_halt_is_laid_out(rt: HostRuntime) -> Result<(), Fail> {
+    let module = module(rt.alloc())?;
+    assert_eq!(rt; segments(rt.alloc(), &module), Ok(5));
+    Ok(())
+}
+
+#[test]
+fn a_halt_is_located(rt: HostRuntime) -> Result<(), Fail> {
+    let module = module(rt.alloc())?;
+    let image = locate(rt.alloc(), &module, &Options::default())?;
+    assert_eq!(rt; image.start, 0x3000);
+    assert_eq!(rt; image.byte(0x3000), 0x76);
     Ok(())
 }
 

@@ -18,8 +18,8 @@ static CALLS: [(Role, Parts, u32, u32, Parts); 2] = [
 #[test]
 fn a_call_comes_back(rt: HostRuntime) -> Result<(), Fail> {
     for (role, before, wants, takes, back) in &CALLS {
-        let came = called(&rt, rt.alloc(), *role, before, *wants, *takes)??;
         let wanted = frame_of(rt.alloc(), back)?;
+        let came = called(&rt, rt.alloc(), *role, before, *wants, *takes)??;
         assert!(rt; came == wanted);
     }
     Ok(())
@@ -60,10 +60,13 @@ fn a_caller_is_short(rt: HostRuntime) -> Result<(), Fail> {
 
 #[test]
 fn numbers_of_faults(rt: HostRuntime) {
-    assert!(rt; FrameFault::Memory.code() == 18);
-    assert!(rt; CallFault::ShortArguments.code() == 14);
-    assert!(rt; CallFault::Memory.code() == 18);
-    assert!(rt; HeightsDiffer.code() == 12);
+    let codes = [
+        FrameFault::Memory.code(),
+        CallFault::ShortArguments.code(),
+        CallFault::Memory.code(),
+        HeightsDiffer.code(),
+    ];
+    assert!(rt; codes == [18, 14, 18, 12]);
 }
 
 /// Roles and frames, and how deep they are.

@@ -7,129 +7,114 @@ use frames80::Word::{Any, Own};
 use frames80::{Frame, FrameFault, Moves, Role};
 use std::test::Fail;
 
-/// Instructions that go on to the next one, each with the frame before it and after it.
+/// Instructions, each with the frame before it, how the procedure goes on, the address or the number of words or of the refusal, and the
+/// frame after it; where there is none, the frame before it stands there.
 #[rattlefmt::skip]
-static CHANGES: [(Role, [u8; 3], Parts, Parts); 24] = [
+static ROWS: [(Role, [u8; 3], Parts, &str, u32, Parts); 53] = [
     // PUSH and POP of BC, DE and HL carry the return address; PSW doesn't.
-    (Entry, [0xC5, 0x00, 0x00], (0, &[], [Own, Any, Any]), (0, &[Own], [Own, Any, Any])),
-    (Entry, [0xD5, 0x00, 0x00], (0, &[], [Any, Own, Any]), (0, &[Own], [Any, Own, Any])),
-    (Entry, [0xE5, 0x00, 0x00], (0, &[], [Any, Any, Own]), (0, &[Own], [Any, Any, Own])),
-    (Entry, [0xC1, 0x00, 0x00], (0, &[Own], [Any, Any, Any]), (0, &[], [Own, Any, Any])),
-    (Entry, [0xD1, 0x00, 0x00], (0, &[Own], [Any, Any, Any]), (0, &[], [Any, Own, Any])),
-    (Entry, [0xE1, 0x00, 0x00], (0, &[Own], [Any, Any, Any]), (0, &[], [Any, Any, Own])),
-    (Entry, [0xF5, 0x00, 0x00], (0, &[Own], [Own, Own, Own]), (0, &[Own, Any], [Own, Own, Own])),
-    (Entry, [0xF1, 0x00, 0x00], (0, &[Own], [Own, Own, Own]), (0, &[], [Own, Own, Own])),
+    (Entry, [0xC5, 0x00, 0x00], (0, &[], [Own, Any, Any]), "on", 0, (0, &[Own], [Own, Any, Any])),
+    (Entry, [0xD5, 0x00, 0x00], (0, &[], [Any, Own, Any]), "on", 0, (0, &[Own], [Any, Own, Any])),
+    (Entry, [0xE5, 0x00, 0x00], (0, &[], [Any, Any, Own]), "on", 0, (0, &[Own], [Any, Any, Own])),
+    (Entry, [0xC1, 0x00, 0x00], (0, &[Own], [Any, Any, Any]), "on", 0, (0, &[], [Own, Any, Any])),
+    (Entry, [0xD1, 0x00, 0x00], (0, &[Own], [Any, Any, Any]), "on", 0, (0, &[], [Any, Own, Any])),
+    (Entry, [0xE1, 0x00, 0x00], (0, &[Own], [Any, Any, Any]), "on", 0, (0, &[], [Any, Any, Own])),
+    (Entry, [0xF5, 0x00, 0x00], (0, &[Own], [Own, Own, Own]), "on", 0, (0, &[Own, Any], [Own, Own, Own])),
+    (Entry, [0xF1, 0x00, 0x00], (0, &[Own], [Own, Own, Own]), "on", 0, (0, &[], [Own, Own, Own])),
     // POP B of no words takes one from beneath.
-    (Entry, [0xC1, 0x00, 0x00], (1, &[], [Own, Any, Any]), (2, &[], [Any, Any, Any])),
+    (Entry, [0xC1, 0x00, 0x00], (1, &[], [Own, Any, Any]), "on", 0, (2, &[], [Any, Any, Any])),
     // XTHL exchanges HL with the top; with no words it takes one from beneath. XCHG exchanges DE and HL.
-    (Entry, [0xE3, 0x00, 0x00], (0, &[Own], [Any, Own, Any]), (0, &[Any], [Any, Own, Own])),
-    (Entry, [0xE3, 0x00, 0x00], (0, &[], [Any, Any, Own]), (1, &[Own], [Any, Any, Any])),
-    (Entry, [0xEB, 0x00, 0x00], (0, &[Own], [Any, Own, Any]), (0, &[Own], [Any, Any, Own])),
+    (Entry, [0xE3, 0x00, 0x00], (0, &[Own], [Any, Own, Any]), "on", 0, (0, &[Any], [Any, Own, Own])),
+    (Entry, [0xE3, 0x00, 0x00], (0, &[], [Any, Any, Own]), "on", 0, (1, &[Own], [Any, Any, Any])),
+    (Entry, [0xEB, 0x00, 0x00], (0, &[Own], [Any, Own, Any]), "on", 0, (0, &[Own], [Any, Any, Own])),
     // MOV D,D forgets DE; LXI SP,3200 leaves the main program no words.
-    (Entry, [0x52, 0x00, 0x00], (0, &[Own], [Own, Own, Own]), (0, &[Own], [Own, Any, Own])),
-    (MAIN, [0x31, 0x00, 0x32], (0, &[Any, Any], [Any, Any, Any]), (0, &[], [Any, Any, Any])),
+    (Entry, [0x52, 0x00, 0x00], (0, &[Own], [Own, Own, Own]), "on", 0, (0, &[Own], [Own, Any, Own])),
+    (MAIN, [0x31, 0x00, 0x32], (0, &[Any, Any], [Any, Any, Any]), "on", 0, (0, &[], [Any, Any, Any])),
     // A procedure that takes one word: POP D, POP B, PUSH D, MOV A,C, OUT 01.
-    (Entry, [0xD1, 0x00, 0x00], (0, &[Own], [Any, Any, Any]), (0, &[], [Any, Own, Any])),
-    (Entry, [0xC1, 0x00, 0x00], (0, &[], [Any, Own, Any]), (1, &[], [Any, Own, Any])),
-    (Entry, [0xD5, 0x00, 0x00], (1, &[], [Any, Own, Any]), (1, &[Own], [Any, Own, Any])),
-    (Entry, [0x79, 0x00, 0x00], (1, &[Own], [Any, Own, Any]), (1, &[Own], [Any, Own, Any])),
-    (Entry, [0xD3, 0x01, 0x00], (1, &[Own], [Any, Own, Any]), (1, &[Own], [Any, Own, Any])),
+    (Entry, [0xD1, 0x00, 0x00], (0, &[Own], [Any, Any, Any]), "on", 0, (0, &[], [Any, Own, Any])),
+    (Entry, [0xC1, 0x00, 0x00], (0, &[], [Any, Own, Any]), "on", 0, (1, &[], [Any, Own, Any])),
+    (Entry, [0xD5, 0x00, 0x00], (1, &[], [Any, Own, Any]), "on", 0, (1, &[Own], [Any, Own, Any])),
+    (Entry, [0x79, 0x00, 0x00], (1, &[Own], [Any, Own, Any]), "on", 0, (1, &[Own], [Any, Own, Any])),
+    (Entry, [0xD3, 0x01, 0x00], (1, &[Own], [Any, Own, Any]), "on", 0, (1, &[Own], [Any, Own, Any])),
     // One that takes two on one of its ways: after POP D and POP B, POP B and PUSH D.
-    (Entry, [0xC1, 0x00, 0x00], (1, &[], [Any, Own, Any]), (2, &[], [Any, Own, Any])),
-    (Entry, [0xD5, 0x00, 0x00], (2, &[], [Any, Own, Any]), (2, &[Own], [Any, Own, Any])),
+    (Entry, [0xC1, 0x00, 0x00], (1, &[], [Any, Own, Any]), "on", 0, (2, &[], [Any, Own, Any])),
+    (Entry, [0xD5, 0x00, 0x00], (2, &[], [Any, Own, Any]), "on", 0, (2, &[Own], [Any, Own, Any])),
     // The caller of the first: LXI SP,3200, LXI H,0005, PUSH H.
-    (MAIN, [0x31, 0x00, 0x32], (0, &[], [Any, Any, Any]), (0, &[], [Any, Any, Any])),
-    (MAIN, [0x21, 0x05, 0x00], (0, &[], [Any, Any, Any]), (0, &[], [Any, Any, Any])),
-    (MAIN, [0xE5, 0x00, 0x00], (0, &[], [Any, Any, Any]), (0, &[Any], [Any, Any, Any])),
-];
-
-#[test]
-fn frames_change(rt: HostRuntime) -> Result<(), Fail> {
-    for (role, bytes, before, after) in &CHANGES {
-        let moves = moved(&rt, rt.alloc(), *role, before, *bytes)??;
-        let wanted = frame_of(rt.alloc(), after)?;
-        assert!(rt;
-            matches!(&moves, Moves::On(frame) if *frame == wanted),
-            "{bytes:?}"
-        );
-    }
-    Ok(())
-}
-
-/// JMP, JZ, CALL and CZ of 3210, RST 7, RET, RZ, HLT and NOP, in a procedure that has taken two words; RET where one was taken.
-#[rattlefmt::skip]
-static MOVES: [(u32, u8, &str, u32); 10] = [
-    (2, 0xC3, "jump", 0x3210),
-    (2, 0xCA, "either", 0x3210),
-    (2, 0xCD, "call", 0x3210),
-    (2, 0xCC, "maybe call", 0x3210),
-    (2, 0xFF, "call", 0x0038),
-    (2, 0xC9, "return", 2),
-    (2, 0xC8, "maybe return", 2),
-    (2, 0x76, "end", 0),
-    (2, 0x00, "on", 0),
-    (1, 0xC9, "return", 1),
-];
-
-#[test]
-fn each_move(rt: HostRuntime) -> Result<(), Fail> {
-    for (taken, first, wanted, number) in &MOVES {
-        let parts: Parts = (*taken, &[Own], [Any, Any, Any]);
-        let moves = moved(&rt, rt.alloc(), Entry, &parts, [*first, 0x10, 0x32])??;
-        assert!(rt; kind(&moves) == (*wanted, *number), "{first:02X}");
-    }
-    Ok(())
-}
-
-/// What kind of move it is, and its address or number of words.
-fn kind(moves: &Moves) -> (&'static str, u32) {
-    match moves {
-        Moves::End => ("end", 0),
-        Moves::On(_) => ("on", 0),
-        Moves::Jump(_, to) => ("jump", u32::from(*to)),
-        Moves::Either(_, to) => ("either", u32::from(*to)),
-        Moves::Call(_, to) => ("call", u32::from(*to)),
-        Moves::MaybeCall(_, to) => ("maybe call", u32::from(*to)),
-        Moves::Return(taken) => ("return", *taken),
-        Moves::MaybeReturn(_, taken) => ("maybe return", *taken),
-    }
-}
-
-/// First bytes, before 00 31, that are refused, with the frame and the number of the fault.
-#[rattlefmt::skip]
-static REFUSED: [(Role, u8, Parts, FrameFault, u8); 19] = [
+    (MAIN, [0x31, 0x00, 0x32], (0, &[], [Any, Any, Any]), "on", 0, (0, &[], [Any, Any, Any])),
+    (MAIN, [0x21, 0x05, 0x00], (0, &[], [Any, Any, Any]), "on", 0, (0, &[], [Any, Any, Any])),
+    (MAIN, [0xE5, 0x00, 0x00], (0, &[], [Any, Any, Any]), "on", 0, (0, &[Any], [Any, Any, Any])),
+    // JMP, JZ, CALL and CZ of 3210, RST 7, RET, RZ, HLT and NOP, in a procedure that has taken two words; RET where one was taken.
+    (Entry, [0xC3, 0x10, 0x32], (2, &[Own], [Any, Any, Any]), "jump", 0x3210, (2, &[Own], [Any, Any, Any])),
+    (Entry, [0xCA, 0x10, 0x32], (2, &[Own], [Any, Any, Any]), "either", 0x3210, (2, &[Own], [Any, Any, Any])),
+    (Entry, [0xCD, 0x10, 0x32], (2, &[Own], [Any, Any, Any]), "call", 0x3210, (2, &[Own], [Any, Any, Any])),
+    (Entry, [0xCC, 0x10, 0x32], (2, &[Own], [Any, Any, Any]), "maybe call", 0x3210, (2, &[Own], [Any, Any, Any])),
+    (Entry, [0xFF, 0x10, 0x32], (2, &[Own], [Any, Any, Any]), "call", 0x0038, (2, &[Own], [Any, Any, Any])),
+    (Entry, [0xC9, 0x10, 0x32], (2, &[Own], [Any, Any, Any]), "return", 2, (2, &[Own], [Any, Any, Any])),
+    (Entry, [0xC8, 0x10, 0x32], (2, &[Own], [Any, Any, Any]), "maybe return", 2, (2, &[Own], [Any, Any, Any])),
+    (Entry, [0x76, 0x10, 0x32], (2, &[Own], [Any, Any, Any]), "end", 0, (2, &[Own], [Any, Any, Any])),
+    (Entry, [0x00, 0x10, 0x32], (2, &[Own], [Any, Any, Any]), "on", 0, (2, &[Own], [Any, Any, Any])),
+    (Entry, [0xC9, 0x10, 0x32], (1, &[Own], [Any, Any, Any]), "return", 1, (1, &[Own], [Any, Any, Any])),
     // SPHL, PCHL, INX SP, DCX SP, LXI SP,3100, pops of no words and returns in the main program.
-    (MAIN, 0xF9, (0, &[], [Any, Any, Any]), FrameFault::Sphl, 4),
-    (MAIN, 0xE9, (0, &[], [Any, Any, Any]), FrameFault::Pchl, 5),
-    (MAIN, 0x33, (0, &[], [Any, Any, Any]), FrameFault::StackByByte, 6),
-    (MAIN, 0x3B, (0, &[], [Any, Any, Any]), FrameFault::StackByByte, 6),
-    (MAIN, 0x31, (0, &[], [Any, Any, Any]), FrameFault::SetsStack, 7),
-    (MAIN, 0xC1, (0, &[], [Any, Any, Any]), FrameFault::PopsBelow, 9),
-    (MAIN, 0xF1, (0, &[], [Any, Any, Any]), FrameFault::PopsBelow, 9),
-    (MAIN, 0xE3, (0, &[], [Any, Any, Any]), FrameFault::PopsBelow, 9),
-    (MAIN, 0xC9, (0, &[], [Any, Any, Any]), FrameFault::ReturnFromMain, 11),
-    (MAIN, 0xC8, (0, &[], [Any, Any, Any]), FrameFault::ReturnFromMain, 11),
+    (MAIN, [0xF9, 0x00, 0x31], (0, &[], [Any, Any, Any]), "refused", 4, (0, &[], [Any, Any, Any])),
+    (MAIN, [0xE9, 0x00, 0x31], (0, &[], [Any, Any, Any]), "refused", 5, (0, &[], [Any, Any, Any])),
+    (MAIN, [0x33, 0x00, 0x31], (0, &[], [Any, Any, Any]), "refused", 6, (0, &[], [Any, Any, Any])),
+    (MAIN, [0x3B, 0x00, 0x31], (0, &[], [Any, Any, Any]), "refused", 6, (0, &[], [Any, Any, Any])),
+    (MAIN, [0x31, 0x00, 0x31], (0, &[], [Any, Any, Any]), "refused", 7, (0, &[], [Any, Any, Any])),
+    (MAIN, [0xC1, 0x00, 0x31], (0, &[], [Any, Any, Any]), "refused", 9, (0, &[], [Any, Any, Any])),
+    (MAIN, [0xF1, 0x00, 0x31], (0, &[], [Any, Any, Any]), "refused", 9, (0, &[], [Any, Any, Any])),
+    (MAIN, [0xE3, 0x00, 0x31], (0, &[], [Any, Any, Any]), "refused", 9, (0, &[], [Any, Any, Any])),
+    (MAIN, [0xC9, 0x00, 0x31], (0, &[], [Any, Any, Any]), "refused", 11, (0, &[], [Any, Any, Any])),
+    (MAIN, [0xC8, 0x00, 0x31], (0, &[], [Any, Any, Any]), "refused", 11, (0, &[], [Any, Any, Any])),
     // A procedure sets no stack, also with the top of the main program's.
-    (Entry, 0x31, (0, &[Own], [Any, Any, Any]), FrameFault::SetsStack, 7),
+    (Entry, [0x31, 0x00, 0x31], (0, &[Own], [Any, Any, Any]), "refused", 7, (0, &[Own], [Any, Any, Any])),
     // Words that are not the return address alone: none, one that may be any, the address under another word. RET and RZ.
-    (Entry, 0xC9, (1, &[], [Any, Own, Any]), FrameFault::ReturnNotOwn, 10),
-    (Entry, 0xC8, (1, &[], [Any, Own, Any]), FrameFault::ReturnNotOwn, 10),
-    (Entry, 0xC9, (1, &[Any], [Any, Own, Any]), FrameFault::ReturnNotOwn, 10),
-    (Entry, 0xC8, (1, &[Any], [Any, Own, Any]), FrameFault::ReturnNotOwn, 10),
-    (Entry, 0xC9, (1, &[Own, Any], [Any, Own, Any]), FrameFault::ReturnNotOwn, 10),
-    (Entry, 0xC8, (1, &[Own, Any], [Any, Own, Any]), FrameFault::ReturnNotOwn, 10),
-    (Entry, 0xC9, (1, &[Own, Own], [Any, Own, Any]), FrameFault::ReturnNotOwn, 10),
-    (Entry, 0xC8, (1, &[Own, Own], [Any, Own, Any]), FrameFault::ReturnNotOwn, 10),
+    (Entry, [0xC9, 0x00, 0x31], (1, &[], [Any, Own, Any]), "refused", 10, (1, &[], [Any, Own, Any])),
+    (Entry, [0xC8, 0x00, 0x31], (1, &[], [Any, Own, Any]), "refused", 10, (1, &[], [Any, Own, Any])),
+    (Entry, [0xC9, 0x00, 0x31], (1, &[Any], [Any, Own, Any]), "refused", 10, (1, &[Any], [Any, Own, Any])),
+    (Entry, [0xC8, 0x00, 0x31], (1, &[Any], [Any, Own, Any]), "refused", 10, (1, &[Any], [Any, Own, Any])),
+    (Entry, [0xC9, 0x00, 0x31], (1, &[Own, Any], [Any, Own, Any]), "refused", 10, (1, &[Own, Any], [Any, Own, Any])),
+    (Entry, [0xC8, 0x00, 0x31], (1, &[Own, Any], [Any, Own, Any]), "refused", 10, (1, &[Own, Any], [Any, Own, Any])),
+    (Entry, [0xC9, 0x00, 0x31], (1, &[Own, Own], [Any, Own, Any]), "refused", 10, (1, &[Own, Own], [Any, Own, Any])),
+    (Entry, [0xC8, 0x00, 0x31], (1, &[Own, Own], [Any, Own, Any]), "refused", 10, (1, &[Own, Own], [Any, Own, Any])),
 ];
 
+/// How the procedure goes on, with the address, the number of words or that of the refusal.
+fn kind(moves: &Result<Moves, FrameFault>) -> (&'static str, u32) {
+    match moves {
+        Ok(Moves::End) => ("end", 0),
+        Ok(Moves::On(_)) => ("on", 0),
+        Ok(Moves::Jump(_, to)) => ("jump", u32::from(*to)),
+        Ok(Moves::Either(_, to)) => ("either", u32::from(*to)),
+        Ok(Moves::Call(_, to)) => ("call", u32::from(*to)),
+        Ok(Moves::MaybeCall(_, to)) => ("maybe call", u32::from(*to)),
+        Ok(Moves::Return(taken)) => ("return", *taken),
+        Ok(Moves::MaybeReturn(_, taken)) => ("maybe return", *taken),
+        Err(FrameFault::Memory) => ("out of memory", 0),
+        Err(fault) => ("refused", u32::from(fault.code())),
+    }
+}
+
+/// Whether the frame after the instruction is this one, where there is one.
+fn leaves(moves: &Result<Moves, FrameFault>, wanted: &Frame) -> bool {
+    match moves {
+        Ok(Moves::End | Moves::Return(_)) | Err(_) => true,
+        Ok(
+            Moves::On(frame)
+            | Moves::Jump(frame, _)
+            | Moves::Either(frame, _)
+            | Moves::Call(frame, _)
+            | Moves::MaybeCall(frame, _)
+            | Moves::MaybeReturn(frame, _),
+        ) => *frame == *wanted,
+    }
+}
+
 #[test]
-fn each_refusal(rt: HostRuntime) -> Result<(), Fail> {
-    for (role, first, parts, fault, code) in &REFUSED {
-        let moves = moved(&rt, rt.alloc(), *role, parts, [*first, 0x00, 0x31])?;
-        assert!(rt;
-            moves.err() == Some(*fault) && fault.code() == *code,
-            "{first:02X}"
-        );
+fn what_becomes_of_frames(rt: HostRuntime) -> Result<(), Fail> {
+    for (role, bytes, before, wanted, number, after) in &ROWS {
+        let after = frame_of(rt.alloc(), after)?;
+        let moves = moved(&rt, rt.alloc(), *role, before, *bytes)?;
+        assert_eq!(rt; kind(&moves), (*wanted, *number), "{bytes:?}");
+        assert!(rt; leaves(&moves, &after), "{bytes:?}");
     }
     Ok(())
 }

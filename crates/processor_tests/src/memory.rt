@@ -1,0 +1,22 @@
+//! A memory for the tests of steps.
+
+use machine80::FlatBus;
+use place80::{read_image, read_regions};
+use std::alloc::Global;
+use std::test::Fail;
+
+/// An image without a byte, which starts at 3000.
+static EMPTY: [u8; 20] = [
+    0x02, 0x05, 0x00, 0x01, 0x41, 0x00, 0x00, 0xB7, // module header
+    0x04, 0x05, 0x00, 0x01, 0x00, 0x00, 0x30, 0xC6, // module end
+    0x0E, 0x01, 0x00, 0xF1, // end of file
+];
+
+/// A memory that holds 00 everywhere.
+pub fn empty_memory(alloc: Global) -> Result<FlatBus, Fail> {
+    let regions = read_regions(alloc, b"REGIONS 1\nSTACK 3100 0100\n")?;
+    match read_image(alloc, &EMPTY, regions) {
+        Ok(image) => FlatBus::new(alloc, &image).map_err(Fail::from),
+        Err((_, fault)) => Err(fault.into()),
+    }
+}
