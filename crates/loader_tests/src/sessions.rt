@@ -70,7 +70,10 @@ impl Write for SlowWriter {
 /// A reader of these bytes; one that fails does so after two of them.
 fn reader(left: &[u8], fails: bool) -> SlowReader<'_> {
     let until_failure = if fails { 2 } else { usize::MAX };
-    SlowReader { left, until_failure }
+    SlowReader {
+        left,
+        until_failure,
+    }
 }
 
 /// What is answered of an image, regions and inputs.
