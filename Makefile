@@ -45,11 +45,11 @@ install: build
 	install -D -m 644 docs/FAULTS.md $(DESTDIR)$(PREFIX)/share/doc/plm80/FAULTS.md
 	install -D -m 644 share/plm80.bash $(DESTDIR)$(PREFIX)/share/bash-completion/completions/plm80
 
-# (rt ci has built the program that it proved.)
+# (rt ci has built the program that it proved. The prover's allocator keeps what it frees: that takes a few percent less time.)
 test: need-rt need-python3
 	@tests/layers/run
 	@tests/examples/run
-	rt ci
+	MIMALLOC_PURGE_DELAY=-1 rt ci
 	@tests/commands/run $(PROGRAM)
 	@tests/commands/walk $(PROGRAM)
 	@tests/commands/sums $(PROGRAM)

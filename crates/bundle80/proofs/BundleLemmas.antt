@@ -5,7 +5,7 @@ use Rattle.std.specs.Str.{bytes_eq}
 use Rattle.std.proofs.Math.Seq.{take-add}
 use Rattle.std.proofs.lemmas.List.{take_at, drop_at, drop-drop, take_all}
 use Rattle.std.proofs.lemmas.List.Splits.{join_with_byte-slice_split, length-slice_split}
-use Rattle.place80.specs.Lines.{is_line_feed, parts}
+use Rattle.image80.specs.Lines.{is_line_feed, parts}
 use Rattle.bundle80.specs.BundleText.{Sides, sides_after, sides_of, text_joined}
 
 -- a text has a part, be it an empty one

@@ -3,7 +3,7 @@ use Rattle.std.specs.Prelude.{ℕ, List, [], ◌∷◌, ◌++◌, Option, None, 
 use Rattle.std.specs.List.{join_with_byte}
 use Rattle.std.specs.Option.{option_map}
 use Rattle.std.specs.Str.{bytes_eq}
-use Rattle.place80.specs.Lines.{parts}
+use Rattle.image80.specs.Lines.{parts}
 use Rattle.loader80.specs.HexText.{bytes_spelled}
 use Rattle.loader80.specs.Texts.{Texts}
 

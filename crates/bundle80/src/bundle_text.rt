@@ -3,10 +3,10 @@ ghost use Rattle.std.specs.Prelude.{◌≡◌, None, Some, IfOk, MatchOption};
 ghost use Rattle.std.specs.Option.{option_map};
 ghost use Rattle.loader80.specs.Texts.{Texts};
 ghost use Rattle.bundle80.specs.BundleText.{Sides, bundle_texts, sides_of};
-ghost use Rattle.place80.specs.Lines.{parts};
+ghost use Rattle.image80.specs.Lines.{parts};
 
+use image80::lines::first_line;
 use loader80::digits::bytes_of_digits;
-use place80::lines::first_line;
 use std::alloc::{AllocError, Global};
 
 /// The three texts of a bundle: the bytes of the image, the regions and the inputs.

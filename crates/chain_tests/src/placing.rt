@@ -1,6 +1,7 @@
 //! Worked texts, and each call once where it answers. Texts and files that are refused are rows of the program's tests.
 
-use place80::{Image, RegionMap, Regions, read_image, read_regions, write_image, write_regions};
+use image80::{Image, RegionMap, Regions, read_regions, write_regions};
+use place80::{read_image, write_image};
 use std::alloc::{AllocError, Global};
 use std::test::Fail;
 

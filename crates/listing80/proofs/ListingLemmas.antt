@@ -4,7 +4,7 @@ use Rattle.std.specs.Option.{option_map}
 use Rattle.std.proofs.lemmas.Bool.Decides.{nat_tests}
 use Rattle.std.proofs.Common.{◌∙◌, ap, arith, append_assoc, refl, subst, sym}
 use Rattle.decode80.specs.declared.instr.Instr.{Instr}
-use Rattle.decode80.specs.Decoded.{completed, decoded, row}
+use Rattle.decode80.specs.Decoded.{completed, decoded}
 use Rattle.decode80.specs.Spelling.{spelling}
 use Rattle.listing80.specs.Listing.{bytes_from, columns, fitting, instruction_of, line_length, list_line, lines_from}
 use Rattle.listing80.specs.ListingLaws.{AreLines, no_line, line}

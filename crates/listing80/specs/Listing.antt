@@ -5,8 +5,8 @@ use Rattle.std.specs.List.{flat_map}
 use Rattle.decode80.specs.declared.instr.Instr.{Instr}
 use Rattle.decode80.specs.Decoded.{decoded}
 use Rattle.decode80.specs.Text.{text}
-use Rattle.place80.specs.declared.range.Range.{Range}
-use Rattle.place80.specs.Image.{Located, memory_of}
+use Rattle.image80.specs.declared.range.Range.{Range}
+use Rattle.image80.specs.Image.{Located, memory_of}
 use Rattle.decode80.specs.Text.{byte_text, word_text}
 
 -- three bytes from an address on; 0000 follows FFFF

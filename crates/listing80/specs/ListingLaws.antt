@@ -1,7 +1,7 @@
 -- The lines of a range, one after another. (It follows from the definition of a listing.)
 use Rattle.std.specs.Prelude.{◌≡◌, ℕ, ◌+◌, ◌-◌, ◌%◌, ◌<◌, ◌≤◌, List, [], ◌++◌, Option}
 use Rattle.decode80.specs.declared.instr.Instr.{Instr}
-use Rattle.place80.specs.declared.range.Range.{Range}
+use Rattle.image80.specs.declared.range.Range.{Range}
 use Rattle.listing80.specs.Listing.{bytes_from, instruction_of, line_length, list_line, range_lines}
 
 -- the lines of the `left` bytes from an address on: one for the instruction there, or for the byte that begins none, and then

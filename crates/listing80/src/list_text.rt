@@ -6,8 +6,8 @@ ghost use Rattle.decode80.specs.Text.{byte_text};
 ghost use Rattle.listing80.specs.Listing.{bytes_from, columns, instruction_of, line_length, list_line, listing_of, range_lines};
 
 use decode80::{Instr, byte_digits, decode, spelling_laws, word_digits, write_text};
+use image80::{Image, Range};
 use machine80::{Bus, FlatBus};
-use place80::{Image, Range};
 use std::alloc::{AllocError, Global};
 
 /// The instructions of each range of code, by address, from the range's first byte on: a line has the address, the bytes

@@ -2,7 +2,7 @@
 use Rattle.std.proofs.Common.{◌≡◌, ℕ, ◌+◌, ◌<◌, true, None, Some, unwrap_or, is_some, List, [], ◌∷◌, ◌++◌, length, cond, refl, ap, ◌∙◌, arith}
 use Rattle.std.specs.List.{flat_map}
 use Rattle.std.proofs.lemmas.List.Splits.{length-slice_split}
-use Rattle.place80.specs.Lines.{is_line_feed, parts}
+use Rattle.image80.specs.Lines.{is_line_feed, parts}
 use Rattle.loader80.specs.InputsText.{bad_part, inputs_of, line_input}
 
 -- a text has a part, be it an empty one

@@ -1,8 +1,8 @@
 -- A run of a vouched image.
 use Rattle.std.specs.Prelude.{◌≡◌, ℕ, Bool, true, false, List, Option, None, Some, IfSome, length, refl}
 use Rattle.std.proofs.Common.{subst, sym}
-use Rattle.place80.specs.Regions.{Areas}
-use Rattle.place80.specs.Image.{Located, memory_of}
+use Rattle.image80.specs.Regions.{Areas}
+use Rattle.image80.specs.Image.{Located, memory_of}
 use Rattle.machine80.specs.declared.cpu.Cpu.{Cpu}
 use Rattle.machine80.specs.Cpu.{started}
 use Rattle.machine80.specs.declared.end.End.{End}

@@ -2,7 +2,7 @@
 use Rattle.std.specs.Prelude.{◌≡◌, ℕ, ◌+◌, ◌<◌, ◌≤◌, Bool, true, false, nat_lt, List, [], Option, Some, length, refl}
 use Rattle.std.proofs.Common.{ap, sym, subst, arith}
 use Rattle.std.proofs.lemmas.Bool.Decides.{nat_tests}
-use Rattle.place80.specs.Image.{Located}
+use Rattle.image80.specs.Image.{Located}
 use Rattle.machine80.specs.declared.end.End.{End}
 use Rattle.machine80.specs.Ports.{Lists, has_room}
 use Rattle.machine80.specs.Step.{Machine, refusals_at}

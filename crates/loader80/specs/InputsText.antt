@@ -1,7 +1,7 @@
 -- What the text of a run's inputs spells: lines `pp hh..`, a port and the bytes that wait there.
 use Rattle.std.specs.Prelude.{◌≡◌, ◌==◌, ℕ, ◌+◌, Option, None, Some, unwrap_or, is_some, List, [], ◌∷◌, length, map, take, drop, slice_index, if◌then◌else◌}
 use Rattle.std.specs.List.{flat_map}
-use Rattle.place80.specs.Lines.{parts}
+use Rattle.image80.specs.Lines.{parts}
 use Rattle.loader80.specs.HexText.{bytes_spelled}
 use Rattle.loader80.specs.declared.inputs.InputsFault.{InputsFault}
 use Rattle.loader80.specs.declared.inputs.InputsFault.TheVariants.{BadLine, Memory}

@@ -1,6 +1,6 @@
 -- An image that was vouched for, and what is known of it.
 use Rattle.std.specs.Prelude.{ℕ, List}
-use Rattle.place80.specs.Image.{Located}
+use Rattle.image80.specs.Image.{Located}
 use Rattle.flow80.specs.declared.report.ProcRow.{ProcRow}
 use Rattle.flow80.specs.Accepted.{IsAccepted}
 use Rattle.machine80.specs.World.{NeverGoesWrong}

@@ -4,8 +4,8 @@ ghost use Rattle.std.specs.Option.{option_map};
 ghost use Rattle.loader80.specs.InputsText.{InputsFaultHolds, bad_line, inputs_fault_code, inputs_of, line_input, pairs_of};
 
 use crate::digits::bytes_of_digits;
+use image80::lines::first_line;
 use machine80::Inputs;
-use place80::lines::first_line;
 use std::alloc::{AllocError, Global};
 use thiserror::Error;
 

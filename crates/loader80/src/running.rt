@@ -1,7 +1,7 @@
 //! A vouched image is run.
 
 ghost use Rattle.std.specs.Prelude.{◌≡◌, ℕ, ◌+◌, ◌-◌, ◌<◌, ◌^◌, Option, nat_lt, IfSome};
-ghost use Rattle.place80.specs.Image.{memory_of};
+ghost use Rattle.image80.specs.Image.{memory_of};
 ghost use Rattle.machine80.specs.Ports.{has_room};
 ghost use Rattle.machine80.specs.Step.{machine, refusals_at};
 ghost use Rattle.machine80.specs.World.{world_at_start, IsProperEnd};

@@ -7,7 +7,7 @@ ghost use Rattle.machine80.specs.World.{NeverGoesWrong};
 ghost use Rattle.verify80.specs.Looking.{code_of};
 ghost use Rattle.loader80.specs.Vouched.{IsVouched};
 
-use place80::{Image, RegionMap};
+use image80::{Image, RegionMap};
 use soundness80::fitted_images_never_go_wrong;
 use std::alloc::{AllocError, Global};
 use std::marker::Model;
@@ -25,7 +25,7 @@ pub struct Vouched {
 }
 
 impl Model for Vouched {
-    ghost use Rattle.place80.specs.RegionMap.{Maps};
+    ghost use Rattle.image80.specs.RegionMap.{Maps};
     ghost use Rattle.loader80.specs.Vouched.{IsVouched, Voucher};
 
     ghost Value = { Voucher };
@@ -39,7 +39,7 @@ impl Vouched {
     ghost use Rattle.std.specs.Prelude.{◌≡◌, ◌≤◌};
     ghost use Rattle.machine80.specs.World.{NeverGoesWrong};
     ghost use Rattle.flow80.specs.Accepted.{IsAccepted};
-    ghost use Rattle.place80.specs.RegionMap.{Maps};
+    ghost use Rattle.image80.specs.RegionMap.{Maps};
     ghost use Rattle.verify80.specs.Looking.{code_of};
     ghost use Rattle.loader80.specs.Vouched.{IsVouched};
 

@@ -1,9 +1,10 @@
 //! A main program that pushes an argument for a procedure: its image is verified, vouched for and run. Other programs are rows of
 //! the program's tests.
 
+use image80::{Image, read_regions};
 use loader80::{ProcRow, Vouched, read_inputs, run, vouch};
 use machine80::{End, FlatBus, ListPorts, Ports};
-use place80::{Image, read_image, read_regions};
+use place80::read_image;
 use std::alloc::Global;
 use std::process::Abort;
 use std::test::Fail;

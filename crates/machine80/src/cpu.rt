@@ -9,7 +9,7 @@ use crate::alu::{Answer, add_pairs};
 use crate::flags::Flags;
 use crate::registers::Registers;
 use decode80::{Pair, Register};
-use place80::Regions;
+use image80::Regions;
 
 /// The registers, the stack pointer and the program counter.
 #[derive(Clone, Copy, Debug, PartialEq, Eq)]

@@ -15,7 +15,7 @@ use crate::registers::Registers;
 use crate::stack::{exchange, pop_pair, pop_place, push_pair, push_place};
 use crate::stores::{store_byte, store_direct, store_word};
 use decode80::{Fetched, Instr, Operand, StackPair, ahead, behind};
-use place80::Regions;
+use image80::Regions;
 
 /// The byte that an operation on the accumulator takes.
 #[inline]

@@ -2,13 +2,13 @@
 
 ghost use Rattle.std.specs.Prelude.{◌≡◌, ◌+◌, ◌&&◌, [], ◌∷◌, nat_le, slice_index};
 ghost use Rattle.decode80.specs.Fetch.{all_code};
-ghost use Rattle.place80.specs.Range.{in_ranges};
-ghost use Rattle.place80.specs.Regions.{in_code};
+ghost use Rattle.image80.specs.Range.{in_ranges};
+ghost use Rattle.image80.specs.Regions.{in_code};
 ghost use Rattle.machine80.specs.Step.{fetch};
 
 use crate::bus::Bus;
 use decode80::{Fetched, Program};
-use place80::{Range, Regions};
+use image80::{Range, Regions};
 
 /// A memory whose code lies in regions.
 #[derive_where(Clone, Copy)]

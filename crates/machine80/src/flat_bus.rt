@@ -1,8 +1,8 @@
 ghost use Rattle.std.specs.Prelude.{◌≡◌, IfOk};
-ghost use Rattle.place80.specs.Image.{memory_of};
+ghost use Rattle.image80.specs.Image.{memory_of};
 
 use crate::bus::Bus;
-use place80::Image;
+use image80::Image;
 use std::alloc::{AllocError, Global};
 use std::marker::Model;
 

@@ -2,15 +2,15 @@
 
 ghost use Rattle.std.specs.Prelude.{◌≡◌, [], ◌∷◌, None};
 ghost use Rattle.std.specs.Result.{result_err};
-ghost use Rattle.place80.specs.Range.{in_range};
-ghost use Rattle.place80.specs.Regions.{in_data};
+ghost use Rattle.image80.specs.Range.{in_range};
+ghost use Rattle.image80.specs.Regions.{in_data};
 ghost use Rattle.machine80.specs.Effects.{pushed_bytes, popped_bytes};
 ghost use Rattle.machine80.specs.Step.{first_outside, ends_at};
 ghost use Rattle.machine80.specs.declared.end.End.TheVariants.{Stack, Direct, StoreOutside};
 
 use crate::end::End;
 use decode80::{ahead, behind};
-use place80::Regions;
+use image80::Regions;
 
 /// The two bytes below the stack pointer have to be bytes of the stack.
 #[inline]

@@ -3,7 +3,7 @@
 ghost use Rattle.std.specs.Prelude.{◌≡◌, ◌∷◌, [], ◌/◌, ◌%◌, None, OnOk, OnErr, IfOk};
 ghost use Rattle.std.specs.Result.{result_err};
 ghost use Rattle.decode80.specs.Fetch.{ahead, behind};
-ghost use Rattle.place80.specs.Range.{in_range};
+ghost use Rattle.image80.specs.Range.{in_range};
 ghost use Rattle.machine80.specs.declared.end.End.TheVariants.{Stack};
 ghost use Rattle.machine80.specs.Cpu.{high_of, low_of, with_stack_pair};
 ghost use Rattle.machine80.specs.Effects.{byte_in, word_in, stored, pushed_bytes, popped_bytes, push_bytes};
@@ -15,7 +15,7 @@ use crate::end::End;
 use crate::guard::{guard_pop, guard_push};
 use crate::words::{load_word, push, push_word};
 use decode80::{StackPair, ahead, behind};
-use place80::Regions;
+use image80::Regions;
 
 /// A call pushes the address that it comes back to.
 #[inline]

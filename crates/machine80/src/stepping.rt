@@ -11,7 +11,7 @@ use crate::execute::proceed;
 use crate::fetching::fetch;
 use crate::ports::Ports;
 use decode80::{Fetched, Instr};
-use place80::Regions;
+use image80::Regions;
 
 /// Makes one step: the instruction at the program counter is fetched, guarded and executed (Intel 8080 Microcomputer Systems User's
 /// Manual, chapter 4; docs/MACHINE.md). The answer is `None`, or how the run ends: [`End::Fetch`] where no instruction is fetched;

@@ -3,7 +3,7 @@
 ghost use Rattle.std.specs.Prelude.{◌≡◌, ◌∷◌, [], None, OnOk, OnErr};
 ghost use Rattle.std.specs.Result.{result_err};
 ghost use Rattle.decode80.specs.Fetch.{ahead};
-ghost use Rattle.place80.specs.Regions.{in_data};
+ghost use Rattle.image80.specs.Regions.{in_data};
 ghost use Rattle.machine80.specs.declared.end.End.TheVariants.{Direct, StoreOutside};
 ghost use Rattle.machine80.specs.Effects.{stored};
 ghost use Rattle.machine80.specs.Step.{first_outside, ends_at};
@@ -12,7 +12,7 @@ use crate::bus::Bus;
 use crate::end::End;
 use crate::guard::{guard_direct, guard_store};
 use decode80::ahead;
-use place80::Regions;
+use image80::Regions;
 
 /// STA: a byte is stored at the instruction's own address.
 #[inline]

@@ -8,7 +8,7 @@ use Rattle.omf_module.specs.Modules.{ModuleValue}
 use Rattle.omf_module.specs.Rules.{is_sound}
 use Rattle.omf_relocation.specs.ImageByte.{ByteChunk, distance, chunk_covers, chunks_of, image_byte}
 use Rattle.place80.specs.declared.options.Options.{Options}
-use Rattle.place80.specs.Image.{PlacedBytes, covers, byte_of, byte_at}
+use Rattle.image80.specs.Image.{PlacedBytes, covers, byte_of, byte_at}
 use Rattle.place80.specs.Layout.{layout_of, program_bases}
 use Rattle.place80.specs.Locating.{placed_bytes, located_chunks}
 use Rattle.place80.specs.PlaceFault.{is_outside}

@@ -1,12 +1,3 @@
-pub mod LineLemmas
-pub mod DigitLemmas
-pub mod DisjointLemmas
-pub mod RegionsLemmas
-pub mod TextLemmas
-pub mod WriteLemmas
-pub mod ReadingLemmas
-pub mod FaultLemmas
-pub mod ApartLemmas
 pub mod PairLemmas
 pub mod PlacingLemmas
 pub mod LocatedLemmas
@@ -22,5 +13,3 @@ pub mod ImageFileLemmas
 pub mod LaidOut
 pub mod FitLemmas
 pub mod LocatedRegions
-pub mod MemoryLemmas
-pub mod RegionMapLemmas

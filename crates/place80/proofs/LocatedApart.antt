@@ -6,16 +6,15 @@ use Rattle.std.proofs.lemmas.Bool.{and_parts, cases_Bool, lt-ltb, and_from}
 use Rattle.std.proofs.lemmas.Bool.Decides.{nat_tests}
 use Rattle.std.proofs.lemmas.List.Elements.{All-head, All-tail}
 use Rattle.std.proofs.lemmas.List.Folds.{find-append}
-use Rattle.std.proofs.lemmas.List.Sums.{sum_by-cons}
-use Rattle.place80.specs.declared.range.Range.{Range}
+use Rattle.std.proofs.lemmas.List.Sums.{sum_by-cons, sum_by-append}
+use Rattle.image80.specs.declared.range.Range.{Range}
 use Rattle.place80.specs.declared.placed.Placed.{Placed}
-use Rattle.place80.specs.Range.{in_range}
-use Rattle.place80.specs.Regions.{AreDisjoint}
-use Rattle.place80.specs.RegionsText.{filled}
+use Rattle.image80.specs.Range.{in_range}
+use Rattle.image80.specs.Regions.{AreDisjoint, held}
+use Rattle.image80.specs.RegionsText.{filled}
 use Rattle.place80.specs.Layout.{nowhere}
 use Rattle.place80.specs.PlaceFault.{overlaps, pairs}
 use Rattle.place80.specs.Locating.{range_at, located_code, located_stack, located_data}
-use Rattle.place80.proofs.DisjointLemmas.{held, held-append}
 use Rattle.place80.proofs.LocatedDisjoint.{EndsInMemory, find_none}
 
 -- 1 where the range holds the address, and else 0
@@ -24,6 +23,9 @@ holds address range = cond (in_range range address) 1 0
 
 held_more : (address : ℕ) (range : Range) (ranges : List Range) → held address (range ∷ ranges) ≡ holds address range + held address ranges
 held_more address range ranges = sum_by-cons (holds address) range ranges
+
+held_append : (address : ℕ) (xs ys : List Range) → held address (xs ++ ys) ≡ held address xs + held address ys
+held_append address xs ys = sum_by-append (holds address) xs ys
 
 pub empty_holds : (address : ℕ) (range : Range) → nat_lt 0 range.length ≡ false → in_range range address ≡ false
 empty_holds address range empty = grind (arith, nat_tests, empty)
@@ -163,7 +165,7 @@ pub disjoint_located : (segments : List Placed) → All EndsInMemory segments �
 disjoint_located segments ends none address =
     let code = held_filled address (map range_at (filter (λ p. p.id == 1) segments)) in
     let other = held_filled address (map range_at (filter (λ p. not (p.id == 1 || p.id == 3)) segments)) in
-    let front = held-append address (located_code segments) (located_stack segments ∷ located_data segments) in
+    let front = held_append address (located_code segments) (located_stack segments ∷ located_data segments) in
     let back = held_more address (located_stack segments) (located_data segments) in
     let stack = held_stack address segments in
     let three = held_in_three address segments in

@@ -6,10 +6,10 @@ use Rattle.std.proofs.lemmas.Bool.{ltb-true, or_parts}
 use Rattle.std.proofs.lemmas.Bool.Decides.{nat_tests}
 use Rattle.std.proofs.lemmas.List.Elements.{All-nil, All-cons, All-head, All-tail, All-filter, All-map, All-weaker, filter_passes}
 use Rattle.omf_module.specs.Contents.{ContentValue}
-use Rattle.place80.specs.declared.range.Range.{Range}
+use Rattle.image80.specs.declared.range.Range.{Range}
 use Rattle.place80.specs.declared.placed.Placed.{Placed}
-use Rattle.place80.specs.Range.{IsInMemory}
-use Rattle.place80.specs.RegionsText.{filled}
+use Rattle.image80.specs.Range.{IsInMemory}
+use Rattle.image80.specs.RegionsText.{filled}
 use Rattle.place80.specs.Layout.{nowhere, placed_in}
 use Rattle.place80.specs.PlaceFault.{passes_memory, is_outside}
 use Rattle.place80.specs.Locating.{range_at, located_code, located_stack, located_data}

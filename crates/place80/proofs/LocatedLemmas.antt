@@ -5,9 +5,9 @@ use Rattle.std.proofs.Common.{cond, arith, Some, sym, ap, ◌∙◌, append_asso
 use Rattle.std.proofs.lemmas.List.{drop_more}
 use Rattle.place80.specs.declared.placed.Placed.{Placed}
 use Rattle.omf_module.specs.Contents.{ContentValue}
-use Rattle.place80.specs.Image.{PlacedBytes}
-use Rattle.place80.specs.declared.range.Range.{Range}
-use Rattle.place80.specs.RegionsText.{filled}
+use Rattle.image80.specs.Image.{PlacedBytes}
+use Rattle.image80.specs.declared.range.Range.{Range}
+use Rattle.image80.specs.RegionsText.{filled}
 use Rattle.place80.specs.Locating.{chunk_among, range_at}
 use Rattle.place80.specs.Layout.{placed_in, nowhere}
 

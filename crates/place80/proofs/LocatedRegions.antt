@@ -5,11 +5,11 @@ use Rattle.std.specs.List.{list_any}
 use Rattle.std.proofs.lemmas.Bool.{cases_Bool, le-leb, lt-ltb, and_from}
 use Rattle.std.proofs.lemmas.List.Elements.{All-head, All-tail}
 use Rattle.std.proofs.lemmas.List.Sorted.{list_any-IsPermutation}
-use Rattle.place80.specs.declared.range.Range.{Range}
+use Rattle.image80.specs.declared.range.Range.{Range}
 use Rattle.place80.specs.declared.placed.Placed.{Placed}
-use Rattle.place80.specs.Range.{in_range}
-use Rattle.place80.specs.Regions.{Areas, Arranges}
-use Rattle.place80.specs.RegionsText.{filled}
+use Rattle.image80.specs.Range.{in_range}
+use Rattle.image80.specs.Regions.{Areas, Arranges}
+use Rattle.image80.specs.RegionsText.{filled}
 use Rattle.place80.specs.Layout.{placed_in}
 use Rattle.place80.specs.PlaceFault.{is_in_placed}
 use Rattle.place80.specs.Locating.{range_at, is_data, located_code, located_stack, located_data}

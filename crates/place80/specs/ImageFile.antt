@@ -13,7 +13,7 @@ use Rattle.omf_module.specs.Spelled.{SpellsFile, FaultsFile}
 use Rattle.omf_module.specs.Writing.{file_bytes}
 use Rattle.place80.specs.declared.image_fault.ImageFault.{ImageFault}
 use Rattle.place80.specs.declared.image_fault.ImageFault.TheVariants.{Module, NotOneModule, NotAbsolute, NoStart, Memory}
-use Rattle.place80.specs.Image.{PlacedBytes, Located, IsChunk}
+use Rattle.image80.specs.Image.{PlacedBytes, Located, IsChunk}
 
 -- an image without its regions: an absolute program
 pub record AbsoluteProgram : Type 0 where

@@ -3,8 +3,8 @@
 use Rattle.std.specs.Prelude.{◌≡◌, ℕ, ◌+◌, ◌≤◌, ◌==◌, Bool, ◌&&◌, List, All}
 use Rattle.std.specs.List.{list_any}
 use Rattle.place80.specs.declared.placed.Placed.{Placed}
-use Rattle.place80.specs.Range.{in_range}
-use Rattle.place80.specs.Regions.{Areas, Arranges, in_code, in_data, top_of}
+use Rattle.image80.specs.Range.{in_range}
+use Rattle.image80.specs.Regions.{Areas, Arranges, in_code, in_data, top_of}
 use Rattle.place80.specs.Layout.{placed_in, top_in}
 use Rattle.place80.specs.PlaceFault.{is_in_placed}
 use Rattle.place80.specs.Locating.{is_data, located_code, located_stack, located_data}

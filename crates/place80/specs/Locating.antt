@@ -7,11 +7,11 @@ use Rattle.omf_module.specs.declared.fixup.Target.{Target}
 use Rattle.omf_module.specs.Contents.{ContentValue}
 use Rattle.omf_relocation.specs.Patches.{are_inside, are_apart}
 use Rattle.omf_relocation.specs.ImageByte.{word_to, patch_with, ByteChunk, chunk_at, chunks_of}
-use Rattle.place80.specs.declared.range.Range.{Range}
+use Rattle.image80.specs.declared.range.Range.{Range}
 use Rattle.place80.specs.declared.options.Options.{Options}
 use Rattle.place80.specs.declared.placed.Placed.{Placed}
-use Rattle.place80.specs.Image.{PlacedBytes}
-use Rattle.place80.specs.RegionsText.{filled}
+use Rattle.image80.specs.Image.{PlacedBytes}
+use Rattle.image80.specs.RegionsText.{filled}
 use Rattle.place80.specs.Layout.{placed_in, place_among, program_bases}
 use Rattle.place80.specs.PlaceFault.{overlaps, pairs}
 

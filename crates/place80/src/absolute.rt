@@ -1,4 +1,4 @@
-use crate::chunk::Chunk;
+use image80::Chunk;
 use omf_core::Name;
 use std::marker::Model;
 

@@ -3,15 +3,13 @@
 ghost use Rattle.std.specs.Prelude.{◌≡◌, ◌≢◌, ◌++◌, Ok, Err, map, IfOk, IfErr, OnOk, OnErr, IsTrue};
 ghost use Rattle.std.specs.List.{AllByRecursion, list_all};
 ghost use Rattle.omf_core.specs.Name.{is_name};
-ghost use Rattle.place80.specs.Image.{IsChunk};
+ghost use Rattle.image80.specs.Image.{IsChunk};
 ghost use Rattle.place80.specs.ImageFile.{image_module, image_bytes, SpellsImage, FaultsImage, chunk_content, content_chunk, is_absolute, is_absolute_content, is_absolute_start, program_of, without_regions};
 
 use crate::absolute::AbsoluteProgram;
-use crate::chunk::Chunk;
-use crate::image::Image;
 use crate::image_fault::ImageFault;
 use crate::laws::written_image_is_spelled;
-use crate::regions::Regions;
+use image80::{Chunk, Image, Regions};
 use omf_body::segment_id::ABSOLUTE;
 use omf_module::{Content, Module, Parts, PartsFault, read_file, write_file};
 use std::alloc::{AllocError, Global};

@@ -7,9 +7,9 @@ ghost use Rattle.omf_relocation.specs.ImageByte.{patch_with};
 ghost use Rattle.omf_relocation.specs.HighReferences.{loses_with};
 ghost use Rattle.place80.specs.Locating.{word_among, chunk_among, CanBePlaced};
 
-use crate::chunk::Chunk;
 use crate::placed::Placed;
 use crate::places::place_of;
+use image80::Chunk;
 use omf_module::{Content, Field, Fixup, Target};
 use omf_relocation::{Patch, apply_patches};
 use std::alloc::{AllocError, Global};

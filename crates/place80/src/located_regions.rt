@@ -1,14 +1,13 @@
 //! The regions of a located program.
 
 ghost use Rattle.std.specs.Prelude.{◌≡◌, ◌<◌, [], ◌∷◌, ◌++◌, IfOk, OnOk};
-ghost use Rattle.place80.specs.RegionsText.{filled};
+ghost use Rattle.image80.specs.RegionsText.{filled};
 ghost use Rattle.std.specs.List.{AllByRecursion};
-ghost use Rattle.place80.specs.Regions.{Arranges};
+ghost use Rattle.image80.specs.Regions.{Arranges};
 ghost use Rattle.place80.specs.Locating.{Fit, is_data, range_at, located_code, located_stack, located_data};
 
 use crate::placed::{Placed, placed_in};
-use crate::range::Range;
-use crate::regions::Regions;
+use image80::{Range, Regions};
 use omf_body::segment_id::{CODE, STACK};
 use std::alloc::{AllocError, Global};
 

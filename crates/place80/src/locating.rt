@@ -4,14 +4,13 @@ ghost use Rattle.std.specs.Prelude.{◌≡◌, ◌⊎◌, ℕ, false, None, Some
 ghost use Rattle.std.specs.List.{AllByRecursion};
 ghost use Rattle.omf_relocation.specs.ImageByte.{image_byte};
 ghost use Rattle.omf_relocation.specs.HighReferences.{any_loses_low_byte};
-ghost use Rattle.place80.specs.Image.{byte_at};
-ghost use Rattle.place80.specs.Regions.{Arranges};
+ghost use Rattle.image80.specs.Image.{byte_at};
+ghost use Rattle.image80.specs.Regions.{Arranges};
 ghost use Rattle.place80.specs.Layout.{layout_of, program_bases};
 ghost use Rattle.place80.specs.Locating.{CanBePlaced, Fit, chunk_among, located_chunks, located_code, located_stack, located_data};
 ghost use Rattle.place80.specs.PlaceFault.{locate_fault, start_place};
 ghost use Rattle.place80.specs.declared.place_fault.PlaceFault.TheVariants.{Memory, NoStart, Unresolved};
 
-use crate::image::Image;
 use crate::laying_out::layout;
 use crate::located_chunks::{any_loses_its_low_byte, located_chunks};
 use crate::located_regions::located_regions;
@@ -19,6 +18,7 @@ use crate::options::Options;
 use crate::place_fault::PlaceFault;
 use crate::placed::{Placed, placed_in};
 use crate::places::{is_in_placed, place_of};
+use image80::Image;
 use omf_body::segment_id::CODE;
 use omf_core::Name;
 use omf_module::Module;

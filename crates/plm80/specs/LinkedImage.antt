@@ -11,10 +11,10 @@ use Rattle.link80.specs.Linked.{linked}
 use Rattle.link80.specs.LinkFault.{link_fault}
 use Rattle.link80.specs.Selection.{IsSelection, modules_with}
 use Rattle.place80.specs.declared.options.Options.{Options}
-use Rattle.place80.specs.Image.{Located, byte_at}
+use Rattle.image80.specs.Image.{Located, byte_at}
 use Rattle.place80.specs.Layout.{layout_of, program_bases}
 use Rattle.place80.specs.Locating.{located_code, located_stack, located_data}
-use Rattle.place80.specs.Regions.{Arranges}
+use Rattle.image80.specs.Regions.{Arranges}
 
 -- what `link` says of its answer
 pub record IsLinked (name : List ℕ) (roots : List ModuleValue) (libraries : List (List ModuleValue)) (taken : List Chosen) (program : ModuleValue) : Type 0 where

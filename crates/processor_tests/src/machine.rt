@@ -1,8 +1,8 @@
 //! Programs with their ends, and ports that are lists.
 
 use crate::memory::empty_memory;
+use image80::{Regions, read_regions};
 use machine80::{Bus, Cpu, End, FlatBus, Inputs, ListPorts, PortRefused, Ports, step};
-use place80::{Regions, read_regions};
 use std::alloc::{AllocError, Global};
 use std::test::Fail;
 

@@ -1,7 +1,8 @@
 //! A memory for the tests of steps.
 
+use image80::read_regions;
 use machine80::FlatBus;
-use place80::{read_image, read_regions};
+use place80::read_image;
 use std::alloc::Global;
 use std::test::Fail;
 

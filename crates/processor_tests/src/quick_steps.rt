@@ -2,8 +2,8 @@
 
 use crate::memory::empty_memory;
 use decode80::length_of;
+use image80::{RegionMap, Regions, read_regions};
 use machine80::{Bus, Cpu, Flags, FlatBus, Inputs, ListPorts, Ports, Registers, step};
-use place80::{RegionMap, Regions, read_regions};
 use quick80::quick_step;
 use std::alloc::{AllocError, Global};
 use std::process::Abort;

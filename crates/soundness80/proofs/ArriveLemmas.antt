@@ -13,9 +13,9 @@ use Rattle.frames80.specs.declared.frame_pair.FramePair.TheVariants.{Bc, De, Hl}
 use Rattle.frames80.specs.StackFrame.{StackFrame, pair_in, unknown, entry_frame, top_word, taken_after_pop, pushed}
 use Rattle.frames80.specs.Calls.{room, returned}
 use Rattle.frames80.specs.Places.{InWord, word_from_top, ReturnsByPlaces}
-use Rattle.place80.specs.Range.{IsInMemory}
-use Rattle.place80.specs.Regions.{Areas, all_ranges}
-use Rattle.place80.specs.Image.{Located, memory_of}
+use Rattle.image80.specs.Range.{IsInMemory}
+use Rattle.image80.specs.Regions.{Areas, all_ranges}
+use Rattle.image80.specs.Image.{Located, memory_of}
 use Rattle.machine80.specs.Cpu.{word}
 use Rattle.machine80.specs.Effects.{stored, word_in, pushed_bytes, popped_bytes, push_bytes}
 use Rattle.machine80.specs.Step.{Machine}

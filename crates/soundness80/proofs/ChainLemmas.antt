@@ -8,7 +8,7 @@ use Rattle.frames80.specs.declared.frame_pair.FramePair.{FramePair}
 use Rattle.frames80.specs.StackFrame.{StackFrame, pair_in}
 use Rattle.frames80.specs.Calls.{room, returned, depth_of}
 use Rattle.frames80.specs.Places.{InPair, InWord, word_from_top}
-use Rattle.place80.specs.Image.{Located, memory_of}
+use Rattle.image80.specs.Image.{Located, memory_of}
 use Rattle.machine80.specs.Step.{Machine}
 use Rattle.machine80.specs.World.{World}
 use Rattle.bounds80.specs.declared.procedure.Procedure.{Procedure}

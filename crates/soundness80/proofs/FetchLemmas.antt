@@ -4,8 +4,8 @@ use Rattle.std.specs.Result.{result_ok}
 use Rattle.std.proofs.Common.{◌∙◌, ap, sym}
 use Rattle.decode80.specs.declared.fetching.Fetched.{Fetched}
 use Rattle.decode80.specs.Fetch.{FetchReadsCodeAlone}
-use Rattle.place80.specs.Regions.{in_code}
-use Rattle.place80.specs.Image.{Located, memory_of}
+use Rattle.image80.specs.Regions.{in_code}
+use Rattle.image80.specs.Image.{Located, memory_of}
 use Rattle.machine80.specs.Step.{fetch}
 use Rattle.verify80.specs.LookLaws.{fetch_at}
 use Rattle.soundness80.proofs.StoreLemmas.{SameCode}

@@ -12,8 +12,8 @@ use Rattle.frames80.specs.declared.frame_pair.FramePair.{FramePair}
 use Rattle.frames80.specs.declared.frame_pair.FramePair.TheVariants.{Bc, De, Hl}
 use Rattle.frames80.specs.StackFrame.{main_frame, pair_in, unknown}
 use Rattle.frames80.specs.Places.{ChangesByPlaces, ReturnsByPlaces}
-use Rattle.place80.specs.Regions.{in_data}
-use Rattle.place80.specs.Image.{Located, memory_of, byte_at}
+use Rattle.image80.specs.Regions.{in_data}
+use Rattle.image80.specs.Image.{Located, memory_of, byte_at}
 use Rattle.machine80.specs.declared.end.End.{End}
 use Rattle.machine80.specs.declared.end.End.TheVariants.{StoreOutside, Stack, Direct}
 use Rattle.machine80.specs.Ports.{next_input}

@@ -26,8 +26,8 @@ use Rattle.frames80.specs.StackFrame.{StackFrame, pair_in, entry_frame, top_word
 use Rattle.frames80.specs.Effects.{effect_of}
 use Rattle.frames80.specs.Moves.{moves_of, changed as changed_frame, change_fault, return_fault, pop_fault, load_fault, unless}
 use Rattle.frames80.specs.Places.{InPair, InWord, Source, From, Unknown, source, sourced, word_from_top, ChangesByPlaces, ReturnsByPlaces}
-use Rattle.place80.specs.Regions.{top_of}
-use Rattle.place80.specs.Image.{Located, memory_of}
+use Rattle.image80.specs.Regions.{top_of}
+use Rattle.image80.specs.Image.{Located, memory_of}
 use Rattle.machine80.specs.declared.registers.Registers.{Registers}
 use Rattle.machine80.specs.Flags.{holds}
 use Rattle.machine80.specs.Cpu.{word, high_of, low_of, with_stack_pair}

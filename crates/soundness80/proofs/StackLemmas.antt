@@ -4,8 +4,8 @@ use Rattle.std.proofs.Common.{◌∙◌, ap, sym, subst, arith, get_or-set_other
 use Rattle.std.proofs.lemmas.List.{get_or-set_same, length-set}
 use Rattle.std.proofs.lemmas.Bool.Decides.{nat_tests}
 use Rattle.decode80.specs.Fetch.{ahead, behind}
-use Rattle.place80.specs.declared.range.Range.{Range}
-use Rattle.place80.specs.Range.{in_range}
+use Rattle.image80.specs.declared.range.Range.{Range}
+use Rattle.image80.specs.Range.{in_range}
 use Rattle.machine80.specs.Cpu.{word}
 use Rattle.machine80.specs.Effects.{word_in, pushed_bytes, popped_bytes, stored, push_bytes}
 use Rattle.machine80.specs.Step.{first_outside}

@@ -1,7 +1,7 @@
 -- What the verifier's tables say of runs. (This project's own.)
 use Rattle.std.specs.Prelude.{ℕ, ◌≤◌}
-use Rattle.place80.specs.Regions.{AreRegions}
-use Rattle.place80.specs.Image.{Located}
+use Rattle.image80.specs.Regions.{AreRegions}
+use Rattle.image80.specs.Image.{Located}
 use Rattle.machine80.specs.World.{NeverGoesWrong}
 use Rattle.flow80.specs.Fitting.{IsFitted}
 use Rattle.verify80.specs.Looking.{code_of}

@@ -4,7 +4,7 @@ ghost use Rattle.soundness80.specs.Soundness.{FittedImagesNeverGoWrong};
 
 use decode80::fetch_reads_code_alone;
 use frames80::places_move;
-use place80::laws::code_data_and_stack_are_apart;
+use image80::laws::code_data_and_stack_are_apart;
 use verify80::looks_are_exact;
 
 /// Where a table of frames fits an image, and the stack has the bytes that the table says, then whatever waits at the ports,

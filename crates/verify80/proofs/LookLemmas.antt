@@ -6,7 +6,7 @@ use Rattle.decode80.specs.declared.fetching.FetchFault.TheVariants.{Outside as F
 use Rattle.decode80.specs.declared.fetching.Fetched.{Fetched}
 use Rattle.decode80.specs.declared.instr.Instr.{Instr}
 use Rattle.decode80.specs.declared.instr.Instr.TheVariants.{Ei}
-use Rattle.place80.specs.Regions.{Areas}
+use Rattle.image80.specs.Regions.{Areas}
 use Rattle.flow80.specs.declared.code.LookFault.{LookFault}
 use Rattle.flow80.specs.declared.code.LookFault.TheVariants.{Outside, Unused, EnablesInterrupts, DirectStore}
 use Rattle.verify80.specs.Looking.{is_ei, halt_follows, stores_in_data, admitted, looked, look_at}

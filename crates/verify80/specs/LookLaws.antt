@@ -5,7 +5,7 @@ use Rattle.decode80.specs.declared.fetching.FetchFault.TheVariants.{Outside as F
 use Rattle.decode80.specs.declared.fetching.Fetched.{Fetched}
 use Rattle.decode80.specs.declared.instr.Instr.TheVariants.{Ei}
 use Rattle.decode80.specs.Fetch.{fetch}
-use Rattle.place80.specs.Regions.{Areas, in_code}
+use Rattle.image80.specs.Regions.{Areas, in_code}
 use Rattle.flow80.specs.declared.code.LookFault.{LookFault}
 use Rattle.flow80.specs.declared.code.LookFault.TheVariants.{Outside, Unused, EnablesInterrupts, DirectStore}
 use Rattle.verify80.specs.Looking.{halt_follows, stores_in_data, look_at}

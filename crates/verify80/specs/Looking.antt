@@ -11,8 +11,8 @@ use Rattle.decode80.specs.declared.instr.Instr.{Instr}
 use Rattle.decode80.specs.declared.instr.Instr.TheVariants.{Ei, Hlt}
 use Rattle.decode80.specs.Spelling.{opcode}
 use Rattle.decode80.specs.Fetch.{ahead, direct_bytes, fetch}
-use Rattle.place80.specs.Image.{Located, memory_of}
-use Rattle.place80.specs.Regions.{Areas, in_code, in_data, top_of}
+use Rattle.image80.specs.Image.{Located, memory_of}
+use Rattle.image80.specs.Regions.{Areas, in_code, in_data, top_of}
 use Rattle.flow80.specs.declared.code.LookFault.{LookFault}
 use Rattle.flow80.specs.declared.code.LookFault.TheVariants.{Outside, Unused, EnablesInterrupts, DirectStore}
 use Rattle.flow80.specs.Code.{Code}

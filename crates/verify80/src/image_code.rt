@@ -2,13 +2,13 @@
 
 ghost use Rattle.std.specs.Prelude.{◌≡◌, IfOk, slice_index, true};
 ghost use Rattle.std.specs.Option.{option_map_or};
-ghost use Rattle.place80.specs.Image.{memory_of};
-ghost use Rattle.place80.specs.Regions.{in_code, in_data};
+ghost use Rattle.image80.specs.Image.{memory_of};
+ghost use Rattle.image80.specs.Regions.{in_code, in_data};
 ghost use Rattle.verify80.specs.Looking.{admitted, code_of, halt_follows, stores_in_data};
 
 use decode80::{FetchFault, Fetched, Instr, Program, ahead, direct_bytes, fetch};
 use flow80::{Code, LookFault};
-use place80::{Image, RegionMap};
+use image80::{Image, RegionMap};
 use std::alloc::{AllocError, Global};
 use std::marker::Model;
 
@@ -22,7 +22,7 @@ pub(crate) struct ImageCode<'a> {
 }
 
 impl<'a> Model for ImageCode<'a> {
-    ghost use Rattle.place80.specs.Image.{Located};
+    ghost use Rattle.image80.specs.Image.{Located};
     ghost use Rattle.verify80.specs.Kept.{IsKept};
 
     ghost Value = { Located };

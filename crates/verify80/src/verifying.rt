@@ -7,7 +7,7 @@ ghost use Rattle.verify80.specs.Looking.{code_of};
 
 use crate::image_code::ImageCode;
 use flow80::{Refusal, Report, analyze};
-use place80::Image;
+use image80::Image;
 use std::alloc::Global;
 
 /// Goes over every walk of every procedure of an image, from its start on, and reports on its procedures and its stack.

@@ -1,7 +1,8 @@
 //! A program that is laid out and located. Other programs are rows of the program's tests.
 
+use image80::RegionsFault;
 use omf_module::{Module, read_module};
-use place80::{ImageFault, Options, PlaceFault, RegionsFault, layout, locate};
+use place80::{ImageFault, Options, PlaceFault, layout, locate};
 use std::alloc::Global;
 use std::test::Fail;
 

@@ -7,8 +7,8 @@ use crate::commands::files::print;
 use crate::commands::listing::read_program;
 use crate::commands::syntax::{Argument, Kind, Syntax};
 use clap::ArgMatches;
+use image80::Image;
 use loader80::{Refusal, Vouched, refusal_text, vouch};
-use place80::Image;
 use std::alloc::{AllocError, Global};
 
 /// The arguments of `check`.
@@ -78,10 +78,12 @@ fn verdict(alloc: Global, image: Image) -> Result<(String, u8), AllocError> {
     }
 }
 
+/// The report on a program that is accepted, and status 0.
 fn accepted(alloc: Global, vouched: &Vouched) -> Result<(String, u8), AllocError> {
     Ok((report_text(alloc, vouched)?, 0))
 }
 
+/// The text of a refusal, and status 1; want of memory is no answer about the image.
 fn refused(alloc: Global, refusal: Refusal) -> Result<(String, u8), AllocError> {
     match refusal {
         Refusal::Memory => Err(AllocError),

@@ -5,8 +5,9 @@ use crate::commands::fault_line::{Reported, report_file, report_memory};
 use crate::commands::files::{print, read_whole};
 use crate::commands::syntax::{Argument, Kind, Syntax};
 use clap::ArgMatches;
+use image80::{Image, Regions, RegionsFault, read_regions};
 use listing80::listing;
-use place80::{Image, ImageFault, Regions, RegionsFault, read_image, read_regions};
+use place80::{ImageFault, read_image};
 
 /// The arguments of `list`.
 #[derive(Clone, Copy)]

@@ -7,7 +7,8 @@ use crate::commands::number_text::word_of_digits;
 use crate::commands::object_files::read_modules;
 use crate::commands::syntax::{Argument, Kind, Syntax};
 use clap::ArgMatches;
-use place80::{Image, Options, locate, write_image, write_regions};
+use image80::{Image, write_regions};
+use place80::{Options, locate, write_image};
 use std::alloc::{AllocError, Global};
 
 /// The arguments of `locate`.

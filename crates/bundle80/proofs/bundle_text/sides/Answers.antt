@@ -1,6 +1,6 @@
 -- Whether the line at this place is the one that parts the bundle.
 use Rattle.std.proofs.Common.{◌≡◌, ◌∷◌, ◌++◌, length, drop, arith, ap, sym, ◌∙◌, length-append, length-drop}
-use Rattle.place80.specs.Lines.{parts}
+use Rattle.image80.specs.Lines.{parts}
 use Rattle.bundle80.proofs.BundleLemmas.{sides_of-here, sides_of-further, slice_to_end}
 use Rattle.bundle80.proofs.bundle_text.sides.Goals as goal
 

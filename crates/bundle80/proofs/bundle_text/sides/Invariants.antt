@@ -1,6 +1,6 @@
 use Rattle.std.proofs.Common.{◌≡◌, ◌-◌, ◌≤◌, length, take, drop}
 use Rattle.std.specs.Option.{option_map}
-use Rattle.place80.specs.Lines.{parts}
+use Rattle.image80.specs.Lines.{parts}
 use Rattle.bundle80.specs.BundleText.{sides_after, sides_of}
 use Rattle.bundle80.proofs.bundle_text.sides.Given as goal
 

@@ -1,7 +1,7 @@
 -- What the definitions say behind each line that was read.
 use Rattle.std.proofs.Common.{◌≡◌, ◌++◌, None, Some, sym, ap, ◌∙◌, arith, append_assoc, true, is_some}
 use Rattle.std.specs.Option.{option_map}
-use Rattle.place80.specs.Lines.{parts}
+use Rattle.image80.specs.Lines.{parts}
 use Rattle.loader80.specs.InputsText.{bad_part, inputs_of, line_input, pairs_of}
 use Rattle.loader80.proofs.InputsLemmas.{bad_part-bad, bad_part-good, inputs_of-next, parts-some}
 use Rattle.loader80.proofs.inputs.read_inputs.Goals as goal

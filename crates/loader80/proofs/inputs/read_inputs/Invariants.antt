@@ -1,5 +1,5 @@
 use Rattle.std.proofs.Common.{◌≡◌, ◌+◌, ◌≤◌, ◌++◌, length}
-use Rattle.place80.specs.Lines.{parts}
+use Rattle.image80.specs.Lines.{parts}
 use Rattle.loader80.specs.InputsText.{bad_part, inputs_of}
 use Rattle.loader80.proofs.inputs.read_inputs.Given as goal
 

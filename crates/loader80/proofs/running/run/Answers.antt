@@ -1,7 +1,7 @@
 use Rattle.std.proofs.Common.{◌≡◌, ◌∙◌, ℕ, ap}
 use Rattle.std.specs.Prelude.{Bool, nat_lt, Option}
-use Rattle.place80.specs.Regions.{Areas}
-use Rattle.place80.specs.Image.{Located}
+use Rattle.image80.specs.Regions.{Areas}
+use Rattle.image80.specs.Image.{Located}
 use Rattle.machine80.specs.Cpu.{started}
 use Rattle.loader80.proofs.RunLemmas.{most_for, most_agrees, ends_properly, parts_run, parts_stay_right}
 use Rattle.loader80.proofs.running.run.Goals as goal

@@ -1,6 +1,6 @@
 use Rattle.std.proofs.Common.{ap, subst}
-use Rattle.place80.specs.Regions.{AreRegions}
-use Rattle.place80.specs.Image.{Located}
+use Rattle.image80.specs.Regions.{AreRegions}
+use Rattle.image80.specs.Image.{Located}
 use Rattle.loader80.proofs.vouched.runs_as_verified.Goals as goal
 
 pub returns : goal.returns

@@ -2,7 +2,7 @@
 use Rattle.std.proofs.Common.{◌≡◌, ◌++◌, drop, map}
 use Rattle.std.specs.List.{AllByRecursion}
 use Rattle.omf_module.specs.Contents.{ContentValue}
-use Rattle.place80.specs.Image.{IsChunk}
+use Rattle.image80.specs.Image.{IsChunk}
 use Rattle.place80.specs.ImageFile.{content_chunk}
 use Rattle.place80.proofs.image_file.chunks_of.Given as goal
 

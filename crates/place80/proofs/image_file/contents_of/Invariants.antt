@@ -1,7 +1,7 @@
 -- what is made, and what is left to make; what was looked at keeps the rule, so all keep it as what is left does
 use Rattle.std.proofs.Common.{◌≡◌, ◌++◌, drop, map}
 use Rattle.std.specs.List.{AllByRecursion}
-use Rattle.place80.specs.Image.{IsChunk}
+use Rattle.image80.specs.Image.{IsChunk}
 use Rattle.place80.specs.ImageFile.{chunk_content}
 use Rattle.place80.proofs.image_file.contents_of.Given as goal
 

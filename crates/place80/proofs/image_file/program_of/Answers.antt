@@ -1,7 +1,7 @@
 use Rattle.std.proofs.Common.{◌∙◌, List, subst, sym}
 use Rattle.std.specs.List.{AllByRecursion}
 use Rattle.omf_module.specs.Contents.{ContentValue}
-use Rattle.place80.specs.Image.{IsChunk}
+use Rattle.image80.specs.Image.{IsChunk}
 use Rattle.place80.specs.ImageFile.{content_chunk}
 use Rattle.place80.proofs.ImageFileLemmas.{absolute_contents}
 use Rattle.place80.proofs.image_file.program_of.Goals as goal

@@ -1,6 +1,6 @@
 use Rattle.std.specs.Prelude.{◌++◌, ◌+◌, List, map, drop}
 use Rattle.std.proofs.Common.{◌∙◌, ap}
-use Rattle.place80.specs.Image.{PlacedBytes}
+use Rattle.image80.specs.Image.{PlacedBytes}
 use Rattle.place80.specs.Locating.{chunk_among}
 use Rattle.place80.proofs.LocatedLemmas.{chunk_step}
 use Rattle.place80.proofs.located_chunks.located_chunks.Goals as goal

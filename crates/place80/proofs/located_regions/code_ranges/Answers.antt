@@ -3,8 +3,8 @@ use Rattle.std.specs.Global.{Vec}
 use Rattle.std.proofs.Common.{◌∙◌, ap}
 use Rattle.std.proofs.lemmas.Bool.{eq-eqb, ne_eqb}
 use Rattle.place80.specs.declared.placed.Placed.{Placed}
-use Rattle.place80.specs.declared.range.Range.{Range}
-use Rattle.place80.specs.RegionsText.{filled}
+use Rattle.image80.specs.declared.range.Range.{Range}
+use Rattle.image80.specs.RegionsText.{filled}
 use Rattle.place80.specs.Locating.{located_code}
 use Rattle.place80.proofs.LocatedLemmas.{one_range_more, no_range_more}
 use Rattle.place80.proofs.located_regions.code_ranges.Goals as goal

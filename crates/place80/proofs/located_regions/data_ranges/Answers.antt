@@ -2,8 +2,8 @@ use Rattle.std.specs.Prelude.{◌++◌, ◌+◌, ◌∷◌, [], Bool, List, drop
 use Rattle.std.specs.Global.{Vec}
 use Rattle.std.proofs.Common.{◌∙◌, ap, sym}
 use Rattle.place80.specs.declared.placed.Placed.{Placed}
-use Rattle.place80.specs.declared.range.Range.{Range}
-use Rattle.place80.specs.RegionsText.{filled}
+use Rattle.image80.specs.declared.range.Range.{Range}
+use Rattle.image80.specs.RegionsText.{filled}
 use Rattle.place80.specs.Locating.{is_data, located_data}
 use Rattle.place80.proofs.LocatedLemmas.{one_range_more, no_range_more}
 use Rattle.place80.proofs.located_regions.data_ranges.Goals as goal

@@ -1,9 +1,9 @@
 use Rattle.std.specs.Prelude.{◌++◌, ◌∷◌, ◌<◌, All, List}
 use Rattle.std.proofs.Common.{subst, sym, ◌∙◌, ap}
 use Rattle.std.proofs.lemmas.List.Elements.{All-from_recursion}
-use Rattle.place80.specs.declared.range.Range.{Range}
-use Rattle.place80.specs.Range.{IsInMemory}
-use Rattle.place80.specs.Regions.{AreDisjoint}
+use Rattle.image80.specs.declared.range.Range.{Range}
+use Rattle.image80.specs.Range.{IsInMemory}
+use Rattle.image80.specs.Regions.{AreDisjoint}
 use Rattle.place80.specs.Locating.{located_code, located_stack}
 use Rattle.place80.proofs.LocatedDisjoint.{HasWord, code_not_empty, data_not_empty, code_in_memory, data_in_memory, stack_in_memory}
 use Rattle.place80.proofs.LocatedApart.{disjoint_located}

@@ -2,8 +2,8 @@ use Rattle.std.specs.Prelude.{◌≡◌, ℕ, true, false, Some, List, [], slice
 use Rattle.std.specs.List.{AllByRecursion}
 use Rattle.std.proofs.Common.{◌∙◌, ap, sym, subst, inr}
 use Rattle.place80.specs.declared.placed.Placed.{Placed}
-use Rattle.place80.specs.Image.{PlacedBytes, byte_at}
-use Rattle.place80.specs.Regions.{Arranges}
+use Rattle.image80.specs.Image.{PlacedBytes, byte_at}
+use Rattle.image80.specs.Regions.{Arranges}
 use Rattle.place80.specs.Layout.{layout_of}
 use Rattle.place80.specs.Locating.{CanBePlaced, located_code, located_stack, located_data}
 use Rattle.place80.proofs.LocatingLemmas.{start_found, by_last_two, all_can_be_placed, no_first, high_told, place_told, inside_told, chunks_told, laid_fit}

@@ -1,0 +1,11 @@
+pub mod LineLemmas
+pub mod DigitLemmas
+pub mod DisjointLemmas
+pub mod RegionsLemmas
+pub mod TextLemmas
+pub mod WriteLemmas
+pub mod ReadingLemmas
+pub mod FaultLemmas
+pub mod ApartLemmas
+pub mod MemoryLemmas
+pub mod RegionMapLemmas

@@ -1,0 +1,10 @@
+pub mod Range
+pub mod Regions
+pub mod Image
+pub mod Lines
+pub mod RegionMap
+pub mod RegionsFault
+pub mod RegionsText
+-- what the crate's own functions promise one another: no public contract cites these
+pub mod Memory
+pub mod Placing

@@ -1,0 +1,82 @@
+//! The lines of a regions text after the first.
+
+ghost use Rattle.std.specs.Prelude.{◌≡◌, ◌≢◌, IfSome, IfNone};
+ghost use Rattle.image80.specs.Range.{IsInMemory};
+ghost use Rattle.image80.specs.RegionsText.{range_of, range_text, entry_text, code_range, stack_range, data_range};
+
+use crate::range::Range;
+use decode80::word_of_digits;
+
+/// What a line of a regions text gives.
+#[derive(Clone, Copy)]
+pub(crate) enum Entry {
+    Code(Range),
+    Stack(Range),
+    Data(Range),
+}
+
+impl Entry {
+    /// The range of a code line.
+    pub(crate) fn code(&self) -> Option<Range>
+        ensures { result ≡ code_range self.now }
+    {
+        match self {
+            Entry::Code(range) => Some(*range),
+            _ => None,
+        }
+    }
+
+    /// The range of a stack line.
+    pub(crate) fn stack(&self) -> Option<Range>
+        ensures { result ≡ stack_range self.now }
+    {
+        match self {
+            Entry::Stack(range) => Some(*range),
+            _ => None,
+        }
+    }
+
+    /// The range of a data line.
+    pub(crate) fn data(&self) -> Option<Range>
+        ensures { result ≡ data_range self.now }
+    {
+        match self {
+            Entry::Data(range) => Some(*range),
+            _ => None,
+        }
+    }
+}
+
+/// The entry that a line spells, `None` where it spells none that lies in memory.
+pub(crate) fn read_entry(line: &[u8]) -> Option<Entry>
+    ensures spelled { IfSome result (λ entry. line.now ≡ entry_text entry) }
+    ensures in_memory { IfSome result (λ entry. IsInMemory (range_of entry)) }
+    ensures none { IfNone result ((entry : Entry) → IsInMemory (range_of entry) → line.now ≢ entry_text entry) }
+{
+    if let Some(range) = line.strip_prefix(b"CODE ") {
+        return Some(Entry::Code(read_range(range)?));
+    }
+    if let Some(range) = line.strip_prefix(b"DATA ") {
+        return Some(Entry::Data(read_range(range)?));
+    }
+    let range = line.strip_prefix(b"STACK ")?;
+    Some(Entry::Stack(read_range(range)?))
+}
+
+/// The range of its first address and its length, `None` where the text spells none that lies in
+/// memory.
+fn read_range(text: &[u8]) -> Option<Range>
+    ensures spelled { IfSome result (λ range. text.now ≡ range_text range) }
+    ensures in_memory { IfSome result (λ range. IsInMemory range) }
+    ensures none { IfNone result ((range : Range) → IsInMemory range → text.now ≢ range_text range) }
+{
+    if text.len() != 9 || text[4] != b' ' {
+        return None;
+    }
+    let first = word_of_digits([text[0], text[1], text[2], text[3]])?;
+    let length = word_of_digits([text[5], text[6], text[7], text[8]])?;
+    if u32::from(first) + u32::from(length) > 65536 {
+        return None;
+    }
+    Some(Range { first, length })
+}

@@ -1,0 +1,64 @@
+use std::alloc::{AllocError, AllocFailed};
+use thiserror::Error;
+
+/// Why bytes are no regions text, the first that holds in the order `BadVersion`, `BadLine`,
+/// `NoStack`, `RegionsOverlap`; or that memory ran out.
+#[derive(Clone, Copy, Debug, PartialEq, Eq, Error)]
+pub enum RegionsFault {
+    /// The first line of that number, counted from 1, that is no line of a regions text, is a
+    /// second STACK line, or lacks its line feed.
+    #[error("BadLine {0}")]
+    BadLine(usize),
+    /// The first line is not `REGIONS 1`.
+    #[error("BadVersion")]
+    BadVersion,
+    /// An address lies in two ranges.
+    #[error("RegionsOverlap")]
+    RegionsOverlap,
+    /// There is no STACK line.
+    #[error("NoStack")]
+    NoStack,
+    /// Out of memory.
+    #[error("Memory")]
+    Memory,
+}
+
+impl RegionsFault {
+    ghost use Rattle.std.specs.Prelude.{◌≡◌};
+    ghost use Rattle.image80.specs.RegionsFault.{code_of};
+
+    /// The number of the fault, 1 to 5 in the order above.
+    pub fn code(&self) -> u8
+        ensures { result ≡ code_of self.now }
+    {
+        match self {
+            RegionsFault::BadLine(_) => 1,
+            RegionsFault::BadVersion => 2,
+            RegionsFault::RegionsOverlap => 3,
+            RegionsFault::NoStack => 4,
+            RegionsFault::Memory => 5,
+        }
+    }
+}
+
+impl From<AllocError> for RegionsFault {
+    ghost use Rattle.std.specs.Prelude.{◌≡◌};
+    ghost use Rattle.image80.specs.declared.fault.RegionsFault.TheVariants.{Memory};
+
+    ghost from_gives = { λ _ fault. fault ≡ Memory };
+
+    fn from(_error: AllocError) -> RegionsFault {
+        RegionsFault::Memory
+    }
+}
+
+impl<T: Drop> From<AllocFailed<T>> for RegionsFault {
+    ghost use Rattle.std.specs.Prelude.{◌≡◌};
+    ghost use Rattle.image80.specs.declared.fault.RegionsFault.TheVariants.{Memory};
+
+    ghost from_gives = { λ _ fault. fault ≡ Memory };
+
+    fn from(_error: AllocFailed<T>) -> RegionsFault {
+        RegionsFault::Memory
+    }
+}

@@ -1,0 +1,36 @@
+//! A located program: its bytes in the 8080's memory, the regions that it may fetch from, store to and push on, and the text of
+//! its regions.
+//!
+//! | Item | What it is |
+//! |---|---|
+//! | [`Range`] | consecutive addresses |
+//! | [`Regions`] | the ranges of code and of data, and the one range of the stack |
+//! | [`RegionMap`] | whether an address is in the code or in the data, at the same cost for any number of ranges |
+//! | [`Chunk`], [`Image`] | bytes at an address; a located program, and its memory |
+//! | [`write_regions`], [`read_regions`], [`RegionsFault`] | regions as a text, and why bytes are no regions text |
+//! | [`lines`] | texts over whole lines |
+//! | [`laws`] | what holds of the definitions alone |
+#![tactic(auto)]
+
+mod chunk;
+mod entry;
+mod fault;
+mod image;
+pub mod laws;
+pub mod lines;
+mod memory;
+mod ordered;
+mod range;
+mod read;
+mod region_map;
+mod regions;
+mod write;
+
+pub use chunk::Chunk;
+pub use fault::RegionsFault;
+pub use image::Image;
+pub use range::Range;
+pub use read::read_regions;
+pub use region_map::RegionMap;
+pub use regions::Regions;
+pub use write::write_regions;

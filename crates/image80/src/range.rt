@@ -1,0 +1,32 @@
+ghost use Rattle.std.specs.Prelude.{◌≡◌};
+ghost use Rattle.image80.specs.Range.{in_range, in_ranges};
+
+/// Consecutive addresses: `length` of them from `first` on.
+///
+/// A range that lies in memory ends at or below 65536, the first address past memory.
+#[derive(Clone, Copy, Debug, PartialEq, Eq)]
+pub struct Range {
+    pub first: u16,
+    pub length: u16,
+}
+
+impl Range {
+    /// Whether the address is one of the range's.
+    #[inline]
+    pub fn contains(&self, address: u16) -> bool
+        ensures { result ≡ in_range self.now address }
+    {
+        self.first <= address && address - self.first < self.length
+    }
+}
+
+/// Whether one of the ranges contains the address. Most programs have one range of a kind.
+#[inline]
+pub(crate) fn in_ranges(ranges: &[Range], address: u16) -> bool
+    ensures { result ≡ in_ranges ranges.now address }
+{
+    match ranges {
+        [only] => only.contains(address),
+        _ => ranges.iter().any(|range| range.contains(address)),
+    }
+}

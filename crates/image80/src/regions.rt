@@ -1,0 +1,123 @@
+ghost use Rattle.std.specs.Prelude.{◌≡◌};
+
+use crate::ordered::{are_disjoint, sort};
+use crate::range::{Range, in_ranges};
+use std::alloc::{AllocError, Global};
+use std::marker::Model;
+
+/// The addresses that a program may use: the set CODE that it is fetched from, the set data that
+/// it stores to directly, and the one range STACK that it pushes on.
+///
+/// The ranges of code and of data are kept by address, none of them empty, each ending at or below
+/// 65536, and no address lies in two ranges. The stack may be empty. Ranges that touch stay apart.
+#[derive(Debug, Drop)]
+pub struct Regions {
+    code: Vec<Range>,
+    stack: Range,
+    data_ranges: Vec<Range>,
+}
+
+impl Model for Regions {
+    ghost use Rattle.image80.specs.Regions.{Areas, AreRegions};
+
+    ghost Value = { Areas };
+
+    ghost view = { λ r. record { code = r.code.items; stack = r.stack; data_ranges = r.data_ranges.items } };
+
+    ghost invariant = { λ r. AreRegions (record { code = r.code.items; stack = r.stack; data_ranges = r.data_ranges.items }) };
+}
+
+impl Regions {
+    ghost use Rattle.std.specs.Prelude.{◌<◌, ◌∷◌, ◌++◌, All, IfOk, IfSome, IfNone};
+    ghost use Rattle.image80.specs.Range.{IsInMemory};
+    ghost use Rattle.image80.specs.Regions.{AreDisjoint, AreRegions, Arranges, in_code, in_data, top_of};
+
+    /// The regions of these ranges, which may come in any order; `None` where an address lies in
+    /// two of them.
+    pub(crate) fn from_ranges(
+        alloc: Global,
+        code: Vec<Range>,
+        stack: Range,
+        data_ranges: Vec<Range>,
+    ) -> Result<Option<Self>, AllocError>
+        requires code_filled { All (λ range. 0 < range.length) code.items }
+        requires data_filled { All (λ range. 0 < range.length) data_ranges.items }
+        requires code_in_memory { All IsInMemory code.items }
+        requires stack_in_memory { IsInMemory stack }
+        requires data_in_memory { All IsInMemory data_ranges.items }
+        ensures ranges { IfOk result (λ made. IfSome made (Arranges code.items stack data_ranges.items)) }
+        ensures overlap { IfOk result (λ made. IfNone made (¬ (AreDisjoint (code.items ++ stack ∷ data_ranges.items)))) }
+    {
+        if !are_disjoint(alloc, &code, stack, &data_ranges)? {
+            return Ok(None);
+        }
+        Ok(Some(Regions::from_disjoint(code, stack, data_ranges)))
+    }
+
+    /// The regions of these ranges, which may come in any order, and of which no two share an address.
+    pub fn from_disjoint(mut code: Vec<Range>, stack: Range, mut data_ranges: Vec<Range>) -> Self
+        requires code_filled { All (λ range. 0 < range.length) code.items }
+        requires data_filled { All (λ range. 0 < range.length) data_ranges.items }
+        requires code_in_memory { All IsInMemory code.items }
+        requires stack_in_memory { IsInMemory stack }
+        requires data_in_memory { All IsInMemory data_ranges.items }
+        requires disjoint { AreDisjoint (code.items ++ stack ∷ data_ranges.items) }
+        ensures { Arranges code.items stack data_ranges.items result }
+    {
+        sort(&mut code);
+        sort(&mut data_ranges);
+        Regions {
+            code,
+            stack,
+            data_ranges,
+        }
+    }
+
+    /// The ranges of code, by address.
+    pub fn code(&self) -> &[Range]
+        ensures ranges { result.now ≡ self.now.code }
+        ensures rules { AreRegions self.now }
+    {
+        &self.code
+    }
+
+    /// The ranges of data, by address.
+    pub fn data_ranges(&self) -> &[Range]
+        ensures ranges { result.now ≡ self.now.data_ranges }
+        ensures rules { AreRegions self.now }
+    {
+        &self.data_ranges
+    }
+
+    /// The range of the stack, which may be empty.
+    pub fn stack(&self) -> Range
+        ensures range { result ≡ self.now.stack }
+        ensures rules { AreRegions self.now }
+    {
+        self.stack
+    }
+
+    /// Whether the address is in the code.
+    #[inline]
+    pub fn in_code(&self, address: u16) -> bool
+        ensures { result ≡ in_code self.now address }
+    {
+        in_ranges(&self.code, address)
+    }
+
+    /// Whether the address is in the data.
+    #[inline]
+    pub fn in_data(&self, address: u16) -> bool
+        ensures { result ≡ in_data self.now address }
+    {
+        in_ranges(&self.data_ranges, address)
+    }
+
+    /// The stack's top: the address just past the stack, 0 where the stack ends with memory.
+    #[inline]
+    pub fn top(&self) -> u16
+        ensures { result ≡ top_of self.now }
+    {
+        self.stack.first.wrapping_add(self.stack.length)
+    }
+}

@@ -1,6 +1,0 @@
-use Rattle.std.proofs.Common.{◌≡◌, [], take}
-use Rattle.place80.specs.RegionsText.{stack_ranges}
-use Rattle.place80.proofs.read.stack_of.Given as goal
-
-abbrev pub invariant-loop-entry : goal.invariant-loop-entry
-invariant-loop-entry l = stack_ranges (take l.entry-index l.entries) ≡ []

@@ -1,8 +1,0 @@
-use Rattle.place80.proofs.WriteLemmas.{steps_are_text}
-use Rattle.place80.proofs.write.spelled.Goals as goal
-
-pub returns-clause-text : goal.returns-clause-text
-returns-clause-text c =
-    steps_are_text c.args.regions.now c.in_ok-text.text.items c.put_lines.new.text.items c.put_line.new.text.items c.put_lines-2.new.text.items
-    c.as_slice.result.now c.as_slice-2.result.now c.as_slice-3.result.now c.as_slice-4.result.now c.code.result.now c.stack.result c.data_ranges.result.now
-    c.in_ok-text.ensures.items c.as_slice.ensures c.in_ok-put_lines.ensures c.as_slice-2.ensures c.code.ensures.ranges c.in_ok-put_line.ensures c.as_slice-3.ensures c.stack.ensures.range c.in_ok-put_lines-2.ensures c.as_slice-4.ensures c.data_ranges.ensures.ranges
