@@ -1,15 +1,30 @@
-//! Tests of what makes an image of modules, from outside, by public names.
+//! Tests of the crates from object files to images, from outside, by their public names.
 //!
 //! | Module | What it tests |
 //! |---|---|
+//! | `records` | `omf_core`: records and names |
+//! | `bodies` | `omf_body`: the bodies of records, written |
+//! | `modules` | `omf_module`: modules, made, read and written |
+//! | `libraries` | `omf_library`: libraries, read and written, and the first providers of names |
+//! | `faults` | the faults of all four, as they are printed |
 //! | `linking` | `link80`: modules linked into one |
 //! | `selecting` | `link80`: what is taken from libraries |
-//! | `placing` | `place80`: programs located, images and regions |
+//! | `placing` | `place80`, `image80`: programs located, images and regions |
 #![tactic(auto)]
 
 #[cfg(test)]
+mod bodies;
+#[cfg(test)]
+mod faults;
+#[cfg(test)]
+mod libraries;
+#[cfg(test)]
 mod linking;
 #[cfg(test)]
+mod modules;
+#[cfg(test)]
 mod placing;
+#[cfg(test)]
+mod records;
 #[cfg(test)]
 mod selecting;

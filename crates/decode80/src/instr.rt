@@ -1,17 +1,20 @@
 //! The instructions.
 
 use crate::condition::Condition;
+use crate::encoding::encode;
+use crate::mnemonics::mnemonic_of;
 use crate::operation::{Operand, Operation};
 use crate::pair::{IndexPair, Pair, StackPair};
 use crate::register::Register;
 use crate::restart::Restart;
 use crate::rotation::Rotation;
+use std::fmt;
 
 /// One of the 244 instructions of the Intel 8080, with its operands.
 ///
 /// A byte operand is the byte after the opcode; a word operand is the two bytes after it, low byte first. There is no
 /// value for a move from memory to memory: that opcode is HLT.
-#[derive(Clone, Copy, Debug, PartialEq, Eq)]
+#[derive(Clone, Copy, PartialEq, Eq)]
 pub enum Instr {
     /// MOV r,s: to the first register from the second.
     Mov(Register, Register),
@@ -101,4 +104,16 @@ pub enum Instr {
     Nop,
     /// HLT.
     Hlt,
+}
+
+/// An instruction is shown by its mnemonic and its bytes: `MVI 06 A5`.
+impl fmt::Debug for Instr {
+    fn fmt<W: fmt::Write>(&self, f: &mut fmt::Formatter<W>) -> fmt::Result {
+        f.write_str(str::from_utf8(mnemonic_of(*self)).unwrap_or("?"))?;
+        let (bytes, length) = encode(*self);
+        for byte in bytes.iter().take(length) {
+            write!(f, " {byte:02X}")?;
+        }
+        Ok(())
+    }
 }
