@@ -7,11 +7,11 @@ use Rattle.std.specs.Prelude.{nat_eq, ◌==◌, zero, suc}
 use Rattle.std.proofs.Common.{◌∙◌, ap, sym, subst, arith, inl, inr, cond, append_assoc}
 use Rattle.std.proofs.lemmas.Bool.{cases_Bool, ltb-false, or_parts}
 use Rattle.std.proofs.lemmas.List.{append-nil}
-use Rattle.omf_module.specs.declared.symbols.Common.{Common}
-use Rattle.omf_module.specs.Contents.{ContentValue}
-use Rattle.omf_module.specs.Segments.{names_common}
-use Rattle.omf_module.specs.Modules.{ModuleValue}
-use Rattle.omf_module.specs.Rules.{IsModule}
+use Rattle.omf_parts.specs.declared.symbols.Common.{Common}
+use Rattle.omf_parts.specs.Contents.{ContentValue}
+use Rattle.omf_parts.specs.Segments.{names_common}
+use Rattle.omf_parts.specs.Modules.{ModuleValue}
+use Rattle.omf_parts.specs.Rules.{IsModule}
 use Rattle.omf_relocation.specs.PatchLaws.{TwoPassesAreOne}
 use Rattle.omf_relocation.specs.Place.{Bases, common_name}
 use Rattle.omf_relocation.specs.ImageByte.{name_at, chunk_of}

@@ -6,11 +6,11 @@ use Rattle.std.proofs.lemmas.Bool.{cases_Bool, and_parts}
 use Rattle.std.proofs.lemmas.Bool.Decides.{nat_tests}
 use Rattle.omf_body.specs.declared.field.Field.{Field}
 use Rattle.omf_body.specs.declared.field.Field.TheVariants.{Low, High, Both}
-use Rattle.omf_module.specs.declared.fixup.Fixup.{Fixup}
-use Rattle.omf_module.specs.Contents.{ContentValue, offsets_by}
-use Rattle.omf_module.specs.Segments.{segment_in}
-use Rattle.omf_module.specs.Modules.{ModuleValue}
-use Rattle.omf_module.specs.Rules.{IsModule, end_of}
+use Rattle.omf_parts.specs.declared.fixup.Fixup.{Fixup}
+use Rattle.omf_parts.specs.Contents.{ContentValue, offsets_by}
+use Rattle.omf_parts.specs.Segments.{segment_in}
+use Rattle.omf_parts.specs.Modules.{ModuleValue}
+use Rattle.omf_parts.specs.Rules.{IsModule, end_of}
 use Rattle.omf_relocation.specs.Patches.{is_inside_bytes}
 use Rattle.omf_relocation.specs.Place.{is_laid_out, part_start, starts_from}
 use Rattle.omf_relocation.specs.SoundModules.{SoundModulesKeepRules, LiesIn, HasItsFixups, as_patch}

@@ -5,8 +5,8 @@ use Rattle.std.specs.Option.{option_map_or}
 use Rattle.std.specs.Cmp.Lexicographic.{pointwise}
 use Rattle.std.proofs.Common.{◌∙◌, ap, sym, arith, inl, inr, cond, eqb-true, eq-eqb}
 use Rattle.std.proofs.lemmas.Bool.{cases_Bool, and_parts, ne_eqb, not_from_false}
-use Rattle.omf_module.specs.declared.symbols.Common.{Common}
-use Rattle.omf_module.specs.Segments.{names_common}
+use Rattle.omf_parts.specs.declared.symbols.Common.{Common}
+use Rattle.omf_parts.specs.Segments.{names_common}
 use Rattle.omf_relocation.specs.Place.{common_name}
 use Rattle.omf_relocation.specs.ImageByte.{name_at}
 use Rattle.link80.specs.Linked.{distinct, numbered_common, id_of, index_of}

@@ -4,8 +4,8 @@ use Rattle.std.specs.List.{flat_map}
 use Rattle.std.proofs.Common.{◌∙◌, ap, sym, subst, arith, inl, inr, cond, eqb-true, true≢false}
 use Rattle.std.proofs.lemmas.Bool.{cases_Bool, ne_eqb}
 use Rattle.std.proofs.lemmas.Bool.Decides.{nat_tests}
-use Rattle.omf_module.specs.Segments.{is_fixed_id, names_common, has_segment}
-use Rattle.omf_module.specs.Modules.{ModuleValue}
+use Rattle.omf_parts.specs.Segments.{is_fixed_id, names_common, has_segment}
+use Rattle.omf_parts.specs.Modules.{ModuleValue}
 use Rattle.omf_relocation.specs.Place.{Bases, word_of, common_name, base_of, part_start, place_in}
 use Rattle.omf_relocation.specs.ImageByte.{name_at}
 use Rattle.omf_relocation.specs.SoundModules.{RulesOf, PartsOfOneStartAtZero}

@@ -6,12 +6,12 @@ use Rattle.std.specs.Cmp.Lexicographic.{pointwise}
 use Rattle.std.proofs.Common.{◌∙◌, ap, sym, subst, arith, inl, inr, cond, eqb-true}
 use Rattle.std.proofs.lemmas.Bool.{cases_Bool, ltb-true}
 use Rattle.std.proofs.lemmas.List.{append-nil}
-use Rattle.omf_module.specs.declared.symbols.Public.{Public}
-use Rattle.omf_module.specs.declared.fixup.Target.{Target}
-use Rattle.omf_module.specs.declared.fixup.Target.TheVariants as target
-use Rattle.omf_module.specs.Modules.{ModuleValue}
-use Rattle.omf_module.specs.Segments.{has_segment}
-use Rattle.omf_module.specs.Rules.{has_target}
+use Rattle.omf_parts.specs.declared.symbols.Public.{Public}
+use Rattle.omf_parts.specs.declared.fixup.Target.{Target}
+use Rattle.omf_parts.specs.declared.fixup.Target.TheVariants as target
+use Rattle.omf_parts.specs.Modules.{ModuleValue}
+use Rattle.omf_parts.specs.Segments.{has_segment}
+use Rattle.omf_parts.specs.Rules.{has_target}
 use Rattle.omf_relocation.specs.Place.{Bases, word_of, base_of, part_start, place_in}
 use Rattle.omf_relocation.specs.ImageByte.{PlacedName, placed_public, placed_publics, name_word, name_at, target_word}
 use Rattle.omf_relocation.specs.SoundModules.{PartsOfOneStartAtZero}

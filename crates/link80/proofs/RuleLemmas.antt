@@ -6,16 +6,16 @@ use Rattle.std.proofs.Common.{◌∙◌, ap, sym, subst, arith, inl, inr, cond, 
 use Rattle.std.proofs.lemmas.Bool.{cases_Bool, and_parts, and_from, not_from_false, ne_eqb, lt-ltb, le-leb, ltb-true}
 use Rattle.std.proofs.lemmas.Bool.Decides.{nat_tests}
 use Rattle.std.proofs.lemmas.List.FromFn.{length-map-range_with_len}
-use Rattle.omf_module.specs.declared.segment.Segment.{Segment}
-use Rattle.omf_module.specs.declared.symbols.Common.{Common}
-use Rattle.omf_module.specs.declared.symbols.Public.{Public}
-use Rattle.omf_module.specs.declared.fixup.Fixup.{Fixup}
-use Rattle.omf_module.specs.declared.fixup.Target.{Target}
-use Rattle.omf_module.specs.declared.fixup.Target.TheVariants as target
-use Rattle.omf_module.specs.Contents.{ContentValue}
-use Rattle.omf_module.specs.Segments.{is_fixed_id, names_common, has_segment, segment_in}
-use Rattle.omf_module.specs.Modules.{ModuleValue}
-use Rattle.omf_module.specs.Rules.{each_after, is_new_entry, is_new_common, has_target, is_fitting, has_fitting, lies_within, is_in_bounds, is_content, end_of, is_start}
+use Rattle.omf_parts.specs.declared.segment.Segment.{Segment}
+use Rattle.omf_parts.specs.declared.symbols.Common.{Common}
+use Rattle.omf_parts.specs.declared.symbols.Public.{Public}
+use Rattle.omf_parts.specs.declared.fixup.Fixup.{Fixup}
+use Rattle.omf_parts.specs.declared.fixup.Target.{Target}
+use Rattle.omf_parts.specs.declared.fixup.Target.TheVariants as target
+use Rattle.omf_parts.specs.Contents.{ContentValue}
+use Rattle.omf_parts.specs.Segments.{is_fixed_id, names_common, has_segment, segment_in}
+use Rattle.omf_parts.specs.Modules.{ModuleValue}
+use Rattle.omf_parts.specs.Rules.{each_after, is_new_entry, is_new_common, has_target, is_fitting, has_fitting, lies_within, is_in_bounds, is_content, end_of, is_start}
 use Rattle.omf_relocation.specs.Patches.{byte_with}
 use Rattle.omf_relocation.specs.Place.{common_name, is_laid_out, starts_from, part_start}
 use Rattle.omf_relocation.specs.ImageByte.{name_at}

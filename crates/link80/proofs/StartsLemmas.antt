@@ -3,9 +3,9 @@ use Rattle.std.specs.Prelude.{◌≡◌, ℕ, suc, length, ◌+◌, ◌≤◌, �
 use Rattle.std.proofs.Common.{◌∙◌, ap, sym, arith, append_assoc}
 use Rattle.std.proofs.lemmas.Bool.{leb-false}
 use Rattle.std.proofs.lemmas.Bool.Decides.{nat_tests}
-use Rattle.omf_module.specs.declared.segment.Segment.{Segment}
-use Rattle.omf_module.specs.Segments.{segment_in}
-use Rattle.omf_module.specs.Modules.{ModuleValue}
+use Rattle.omf_parts.specs.declared.segment.Segment.{Segment}
+use Rattle.omf_parts.specs.Segments.{segment_in}
+use Rattle.omf_parts.specs.Modules.{ModuleValue}
 use Rattle.omf_relocation.specs.Place.{rounded, starts_from}
 use Rattle.link80.specs.Linked.{parts_end}
 use Rattle.link80.specs.Starts.{next_part}

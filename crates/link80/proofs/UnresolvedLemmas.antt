@@ -4,9 +4,9 @@ use Rattle.std.specs.List.{flat_map}
 use Rattle.std.specs.Cmp.Lexicographic.{pointwise}
 use Rattle.std.proofs.Common.{◌∙◌, ap, sym, arith, cond}
 use Rattle.std.proofs.lemmas.Bool.Decides.{nat_tests}
-use Rattle.omf_module.specs.declared.symbols.Public.{Public}
-use Rattle.omf_module.specs.declared.fixup.Target.TheVariants as target
-use Rattle.omf_module.specs.Modules.{ModuleValue}
+use Rattle.omf_parts.specs.declared.symbols.Public.{Public}
+use Rattle.omf_parts.specs.declared.fixup.Target.TheVariants as target
+use Rattle.omf_parts.specs.Modules.{ModuleValue}
 use Rattle.link80.specs.declared.reference.Reference.{Reference}
 use Rattle.link80.specs.declared.fault.LinkFault.{LinkFault}
 use Rattle.link80.specs.declared.fault.LinkFault.TheVariants.{TooManyExternals}

@@ -2,9 +2,9 @@
 -- (ISIS-II User's Guide: LINK, then LOCATE.)
 use Rattle.std.specs.Prelude.{◌≡◌, ◌≤◌, ℕ, false, None, List, [], ◌∷◌, IsTrue}
 use Rattle.std.specs.List.{AllByRecursion}
-use Rattle.omf_module.specs.Segments.{segment_in}
-use Rattle.omf_module.specs.Modules.{ModuleValue}
-use Rattle.omf_module.specs.Rules.{IsModule, keeps_rules}
+use Rattle.omf_parts.specs.Segments.{segment_in}
+use Rattle.omf_parts.specs.Modules.{ModuleValue}
+use Rattle.omf_parts.specs.Rules.{IsModule, keeps_rules}
 use Rattle.omf_relocation.specs.Place.{Bases}
 use Rattle.omf_relocation.specs.ImageByte.{chunks_of, image_byte}
 use Rattle.omf_relocation.specs.HighReferences.{any_loses_low_byte}

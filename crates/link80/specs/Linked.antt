@@ -5,15 +5,15 @@ use Rattle.std.specs.Prelude.{ℕ, suc, ◌+◌, ◌-◌, ◌%◌, ◌==◌, nat
 use Rattle.std.specs.List.{list_any, flat_map, enumerate_from}
 use Rattle.std.specs.Option.{option_map_or}
 use Rattle.std.specs.Cmp.Lexicographic.{pointwise}
-use Rattle.omf_module.specs.declared.segment.Segment.{Segment}
-use Rattle.omf_module.specs.declared.symbols.Common.{Common}
-use Rattle.omf_module.specs.declared.symbols.Public.{Public}
-use Rattle.omf_module.specs.declared.fixup.Fixup.{Fixup}
-use Rattle.omf_module.specs.declared.fixup.Target.{Target}
-use Rattle.omf_module.specs.declared.fixup.Target.TheVariants as target
-use Rattle.omf_module.specs.Contents.{ContentValue}
-use Rattle.omf_module.specs.Segments.{empty_segment, is_fixed_id, segment_in}
-use Rattle.omf_module.specs.Modules.{ModuleValue, made_of}
+use Rattle.omf_parts.specs.declared.segment.Segment.{Segment}
+use Rattle.omf_parts.specs.declared.symbols.Common.{Common}
+use Rattle.omf_parts.specs.declared.symbols.Public.{Public}
+use Rattle.omf_parts.specs.declared.fixup.Fixup.{Fixup}
+use Rattle.omf_parts.specs.declared.fixup.Target.{Target}
+use Rattle.omf_parts.specs.declared.fixup.Target.TheVariants as target
+use Rattle.omf_parts.specs.Contents.{ContentValue}
+use Rattle.omf_parts.specs.Segments.{empty_segment, is_fixed_id, segment_in}
+use Rattle.omf_parts.specs.Modules.{ModuleValue, made_of}
 use Rattle.omf_relocation.specs.declared.patching.Patch.{Patch}
 use Rattle.link80.specs.declared.reference.Reference.{Reference}
 use Rattle.omf_relocation.specs.Patches.{with_patches}

@@ -1,8 +1,8 @@
 -- What LINK asks of a content before it moves it: what its module's rules and the lengths of the linked segments give.
 use Rattle.std.specs.Prelude.{◌≡◌, ◌≤◌, ◌<◌, ◌⊎◌, ℕ, ◌+◌, List, length}
 use Rattle.std.specs.List.{AllByRecursion}
-use Rattle.omf_module.specs.Contents.{ContentValue}
-use Rattle.omf_module.specs.Modules.{ModuleValue}
+use Rattle.omf_parts.specs.Contents.{ContentValue}
+use Rattle.omf_parts.specs.Modules.{ModuleValue}
 use Rattle.omf_relocation.specs.Place.{part_start}
 use Rattle.omf_relocation.specs.SoundModules.{HasItsFixups}
 

@@ -2,7 +2,7 @@
 
 ghost use Rattle.std.specs.Prelude.{◌≡◌, ◌≢◌, ◌<◌, ◌≤◌, [], None, Some, is_some, length, slice_get, map, IfOk, IfErr, IfSome, OnOk, IsTrue};
 ghost use Rattle.std.specs.List.{flat_map};
-ghost use Rattle.omf_module.specs.Segments.{is_fixed_id};
+ghost use Rattle.omf_parts.specs.Segments.{is_fixed_id};
 ghost use Rattle.omf_relocation.specs.Place.{common_name, is_laid_out, part_start};
 ghost use Rattle.link80.specs.FirstSight.{number_in, with_names};
 ghost use Rattle.link80.specs.Linked.{common_names, linked_commons, linked_id, moved, names_of_commons, parts_end};
@@ -13,7 +13,7 @@ use crate::name_table::{NameTable, add_name};
 use crate::starts::LaidModules;
 use omf_body::segment_id::{FIRST_COMMON, MEMORY, UNNAMED_COMMON};
 use omf_core::Name;
-use omf_module::{Common, Module};
+use omf_parts::{Common, Module};
 use std::alloc::{AllocError, Global};
 use std::marker::Model;
 
@@ -86,7 +86,7 @@ pub(crate) struct JoinedModules<'a> {
 
 impl<'a> Model for JoinedModules<'a> {
     ghost use Rattle.std.specs.Prelude.{◌≡◌, None, List};
-    ghost use Rattle.omf_module.specs.Modules.{ModuleValue};
+    ghost use Rattle.omf_parts.specs.Modules.{ModuleValue};
     ghost use Rattle.link80.specs.Linked.{common_names};
     ghost use Rattle.link80.specs.LinkFault.{too_many_commons};
 

@@ -8,7 +8,7 @@ ghost use Rattle.link80.specs.LinkFault.{duplicate_public};
 use crate::fault::LinkFault;
 use crate::modules::Modules;
 use crate::name_table::NameTable;
-use omf_module::Module;
+use omf_parts::Module;
 use std::alloc::Global;
 
 /// Puts the names of a module's publics last.

@@ -2,7 +2,7 @@
 
 ghost use Rattle.std.specs.Prelude.{◌≡◌, ◌≢◌, ◌<◌, ◌++◌, [], None, Some, filter_map, length, map, option_copied, slice_get, IfOk, IfErr, OnOk};
 ghost use Rattle.std.specs.List.{AllByRecursion, cons_option};
-ghost use Rattle.omf_module.specs.Rules.{IsModule};
+ghost use Rattle.omf_parts.specs.Rules.{IsModule};
 ghost use Rattle.link80.specs.Gathered.{mains_from};
 ghost use Rattle.link80.specs.Linked.{linked, linked_parts, linked_publics, starts, unresolved};
 ghost use Rattle.link80.specs.LinkFault.{duplicate_public, link_fault, segment_too_long, too_many_externals};
@@ -24,7 +24,7 @@ use crate::starts::LaidModules;
 use crate::tables::Tables;
 use omf_core::Name;
 use omf_library::Library;
-use omf_module::{Module, Parts, PartsFault, copy_names};
+use omf_parts::{Module, Parts, PartsFault, copy_names};
 use select80::Chosen;
 use std::alloc::{AllocError, Global};
 

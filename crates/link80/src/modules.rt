@@ -1,9 +1,9 @@
 //! Modules that are linked together, by number.
 
 ghost use Rattle.std.specs.Prelude.{◌≡◌, ◌<◌, [], ◌∷◌, ◌++◌, Some, length, slice_get, OnOk};
-ghost use Rattle.omf_module.specs.Rules.{IsModule};
+ghost use Rattle.omf_parts.specs.Rules.{IsModule};
 
-use omf_module::Module;
+use omf_parts::Module;
 use std::alloc::{AllocError, Global};
 use std::marker::Model;
 
@@ -15,7 +15,7 @@ pub(crate) struct Modules<'a> {
 
 impl<'a> Model for Modules<'a> {
     ghost use Rattle.std.specs.Prelude.{List, map};
-    ghost use Rattle.omf_module.specs.Modules.{ModuleValue};
+    ghost use Rattle.omf_parts.specs.Modules.{ModuleValue};
 
     ghost Value = { List ModuleValue };
 

@@ -1,4 +1,4 @@
-use omf_module::Target;
+use omf_parts::Target;
 
 /// What LINK makes of a reference: the word that it adds to it, and what the reference is to from then on, unless to
 /// absolute bytes.

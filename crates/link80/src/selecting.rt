@@ -5,7 +5,7 @@ ghost use Rattle.select80.specs.Selected.{IsChosen, AreAscending};
 
 use crate::fault::LinkFault;
 use omf_library::Library;
-use omf_module::Module;
+use omf_parts::Module;
 use select80::Chosen;
 use std::alloc::Global;
 

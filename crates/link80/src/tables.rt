@@ -2,7 +2,7 @@
 
 ghost use Rattle.std.specs.Prelude.{◌≡◌, ◌≢◌, ◌++◌, None, Some, true, filter, is_none, length, map, slice_get, IfOk, IfErr, OnOk};
 ghost use Rattle.std.specs.List.{flat_map};
-ghost use Rattle.omf_module.specs.Rules.{has_target};
+ghost use Rattle.omf_parts.specs.Rules.{has_target};
 ghost use Rattle.link80.specs.FirstSight.{is_among, number_in, with_names};
 ghost use Rattle.link80.specs.Linked.{linked_public, linked_publics, linked_reference, public_of, to_place, to_public, unresolved};
 ghost use Rattle.link80.specs.LinkFault.{segment_too_long, too_many_externals};
@@ -13,7 +13,7 @@ use crate::name_table::{NameTable, add_name};
 use crate::reference::Reference;
 use omf_body::segment_id::ABSOLUTE;
 use omf_core::Name;
-use omf_module::{Module, Public, Target};
+use omf_parts::{Module, Public, Target};
 use std::alloc::{AllocError, Global};
 use std::marker::Model;
 
@@ -118,7 +118,7 @@ pub(crate) struct Tables<'t, 'a> {
 
 impl<'t, 'a> Model for Tables<'t, 'a> {
     ghost use Rattle.std.specs.Prelude.{List};
-    ghost use Rattle.omf_module.specs.Modules.{ModuleValue};
+    ghost use Rattle.omf_parts.specs.Modules.{ModuleValue};
     ghost use Rattle.link80.specs.Tables.{AreTables};
 
     ghost Value = { List ModuleValue };

@@ -9,7 +9,7 @@ use Rattle.omf_core.specs.Records.{RecordValue, SpellsRecords}
 use Rattle.omf_core.specs.Laws.{ListGrows}
 use Rattle.omf_module.specs.declared.records.PlacedBody.{PlacedBody}
 use Rattle.omf_module.specs.declared.fault.Cause.TheVariants as cause
-use Rattle.omf_module.specs.Modules.{ModuleValue}
+use Rattle.omf_parts.specs.Modules.{ModuleValue}
 use Rattle.omf_module.specs.Records.{SpellsBodies}
 use Rattle.omf_module.specs.Uses.{fault_by}
 use Rattle.omf_module.specs.Spelled.{SpellsModule, SpellsModules}

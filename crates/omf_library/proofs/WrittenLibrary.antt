@@ -5,7 +5,7 @@ use Rattle.std.proofs.lemmas.List.{append-nil, length-append}
 use Rattle.omf_core.specs.Record.{SpellsRecord, spelling, unsummed, checksum}
 use Rattle.omf_core.specs.Records.{spellings}
 use Rattle.omf_core.specs.Laws.{WrittenIsSpelled, WrittenListIsSpelled}
-use Rattle.omf_module.specs.Modules.{ModuleValue}
+use Rattle.omf_parts.specs.Modules.{ModuleValue}
 use Rattle.omf_module.specs.Spelled.{SpellsModule, SpellsModules}
 use Rattle.omf_module.specs.Writing.{module_bytes}
 use Rattle.omf_module.specs.WritingLaws.{IsReadAgain}

@@ -2,7 +2,7 @@
 
 ghost use Rattle.std.specs.Prelude.{◌≡◌, ℕ, List, map, nat_eq, IfOk, OnOk};
 ghost use Rattle.std.specs.Cmp.Lexicographic.{pointwise};
-ghost use Rattle.omf_module.specs.Modules.{ModuleValue};
+ghost use Rattle.omf_parts.specs.Modules.{ModuleValue};
 ghost use Rattle.omf_library.specs.Providers.{declares, first_provider, AreProviders, TakesNames};
 
 use indexmap::IndexMap;

@@ -1,7 +1,7 @@
 //! Libraries read from a file.
 
 ghost use Rattle.std.specs.Prelude.{◌≡◌, ℕ, List, Bool, Ok, Err, None, IfOk, IfErr, IfSome, OnOk, IsTrue, false};
-ghost use Rattle.omf_module.specs.Modules.{ModuleValue};
+ghost use Rattle.omf_parts.specs.Modules.{ModuleValue};
 ghost use Rattle.omf_module.specs.Spelled.{SpellsModules, EndsFile};
 ghost use Rattle.omf_library.specs.declared.fault.LibraryFault.{LibraryFault as LibraryFaultValue};
 ghost use Rattle.omf_library.specs.Fault.{OrNoMemory, Answers};

@@ -1,6 +1,4 @@
-pub mod ListingLemmas
-pub mod MarkLemmas
-pub mod OneForm
+pub mod RuleLemmas
 pub mod ShortLemmas
 pub mod ListLemmas
 pub mod CommonLemmas
@@ -15,7 +13,6 @@ pub mod OneReading
 pub mod OneModule
 pub mod OneFile
 pub mod AnswerLemmas
-pub mod RuleLemmas
 pub mod WrittenSpelled
 pub mod WrittenPasses
 pub mod WrittenSound

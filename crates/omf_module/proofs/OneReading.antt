@@ -22,9 +22,9 @@ use Rattle.omf_body.specs.FirstFault.{FirstFault}
 use Rattle.omf_body.specs.Laws.{OneBody, OneFault as OneBodyFault, NeverBoth as NeverBothBody}
 use Rattle.omf_module.specs.declared.fault.Cause.{Cause}
 use Rattle.omf_module.specs.declared.fault.Cause.TheVariants.{Record, UnknownKind, NoEnd}
-use Rattle.omf_module.specs.declared.symbols.Common.{Common}
-use Rattle.omf_module.specs.Rules.{each_after, has_name, is_new_common}
-use Rattle.omf_module.specs.Segments.{names_common}
+use Rattle.omf_parts.specs.declared.symbols.Common.{Common}
+use Rattle.omf_parts.specs.Rules.{each_after, has_name, is_new_common}
+use Rattle.omf_parts.specs.Segments.{names_common}
 use Rattle.omf_module.specs.Records.{SpellsBody, may_follow}
 use Rattle.omf_module.specs.Spelled.{cause_of, no_header_byte, no_header_record, other_kind, in_header_body, read_new_common, FaultsCommons, here, later, commons_cause, FaultsWithin, no_byte, no_record, file_ends, second_header, in_body, in_commons}
 use Rattle.omf_module.specs.Reading.{common_of, is_end}

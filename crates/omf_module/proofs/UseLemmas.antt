@@ -6,11 +6,11 @@ use Rattle.std.proofs.lemmas.List.{drop_more}
 use Rattle.omf_module.specs.declared.fault.Cause.{Cause}
 use Rattle.omf_module.specs.declared.fault.Cause.TheVariants.{SegmentUnknown, Memory}
 use Rattle.omf_module.specs.declared.records.PlacedBody.{PlacedBody}
-use Rattle.omf_module.specs.declared.segment.Segment.{Segment}
+use Rattle.omf_parts.specs.declared.segment.Segment.{Segment}
 use Rattle.omf_module.specs.Fault.{fault_of}
-use Rattle.omf_module.specs.Contents.{ContentValue}
-use Rattle.omf_module.specs.Modules.{ModuleValue}
-use Rattle.omf_module.specs.Segments.{has_segment}
+use Rattle.omf_parts.specs.Contents.{ContentValue}
+use Rattle.omf_parts.specs.Modules.{ModuleValue}
+use Rattle.omf_parts.specs.Segments.{has_segment}
 use Rattle.omf_module.specs.Gathered.{content_after, contents_from, begins_content}
 use Rattle.omf_module.specs.Uses.{unknown_id, body_fault, bodies_fault, fault_by}
 use Rattle.omf_module.specs.Reading.{with_contents, TakesBody, OrNoMemory}

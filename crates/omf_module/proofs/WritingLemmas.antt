@@ -9,8 +9,8 @@ use Rattle.omf_body.specs.declared.body.Body.{Body}
 use Rattle.omf_body.specs.declared.body.Body.TheVariants.{ModuleHeader, ModuleEnd}
 use Rattle.omf_body.specs.Bodies.{record_bytes}
 use Rattle.omf_body.specs.Entries.{segment_bytes}
-use Rattle.omf_module.specs.declared.segment.Segment.{Segment}
-use Rattle.omf_module.specs.Modules.{ModuleValue}
+use Rattle.omf_parts.specs.declared.segment.Segment.{Segment}
+use Rattle.omf_parts.specs.Modules.{ModuleValue}
 use Rattle.omf_module.specs.Writing.{segment_entry, header_body, common_body, public_body, external_body, content_bodies, end_body, module_bytes}
 use Rattle.omf_module.proofs.WrittenSound.{header_short}
 

@@ -8,10 +8,10 @@ use Rattle.std.proofs.lemmas.List.{append-nil}
 use Rattle.std.proofs.lemmas.List.Folds.{list_all-map}
 use Rattle.omf_body.specs.declared.entries.TheConstants.{ANY_BYTE}
 use Rattle.omf_module.specs.declared.writing.TheConstants.{PAGED}
-use Rattle.omf_module.specs.declared.segment.Segment.{Segment}
-use Rattle.omf_module.specs.Segments.{has_segment}
-use Rattle.omf_module.specs.Modules.{ModuleValue}
-use Rattle.omf_module.specs.Rules.{is_start, has_names, IsModule}
+use Rattle.omf_parts.specs.declared.segment.Segment.{Segment}
+use Rattle.omf_parts.specs.Segments.{has_segment}
+use Rattle.omf_parts.specs.Modules.{ModuleValue}
+use Rattle.omf_parts.specs.Rules.{is_start, has_names, IsModule}
 use Rattle.omf_module.specs.Records.{ModuleRecords}
 use Rattle.omf_module.specs.Gathered.{parts_of}
 use Rattle.omf_module.specs.Uses.{use_fault}

@@ -10,12 +10,12 @@ use Rattle.omf_body.specs.declared.field.Field.{Field}
 use Rattle.omf_body.specs.declared.body.Body.TheVariants.{ModuleHeader, ModuleEnd, ExternalReferences, Relocation, IntersegmentReferences}
 use Rattle.omf_body.specs.Entries.{segment_bytes}
 use Rattle.omf_body.specs.Bodies.{are_distinct}
-use Rattle.omf_module.specs.declared.segment.Segment.{Segment}
-use Rattle.omf_module.specs.declared.symbols.Common.{Common}
-use Rattle.omf_module.specs.declared.symbols.Public.{Public}
-use Rattle.omf_module.specs.Contents.{ContentValue}
-use Rattle.omf_module.specs.Segments.{is_common_id, names_common, is_used, segment_in, entries_for, listed_ids, in_one_form}
-use Rattle.omf_module.specs.Modules.{ModuleValue}
+use Rattle.omf_parts.specs.declared.segment.Segment.{Segment}
+use Rattle.omf_parts.specs.declared.symbols.Common.{Common}
+use Rattle.omf_parts.specs.declared.symbols.Public.{Public}
+use Rattle.omf_parts.specs.Contents.{ContentValue}
+use Rattle.omf_parts.specs.Segments.{is_common_id, names_common, is_used, segment_in, entries_for, listed_ids, in_one_form}
+use Rattle.omf_parts.specs.Modules.{ModuleValue}
 use Rattle.omf_module.specs.Writing.{segment_entry, header_body, common_body, public_body, external_body, content_body, end_body}
 use Rattle.omf_module.proofs.ShortLemmas.{one_form_few}
 use Rattle.omf_module.proofs.WrittenSpelled.{Fits}

@@ -1,14 +1,8 @@
 -- The numbers of the refusals, which are this project's own.
 use Rattle.std.specs.Prelude.{ℕ}
-use Rattle.omf_module.specs.declared.fault.PartsFault.{PartsFault}
-use Rattle.omf_module.specs.declared.fault.PartsFault.TheVariants.{Rule, Memory}
 use Rattle.omf_module.specs.declared.fault.Cause.{Cause}
 use Rattle.omf_module.specs.declared.fault.ModuleFault.{ModuleFault}
 use Rattle.omf_module.specs.declared.fault.Cause.TheVariants.{Record, NoHeader, UnknownKind, BadBody, BadName, SegmentUnknown, OffsetOutside, FixupBeforeContent, FixupOutside, FixupTwice, IndexUnknown, NoEnd, Memory as CauseMemory}
-
-abbrev pub parts_fault_code : PartsFault → ℕ
-parts_fault_code Rule = 1
-parts_fault_code Memory = 2
 
 abbrev pub cause_code : Cause → ℕ
 cause_code (Record f) = 1

@@ -17,11 +17,11 @@ use Rattle.omf_body.specs.FirstFault.{FirstFault}
 use Rattle.omf_module.specs.declared.fault.Cause.{Cause}
 use Rattle.omf_module.specs.declared.fault.Cause.TheVariants as cause
 use Rattle.omf_module.specs.declared.fault.ModuleFault.{ModuleFault}
-use Rattle.omf_module.specs.declared.symbols.Common.{Common}
+use Rattle.omf_parts.specs.declared.symbols.Common.{Common}
 use Rattle.omf_module.specs.declared.records.PlacedBody.{PlacedBody}
-use Rattle.omf_module.specs.Segments.{names_common}
-use Rattle.omf_module.specs.Rules.{has_name}
-use Rattle.omf_module.specs.Modules.{ModuleValue, made_of}
+use Rattle.omf_parts.specs.Segments.{names_common}
+use Rattle.omf_parts.specs.Rules.{has_name}
+use Rattle.omf_parts.specs.Modules.{ModuleValue, made_of}
 use Rattle.omf_module.specs.Records.{SpellsBody, SpellsBodies, commons_of, each_follows, ModuleRecords, SpellsModuleRecords}
 use Rattle.omf_module.specs.Gathered.{parts_of}
 use Rattle.omf_module.specs.Uses.{fault_by, use_fault}

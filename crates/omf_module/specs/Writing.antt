@@ -14,14 +14,14 @@ use Rattle.omf_body.specs.declared.body.Body.TheVariants.{ModuleHeader, ModuleEn
 use Rattle.omf_body.specs.Bodies.{record_bytes}
 use Rattle.omf_body.specs.Writing.{end_filling}
 use Rattle.omf_module.specs.declared.writing.TheConstants.{PAGED}
-use Rattle.omf_module.specs.declared.segment.Segment.{Segment}
-use Rattle.omf_module.specs.declared.symbols.Common.{Common}
-use Rattle.omf_module.specs.declared.symbols.Public.{Public}
-use Rattle.omf_module.specs.declared.fixup.Fixup.{Fixup}
-use Rattle.omf_module.specs.declared.fixup.Target.{Target}
-use Rattle.omf_module.specs.declared.fixup.Target.TheVariants as target
-use Rattle.omf_module.specs.Contents.{ContentValue}
-use Rattle.omf_module.specs.Modules.{ModuleValue}
+use Rattle.omf_parts.specs.declared.segment.Segment.{Segment}
+use Rattle.omf_parts.specs.declared.symbols.Common.{Common}
+use Rattle.omf_parts.specs.declared.symbols.Public.{Public}
+use Rattle.omf_parts.specs.declared.fixup.Fixup.{Fixup}
+use Rattle.omf_parts.specs.declared.fixup.Target.{Target}
+use Rattle.omf_parts.specs.declared.fixup.Target.TheVariants as target
+use Rattle.omf_parts.specs.Contents.{ContentValue}
+use Rattle.omf_parts.specs.Modules.{ModuleValue}
 
 -- a paged part starts at a multiple of 256
 abbrev pub segment_entry : ℕ × Segment → SegmentEntry

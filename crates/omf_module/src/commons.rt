@@ -3,17 +3,15 @@
 ghost use Rattle.std.specs.Prelude.{◌≡◌, ◌≢◌, ◌++◌, Ok, Err, IfOk, IfErr, OnOk, IsTrue};
 ghost use Rattle.omf_core.specs.Name.{is_name};
 ghost use Rattle.omf_body.specs.Entries.{common_bytes};
-ghost use Rattle.omf_module.specs.Rules.{is_new_common};
+ghost use Rattle.omf_parts.specs.Rules.{is_new_common};
 ghost use Rattle.omf_module.specs.Spelled.{read_new_common};
 ghost use Rattle.omf_module.specs.Reading.{common_of, TakesCommons, RefusesCommons};
 
-use crate::distinct::names_name;
 use crate::fault::Cause;
-use crate::rules::names_common;
-use crate::symbols::Common;
 use omf_body::segment_id::{FIRST_COMMON, LAST_COMMON};
 use omf_body::{CommonEntry, Cursor, FieldFault, NameBytes};
 use omf_core::{Name, NameFault};
+use omf_parts::{Common, names_common, names_name};
 use std::alloc::{AllocError, Global};
 
 /// A copy of a name that stands in a file.

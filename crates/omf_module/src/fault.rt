@@ -1,7 +1,7 @@
 //! The refusals of this crate. Each prints as its name, then its values with one space before each.
 
 ghost use Rattle.std.specs.Prelude.{◌≡◌};
-ghost use Rattle.omf_module.specs.Fault.{parts_fault_code, cause_code, no_memory, fault_of};
+ghost use Rattle.omf_module.specs.Fault.{cause_code, no_memory, fault_of};
 ghost use Rattle.omf_module.specs.Spelled.{cause_of, commons_cause};
 ghost use Rattle.omf_module.specs.declared.fault.Cause.TheVariants.{Memory as OutOfMemory, Record as OfRecord};
 
@@ -10,29 +10,6 @@ use omf_core::{RecordFault, RecordKind};
 use std::alloc::{AllocError, AllocFailed};
 use std::{error, fmt};
 use thiserror::Error;
-
-/// Why parts make no module.
-#[derive(Clone, Copy, PartialEq, Eq, Debug, Error)]
-pub enum PartsFault {
-    /// The parts don't keep the rules of a module.
-    #[error("Rule")]
-    Rule,
-    /// There is no memory for the module.
-    #[error("Memory")]
-    Memory,
-}
-
-impl PartsFault {
-    /// The fault's number: 1 `Rule`, 2 `Memory`.
-    pub fn code(&self) -> u8
-        ensures { result ≡ parts_fault_code self.now }
-    {
-        match self {
-            PartsFault::Rule => 1,
-            PartsFault::Memory => 2,
-        }
-    }
-}
 
 /// What is wrong with a record of a module. (8080 Object Module Formats, and the rules of this project.)
 #[derive(Clone, Copy, PartialEq, Eq, Debug, Error)]

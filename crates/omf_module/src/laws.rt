@@ -1,13 +1,13 @@
-//! What holds of all modules that are made or written, whatever calls are made. Each law is ensured by a function that does
+//! What holds of all modules that are read or written, whatever calls are made. Each law is ensured by a function that does
 //! nothing: a layer above that calls it has the law in its proof.
 
-ghost use Rattle.omf_module.specs.Laws.{SegmentsAreKept, AbsoluteIsEmpty};
 ghost use Rattle.omf_module.specs.ReadingLaws.{OneModule, OneFault, NeverBoth, OneHeaderFault, SoundHeader, OneFile, OneFileFault, NeverBothFile};
 ghost use Rattle.omf_module.specs.UseLaws.{NoFaultExactlyWhereUsesAreThere};
 ghost use Rattle.omf_module.specs.WritingLaws.{WrittenModuleIsSpelled, WrittenFileIsSpelled};
 
 use omf_body::laws::{one_body, one_fault};
 use omf_core::laws::{no_fault_exactly_at_records, one_record_at_each_place, written_is_spelled};
+pub use omf_parts::laws::segments_are_kept;
 
 /// Bytes spell one module at a place at most, or have one first fault there, and never both.
 pub fn one_reading()
@@ -39,12 +39,6 @@ pub fn one_file_reading()
 /// there, and each record of fixups comes after a content.
 pub fn records_without_fault_keep_the_rules()
     ensures { NoFaultExactlyWhereUsesAreThere }
-{}
-
-/// A module that is made of parts has their segments, in whatever order they were listed; absolute bytes have no length.
-pub fn segments_are_kept()
-    ensures kept { SegmentsAreKept }
-    ensures absolute { AbsoluteIsEmpty }
 {}
 
 /// What is written of a module spells it, wherever it stands: it is read again as the same module.

@@ -1,10 +1,8 @@
 //! A content to which fixups may still come.
 
-use crate::content::Content;
 use crate::fault::Cause;
-use crate::fixup::{Fixup, Target};
-use crate::marks::{is_free, is_inside, mark, no_marks};
-use crate::parts::Parts;
+use omf_parts::marks::{is_free, is_inside, mark, no_marks};
+use omf_parts::{Content, Fixup, Parts, Target};
 use std::alloc::{AllocError, Global};
 use std::marker::Model;
 
@@ -19,11 +17,11 @@ pub(crate) struct Open<'a> {
 
 impl<'a> Model for Open<'a> {
     ghost use Rattle.std.specs.Prelude.{length};
-    ghost use Rattle.omf_module.specs.Contents.{ContentValue};
+    ghost use Rattle.omf_parts.specs.Contents.{ContentValue};
 
     ghost Value = { ContentValue };
 
-    ghost use Rattle.omf_module.specs.Marks.{IsMarked};
+    ghost use Rattle.omf_parts.specs.Marks.{IsMarked};
 
     ghost view = { λ o. record { segment = o.segment; offset = o.offset; bytes = o.bytes.now; fixups = o.fixups.items } };
 
@@ -32,7 +30,7 @@ impl<'a> Model for Open<'a> {
 
 impl<'a> Open<'a> {
     ghost use Rattle.std.specs.Prelude.{◌≡◌, ◌≢◌, List, [], ◌∷◌, None, Some, IfOk, IfErr, OnOk};
-    ghost use Rattle.omf_module.specs.Contents.{ContentValue};
+    ghost use Rattle.omf_parts.specs.Contents.{ContentValue};
     ghost use Rattle.omf_module.specs.Gathered.{with_fixups};
     ghost use Rattle.omf_module.specs.Uses.{fixup_fault, fixups_fault};
     ghost use Rattle.omf_module.specs.Reading.{with_contents};

@@ -8,7 +8,7 @@ ghost use Rattle.omf_module.specs.Uses.{fault_by, use_fault};
 ghost use Rattle.omf_module.specs.declared.fault.Cause.{Cause as CauseValue};
 ghost use Rattle.omf_module.specs.declared.fault.ModuleFault.{ModuleFault as ModuleFaultValue};
 ghost use Rattle.omf_module.specs.Fault.{no_memory};
-ghost use Rattle.omf_module.specs.Modules.{ModuleValue};
+ghost use Rattle.omf_parts.specs.Modules.{ModuleValue};
 ghost use Rattle.omf_module.specs.ReadingLaws.{Answers};
 ghost use Rattle.omf_module.specs.Spelled.{SpellsModule, FaultsHeader, FaultsModule, EndsFile, SpellsFile, FaultsFile};
 ghost use Rattle.omf_module.specs.Reading.{OrNoMemory, records_of};
@@ -17,14 +17,12 @@ use crate::commons::kept;
 use crate::fault::{Cause, ModuleFault};
 use crate::gathering::{externals_of, publics_of, segments_in};
 use crate::laws::{one_file_reading, one_reading};
-use crate::modules::Module;
-use crate::parts::Parts;
 use crate::records::{ModuleFile, PlacedBody};
-use crate::symbols::Common;
 use crate::uses::{contents_of, look_at_header, look_at_start};
 use crate::within::{header_at, records_at};
 use omf_body::{HeaderBody, Place};
 use omf_core::{RecordKind, next_record};
+use omf_parts::{Common, Module, Parts};
 use std::alloc::{AllocError, Global};
 
 /// The parts that records say, but for their contents.

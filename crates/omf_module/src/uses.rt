@@ -3,20 +3,18 @@
 ghost use Rattle.std.specs.Prelude.{◌≡◌, ◌≢◌, ◌++◌, List, [], ◌∷◌, None, Some, option_map, IfOk, IfErr, OnOk, map};
 ghost use Rattle.std.specs.Option.{option_to_list};
 ghost use Rattle.std.specs.Result.{result_err};
-ghost use Rattle.omf_module.specs.Contents.{ContentValue};
+ghost use Rattle.omf_parts.specs.Contents.{ContentValue};
 ghost use Rattle.omf_module.specs.Gathered.{content_after, contents_from, fixups_in, with_fixups};
 ghost use Rattle.omf_module.specs.Uses.{unknown_id, ids_in, place_fault, reference_fault, body_fault, bodies_fault};
 ghost use Rattle.omf_module.specs.Reading.{with_contents, TakesBody, OrNoMemory};
 
-use crate::content::Content;
 use crate::fault::{Cause, ModuleFault};
 use crate::gathering::fixups_in;
 use crate::open::Open;
-use crate::parts::Parts;
 use crate::records::PlacedBody;
-use crate::rules::{end_of, has_segment};
 use omf_body::segment_id::STACK;
 use omf_body::{Body, HeaderBody, Place};
+use omf_parts::{Content, Parts, end_of, has_segment};
 use std::alloc::{AllocError, Global};
 
 /// Whether the module has a segment of this id.

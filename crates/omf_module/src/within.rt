@@ -11,9 +11,9 @@ ghost use Rattle.omf_module.specs.Reading.{Follows, BeginsModule, ReadsWithin, O
 use crate::commons::take_commons;
 use crate::fault::{Cause, ModuleFault};
 use crate::records::{ModuleFile, PlacedBody, Within};
-use crate::symbols::Common;
 use omf_body::{Body, HeaderBody, parse};
 use omf_core::{RecordKind, next_record};
+use omf_parts::Common;
 use std::alloc::Global;
 
 /// The module header at a place, and the place after it. It takes no memory.

@@ -6,23 +6,19 @@ ghost use Rattle.omf_core.specs.Name.{is_name};
 ghost use Rattle.omf_core.specs.declared.fault.PutFault.TheVariants.{TooLong};
 ghost use Rattle.omf_body.specs.declared.body.Body.TheVariants.{ModuleHeader, ModuleEnd};
 ghost use Rattle.omf_body.specs.Bodies.{record_bytes};
-ghost use Rattle.omf_module.specs.Rules.{IsModule};
+ghost use Rattle.omf_parts.specs.Rules.{IsModule};
 ghost use Rattle.omf_module.specs.Spelled.{SpellsFile};
 ghost use Rattle.omf_module.specs.Writing.{segment_entry, header_body, common_body, public_body, external_body, fixup_body, content_bodies, place_of, end_body, module_bytes, file_bytes};
 ghost use Rattle.omf_module.specs.WritingLaws.{IsReadAgain};
 
-use crate::content::Content;
-use crate::fixup::{Fixup, Target};
 use crate::laws::{written_file_is_spelled, written_module_is_spelled};
-use crate::modules::Module;
-use crate::segment::Segment;
-use crate::symbols::{Common, Public};
 use omf_body::{
     ANY_BYTE, CommonEntry, ExternalEntry, IndexEntry, NameBytes, OffsetEntry, Place, PublicEntry,
     SegmentEntry, put_commons, put_content, put_end, put_external_references, put_externals,
     put_header, put_intersegment, put_publics, put_relocation,
 };
 use omf_core::{Name, PutFault, RecordKind, put_record};
+use omf_parts::{Common, Content, Fixup, Module, Public, Segment, Target};
 use std::alloc::{AllocError, Global};
 
 /// The alignment byte of a part that starts at a multiple of 256.

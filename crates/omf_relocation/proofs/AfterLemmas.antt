@@ -3,7 +3,7 @@ use Rattle.std.proofs.Common.{◌≡◌, Bool, true, false, List, [], ◌∷◌,
 use Rattle.std.specs.Prelude.{not, IsTrue}
 use Rattle.std.specs.List.{list_all, list_any}
 use Rattle.std.proofs.lemmas.Bool.{and_parts, and_from, or_parts}
-use Rattle.omf_module.specs.Rules.{each_after}
+use Rattle.omf_parts.specs.Rules.{each_after}
 
 -- what follows from the test holds of each item
 pub all_after : {A : Type 0} (test : List A → A → Bool) (holds : A → Bool) (before xs : List A) →

@@ -5,11 +5,11 @@ use Rattle.std.specs.List.{list_all, list_any}
 use Rattle.std.specs.Option.{option_map_or}
 use Rattle.std.specs.Cmp.Lexicographic.{pointwise}
 use Rattle.std.proofs.lemmas.Bool.{and_parts, cases_Bool, not_from_false}
-use Rattle.omf_module.specs.declared.symbols.Common.{Common}
-use Rattle.omf_module.specs.Segments.{is_common_id, names_common, segment_in}
-use Rattle.omf_module.specs.Modules.{ModuleValue}
+use Rattle.omf_parts.specs.declared.symbols.Common.{Common}
+use Rattle.omf_parts.specs.Segments.{is_common_id, names_common, segment_in}
+use Rattle.omf_parts.specs.Modules.{ModuleValue}
 use Rattle.omf_relocation.specs.Place.{word_of, common_name, is_laid_out, starts_from, part_start}
-use Rattle.omf_module.specs.Rules.{each_after, is_new_common}
+use Rattle.omf_parts.specs.Rules.{each_after, is_new_common}
 use Rattle.omf_relocation.proofs.AfterLemmas.{all_after_one, rest_after, none_at, not_true}
 
 -- a name is itself

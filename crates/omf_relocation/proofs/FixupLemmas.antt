@@ -4,14 +4,14 @@ use Rattle.std.specs.Prelude.{not, nat_le, nat_lt, ◌==◌, IsTrue}
 use Rattle.std.specs.List.{list_all, list_any}
 use Rattle.std.proofs.lemmas.Bool.{and_parts, and_from, not_from_false, or_parts}
 use Rattle.std.proofs.lemmas.Bool.Decides.{nat_tests}
-use Rattle.omf_module.specs.declared.segment.Segment.{Segment}
-use Rattle.omf_module.specs.declared.symbols.Common.{Common}
+use Rattle.omf_parts.specs.declared.segment.Segment.{Segment}
+use Rattle.omf_parts.specs.declared.symbols.Common.{Common}
 use Rattle.omf_body.specs.declared.field.Field.{Field}
 use Rattle.omf_body.specs.declared.field.Field.TheVariants.{Low, High, Both}
-use Rattle.omf_module.specs.declared.fixup.Fixup.{Fixup}
-use Rattle.omf_module.specs.Contents.{ContentValue, offsets_by, offsets_of, is_among, is_inside, is_taken, shares_a_byte}
+use Rattle.omf_parts.specs.declared.fixup.Fixup.{Fixup}
+use Rattle.omf_parts.specs.Contents.{ContentValue, offsets_by, offsets_of, is_among, is_inside, is_taken, shares_a_byte}
 use Rattle.omf_relocation.specs.Patches.{is_inside_bytes, are_inside, meets, are_apart}
-use Rattle.omf_module.specs.Rules.{each_after, is_fitting, has_target, is_in_bounds, is_content}
+use Rattle.omf_parts.specs.Rules.{each_after, is_fitting, has_target, is_in_bounds, is_content}
 use Rattle.omf_relocation.specs.SoundModules.{as_patch}
 use Rattle.omf_relocation.proofs.AfterLemmas.{all_after, all_after_one, rest_after, none_at, not_true}
 

@@ -10,7 +10,7 @@ use Rattle.std.proofs.lemmas.List.FromFn.{length-map-range_with_len, get_or-map-
 use Rattle.omf_body.specs.declared.field.Field.{Field}
 use Rattle.omf_body.specs.declared.field.Field.TheVariants.{Low, High, Both}
 use Rattle.omf_relocation.specs.declared.patching.Patch.{Patch}
-use Rattle.omf_module.specs.Contents.{offsets_by}
+use Rattle.omf_parts.specs.Contents.{offsets_by}
 use Rattle.omf_relocation.specs.Patches.{patches_at, word_in_bytes, patched, byte_with, with_patches, is_inside_bytes, are_inside, meets, are_apart}
 
 pub length-with_patches : (patches : List Patch) (bytes : List ℕ) → length (with_patches patches bytes) ≡ length bytes

@@ -4,12 +4,12 @@ use Rattle.std.specs.Prelude.{not, nat_eq, nat_le, ◌==◌, IsTrue}
 use Rattle.std.specs.List.{list_all, list_any, AllByRecursion}
 use Rattle.std.specs.Cmp.Lexicographic.{pointwise}
 use Rattle.std.proofs.lemmas.Bool.{and_parts, leb-true}
-use Rattle.omf_module.specs.declared.segment.Segment.{Segment}
-use Rattle.omf_module.specs.declared.symbols.Common.{Common}
-use Rattle.omf_module.specs.Contents.{ContentValue}
-use Rattle.omf_module.specs.Segments.{is_common_id, names_common, has_segment}
-use Rattle.omf_module.specs.Modules.{ModuleValue}
-use Rattle.omf_module.specs.Rules.{each_after, is_new_common, is_fitting, has_target, is_in_bounds, is_content, end_of, is_start, is_sound}
+use Rattle.omf_parts.specs.declared.segment.Segment.{Segment}
+use Rattle.omf_parts.specs.declared.symbols.Common.{Common}
+use Rattle.omf_parts.specs.Contents.{ContentValue}
+use Rattle.omf_parts.specs.Segments.{is_common_id, names_common, has_segment}
+use Rattle.omf_parts.specs.Modules.{ModuleValue}
+use Rattle.omf_parts.specs.Rules.{each_after, is_new_common, is_fitting, has_target, is_in_bounds, is_content, end_of, is_start, is_sound}
 use Rattle.omf_relocation.specs.SoundModules.{LiesIn, HasItsFixups, SoundModulesKeepRules}
 use Rattle.omf_relocation.proofs.FixupLemmas.{content_above, content_inside, content_apart, content_targets}
 use Rattle.omf_relocation.proofs.AfterLemmas.{all_after, not_true}

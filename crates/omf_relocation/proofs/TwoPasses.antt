@@ -6,7 +6,7 @@ use Rattle.std.proofs.Common.{◌∙◌, ap, sym, subst, arith, inl, inr, cond, 
 use Rattle.std.proofs.lemmas.Bool.{cases_Bool, and_parts, not-true, or_cases, ltb-true}
 use Rattle.omf_body.specs.declared.field.Field.{Field}
 use Rattle.omf_body.specs.declared.field.Field.TheVariants.{Low, High, Both}
-use Rattle.omf_module.specs.Contents.{offsets_by}
+use Rattle.omf_parts.specs.Contents.{offsets_by}
 use Rattle.omf_relocation.specs.declared.patching.Patch.{Patch}
 use Rattle.omf_relocation.specs.Patches.{patches_at, word_in_bytes, patched, byte_with, with_patches, is_inside_bytes, are_inside, meets, are_apart}
 use Rattle.omf_relocation.specs.PatchLaws.{patch_by, TwoWords, first_patch, second_patch, total_patch, AddsUp, TwoPassesAreOne}

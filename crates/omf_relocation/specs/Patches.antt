@@ -6,7 +6,7 @@ use Rattle.std.specs.Option.{option_map_or}
 use Rattle.omf_body.specs.declared.field.Field.{Field}
 use Rattle.omf_body.specs.declared.field.Field.TheVariants.{Low, High, Both}
 use Rattle.omf_relocation.specs.declared.patching.Patch.{Patch}
-use Rattle.omf_module.specs.Contents.{offsets_by}
+use Rattle.omf_parts.specs.Contents.{offsets_by}
 
 -- the patch has a byte at this place
 abbrev pub patches_at : ℕ → Patch → Bool

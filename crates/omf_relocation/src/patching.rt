@@ -3,7 +3,7 @@
 ghost use Rattle.std.specs.Prelude.{◌≡◌, IsTrue, length, [], ◌∷◌, ◌+◌, ◌*◌, ◌/◌, ◌%◌};
 ghost use Rattle.omf_relocation.specs.Patches.{with_patches, are_inside, are_apart, is_inside_bytes};
 
-use omf_module::Field;
+use omf_parts::Field;
 
 /// A word to be added to a byte or to two bytes at a place.
 #[derive(Clone, Copy, Debug, PartialEq, Eq)]

@@ -6,12 +6,12 @@ use Rattle.std.proofs.lemmas.Bool.{cases_Bool, or_parts}
 use Rattle.std.proofs.lemmas.Bool.Decides.{nat_tests}
 use Rattle.std.proofs.lemmas.List.FromFn.{length-map-range_with_len}
 use Rattle.std.proofs.lemmas.List.Elements.{All-nil, All-cons, All-head, All-tail, All-from_get_or, recursion_from_All}
-use Rattle.omf_module.specs.Contents.{ContentValue}
-use Rattle.omf_module.specs.Segments.{segment_in, has_segment, empty_segment}
-use Rattle.omf_module.specs.Modules.{ModuleValue}
+use Rattle.omf_parts.specs.Contents.{ContentValue}
+use Rattle.omf_parts.specs.Segments.{segment_in, has_segment, empty_segment}
+use Rattle.omf_parts.specs.Modules.{ModuleValue}
 use Rattle.omf_relocation.specs.Place.{place_in}
 use Rattle.omf_relocation.specs.ImageByte.{patch_of, ByteChunk, chunk_of, chunks_of}
-use Rattle.omf_module.specs.Rules.{end_of, is_sound}
+use Rattle.omf_parts.specs.Rules.{end_of, is_sound}
 use Rattle.omf_relocation.specs.declared.patching.Patch.{Patch}
 use Rattle.omf_relocation.specs.Patches.{byte_with, with_patches}
 use Rattle.omf_relocation.specs.SoundModules.{LiesIn}

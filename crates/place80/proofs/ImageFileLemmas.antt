@@ -4,11 +4,11 @@ use Rattle.std.specs.Prelude.{◌==◌, nat_le, not, if◌then◌else◌, IfErr}
 use Rattle.std.specs.List.{list_all, AllByRecursion}
 use Rattle.std.proofs.lemmas.Bool.{and_parts, le-leb, leb-true, eqb-true}
 use Rattle.omf_core.specs.Name.{is_name}
-use Rattle.omf_module.specs.declared.segment.Segment.{Segment}
-use Rattle.omf_module.specs.Contents.{ContentValue}
-use Rattle.omf_module.specs.Segments.{entries_for, listed_ids, in_one_form, has_segment}
-use Rattle.omf_module.specs.Modules.{ModuleValue, made_of}
-use Rattle.omf_module.specs.Rules.{IsModule, keeps_rules, is_content, is_in_bounds, is_fitting, is_start, each_after, is_new_common, end_of}
+use Rattle.omf_parts.specs.declared.segment.Segment.{Segment}
+use Rattle.omf_parts.specs.Contents.{ContentValue}
+use Rattle.omf_parts.specs.Segments.{entries_for, listed_ids, in_one_form, has_segment}
+use Rattle.omf_parts.specs.Modules.{ModuleValue, made_of}
+use Rattle.omf_parts.specs.Rules.{IsModule, keeps_rules, is_content, is_in_bounds, is_fitting, is_start, each_after, is_new_common, end_of}
 use Rattle.omf_module.specs.declared.fault.Cause.{Cause}
 use Rattle.omf_module.specs.declared.fault.Cause.TheVariants.{Record, NoHeader, UnknownKind, BadBody, BadName, SegmentUnknown, OffsetOutside, FixupBeforeContent, FixupOutside, FixupTwice, IndexUnknown, NoEnd, Memory}
 use Rattle.omf_module.specs.declared.fault.ModuleFault.{ModuleFault}

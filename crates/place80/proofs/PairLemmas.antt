@@ -2,7 +2,7 @@
 use Rattle.std.specs.Prelude.{◌≡◌, ℕ, suc, ◌+◌, ◌-◌, ◌==◌, ◌<◌, true, false, Option, Some, None, option_map, List, [], ◌∷◌, ◌++◌, map, filter, find, take, drop, length, refl, if◌then◌else◌}
 use Rattle.std.specs.Option.{option_or}
 use Rattle.std.proofs.Common.{cond, ◌∙◌, ap, sym, get_or, drop-cons, take_all, length-drop, arith}
-use Rattle.omf_module.specs.Contents.{ContentValue}
+use Rattle.omf_parts.specs.Contents.{ContentValue}
 use Rattle.place80.specs.declared.placed.Placed.{Placed}
 use Rattle.place80.specs.PlaceFault.{overlaps, first_over, ids_of, first_shared, pairs, absolute_place, absolute_places, with_each}
 

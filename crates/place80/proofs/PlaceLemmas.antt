@@ -3,11 +3,11 @@ use Rattle.std.proofs.Common.{◌≡◌, ℕ, ◌+◌, ◌%◌, true, false, con
 use Rattle.std.specs.Prelude.{◌==◌, IsTrue, if◌then◌else◌}
 use Rattle.std.proofs.lemmas.Bool.{cases_Bool}
 use Rattle.std.proofs.lemmas.Bool.Decides.{nat_tests}
-use Rattle.omf_module.specs.declared.symbols.Common.{Common}
-use Rattle.omf_module.specs.Segments.{is_fixed_id, names_common, has_segment}
-use Rattle.omf_module.specs.Modules.{ModuleValue}
+use Rattle.omf_parts.specs.declared.symbols.Common.{Common}
+use Rattle.omf_parts.specs.Segments.{is_fixed_id, names_common, has_segment}
+use Rattle.omf_parts.specs.Modules.{ModuleValue}
 use Rattle.omf_relocation.specs.Place.{word_of, common_name, base_of, part_start, place_in}
-use Rattle.omf_module.specs.Rules.{each_after, is_new_common}
+use Rattle.omf_parts.specs.Rules.{each_after, is_new_common}
 use Rattle.omf_relocation.specs.SoundModules.{SoundModulesKeepRules, CommonsByName, PartsOfOneStartAtZero}
 use Rattle.place80.specs.declared.placed.Placed.{Placed}
 use Rattle.place80.specs.Layout.{base_in, top_in, bases_of}

@@ -7,8 +7,8 @@ use Rattle.omf_core.specs.Name.{is_name}
 use Rattle.omf_module.specs.declared.fault.Cause.{Cause}
 use Rattle.omf_module.specs.declared.fault.Cause.TheVariants.{Memory as OutOfMemory}
 use Rattle.omf_module.specs.declared.fault.ModuleFault.{ModuleFault}
-use Rattle.omf_module.specs.Contents.{ContentValue}
-use Rattle.omf_module.specs.Modules.{ModuleValue}
+use Rattle.omf_parts.specs.Contents.{ContentValue}
+use Rattle.omf_parts.specs.Modules.{ModuleValue}
 use Rattle.omf_module.specs.Spelled.{SpellsFile, FaultsFile}
 use Rattle.omf_module.specs.Writing.{file_bytes}
 use Rattle.place80.specs.declared.image_fault.ImageFault.{ImageFault}

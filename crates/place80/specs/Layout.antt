@@ -3,10 +3,10 @@
 -- where no option gives one is this project's own.)
 use Rattle.std.specs.Prelude.{ℕ, ◌+◌, ◌%◌, ◌==◌, if◌then◌else◌, Option, None, unwrap_or, List, [], ◌∷◌, ◌++◌, filter, find, map}
 use Rattle.std.specs.List.{range_with_len}
-use Rattle.omf_module.specs.declared.symbols.Common.{Common}
-use Rattle.omf_module.specs.declared.segment.Segment.{Segment}
-use Rattle.omf_module.specs.Segments.{names_common, empty_segment}
-use Rattle.omf_module.specs.Modules.{ModuleValue, segment_of}
+use Rattle.omf_parts.specs.declared.symbols.Common.{Common}
+use Rattle.omf_parts.specs.declared.segment.Segment.{Segment}
+use Rattle.omf_parts.specs.Segments.{names_common, empty_segment}
+use Rattle.omf_parts.specs.Modules.{ModuleValue, segment_of}
 use Rattle.omf_relocation.specs.Place.{Bases, place_at, rounded}
 use Rattle.place80.specs.declared.options.Options.{Options}
 use Rattle.place80.specs.declared.placed.Placed.{Placed}

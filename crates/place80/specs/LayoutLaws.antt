@@ -2,8 +2,8 @@
 -- and that they fit. (ISIS-II User's Guide, LOCATE: the order of segments, their bases, and the sizes of STACK and MEMORY.)
 use Rattle.std.specs.Prelude.{◌≡◌, ◌↔◌, ℕ, ◌+◌, ◌≤◌, true, false, unwrap_or, None, List, [], ◌∷◌, map, length, All, AllPairs}
 use Rattle.std.specs.List.{AllByRecursion}
-use Rattle.omf_module.specs.Contents.{ContentValue}
-use Rattle.omf_module.specs.Modules.{ModuleValue}
+use Rattle.omf_parts.specs.Contents.{ContentValue}
+use Rattle.omf_parts.specs.Modules.{ModuleValue}
 use Rattle.omf_relocation.specs.Place.{rounded}
 use Rattle.place80.specs.declared.options.Options.{Options}
 use Rattle.place80.specs.declared.placed.Placed.{Placed}

@@ -2,9 +2,9 @@
 -- (ISIS-II User's Guide, LOCATE: an absolute module.)
 use Rattle.std.specs.Prelude.{ℕ, ◌≡◌, ◌+◌, ◌≤◌, ◌<◌, All, IsTrue, length, ◌%◌, ◌==◌, Bool, ◌||◌, not, None, List, [], ◌∷◌, filter, find, map}
 use Rattle.std.specs.List.{AllByRecursion}
-use Rattle.omf_module.specs.Modules.{ModuleValue}
-use Rattle.omf_module.specs.declared.fixup.Target.{Target}
-use Rattle.omf_module.specs.Contents.{ContentValue}
+use Rattle.omf_parts.specs.Modules.{ModuleValue}
+use Rattle.omf_parts.specs.declared.fixup.Target.{Target}
+use Rattle.omf_parts.specs.Contents.{ContentValue}
 use Rattle.omf_relocation.specs.Patches.{are_inside, are_apart}
 use Rattle.omf_relocation.specs.ImageByte.{word_to, patch_with, ByteChunk, chunk_at, chunks_of}
 use Rattle.image80.specs.declared.range.Range.{Range}

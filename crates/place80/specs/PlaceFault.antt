@@ -4,8 +4,8 @@
 use Rattle.std.specs.Prelude.{ℕ, ◌+◌, ◌==◌, Bool, ◌&&◌, ◌||◌, nat_lt, nat_le, if◌then◌else◌, Option, Some, None, is_none, option_and_then, option_map, List, [], ◌∷◌, ◌++◌, filter, find, map, length, slice_get}
 use Rattle.std.specs.List.{list_any, flat_map}
 use Rattle.std.specs.Option.{option_or}
-use Rattle.omf_module.specs.Contents.{ContentValue}
-use Rattle.omf_module.specs.Modules.{ModuleValue}
+use Rattle.omf_parts.specs.Contents.{ContentValue}
+use Rattle.omf_parts.specs.Modules.{ModuleValue}
 use Rattle.omf_relocation.specs.Place.{Bases, place_in}
 use Rattle.omf_relocation.specs.HighReferences.{any_loses_low_byte}
 use Rattle.place80.specs.declared.options.Options.{Options}

@@ -2,8 +2,8 @@
 -- (ISIS-II User's Guide: LINK, then LOCATE.)
 use Rattle.std.specs.Prelude.{◌≡◌, ℕ, false, None, List, [], ◌∷◌}
 use Rattle.std.specs.List.{AllByRecursion}
-use Rattle.omf_module.specs.Modules.{ModuleValue}
-use Rattle.omf_module.specs.Rules.{IsModule}
+use Rattle.omf_parts.specs.Modules.{ModuleValue}
+use Rattle.omf_parts.specs.Rules.{IsModule}
 use Rattle.omf_relocation.specs.HighReferences.{any_loses_low_byte}
 use Rattle.omf_relocation.specs.ImageByte.{image_byte}
 use Rattle.select80.specs.declared.chosen.Chosen.{Chosen}

@@ -6,7 +6,7 @@ use Rattle.std.proofs.lemmas.Bool.{cases_Bool, cases_lt, cases_order, or_parts, 
 use Rattle.std.proofs.lemmas.List.{get_or-drop}
 use Rattle.std.proofs.lemmas.List.Elements.{Contains-append_left, Contains-append_right, Contains-append_cases}
 use Rattle.std.proofs.lemmas.Option.{none-some, same_Some, slice_get_within}
-use Rattle.omf_module.specs.Modules.{ModuleValue}
+use Rattle.omf_parts.specs.Modules.{ModuleValue}
 use Rattle.omf_library.specs.Providers.{declares, first_provider}
 use Rattle.select80.specs.declared.chosen.Chosen.{Chosen}
 use Rattle.select80.specs.Selected.{module_at, IsBefore, IsFirstProvider, Needs, IsChosen, by_root, by_member, AreAscending}

@@ -1,6 +1,6 @@
 -- What a link takes is determined: two lists of all chosen places and of no others, both in ascending order, are the same.
 use Rattle.std.specs.Prelude.{◌≡◌, ◌↔◌, List, Contains}
-use Rattle.omf_module.specs.Modules.{ModuleValue}
+use Rattle.omf_parts.specs.Modules.{ModuleValue}
 use Rattle.select80.specs.declared.chosen.Chosen.{Chosen}
 use Rattle.select80.specs.Selected.{IsChosen, AreAscending}
 

@@ -7,7 +7,7 @@ ghost use Rattle.select80.specs.Selecting.{members, places_in, places_from, mark
 use crate::chosen::Chosen;
 use crate::row::Row;
 use omf_library::Library;
-use omf_module::Module;
+use omf_parts::Module;
 use std::alloc::{AllocError, Global};
 
 /// Marks on a row of modules, and the queue of the numbers that have one, in the order in which they got it.

@@ -1,8 +1,8 @@
 use Rattle.std.specs.Prelude.{◌≡◌, ◌+◌, ℕ, List, length, map}
 use Rattle.std.proofs.Common.{◌∙◌, ap, sym, subst, arith, IsTrue}
 use Rattle.std.proofs.lemmas.Option.{slice_get_within}
-use Rattle.omf_module.specs.Contents.{ContentValue}
-use Rattle.omf_module.specs.Modules.{ModuleValue}
+use Rattle.omf_parts.specs.Contents.{ContentValue}
+use Rattle.omf_parts.specs.Modules.{ModuleValue}
 use Rattle.omf_relocation.specs.declared.patching.Patch.{Patch}
 use Rattle.omf_relocation.specs.Patches.{are_inside, are_apart, with_patches}
 use Rattle.omf_relocation.specs.Place.{part_start}

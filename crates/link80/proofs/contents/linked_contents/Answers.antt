@@ -2,8 +2,8 @@ use Rattle.std.specs.Prelude.{◌++◌, ◌+◌, List, map, drop, slice_get, len
 use Rattle.std.specs.List.{flat_map, enumerate_from}
 use Rattle.std.proofs.lemmas.Option.{slice_get_within}
 use Rattle.std.proofs.Common.{◌∙◌, ap, sym, arith}
-use Rattle.omf_module.specs.Modules.{ModuleValue}
-use Rattle.omf_module.specs.Rules.{IsModule}
+use Rattle.omf_parts.specs.Modules.{ModuleValue}
+use Rattle.omf_parts.specs.Rules.{IsModule}
 use Rattle.link80.specs.Linked.{linked_content}
 use Rattle.link80.proofs.LoopLemmas.{more_numbered, one_further, holds_of_all}
 use Rattle.link80.proofs.contents.linked_contents.Goals as goal

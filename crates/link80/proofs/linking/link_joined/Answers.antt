@@ -2,7 +2,7 @@ use Rattle.std.specs.Prelude.{◌≡◌, None}
 use Rattle.std.specs.List.{AllByRecursion}
 use Rattle.std.proofs.Common.{◌∙◌, ap, sym, subst, IsTrue, true≢false}
 use Rattle.std.proofs.lemmas.Result.{err_from_is_err_and}
-use Rattle.omf_module.specs.Rules.{IsModule, keeps_rules}
+use Rattle.omf_parts.specs.Rules.{IsModule, keeps_rules}
 use Rattle.link80.specs.Linked.{linked_parts}
 use Rattle.link80.specs.LinkFault.{link_fault}
 use Rattle.link80.proofs.linking.link_joined.Goals as goal

@@ -2,8 +2,8 @@ use Rattle.std.specs.Prelude.{◌≡◌, ◌≢◌, List, true, false, Some, Non
 use Rattle.std.specs.List.{AllByRecursion}
 use Rattle.std.proofs.Common.{◌∙◌, ap, sym, subst}
 use Rattle.std.proofs.lemmas.Result.{err_from_is_err_and}
-use Rattle.omf_module.specs.Modules.{ModuleValue}
-use Rattle.omf_module.specs.Rules.{IsModule}
+use Rattle.omf_parts.specs.Modules.{ModuleValue}
+use Rattle.omf_parts.specs.Rules.{IsModule}
 use Rattle.link80.specs.declared.fault.LinkFault.TheVariants.{Memory}
 use Rattle.link80.specs.Linked.{linked, unresolved}
 use Rattle.link80.specs.LinkFault.{two_mains, too_many_externals, link_fault}

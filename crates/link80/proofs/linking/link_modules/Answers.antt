@@ -1,9 +1,9 @@
 use Rattle.std.specs.Prelude.{◌≡◌, ◌≢◌, List, Some, None, map, IfOk, IfErr, OnOk}
 use Rattle.std.specs.List.{AllByRecursion}
 use Rattle.std.proofs.Common.{◌∙◌, ap, sym, subst}
-use Rattle.omf_module.specs.declared.symbols.Public.{Public}
-use Rattle.omf_module.specs.Modules.{ModuleValue}
-use Rattle.omf_module.specs.Rules.{IsModule}
+use Rattle.omf_parts.specs.declared.symbols.Public.{Public}
+use Rattle.omf_parts.specs.Modules.{ModuleValue}
+use Rattle.omf_parts.specs.Rules.{IsModule}
 use Rattle.link80.specs.declared.fault.LinkFault.TheVariants.{Memory}
 use Rattle.link80.specs.Linked.{linked, linked_publics, unresolved}
 use Rattle.link80.specs.LinkFault.{duplicate_public, segment_too_long, link_fault}

@@ -1,5 +1,5 @@
 use Rattle.std.proofs.Common.{List, sym, subst, arith}
-use Rattle.omf_module.specs.Modules.{ModuleValue}
+use Rattle.omf_parts.specs.Modules.{ModuleValue}
 use Rattle.omf_module.specs.Spelled.{SpellsModules}
 use Rattle.omf_library.proofs.ReadingLemmas.{module_further, modules_push}
 use Rattle.omf_library.proofs.reading.modules_from.Goals as goal

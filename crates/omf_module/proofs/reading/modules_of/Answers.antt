@@ -1,7 +1,7 @@
 use Rattle.std.proofs.Common.{rules, ◌≡◌, ◌++◌, ◌∷◌, [], List, sym, subst, arith}
 use Rattle.std.proofs.lemmas.Result.{err_from_is_err_and}
 use Rattle.omf_module.specs.declared.fault.Cause.TheVariants.{NoEnd}
-use Rattle.omf_module.specs.Modules.{ModuleValue}
+use Rattle.omf_parts.specs.Modules.{ModuleValue}
 use Rattle.omf_module.specs.Spelled.{FaultsFile}
 use Rattle.omf_module.proofs.WithinLemmas.{by_cause}
 use Rattle.omf_module.proofs.FileLemmas.{FileSoFar, module_further, more_modules, file_unended, first_fault, later_fault}

@@ -1,6 +1,6 @@
 use Rattle.std.proofs.Common.{◌≡◌, subst, List, None, Some}
 use Rattle.std.proofs.lemmas.Result.{err_from_is_err_and}
-use Rattle.omf_module.specs.Contents.{ContentValue}
+use Rattle.omf_parts.specs.Contents.{ContentValue}
 use Rattle.omf_module.specs.Records.{ModuleRecords}
 use Rattle.omf_module.specs.declared.records.PlacedBody.{PlacedBody}
 use Rattle.omf_module.specs.Uses.{bodies_fault}

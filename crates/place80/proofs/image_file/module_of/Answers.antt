@@ -1,6 +1,6 @@
 use Rattle.std.proofs.Common.{ap, sym, ◌∙◌}
-use Rattle.omf_module.specs.Modules.{made_of}
-use Rattle.omf_module.specs.Rules.{keeps_rules}
+use Rattle.omf_parts.specs.Modules.{made_of}
+use Rattle.omf_parts.specs.Rules.{keeps_rules}
 use Rattle.place80.proofs.ImageFileLemmas.{made_as_it_is, no_rule_broken}
 use Rattle.place80.proofs.image_file.module_of.Goals as goal
 

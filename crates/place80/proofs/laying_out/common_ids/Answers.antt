@@ -3,7 +3,7 @@ use Rattle.std.specs.Prelude.{filter}
 use Rattle.std.specs.List.{range_with_len}
 use Rattle.std.proofs.lemmas.List.{append-nil}
 use Rattle.std.specs.Global.{Vec}
-use Rattle.omf_module.specs.Segments.{names_common}
+use Rattle.omf_parts.specs.Segments.{names_common}
 use Rattle.place80.proofs.PlacingLemmas.{from_first_id, ids_step, ids_end, with_id, without_id}
 use Rattle.place80.proofs.laying_out.common_ids.Goals as goal
 use Rattle.place80.proofs.laying_out.common_ids.Goals.{then-names_common+in_ok-push, else-names_common}

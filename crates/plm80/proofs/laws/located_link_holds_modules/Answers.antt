@@ -1,5 +1,5 @@
 use Rattle.std.proofs.Common.{◌∙◌, ◌∷◌, [], ap, sym}
-use Rattle.omf_module.specs.Modules.{ModuleValue}
+use Rattle.omf_parts.specs.Modules.{ModuleValue}
 use Rattle.omf_relocation.specs.HighReferences.{any_loses_low_byte}
 use Rattle.omf_relocation.specs.ImageByte.{image_byte}
 use Rattle.link80.specs.Selection.{modules_with}

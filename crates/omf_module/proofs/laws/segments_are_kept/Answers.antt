@@ -1,5 +1,0 @@
-use Rattle.omf_module.proofs.OneForm.{segments_kept, absolute_empty}
-use Rattle.omf_module.proofs.laws.segments_are_kept.Goals as goal
-
-pub returns : goal.returns
-returns c = record { kept = segments_kept; absolute = absolute_empty }

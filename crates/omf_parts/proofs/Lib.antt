@@ -1,0 +1,5 @@
+pub mod RuleLemmas
+pub mod ListingLemmas
+pub mod MarkLemmas
+pub mod OneForm
+pub mod ShortLemmas

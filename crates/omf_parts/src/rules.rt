@@ -1,0 +1,139 @@
+//! The rules of a module, tested.
+
+ghost use Rattle.std.specs.Prelude.{◌≡◌, ℕ, ◌+◌, length, IfOk};
+ghost use Rattle.std.specs.List.{list_all};
+ghost use Rattle.omf_parts.specs.Segments.{names_common, has_segment, segment_in};
+ghost use Rattle.omf_parts.specs.Rules.{end_of, is_in_bounds, has_fitting, is_start, keeps_rules_but_for_fixups, keeps_fixup_rules};
+
+use crate::content::Content;
+use crate::distinct::{are_commons, are_entries};
+use crate::marks::are_fitting;
+use crate::parts::Parts;
+use crate::segment::Segment;
+use crate::symbols::{Common, Public};
+use omf_body::segment_id::{ABSOLUTE, MEMORY, STACK, UNNAMED_COMMON};
+use std::alloc::{AllocError, Global};
+
+/// How many bytes one content record carries.
+const LONGEST_CONTENT: usize = 65531;
+
+/// Whether one of the commons has this id. It takes no memory.
+pub fn names_common(commons: &[Common], id: u8) -> bool
+    ensures { result ≡ names_common commons.now id }
+{
+    commons.iter().any(|c| c.id == id)
+}
+
+/// Whether the id is one of a segment that the module has.
+pub fn has_segment(commons: &[Common], id: u8) -> bool
+    ensures { result ≡ has_segment commons.now id }
+{
+    id <= MEMORY || id == UNNAMED_COMMON || names_common(commons, id)
+}
+
+/// The listed segment of this id, and an empty one where none is listed.
+pub(crate) fn segment_in(entries: &[(u8, Segment)], id: u8) -> Segment
+    ensures { result ≡ segment_in entries.now id }
+{
+    for entry in entries {
+        if entry.0 == id {
+            return entry.1;
+        }
+    }
+    Segment {
+        length: 0,
+        paged: false,
+    }
+}
+
+/// The end of a segment: its length, and for absolute bytes the end of memory.
+pub fn end_of(segments: &[(u8, Segment)], id: u8) -> usize
+    ensures { result ≡ end_of segments.now id }
+{
+    if id == ABSOLUTE {
+        65536
+    } else {
+        segment_in(segments, id).length as usize
+    }
+}
+
+fn is_in_bounds(segments: &[(u8, Segment)], commons: &[Common], content: &Content) -> bool
+    ensures { result ≡ is_in_bounds segments.now commons.now content.now }
+{
+    has_segment(commons, content.segment)
+        && content.segment != STACK
+        && content.bytes.len() <= LONGEST_CONTENT
+        && content.offset as usize + content.bytes.len() <= end_of(segments, content.segment)
+}
+
+/// Whether each content lies where it may.
+fn are_in_bounds(segments: &[(u8, Segment)], commons: &[Common], contents: &[Content]) -> bool
+    ensures { result ≡ list_all (is_in_bounds segments.now commons.now) contents.now }
+{
+    contents.iter().all(|c| is_in_bounds(segments, commons, c))
+}
+
+fn are_publics(commons: &[Common], publics: &[Public]) -> bool
+    ensures { result ≡ list_all (λ p. has_segment commons.now p.segment) publics.now }
+{
+    publics.iter().all(|p| has_segment(commons, p.segment))
+}
+
+fn is_start(commons: &[Common], start: Option<(u8, u16)>) -> bool
+    ensures { result ≡ is_start commons.now start }
+{
+    match start {
+        None => true,
+        Some(place) => has_segment(commons, place.0),
+    }
+}
+
+/// Whether the parts keep the rules that don't speak of references. It takes no memory.
+pub(crate) fn keeps_rules_but_for_fixups(parts: &Parts) -> bool
+    ensures { result ≡ keeps_rules_but_for_fixups parts.now }
+{
+    let commons = parts.commons.as_slice();
+    let segments = parts.segments.as_slice();
+    are_entries(commons, segments)
+        && are_commons(commons)
+        && are_publics(commons, &parts.publics)
+        && are_in_bounds(segments, commons, &parts.contents)
+        && is_start(commons, parts.start)
+}
+
+/// Whether the references of each content lie inside it, share no byte, and are to what is there.
+fn have_fitting(
+    alloc: Global,
+    commons: &[Common],
+    externals: usize,
+    contents: &[Content],
+) -> Result<bool, AllocError>
+    ensures { IfOk result (λ kept. kept ≡ list_all (has_fitting commons.now externals) contents.now) }
+{
+    for content in contents {
+        let size = content.bytes.len();
+        if !are_fitting(
+            alloc,
+            commons,
+            externals,
+            content.offset,
+            size,
+            &content.fixups,
+        )? {
+            return Ok(false);
+        }
+    }
+    Ok(true)
+}
+
+/// Whether the parts keep the rules of references.
+pub(crate) fn keeps_fixup_rules(alloc: Global, parts: &Parts) -> Result<bool, AllocError>
+    ensures { IfOk result (λ kept. kept ≡ keeps_fixup_rules parts.now) }
+{
+    have_fitting(
+        alloc,
+        &parts.commons,
+        parts.externals.len(),
+        &parts.contents,
+    )
+}
