@@ -86,21 +86,14 @@ fn put_copy(alloc: Global, source: &Module, out: &mut Vec<u8>) -> Result<(), All
     write_module(alloc, &copy, out)
 }
 
-/// The place after the first module of the worked file, its start, its CODE, and the bytes that are written for a copy.
-fn read_and_copied(
-    alloc: Global,
-) -> Result<(usize, Option<(u8, u16)>, Option<Segment>, Vec<u8>), Fail> {
-    let (module, after) = read_module(alloc, &HALT, 0)?;
-    let mut out = Vec::new(alloc);
-    put_copy(alloc, &module, &mut out)?;
-    Ok((after, module.start(), module.segment(1), out))
-}
-
 #[test]
 fn a_module_is_read_and_copied(rt: HostRuntime) -> Result<(), Fail> {
-    let (after, start, code, out) = read_and_copied(rt.alloc())?;
-    assert!(rt; after == 28 && start == Some((1, 0)) && code == Some(ONE.1));
-    assert!(rt; out.as_slice() == &HALT[..28]);
+    let mut out = Vec::new(rt.alloc());
+    let (module, after) = read_module(rt.alloc(), &HALT, 0)?;
+    assert_eq!(rt; module.start(), Some((1, 0)));
+    assert_eq!(rt; after, 28);
+    assert_eq!(rt; put_copy(rt.alloc(), &module, &mut out), Ok(()));
+    assert!(rt; module.segment(1) == Some(ONE.1) && out.as_slice() == &HALT[..28]);
     Ok(())
 }
 
