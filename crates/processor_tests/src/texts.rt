@@ -52,3 +52,16 @@ fn a_refused_growth_leaves_the_text_as_it_was(rt: HostRuntime) {
         assert!(rt; out.len() >= before && out.len() - before == grown);
     }
 }
+
+/// An instruction is shown by its mnemonic and the bytes that the manual gives it.
+#[test]
+fn instructions_as_shown(rt: HostRuntime) -> Result<(), Fail> {
+    let shown = format!(in rt.alloc();
+        "{:?}, {:?}, {:?}",
+        Instr::Mvi(Register::B, 0xA5),
+        Instr::Jmp(0x3012),
+        Instr::Nop
+    )?;
+    assert!(rt; shown.as_str() == "MVI 06 A5, JMP C3 12 30, NOP 00");
+    Ok(())
+}
