@@ -1,12 +1,17 @@
 //! What an instruction does to the processor and its memory.
 
-ghost use Rattle.std.specs.Prelude.{◌≡◌, OnSome, IfNone, OnOk, OnErr, IfOk};
+ghost use Rattle.std.specs.Prelude.{◌≡◌, ℕ, ◌∷◌, [], ◌/◌, ◌%◌, None, OnSome, IfNone, OnOk, OnErr, IfOk};
 ghost use Rattle.std.specs.Result.{result_err};
-ghost use Rattle.machine80.specs.Effects.{target, changed, computed, operand_of, stores, stored};
-ghost use Rattle.machine80.specs.Kinds.{IsPlain};
-ghost use Rattle.machine80.specs.Step.{guard};
+ghost use Rattle.decode80.specs.Fetch.{behind};
+ghost use Rattle.image80.specs.Range.{in_range};
+ghost use Rattle.image80.specs.Regions.{in_data};
+ghost use Rattle.machine80.specs.declared.end.End.TheVariants.{Stack, StoreOutside};
+ghost use Rattle.machine80.specs.Cpu.{hl_of};
+ghost use Rattle.machine80.specs.Effects.{target, changed, computed, operand_of, stores, stored, pushed_bytes, push_bytes, with_flags};
+ghost use Rattle.machine80.specs.Kinds.{IsPlain, IsStraight};
+ghost use Rattle.machine80.specs.Step.{guard, first_outside, ends_at};
 
-use crate::alu;
+use crate::alu::{self, Answer};
 use crate::bus::Bus;
 use crate::cpu::Cpu;
 use crate::end::End;
@@ -125,70 +130,93 @@ fn go_on<B: Bus>(
         Instr::Jmp(address) => Ok(address),
         Instr::JumpIf(condition, address) if condition_holds(condition, r.flags) => Ok(address),
         Instr::Pchl => Ok(r.hl()),
-        Instr::Call(address) => {
-            push_place(next, cpu, bus, regions)?;
-            Ok(address)
-        }
+        Instr::Call(address) => call(address, next, cpu, bus, regions),
         Instr::CallIf(condition, address) if condition_holds(condition, r.flags) => {
-            push_place(next, cpu, bus, regions)?;
-            Ok(address)
+            call(address, next, cpu, bus, regions)
         }
-        Instr::Rst(number) => {
-            push_place(next, cpu, bus, regions)?;
-            Ok(number.address())
-        }
+        Instr::Rst(number) => call(number.address(), next, cpu, bus, regions),
         Instr::Ret => pop_place(cpu, bus, regions),
         Instr::ReturnIf(condition) if condition_holds(condition, r.flags) => {
             pop_place(cpu, bus, regions)
         }
         Instr::JumpIf(..) | Instr::CallIf(..) | Instr::ReturnIf(_) => Ok(next),
-        Instr::Push(pair) => {
-            push_pair(pair, cpu, bus, regions)?;
-            Ok(next)
-        }
-        Instr::Pop(pair) => {
-            pop_pair(pair, cpu, bus, regions)?;
-            Ok(next)
-        }
-        Instr::Xthl => {
-            exchange(cpu, bus, regions)?;
-            Ok(next)
-        }
-        Instr::Sta(address) => {
-            store_direct(address, r.a, bus, regions)?;
-            Ok(next)
-        }
-        Instr::Shld(address) => {
-            store_word(address, r.l, r.h, bus, regions)?;
-            Ok(next)
-        }
-        Instr::Store(from) => {
-            store_byte(r.hl(), r.value(from), bus, regions)?;
-            Ok(next)
-        }
-        Instr::MviMemory(byte) => {
-            store_byte(r.hl(), byte, bus, regions)?;
-            Ok(next)
-        }
-        Instr::Stax(pair) => {
-            store_byte(r.index_pair(pair), r.a, bus, regions)?;
-            Ok(next)
-        }
-        Instr::InrMemory => {
-            let more = alu::increment(bus.load(r.hl()), r.flags);
-            store_byte(r.hl(), more.value, bus, regions)?;
-            cpu.registers.flags = more.flags;
-            Ok(next)
-        }
-        Instr::DcrMemory => {
-            let less = alu::decrement(bus.load(r.hl()), r.flags);
-            store_byte(r.hl(), less.value, bus, regions)?;
-            cpu.registers.flags = less.flags;
-            Ok(next)
-        }
-        plain => {
-            change(plain, cpu, bus);
+        straight => {
+            go_straight(straight, cpu, bus, regions)?;
             Ok(next)
         }
     }
+}
+
+/// A call pushes the address that it comes back to, and goes to another.
+#[inline]
+fn call<B: Bus>(
+    address: u16,
+    back: u16,
+    cpu: &mut Cpu,
+    bus: &mut B,
+    regions: &Regions,
+) -> Result<u16, End>
+    ensures end { result_err result ≡ ends_at (first_outside (in_range regions.now.stack) (pushed_bytes cpu.old.sp)) Stack None }
+    ensures kept { OnErr result ((cpu.new ≡ cpu.old) × (B.memory bus.new ≡ B.memory bus.old)) }
+    ensures target { IfOk result (λ to. to ≡ address) }
+    ensures cpu { OnOk result (cpu.new ≡ record cpu.old { sp = behind cpu.old.sp 2 }) }
+    ensures memory { OnOk result (B.memory bus.new ≡ stored (B.memory bus.old) (push_bytes cpu.old.sp (back / 256) (back % 256))) }
+{
+    push_place(back, cpu, bus, regions)?;
+    Ok(address)
+}
+
+/// What an instruction does that goes on after itself.
+#[inline]
+fn go_straight<B: Bus>(
+    instr: Instr,
+    cpu: &mut Cpu,
+    bus: &mut B,
+    regions: &Regions,
+) -> Result<(), End>
+    requires { IsStraight instr }
+    ensures end { result_err result ≡ guard regions.now instr cpu.old }
+    ensures kept { OnErr result ((cpu.new ≡ cpu.old) × (B.memory bus.new ≡ B.memory bus.old)) }
+    ensures cpu { OnOk result (cpu.new ≡ changed instr (B.memory bus.old) cpu.old) }
+    ensures memory { (next : ℕ) → OnOk result (B.memory bus.new ≡ stored (B.memory bus.old) (stores instr next (B.memory bus.old) cpu.old)) }
+{
+    let r = cpu.registers;
+    match instr {
+        Instr::Push(pair) => push_pair(pair, cpu, bus, regions),
+        Instr::Pop(pair) => pop_pair(pair, cpu, bus, regions),
+        Instr::Xthl => exchange(cpu, bus, regions),
+        Instr::Sta(address) => store_direct(address, r.a, bus, regions),
+        Instr::Shld(address) => store_word(address, r.l, r.h, bus, regions),
+        Instr::Store(from) => store_byte(r.hl(), r.value(from), bus, regions),
+        Instr::MviMemory(byte) => store_byte(r.hl(), byte, bus, regions),
+        Instr::Stax(pair) => store_byte(r.index_pair(pair), r.a, bus, regions),
+        Instr::InrMemory => {
+            store_answer(alu::increment(bus.load(r.hl()), r.flags), cpu, bus, regions)
+        }
+        Instr::DcrMemory => {
+            store_answer(alu::decrement(bus.load(r.hl()), r.flags), cpu, bus, regions)
+        }
+        plain => {
+            change(plain, cpu, bus);
+            Ok(())
+        }
+    }
+}
+
+/// INR M and DCR M: the byte that HL points to, and the flags.
+#[inline]
+fn store_answer<B: Bus>(
+    answer: Answer,
+    cpu: &mut Cpu,
+    bus: &mut B,
+    regions: &Regions,
+) -> Result<(), End>
+    ensures end { result_err result ≡ ends_at (first_outside (in_data regions.now) (hl_of cpu.old.registers ∷ [])) StoreOutside None }
+    ensures kept { OnErr result ((cpu.new ≡ cpu.old) × (B.memory bus.new ≡ B.memory bus.old)) }
+    ensures cpu { OnOk result (cpu.new ≡ with_flags cpu.old answer) }
+    ensures memory { OnOk result (B.memory bus.new ≡ stored (B.memory bus.old) ((hl_of cpu.old.registers, answer.value) ∷ [])) }
+{
+    store_byte(cpu.registers.hl(), answer.value, bus, regions)?;
+    cpu.registers.flags = answer.flags;
+    Ok(())
 }
