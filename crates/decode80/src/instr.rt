@@ -1,5 +1,11 @@
 //! The instructions.
 
+ghost use Rattle.std.specs.Prelude.{nat_eq};
+ghost use Rattle.std.specs.Cmp.{partial_equiv_from_equiv};
+ghost use Rattle.std.specs.Cmp.Lexicographic.{pointwise, on_texts_equal};
+ghost use Rattle.std.specs.Ordering.{on};
+ghost use Rattle.decode80.specs.Spelling.{written};
+
 use crate::condition::Condition;
 use crate::encoding::encode;
 use crate::mnemonics::mnemonic_of;
@@ -14,7 +20,7 @@ use std::fmt;
 ///
 /// A byte operand is the byte after the opcode; a word operand is the two bytes after it, low byte first. There is no
 /// value for a move from memory to memory: that opcode is HLT.
-#[derive(Clone, Copy, PartialEq, Eq)]
+#[derive(Clone, Copy)]
 pub enum Instr {
     /// MOV r,s: to the first register from the second.
     Mov(Register, Register),
@@ -104,6 +110,21 @@ pub enum Instr {
     Nop,
     /// HLT.
     Hlt,
+}
+
+/// Instructions are equal where they are written with the same bytes: no two of them are.
+impl PartialEq for Instr {
+    ghost eq = { on written (pointwise nat_eq) };
+
+    ghost laws = { partial_equiv_from_equiv (on_texts_equal written) };
+
+    fn eq(&self, other: &Instr) -> bool {
+        encode(*self).0 == encode(*other).0
+    }
+}
+
+impl Eq for Instr {
+    ghost laws = { on_texts_equal written };
 }
 
 /// An instruction is shown by its mnemonic and its bytes: `MVI 06 A5`.

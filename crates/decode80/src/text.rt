@@ -1,7 +1,7 @@
 //! From an instruction to its text.
 
-ghost use Rattle.std.specs.Prelude.{◌≡◌, ◌+◌, ◌<◌, ◌≤◌, ◌++◌, OnOk, OnErr, codes, length, take, vec_len, vec_capacity};
-ghost use Rattle.decode80.specs.Text.{joined, mnemonic, operand_texts, text};
+ghost use Rattle.std.specs.Prelude.{◌≡◌, ◌+◌, ◌<◌, ◌≤◌, ◌++◌, [], OnOk, OnErr, codes, drop, length, take, vec_len, vec_capacity};
+ghost use Rattle.decode80.specs.Text.{joined, mnemonic, operand_text, operand_texts, text};
 
 use crate::digits::{byte_digits, digit, word_digits};
 use crate::instr::Instr;
@@ -58,21 +58,65 @@ fn append_operands(instr: Instr, out: &mut Vec<u8>) -> Result<(), AllocError>
         Instr::Mvi(to, byte) => append_two(to.text(), &byte_digits(byte), out),
         Instr::MviMemory(byte) => append_two(b"M", &byte_digits(byte), out),
         Instr::Lxi(pair, word) => append_two(pair.text(), &word_digits(word), out),
-        Instr::Dad(pair) | Instr::Inx(pair) | Instr::Dcx(pair) => append_one(pair.text(), out),
+        single => append_operand(single, out),
+    }
+}
+
+// Appends the operand of an instruction that has one at most.
+fn append_operand(instr: Instr, out: &mut Vec<u8>) -> Result<(), AllocError>
+    requires { drop 1 (operand_texts instr) ≡ [] }
+    ensures ok { OnOk result (out.new.items ≡ out.old.items ++ joined (operand_texts instr)) }
+    ensures err { OnErr result (take (vec_len out.old) out.new.items ≡ out.old.items) }
+    ensures full { OnErr result (vec_capacity out.old < vec_len out.old + length (joined (operand_texts instr))) }
+    ensures capacity { vec_capacity out.old ≤ vec_capacity out.new }
+{
+    match instr {
         Instr::Inr(register) | Instr::Dcr(register) => append_one(register.text(), out),
         Instr::InrMemory | Instr::DcrMemory => append_one(b"M", out),
-        Instr::Operate(_, Operand::Register(from)) => append_one(from.text(), out),
-        Instr::Operate(_, Operand::Memory) => append_one(b"M", out),
-        Instr::Operate(_, Operand::Immediate(byte)) => append_one(&byte_digits(byte), out),
-        Instr::Jmp(word) | Instr::JumpIf(_, word) => append_one(&word_digits(word), out),
-        Instr::Call(word) | Instr::CallIf(_, word) => append_one(&word_digits(word), out),
-        Instr::Rst(number) => append_one(&digit(number.code()), out),
+        Instr::Operate(_, operand) => append_value(operand, out),
+        Instr::Dad(pair) | Instr::Inx(pair) | Instr::Dcx(pair) => append_one(pair.text(), out),
         Instr::Push(pair) | Instr::Pop(pair) => append_one(pair.text(), out),
         Instr::Stax(pair) | Instr::Ldax(pair) => append_one(pair.text(), out),
-        Instr::Shld(word) | Instr::Lhld(word) => append_one(&word_digits(word), out),
-        Instr::Sta(word) | Instr::Lda(word) => append_one(&word_digits(word), out),
         Instr::In(port) | Instr::Out(port) => append_one(&byte_digits(port), out),
-        _ => Ok(()),
+        Instr::Jmp(word)
+        | Instr::JumpIf(_, word)
+        | Instr::Call(word)
+        | Instr::CallIf(_, word)
+        | Instr::Shld(word)
+        | Instr::Lhld(word)
+        | Instr::Sta(word)
+        | Instr::Lda(word) => append_one(&word_digits(word), out),
+        Instr::Rst(number) => append_one(&digit(number.code()), out),
+        Instr::Ret
+        | Instr::ReturnIf(_)
+        | Instr::Rotate(_)
+        | Instr::Daa
+        | Instr::Cma
+        | Instr::Stc
+        | Instr::Cmc
+        | Instr::Xthl
+        | Instr::Pchl
+        | Instr::Xchg
+        | Instr::Sphl
+        | Instr::Ei
+        | Instr::Di
+        | Instr::Nop
+        | Instr::Hlt => Ok(()),
+        _ => unreachable!(),
+    }
+}
+
+// Appends a space and the second value of an operation.
+fn append_value(operand: Operand, out: &mut Vec<u8>) -> Result<(), AllocError>
+    ensures ok { OnOk result (out.new.items ≡ out.old.items ++ (codes " " ++ operand_text operand)) }
+    ensures err { OnErr result (take (vec_len out.old) out.new.items ≡ out.old.items) }
+    ensures full { OnErr result (vec_capacity out.old < vec_len out.old + length (codes " " ++ operand_text operand)) }
+    ensures capacity { vec_capacity out.old ≤ vec_capacity out.new }
+{
+    match operand {
+        Operand::Register(register) => append_one(register.text(), out),
+        Operand::Memory => append_one(b"M", out),
+        Operand::Immediate(byte) => append_one(&byte_digits(byte), out),
     }
 }
 
