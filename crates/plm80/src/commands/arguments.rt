@@ -6,6 +6,7 @@ use crate::commands::linking::{LINK, LinkArguments};
 use crate::commands::listing::{LIST, ListArguments};
 use crate::commands::locating::{LOCATE, LocateArguments};
 use crate::commands::running::{RUN, RunArguments};
+use crate::commands::syntax::Syntax;
 use clap::error::ErrorKind;
 use clap::{ArgMatches, Command, Error};
 use std::alloc::{AllocError, Global};
@@ -38,8 +39,11 @@ Example: plm80 locate readings.obj readings.img readings.regions
 
 Faults and what to do: docs/FAULTS.md (installed: share/doc/plm80), man plm80.";
 
+/// The commands, in the order of the help text.
+const COMMANDS: [Syntax<'static>; 6] = [LINK, LOCATE, RUN, LIST, CHECK, LIB];
+
 /// What `--version` prints: the program's version, and the toolchain by which it was proved.
-const VERSION: &str = "1.0 (rattle-kit-13b logic dac8208d650f15bf)";
+const VERSION: &str = "1.0 (rattle-kit-13f logic dac8208d650f15bf)";
 
 /// The command of a command line, whose first argument is the program's own name.
 pub fn read_arguments<'a>(alloc: Global, arguments: &'a [String]) -> Result<Request<'a>, Error> {
@@ -77,12 +81,11 @@ fn refuse(alloc: Global, kind: ErrorKind, text: &str) -> Result<Error, AllocErro
 
 /// The program with its commands, for clap.
 fn program<'a>(alloc: Global) -> Result<Command<'a>, AllocError> {
-    let program = LINK.add_to(alloc, bare_program(alloc)?)?;
-    let program = LOCATE.add_to(alloc, program)?;
-    let program = RUN.add_to(alloc, program)?;
-    let program = LIST.add_to(alloc, program)?;
-    let program = CHECK.add_to(alloc, program)?;
-    LIB.add_to(alloc, program)
+    let mut program = bare_program(alloc)?;
+    for command in &COMMANDS {
+        program = command.add_to(alloc, program)?;
+    }
+    Ok(program)
 }
 
 /// The program before its commands are added.

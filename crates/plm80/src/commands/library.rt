@@ -64,8 +64,13 @@ pub fn write_library_file(
     arguments: &LibraryArguments<'_>,
 ) -> Result<u8, Reported> {
     let modules = modules_of(rt, &arguments.files)?;
-    let library = library_of(rt, &modules)?;
-    replace(rt, arguments.library, &library)?;
+    write_modules(rt, arguments.library, &modules)
+}
+
+/// Writes the library of these modules to the file of this path.
+fn write_modules(rt: &HostRuntime, path: &str, modules: &[Module]) -> Result<u8, Reported> {
+    let library = library_of(rt, modules)?;
+    replace(rt, path, &library)?;
     Ok(0)
 }
 

@@ -93,8 +93,13 @@ fn link_named(
     name: &Name,
 ) -> Result<u8, Reported> {
     let files = read_files(rt, &arguments.files)?;
-    let linked = linked(rt, name, &files)?;
-    write_linked(rt, arguments.out, &linked, &files.libraries)
+    link_read(rt, arguments.out, name, &files)
+}
+
+/// Links what was read, and writes the linked module to the file of this path.
+fn link_read(rt: &HostRuntime, path: &str, name: &Name, files: &LinkFiles) -> Result<u8, Reported> {
+    let linked = linked(rt, name, files)?;
+    write_linked(rt, path, &linked, &files.libraries)
 }
 
 /// Writes the linked module, and prints what was taken and what is unresolved.
@@ -104,10 +109,15 @@ fn write_linked(
     linked: &Linked,
     libraries: &[Library],
 ) -> Result<u8, Reported> {
-    let Ok((object, lines)) = outputs_of(rt.alloc(), linked, libraries) else {
-        return Err(report_memory(rt));
-    };
-    replace(rt, path, &object)?;
+    match outputs_of(rt.alloc(), linked, libraries) {
+        Ok((object, lines)) => write_outputs(rt, path, &object, &lines),
+        Err(AllocError) => Err(report_memory(rt)),
+    }
+}
+
+/// Writes the object file, and then prints the lines.
+fn write_outputs(rt: &HostRuntime, path: &str, object: &[u8], lines: &str) -> Result<u8, Reported> {
+    replace(rt, path, object)?;
     print(rt, lines.as_bytes())?;
     Ok(0)
 }
@@ -173,12 +183,18 @@ fn outputs_of(
     linked: &Linked,
     libraries: &[Library],
 ) -> Result<(Vec<u8>, String), AllocError> {
+    let lines = lines_of(alloc, linked, libraries)?;
     let mut object = Vec::new(alloc);
     write_file(alloc, slice::from_ref(&linked.module), &mut object)?;
+    Ok((object, lines))
+}
+
+/// A line for each module that was taken, and one for each name that is unresolved.
+fn lines_of(alloc: Global, linked: &Linked, libraries: &[Library]) -> Result<String, AllocError> {
     let mut lines = String::new(alloc);
     append_taken(&mut lines, &linked.taken, libraries)?;
     append_unresolved(&mut lines, &linked.unresolved)?;
-    Ok((object, lines))
+    Ok(lines)
 }
 
 /// Appends a line for each module that was taken.

@@ -59,7 +59,11 @@ impl<'a> ListArguments<'a> {
 /// Prints the listing of the image.
 pub fn list_files(rt: &HostRuntime, arguments: ListArguments<'_>) -> Result<u8, Reported> {
     let image = read_program(rt, arguments.image, arguments.regions)?;
-    let Ok(text) = listing(rt.alloc(), &image) else {
+    print_listing(rt, &image)
+}
+
+fn print_listing(rt: &HostRuntime, image: &Image) -> Result<u8, Reported> {
+    let Ok(text) = listing(rt.alloc(), image) else {
         return Err(report_memory(rt));
     };
     print(rt, &text)?;

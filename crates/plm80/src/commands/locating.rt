@@ -126,14 +126,10 @@ impl<'a> LocateArguments<'a> {
     }
 }
 
-/// The value of an option is no number of its form.
-#[derive(Clone, Copy)]
-struct BadNumber;
-
 impl<'a> LocateTexts<'a> {
-    /// The numbers of the options.
-    fn numbers(self) -> Result<Options, BadNumber> {
-        Ok(Options {
+    /// The numbers of the options; `None` where the value of one is no number of its form.
+    fn numbers(self) -> Option<Options> {
+        Some(Options {
             code: word_given(self.code)?,
             stack: word_given(self.stack)?,
             common: word_given(self.common)?,
@@ -145,21 +141,18 @@ impl<'a> LocateTexts<'a> {
     }
 }
 
-/// A word of one to four hexadecimal digits in either case, where the option is given.
-fn word_given(text: Option<&str>) -> Result<Option<u16>, BadNumber> {
+/// A word of one to four hexadecimal digits in either case, where the option is given; `None` where its value is no such word.
+fn word_given(text: Option<&str>) -> Option<Option<u16>> {
     match text {
-        None => Ok(None),
-        Some(digits) => match word_of_digits(digits) {
-            Some(word) => Ok(Some(word)),
-            None => Err(BadNumber),
-        },
+        None => Some(None),
+        Some(digits) => Some(Some(word_of_digits(digits)?)),
     }
 }
 
 /// Locates the module of the object file, and writes its image and regions. No file is created or changed before every
 /// other fault is excluded.
 pub fn locate_file(rt: &HostRuntime, arguments: LocateArguments<'_>) -> Result<u8, Reported> {
-    let Ok(options) = arguments.options.numbers() else {
+    let Some(options) = arguments.options.numbers() else {
         return Err(report(rt, "BadNumber"));
     };
     let image = located(rt, arguments.object, &options)?;
