@@ -48,10 +48,23 @@ pub struct Reply {
 pub fn answer_texts(alloc: Global, texts: SessionTexts<'_>, steps: u64, outputs: usize) -> Reply
     ensures { Says outputs steps (record { image = texts.entry.image.now; regions = texts.entry.regions.now; inputs = texts.entry.inputs.now }) result.answer (string_bytes result.text) }
 {
-    let image = match load(alloc, texts) {
-        Ok(image) => image,
-        Err(fault) => return faulty(alloc, fault),
-    };
+    match load(alloc, texts) {
+        Ok(image) => answer_image(alloc, image, texts, steps, outputs),
+        Err(fault) => faulty(alloc, fault),
+    }
+}
+
+/// Checks and runs the image that the texts spell.
+fn answer_image(
+    alloc: Global,
+    image: Image,
+    texts: SessionTexts<'_>,
+    steps: u64,
+    outputs: usize,
+) -> Reply
+    requires { SpellsProgram (record { image = texts.image.now; regions = texts.regions.now; inputs = texts.inputs.now }) image }
+    ensures { Says outputs steps (record { image = texts.entry.image.now; regions = texts.entry.regions.now; inputs = texts.entry.inputs.now }) result.answer (string_bytes result.text) }
+{
     let inputs = match read_inputs(alloc, texts.inputs) {
         Ok(inputs) => inputs,
         Err(InputsFault::BadLine(number)) => return faulty(alloc, SessionFault::Inputs(number)),
