@@ -12,12 +12,15 @@ use std::test::Fail;
 /// Code up to FFFF, and room for all data and stack that the states point to.
 const REGIONS: &[u8] = b"REGIONS 1\nCODE F000 1000\nDATA 0000 8000\nSTACK 8000 1000\n";
 
-/// A, B, C, D, E, H and L. The pairs point to data, but for the last one's BC, DE and HL.
-static SETS: [[u8; 7]; 4] = [
-    [0x00, 0x20, 0x01, 0x7F, 0xFF, 0x12, 0x34],
-    [0x9A, 0x00, 0xFF, 0x10, 0x00, 0x7F, 0xFE],
-    [0xFF, 0x7F, 0x80, 0x01, 0x0F, 0x00, 0x00],
-    [0x01, 0xFF, 0xFF, 0x80, 0x00, 0xF0, 0x10],
+/// A, B, C, D, E, H and L.
+type Set = (u8, u8, u8, u8, u8, u8, u8);
+
+/// The pairs point to data, but for the last one's BC, DE and HL.
+static SETS: [Set; 4] = [
+    (0x00, 0x20, 0x01, 0x7F, 0xFF, 0x12, 0x34),
+    (0x9A, 0x00, 0xFF, 0x10, 0x00, 0x7F, 0xFE),
+    (0xFF, 0x7F, 0x80, 0x01, 0x0F, 0x00, 0x00),
+    (0x01, 0xFF, 0xFF, 0x80, 0x00, 0xF0, 0x10),
 ];
 
 /// The flags: none, each alone, CY with AC, all.
@@ -55,8 +58,8 @@ fn same_memory(left: &FlatBus, right: &FlatBus) -> bool {
 }
 
 /// The state before a step: the instruction ends at FFFF where it is at the end of memory.
-fn state(set: &[u8; 7], flags: u8, pc: u16) -> Cpu {
-    let [a, b, c, d, e, h, l] = *set;
+fn state(set: Set, flags: u8, pc: u16) -> Cpu {
+    let (a, b, c, d, e, h, l) = set;
     Cpu {
         registers: Registers {
             a,
@@ -73,13 +76,11 @@ fn state(set: &[u8; 7], flags: u8, pc: u16) -> Cpu {
     }
 }
 
-/// Puts an instruction with the operand 1234 at an address, in both memories.
-fn put(pair: &mut Pair, opcode: u8, pc: u16) {
-    for (n, byte) in [opcode, 0x34, 0x12].into_iter().enumerate() {
-        let address = pc.wrapping_add(n as u16);
-        pair.slow.store(address, byte);
-        pair.quick.store(address, byte);
-    }
+/// Puts an instruction with the operand 1234 at an address.
+fn put(bus: &mut FlatBus, opcode: u8, pc: u16) {
+    bus.store(pc, opcode);
+    bus.store(pc.wrapping_add(1), 0x34);
+    bus.store(pc.wrapping_add(2), 0x12);
 }
 
 /// Whether both steps from a state come to the same end, registers, outputs and inputs, where ports of this kind have an input byte
@@ -117,8 +118,9 @@ fn all_agree(
 ) -> Result<bool, AllocError> {
     for set in &SETS {
         for (kind, flags) in FLAGS.iter().enumerate() {
-            put(pair, opcode, pc);
-            if !steps_agree(alloc, pair, regions, map, state(set, *flags, pc), kind)? {
+            put(&mut pair.slow, opcode, pc);
+            put(&mut pair.quick, opcode, pc);
+            if !steps_agree(alloc, pair, regions, map, state(*set, *flags, pc), kind)? {
                 return Ok(false);
             }
         }
