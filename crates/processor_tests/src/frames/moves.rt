@@ -5,16 +5,12 @@ use super::{MAIN, Parts, frame_of, moved};
 use frames80::Role::Entry;
 use frames80::Word::{Any, Own};
 use frames80::{Frame, FrameFault, Moves, Role};
-use std::alloc::Global;
-use std::process::Abort;
 use std::test::Fail;
 
-/// An instruction with the frame before it, how the procedure goes on, the address or the number of words or of the refusal, and the
+/// Instructions, each with the frame before it, how the procedure goes on, the address or the number of words or of the refusal, and the
 /// frame after it; where there is none, the frame before it stands there.
-type Row = (Role, [u8; 3], Parts, &'static str, u32, Parts);
-
 #[rattlefmt::skip]
-static ROWS: [Row; 53] = [
+static ROWS: [(Role, [u8; 3], Parts, &str, u32, Parts); 53] = [
     // PUSH and POP of BC, DE and HL carry the return address; PSW doesn't.
     (Entry, [0xC5, 0x00, 0x00], (0, &[], [Own, Any, Any]), "on", 0, (0, &[Own], [Own, Any, Any])),
     (Entry, [0xD5, 0x00, 0x00], (0, &[], [Any, Own, Any]), "on", 0, (0, &[Own], [Any, Own, Any])),
@@ -112,17 +108,13 @@ fn leaves(moves: &Result<Moves, FrameFault>, wanted: &Frame) -> bool {
     }
 }
 
-/// Whether the procedure goes on as the row says.
-fn goes_on_so(rt: &impl Abort, alloc: Global, row: &Row) -> Result<bool, Fail> {
-    let (role, bytes, before, wanted, number, after) = row;
-    let moves = moved(rt, alloc, *role, before, *bytes)?;
-    Ok(kind(&moves) == (*wanted, *number) && leaves(&moves, &frame_of(alloc, after)?))
-}
-
 #[test]
 fn what_becomes_of_frames(rt: HostRuntime) -> Result<(), Fail> {
-    for row in &ROWS {
-        assert!(rt; goes_on_so(&rt, rt.alloc(), row)?, "{:?}", row.1);
+    for (role, bytes, before, wanted, number, after) in &ROWS {
+        let after = frame_of(rt.alloc(), after)?;
+        let moves = moved(&rt, rt.alloc(), *role, before, *bytes)?;
+        assert_eq!(rt; kind(&moves), (*wanted, *number), "{bytes:?}");
+        assert!(rt; leaves(&moves, &after), "{bytes:?}");
     }
     Ok(())
 }
