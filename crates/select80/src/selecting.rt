@@ -74,6 +74,14 @@ fn reached(alloc: Global, row: &Row<'_>, roots: usize) -> Result<Vec<bool>, Allo
     Ok(search.marked)
 }
 
+/// Marks of the roots, of the modules of all libraries that they need, and of no others.
+fn marks_of(alloc: Global, roots: &[Module], libraries: &[Library]) -> Result<Vec<bool>, AllocError>
+    ensures { IfOk result (λ marked. AreReached (roots.now ++ members libraries.now) (length roots.now) marked.items) }
+{
+    let row = Row::of(alloc, roots, libraries)?;
+    reached(alloc, &row, roots.len())
+}
+
 /// Puts the places of a library's modules last.
 fn push_places(
     places: &mut Vec<Chosen>,
@@ -129,8 +137,7 @@ pub fn select(
     ensures chosen { IfOk result (λ taken. (place : Chosen) → Contains taken.items place ↔ IsChosen roots.now libraries.now place) }
     ensures ascending { IfOk result (λ taken. AreAscending taken.items) }
 {
-    let row = Row::of(alloc, roots, libraries)?;
-    let marked = reached(alloc, &row, roots.len())?;
+    let marked = marks_of(alloc, roots, libraries)?;
     let places = places_of(alloc, libraries)?;
     with_mark(alloc, places.as_slice(), &marked[roots.len()..])
 }

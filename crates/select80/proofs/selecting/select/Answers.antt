@@ -1,8 +1,8 @@
-use Rattle.std.proofs.Common.{sym, ◌∙◌, ap, subst, drop, length}
+use Rattle.std.proofs.Common.{sym, ◌∙◌, ap, subst, drop, length, ◌++◌, refl}
 use Rattle.std.proofs.lemmas.List.{take_rest}
 use Rattle.std.proofs.lemmas.Result.{IfOk-weaker}
 use Rattle.select80.specs.Selected.{AreAscending}
-use Rattle.select80.specs.Selecting.{marked_places}
+use Rattle.select80.specs.Selecting.{marked_places, members}
 use Rattle.select80.proofs.ChosenLemmas.{selected, marked_in_order}
 use Rattle.select80.proofs.selecting.select.Goals as goal
 
@@ -13,6 +13,6 @@ returns c =
     let gives = ap (marked_places c.as_slice.result.now) (take_rest c.deref.result.now roots ∙ ap (drop roots) c.deref.ensures.value)
     ∙ ap (λ ps. marked_places ps marked) (c.as_slice.ensures.value ∙ c.in_ok-places.ensures) in
     record {
-      chosen = IfOk-weaker c.with_mark.result _ _ (λ taken is. selected c.args.roots.now c.args.libraries.now c.in_ok-row.row c.in_ok-marked.marked.items taken.items c.in_ok-row.ensures c.in_ok-marked.ensures (is ∙ gives)) c.with_mark.ensures;
+      chosen = IfOk-weaker c.with_mark.result _ _ (λ taken is. selected c.args.roots.now c.args.libraries.now (c.args.roots.now ++ members c.args.libraries.now) c.in_ok-marked.marked.items taken.items refl c.in_ok-marked.ensures (is ∙ gives)) c.with_mark.ensures;
       ascending = IfOk-weaker c.with_mark.result _ _ (λ taken is. subst AreAscending (sym (is ∙ gives)) (marked_in_order c.args.libraries.now marked)) c.with_mark.ensures;
     }
