@@ -41,14 +41,30 @@ pub fn bundle<S: Source, K: Sink>(
     ensures out_failures { K.failed out.new ≡ K.failed out.old + bundle_write_failures result }
     ensures taken { TakesAtMost (BUNDLE_LIMIT + 1) (S.left input.old) (S.left input.new) }
 {
-    what_is_said_is_sent();
     let bytes = match read_all(alloc, input, BUNDLE_LIMIT) {
         Ok(bytes) => bytes,
         Err(ReadAllFault::Read) => return Err(BundleFault::Session(SessionFault::Read(1))),
         Err(ReadAllFault::TooLong) => return Err(BundleFault::Session(SessionFault::TooLong(1))),
         Err(ReadAllFault::Memory) => return Err(BundleFault::Session(SessionFault::Memory)),
     };
-    let Ok(parted) = part_bundle(alloc, &bytes) else {
+    answer_bundle(alloc, &bytes, out, steps, outputs)
+}
+
+/// Does with the three parts of a bundle, whose bytes these are, as a session does.
+fn answer_bundle<K: Sink>(
+    alloc: Global,
+    bytes: &[u8],
+    out: &mut K,
+    steps: u64,
+    outputs: usize,
+) -> Result<Outcome, BundleFault>
+    requires { K.failed out.old < u64.MAX }
+    ensures sends { BundleSends outputs steps (bundle_texts bytes.now) result (K.written out.old) (K.written out.new) }
+    ensures read_failures { bundle_read_failures result ≡ 0 }
+    ensures out_failures { K.failed out.new ≡ K.failed out.old + bundle_write_failures result }
+{
+    what_is_said_is_sent();
+    let Ok(parted) = part_bundle(alloc, bytes) else {
         return Err(BundleFault::Session(SessionFault::Memory));
     };
     let Some(parts) = parted else {
