@@ -60,7 +60,7 @@ returns-in_err-length c =
     rw c.from_residual.ensures (record {
       split = tt;
       every_name = λ name after s. absurd (none name after s);
-      exactly = (λ no. absurd cc, λ held. absurd (none_held c.args.body.now c.args.at none held));
+      exactly = (λ no. absurd (false≢true no), λ held. absurd (none_held c.args.body.now c.args.at none held));
       counted = tt;
     })
 
@@ -70,7 +70,7 @@ returns-in_err-name c =
     rw c.from_residual-in_err-name.ensures (record {
       split = tt;
       every_name = λ name after s. absurd (none name after s);
-      exactly = (λ no. absurd cc, λ held. absurd (none_held c.args.body.now c.args.at none held));
+      exactly = (λ no. absurd (false≢true no), λ held. absurd (none_held c.args.body.now c.args.at none held));
       counted = tt;
     })
 
@@ -90,6 +90,6 @@ returns-else-is_name c =
     record {
       split = tt;
       every_name = λ name after s. absurd (none name after s);
-      exactly = (λ no. absurd cc, λ held. absurd (none_held c.args.body.now c.args.at none held));
+      exactly = (λ no. absurd (false≢true no), λ held. absurd (none_held c.args.body.now c.args.at none held));
       counted = tt;
     }
