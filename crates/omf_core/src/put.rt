@@ -1,4 +1,4 @@
-ghost use Rattle.std.specs.Prelude.{◌≡◌, ◌+◌, ◌<◌, ◌↔◌, ◌++◌, length, vec_len, vec_capacity, OnOk, OnErr, IsErrOf};
+ghost use Rattle.std.specs.Prelude.{◌≡◌, ◌+◌, ◌<◌, ◌≤◌, ◌↔◌, [], ◌∷◌, ◌++◌, length, vec_len, vec_capacity, OnOk, OnErr, IsErrOf};
 ghost use Rattle.omf_core.specs.Record.{SpellsRecord, spelling, checksum};
 
 use crate::{PutFault, sum_of};
@@ -29,11 +29,18 @@ pub fn put_record(_alloc: Global, kind: u8, body: &[u8], out: &mut Vec<u8>) -> R
     let last = checksum_of(&head, body);
     out.reserve(head.len() + counted)
         .map_err(|_| PutFault::Memory)?;
-    // There is room for all of it now.
-    out.extend_from_slice(&head).unwrap();
+    append_parts(&head, body, last, out);
+    Ok(())
+}
+
+/// Appends the parts of a record to `out`, which has room for them.
+fn append_parts(head: &[u8], body: &[u8], last: u8, out: &mut Vec<u8>)
+    requires room { vec_len out.old + (length head.now + (length body.now + 1)) ≤ vec_capacity out.old }
+    ensures appended { out.new.items ≡ out.old.items ++ (head.now ++ (body.now ++ last ∷ [])) }
+{
+    out.extend_from_slice(head).unwrap();
     out.extend_from_slice(body).unwrap();
     out.push(last).unwrap();
-    Ok(())
 }
 
 /// The byte that brings the sum of both parts to 0 modulo 256.

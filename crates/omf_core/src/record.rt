@@ -1,6 +1,6 @@
-ghost use Rattle.std.specs.Prelude.{◌≡◌, ◌+◌, ◌≤◌, ℕ, List, length, drop, IfOk, IsOk};
+ghost use Rattle.std.specs.Prelude.{◌≡◌, ◌+◌, ◌<◌, ◌≤◌, ℕ, List, length, drop, IfOk, IsOk};
 ghost use Rattle.std.specs.Result.{result_err};
-ghost use Rattle.omf_core.specs.Record.{SpellsRecord, fault_at, head_kind, head_body, record_size};
+ghost use Rattle.omf_core.specs.Record.{SpellsRecord, fault_at, head_kind, head_body, record_size, word_at};
 
 use crate::{RecordFault, sum_of};
 
@@ -42,6 +42,22 @@ pub fn next_record<'a>(bytes: &'a [u8], at: usize) -> Result<(Record<'a>, usize)
     let Some(rest) = bytes.get(at..) else {
         return Err(RecordFault::Truncated(at));
     };
+    let counted = counted_by(rest, at)?;
+    let record = Record {
+        kind: rest[0],
+        body: &rest[3..2 + counted],
+    };
+    Ok((record, at + 3 + counted))
+}
+
+/// How many bytes the length word of the record that begins `rest` counts, or the record's fault; `at` is its place.
+fn counted_by(rest: &[u8], at: usize) -> Result<usize, RecordFault>
+    ensures word { IfOk result (λ counted. counted ≡ word_at rest.now 1) }
+    ensures some { IfOk result (λ counted. 0 < counted) }
+    ensures few { IfOk result (λ counted. counted ≤ 65535) }
+    ensures whole { IfOk result (λ counted. 3 + counted ≤ length rest.now) }
+    ensures fault { result_err result ≡ fault_at rest.now at }
+{
     if rest.len() < 3 {
         return Err(RecordFault::Truncated(at));
     }
@@ -55,9 +71,5 @@ pub fn next_record<'a>(bytes: &'a [u8], at: usize) -> Result<(Record<'a>, usize)
     if sum_of(&rest[..3 + counted]) != 0 {
         return Err(RecordFault::BadSum(at));
     }
-    let record = Record {
-        kind: rest[0],
-        body: &rest[3..2 + counted],
-    };
-    Ok((record, at + 3 + counted))
+    Ok(counted)
 }

@@ -61,6 +61,10 @@ followed bytes at next kind body before b r fits s alone =
 pub commons_spelled : (before after : List Common) (body : List ℕ) (t : TakesCommons before body after) → Spells 0x2E body (NamedCommons t.entries)
 commons_spelled before after body t = record { of_kind = refl; joined = t.spelled.joined; sound = t.spelled.sound }
 
+pub commons_spelled_by : (kind : ℕ) (before after : List Common) (body : List ℕ) → kind ≡ 0x2E → (t : TakesCommons before body after) → Spells kind body (NamedCommons t.entries)
+commons_spelled_by kind before after body is t =
+    subst (λ (k : ℕ). Spells k body (NamedCommons t.entries)) (sym is) (commons_spelled before after body t)
+
 pub followed_commons : (bytes : List ℕ) (at next kind : ℕ) (body : List ℕ) (before after : List Common) (b : Body) (t : TakesCommons before body after)
     → kind ≡ 0x2E → SpellsRecord bytes at next kind body → length body ≤ 65534 → b ≡ NamedCommons t.entries → Follows bytes at next before after b
 followed_commons bytes at next kind body before after b t of_kind r fits is =

@@ -1,8 +1,11 @@
 -- What records use is looked at one after another.
-use Rattle.std.proofs.Common.{◌≡◌, ◌≢◌, ℕ, ◌<◌, ◌+◌, Bool, true, false, Option, Some, None, List, [], ◌∷◌, ◌++◌, length, map, drop, get_or, refl, sym, ap, ◌∙◌, append_assoc}
-use Rattle.std.specs.Prelude.{if◌then◌else◌, option_map}
+use Rattle.std.proofs.Common.{◌≡◌, ◌≢◌, ℕ, ◌<◌, ◌≤◌, ◌+◌, Bool, true, false, Option, Some, None, Result, Ok, Err, List, [], ◌∷◌, ◌++◌, length, map, drop, get_or, refl, sym, ap, subst, ◌∙◌, append_assoc}
+use Rattle.std.specs.Prelude.{if◌then◌else◌, option_map, IfOk, IfErr, OnOk}
 use Rattle.std.specs.Option.{option_or, option_to_list}
-use Rattle.std.proofs.lemmas.List.{drop_more}
+use Rattle.std.proofs.lemmas.List.{append-nil, drop_all, drop_more}
+use Rattle.omf_body.specs.declared.body.ContentBody.{ContentBody}
+use Rattle.omf_body.specs.declared.body.Body.{Body}
+use Rattle.omf_body.specs.declared.body.Body.TheVariants.{Content}
 use Rattle.omf_module.specs.declared.fault.Cause.{Cause}
 use Rattle.omf_module.specs.declared.fault.Cause.TheVariants.{SegmentUnknown, Memory}
 use Rattle.omf_module.specs.declared.records.PlacedBody.{PlacedBody}
@@ -11,8 +14,8 @@ use Rattle.omf_module.specs.Fault.{fault_of}
 use Rattle.omf_parts.specs.Contents.{ContentValue}
 use Rattle.omf_parts.specs.Modules.{ModuleValue}
 use Rattle.omf_parts.specs.Segments.{has_segment}
-use Rattle.omf_module.specs.Gathered.{content_after, contents_from, begins_content}
-use Rattle.omf_module.specs.Uses.{unknown_id, body_fault, bodies_fault, fault_by}
+use Rattle.omf_module.specs.Gathered.{content_after, contents_from, begins_content, fixups_in, with_fixups}
+use Rattle.omf_module.specs.Uses.{unknown_id, ids_in, place_fault, reference_fault, body_fault, bodies_fault, fault_by}
 use Rattle.omf_module.specs.Reading.{with_contents, TakesBody, OrNoMemory}
 use Rattle.omf_module.proofs.KeepsLemmas.{one_known}
 use Rattle.omf_module.proofs.WithinLemmas.{by_cause}
@@ -59,6 +62,10 @@ one_looked_at parts all p ps nearest after old new s t = record {
       ∙ (append_assoc old begun (contents_from (content_after nearest p.body) ps) ∙ s.contents));
 }
 
+pub all_looked_at : (parts : ModuleValue) (all : List PlacedBody) (i : ℕ) (nearest : Option ContentValue) (whole : List ContentValue)
+    → ContentsSoFar parts all (drop i all) nearest whole → length all ≤ i → ContentsSoFar parts all [] nearest whole
+all_looked_at parts all i nearest whole s past = subst (λ (rest : List PlacedBody). ContentsSoFar parts all rest nearest whole) (drop_all i all past) s
+
 pub fault_here : (parts : ModuleValue) (all : List PlacedBody) (p : PlacedBody) (ps : List PlacedBody) (nearest : Option ContentValue) (old : List ContentValue) (why : Cause)
     → ContentsSoFar parts all (p ∷ ps) nearest old
     → (why ≢ Memory → (cs : List ContentValue) → body_fault (with_contents parts cs) nearest p.body ≡ Some why)
@@ -72,3 +79,47 @@ front all i p within is = drop_more all i p within ∙ ap (λ (q : PlacedBody). 
 
 pub front_entry : (all : List (ℕ × Segment)) (i : ℕ) (e : ℕ × Segment) → i < length all → e ≡ get_or all i e → map (λ s. s.0) (drop i all) ≡ e.0 ∷ map (λ s. s.0) (drop (i + 1) all)
 front_entry all i e within is = ap (λ (l : List (ℕ × Segment)). map (λ s. s.0) l) (drop_more all i e within ∙ ap (λ (q : ℕ × Segment). q ∷ drop (i + 1) all) (sym is))
+
+-- a record's own ids and place come before its references
+pub own_first : (ids place reference : Option Cause) (why : Cause) → Some why ≡ option_or ids place → option_or ids (option_or place reference) ≡ Some why
+own_first None None reference why e = absurd cc
+own_first None (Some f) reference why e = sym e
+own_first (Some f) place reference why e = sym e
+
+pub past_own : (ids place reference : Option Cause) → None ≡ option_or ids place → option_or ids (option_or place reference) ≡ reference
+past_own None None reference e = refl
+past_own None (Some f) reference e = absurd cc
+past_own (Some f) place reference e = absurd cc
+
+-- a record that isn't content: its references are looked at after its own ids and place
+pub references_refused : (parts : ModuleValue) (nearest : Option ContentValue) (body : Body) (r : Result (Option ContentValue) Cause)
+    → ((cs : List ContentValue) → None ≡ option_or (unknown_id (with_contents parts cs) (ids_in body)) (place_fault (with_contents parts cs) body))
+    → IfErr r (λ why. why ≢ Memory → (cs : List ContentValue) → reference_fault (with_contents parts cs) nearest body ≡ Some why)
+    → IfErr r (λ why. why ≢ Memory → (cs : List ContentValue) → body_fault (with_contents parts cs) nearest body ≡ Some why)
+references_refused parts nearest body (Ok after) own f = tt
+references_refused parts nearest body (Err why) own f = λ real cs.
+    let m = with_contents parts cs in
+    past_own (unknown_id m (ids_in body)) (place_fault m body) (reference_fault m nearest body) (own cs) ∙ f real cs
+
+begins_none : (body : Body) → ((b : ContentBody) → body ≡ Content b → ⊥) → begins_content body ≡ false
+begins_none (Content b) other = absurd (other b refl)
+begins_none _ other = refl
+
+after_none : (nearest : Option ContentValue) (body : Body) → ((b : ContentBody) → body ≡ Content b → ⊥)
+    → content_after nearest body ≡ option_map (λ c. with_fixups c (fixups_in c.segment body)) nearest
+after_none nearest (Content b) other = absurd (other b refl)
+after_none nearest _ other = refl
+
+pub references_taken : (parts : ModuleValue) (nearest : Option ContentValue) (body : Body) (whole : List ContentValue) (r : Result (Option ContentValue) Cause)
+    → ((b : ContentBody) → body ≡ Content b → ⊥)
+    → ((cs : List ContentValue) → None ≡ option_or (unknown_id (with_contents parts cs) (ids_in body)) (place_fault (with_contents parts cs) body))
+    → OnOk r ((cs : List ContentValue) → reference_fault (with_contents parts cs) nearest body ≡ None)
+    → IfOk r (λ after. after ≡ option_map (λ c. with_fixups c (fixups_in c.segment body)) nearest)
+    → IfOk r (λ after. TakesBody parts nearest body whole whole after)
+references_taken parts nearest body whole (Err why) other own sound is = tt
+references_taken parts nearest body whole (Ok after) other own sound is = record {
+  sound = λ cs. let m = with_contents parts cs in
+      past_own (unknown_id m (ids_in body)) (place_fault m body) (reference_fault m nearest body) (own cs) ∙ sound cs;
+  nearest = is ∙ sym (after_none nearest body other);
+  whole = sym (append-nil whole) ∙ ap (λ (begins : Bool). whole ++ (if begins then option_to_list nearest else [])) (sym (begins_none body other));
+}

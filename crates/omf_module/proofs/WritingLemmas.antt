@@ -1,13 +1,16 @@
 -- Records that are written one after another.
-use Rattle.std.proofs.Common.{◌≡◌, ◌≤◌, ◌<◌, true, ℕ, List, [], ◌∷◌, ◌++◌, length, map, ap, ◌∙◌, sym, subst, arith, append_assoc}
+use Rattle.std.proofs.Common.{◌≡◌, ◌≤◌, ◌<◌, true, ℕ, Result, Ok, Err, is_ok, List, [], ◌∷◌, ◌++◌, length, map, ap, ◌∙◌, sym, subst, arith, append_assoc}
 use Rattle.std.specs.List.{flat_map}
 use Rattle.std.proofs.lemmas.List.{append-nil}
 use Rattle.std.proofs.lemmas.Grind.{flat_map-append}
+use Rattle.omf_core.specs.declared.fault.PutFault.{PutFault}
+use Rattle.omf_core.specs.declared.fault.PutFault.TheVariants.{TooLong}
 use Rattle.omf_core.specs.Name.{is_name, name_spelling}
 use Rattle.omf_body.specs.declared.entries.SegmentEntry.{SegmentEntry}
 use Rattle.omf_body.specs.declared.body.Body.{Body}
 use Rattle.omf_body.specs.declared.body.Body.TheVariants.{ModuleHeader, ModuleEnd}
-use Rattle.omf_body.specs.Bodies.{record_bytes}
+use Rattle.omf_body.specs.Bodies.{body_bytes, record_bytes}
+use Rattle.omf_body.specs.Writing.{Appends}
 use Rattle.omf_body.specs.Entries.{segment_bytes}
 use Rattle.omf_parts.specs.declared.segment.Segment.{Segment}
 use Rattle.omf_parts.specs.Modules.{ModuleValue}
@@ -48,3 +51,17 @@ module_written m out o1 o2 o3 o4 o5 o6 e1 e2 e3 e4 e5 e6 =
     let t = flat_map content_bodies m.contents in
     more o6 o5 out (h ++ (c ++ p ++ x ++ t)) (ModuleEnd (end_body m.start) ∷ []) (one o6 o5 (ModuleEnd (end_body m.start)) e6)
     (more o5 o4 out (h ++ c ++ p ++ x) t e5 (more o4 o3 out (h ++ c ++ p) x e4 (more o3 o2 out (h ++ c) p e3 (more o2 o1 out h c e2 (one o1 out (ModuleHeader (header_body m)) e1)))))
+
+-- what was appended where the result says so, if this is the body
+pub one_appended : (body same : Body) (old new : List ℕ) (result : Result (Unit {0}) PutFault)
+    → Appends body old new result → true ≡ is_ok result → body ≡ same → new ≡ old ++ record_bytes same
+one_appended body same old new (Ok u) a went is = a.appended ∙ ap (λ (b : Body). old ++ record_bytes b) is
+one_appended body same old new (Err e) a went is = absurd cc
+
+-- a body that fits is never too long
+pub one_fits : (body same : Body) (old new : List ℕ) (result : Result (Unit {0}) PutFault)
+    → Appends body old new result → body ≡ same → length (body_bytes same) ≤ 65534 → result ≡ Err TooLong → ⊥
+one_fits body same old new result a is fits e =
+    let long = a.too_long e in
+    let short : length (body_bytes body) ≤ 65534 = subst (λ (b : Body). length (body_bytes b) ≤ 65534) (sym is) fits in
+    omega arith

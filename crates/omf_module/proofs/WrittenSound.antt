@@ -9,7 +9,7 @@ use Rattle.omf_core.specs.Name.{is_name, is_name_byte, name_spelling}
 use Rattle.omf_body.specs.declared.field.Field.{Field}
 use Rattle.omf_body.specs.declared.body.Body.TheVariants.{ModuleHeader, ModuleEnd, ExternalReferences, Relocation, IntersegmentReferences}
 use Rattle.omf_body.specs.Entries.{segment_bytes}
-use Rattle.omf_body.specs.Bodies.{are_distinct}
+use Rattle.omf_body.specs.Bodies.{are_distinct, body_bytes}
 use Rattle.omf_parts.specs.declared.segment.Segment.{Segment}
 use Rattle.omf_parts.specs.declared.symbols.Common.{Common}
 use Rattle.omf_parts.specs.declared.symbols.Public.{Public}
@@ -85,10 +85,13 @@ header_fits m form name =
 
 -- ---- one record
 
+pub common_short : (c : Common) → is_name c.name ≡ true → length (body_bytes (common_body c)) ≤ 65534
+common_short c name = omega (arith, name_short c.name name, length-append (c.id ∷ name_spelling c.name) [])
+
 pub common_fits : (c : Common) → is_common_id c.id ≡ true → is_name c.name ≡ true → Fits (common_body c)
 common_fits c id name = record {
   sound = and_from (is_common_id c.id && is_name c.name) true (and_from (is_common_id c.id) (is_name c.name) id name) refl;
-  short = omega (arith, name_short c.name name, length-append (c.id ∷ name_spelling c.name) []);
+  short = common_short c name;
 }
 
 pub public_fits : (p : Public) → is_name p.name ≡ true → Fits (public_body p)

@@ -1,6 +1,8 @@
 //! A content to which fixups may still come.
 
 use crate::fault::Cause;
+use crate::gathering::fixups_in;
+use omf_body::Body;
 use omf_parts::marks::{is_free, is_inside, mark, no_marks};
 use omf_parts::{Content, Fixup, Parts, Target};
 use std::alloc::{AllocError, Global};
@@ -31,7 +33,7 @@ impl<'a> Model for Open<'a> {
 impl<'a> Open<'a> {
     ghost use Rattle.std.specs.Prelude.{◌≡◌, ◌≢◌, List, [], ◌∷◌, None, Some, IfOk, IfErr, OnOk};
     ghost use Rattle.omf_parts.specs.Contents.{ContentValue};
-    ghost use Rattle.omf_module.specs.Gathered.{with_fixups};
+    ghost use Rattle.omf_module.specs.Gathered.{fixups_in, with_fixups};
     ghost use Rattle.omf_module.specs.Uses.{fixup_fault, fixups_fault};
     ghost use Rattle.omf_module.specs.Reading.{with_contents};
 
@@ -55,7 +57,7 @@ impl<'a> Open<'a> {
     }
 
     /// The segment that it is in.
-    pub(crate) fn segment(&self) -> u8
+    fn segment(&self) -> u8
         ensures { result ≡ self.now.segment }
     {
         self.segment
@@ -83,8 +85,8 @@ impl<'a> Open<'a> {
         Ok(())
     }
 
-    /// Takes the fixups of a record.
-    pub(crate) fn take_all(&mut self, parts: &Parts, fixups: &[Fixup]) -> Result<(), Cause>
+    /// Takes these fixups, in order.
+    fn take_all(&mut self, parts: &Parts, fixups: &[Fixup]) -> Result<(), Cause>
         ensures taken { OnOk result (self.new ≡ with_fixups self.old fixups.now) }
         ensures sound { OnOk result ((cs : List ContentValue) → fixups_fault (with_contents parts.now cs) self.old fixups.now ≡ None) }
         ensures fault { IfErr result (λ why. why ≢ Cause.Memory → (cs : List ContentValue) → fixups_fault (with_contents parts.now cs) self.old fixups.now ≡ Some why) }
@@ -93,6 +95,21 @@ impl<'a> Open<'a> {
             self.take(parts, *fixup)?;
         }
         Ok(())
+    }
+
+    /// Takes the fixups that a record says.
+    pub(crate) fn take_those_of(
+        &mut self,
+        alloc: Global,
+        parts: &Parts,
+        body: &Body,
+    ) -> Result<(), Cause>
+        ensures taken { OnOk result (self.new ≡ with_fixups self.old (fixups_in self.old.segment body.now)) }
+        ensures sound { OnOk result ((cs : List ContentValue) → fixups_fault (with_contents parts.now cs) self.old (fixups_in self.old.segment body.now) ≡ None) }
+        ensures fault { IfErr result (λ why. why ≢ Cause.Memory → (cs : List ContentValue) → fixups_fault (with_contents parts.now cs) self.old (fixups_in self.old.segment body.now) ≡ Some why) }
+    {
+        let fixups = fixups_in(alloc, self.segment(), body)?;
+        self.take_all(parts, &fixups)
     }
 
     /// The content, with its bytes copied.

@@ -3,7 +3,7 @@
 ghost use Rattle.std.specs.Prelude.{◌≡◌, ◌≢◌, ◌<◌, ◌≤◌, ◌⊎◌, ℕ, List, None, Some, Ok, Err, [], length, option_map, true, false, IfOk, IfErr, OnOk, IsOk, IsTrue};
 ghost use Rattle.std.specs.List.{flat_map};
 ghost use Rattle.omf_module.specs.Records.{commons_of};
-ghost use Rattle.omf_module.specs.Gathered.{segments_in, publics_in, externals_in, start_in, parts_of};
+ghost use Rattle.omf_module.specs.Gathered.{segments_in, publics_in, externals_in, start_in, contents_from, parts_of};
 ghost use Rattle.omf_module.specs.Uses.{fault_by, use_fault};
 ghost use Rattle.omf_module.specs.declared.fault.Cause.{Cause as CauseValue};
 ghost use Rattle.omf_module.specs.declared.fault.ModuleFault.{ModuleFault as ModuleFaultValue};
@@ -11,7 +11,7 @@ ghost use Rattle.omf_module.specs.Fault.{no_memory};
 ghost use Rattle.omf_parts.specs.Modules.{ModuleValue};
 ghost use Rattle.omf_module.specs.ReadingLaws.{Answers};
 ghost use Rattle.omf_module.specs.Spelled.{SpellsModule, FaultsHeader, FaultsModule, EndsFile, SpellsFile, FaultsFile};
-ghost use Rattle.omf_module.specs.Reading.{OrNoMemory, records_of};
+ghost use Rattle.omf_module.specs.Reading.{OrNoMemory, records_of, with_contents};
 
 use crate::commons::kept;
 use crate::fault::{Cause, ModuleFault};
@@ -22,7 +22,7 @@ use crate::uses::{contents_of, look_at_header, look_at_start};
 use crate::within::{header_at, records_at};
 use omf_body::{HeaderBody, Place};
 use omf_core::{RecordKind, next_record};
-use omf_parts::{Common, Module, Parts};
+use omf_parts::{Common, Content, Module, Parts};
 use std::alloc::{AllocError, Global};
 
 /// The parts that records say, but for their contents.
@@ -58,6 +58,28 @@ fn without_contents(
     })
 }
 
+/// The contents that the records of a module say, where they use nothing that isn't there; `draft` has the other parts.
+fn used_contents(
+    alloc: Global,
+    draft: &Parts,
+    file: &ModuleFile,
+) -> Result<Vec<Content>, ModuleFault>
+    requires { draft.now ≡ with_contents (parts_of (records_of file.now)) [] }
+    ensures contents { IfOk result (λ contents. contents.items ≡ contents_from None file.now.within.bodies.items) }
+    ensures sound { OnOk result (use_fault (records_of file.now) ≡ None) }
+    ensures fault { IfErr result (OrNoMemory (λ fault. use_fault (records_of file.now) ≡ Some fault)) }
+{
+    if let Err(why) = look_at_header(draft, &file.header) {
+        return Err(why.at(file.at));
+    }
+    let within = &file.within;
+    let contents = contents_of(alloc, draft, &within.bodies)?;
+    match look_at_start(draft, within.end.start) {
+        Ok(()) => Ok(contents),
+        Err(why) => Err(why.at(within.end_at)),
+    }
+}
+
 /// The parts that the records of a module say, where they use nothing that isn't there, and these are its commons.
 fn parts_of(alloc: Global, file: &ModuleFile, commons: Vec<Common>) -> Result<Parts, ModuleFault>
     requires { commons.items ≡ commons_of file.now.within.bodies.items }
@@ -73,14 +95,7 @@ fn parts_of(alloc: Global, file: &ModuleFile, commons: Vec<Common>) -> Result<Pa
         commons,
         within.end.start,
     )?;
-    if let Err(why) = look_at_header(&parts, &file.header) {
-        return Err(why.at(file.at));
-    }
-    let contents = contents_of(alloc, &parts, &within.bodies)?;
-    if let Err(why) = look_at_start(&parts, within.end.start) {
-        return Err(why.at(within.end_at));
-    }
-    parts.contents = contents;
+    parts.contents = used_contents(alloc, &parts, file)?;
     Ok(parts)
 }
 

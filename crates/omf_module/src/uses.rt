@@ -1,7 +1,7 @@
 //! What the records of a module use, looked at once all of them are read.
 
 ghost use Rattle.std.specs.Prelude.{◌≡◌, ◌≢◌, ◌++◌, List, [], ◌∷◌, None, Some, option_map, IfOk, IfErr, OnOk, map};
-ghost use Rattle.std.specs.Option.{option_to_list};
+ghost use Rattle.std.specs.Option.{option_or, option_to_list};
 ghost use Rattle.std.specs.Result.{result_err};
 ghost use Rattle.omf_parts.specs.Contents.{ContentValue};
 ghost use Rattle.omf_module.specs.Gathered.{content_after, contents_from, fixups_in, with_fixups};
@@ -9,7 +9,6 @@ ghost use Rattle.omf_module.specs.Uses.{unknown_id, ids_in, place_fault, referen
 ghost use Rattle.omf_module.specs.Reading.{with_contents, TakesBody, OrNoMemory};
 
 use crate::fault::{Cause, ModuleFault};
-use crate::gathering::fixups_in;
 use crate::open::Open;
 use crate::records::PlacedBody;
 use omf_body::segment_id::STACK;
@@ -77,6 +76,14 @@ fn look_at_place(parts: &Parts, body: &Body) -> Result<(), Cause>
     Ok(())
 }
 
+/// Whether a record's own segments and place are there.
+fn look_at(parts: &Parts, body: &Body) -> Result<(), Cause>
+    ensures { (cs : List ContentValue) → result_err result ≡ option_or (unknown_id (with_contents parts.now cs) (ids_in body.now)) (place_fault (with_contents parts.now cs) body.now) }
+{
+    look_at_ids(parts, body)?;
+    look_at_place(parts, body)
+}
+
 /// Takes the fixups of a record that isn't content into the nearest content before it.
 fn take_fixups<'a>(
     alloc: Global,
@@ -96,8 +103,7 @@ fn take_fixups<'a>(
             _ => Ok(None),
         };
     };
-    let fixups = fixups_in(alloc, open.segment(), body)?;
-    open.take_all(parts, &fixups)?;
+    open.take_those_of(alloc, parts, body)?;
     Ok(Some(open))
 }
 
@@ -122,8 +128,7 @@ fn take_body<'a>(
     ensures taken { IfOk result (λ after. TakesBody parts.now nearest.entry body.now whole.old.items whole.new.items after) }
     ensures fault { IfErr result (λ why. why ≢ Cause.Memory → (cs : List ContentValue) → body_fault (with_contents parts.now cs) nearest.entry body.now ≡ Some why) }
 {
-    look_at_ids(parts, body)?;
-    look_at_place(parts, body)?;
+    look_at(parts, body)?;
     let Body::Content(b) = body else {
         return take_fixups(alloc, parts, body, nearest);
     };

@@ -53,17 +53,12 @@ fn next_body<'a>(
         return Err(Cause::UnknownKind(record.kind));
     };
     match kind {
-        RecordKind::ModuleHeader => Err(Cause::UnknownKind(record.kind)),
-        RecordKind::EndOfFile => Err(Cause::NoEnd),
-        RecordKind::NamedCommons => {
-            take_commons(alloc, record.body, commons)?;
-            match parse(record) {
-                Ok(body) => Ok((body, after)),
-                Err(_) => unreachable!(),
-            }
-        }
-        _ => Ok((parse(record)?, after)),
+        RecordKind::ModuleHeader => return Err(Cause::UnknownKind(record.kind)),
+        RecordKind::EndOfFile => return Err(Cause::NoEnd),
+        RecordKind::NamedCommons => take_commons(alloc, record.body, commons)?,
+        _ => {}
     }
+    Ok((parse(record)?, after))
 }
 
 /// The records that follow a header, from a place on, the commons that they declare, and the place after the end of the

@@ -1,14 +1,16 @@
 -- Marks of bytes.
-use Rattle.std.proofs.Common.{◌≡◌, ◌≢◌, ℕ, ◌+◌, ◌-◌, ◌<◌, ◌≤◌, Bool, true, false, ◌||◌, ◌&&◌, List, [], ◌∷◌, ◌++◌, length, refl, sym, ◌∙◌, ap, arith, inl, inr, get_or, set, get_or-set_other, get_or-set_same, subst}
-use Rattle.std.proofs.lemmas.Bool.{or_right}
+use Rattle.std.proofs.Common.{◌≡◌, ◌≢◌, ℕ, ◌+◌, ◌-◌, ◌<◌, ◌≤◌, Bool, true, false, ◌||◌, ◌&&◌, List, [], ◌∷◌, ◌++◌, length, refl, sym, ◌∙◌, ap, arith, inl, inr, get_or, set, get_or-set_other, get_or-set_same, subst, take, drop}
+use Rattle.std.proofs.lemmas.Bool.{or_right, and_from}
 use Rattle.std.proofs.Math.Bool.{or-false}
-use Rattle.std.proofs.lemmas.List.{length-set}
+use Rattle.std.proofs.lemmas.List.{length-set, drop_more, take_more, get_or_default}
 use Rattle.std.proofs.lemmas.Bool.Decides.{eqb_tells}
 use Rattle.std.specs.List.{list_any}
 use Rattle.std.specs.Prelude.{not, ◌==◌}
 use Rattle.omf_parts.specs.declared.fixup.Fixup.{Fixup}
-use Rattle.omf_parts.specs.Contents.{is_taken, offsets_of}
+use Rattle.omf_parts.specs.declared.symbols.Common.{Common}
+use Rattle.omf_parts.specs.Contents.{is_taken, is_inside, shares_a_byte, offsets_of}
 use Rattle.omf_parts.specs.Marks.{AreMarks}
+use Rattle.omf_parts.specs.Rules.{each_after, is_fitting, has_target}
 
 or_join : (a b c d : Bool) → b ≡ (c || d) → (a || b) ≡ ((a || c) || d)
 or_join true b c d e = refl
@@ -91,3 +93,30 @@ two_bytes_marked marks before f first above two told =
     (same_marks (set (set marks (f.offset - first) true) (f.offset + 1 - first) true) first (with_byte (with_byte (is_taken before) f.offset) (f.offset + 1)) (is_taken (before ++ f ∷ []))
     (λ o. or_regroup (is_taken before o) (f.offset == o) ((f.offset + 1) == o) ∙ (ap (λ (os : List ℕ). is_taken before o || list_any (λ x. x == o) os) (sym two) ∙ sym (is_taken-push before f o)))
     high)
+
+-- the test of the next item after those before it, and of the others after that one
+pub next_tested : {A : Type 0} (test : List A → A → Bool) (xs : List A) (i : ℕ) (x : A) (whole : Bool)
+    → each_after test (take i xs) (drop i xs) ≡ whole → i < length xs → x ≡ get_or xs i x
+    → (test (take i xs) x && each_after test (take (i + 1) xs) (drop (i + 1) xs)) ≡ whole
+next_tested {A} test xs i x whole so_far within is =
+    let left : drop i xs ≡ x ∷ drop (i + 1) xs = drop_more xs i x within ∙ ap (λ (y : A). y ∷ drop (i + 1) xs) (sym is) in
+    let seen : take (i + 1) xs ≡ take i xs ++ x ∷ [] = take_more xs i x within ∙ ap (λ (y : A). take i xs ++ y ∷ []) (sym is) in
+    ap (λ (l : List A). test (take i xs) x && each_after test l (drop (i + 1) xs)) seen
+    ∙ (ap (λ (l : List A). each_after test (take i xs) l) (sym left) ∙ so_far)
+
+-- a reference that fits: what is left passes as all does
+pub fits_next : (commons : List Common) (externals first size : ℕ) (xs : List Fixup) (i : ℕ) (d : Fixup) (whole : Bool)
+    → each_after (is_fitting commons externals first size) (take i xs) (drop i xs) ≡ whole
+    → i < length xs
+    → is_inside first size (get_or xs i d) ≡ true
+    → true ≡ not (shares_a_byte (take i xs) (get_or xs i d))
+    → has_target commons externals (get_or xs i d).target ≡ true
+    → each_after (is_fitting commons externals first size) (take (i + 1) xs) (drop (i + 1) xs) ≡ whole
+fits_next commons externals first size xs i d whole so_far within inside free there =
+    let f = get_or xs i d in
+    let rest = each_after (is_fitting commons externals first size) (take (i + 1) xs) (drop (i + 1) xs) in
+    let fits : is_fitting commons externals first size (take i xs) f ≡ true =
+    and_from (is_inside first size f && not (shares_a_byte (take i xs) f)) (has_target commons externals f.target)
+    (and_from (is_inside first size f) (not (shares_a_byte (take i xs) f)) inside (sym free)) there in
+    ap (λ (b : Bool). b && rest) (sym fits)
+    ∙ next_tested (is_fitting commons externals first size) xs i f whole so_far within (get_or_default xs i d f within)
