@@ -41,7 +41,7 @@ pub all_made : {A B : Type 0} (f : ℕ × A → List B) (xs : List A) (n : ℕ) 
 all_made f xs n made past = ap (λ l. made ++ flat_map f (enumerate_from n l)) (drop_all n xs past) ∙ append-nil made
 
 -- what holds of all holds of the one that is read
-item_has : {A : Type 0} (P : A → Type 0) (xs : List A) (i : ℕ) (x : A) → AllByRecursion P xs → i < length xs → P (get_or xs i x)
+pub item_has : {A : Type 0} (P : A → Type 0) (xs : List A) (i : ℕ) (x : A) → AllByRecursion P xs → i < length xs → P (get_or xs i x)
 item_has P [] i x all inside = absurd (omega (arith, inside))
 item_has P (y ∷ ys) zero x all inside = all.0
 item_has P (y ∷ ys) (suc i) x all inside = item_has P ys i x all.1 (omega (arith, inside))
