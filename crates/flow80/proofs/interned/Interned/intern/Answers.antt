@@ -1,5 +1,5 @@
-use Rattle.std.specs.Prelude.{Some, slice_get}
-use Rattle.std.proofs.Common.{◌≡◌, ◌∙◌, ap, sym, arith}
+use Rattle.std.specs.Prelude.{Some}
+use Rattle.std.proofs.Common.{◌∙◌, ap, sym}
 use Rattle.frames80.specs.StackFrame.{StackFrame}
 use Rattle.flow80.proofs.interned.Interned.intern.Goals as goal
 
