@@ -1,9 +1,9 @@
 //! The whole analysis of a program.
 
-ghost use Rattle.std.specs.Prelude.{IfOk, IfErr};
+ghost use Rattle.std.specs.Prelude.{◌≡◌, IfOk, IfErr};
 ghost use Rattle.flow80.specs.Accepted.{IsAccepted};
 ghost use Rattle.flow80.specs.Faults.{Holds};
-ghost use Rattle.flow80.specs.Known.{IsFilled};
+ghost use Rattle.flow80.specs.Known.{IsFilled, nothing_known};
 
 use crate::code::Code;
 use crate::fill::fill;
@@ -27,8 +27,21 @@ pub fn analyze<C: Code>(alloc: Global, program: &C) -> Result<Report, Refusal>
     ensures refused { IfErr result (Holds (C.code program.now)) }
 {
     let mut table = Table::new(alloc)?;
-    fill(alloc, program, &mut table)?;
-    report_on(alloc, program, &table)
+    fill_and_report(alloc, program, &mut table)
+}
+
+/// Fills an empty table for a program, and reports on it.
+fn fill_and_report<C: Code>(
+    alloc: Global,
+    program: &C,
+    table: &mut Table,
+) -> Result<Report, Refusal>
+    requires { table.old ≡ nothing_known }
+    ensures accepted { IfOk result (λ r. IsAccepted (C.code program.now) r.procedures.items r.stack_bytes) }
+    ensures refused { IfErr result (Holds (C.code program.now)) }
+{
+    fill(alloc, program, table)?;
+    report_on(alloc, program, table)
 }
 
 /// Reports on a program whose table is filled.

@@ -159,14 +159,14 @@ impl Refusal {
 
 impl fmt::Display for Refusal {
     fn fmt<W: fmt::Write>(&self, f: &mut fmt::Formatter<W>) -> fmt::Result {
-        f.write_str(self.name())?;
-        if let Some(at) = self.address() {
-            write!(f, " {at:04X}")?;
-        }
+        let name = self.name();
         if let Refusal::StackTooSmall(need, has) = self {
-            write!(f, " {need} {has}")?;
+            return write!(f, "{name} {need} {has}");
         }
-        Ok(())
+        match self.address() {
+            Some(at) => write!(f, "{name} {at:04X}"),
+            None => f.write_str(name),
+        }
     }
 }
 

@@ -1,6 +1,6 @@
 -- Steps of loops over modules by number.
-use Rattle.std.specs.Prelude.{◌≡◌, ◌<◌, ◌≤◌, nat_lt, refl, ℕ, zero, suc, ◌+◌, length, map, [], Bool, ◌||◌, true, false, if◌then◌else◌, filter, Some, List, ◌∷◌, ◌++◌, drop, slice_get}
-use Rattle.std.specs.List.{AllByRecursion, list_any, flat_map, enumerate_from}
+use Rattle.std.specs.Prelude.{◌≡◌, ◌<◌, ◌≤◌, nat_lt, refl, ℕ, zero, suc, ◌+◌, length, map, [], Bool, ◌||◌, true, false, if◌then◌else◌, filter, filter_map, Option, Some, None, List, ◌∷◌, ◌++◌, drop, slice_get}
+use Rattle.std.specs.List.{AllByRecursion, list_any, flat_map, enumerate_from, cons_option}
 use Rattle.std.proofs.Common.{inl, inr, ◌∙◌, ap, sym, subst, arith, append_assoc, append-nil, get_or}
 use Rattle.std.proofs.lemmas.Bool.{cases_Bool}
 use Rattle.std.proofs.lemmas.Bool.Decides.{nat_tests}
@@ -30,6 +30,27 @@ one_more f xs i x made next inside is same =
     ∙ ap (λ y. made ++ y ∷ map f (drop (i + 1) xs)) (same ∙ ap f is)
     ∙ ap (λ l. made ++ map f l) (sym (drop_more xs i x inside))
 
+-- the same of the item itself
+pub one_item_more : {A B : Type 0} (f : A → B) (xs : List A) (i : ℕ) (d : A) (made : List B) (next : B) → i < length xs → next ≡ f (get_or xs i d) →
+    (made ++ next ∷ []) ++ map f (drop (i + 1) xs) ≡ made ++ map f (drop i xs)
+one_item_more f xs i d made next inside same =
+    append_assoc made (next ∷ []) (map f (drop (i + 1) xs))
+    ∙ ap (λ y. made ++ y ∷ map f (drop (i + 1) xs)) same
+    ∙ ap (λ l. made ++ map f l) (sym (drop_more xs i d inside))
+
+-- something is left of the item, or nothing
+pub one_left_more : {A B : Type 0} (f : A → Option B) (xs : List A) (i : ℕ) (d : A) (made : List B) (next : B) → i < length xs → f (get_or xs i d) ≡ Some next →
+    (made ++ next ∷ []) ++ filter_map f (drop (i + 1) xs) ≡ made ++ filter_map f (drop i xs)
+one_left_more {A} {B} f xs i d made next inside is =
+    let rest : List B = filter_map f (drop (i + 1) xs) in
+    append_assoc made (next ∷ []) rest ∙ ap (λ o. made ++ cons_option o rest) (sym is) ∙ ap (λ l. made ++ filter_map f l) (sym (drop_more xs i d inside))
+
+pub none_left_more : {A B : Type 0} (f : A → Option B) (xs : List A) (i : ℕ) (d : A) (made : List B) → i < length xs → f (get_or xs i d) ≡ None →
+    made ++ filter_map f (drop (i + 1) xs) ≡ made ++ filter_map f (drop i xs)
+none_left_more {A} {B} f xs i d made inside is =
+    let rest : List B = filter_map f (drop (i + 1) xs) in
+    ap (λ o. made ++ cons_option o rest) (sym is) ∙ ap (λ l. made ++ filter_map f l) (sym (drop_more xs i d inside))
+
 -- and what is made of one more with its number
 pub more_numbered : {A B : Type 0} (f : ℕ × A → List B) (xs : List A) (n : ℕ) (x : A) (made : List B) → slice_get xs n ≡ Some x →
     (made ++ f (n, x)) ++ flat_map f (enumerate_from (n + 1) (drop (n + 1) xs)) ≡ made ++ flat_map f (enumerate_from n (drop n xs))
@@ -41,7 +62,7 @@ pub all_made : {A B : Type 0} (f : ℕ × A → List B) (xs : List A) (n : ℕ) 
 all_made f xs n made past = ap (λ l. made ++ flat_map f (enumerate_from n l)) (drop_all n xs past) ∙ append-nil made
 
 -- what holds of all holds of the one that is read
-item_has : {A : Type 0} (P : A → Type 0) (xs : List A) (i : ℕ) (x : A) → AllByRecursion P xs → i < length xs → P (get_or xs i x)
+pub item_has : {A : Type 0} (P : A → Type 0) (xs : List A) (i : ℕ) (x : A) → AllByRecursion P xs → i < length xs → P (get_or xs i x)
 item_has P [] i x all inside = absurd (omega (arith, inside))
 item_has P (y ∷ ys) zero x all inside = all.0
 item_has P (y ∷ ys) (suc i) x all inside = item_has P ys i x all.1 (omega (arith, inside))

@@ -181,6 +181,25 @@ fn link_laid(
     link_joined(alloc, name, &joined, declared, main)
 }
 
+/// The module that is linked of modules whose publics have these names, and the names that none of them declares.
+fn link_declared(
+    alloc: Global,
+    name: &Name,
+    modules: &Modules,
+    declared: &NameTable,
+) -> Result<(Module, Vec<Name>), LinkFault>
+    requires names { declared.now ≡ map (λ p. p.name) (linked_publics modules.now) }
+    requires once { duplicate_public modules.now ≡ None }
+    ensures made { IfOk result (λ made. made.0 ≡ linked name.now modules.now) }
+    ensures unresolved { IfOk result (λ made. made.1.items ≡ unresolved modules.now) }
+    ensures no_fault { OnOk result (link_fault modules.now ≡ None) }
+    ensures sound { OnOk result (AllByRecursion IsModule modules.now) }
+    ensures fault { IfErr result (λ fault. fault ≢ LinkFault.Memory → link_fault modules.now ≡ Some fault) }
+{
+    let laid = LaidModules::new(alloc, modules)?;
+    link_laid(alloc, name, &laid, declared)
+}
+
 /// The module that is linked of these, and the names that none of them declares.
 fn link_modules(
     alloc: Global,
@@ -194,8 +213,7 @@ fn link_modules(
     ensures fault { IfErr result (λ fault. fault ≢ LinkFault.Memory → link_fault modules.now ≡ Some fault) }
 {
     let declared = declared_names(alloc, modules)?;
-    let laid = LaidModules::new(alloc, modules)?;
-    link_laid(alloc, name, &laid, &declared)
+    link_declared(alloc, name, modules, &declared)
 }
 
 /// Links modules, and the modules that they need of libraries, into one of the given name.

@@ -1,6 +1,6 @@
 -- The module of an image keeps the rules of modules, and is read as the image.
-use Rattle.std.proofs.Common.{◌≡◌, ◌≢◌, inl, inr, ℕ, ◌+◌, arith, Result, Bool, true, false, ◌&&◌, List, [], ◌∷◌, length, map, Some, Ok, Err, refl, sym, ap, subst, ◌∙◌, true≢false}
-use Rattle.std.specs.Prelude.{◌==◌, nat_le, not, if◌then◌else◌, IfErr}
+use Rattle.std.proofs.Common.{◌≡◌, ◌≢◌, ◌≤◌, ◌<◌, get_or, inl, inr, ℕ, ◌+◌, arith, Result, Bool, true, false, ◌&&◌, List, [], ◌∷◌, length, map, Some, Ok, Err, refl, sym, ap, subst, ◌∙◌, true≢false}
+use Rattle.std.specs.Prelude.{◌==◌, nat_le, not, if◌then◌else◌, IfOk, IfErr}
 use Rattle.std.specs.List.{list_all, AllByRecursion}
 use Rattle.std.proofs.lemmas.Bool.{and_parts, le-leb, leb-true, eqb-true}
 use Rattle.omf_core.specs.Name.{is_name}
@@ -19,7 +19,7 @@ use Rattle.omf_module.specs.WritingLaws.{WrittenFileIsSpelled}
 use Rattle.place80.specs.declared.image_fault.ImageFault.{ImageFault}
 use Rattle.place80.specs.declared.image_fault.ImageFault.TheVariants.{NotAbsolute, Module, Memory as OutOfMemory}
 use Rattle.image80.specs.Image.{PlacedBytes, Located, IsChunk}
-use Rattle.place80.specs.ImageFile.{without_regions, chunk_content, content_chunk, image_module, is_absolute_content, is_absolute_start, is_absolute, program_from, program_of, program_of_one, of_cause, of_module_fault, FaultsImage, of_file, of_modules, WrittenImageIsSpelled, OneImage, OneImageFault, NeverBothImage}
+use Rattle.place80.specs.ImageFile.{AbsoluteProgram, SpellsImage, without_regions, chunk_content, content_chunk, image_module, is_absolute_content, is_absolute_start, is_absolute, program_from, program_of, program_of_one, of_cause, of_module_fault, FaultsImage, of_file, of_modules, WrittenImageIsSpelled, OneImage, OneImageFault, NeverBothImage}
 
 -- ---- the module of an image
 
@@ -175,6 +175,17 @@ pub refused_by_module : {A : Type 0} (bytes : List ℕ) (m : ModuleValue) (ms : 
     → IfErr r (λ fault. fault ≢ OutOfMemory → program_of m ≡ Err fault) → IfErr r (λ fault. fault ≢ OutOfMemory → FaultsImage bytes fault)
 refused_by_module {A} bytes m ms (Ok x) s same e = e
 refused_by_module {A} bytes m ms (Err f) s same e = λ real. of_modules ms f s (same ∙ e real)
+
+pub read_by_module : (bytes : List ℕ) (m : ModuleValue) (ms : List ModuleValue) (r : Result AbsoluteProgram ImageFault)
+    → SpellsFile bytes ms → program_of_one ms ≡ program_of m → IfOk r (λ program. program_of m ≡ Ok program) → IfOk r (λ program. SpellsImage bytes program)
+read_by_module bytes m ms (Ok program) s same e = record { modules = ms; file = s; is = same ∙ e }
+read_by_module bytes m ms (Err f) s same e = e
+
+-- the one module of a list
+pub program_of_first : (ms : List ModuleValue) (m : ModuleValue) → 1 ≤ length ms → length ms < 2 → m ≡ get_or ms 0 m → program_of_one ms ≡ program_of m
+program_of_first [] m one few is = absurd (omega (arith, one))
+program_of_first (x ∷ []) m one few is = ap program_of (sym is)
+program_of_first (x ∷ y ∷ ys) m one few is = absurd (omega (arith, few))
 
 pub only_one : (ms : List ModuleValue) (m : ModuleValue) → ms ≡ m ∷ [] → program_of_one ms ≡ program_of m
 only_one ms m e = ap program_of_one e

@@ -1,7 +1,7 @@
 -- What holds of placed segments holds of the one that is looked up.
-use Rattle.std.specs.Prelude.{◌≡◌, ℕ, suc, ◌+◌, ◌==◌, ◌<◌, ◌++◌, Bool, filter, map, nat_lt, drop, length, refl, true, false, List, [], ◌∷◌, find, unwrap_or}
+use Rattle.std.specs.Prelude.{◌≡◌, ℕ, zero, suc, ◌+◌, ◌==◌, ◌<◌, ◌++◌, Bool, filter, map, nat_lt, drop, length, refl, true, false, List, [], ◌∷◌, find, unwrap_or}
 use Rattle.std.specs.List.{AllByRecursion}
-use Rattle.std.proofs.Common.{cond, arith, Some, sym, ap, ◌∙◌, append_assoc, get_or, drop-cons}
+use Rattle.std.proofs.Common.{cond, arith, Some, sym, ap, subst, ◌∙◌, append_assoc, get_or, drop-cons}
 use Rattle.std.proofs.lemmas.List.{drop_more}
 use Rattle.place80.specs.declared.placed.Placed.{Placed}
 use Rattle.omf_parts.specs.Contents.{ContentValue}
@@ -16,6 +16,15 @@ placed_in_word [] id all = omega arith
 placed_in_word (p ∷ ps) id all =
     elim (p.id == id) as (λ b. (unwrap_or (cond b (Some p) (find (λ (q : Placed). q.id == id) ps)) (nowhere id)).length < 65536)
     [ true ↦ all.0 | false ↦ placed_in_word ps id all.1 ]
+
+-- what holds of all holds of the one that is read
+pub item_has : {A : Type 0} (P : A → Type 0) (xs : List A) (i : ℕ) (d : A) → AllByRecursion P xs → i < length xs → P (get_or xs i d)
+item_has P [] i d all inside = absurd (omega (arith, inside))
+item_has P (x ∷ xs) zero d all inside = all.0
+item_has P (x ∷ xs) (suc i) d all inside = item_has P xs i d all.1 (omega (arith, inside))
+
+pub all_item : {A : Type 0} (P : A → Type 0) (xs : List A) (i : ℕ) (x : A) → AllByRecursion P xs → i < length xs → x ≡ get_or xs i x → P x
+all_item P xs i x all inside is = subst P (sym is) (item_has P xs i x all inside)
 
 -- the chunks so far and those that are left, with one more
 pub chunk_step : (segments : List Placed) (contents : List ContentValue) (i : ℕ) (c : ContentValue) (front : List PlacedBytes) (made : PlacedBytes) → i < length contents → c ≡ get_or contents i c → made ≡ chunk_among segments c →

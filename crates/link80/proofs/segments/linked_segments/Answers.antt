@@ -1,4 +1,4 @@
-use Rattle.std.specs.Prelude.{◌++◌, ◌+◌, drop}
+use Rattle.std.specs.Prelude.{◌++◌, ◌+◌, drop, length}
 use Rattle.std.specs.List.{enumerate_from}
 use Rattle.std.proofs.Common.{◌∙◌, ap, arith}
 use Rattle.omf_parts.specs.Segments.{empty_segment}
@@ -12,3 +12,6 @@ loop-segment-preserved c = (
       ∙ c.loop-segment.invariant.0,
   omega (arith, c.loop-segment.invariant.1),
 )
+
+pub overflow_add-id : goal.overflow_add-id
+overflow_add-id c = omega (arith, c.loop-segment.invariant.1, c.in_ok-common_segments.ensures.few, ap length c.deref-segment-items.ensures.value, c.loop-segment-test.true)

@@ -1,5 +1,6 @@
 use Rattle.std.specs.Prelude.{◌++◌, ◌+◌, map, drop}
 use Rattle.std.proofs.Common.{◌∙◌, ap}
+use Rattle.std.proofs.lemmas.Option.{slice_get_within}
 use Rattle.link80.specs.Linked.{linked_public}
 use Rattle.link80.proofs.LoopLemmas.{one_more}
 use Rattle.link80.proofs.tables.add_moved_publics.Goals as goal
@@ -11,3 +12,6 @@ loop-public-preserved c =
     (record { name = c.in_ok-copy.field-0; segment = c.linked_id.result; offset = c.moved.result })
     c.loop-public-test.true c.public-item.is (λ j. record { name = c.in_ok-copy.ensures.same j; segment = c.linked_id.ensures j; offset = c.moved.ensures j })
     ∙ c.loop-public.invariant
+
+pub moved-requires : goal.moved-requires
+moved-requires c = slice_get_within c.args.joined.now c.args.number c.args.of.now c.requires

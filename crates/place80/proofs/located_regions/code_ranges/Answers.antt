@@ -1,14 +1,17 @@
 use Rattle.std.specs.Prelude.{◌++◌, ◌+◌, ◌∷◌, ◌==◌, [], Bool, List, drop}
 use Rattle.std.specs.Global.{Vec}
-use Rattle.std.proofs.Common.{◌∙◌, ap}
+use Rattle.std.proofs.Common.{◌<◌, ◌∙◌, ap}
 use Rattle.std.proofs.lemmas.Bool.{eq-eqb, ne_eqb}
 use Rattle.place80.specs.declared.placed.Placed.{Placed}
 use Rattle.image80.specs.declared.range.Range.{Range}
 use Rattle.image80.specs.RegionsText.{filled}
 use Rattle.place80.specs.Locating.{located_code}
-use Rattle.place80.proofs.LocatedLemmas.{one_range_more, no_range_more}
+use Rattle.place80.proofs.LocatedLemmas.{item_has, one_range_more, no_range_more}
 use Rattle.place80.proofs.located_regions.code_ranges.Goals as goal
 use Rattle.place80.proofs.located_regions.code_ranges.Goals.{then-placed-eq-CODE+in_ok-push_filled, else-placed-eq-CODE}
+
+pub range_at-requires : goal.range_at-requires
+range_at-requires c = item_has (λ (p : Placed). p.length < 65536) c.args.segments.now c.loop-placed.placed-index _ c.requires c.loop-placed-test.true
 
 pub loop-placed-preserved : goal.loop-placed-preserved
 loop-placed-preserved c =

@@ -1,13 +1,16 @@
 use Rattle.std.specs.Prelude.{◌++◌, ◌+◌, ◌∷◌, [], Bool, List, drop}
 use Rattle.std.specs.Global.{Vec}
-use Rattle.std.proofs.Common.{◌∙◌, ap, sym}
+use Rattle.std.proofs.Common.{◌<◌, ◌∙◌, ap, sym}
 use Rattle.place80.specs.declared.placed.Placed.{Placed}
 use Rattle.image80.specs.declared.range.Range.{Range}
 use Rattle.image80.specs.RegionsText.{filled}
 use Rattle.place80.specs.Locating.{is_data, located_data}
-use Rattle.place80.proofs.LocatedLemmas.{one_range_more, no_range_more}
+use Rattle.place80.proofs.LocatedLemmas.{item_has, one_range_more, no_range_more}
 use Rattle.place80.proofs.located_regions.data_ranges.Goals as goal
 use Rattle.place80.proofs.located_regions.data_ranges.Goals.{then-is_data+in_ok-push_filled, else-is_data}
+
+pub range_at-requires : goal.range_at-requires
+range_at-requires c = item_has (λ (p : Placed). p.length < 65536) c.args.segments.now c.loop-placed.placed-index _ c.requires c.loop-placed-test.true
 
 pub loop-placed-preserved : goal.loop-placed-preserved
 loop-placed-preserved c =

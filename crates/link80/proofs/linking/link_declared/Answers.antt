@@ -7,13 +7,13 @@ use Rattle.omf_parts.specs.Rules.{IsModule}
 use Rattle.link80.specs.declared.fault.LinkFault.TheVariants.{Memory}
 use Rattle.link80.specs.Linked.{linked, linked_publics, unresolved}
 use Rattle.link80.specs.LinkFault.{duplicate_public, segment_too_long, link_fault}
-use Rattle.link80.proofs.linking.link_modules.Goals as goal
+use Rattle.link80.proofs.linking.link_declared.Goals as goal
 
 pub link_laid-requires-clause-names : goal.link_laid-requires-clause-names
-link_laid-requires-clause-names c = c.in_ok-declared.ensures.names ∙ ap (λ (ms : List ModuleValue). map (λ (p : Public). p.name) (linked_publics ms)) (sym c.in_ok-laid.ensures.same)
+link_laid-requires-clause-names c = c.requires.names ∙ ap (λ (ms : List ModuleValue). map (λ (p : Public). p.name) (linked_publics ms)) (sym c.in_ok-laid.ensures.same)
 
 pub link_laid-requires-clause-once : goal.link_laid-requires-clause-once
-link_laid-requires-clause-once c = ap duplicate_public c.in_ok-laid.ensures.same ∙ c.in_ok-declared.ensures.once
+link_laid-requires-clause-once c = ap duplicate_public c.in_ok-laid.ensures.same ∙ c.requires.once
 
 pub link_laid-requires-clause-segments_fit : goal.link_laid-requires-clause-segments_fit
 link_laid-requires-clause-segments_fit c = ap segment_too_long c.in_ok-laid.ensures.same ∙ c.in_ok-laid.ensures.fit
