@@ -1,24 +1,30 @@
 use omf_core::Name;
 use std::alloc::{AllocError, AllocFailed};
-use std::error::Error;
-use std::fmt;
+use thiserror::Error;
 
 /// Why modules can't be linked: the first of these that holds, in the order of their numbers, or that memory ran out.
-#[derive(Debug, PartialEq, Eq, Drop)]
+#[derive(Debug, PartialEq, Eq, Drop, Error)]
 pub enum LinkFault {
     /// The first public, by module and then by record, whose name occurred before.
+    #[error("DuplicatePublic {0}")]
     DuplicatePublic(Name),
     /// The first of CODE, DATA and STACK, by its id, whose parts come to more than 65535 bytes.
+    #[error("SegmentTooLong {0:02X}")]
     SegmentTooLong(u8),
     /// Two modules have a start.
+    #[error("TwoMains")]
     TwoMains,
     /// A fixup takes the high byte of the place of a part that doesn't start at a multiple of 256.
+    #[error("HighNotPaged")]
     HighNotPaged,
     /// There are more than 249 named commons.
+    #[error("TooManyCommons")]
     TooManyCommons,
     /// Out of memory.
+    #[error("Memory")]
     Memory,
     /// More than 65536 names are unresolved.
+    #[error("TooManyExternals")]
     TooManyExternals,
 }
 
@@ -63,20 +69,3 @@ impl LinkFault {
         }
     }
 }
-
-impl fmt::Display for LinkFault {
-    fn fmt<W: fmt::Write>(&self, f: &mut fmt::Formatter<W>) -> fmt::Result {
-        let text = match self {
-            LinkFault::DuplicatePublic(name) => return write!(f, "DuplicatePublic {name}"),
-            LinkFault::SegmentTooLong(id) => return write!(f, "SegmentTooLong {id:02X}"),
-            LinkFault::TwoMains => "TwoMains",
-            LinkFault::HighNotPaged => "HighNotPaged",
-            LinkFault::TooManyCommons => "TooManyCommons",
-            LinkFault::Memory => "Memory",
-            LinkFault::TooManyExternals => "TooManyExternals",
-        };
-        f.write_str(text)
-    }
-}
-
-impl Error for LinkFault {}

@@ -3,17 +3,19 @@
 ghost use Rattle.std.specs.Prelude.{◌≡◌};
 ghost use Rattle.omf_core.specs.Fault.{record_fault_code, put_fault_code, name_fault_code};
 
-use std::{error, fmt};
 use thiserror::Error;
 
 /// Why no record is read at a place, which is the place asked for, in bytes from the start of the file.
-#[derive(Clone, Copy, PartialEq, Eq, Debug)]
+#[derive(Clone, Copy, PartialEq, Eq, Debug, Error)]
 pub enum RecordFault {
     /// The bytes end before the record does.
+    #[error("Truncated {0}")]
     Truncated(usize),
     /// The bytes of the record don't sum to 0 modulo 256.
+    #[error("BadSum {0}")]
     BadSum(usize),
     /// The length word is 0, so that it leaves no room for the checksum.
+    #[error("ZeroLength {0}")]
     ZeroLength(usize),
 }
 
@@ -29,19 +31,6 @@ impl RecordFault {
         }
     }
 }
-
-impl fmt::Display for RecordFault {
-    fn fmt<W: fmt::Write>(&self, f: &mut fmt::Formatter<W>) -> fmt::Result {
-        let (name, at) = match self {
-            RecordFault::Truncated(at) => ("Truncated", at),
-            RecordFault::BadSum(at) => ("BadSum", at),
-            RecordFault::ZeroLength(at) => ("ZeroLength", at),
-        };
-        write!(f, "{name} {at}")
-    }
-}
-
-impl error::Error for RecordFault {}
 
 /// Why a record isn't written.
 #[derive(Clone, Copy, PartialEq, Eq, Debug, Error)]

@@ -9,36 +9,50 @@ use omf_body::{BodyFault, FieldFault};
 use omf_core::{RecordFault, RecordKind};
 use std::alloc::{AllocError, AllocFailed};
 use std::{error, fmt};
+use thiserror::Error;
 
 /// What is wrong with a record of a module. (8080 Object Module Formats, and the rules of this project.)
-#[derive(Clone, Copy, PartialEq, Eq, Debug)]
+#[derive(Clone, Copy, PartialEq, Eq, Debug, Error)]
 pub enum Cause {
     /// The bytes are no record.
+    #[error("{0}")]
     Record(RecordFault),
     /// No byte stands where a module should start, or a record that isn't a module header.
+    #[error("NoHeader")]
     NoHeader,
     /// No record of this type byte may stand in a module.
+    #[error("UnknownKind {0:02X}")]
     UnknownKind(u8),
     /// The body of a record of this type byte ends inside a field, a field has no listed value,
     /// or an id or a name is listed twice.
+    #[error("BadBody {0:02X}")]
     BadBody(u8),
     /// A name is empty, or has a byte outside 21h to 7Eh.
+    #[error("BadName")]
     BadName,
     /// No segment of the module has this id, or content is said to be in STACK.
+    #[error("SegmentUnknown {0:02X}")]
     SegmentUnknown(u8),
     /// Content passes the end of its segment.
+    #[error("OffsetOutside")]
     OffsetOutside,
     /// No content stands before a fixup.
+    #[error("FixupBeforeContent")]
     FixupBeforeContent,
     /// The bytes of a reference aren't all in its content.
+    #[error("FixupOutside")]
     FixupOutside,
     /// A reference shares a byte with one before it.
+    #[error("FixupTwice")]
     FixupTwice,
     /// No external has the index of a reference.
+    #[error("IndexUnknown")]
     IndexUnknown,
     /// No byte stands where a module should go on, or an end-of-file record.
+    #[error("NoEnd")]
     NoEnd,
     /// There is no memory for the module.
+    #[error("Memory")]
     Memory,
 }
 
@@ -102,32 +116,6 @@ impl Cause {
         }
     }
 }
-
-impl fmt::Display for Cause {
-    fn fmt<W: fmt::Write>(&self, f: &mut fmt::Formatter<W>) -> fmt::Result {
-        let (name, byte) = match self {
-            Cause::Record(fault) => return fmt::Display::fmt(fault, f),
-            Cause::NoHeader => ("NoHeader", None),
-            Cause::UnknownKind(kind) => ("UnknownKind", Some(kind)),
-            Cause::BadBody(kind) => ("BadBody", Some(kind)),
-            Cause::BadName => ("BadName", None),
-            Cause::SegmentUnknown(id) => ("SegmentUnknown", Some(id)),
-            Cause::OffsetOutside => ("OffsetOutside", None),
-            Cause::FixupBeforeContent => ("FixupBeforeContent", None),
-            Cause::FixupOutside => ("FixupOutside", None),
-            Cause::FixupTwice => ("FixupTwice", None),
-            Cause::IndexUnknown => ("IndexUnknown", None),
-            Cause::NoEnd => ("NoEnd", None),
-            Cause::Memory => ("Memory", None),
-        };
-        match byte {
-            Some(byte) => write!(f, "{name} {byte:02X}"),
-            None => f.write_str(name),
-        }
-    }
-}
-
-impl error::Error for Cause {}
 
 /// Why no module is read: what is wrong with the record at place `at`, in bytes from the start of the file.
 /// Out of memory stands at place 0.

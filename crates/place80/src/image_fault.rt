@@ -1,20 +1,24 @@
 use omf_module::{Cause, ModuleFault};
 use std::alloc::AllocError;
-use std::error::Error;
-use std::fmt;
+use thiserror::Error;
 
 /// Why bytes are no image: the first of these that holds, in the order of their numbers, or that memory ran out.
-#[derive(Clone, Copy, Debug, PartialEq, Eq)]
+#[derive(Clone, Copy, Debug, PartialEq, Eq, Error)]
 pub enum ImageFault {
     /// The bytes are no object file.
+    #[error("{0}")]
     Module(ModuleFault),
     /// The object file has other than one module.
+    #[error("NotOneModule")]
     NotOneModule,
     /// The module has an external name or a reference, or has content or its start in a segment other than 0.
+    #[error("NotAbsolute")]
     NotAbsolute,
     /// The module is no main program.
+    #[error("NoStart")]
     NoStart,
     /// Out of memory.
+    #[error("Memory")]
     Memory,
 }
 
@@ -61,18 +65,3 @@ impl From<ModuleFault> for ImageFault {
         }
     }
 }
-
-impl fmt::Display for ImageFault {
-    fn fmt<W: fmt::Write>(&self, f: &mut fmt::Formatter<W>) -> fmt::Result {
-        let text = match self {
-            ImageFault::Module(fault) => return fmt::Display::fmt(fault, f),
-            ImageFault::NotOneModule => "NotOneModule",
-            ImageFault::NotAbsolute => "NotAbsolute",
-            ImageFault::NoStart => "NoStart",
-            ImageFault::Memory => "Memory",
-        };
-        f.write_str(text)
-    }
-}
-
-impl Error for ImageFault {}

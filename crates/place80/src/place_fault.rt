@@ -1,27 +1,33 @@
 use omf_core::Name;
 use std::alloc::{AllocError, AllocFailed};
-use std::error::Error;
-use std::fmt;
+use thiserror::Error;
 
 /// Why a program can't be located: the first of these that holds, in the order of their numbers, or that memory
 /// ran out. Segments and pairs of them are looked at in the order of their places: CODE, STACK, the named commons by id,
 /// the unnamed common, DATA, MEMORY.
-#[derive(Debug, PartialEq, Eq, Drop)]
+#[derive(Debug, PartialEq, Eq, Drop, Error)]
 pub enum PlaceFault {
     /// The first external, for which LINK found no public.
+    #[error("Unresolved {0}")]
     Unresolved(Name),
     /// The module is no main program.
+    #[error("NoStart")]
     NoStart,
     /// The first segment, by its id, that passes the end of memory, or MEMORY where its length no longer holds its content.
+    #[error("OutsideMemory {0:02X}")]
     OutsideMemory(u8),
     /// The first two segments that share an address, by their ids, or else the first absolute content, named 0, and
     /// the first segment with which it does.
+    #[error("Overlap {0:02X} {1:02X}")]
     Overlap(u8, u8),
     /// A reference takes the high byte of a place that isn't a multiple of 256.
+    #[error("HighNotPaged")]
     HighNotPaged,
     /// The program starts outside CODE.
+    #[error("StartNotCode")]
     StartNotCode,
     /// Out of memory.
+    #[error("Memory")]
     Memory,
 }
 
@@ -66,20 +72,3 @@ impl<T: Drop> From<AllocFailed<T>> for PlaceFault {
         PlaceFault::Memory
     }
 }
-
-impl fmt::Display for PlaceFault {
-    fn fmt<W: fmt::Write>(&self, f: &mut fmt::Formatter<W>) -> fmt::Result {
-        let text = match self {
-            PlaceFault::Unresolved(name) => return write!(f, "Unresolved {name}"),
-            PlaceFault::OutsideMemory(id) => return write!(f, "OutsideMemory {id:02X}"),
-            PlaceFault::Overlap(one, other) => return write!(f, "Overlap {one:02X} {other:02X}"),
-            PlaceFault::NoStart => "NoStart",
-            PlaceFault::HighNotPaged => "HighNotPaged",
-            PlaceFault::StartNotCode => "StartNotCode",
-            PlaceFault::Memory => "Memory",
-        };
-        f.write_str(text)
-    }
-}
-
-impl Error for PlaceFault {}
