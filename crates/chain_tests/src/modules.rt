@@ -7,6 +7,7 @@ use omf_module::{
     write_file, write_module,
 };
 use std::alloc::{AllocError, Global};
+use std::slice;
 use std::test::Fail;
 
 /// A main program `A` with one byte of code, and nothing else.
@@ -61,7 +62,7 @@ fn file_of(alloc: Global, modules: &[Module]) -> Result<Vec<u8>, Fail> {
 /// The file of the module of these parts.
 fn file_of_parts(alloc: Global, parts: Parts) -> Result<Vec<u8>, Fail> {
     match Module::from_parts(alloc, parts) {
-        Ok(module) => file_of(alloc, &[module]),
+        Ok(module) => file_of(alloc, slice::from_ref(&module)),
         Err((_, fault)) => Err(fault.into()),
     }
 }
@@ -80,20 +81,27 @@ fn a_file_is_read_and_written(rt: HostRuntime) -> Result<(), Fail> {
     Ok(())
 }
 
-/// Appends the bytes that are written for a copy of the module.
-fn put_copy(alloc: Global, source: &Module, out: &mut Vec<u8>) -> Result<(), AllocError> {
+/// The bytes that are written for a copy of the module.
+fn copied(alloc: Global, source: &Module) -> Result<Vec<u8>, AllocError> {
     let copy = source.copy(alloc)?;
-    write_module(alloc, &copy, out)
+    let mut out = Vec::new(alloc);
+    write_module(alloc, &copy, &mut out)?;
+    Ok(out)
+}
+
+/// Whether a module has the program's start and segment, and its copy is written as the program.
+fn is_the_program(alloc: Global, module: &Module) -> Result<bool, AllocError> {
+    let has_parts = module.start() == Some((1, 0)) && module.segment(1) == Some(ONE.1);
+    Ok(has_parts && copied(alloc, module)?.as_slice() == &HALT[..28])
 }
 
 #[test]
 fn a_module_is_read_and_copied(rt: HostRuntime) -> Result<(), Fail> {
-    let mut out = Vec::new(rt.alloc());
     let (module, after) = read_module(rt.alloc(), &HALT, 0)?;
-    assert_eq!(rt; module.start(), Some((1, 0)));
-    assert_eq!(rt; after, 28);
-    assert_eq!(rt; put_copy(rt.alloc(), &module, &mut out), Ok(()));
-    assert!(rt; module.segment(1) == Some(ONE.1) && out.as_slice() == &HALT[..28]);
+    assert_eq!(rt;
+        (is_the_program(rt.alloc(), &module), after),
+        (Ok(true), 28)
+    );
     Ok(())
 }
 

@@ -4,6 +4,7 @@ use link80::{Chosen, select};
 use omf_library::read_library;
 use omf_module::read_file;
 use std::alloc::Global;
+use std::slice;
 use std::test::Fail;
 
 /// A module that needs A.
@@ -33,7 +34,7 @@ const TAKEN: [Chosen; 2] = [
 fn taken(alloc: Global) -> Result<Vec<Chosen>, Fail> {
     let roots = read_file(alloc, &ROOT)?;
     let library = read_library(alloc, &RING)?;
-    Ok(select(alloc, &roots, &[library])?)
+    Ok(select(alloc, &roots, slice::from_ref(&library))?)
 }
 
 #[test]
