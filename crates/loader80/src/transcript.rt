@@ -1,6 +1,7 @@
 //! What is printed of a run, and of an image that is refused.
 ghost use Rattle.std.specs.Prelude.{◌≡◌, ◌++◌, IfOk, OnOk, string_bytes};
-ghost use Rattle.loader80.specs.TranscriptText.{end_line, output_line, refusal_line, transcript};
+ghost use Rattle.decode80.specs.Text.{byte_text, word_text};
+ghost use Rattle.loader80.specs.TranscriptText.{after_steps, end_line, output_line, refusal_line, transcript};
 
 use crate::digits::{ByteDigits, WordDigits};
 use machine80::End;
@@ -42,20 +43,26 @@ fn append_end(text: &mut String, end: Option<End>, at: u16, steps: u64) -> Resul
 {
     match end {
         None => writeln!(text, "STEPS AFTER {steps}"),
-        Some(End::Halt) => writeln!(text, "HALT {} AFTER {steps}", WordDigits(at)),
-        Some(End::InputEnd(port)) => writeln!(text, "INPUT {} AFTER {steps}", ByteDigits(port)),
-        Some(End::OutputRefused(port)) => writeln!(
-            text,
-            "OUTPUT {} AFTER {steps}",
-            ByteDigits(port)
-        ),
-        Some(End::StoreOutside(address)) => writeln!(
-            text,
-            "STORE {} AFTER {steps}",
-            WordDigits(address)
-        ),
+        Some(End::Halt) => append_word(text, "HALT ", at, steps),
+        Some(End::InputEnd(port)) => append_byte(text, "INPUT ", port, steps),
+        Some(End::OutputRefused(port)) => append_byte(text, "OUTPUT ", port, steps),
+        Some(End::StoreOutside(address)) => append_word(text, "STORE ", address, steps),
         Some(End::Fetch(_) | End::Stack(_) | End::Direct(_)) => Ok(()),
     }
+}
+
+// What a run ended by, its word, and the steps.
+fn append_word(text: &mut String, name: &str, word: u16, steps: u64) -> Result<(), AllocError>
+    ensures { OnOk result (string_bytes text.new ≡ string_bytes text.old ++ (name.now ++ (word_text word ++ after_steps steps))) }
+{
+    writeln!(text, "{name}{} AFTER {steps}", WordDigits(word))
+}
+
+// What a run ended by, its byte, and the steps.
+fn append_byte(text: &mut String, name: &str, byte: u8, steps: u64) -> Result<(), AllocError>
+    ensures { OnOk result (string_bytes text.new ≡ string_bytes text.old ++ (name.now ++ (byte_text byte ++ after_steps steps))) }
+{
+    writeln!(text, "{name}{} AFTER {steps}", ByteDigits(byte))
 }
 
 /// The line for an image that is refused.
