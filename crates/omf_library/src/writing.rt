@@ -101,8 +101,7 @@ fn push_public_names(source: &Module, out: &mut Vec<u8>) -> Result<(), AllocErro
     for public in source.publics() {
         push_name(&public.name, out)?;
     }
-    out.push(0)?;
-    Ok(())
+    out.extend_from_slice(&[0])
 }
 
 fn dictionary_of(alloc: Global, modules: &[Module]) -> Result<Vec<u8>, AllocError>
