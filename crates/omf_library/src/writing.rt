@@ -10,7 +10,7 @@ ghost use Rattle.omf_body.specs.Fields.{word_bytes};
 ghost use Rattle.omf_module.specs.Writing.{module_bytes};
 ghost use Rattle.omf_module.specs.WritingLaws.{IsReadAgain};
 ghost use Rattle.omf_library.specs.Spelled.{SpellsLibrary};
-ghost use Rattle.omf_library.specs.Writing.{location_bytes, places_from, names_body, public_names, dictionary_body, library_bytes, is_too_large};
+ghost use Rattle.omf_library.specs.Writing.{location_bytes, places_from, names_body, public_names, locations_body, dictionary_body, library_bytes, is_too_large};
 
 use crate::fault::LibraryPutFault;
 use crate::laws::written_library_is_spelled;
@@ -202,6 +202,24 @@ struct Index {
     dictionary: Vec<u8>,
 }
 
+/// Appends the records of the index.
+fn push_index(alloc: Global, index: &Index, out: &mut Vec<u8>) -> Result<(), AllocError>
+    requires names { length index.now.names.items ≤ 65534 }
+    requires locations { length index.now.locations.items ≤ 65534 }
+    requires dictionary { length index.now.dictionary.items ≤ 65534 }
+    ensures { OnOk result (out.new.items ≡ out.old.items ++ spelling 0x28 index.now.names.items
+        ++ spelling 0x26 index.now.locations.items ++ spelling 0x2A index.now.dictionary.items) }
+{
+    append(alloc, RecordKind::LibraryModuleNames, &index.names, out)?;
+    append(
+        alloc,
+        RecordKind::LibraryModuleLocations,
+        &index.locations,
+        out,
+    )?;
+    append(alloc, RecordKind::LibraryDictionary, &index.dictionary, out)
+}
+
 /// The file of these parts.
 fn file_of(
     alloc: Global,
@@ -219,26 +237,55 @@ fn file_of(
     let mut file = Vec::new(alloc);
     append(alloc, RecordKind::LibraryHeader, header, &mut file)?;
     file.extend_from_slice(modules)?;
-    append(
-        alloc,
-        RecordKind::LibraryModuleNames,
-        &index.names,
-        &mut file,
-    )?;
-    append(
-        alloc,
-        RecordKind::LibraryModuleLocations,
-        &index.locations,
-        &mut file,
-    )?;
-    append(
-        alloc,
-        RecordKind::LibraryDictionary,
-        &index.dictionary,
-        &mut file,
-    )?;
+    push_index(alloc, index, &mut file)?;
     append(alloc, RecordKind::EndOfFile, &[], &mut file)?;
     Ok(file)
+}
+
+/// The index of these modules, whose places and bytes are these.
+fn index_of(
+    alloc: Global,
+    modules: &[Module],
+    places: &[usize],
+    bytes: &[u8],
+) -> Result<Index, LibraryPutFault>
+    requires places { places.now ≡ places_from 10 modules.now }
+    requires bytes { bytes.now ≡ flat_map module_bytes modules.now }
+    ensures names { IfOk result (λ index. index.names.items ≡ names_body modules.now) }
+    ensures locations { IfOk result (λ index. index.locations.items ≡ locations_body modules.now) }
+    ensures dictionary { IfOk result (λ index. index.dictionary.items ≡ dictionary_body modules.now) }
+    ensures fits { OnOk result (is_too_large modules.now ≡ false) }
+    ensures too_large { IsErrOf result LibraryPutFault.TooLarge → IsTrue (is_too_large modules.now) }
+{
+    let names = names_of(alloc, modules)?;
+    let dictionary = dictionary_of(alloc, modules)?;
+    if is_too_large(modules, &names, places, &dictionary, bytes) {
+        return Err(LibraryPutFault::TooLarge);
+    }
+    let locations = locations_of(alloc, places)?;
+    Ok(Index {
+        names,
+        locations,
+        dictionary,
+    })
+}
+
+/// The library of modules that aren't too large for one, whose bytes and index are these.
+fn library_with(
+    alloc: Global,
+    modules: &[Module],
+    bytes: &[u8],
+    index: &Index,
+) -> Result<Vec<u8>, AllocError>
+    requires fits { is_too_large modules.now ≡ false }
+    requires bytes { bytes.now ≡ flat_map module_bytes modules.now }
+    requires names { index.now.names.items ≡ names_body modules.now }
+    requires locations { index.now.locations.items ≡ locations_body modules.now }
+    requires dictionary { index.now.dictionary.items ≡ dictionary_body modules.now }
+    ensures { IfOk result (λ file. file.items ≡ library_bytes modules.now) }
+{
+    let header = header_of(alloc, modules.len() as u16, FIRST_PLACE + bytes.len())?;
+    file_of(alloc, &header, bytes, index)
 }
 
 /// The library of these modules.
@@ -249,19 +296,8 @@ fn library_of(alloc: Global, modules: &[Module]) -> Result<Vec<u8>, LibraryPutFa
     ensures read { OnOk result (AllByRecursion IsReadAgain modules.now) }
 {
     let (bytes, places) = modules_with_places(alloc, modules)?;
-    let names = names_of(alloc, modules)?;
-    let dictionary = dictionary_of(alloc, modules)?;
-    if is_too_large(modules, &names, &places, &dictionary, &bytes) {
-        return Err(LibraryPutFault::TooLarge);
-    }
-    let locations = locations_of(alloc, &places)?;
-    let header = header_of(alloc, modules.len() as u16, FIRST_PLACE + bytes.len())?;
-    let index = Index {
-        names,
-        locations,
-        dictionary,
-    };
-    let file = file_of(alloc, &header, &bytes, &index)?;
+    let index = index_of(alloc, modules, &places, &bytes)?;
+    let file = library_with(alloc, modules, &bytes, &index)?;
     Ok(file)
 }
 
