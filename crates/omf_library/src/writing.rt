@@ -1,6 +1,6 @@
 //! Libraries as bytes, in canonical form.
 
-ghost use Rattle.std.specs.Prelude.{◌≡◌, ◌≢◌, ◌≤◌, [], ◌++◌, ◌/◌, ◌||◌, length, nat_lt, is_ok, Err, IfOk, OnOk, OnErr, IsErrOf, IsTrue, false};
+ghost use Rattle.std.specs.Prelude.{◌≡◌, ◌≢◌, ◌≤◌, [], ◌∷◌, ◌++◌, ◌+◌, ◌/◌, ◌||◌, length, nat_lt, is_ok, Err, IfOk, OnOk, OnErr, IsErrOf, IsTrue, false};
 ghost use Rattle.std.specs.List.{flat_map, AllByRecursion};
 ghost use Rattle.omf_core.specs.Name.{name_spelling};
 ghost use Rattle.omf_core.specs.Kind.{kind_byte};
@@ -56,6 +56,21 @@ fn push_name(name: &Name, out: &mut Vec<u8>) -> Result<(), AllocError>
     out.extend_from_slice(bytes)
 }
 
+/// Appends the bytes of a module, and the place at which it begins.
+fn push_module(
+    alloc: Global,
+    source: &Module,
+    bytes: &mut Vec<u8>,
+    places: &mut Vec<usize>,
+) -> Result<(), AllocError>
+    ensures bytes { OnOk result (bytes.new.items ≡ bytes.old.items ++ module_bytes source.now) }
+    ensures place { OnOk result (places.new.items ≡ places.old.items ++ (10 + length bytes.old.items) ∷ []) }
+    ensures read { OnOk result (IsReadAgain source.now) }
+{
+    places.push(FIRST_PLACE + bytes.len())?;
+    write_module(alloc, source, bytes)
+}
+
 /// The bytes of the modules one after another, and where each begins.
 fn modules_with_places(
     alloc: Global,
@@ -68,8 +83,7 @@ fn modules_with_places(
     let mut bytes = Vec::new(alloc);
     let mut places = Vec::new(alloc);
     for source in modules {
-        places.push(FIRST_PLACE + bytes.len())?;
-        write_module(alloc, source, &mut bytes)?;
+        push_module(alloc, source, &mut bytes, &mut places)?;
     }
     Ok((bytes, places))
 }

@@ -1,4 +1,4 @@
-use Rattle.std.proofs.Common.{◌≤◌, ◌/◌, ◌∙◌, ℕ, List, sym, subst, ap}
+use Rattle.std.proofs.Common.{◌≤◌, ◌/◌, ◌∙◌, ℕ, sym, subst, ap}
 use Rattle.std.specs.List.{flat_map, AllByRecursion}
 use Rattle.omf_library.specs.Writing.{location_bytes}
 use Rattle.omf_library.proofs.WritingLemmas.{places_fit}

@@ -1,4 +1,4 @@
-use Rattle.std.proofs.Common.{rules, ◌≡◌, ◌≤◌, ◌∙◌, ℕ, List, length, sym, subst, ap}
+use Rattle.std.proofs.Common.{rules, ◌≡◌, ◌≤◌, ◌∙◌, ℕ, List, length, sym, subst}
 use Rattle.std.specs.Prelude.{IfOk}
 use Rattle.omf_library.specs.Writing.{header_body}
 use Rattle.omf_library.proofs.WritingLemmas.{fits, file_is}

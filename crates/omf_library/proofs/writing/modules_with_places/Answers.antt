@@ -1,4 +1,4 @@
-use Rattle.std.proofs.Common.{rules, ◌+◌, List, length, refl, subst, sym}
+use Rattle.std.proofs.Common.{◌+◌, List, length, refl, subst, sym}
 use Rattle.std.proofs.lemmas.List.{drop_all}
 use Rattle.std.specs.List.{flat_map, AllByRecursion}
 use Rattle.omf_parts.specs.Modules.{ModuleValue}
@@ -11,10 +11,10 @@ use Rattle.omf_library.proofs.writing.modules_with_places.Goals as goal
 
 pub loop-source-preserved : goal.loop-source-preserved
 loop-source-preserved c = record {
-  bytes = bytes_step c.args.modules.now c.loop-source.source-index c.source-item.result c.loop-source.bytes.items c.write_module.new.out.items c.loop-source-test.true c.source-item.is c.in_ok-write_module.ensures.written c.loop-source.invariant.bytes;
-  places = places_step c.args.modules.now c.loop-source.source-index c.source-item.result c.loop-source.bytes.items c.write_module.new.out.items c.loop-source.places.items c.push.new.self.items c.loop-source-test.true c.source-item.is
-      c.in_ok-write_module.ensures.written (search rules) c.loop-source.invariant.places;
-  read = read_step c.args.modules.now c.loop-source.source-index c.source-item.result c.loop-source-test.true c.source-item.is c.in_ok-write_module.ensures.read c.loop-source.invariant.read;
+  bytes = bytes_step c.args.modules.now c.loop-source.source-index c.source-item.result c.loop-source.bytes.items c.push_module.new.bytes.items c.loop-source-test.true c.source-item.is c.in_ok-push_module.ensures.bytes c.loop-source.invariant.bytes;
+  places = places_step c.args.modules.now c.loop-source.source-index c.source-item.result c.loop-source.bytes.items c.push_module.new.bytes.items c.loop-source.places.items c.push_module.new.places.items c.loop-source-test.true c.source-item.is
+      c.in_ok-push_module.ensures.bytes c.in_ok-push_module.ensures.place c.loop-source.invariant.places;
+  read = read_step c.args.modules.now c.loop-source.source-index c.source-item.result c.loop-source-test.true c.source-item.is c.in_ok-push_module.ensures.read c.loop-source.invariant.read;
 }
 
 pub returns-clause-bytes : goal.returns-clause-bytes

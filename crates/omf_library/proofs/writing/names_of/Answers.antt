@@ -1,4 +1,4 @@
-use Rattle.std.proofs.Common.{◌≡◌, ◌++◌, ◌∙◌, List, ℕ, refl, ap}
+use Rattle.std.proofs.Common.{◌++◌, ◌∙◌, List, ℕ, refl, ap}
 use Rattle.omf_core.specs.Name.{name_spelling}
 use Rattle.omf_library.specs.Writing.{names_body}
 use Rattle.omf_library.proofs.TakenLemmas.{one_taken, all_taken}
