@@ -10,3 +10,24 @@ locations_of-requires c =
 
 pub returns-clause-locations : goal.returns-clause-locations
 returns-clause-locations c = c.in_ok-locations.ensures ∙ ap (flat_map location_bytes) c.requires.places
+
+pub returns-clause-names : goal.returns-clause-names
+returns-clause-names c = c.in_ok-names.ensures
+
+pub returns-clause-dictionary : goal.returns-clause-dictionary
+returns-clause-dictionary c = c.in_ok-dictionary.ensures
+
+pub returns-clause-fits : goal.returns-clause-fits
+returns-clause-fits c = sym c.is_too_large.ensures ∙ c.if-is_too_large.false
+
+pub is_too_large-requires-clause-names : goal.is_too_large-requires-clause-names
+is_too_large-requires-clause-names c = c.deref.ensures.value ∙ c.in_ok-names.ensures
+
+pub is_too_large-requires-clause-places : goal.is_too_large-requires-clause-places
+is_too_large-requires-clause-places c = c.requires.places
+
+pub is_too_large-requires-clause-dictionary : goal.is_too_large-requires-clause-dictionary
+is_too_large-requires-clause-dictionary c = c.deref-2.ensures.value ∙ c.in_ok-dictionary.ensures
+
+pub is_too_large-requires-clause-bytes : goal.is_too_large-requires-clause-bytes
+is_too_large-requires-clause-bytes c = c.requires.bytes
