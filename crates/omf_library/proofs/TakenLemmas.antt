@@ -1,4 +1,5 @@
 -- What is taken of each item of a list in turn, and what holds of the item that is taken.
+use Rattle.std.specs.Prelude.{Result, Ok, Err, OnOk, is_ok, if◌then◌else◌}
 use Rattle.std.specs.List.{AllByRecursion}
 use Rattle.std.proofs.Common.{◌≡◌, ◌<◌, ◌≤◌, ◌+◌, ℕ, List, [], ◌∷◌, ◌++◌, length, drop, get_or, sym, ap, ◌∙◌, subst, append_assoc}
 use Rattle.std.proofs.lemmas.List.{append-nil, drop_all, drop_more}
@@ -43,3 +44,8 @@ first_has P xs i d all within = (subst (λ l. AllByRecursion P l) (drop_more xs 
 
 pub rest_have : {A : Type 0} (P : A → Type 0) (xs : List A) (i : ℕ) (d : A) → AllByRecursion P (drop i xs) → i < length xs → AllByRecursion P (drop (i + 1) xs)
 rest_have P xs i d all within = (subst (λ l. AllByRecursion P l) (drop_more xs i d within) all).1
+
+-- What is appended where a call succeeds.
+pub appended : {T E : Type 0} {A : Type 0} (r : Result T E) (new done old : List A) → new ≡ (if is_ok r then done else old) → OnOk r (new ≡ done)
+appended (Ok x) new done old e = e
+appended (Err f) new done old e = tt
