@@ -216,24 +216,6 @@ struct Index {
     dictionary: Vec<u8>,
 }
 
-/// Appends the records of the index.
-fn push_index(alloc: Global, index: &Index, out: &mut Vec<u8>) -> Result<(), AllocError>
-    requires names { length index.now.names.items ≤ 65534 }
-    requires locations { length index.now.locations.items ≤ 65534 }
-    requires dictionary { length index.now.dictionary.items ≤ 65534 }
-    ensures { OnOk result (out.new.items ≡ out.old.items ++ spelling 0x28 index.now.names.items
-        ++ spelling 0x26 index.now.locations.items ++ spelling 0x2A index.now.dictionary.items) }
-{
-    append(alloc, RecordKind::LibraryModuleNames, &index.names, out)?;
-    append(
-        alloc,
-        RecordKind::LibraryModuleLocations,
-        &index.locations,
-        out,
-    )?;
-    append(alloc, RecordKind::LibraryDictionary, &index.dictionary, out)
-}
-
 /// The file of these parts.
 fn file_of(
     alloc: Global,
@@ -251,7 +233,24 @@ fn file_of(
     let mut file = Vec::new(alloc);
     append(alloc, RecordKind::LibraryHeader, header, &mut file)?;
     file.extend_from_slice(modules)?;
-    push_index(alloc, index, &mut file)?;
+    append(
+        alloc,
+        RecordKind::LibraryModuleNames,
+        &index.names,
+        &mut file,
+    )?;
+    append(
+        alloc,
+        RecordKind::LibraryModuleLocations,
+        &index.locations,
+        &mut file,
+    )?;
+    append(
+        alloc,
+        RecordKind::LibraryDictionary,
+        &index.dictionary,
+        &mut file,
+    )?;
     append(alloc, RecordKind::EndOfFile, &[], &mut file)?;
     Ok(file)
 }
