@@ -1,5 +1,6 @@
 mod OneLibrary
 mod ProviderLemmas
 mod ReadingLemmas
+mod TakenLemmas
 mod WritingLemmas
 mod WrittenLibrary

@@ -1,6 +1,6 @@
 -- The steps of reading a library.
 use Rattle.std.proofs.Common.{◌≡◌, ◌≢◌, inl, inr, ℕ, ◌<◌, ◌≤◌, Bool, true, false, List, [], ◌∷◌, ◌++◌, length, Some, Result, Ok, Err, refl, sym, ap, subst, ◌∙◌, arith, true≢false}
-use Rattle.std.specs.Prelude.{◌==◌, IfOk, IfErr}
+use Rattle.std.specs.Prelude.{◌==◌, IfOk, IfErr, IsTrue}
 use Rattle.std.specs.List.{list_all}
 use Rattle.std.proofs.lemmas.Bool.{and_parts, false_from_ne_true}
 use Rattle.std.proofs.lemmas.Bool.Decides.{eqb_tells}
@@ -21,6 +21,21 @@ use Rattle.omf_library.specs.Laws.{OneLibrary, NeverBothLibrary}
 use Rattle.omf_library.specs.Reading.{BeginsModule, BeginsIndex, FaultsModules, ReadsIndex, StopsAt}
 
 -- ---- modules
+
+-- the record that stands at a place is a module header, or it is another
+pub begins_here : (bytes : List ℕ) (at next kind : ℕ) (body : List ℕ) → SpellsRecord bytes at next kind body → IsTrue (kind == 0x02) → BeginsModule bytes at
+begins_here bytes at next kind body s is =
+    elim (eqb_tells kind 0x02) [
+      | inl header ↦ record { next = next; body = body; spelled = subst (λ (k : ℕ). SpellsRecord bytes at next k body) header.1 s }
+      | inr other ↦ absurd (true≢false (sym is ∙ other.0))
+    ]
+
+pub begins_another : (bytes : List ℕ) (at next kind : ℕ) (body : List ℕ) → SpellsRecord bytes at next kind body → (kind == 0x02) ≡ false → BeginsModule bytes at → ⊥
+begins_another bytes at next kind body s not b =
+    elim (eqb_tells kind 0x02) [
+      | inl header ↦ absurd (true≢false (sym header.0 ∙ not))
+      | inr other ↦ other.1 (sym s.kind_byte ∙ b.spelled.kind_byte)
+    ]
 
 pub modules_push : (bytes : List ℕ) (from to next : ℕ) (ms : List ModuleValue) (m : ModuleValue) → SpellsModules bytes from to ms → SpellsModule bytes to next m → SpellsModules bytes from next (ms ++ m ∷ [])
 modules_push bytes from to next [] m s one = (next, subst (λ (f : ℕ). SpellsModule bytes f next m) (sym s) one, refl)

@@ -1,6 +1,6 @@
 //! Libraries as bytes, in canonical form.
 
-ghost use Rattle.std.specs.Prelude.{◌≡◌, ◌≢◌, ◌≤◌, [], ◌++◌, ◌/◌, ◌||◌, length, nat_lt, is_ok, Err, IfOk, OnOk, OnErr, IsErrOf, IsTrue, false};
+ghost use Rattle.std.specs.Prelude.{◌≡◌, ◌≢◌, ◌≤◌, [], ◌∷◌, ◌++◌, ◌+◌, ◌/◌, ◌||◌, length, nat_lt, is_ok, Err, IfOk, OnOk, OnErr, IsErrOf, IsTrue, false};
 ghost use Rattle.std.specs.List.{flat_map, AllByRecursion};
 ghost use Rattle.omf_core.specs.Name.{name_spelling};
 ghost use Rattle.omf_core.specs.Kind.{kind_byte};
@@ -10,7 +10,7 @@ ghost use Rattle.omf_body.specs.Fields.{word_bytes};
 ghost use Rattle.omf_module.specs.Writing.{module_bytes};
 ghost use Rattle.omf_module.specs.WritingLaws.{IsReadAgain};
 ghost use Rattle.omf_library.specs.Spelled.{SpellsLibrary};
-ghost use Rattle.omf_library.specs.Writing.{location_bytes, places_from, names_body, public_names, dictionary_body, library_bytes, is_too_large};
+ghost use Rattle.omf_library.specs.Writing.{location_bytes, places_from, names_body, public_names, locations_body, dictionary_body, library_bytes, is_too_large};
 
 use crate::fault::LibraryPutFault;
 use crate::laws::written_library_is_spelled;
@@ -56,6 +56,21 @@ fn push_name(name: &Name, out: &mut Vec<u8>) -> Result<(), AllocError>
     out.extend_from_slice(bytes)
 }
 
+/// Appends the bytes of a module, and the place at which it begins.
+fn push_module(
+    alloc: Global,
+    source: &Module,
+    bytes: &mut Vec<u8>,
+    places: &mut Vec<usize>,
+) -> Result<(), AllocError>
+    ensures bytes { OnOk result (bytes.new.items ≡ bytes.old.items ++ module_bytes source.now) }
+    ensures place { OnOk result (places.new.items ≡ places.old.items ++ (10 + length bytes.old.items) ∷ []) }
+    ensures read { OnOk result (IsReadAgain source.now) }
+{
+    places.push(FIRST_PLACE + bytes.len())?;
+    write_module(alloc, source, bytes)
+}
+
 /// The bytes of the modules one after another, and where each begins.
 fn modules_with_places(
     alloc: Global,
@@ -68,8 +83,7 @@ fn modules_with_places(
     let mut bytes = Vec::new(alloc);
     let mut places = Vec::new(alloc);
     for source in modules {
-        places.push(FIRST_PLACE + bytes.len())?;
-        write_module(alloc, source, &mut bytes)?;
+        push_module(alloc, source, &mut bytes, &mut places)?;
     }
     Ok((bytes, places))
 }
@@ -101,8 +115,7 @@ fn push_public_names(source: &Module, out: &mut Vec<u8>) -> Result<(), AllocErro
     for public in source.publics() {
         push_name(&public.name, out)?;
     }
-    out.push(0)?;
-    Ok(())
+    out.extend_from_slice(&[0])
 }
 
 fn dictionary_of(alloc: Global, modules: &[Module]) -> Result<Vec<u8>, AllocError>
@@ -242,6 +255,52 @@ fn file_of(
     Ok(file)
 }
 
+/// The index of these modules, whose places and bytes are these.
+fn index_of(
+    alloc: Global,
+    modules: &[Module],
+    places: &[usize],
+    bytes: &[u8],
+) -> Result<Index, LibraryPutFault>
+    requires places { places.now ≡ places_from 10 modules.now }
+    requires bytes { bytes.now ≡ flat_map module_bytes modules.now }
+    ensures names { IfOk result (λ index. index.names.items ≡ names_body modules.now) }
+    ensures locations { IfOk result (λ index. index.locations.items ≡ locations_body modules.now) }
+    ensures dictionary { IfOk result (λ index. index.dictionary.items ≡ dictionary_body modules.now) }
+    ensures fits { OnOk result (is_too_large modules.now ≡ false) }
+    ensures too_large { IsErrOf result LibraryPutFault.TooLarge → IsTrue (is_too_large modules.now) }
+{
+    let names = names_of(alloc, modules)?;
+    let dictionary = dictionary_of(alloc, modules)?;
+    if is_too_large(modules, &names, places, &dictionary, bytes) {
+        return Err(LibraryPutFault::TooLarge);
+    }
+    let locations = locations_of(alloc, places)?;
+    Ok(Index {
+        names,
+        locations,
+        dictionary,
+    })
+}
+
+/// The library of modules that aren't too large for one, whose bytes and index are these.
+fn library_with(
+    alloc: Global,
+    modules: &[Module],
+    bytes: &[u8],
+    index: &Index,
+) -> Result<Vec<u8>, AllocError>
+    requires fits { is_too_large modules.now ≡ false }
+    requires bytes { bytes.now ≡ flat_map module_bytes modules.now }
+    requires names { index.now.names.items ≡ names_body modules.now }
+    requires locations { index.now.locations.items ≡ locations_body modules.now }
+    requires dictionary { index.now.dictionary.items ≡ dictionary_body modules.now }
+    ensures { IfOk result (λ file. file.items ≡ library_bytes modules.now) }
+{
+    let header = header_of(alloc, modules.len() as u16, FIRST_PLACE + bytes.len())?;
+    file_of(alloc, &header, bytes, index)
+}
+
 /// The library of these modules.
 fn library_of(alloc: Global, modules: &[Module]) -> Result<Vec<u8>, LibraryPutFault>
     ensures written { IfOk result (λ file. file.items ≡ library_bytes modules.now) }
@@ -250,19 +309,8 @@ fn library_of(alloc: Global, modules: &[Module]) -> Result<Vec<u8>, LibraryPutFa
     ensures read { OnOk result (AllByRecursion IsReadAgain modules.now) }
 {
     let (bytes, places) = modules_with_places(alloc, modules)?;
-    let names = names_of(alloc, modules)?;
-    let dictionary = dictionary_of(alloc, modules)?;
-    if is_too_large(modules, &names, &places, &dictionary, &bytes) {
-        return Err(LibraryPutFault::TooLarge);
-    }
-    let locations = locations_of(alloc, &places)?;
-    let header = header_of(alloc, modules.len() as u16, FIRST_PLACE + bytes.len())?;
-    let index = Index {
-        names,
-        locations,
-        dictionary,
-    };
-    let file = file_of(alloc, &header, &bytes, &index)?;
+    let index = index_of(alloc, modules, &places, &bytes)?;
+    let file = library_with(alloc, modules, &bytes, &index)?;
     Ok(file)
 }
 
