@@ -1,4 +1,5 @@
 pub mod Reversed
+pub mod HashLemmas
 pub mod Meeting
 pub mod Returned
 pub mod PlaceLemmas
