@@ -23,6 +23,3 @@ pointwise_reverse xs ys =
       λ same. (pointwise_decides word_decides (reverse xs) (reverse ys)).1 (ap reverse same),
     )
     (pointwise_decides word_decides xs ys)
-
-pub again_reversed : (xs : List Word) → reverse (reverse xs) ≡ xs
-again_reversed xs = reverse-reverse xs

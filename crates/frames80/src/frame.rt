@@ -154,7 +154,6 @@ impl Hash for Frame {
 
     ghost respects_eq = { frame_alike };
 
-    #[tactic(auto, using(crate::proofs::Reversed::again_reversed))]
     fn hash<H: Hasher>(&self, state: &mut H) {
         state.write_u32(self.taken);
         self.words.hash(state);

@@ -1,8 +1,9 @@
 //! The reader of regions texts.
 
-ghost use Rattle.std.specs.Prelude.{◌≡◌, IsTrue, IsNone, IfOk, IfErr, IfSome, IfNone, slice_get};
+ghost use Rattle.std.specs.Prelude.{◌≡◌, ◌∷◌, ℕ, List, [], IsTrue, IsNone, IfOk, IfErr, OnOk, IfSome, IfNone, slice_get};
+ghost use Rattle.image80.specs.Lines.{parts};
 ghost use Rattle.image80.specs.Range.{IsInMemory};
-ghost use Rattle.image80.specs.RegionsText.{code_ranges, data_ranges, stack_range, stack_ranges, range_of, entry_text, GoodText, IsNoEntry, Spells, Refuses};
+ghost use Rattle.image80.specs.RegionsText.{heading, code_ranges, data_ranges, stack_range, stack_ranges, range_of, entry_text, GoodText, IsNoEntry, Spells, Refuses};
 ghost use Rattle.image80.specs.declared.fault.RegionsFault.TheVariants.{BadVersion};
 
 use crate::entry::{Entry, read_entry};
@@ -45,19 +46,39 @@ fn read_entries(alloc: Global, text: &[u8]) -> Result<Vec<Entry>, RegionsFault>
     ensures refused { IfErr result (Refuses text.now) }
     ensures version { IfErr result (λ fault. Refuses text.now BadVersion → fault ≡ BadVersion) }
 {
-    let Some((heading, after)) = first_line(text) else {
+    let after = after_heading(text)?;
+    let mut entries = Vec::new(alloc);
+    put_entries(after, &mut entries)?;
+    Ok(entries)
+}
+
+/// The lines after the first, which is the heading.
+fn after_heading(text: &[u8]) -> Result<&[u8], RegionsFault>
+    ensures after { IfOk result (λ after. parts text.now ≡ heading ∷ parts after.now) }
+    ensures refused { IfErr result (Refuses text.now) }
+    ensures version { IfErr result (λ fault. Refuses text.now BadVersion → fault ≡ BadVersion) }
+{
+    let Some((first, after)) = first_line(text) else {
         return Err(if text == HEADING {
             RegionsFault::BadLine(1)
         } else {
             RegionsFault::BadVersion
         });
     };
-    if heading != HEADING {
+    if first != HEADING {
         return Err(RegionsFault::BadVersion);
     }
-    let mut entries = Vec::new(alloc);
+    Ok(after)
+}
+
+/// Puts the entries of all lines, those after a heading, into an empty list.
+fn put_entries(lines: &[u8], entries: &mut Vec<Entry>) -> Result<(), RegionsFault>
+    requires empty { entries.old.items ≡ [] }
+    ensures good { OnOk result ((text : List ℕ) → parts text ≡ heading ∷ parts lines.now → GoodText text entries.new.items) }
+    ensures refused { IfErr result (λ fault. (text : List ℕ) → parts text ≡ heading ∷ parts lines.now → Refuses text fault) }
+{
     let mut has_stack = false;
-    let mut rest = after;
+    let mut rest = lines;
     while let Some((line, after)) = first_line(rest) {
         let Some(entry) = next_entry(line, has_stack) else {
             return Err(RegionsFault::BadLine(entries.len() + 2));
@@ -69,7 +90,7 @@ fn read_entries(alloc: Global, text: &[u8]) -> Result<Vec<Entry>, RegionsFault>
     if !rest.is_empty() {
         return Err(RegionsFault::BadLine(entries.len() + 2));
     }
-    Ok(entries)
+    Ok(())
 }
 
 /// The entry of a line, `None` where it spells none that lies in memory, or a second stack.
