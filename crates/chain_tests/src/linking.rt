@@ -1,9 +1,8 @@
 //! Two modules linked, by hand. Links of other modules, and those that are refused, are rows of the program's tests.
 
-use link80::{Linked, link};
+use link80::link;
 use omf_core::Name;
 use omf_module::{Field, Fixup, Module, Segment, Target, read_file};
-use std::alloc::Global;
 use std::test::Fail;
 
 /// A main program that calls SUB, and a module that declares it.
@@ -34,13 +33,6 @@ const FIVE: Segment = Segment {
     paged: false,
 };
 
-/// The module that is linked of the two, with no library.
-fn linked(alloc: Global) -> Result<Linked, Fail> {
-    let roots = read_file(alloc, &CALLER_AND_CALLEE)?;
-    let name = Name::new(alloc, b"PROGRAM")?;
-    Ok(link(alloc, &name, &roots, &[])?)
-}
-
 /// Whether the call is resolved.
 fn is_resolved(module: &Module) -> bool {
     let Some(first) = module.contents().first() else {
@@ -53,7 +45,9 @@ fn is_resolved(module: &Module) -> bool {
 
 #[test]
 fn a_call_is_resolved(rt: HostRuntime) -> Result<(), Fail> {
-    let linked = linked(rt.alloc())?;
+    let roots = read_file(rt.alloc(), &CALLER_AND_CALLEE)?;
+    let name = Name::new(rt.alloc(), b"PROGRAM")?;
+    let linked = link(rt.alloc(), &name, &roots, &[])?;
     assert_eq!(rt; linked.module.start(), Some((1, 0)));
     assert!(rt; linked.taken.is_empty() && linked.unresolved.is_empty());
     assert!(rt; is_resolved(&linked.module));

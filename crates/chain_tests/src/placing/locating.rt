@@ -30,16 +30,12 @@ fn a_halt_is_laid_out(rt: HostRuntime) -> Result<(), Fail> {
     Ok(())
 }
 
-/// The start of the image of a module, with no option, and the byte at 3000.
-fn located(alloc: Global, module: &Module) -> Result<(u16, u8), PlaceFault> {
-    let image = locate(alloc, module, &Options::default())?;
-    Ok((image.start, image.byte(0x3000)))
-}
-
 #[test]
 fn a_halt_is_located(rt: HostRuntime) -> Result<(), Fail> {
     let module = module(rt.alloc())?;
-    assert_eq!(rt; located(rt.alloc(), &module), Ok((0x3000, 0x76)));
+    let image = locate(rt.alloc(), &module, &Options::default())?;
+    assert_eq!(rt; image.start, 0x3000);
+    assert_eq!(rt; image.byte(0x3000), 0x76);
     Ok(())
 }
 
