@@ -1,5 +1,6 @@
 -- What each instruction does to a frame. (The instructions and the registers they write are those of the Intel 8080 Assembly
--- Language Programming Manual; that SPHL, PCHL, INX SP, DCX SP and most of LXI SP are refused is this project's own.)
+-- Language Programming Manual; that SPHL, INX SP, DCX SP and most of LXI SP are refused, and
+-- that PCHL leads to declared targets, is this project's own.)
 use Rattle.std.specs.Prelude.{◌*◌, Option, None, Some}
 use Rattle.decode80.specs.declared.register.Register.{Register}
 use Rattle.decode80.specs.declared.register.Register.TheVariants.{A, B, C, D, E, H, L}
@@ -10,13 +11,13 @@ use Rattle.decode80.specs.declared.pair.StackPair.TheVariants.{Bc as StackBc, De
 use Rattle.decode80.specs.declared.instr.Instr.{Instr}
 use Rattle.decode80.specs.declared.instr.Instr.TheVariants.{Mov, Load, Mvi, Lxi, Dad, Inx, Dcx, Inr, Dcr, Jmp, JumpIf, Call, CallIf, Ret, ReturnIf, Rst, Push, Pop, Lhld, Xthl, Pchl, Xchg, Sphl, Hlt}
 use Rattle.decode80.specs.Restart.{restart_number}
-use Rattle.frames80.specs.declared.fault.FrameFault.TheVariants.{Sphl as SetsPointer, Pchl as JumpsByPair, StackByByte}
+use Rattle.frames80.specs.declared.fault.FrameFault.TheVariants.{Sphl as SetsPointer, StackByByte}
 use Rattle.frames80.specs.declared.frame_pair.FramePair.{FramePair}
 use Rattle.frames80.specs.declared.frame_pair.FramePair.TheVariants.{Bc as FrameBc, De as FrameDe, Hl as FrameHl}
 use Rattle.frames80.specs.declared.effect.Change.{Change}
 use Rattle.frames80.specs.declared.effect.Change.TheVariants.{Keep, Push as PushPair, PushAny, Pop as PopPair, Drop, Swap, Exchange, Forget, SetStack}
 use Rattle.frames80.specs.declared.effect.Effect.{Effect}
-use Rattle.frames80.specs.declared.effect.Effect.TheVariants.{Change as Changes, Halt, Jump, JumpIf as JumpsIf, Call as Calls, CallIf as CallsIf, Return, ReturnIf as ReturnsIf, Refuse}
+use Rattle.frames80.specs.declared.effect.Effect.TheVariants.{Change as Changes, Halt, Jump, JumpIf as JumpsIf, Case, Call as Calls, CallIf as CallsIf, Return, ReturnIf as ReturnsIf, Refuse}
 
 -- a register is written: its pair may hold any word from then on. A is in no pair that is followed
 abbrev pub written : Register → Change
@@ -74,7 +75,7 @@ effect_of (Pop pair) = Changes (popped_by pair)
 effect_of Xthl = Changes Swap
 effect_of Xchg = Changes Exchange
 effect_of Sphl = Refuse SetsPointer
-effect_of Pchl = Refuse JumpsByPair
+effect_of Pchl = Case
 effect_of (Jmp to) = Jump to
 effect_of (JumpIf _ to) = JumpsIf to
 effect_of (Call to) = Calls to

@@ -12,9 +12,9 @@ use Rattle.frames80.specs.declared.fault.FrameFault.TheVariants.{SetsStack, Pops
 use Rattle.frames80.specs.declared.effect.Change.{Change}
 use Rattle.frames80.specs.declared.effect.Change.TheVariants.{Keep, Push, PushAny, Pop, Drop, Swap, Exchange, Forget, SetStack}
 use Rattle.frames80.specs.declared.effect.Effect.{Effect}
-use Rattle.frames80.specs.declared.effect.Effect.TheVariants.{Change as Changes, Halt, Jump, JumpIf, Call, CallIf, Return, ReturnIf, Refuse}
+use Rattle.frames80.specs.declared.effect.Effect.TheVariants.{Change as Changes, Halt, Jump, JumpIf, Case, Call, CallIf, Return, ReturnIf, Refuse}
 use Rattle.frames80.specs.declared.moves.Moves.{Moves}
-use Rattle.frames80.specs.declared.moves.Moves.TheVariants.{End, On, Jump as MovesTo, Either, Call as CallOf, MaybeCall, Return as Returns, MaybeReturn}
+use Rattle.frames80.specs.declared.moves.Moves.TheVariants.{End, On, Jump as MovesTo, Either, Case as Cases, Call as CallOf, MaybeCall, Return as Returns, MaybeReturn}
 use Rattle.frames80.specs.StackFrame.{StackFrame, pair_in, with_pair, top_word, pushed, popped, exchanged, cleared}
 
 -- the frame with this word in a pair
@@ -80,6 +80,7 @@ moves_of role (Changes change) f = unless (change_fault role change f.words) (On
 moves_of role Halt f = Ok End
 moves_of role (Jump to) f = Ok (MovesTo f to)
 moves_of role (JumpIf to) f = Ok (Either f to)
+moves_of role Case f = Ok (Cases f)
 moves_of role (Call to) f = Ok (CallOf f to)
 moves_of role (CallIf to) f = Ok (MaybeCall f to)
 moves_of role Return f = unless (return_fault role f.words) (Returns f.taken)

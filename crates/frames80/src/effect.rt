@@ -35,6 +35,8 @@ pub enum Effect {
     Halt,
     /// JMP to an address.
     Jump(u16),
+    /// PCHL, the jump of a DO CASE: it goes on at one of the targets that are declared for its address.
+    Case,
     /// A conditional jump to an address.
     JumpIf(u16),
     /// CALL of an address, or RST.

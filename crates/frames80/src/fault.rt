@@ -12,9 +12,6 @@ pub enum FrameFault {
     /// SPHL.
     #[error("Sphl")]
     Sphl = 4,
-    /// PCHL.
-    #[error("Pchl")]
-    Pchl = 5,
     /// INX SP or DCX SP.
     #[error("StackByByte")]
     StackByByte = 6,

@@ -26,6 +26,8 @@ pub enum Moves {
     Jump(Frame, u16),
     /// To the next instruction or to an address.
     Either(Frame, u16),
+    /// To each target that is declared for the instruction's address: PCHL.
+    Case(Frame),
     /// It calls an address.
     Call(Frame, u16),
     /// It calls an address or goes on to the next instruction.
@@ -39,8 +41,7 @@ pub enum Moves {
 /// What becomes of a frame at an instruction. The frame has up to 1,000,000 words, and as many taken.
 ///
 /// # Errors
-/// Each exactly where it says, and no two of them hold at once: `Sphl` and `Pchl` at SPHL and PCHL, `StackByByte` at INX SP and
-/// DCX SP; `SetsStack` at LXI SP, but for the main program with the stack's top; `PopsBelow` at a POP or XTHL of the main
+/// Each exactly where it says, and no two of them hold at once: `Sphl` at SPHL, `StackByByte` at INX SP and DCX SP; `SetsStack` at LXI SP, but for the main program with the stack's top; `PopsBelow` at a POP or XTHL of the main
 /// program with no words; `ReturnFromMain` at a return of the main program; `ReturnNotOwn` at a return of an entry whose words
 /// are not its return address alone. A conditional return is refused like any other. `Memory` comes only where none of these
 /// holds and memory runs out.
@@ -60,6 +61,7 @@ pub fn next(alloc: Global, frame: &Frame, instr: Instr, role: Role) -> Result<Mo
         Effect::Halt => Moves::End,
         Effect::Jump(to) => Moves::Jump(frame.copy(alloc)?, to),
         Effect::JumpIf(to) => Moves::Either(frame.copy(alloc)?, to),
+        Effect::Case => Moves::Case(frame.copy(alloc)?),
         Effect::Call(to) => Moves::Call(frame.copy(alloc)?, to),
         Effect::CallIf(to) => Moves::MaybeCall(frame.copy(alloc)?, to),
         Effect::Return => Moves::Return(frame.taken),

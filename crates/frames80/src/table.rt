@@ -4,7 +4,7 @@ ghost use Rattle.std.specs.Prelude.{◌≡◌};
 ghost use Rattle.frames80.specs.Effects.{effect_of, written, loaded, in_frame};
 
 use crate::effect::{Change, Effect};
-use crate::fault::FrameFault::{Pchl, Sphl, StackByByte};
+use crate::fault::FrameFault::{Sphl, StackByByte};
 use crate::frame_pair::FramePair;
 use decode80::{Instr, Pair, Register, StackPair};
 
@@ -23,7 +23,7 @@ pub fn effect_of(instr: Instr) -> Effect
         Instr::Xthl => Effect::Change(Change::Swap),
         Instr::Xchg => Effect::Change(Change::Exchange),
         Instr::Sphl => Effect::Refuse(Sphl),
-        Instr::Pchl => Effect::Refuse(Pchl),
+        Instr::Pchl => Effect::Case,
         Instr::Jmp(to) => Effect::Jump(to),
         Instr::JumpIf(_, to) => Effect::JumpIf(to),
         Instr::Call(to) => Effect::Call(to),
