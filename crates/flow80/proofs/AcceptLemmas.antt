@@ -2,13 +2,13 @@
 use Rattle.std.proofs.Common.{◌≡◌, ◌≢◌, ◌<◌, ◌≤◌, ◌+◌, inl, inr, ℕ, zero, suc, Bool, true, false, List, [], ◌∷◌, length, refl, sym, ap, subst, ◌∙◌, arith, true≢false}
 use Rattle.std.specs.Prelude.{ℤ, pos, ◌+ℤ◌, ◌≤ℤ◌, Option, Some, None, slice_get, if◌then◌else◌}
 use Rattle.std.proofs.lemmas.Int.{ints}
-use Rattle.frames80.specs.declared.fault.FrameFault.TheVariants.{Sphl as FrameSphl, Pchl as FramePchl, StackByByte as FrameStackByByte, SetsStack as FrameSetsStack, PopsBelow as FramePopsBelow, ReturnNotOwn as FrameReturnNotOwn, ReturnFromMain as FrameReturnFromMain}
+use Rattle.frames80.specs.declared.fault.FrameFault.TheVariants.{Sphl as FrameSphl, StackByByte as FrameStackByByte, SetsStack as FrameSetsStack, PopsBelow as FramePopsBelow, ReturnNotOwn as FrameReturnNotOwn, ReturnFromMain as FrameReturnFromMain}
 use Rattle.frames80.specs.StackFrame.{StackFrame, entry_frame}
 use Rattle.frames80.specs.Calls.{returned, depth_of}
 use Rattle.bounds80.specs.declared.procedure.Procedure.{Procedure}
 use Rattle.bounds80.specs.declared.procedure.Procedure.TheVariants.{Main, Entry}
 use Rattle.flow80.specs.declared.report.ProcRow.{ProcRow}
-use Rattle.flow80.specs.declared.code.LookFault.TheVariants.{Outside, Unused, EnablesInterrupts as LooksAtEi, DirectStore as LooksAtStore}
+use Rattle.flow80.specs.declared.code.LookFault.TheVariants.{Outside, Unused, EnablesInterrupts as LooksAtEi, Pchl as LooksAtPchl, DirectStore as LooksAtStore}
 use Rattle.flow80.specs.declared.refusal.Refusal.{Refusal}
 use Rattle.flow80.specs.declared.refusal.Refusal.TheVariants.{FetchOutside, UnusedOpcode, EnablesInterrupts, Sphl, Pchl, StackByByte, SetsStack, DirectStore, PopsBelow, ReturnNotOwn, ReturnFromMain, HeightsDiffer, UnevenArguments, ShortArguments, Recursion, StackTooSmall, TooManyPoints, Memory}
 use Rattle.flow80.specs.Code.{Code}
@@ -157,7 +157,7 @@ module _ (laws : FrameLaws) (code : Code) (known : Known) (wants bytes : List �
   no_refusal enough (EnablesInterrupts at) apart holds = no_look_fault laws code _ known_fits at LooksAtEi holds
   no_refusal enough (DirectStore at) apart holds = no_look_fault laws code _ known_fits at LooksAtStore holds
   no_refusal enough (Sphl at) apart holds = no_move_fault laws code _ known_fits at FrameSphl holds
-  no_refusal enough (Pchl at) apart holds = no_move_fault laws code _ known_fits at FramePchl holds
+  no_refusal enough (Pchl at) apart holds = no_look_fault laws code _ known_fits at LooksAtPchl holds
   no_refusal enough (StackByByte at) apart holds = no_move_fault laws code _ known_fits at FrameStackByByte holds
   no_refusal enough (SetsStack at) apart holds = no_move_fault laws code _ known_fits at FrameSetsStack holds
   no_refusal enough (PopsBelow at) apart holds = no_move_fault laws code _ known_fits at FramePopsBelow holds

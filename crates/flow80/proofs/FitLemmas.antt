@@ -51,11 +51,11 @@ fits_close code table fits = record {
 }
 
 -- a frame of the table over a frame that moves: it moves by the same effect, and each way on is in the table
-record Over (code : Code) (table : Table) (p : Procedure) (f : StackFrame) (found : Fetched) (moves : Moves) : Type 0 where
+record Over (code : Code) (table : Table) (p : Procedure) (at : ℕ) (f : StackFrame) (found : Fetched) (moves : Moves) : Type 0 where
   frame : StackFrame
   covers : Covers frame f
   move : moves ≡ move_with (effect_of found.instr) f
-  on : (to : ℕ) (g : StackFrame) → LeadsTo (move_with (effect_of found.instr) frame) found.next to g → Has table p to g
+  on : (to : ℕ) (g : StackFrame) → LeadsTo (move_with (effect_of found.instr) frame) (code.targets at) found.next to g → Has table p to g
   enters : (target : ℕ) → called (move_with (effect_of found.instr) frame) ≡ Some target → Has table (Entry target) target entry_frame
   after : (target taken : ℕ) → called (move_with (effect_of found.instr) frame) ≡ Some target → table.takes (Entry target) ≡ Some taken → Has table p found.next (returned taken frame)
   return : (taken : ℕ) → returning (move_with (effect_of found.instr) frame) ≡ Some taken → table.takes p ≡ Some taken
@@ -68,7 +68,7 @@ moves_there code p at frame here found moves moving same =
     (subst (λ (x : Fetched). moves_of (role_of code p) (effect_of x.instr) frame ≡ Ok moves) same moving.moved)).move
 
 over : (code : Code) (table : Table) → Closes code table → (p : Procedure) (at : ℕ) (f : StackFrame) → Has table p at f →
-    (found : Fetched) (moves : Moves) → Moving code p at f found moves → Over code table p f found moves
+    (found : Fetched) (moves : Moves) → Moving code p at f found moves → Over code table p at f found moves
 over code table closes p at f has found moves moving =
     let here = closes.frames p at has.frame has.there in
     let effect = effect_of found.instr in
@@ -78,8 +78,8 @@ over code table closes p at f has found moves moving =
       frame = has.frame;
       covers = has.covers;
       move = (moved_is (role_of code p) effect f moves moving.moved).move;
-      on = subst (λ (m : Moves). (to : ℕ) (g : StackFrame) → LeadsTo m found.next to g → Has table p to g) there
-          (subst (λ (x : Fetched). (to : ℕ) (g : StackFrame) → LeadsTo here.moves x.next to g → Has table p to g) same here.on);
+      on = subst (λ (m : Moves). (to : ℕ) (g : StackFrame) → LeadsTo m (code.targets at) found.next to g → Has table p to g) there
+          (subst (λ (x : Fetched). (to : ℕ) (g : StackFrame) → LeadsTo here.moves (code.targets at) x.next to g → Has table p to g) same here.on);
       enters = subst (λ (m : Moves). (target : ℕ) → called m ≡ Some target → Has table (Entry target) target entry_frame) there here.enters;
       after = subst (λ (m : Moves). (target taken : ℕ) → called m ≡ Some target → table.takes (Entry target) ≡ Some taken → Has table p found.next (returned taken has.frame)) there
           (subst (λ (x : Fetched). (target taken : ℕ) → called here.moves ≡ Some target → table.takes (Entry target) ≡ Some taken → Has table p x.next (returned taken has.frame)) same here.after);
@@ -88,7 +88,7 @@ over code table closes p at f has found moves moving =
 
 -- a call of a frame is one of the frame over it
 called_over : (code : Code) (table : Table) (p : Procedure) (at : ℕ) (f : StackFrame) (target next : ℕ) (call : Calls code p at f target next) →
-    (o : Over code table p f call.found call.moves) → called (move_with (effect_of call.found.instr) o.frame) ≡ Some target
+    (o : Over code table p at f call.found call.moves) → called (move_with (effect_of call.found.instr) o.frame) ≡ Some target
 called_over code table p at f target next call o = called_along (effect_of call.found.instr) o.frame f ∙ ap called (sym o.move) ∙ call.call
 
 -- the table's number of words taken is that of any walk that returns
@@ -107,8 +107,8 @@ covers_walks laws code table closes p at g (begins _ _ _ is) =
 covers_walks laws code table closes p to g (goes_on _ at f _ _ walk step) =
     let o = over code table closes p at f (covers_walks laws code table closes p at f walk) step.found step.moves step.moving in
     let effect = effect_of step.found.instr in
-    let along : LeadsAlong effect f o.frame step.found.next to g =
-    leads_along effect f o.frame step.found.next to g (subst (λ (m : Moves). LeadsTo m step.found.next to g) o.move step.leads) in
+    let along : LeadsAlong effect f o.frame (code.targets at) step.found.next to g =
+    leads_along effect f o.frame (code.targets at) step.found.next to g (subst (λ (m : Moves). LeadsTo m (code.targets at) step.found.next to g) o.move step.leads) in
     let after : Has table p to (frame_after effect f) =
     has_then table p to (frame_after effect o.frame) (frame_after effect f) (o.on to (frame_after effect o.frame) along.other)
     ((laws.covered o.frame f o.covers).change (change_of effect)) in

@@ -5,7 +5,7 @@ use Rattle.std.specs.Cmp.{unsigned_Decides, first_so, second_so}
 use Rattle.decode80.specs.declared.fetching.Fetched.{Fetched}
 use Rattle.frames80.specs.declared.fault.FrameFault.TheVariants.{ReturnFromMain}
 use Rattle.frames80.specs.declared.effect.Effect.{Effect}
-use Rattle.frames80.specs.declared.effect.Effect.TheVariants.{Change as Changes, Halt, Jump, JumpIf, Call, CallIf, Return, ReturnIf, Refuse}
+use Rattle.frames80.specs.declared.effect.Effect.TheVariants.{Change as Changes, Halt, Jump, JumpIf, Case, Call, CallIf, Return, ReturnIf, Refuse}
 use Rattle.frames80.specs.declared.moves.Moves.{Moves}
 use Rattle.frames80.specs.StackFrame.{StackFrame, entry_frame, main_frame}
 use Rattle.frames80.specs.Effects.{effect_of}
@@ -119,6 +119,7 @@ main_stays code at f found moves taken moving returns =
     no_return Halt none is = let e : None ≡ Some taken = is in cc
     no_return (Jump to) none is = let e : None ≡ Some taken = is in cc
     no_return (JumpIf to) none is = let e : None ≡ Some taken = is in cc
+    no_return Case none is = let e : None ≡ Some taken = is in cc
     no_return (Call to) none is = let e : None ≡ Some taken = is in cc
     no_return (CallIf to) none is = let e : None ≡ Some taken = is in cc
     no_return Return none is = let e : Some ReturnFromMain ≡ None = none in cc
@@ -126,7 +127,7 @@ main_stays code at f found moves taken moving returns =
     no_return (Refuse fault) none is = let e : None ≡ Some taken = is in cc
 
 pub closes_return : (code : Code) (known : Known) (wants bound : Procedure → ℕ) (p : Procedure) (at : ℕ) (f : StackFrame) (found : Fetched) (moves : Moves) →
-    Moving code p at f found moves → Follows known p f found.next moves → (taken : ℕ) → returning moves ≡ Some taken → takes_of known.exits p ≡ Some taken
+    Moving code p at f found moves → Follows known p (code.targets at) f found.next moves → (taken : ℕ) → returning moves ≡ Some taken → takes_of known.exits p ≡ Some taken
 closes_return code known wants bound Main at f found moves moving follows taken is = absurd (main_stays code at f found moves taken moving is)
 closes_return code known wants bound (Entry entry) at f found moves moving follows taken is = follows.return entry taken refl is
 
@@ -144,9 +145,10 @@ known_closes code known wants bound apart closed = record {
         subst (λ (q : Procedure). Moving code q at f c.found c.moves) s.procedure
         (subst (λ a. Moving code s.point.procedure a f c.found c.moves) s.address
         (subst (λ (g : StackFrame). Moving code s.point.procedure s.point.at g c.found c.moves) s.frame c.moving)) in
-        let follows : Follows known p f c.found.next c.moves =
-        subst (λ (q : Procedure). Follows known q f c.found.next c.moves) s.procedure
-        (subst (λ (g : StackFrame). Follows known s.point.procedure g c.found.next c.moves) s.frame c.follows) in
+        let follows : Follows known p (code.targets at) f c.found.next c.moves =
+        subst (λ (q : Procedure). Follows known q (code.targets at) f c.found.next c.moves) s.procedure
+        (subst (λ a. Follows known s.point.procedure (code.targets a) f c.found.next c.moves) s.address
+        (subst (λ (g : StackFrame). Follows known s.point.procedure (code.targets s.point.at) g c.found.next c.moves) s.frame c.follows)) in
         record {
           found = c.found;
           moves = c.moves;

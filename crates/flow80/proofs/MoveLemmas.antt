@@ -1,5 +1,5 @@
 -- What becomes of frames with the same counts at one instruction, by its effect.
-use Rattle.std.specs.Prelude.{◌≡◌, ℕ, Option, Some, None, Ok, Err, refl}
+use Rattle.std.specs.Prelude.{◌≡◌, ℕ, List, Option, Some, None, Ok, Err, refl}
 use Rattle.std.proofs.Common.{ap, sym, ◌∙◌}
 use Rattle.frames80.specs.declared.word.Word.{Word}
 use Rattle.frames80.specs.declared.word.Word.TheVariants.{Own, Any}
@@ -8,9 +8,9 @@ use Rattle.frames80.specs.declared.fault.FrameFault.{FrameFault}
 use Rattle.frames80.specs.declared.effect.Change.{Change}
 use Rattle.frames80.specs.declared.effect.Change.TheVariants.{Keep}
 use Rattle.frames80.specs.declared.effect.Effect.{Effect}
-use Rattle.frames80.specs.declared.effect.Effect.TheVariants.{Change as Changes, Halt, Jump, JumpIf, Call, CallIf, Return, ReturnIf, Refuse}
+use Rattle.frames80.specs.declared.effect.Effect.TheVariants.{Change as Changes, Halt, Jump, JumpIf, Case, Call, CallIf, Return, ReturnIf, Refuse}
 use Rattle.frames80.specs.declared.moves.Moves.{Moves}
-use Rattle.frames80.specs.declared.moves.Moves.TheVariants.{End, On, Jump as MovesTo, Either, Call as CallOf, MaybeCall, Return as ReturnOf, MaybeReturn}
+use Rattle.frames80.specs.declared.moves.Moves.TheVariants.{End, On, Jump as MovesTo, Either, Case as Cases, Call as CallOf, MaybeCall, Return as ReturnOf, MaybeReturn}
 use Rattle.frames80.specs.StackFrame.{StackFrame}
 use Rattle.frames80.specs.Moves.{moves_of, changed, change_fault, return_fault, unless}
 use Rattle.frames80.specs.Places.{InWord, word_at, Covers}
@@ -31,6 +31,7 @@ move_with (Changes change) f = On (changed change f)
 move_with Halt f = End
 move_with (Jump to) f = MovesTo f to
 move_with (JumpIf to) f = Either f to
+move_with Case f = Cases f
 move_with (Call to) f = CallOf f to
 move_with (CallIf to) f = MaybeCall f to
 move_with Return f = ReturnOf f.taken
@@ -51,6 +52,7 @@ moves_by role (Changes change) f = refl
 moves_by role Halt f = refl
 moves_by role (Jump to) f = refl
 moves_by role (JumpIf to) f = refl
+moves_by role Case f = refl
 moves_by role (Call to) f = refl
 moves_by role (CallIf to) f = refl
 moves_by role Return f = refl
@@ -89,6 +91,7 @@ covered_fault laws role (Changes change) f w covers none = sym ((laws.counts f w
 covered_fault laws role Halt f w covers none = refl
 covered_fault laws role (Jump to) f w covers none = refl
 covered_fault laws role (JumpIf to) f w covers none = refl
+covered_fault laws role Case f w covers none = refl
 covered_fault laws role (Call to) f w covers none = refl
 covered_fault laws role (CallIf to) f w covers none = refl
 covered_fault laws role Return f w covers none = (laws.covered f w covers).may_return role none
@@ -101,26 +104,29 @@ covered_moves laws role effect f w moves covers is =
     moves_ok role effect w (covered_fault laws role effect f w covers (moved_is role effect f moves is).none)
 
 -- where a move leads is a matter of the effect: with another frame it leads there too
-pub record LeadsAlong (effect : Effect) (f w : StackFrame) (next to : ℕ) (g : StackFrame) : Type 0 where
+pub record LeadsAlong (effect : Effect) (f w : StackFrame) (targets : List ℕ) (next to : ℕ) (g : StackFrame) : Type 0 where
   pub frame : g ≡ frame_after effect f
-  pub other : LeadsTo (move_with effect w) next to (frame_after effect w)
+  pub other : LeadsTo (move_with effect w) targets next to (frame_after effect w)
 
-pub leads_along : (effect : Effect) (f w : StackFrame) (next to : ℕ) (g : StackFrame) → LeadsTo (move_with effect f) next to g → LeadsAlong effect f w next to g
-leads_along (Changes change) f w next to g leads = record { frame = leads.1; other = (leads.0, refl) }
-leads_along Halt f w next to g leads = absurd leads
-leads_along (Jump address) f w next to g leads = record { frame = leads.1; other = (leads.0, refl) }
-leads_along (JumpIf address) f w next to g leads = record { frame = leads.1; other = (leads.0, refl) }
-leads_along (Call address) f w next to g leads = absurd leads
-leads_along (CallIf address) f w next to g leads = record { frame = leads.1; other = (leads.0, refl) }
-leads_along Return f w next to g leads = absurd leads
-leads_along ReturnIf f w next to g leads = record { frame = leads.1; other = (leads.0, refl) }
-leads_along (Refuse fault) f w next to g leads = absurd leads
+pub leads_along : (effect : Effect) (f w : StackFrame) (targets : List ℕ) (next to : ℕ) (g : StackFrame) → LeadsTo (move_with effect f) targets next to g →
+    LeadsAlong effect f w targets next to g
+leads_along (Changes change) f w targets next to g leads = record { frame = leads.1; other = (leads.0, refl) }
+leads_along Halt f w targets next to g leads = absurd leads
+leads_along (Jump address) f w targets next to g leads = record { frame = leads.1; other = (leads.0, refl) }
+leads_along (JumpIf address) f w targets next to g leads = record { frame = leads.1; other = (leads.0, refl) }
+leads_along Case f w targets next to g leads = record { frame = leads.1; other = (leads.0, refl) }
+leads_along (Call address) f w targets next to g leads = absurd leads
+leads_along (CallIf address) f w targets next to g leads = record { frame = leads.1; other = (leads.0, refl) }
+leads_along Return f w targets next to g leads = absurd leads
+leads_along ReturnIf f w targets next to g leads = record { frame = leads.1; other = (leads.0, refl) }
+leads_along (Refuse fault) f w targets next to g leads = absurd leads
 
 pub called_along : (effect : Effect) (f w : StackFrame) → called (move_with effect f) ≡ called (move_with effect w)
 called_along (Changes change) f w = refl
 called_along Halt f w = refl
 called_along (Jump to) f w = refl
 called_along (JumpIf to) f w = refl
+called_along Case f w = refl
 called_along (Call to) f w = refl
 called_along (CallIf to) f w = refl
 called_along Return f w = refl
@@ -132,6 +138,7 @@ returning_along (Changes change) f w same = refl
 returning_along Halt f w same = refl
 returning_along (Jump to) f w same = refl
 returning_along (JumpIf to) f w same = refl
+returning_along Case f w same = refl
 returning_along (Call to) f w same = refl
 returning_along (CallIf to) f w same = refl
 returning_along Return f w same = ap (λ n. Some n) same
@@ -157,6 +164,7 @@ asked (Changes change) f = tt
 asked Halt f = tt
 asked (Jump to) f = tt
 asked (JumpIf to) f = tt
+asked Case f = tt
 asked (Call to) f = tt
 asked (CallIf to) f = tt
 asked Return f = asked_at f (word_at f (InWord 0)) refl
@@ -173,6 +181,7 @@ refused_fault laws role (Changes change) f w fault covers answer some = sym ((la
 refused_fault laws role Halt f w fault covers answer some = some
 refused_fault laws role (Jump to) f w fault covers answer some = some
 refused_fault laws role (JumpIf to) f w fault covers answer some = some
+refused_fault laws role Case f w fault covers answer some = some
 refused_fault laws role (Call to) f w fault covers answer some = some
 refused_fault laws role (CallIf to) f w fault covers answer some = some
 refused_fault laws role Return f w fault covers answer some = laws.refused role f w covers.counts (answered_at f w (word_at f (InWord 0)) refl answer) fault some

@@ -8,7 +8,7 @@ use Rattle.frames80.specs.declared.word.Word.TheVariants.{Own, Any}
 use Rattle.frames80.specs.declared.fault.FrameFault.{FrameFault}
 use Rattle.frames80.specs.declared.effect.Change.{Change}
 use Rattle.frames80.specs.declared.effect.Effect.{Effect}
-use Rattle.frames80.specs.declared.effect.Effect.TheVariants.{Change as Changes, Halt, Jump, JumpIf, Call, CallIf, Return, ReturnIf, Refuse}
+use Rattle.frames80.specs.declared.effect.Effect.TheVariants.{Change as Changes, Halt, Jump, JumpIf, Case, Call, CallIf, Return, ReturnIf, Refuse}
 use Rattle.frames80.specs.declared.moves.Moves.{Moves}
 use Rattle.frames80.specs.Word.{met}
 use Rattle.frames80.specs.StackFrame.{StackFrame, entry_frame, main_frame}
@@ -87,12 +87,12 @@ answers_return laws taken w (At place) may = laws.returns taken w place ∙ answ
 
 -- a shown frame is shown where its move leads
 pub shown_on : FrameLaws → (code : Code) (p : Procedure) (at : ℕ) (f : StackFrame) (found : Fetched) (moves : Moves) → AtMove code p at f found moves →
-    (to : ℕ) (g : StackFrame) → LeadsTo moves found.next to g → IsShown code p to g
+    (to : ℕ) (g : StackFrame) → LeadsTo moves (code.targets at) found.next to g → IsShown code p to g
 shown_on laws code p at f found moves move to g leads =
     let effect = effect_of found.instr in
     let moved = moved_is (role_of code p) effect f moves move.moved in
-    let there : LeadsTo (move_with effect f) found.next to g = subst (λ m. LeadsTo m found.next to g) moved.move leads in
-    let along = λ (w : StackFrame). leads_along effect f w found.next to g there in
+    let there : LeadsTo (move_with effect f) (code.targets at) found.next to g = subst (λ m. LeadsTo m (code.targets at) found.next to g) moved.move leads in
+    let along = λ (w : StackFrame). leads_along effect f w (code.targets at) found.next to g there in
     let after : frame_after effect f ≡ g = sym (along f).frame in
     let here : IsShown code p to (frame_after effect f) = record {
       by = λ query may.
@@ -221,6 +221,7 @@ taken_by (Changes made) f taken is = absurd (let e : None ≡ Some taken = is in
 taken_by Halt f taken is = absurd (let e : None ≡ Some taken = is in cc)
 taken_by (Jump to) f taken is = absurd (let e : None ≡ Some taken = is in cc)
 taken_by (JumpIf to) f taken is = absurd (let e : None ≡ Some taken = is in cc)
+taken_by Case f taken is = absurd (let e : None ≡ Some taken = is in cc)
 taken_by (Call to) f taken is = absurd (let e : None ≡ Some taken = is in cc)
 taken_by (CallIf to) f taken is = absurd (let e : None ≡ Some taken = is in cc)
 taken_by Return f taken is = cc

@@ -1,10 +1,13 @@
 -- What comes of a point's move, way by way.
-use Rattle.std.specs.Prelude.{◌≡◌, ◌≢◌, ◌⊎◌, ◌≤◌, ◌<◌, ◌||◌, ℕ, Bool, true, false, Option, Some, None, Result, Ok, Err, slice_get, refl}
-use Rattle.std.proofs.Common.{sym, ◌∙◌, subst, arith, inl, inr, true≢false}
+use Rattle.std.specs.Prelude.{◌≡◌, ◌≢◌, ◌⊎◌, ◌≤◌, ◌<◌, ◌+◌, ◌||◌, ℕ, Bool, true, false, List, Contains, length, Option, Some, None, Result, Ok, Err, slice_get, refl}
+use Rattle.std.proofs.Common.{sym, ◌∙◌, subst, arith, inl, inr, true≢false, get_or}
+use Rattle.std.proofs.lemmas.Grind.{get_or_default_zero}
+use Rattle.std.proofs.lemmas.List.Elements.{Contains-get_or}
+use borrow.Author.Count.{below_more}
 use Rattle.decode80.specs.declared.fetching.Fetched.{Fetched}
 use Rattle.frames80.specs.declared.role.Role.{Role}
 use Rattle.frames80.specs.declared.moves.Moves.{Moves}
-use Rattle.frames80.specs.declared.moves.Moves.TheVariants.{End, On, Jump, Either, Call, MaybeCall, Return, MaybeReturn}
+use Rattle.frames80.specs.declared.moves.Moves.TheVariants.{End, On, Jump, Either, Case, Call, MaybeCall, Return, MaybeReturn}
 use Rattle.frames80.specs.StackFrame.{StackFrame, entry_frame}
 use Rattle.frames80.specs.Calls.{room, returned}
 use Rattle.bounds80.specs.declared.procedure.Procedure.{Procedure}
@@ -15,7 +18,7 @@ use Rattle.flow80.specs.Code.{Code}
 use Rattle.flow80.specs.Walks.{LeadsTo, called, returning, role_of}
 use Rattle.flow80.specs.Faults.{Holds as Refused}
 use Rattle.flow80.specs.Shown.{IsShown, AtMove, FrameLaws}
-use Rattle.flow80.specs.Known.{Known, IsSmall, Stands, weight, Goes, HasPoint, Flows, Carries, Steps, exit_of, Exits, CallsOut, IsShort}
+use Rattle.flow80.specs.Known.{Known, IsSmall, Stands, weight, Goes, HasPoint, Flows, Carries, Steps, GoesToFirst, exit_of, Exits, CallsOut, IsShort}
 use Rattle.flow80.proofs.ShownLemmas.{shown_on, shown_entry, shown_after, exit_shown, exit_shown_at, taken_at_return, short, uneven}
 use Rattle.flow80.proofs.KnownLemmas.{with_exit, stands_exit, goes_exit}
 
@@ -35,11 +38,11 @@ second_false true other e = absurd (true≢false e)
 second_false false other e = e
 
 -- a move that leads one way
-pub steps_end : (known : Known) (p : Procedure) (at next : ℕ) (role : Role) → IsSmall known → Steps known known p at next role End (Ok false)
-steps_end known p at next role small = record {
+pub steps_end : (known : Known) (p : Procedure) (at : ℕ) (targets : List ℕ) (next : ℕ) (role : Role) → IsSmall known → Steps known known p at targets next role End (Ok false)
+steps_end known p at targets next role small = record {
   small = small;
   more = omega arith;
-  stands = λ code f found stands move carries same_next same_role. stands;
+  stands = λ code f found stands move carries same_targets same_next same_role. stands;
   goes = record { same = λ _. refl; less = λ e. absurd (true≢false (sym e)) };
   follows = λ _ f carries. record {
     on = λ to g leads. absurd leads;
@@ -49,21 +52,22 @@ steps_end known p at next role small = record {
   };
 }
 
-pub steps_refused : (old new : Known) (p : Procedure) (at next : ℕ) (role : Role) (moves : Moves) (refusal : Refusal) →
-    ((code : Code) (f : StackFrame) (found : Fetched) → Stands code old → AtMove code p at f found moves → Carries moves f → found.next ≡ next → role ≡ role_of code p → Refused code refusal) →
-    Steps old new p at next role moves (Err refusal)
-steps_refused old new p at next role moves refusal holds = record { small = tt; more = tt; stands = holds; goes = tt; follows = tt }
+pub steps_refused : (old new : Known) (p : Procedure) (at : ℕ) (targets : List ℕ) (next : ℕ) (role : Role) (moves : Moves) (refusal : Refusal) →
+    ((code : Code) (f : StackFrame) (found : Fetched) → Stands code old → AtMove code p at f found moves → Carries moves f → targets ≡ code.targets at → found.next ≡ next → role ≡ role_of code p → Refused code refusal) →
+    Steps old new p at targets next role moves (Err refusal)
+steps_refused old new p at targets next role moves refusal holds = record { small = tt; more = tt; stands = holds; goes = tt; follows = tt }
 
 -- the frame that leads on is shown there
 leads_shown : FrameLaws → (code : Code) (p : Procedure) (at : ℕ) (f : StackFrame) (found : Fetched) (moves : Moves) → AtMove code p at f found moves →
-    (next to : ℕ) (g : StackFrame) → found.next ≡ next → LeadsTo moves next to g → IsShown code p to g
-leads_shown laws code p at f found moves move next to g same leads =
-    shown_on laws code p at f found moves move to g (subst (λ n. LeadsTo moves n to g) (sym same) leads)
+    (targets : List ℕ) (next to : ℕ) (g : StackFrame) → targets ≡ code.targets at → found.next ≡ next → LeadsTo moves targets next to g → IsShown code p to g
+leads_shown laws code p at f found moves move targets next to g same_targets same leads =
+    shown_on laws code p at f found moves move to g
+    (subst (λ n. LeadsTo moves (code.targets at) n to g) (sym same) (subst (λ (t : List ℕ). LeadsTo moves t next to g) same_targets leads))
 
 -- a move that leads one way and calls and returns nowhere
-pub record OneWay (moves : Moves) (next to : ℕ) (g : StackFrame) : Type 0 where
-  pub leads : LeadsTo moves next to g
-  pub only : (a : ℕ) (h : StackFrame) → LeadsTo moves next a h → (a ≡ to) × (h ≡ g)
+pub record OneWay (moves : Moves) (targets : List ℕ) (next to : ℕ) (g : StackFrame) : Type 0 where
+  pub leads : LeadsTo moves targets next to g
+  pub only : (a : ℕ) (h : StackFrame) → LeadsTo moves targets next a h → (a ≡ to) × (h ≡ g)
   pub no_call : called moves ≡ None
   pub no_return : returning moves ≡ None
 
@@ -73,12 +77,12 @@ has_there known p to a g h has at same = subst (λ (x : StackFrame). HasPoint kn
 none_some : {A : Type 0} (o : Option A) (x : A) → o ≡ None → o ≡ Some x → ⊥
 none_some o x one other = let e : None ≡ Some x = sym one ∙ other in cc
 
-pub steps_one : FrameLaws → (old new : Known) (p : Procedure) (at next to : ℕ) (role : Role) (moves : Moves) (g : StackFrame) (result : Result Bool Refusal) →
-    OneWay moves next to g → Flows old new p to g result → Steps old new p at next role moves result
-steps_one laws old new p at next to role moves g (Ok changed) way flows = record {
+pub steps_one : FrameLaws → (old new : Known) (p : Procedure) (at : ℕ) (targets : List ℕ) (next to : ℕ) (role : Role) (moves : Moves) (g : StackFrame) (result : Result Bool Refusal) →
+    OneWay moves targets next to g → Flows old new p to g result → Steps old new p at targets next role moves result
+steps_one laws old new p at targets next to role moves g (Ok changed) way flows = record {
   small = flows.small;
   more = flows.more;
-  stands = λ code f found stands move carries same_next same_role. flows.stands code stands (leads_shown laws code p at f found moves move next to g same_next way.leads);
+  stands = λ code f found stands move carries same_targets same_next same_role. flows.stands code stands (leads_shown laws code p at f found moves move targets next to g same_targets same_next way.leads);
   goes = flows.goes;
   follows = λ same f carries. record {
     on = λ a h leads. let there = way.only a h leads in has_there new p to a g h (flows.has same) there.0 there.1;
@@ -87,27 +91,27 @@ steps_one laws old new p at next to role moves g (Ok changed) way flows = record
     return = λ entry taken in_entry is. absurd (none_some (returning moves) taken way.no_return is);
   };
 }
-steps_one laws old new p at next to role moves g (Err refusal) way flows =
-    steps_refused old new p at next role moves refusal
-    (λ code f found stands move carries same_next same_role. flows.stands code stands (leads_shown laws code p at f found moves move next to g same_next way.leads))
+steps_one laws old new p at targets next to role moves g (Err refusal) way flows =
+    steps_refused old new p at targets next role moves refusal
+    (λ code f found stands move carries same_targets same_next same_role. flows.stands code stands (leads_shown laws code p at f found moves move targets next to g same_targets same_next way.leads))
 
-pub on_way : (g : StackFrame) (next : ℕ) → OneWay (On g) next next g
-on_way g next = record { leads = (refl, refl); only = λ a h leads. leads; no_call = refl; no_return = refl }
+pub on_way : (g : StackFrame) (targets : List ℕ) (next : ℕ) → OneWay (On g) targets next next g
+on_way g targets next = record { leads = (refl, refl); only = λ a h leads. leads; no_call = refl; no_return = refl }
 
-pub jump_way : (g : StackFrame) (next to : ℕ) → OneWay (Jump g to) next to g
-jump_way g next to = record { leads = (refl, refl); only = λ a h leads. leads; no_call = refl; no_return = refl }
+pub jump_way : (g : StackFrame) (targets : List ℕ) (next to : ℕ) → OneWay (Jump g to) targets next to g
+jump_way g targets next to = record { leads = (refl, refl); only = λ a h leads. leads; no_call = refl; no_return = refl }
 
 -- a conditional jump leads both ways
-pub steps_both : FrameLaws → (old mid new : Known) (p : Procedure) (at next to : ℕ) (role : Role) (g : StackFrame) (one : Bool) (other : Result Bool Refusal) →
+pub steps_both : FrameLaws → (old mid new : Known) (p : Procedure) (at : ℕ) (targets : List ℕ) (next to : ℕ) (role : Role) (g : StackFrame) (one : Bool) (other : Result Bool Refusal) →
     Flows old mid p next g (Ok one) → Flows mid new p to g other → (result : Result Bool Refusal) →
-    ((x : Bool) → other ≡ Ok x → result ≡ Ok (one || x)) → ((r : Refusal) → other ≡ Err r → result ≡ Err r) → Steps old new p at next role (Either g to) result
-steps_both laws old mid new p at next to role g one (Ok x) first second result ok err =
-    subst (Steps old new p at next role (Either g to)) (sym (ok x refl)) (record {
+    ((x : Bool) → other ≡ Ok x → result ≡ Ok (one || x)) → ((r : Refusal) → other ≡ Err r → result ≡ Err r) → Steps old new p at targets next role (Either g to) result
+steps_both laws old mid new p at targets next to role g one (Ok x) first second result ok err =
+    subst (Steps old new p at targets next role (Either g to)) (sym (ok x refl)) (record {
       small = second.small;
       more = let a = first.more in let b = second.more in omega arith;
-      stands = λ code f found stands move carries same_next same_role.
-          second.stands code (first.stands code stands (leads_shown laws code p at f found (Either g to) move next next g same_next (inl refl, refl)))
-          (leads_shown laws code p at f found (Either g to) move next to g same_next (inr refl, refl));
+      stands = λ code f found stands move carries same_targets same_next same_role.
+          second.stands code (first.stands code stands (leads_shown laws code p at f found (Either g to) move targets next next g same_targets same_next (inl refl, refl)))
+          (leads_shown laws code p at f found (Either g to) move targets next to g same_targets same_next (inr refl, refl));
       goes = goes_then old mid new one x first.goes second.goes;
       follows = λ same f carries. record {
         on = λ a h leads. by (first_false one x same) (second_false one x same) a h leads.0 leads.1;
@@ -120,19 +124,66 @@ steps_both laws old mid new p at next to role g one (Ok x) first second result o
     by : one ≡ false → x ≡ false → (a : ℕ) (h : StackFrame) → (a ≡ next) ⊎ (a ≡ to) → h ≡ g → HasPoint new p a h
     by no_one no_x a h (inl is) same = has_there new p next a g h (subst (λ (k : Known). HasPoint k p next g) (sym (second.goes.same no_x)) (first.has no_one)) is same
     by no_one no_x a h (inr is) same = has_there new p to a g h (second.has no_x) is same
-steps_both laws old mid new p at next to role g one (Err r) first second result ok err =
-    subst (Steps old new p at next role (Either g to)) (sym (err r refl))
-    (steps_refused old new p at next role (Either g to) r (λ code f found stands move carries same_next same_role.
-    second.stands code (first.stands code stands (leads_shown laws code p at f found (Either g to) move next next g same_next (inl refl, refl)))
-    (leads_shown laws code p at f found (Either g to) move next to g same_next (inr refl, refl))))
+steps_both laws old mid new p at targets next to role g one (Err r) first second result ok err =
+    subst (Steps old new p at targets next role (Either g to)) (sym (err r refl))
+    (steps_refused old new p at targets next role (Either g to) r (λ code f found stands move carries same_targets same_next same_role.
+    second.stands code (first.stands code stands (leads_shown laws code p at f found (Either g to) move targets next next g same_targets same_next (inl refl, refl)))
+    (leads_shown laws code p at f found (Either g to) move targets next to g same_targets same_next (inr refl, refl))))
+
+-- a PCHL leads to each of its targets
+pub to_none : (known : Known) (p : Procedure) (f : StackFrame) (targets : List ℕ) → IsSmall known → GoesToFirst known known p f targets 0 false
+to_none known p f targets small = record {
+  small = small;
+  more = omega arith;
+  stands = λ code stands shown. stands;
+  goes = record { same = λ _. refl; less = λ e. absurd (true≢false (sym e)) };
+  has = λ _ i less. absurd (omega (arith, less));
+}
+
+pub to_one_more : (old now new : Known) (p : Procedure) (f : StackFrame) (targets : List ℕ) (count : ℕ) (changed here : Bool) → count < length targets →
+    GoesToFirst old now p f targets count changed → Flows now new p (get_or targets count 0) f (Ok here) → GoesToFirst old new p f targets (count + 1) (changed || here)
+to_one_more old now new p f targets count changed here inside so_far flows = record {
+  small = flows.small;
+  more = let a = so_far.more in let b = flows.more in omega arith;
+  stands = λ code stands shown. flows.stands code (so_far.stands code stands shown) (shown (get_or targets count 0) (Contains-get_or targets count 0 inside));
+  goes = goes_then old now new changed here so_far.goes flows.goes;
+  has = λ same. below_more (λ i. (to : ℕ) → HasPoint new p (get_or targets i to) f) count
+      (λ i less to. subst (λ (k : Known). HasPoint k p (get_or targets i to) f) (sym (flows.goes.same (second_false changed here same))) (so_far.has (first_false changed here same) i less to))
+      (λ to. subst (λ n. HasPoint new p n f) (sym (get_or_default_zero targets count to inside)) (flows.has (second_false changed here same)));
+}
+
+pub steps_to_each : FrameLaws → (old new : Known) (p : Procedure) (at : ℕ) (targets : List ℕ) (next : ℕ) (role : Role) (g : StackFrame) (count : ℕ) (changed : Bool) →
+    length targets ≤ count → GoesToFirst old new p g targets count changed → Steps old new p at targets next role (Case g) (Ok changed)
+steps_to_each laws old new p at targets next role g count changed all went = record {
+  small = went.small;
+  more = went.more;
+  stands = λ code f found stands move carries same_targets same_next same_role.
+      went.stands code stands (λ to there. leads_shown laws code p at f found (Case g) move targets next to g same_targets same_next (there, refl));
+  goes = went.goes;
+  follows = λ same f carries. record {
+    on = λ a h leads.
+        let less = leads.0.1 in
+        has_there new p (get_or targets leads.0.0 a) a g h (went.has same leads.0.0 (omega arith) a) (sym leads.0.2) leads.1;
+    enters = λ target is. absurd (let e : None ≡ Some target = is in cc);
+    after = λ target taken is exit. absurd (let e : None ≡ Some target = is in cc);
+    return = λ entry taken in_entry is. absurd (let e : None ≡ Some taken = is in cc);
+  };
+}
+
+pub steps_to_one_refused : FrameLaws → (old now new : Known) (p : Procedure) (at : ℕ) (targets : List ℕ) (next : ℕ) (role : Role) (g : StackFrame) (count : ℕ) (changed : Bool) (r : Refusal) →
+    count < length targets → GoesToFirst old now p g targets count changed → Flows now new p (get_or targets count 0) g (Err r) → Steps old new p at targets next role (Case g) (Err r)
+steps_to_one_refused laws old now new p at targets next role g count changed r inside so_far flows =
+    steps_refused old new p at targets next role (Case g) r (λ code f found stands move carries same_targets same_next same_role.
+    let shown = λ (to : ℕ) (there : Contains targets to). leads_shown laws code p at f found (Case g) move targets next to g same_targets same_next (there, refl) in
+    flows.stands code (so_far.stands code stands shown) (shown (get_or targets count 0) (Contains-get_or targets count 0 inside)))
 
 -- a return
-pub steps_return : FrameLaws → (old new : Known) (p : Procedure) (at next : ℕ) (role : Role) (taken : ℕ) (result : Result Bool Refusal) →
-    Exits old new p at taken result → Steps old new p at next role (Return taken) result
-steps_return laws old new p at next role taken (Ok changed) exits = record {
+pub steps_return : FrameLaws → (old new : Known) (p : Procedure) (at : ℕ) (targets : List ℕ) (next : ℕ) (role : Role) (taken : ℕ) (result : Result Bool Refusal) →
+    Exits old new p at taken result → Steps old new p at targets next role (Return taken) result
+steps_return laws old new p at targets next role taken (Ok changed) exits = record {
   small = exits.small;
   more = exits.more;
-  stands = λ code f found stands move carries same_next same_role. exits.stands code stands (exit_shown laws code p at f found (Return taken) move taken refl) (exit_shown_at laws code p at f found (Return taken) move taken refl);
+  stands = λ code f found stands move carries same_targets same_next same_role. exits.stands code stands (exit_shown laws code p at f found (Return taken) move taken refl) (exit_shown_at laws code p at f found (Return taken) move taken refl);
   goes = exits.goes;
   follows = λ same f carries. record {
     on = λ to g leads. absurd leads;
@@ -141,17 +192,17 @@ steps_return laws old new p at next role taken (Ok changed) exits = record {
     return = λ entry seen in_entry is. let e : taken ≡ seen = cc in subst (λ n. exit_of new.exits entry ≡ Some n) e (exits.has same entry in_entry);
   };
 }
-steps_return laws old new p at next role taken (Err refusal) exits =
-    steps_refused old new p at next role (Return taken) refusal
-    (λ code f found stands move carries same_next same_role. exits.stands code stands (exit_shown laws code p at f found (Return taken) move taken refl) (exit_shown_at laws code p at f found (Return taken) move taken refl))
+steps_return laws old new p at targets next role taken (Err refusal) exits =
+    steps_refused old new p at targets next role (Return taken) refusal
+    (λ code f found stands move carries same_targets same_next same_role. exits.stands code stands (exit_shown laws code p at f found (Return taken) move taken refl) (exit_shown_at laws code p at f found (Return taken) move taken refl))
 
-pub steps_maybe_return : FrameLaws → (old mid new : Known) (p : Procedure) (at next : ℕ) (role : Role) (g : StackFrame) (taken : ℕ) (one x : Bool) →
-    Flows old mid p next g (Ok one) → Exits mid new p at taken (Ok x) → Steps old new p at next role (MaybeReturn g taken) (Ok (one || x))
-steps_maybe_return laws old mid new p at next role g taken one x first second = record {
+pub steps_maybe_return : FrameLaws → (old mid new : Known) (p : Procedure) (at : ℕ) (targets : List ℕ) (next : ℕ) (role : Role) (g : StackFrame) (taken : ℕ) (one x : Bool) →
+    Flows old mid p next g (Ok one) → Exits mid new p at taken (Ok x) → Steps old new p at targets next role (MaybeReturn g taken) (Ok (one || x))
+steps_maybe_return laws old mid new p at targets next role g taken one x first second = record {
   small = second.small;
   more = let a = first.more in let b = second.more in omega arith;
-  stands = λ code f found stands move carries same_next same_role.
-      second.stands code (first.stands code stands (leads_shown laws code p at f found (MaybeReturn g taken) move next next g same_next (refl, refl)))
+  stands = λ code f found stands move carries same_targets same_next same_role.
+      second.stands code (first.stands code stands (leads_shown laws code p at f found (MaybeReturn g taken) move targets next next g same_targets same_next (refl, refl)))
       (exit_shown laws code p at f found (MaybeReturn g taken) move taken refl) (exit_shown_at laws code p at f found (MaybeReturn g taken) move taken refl);
   goes = goes_then old mid new one x first.goes second.goes;
   follows = λ same f carries. record {
@@ -162,19 +213,19 @@ steps_maybe_return laws old mid new p at next role g taken one x first second = 
   };
 }
 
-pub steps_maybe_return_refused : FrameLaws → (old mid new : Known) (p : Procedure) (at next : ℕ) (role : Role) (g : StackFrame) (taken : ℕ) (one : Bool) (r : Refusal) →
-    Flows old mid p next g (Ok one) → Exits mid new p at taken (Err r) → Steps old new p at next role (MaybeReturn g taken) (Err r)
-steps_maybe_return_refused laws old mid new p at next role g taken one r first second =
-    steps_refused old new p at next role (MaybeReturn g taken) r (λ code f found stands move carries same_next same_role.
-    second.stands code (first.stands code stands (leads_shown laws code p at f found (MaybeReturn g taken) move next next g same_next (refl, refl)))
+pub steps_maybe_return_refused : FrameLaws → (old mid new : Known) (p : Procedure) (at : ℕ) (targets : List ℕ) (next : ℕ) (role : Role) (g : StackFrame) (taken : ℕ) (one : Bool) (r : Refusal) →
+    Flows old mid p next g (Ok one) → Exits mid new p at taken (Err r) → Steps old new p at targets next role (MaybeReturn g taken) (Err r)
+steps_maybe_return_refused laws old mid new p at targets next role g taken one r first second =
+    steps_refused old new p at targets next role (MaybeReturn g taken) r (λ code f found stands move carries same_targets same_next same_role.
+    second.stands code (first.stands code stands (leads_shown laws code p at f found (MaybeReturn g taken) move targets next next g same_targets same_next (refl, refl)))
     (exit_shown laws code p at f found (MaybeReturn g taken) move taken refl) (exit_shown_at laws code p at f found (MaybeReturn g taken) move taken refl))
 
 -- the frame that leads on where another way is taken first is refused
-pub steps_first_refused : FrameLaws → (old new : Known) (p : Procedure) (at next to : ℕ) (role : Role) (moves : Moves) (g : StackFrame) (r : Refusal) →
-    LeadsTo moves next to g → Flows old new p to g (Err r) → (last : Known) → Steps old last p at next role moves (Err r)
-steps_first_refused laws old new p at next to role moves g r leads flows last =
-    steps_refused old last p at next role moves r
-    (λ code f found stands move carries same_next same_role. flows.stands code stands (leads_shown laws code p at f found moves move next to g same_next leads))
+pub steps_first_refused : FrameLaws → (old new : Known) (p : Procedure) (at : ℕ) (targets : List ℕ) (next to : ℕ) (role : Role) (moves : Moves) (g : StackFrame) (r : Refusal) →
+    LeadsTo moves targets next to g → Flows old new p to g (Err r) → (last : Known) → Steps old last p at targets next role moves (Err r)
+steps_first_refused laws old new p at targets next to role moves g r leads flows last =
+    steps_refused old last p at targets next role moves r
+    (λ code f found stands move carries same_targets same_next same_role. flows.stands code stands (leads_shown laws code p at f found moves move targets next to g same_targets same_next leads))
 
 -- returns, case by case
 pub exits_main : (known : Known) (at taken : ℕ) → IsSmall known → Exits known known Main at taken (Ok false)
@@ -299,12 +350,12 @@ calls_short laws old mid new p at next role g target taken entered first exit le
 }
 
 -- a call, and a conditional one
-pub steps_call : (old new : Known) (p : Procedure) (at next : ℕ) (role : Role) (g : StackFrame) (target : ℕ) (result : Result Bool Refusal) →
-    CallsOut old new p at next role g target result → Steps old new p at next role (Call g target) result
-steps_call old new p at next role g target (Ok changed) calls = record {
+pub steps_call : (old new : Known) (p : Procedure) (at : ℕ) (targets : List ℕ) (next : ℕ) (role : Role) (g : StackFrame) (target : ℕ) (result : Result Bool Refusal) →
+    CallsOut old new p at next role g target result → Steps old new p at targets next role (Call g target) result
+steps_call old new p at targets next role g target (Ok changed) calls = record {
   small = calls.small;
   more = calls.more;
-  stands = λ code f found stands move carries same_next same_role. calls.stands code found (Call g target) stands (subst (λ (x : StackFrame). AtMove code p at x found (Call g target)) (sym carries) move) refl same_next same_role;
+  stands = λ code f found stands move carries same_targets same_next same_role. calls.stands code found (Call g target) stands (subst (λ (x : StackFrame). AtMove code p at x found (Call g target)) (sym carries) move) refl same_next same_role;
   goes = calls.goes;
   follows = λ same f carries. record {
     on = λ to h leads. absurd leads;
@@ -314,17 +365,17 @@ steps_call old new p at next role g target (Ok changed) calls = record {
     return = λ entry taken in_entry is. absurd (let e : None ≡ Some taken = is in cc);
   };
 }
-steps_call old new p at next role g target (Err r) calls =
-    steps_refused old new p at next role (Call g target) r (λ code f found stands move carries same_next same_role.
+steps_call old new p at targets next role g target (Err r) calls =
+    steps_refused old new p at targets next role (Call g target) r (λ code f found stands move carries same_targets same_next same_role.
     calls.stands code found (Call g target) stands (subst (λ (x : StackFrame). AtMove code p at x found (Call g target)) (sym carries) move) refl same_next same_role)
 
-pub steps_maybe_call : FrameLaws → (old mid new : Known) (p : Procedure) (at next : ℕ) (role : Role) (g : StackFrame) (target : ℕ) (one x : Bool) →
-    Flows old mid p next g (Ok one) → CallsOut mid new p at next role g target (Ok x) → Steps old new p at next role (MaybeCall g target) (Ok (one || x))
-steps_maybe_call laws old mid new p at next role g target one x first calls = record {
+pub steps_maybe_call : FrameLaws → (old mid new : Known) (p : Procedure) (at : ℕ) (targets : List ℕ) (next : ℕ) (role : Role) (g : StackFrame) (target : ℕ) (one x : Bool) →
+    Flows old mid p next g (Ok one) → CallsOut mid new p at next role g target (Ok x) → Steps old new p at targets next role (MaybeCall g target) (Ok (one || x))
+steps_maybe_call laws old mid new p at targets next role g target one x first calls = record {
   small = calls.small;
   more = let a = first.more in let b = calls.more in omega arith;
-  stands = λ code f found stands move carries same_next same_role.
-      calls.stands code found (MaybeCall g target) (first.stands code stands (leads_shown laws code p at f found (MaybeCall g target) move next next g same_next (refl, refl)))
+  stands = λ code f found stands move carries same_targets same_next same_role.
+      calls.stands code found (MaybeCall g target) (first.stands code stands (leads_shown laws code p at f found (MaybeCall g target) move targets next next g same_targets same_next (refl, refl)))
       (subst (λ (y : StackFrame). AtMove code p at y found (MaybeCall g target)) (sym carries) move) refl same_next same_role;
   goes = goes_then old mid new one x first.goes calls.goes;
   follows = λ same f carries. record {
@@ -336,11 +387,11 @@ steps_maybe_call laws old mid new p at next role g target one x first calls = re
   };
 }
 
-pub steps_maybe_call_refused : FrameLaws → (old mid new : Known) (p : Procedure) (at next : ℕ) (role : Role) (g : StackFrame) (target : ℕ) (one : Bool) (r : Refusal) →
-    Flows old mid p next g (Ok one) → CallsOut mid new p at next role g target (Err r) → Steps old new p at next role (MaybeCall g target) (Err r)
-steps_maybe_call_refused laws old mid new p at next role g target one r first calls =
-    steps_refused old new p at next role (MaybeCall g target) r (λ code f found stands move carries same_next same_role.
-    calls.stands code found (MaybeCall g target) (first.stands code stands (leads_shown laws code p at f found (MaybeCall g target) move next next g same_next (refl, refl)))
+pub steps_maybe_call_refused : FrameLaws → (old mid new : Known) (p : Procedure) (at : ℕ) (targets : List ℕ) (next : ℕ) (role : Role) (g : StackFrame) (target : ℕ) (one : Bool) (r : Refusal) →
+    Flows old mid p next g (Ok one) → CallsOut mid new p at next role g target (Err r) → Steps old new p at targets next role (MaybeCall g target) (Err r)
+steps_maybe_call_refused laws old mid new p at targets next role g target one r first calls =
+    steps_refused old new p at targets next role (MaybeCall g target) r (λ code f found stands move carries same_targets same_next same_role.
+    calls.stands code found (MaybeCall g target) (first.stands code stands (leads_shown laws code p at f found (MaybeCall g target) move targets next next g same_targets same_next (refl, refl)))
     (subst (λ (y : StackFrame). AtMove code p at y found (MaybeCall g target)) (sym carries) move) refl same_next same_role)
 
 pub calls_out_of_memory : (old new : Known) (p : Procedure) (at next : ℕ) (role : Role) (g : StackFrame) (target : ℕ) → CallsOut old new p at next role g target (Err Memory)

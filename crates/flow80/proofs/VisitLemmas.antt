@@ -6,18 +6,18 @@ use Rattle.decode80.specs.declared.fetching.Fetched.{Fetched}
 use Rattle.frames80.specs.declared.word.Word.{Word}
 use Rattle.frames80.specs.declared.role.Role.{Role}
 use Rattle.frames80.specs.declared.fault.FrameFault.{FrameFault}
-use Rattle.frames80.specs.declared.fault.FrameFault.TheVariants.{Sphl, Pchl, StackByByte, SetsStack, PopsBelow, ReturnNotOwn, ReturnFromMain, Memory}
+use Rattle.frames80.specs.declared.fault.FrameFault.TheVariants.{Sphl, StackByByte, SetsStack, PopsBelow, ReturnNotOwn, ReturnFromMain, Memory}
 use Rattle.frames80.specs.declared.effect.Change.{Change}
 use Rattle.frames80.specs.declared.effect.Change.TheVariants.{Keep, Push, PushAny, Pop, Drop, Swap, Exchange, Forget, SetStack}
 use Rattle.frames80.specs.declared.effect.Effect.{Effect}
-use Rattle.frames80.specs.declared.effect.Effect.TheVariants.{Change as Changes, Halt, Jump, JumpIf, Call, CallIf, Return, ReturnIf, Refuse}
+use Rattle.frames80.specs.declared.effect.Effect.TheVariants.{Change as Changes, Halt, Jump, JumpIf, Case, Call, CallIf, Return, ReturnIf, Refuse}
 use Rattle.frames80.specs.declared.moves.Moves.{Moves}
 use Rattle.frames80.specs.StackFrame.{StackFrame, taken_after_pop}
 use Rattle.frames80.specs.Effects.{effect_of}
 use Rattle.frames80.specs.Moves.{moves_of, changed}
 use Rattle.bounds80.specs.declared.procedure.Procedure.{Procedure}
 use Rattle.flow80.specs.declared.code.LookFault.{LookFault}
-use Rattle.flow80.specs.declared.code.LookFault.TheVariants.{Outside, Unused, EnablesInterrupts, DirectStore}
+use Rattle.flow80.specs.declared.code.LookFault.TheVariants.{Outside, Unused, EnablesInterrupts, Pchl, DirectStore}
 use Rattle.flow80.specs.declared.refusal.Refusal.{Refusal}
 use Rattle.flow80.specs.Refusal.{refusal_of, look_refusal}
 use Rattle.flow80.specs.Code.{Code}
@@ -40,6 +40,7 @@ refused_look : (code : Code) (at : ℕ) (fault : LookFault) → LooksWrong code 
 refused_look code at Outside wrong = wrong
 refused_look code at Unused wrong = wrong
 refused_look code at EnablesInterrupts wrong = wrong
+refused_look code at Pchl wrong = wrong
 refused_look code at DirectStore wrong = wrong
 
 pub look_refused : (code : Code) (known : Known) (i at : ℕ) (point : Point) (fault : LookFault) → slice_get known.points i ≡ Some point → point.at ≡ at →
@@ -52,7 +53,6 @@ look_refused code known i at point fault there address looked stands =
 refused_move : FrameLaws → (code : Code) (p : Procedure) (at : ℕ) (f : StackFrame) (found : Fetched) (fault : FrameFault) → IsShown code p at f →
     code.look at ≡ Ok found → ((fault ≢ Memory) → moves_of (role_of code p) (effect_of found.instr) f ≡ Err fault) → Refused code (refusal_of fault at)
 refused_move laws code p at f found Sphl shown looked moved = moves_wrong laws code p at f found Sphl shown looked (moved (λ e. cc))
-refused_move laws code p at f found Pchl shown looked moved = moves_wrong laws code p at f found Pchl shown looked (moved (λ e. cc))
 refused_move laws code p at f found StackByByte shown looked moved = moves_wrong laws code p at f found StackByByte shown looked (moved (λ e. cc))
 refused_move laws code p at f found SetsStack shown looked moved = moves_wrong laws code p at f found SetsStack shown looked (moved (λ e. cc))
 refused_move laws code p at f found PopsBelow shown looked moved = moves_wrong laws code p at f found PopsBelow shown looked (moved (λ e. cc))
@@ -108,19 +108,20 @@ carries_by (Changes made) f = tt
 carries_by Halt f = tt
 carries_by (Jump to) f = tt
 carries_by (JumpIf to) f = tt
+carries_by Case f = tt
 carries_by (Call to) f = refl
 carries_by (CallIf to) f = refl
 carries_by Return f = tt
 carries_by ReturnIf f = tt
 carries_by (Refuse fault) f = tt
 
-visits_follow : (code : Code) (known new : Known) (i : ℕ) (p : Procedure) (at next : ℕ) (role : Role) (f : StackFrame) (found : Fetched) (moves : Moves) (result : Result Bool Refusal) →
-    AtPoint code known i p at f → code.look at ≡ Ok found → found.next ≡ next → role ≡ role_of code p → moves_of role (effect_of found.instr) f ≡ Ok moves →
-    Steps known new p at next role moves result → Visits code known new i result
-visits_follow code known new i p at next role f found moves result here looked same_next same_role moved steps = record {
+visits_follow : (code : Code) (known new : Known) (i : ℕ) (p : Procedure) (at : ℕ) (targets : List ℕ) (next : ℕ) (role : Role) (f : StackFrame) (found : Fetched) (moves : Moves) (result : Result Bool Refusal) →
+    AtPoint code known i p at f → code.look at ≡ Ok found → targets ≡ code.targets at → found.next ≡ next → role ≡ role_of code p → moves_of role (effect_of found.instr) f ≡ Ok moves →
+    Steps known new p at targets next role moves result → Visits code known new i result
+visits_follow code known new i p at targets next role f found moves result here looked same_targets same_next same_role moved steps = record {
   small = steps.small;
   more = steps.more;
-  stands = λ stands. steps.stands code f found stands (record { shown = shown_at code known i p at f here stands; looked = looked; moved = moved_here }) carries same_next same_role;
+  stands = λ stands. steps.stands code f found stands (record { shown = shown_at code known i p at f here stands; looked = looked; moved = moved_here }) carries same_targets same_next same_role;
   goes = steps.goes;
   closed = by result steps.goes steps.follows;
 }
@@ -131,7 +132,7 @@ visits_follow code known new i p at next role f found moves result here looked s
     carries : Carries moves f
     carries = subst (λ (m : Moves). Carries m f) (sym (moved_is role (effect_of found.instr) f moves moved).move) (carries_by (effect_of found.instr) f)
 
-    close : Follows new p f next moves → new ≡ known → (point : Point) → slice_get new.points i ≡ Some point → IsClosed code new point
+    close : Follows new p targets f next moves → new ≡ known → (point : Point) → slice_get new.points i ≡ Some point → IsClosed code new point
     close follows same point there =
         let e : point ≡ here.point = same_point (slice_get known.points i) point here.point (subst (λ (k : Known). slice_get k.points i ≡ Some point) same there) here.there in
         let q : point.procedure ≡ p = ap (λ (x : Point). x.procedure) e ∙ here.procedure in
@@ -145,21 +146,23 @@ visits_follow code known new i p at next role f found moves result here looked s
             moved = subst (λ (x : Procedure). moves_of (role_of code x) (effect_of found.instr) point.frame ≡ Ok moves) (sym q)
                 (subst (λ (x : StackFrame). moves_of (role_of code p) (effect_of found.instr) x ≡ Ok moves) (sym g) moved_here);
           };
-          follows = subst (λ (x : Procedure). Follows new x point.frame found.next moves) (sym q)
-              (subst (λ (x : StackFrame). Follows new p x found.next moves) (sym g) (subst (λ n. Follows new p f n moves) (sym same_next) follows));
+          follows = subst (λ (x : Procedure). Follows new x (code.targets point.at) point.frame found.next moves) (sym q)
+              (subst (λ n. Follows new p (code.targets n) point.frame found.next moves) (sym a)
+              (subst (λ (x : StackFrame). Follows new p (code.targets at) x found.next moves) (sym g)
+              (subst (λ n. Follows new p (code.targets at) f n moves) (sym same_next) (subst (λ (t : List ℕ). Follows new p t f next moves) same_targets follows))));
         }
 
-    by : (r : Result Bool Refusal) → IfOk r (λ flag. Goes known new flag) → IfOk r (λ flag. flag ≡ false → (g : StackFrame) → Carries moves g → Follows new p g next moves) →
+    by : (r : Result Bool Refusal) → IfOk r (λ flag. Goes known new flag) → IfOk r (λ flag. flag ≡ false → (g : StackFrame) → Carries moves g → Follows new p targets g next moves) →
         IfOk r (λ flag. flag ≡ false → (point : Point) → slice_get new.points i ≡ Some point → IsClosed code new point)
     by (Ok flag) goes follows = λ same. close (follows same f carries) (goes.same same)
     by (Err refusal) goes follows = tt
 
-pub visits_moves : (code : Code) (known new : Known) (i : ℕ) (site : Site) (moves : Moves) (result : Result Bool Refusal) → IsMoveAt code known i site moves →
-    Steps known new site.procedure site.at site.next site.role moves result → Visits code known new i result
-visits_moves code known new i site moves result m steps =
-    visits_follow code known new i site.procedure site.at site.next site.role m.point.frame m.found moves result
+pub visits_moves : (code : Code) (known new : Known) (i : ℕ) (site : Site) (targets : List ℕ) (moves : Moves) (result : Result Bool Refusal) → IsMoveAt code known i site moves →
+    targets ≡ code.targets site.at → Steps known new site.procedure site.at targets site.next site.role moves result → Visits code known new i result
+visits_moves code known new i site targets moves result m same_targets steps =
+    visits_follow code known new i site.procedure site.at targets site.next site.role m.point.frame m.found moves result
     (record { point = m.point; there = m.there; procedure = sym m.procedure; address = sym m.address; frame = refl })
-    (subst (λ n. code.look n ≡ Ok m.found) (sym m.address) m.moving.looked) (sym m.next) (m.role ∙ ap (role_of code) (sym m.procedure))
+    (subst (λ n. code.look n ≡ Ok m.found) (sym m.address) m.moving.looked) same_targets (sym m.next) (m.role ∙ ap (role_of code) (sym m.procedure))
     (subst (λ (r : Role). moves_of r (effect_of m.found.instr) m.point.frame ≡ Ok moves) (sym m.role) m.moving.moved) steps
 
 pub visits_refused : (code : Code) (known new : Known) (i : ℕ) (refusal : Refusal) → (Stands code known → Refused code refusal) → Visits code known new i (Err refusal)
@@ -189,6 +192,7 @@ move_within n (Changes made) f is = changed_within n made f is
 move_within n Halt f is = tt
 move_within n (Jump to) f is = same_within n f is
 move_within n (JumpIf to) f is = same_within n f is
+move_within n Case f is = same_within n f is
 move_within n (Call to) f is = same_within n f is
 move_within n (CallIf to) f is = same_within n f is
 move_within n Return f is = tt

@@ -2,7 +2,7 @@
 use Rattle.std.specs.Prelude.{◌≡◌, ◌≢◌, ◌<◌, ◌+◌, ℕ, false, Ok, Err}
 use Rattle.decode80.specs.declared.fetching.Fetched.{Fetched}
 use Rattle.frames80.specs.declared.fault.FrameFault.{FrameFault}
-use Rattle.frames80.specs.declared.fault.FrameFault.TheVariants.{Sphl as FrameSphl, Pchl as FramePchl, StackByByte as FrameStackByByte, SetsStack as FrameSetsStack, PopsBelow as FramePopsBelow, ReturnNotOwn as FrameReturnNotOwn, ReturnFromMain as FrameReturnFromMain}
+use Rattle.frames80.specs.declared.fault.FrameFault.TheVariants.{Sphl as FrameSphl, StackByByte as FrameStackByByte, SetsStack as FrameSetsStack, PopsBelow as FramePopsBelow, ReturnNotOwn as FrameReturnNotOwn, ReturnFromMain as FrameReturnFromMain}
 use Rattle.frames80.specs.StackFrame.{StackFrame}
 use Rattle.frames80.specs.Effects.{effect_of}
 use Rattle.frames80.specs.Moves.{moves_of}
@@ -12,7 +12,7 @@ use Rattle.bounds80.specs.declared.procedure.Procedure.TheVariants.{Main, Entry}
 use Rattle.flow80.specs.declared.refusal.Refusal.{Refusal}
 use Rattle.flow80.specs.declared.refusal.Refusal.TheVariants.{FetchOutside, UnusedOpcode, EnablesInterrupts, Sphl, Pchl, StackByByte, SetsStack, DirectStore, PopsBelow, ReturnNotOwn, ReturnFromMain, HeightsDiffer, UnevenArguments, ShortArguments, Recursion, StackTooSmall, TooManyPoints, Memory}
 use Rattle.flow80.specs.declared.code.LookFault.{LookFault}
-use Rattle.flow80.specs.declared.code.LookFault.TheVariants.{Outside, Unused, EnablesInterrupts as LooksAtEi, DirectStore as LooksAtStore}
+use Rattle.flow80.specs.declared.code.LookFault.TheVariants.{Outside, Unused, EnablesInterrupts as LooksAtEi, Pchl as LooksAtPchl, DirectStore as LooksAtStore}
 use Rattle.flow80.specs.Code.{Code}
 use Rattle.flow80.specs.Walks.{Walk, Calls, Returns, role_of}
 use Rattle.flow80.specs.Use.{IsBound}
@@ -119,7 +119,7 @@ Holds code (UnusedOpcode at) = LooksWrong code at Unused
 Holds code (EnablesInterrupts at) = LooksWrong code at LooksAtEi
 Holds code (DirectStore at) = LooksWrong code at LooksAtStore
 Holds code (Sphl at) = MovesWrong code at FrameSphl
-Holds code (Pchl at) = MovesWrong code at FramePchl
+Holds code (Pchl at) = LooksWrong code at LooksAtPchl
 Holds code (StackByByte at) = MovesWrong code at FrameStackByByte
 Holds code (SetsStack at) = MovesWrong code at FrameSetsStack
 Holds code (PopsBelow at) = MovesWrong code at FramePopsBelow

@@ -31,7 +31,7 @@ pub record FrameCloses (code : Code) (table : Table) (p : Procedure) (at : ℕ) 
   pub found : Fetched
   pub moves : Moves
   pub moving : Moving code p at f found moves
-  pub on : (to : ℕ) (g : StackFrame) → LeadsTo moves found.next to g → Has table p to g
+  pub on : (to : ℕ) (g : StackFrame) → LeadsTo moves (code.targets at) found.next to g → Has table p to g
   pub enters : (target : ℕ) → called moves ≡ Some target → Has table (Entry target) target entry_frame
   pub after : (target taken : ℕ) → called moves ≡ Some target → table.takes (Entry target) ≡ Some taken → Has table p found.next (returned taken f)
   pub return : (taken : ℕ) → returning moves ≡ Some taken → table.takes p ≡ Some taken
@@ -54,7 +54,7 @@ pub record FrameFits (code : Code) (table : Table) (p : Procedure) (at : ℕ) (f
   pub found : Fetched
   pub moves : Moves
   pub moving : Moving code p at f found moves
-  pub on : (to : ℕ) (g : StackFrame) → LeadsTo moves found.next to g → Has table p to g
+  pub on : (to : ℕ) (g : StackFrame) → LeadsTo moves (code.targets at) found.next to g → Has table p to g
   pub call : (target : ℕ) → called moves ≡ Some target → CallFits code table p found.next f target
   pub return : (taken : ℕ) → returning moves ≡ Some taken → table.takes p ≡ Some taken
   pub wants : f.taken ≤ table.wants p

@@ -1,12 +1,12 @@
 -- What the verifier knows while it goes over the points: the points with their frames, and for each entry how many words
 -- its procedure takes where it returns, once a return was seen. (This project's own.)
-use Rattle.std.specs.Prelude.{◌≡◌, ◌⊎◌, ◌≤◌, ◌<◌, ◌+◌, ◌*◌, ◌-◌, ℕ, Bool, true, false, List, [], length, sum_by, count_by, Option, Some, None, slice_get, is_none, replicate, Result, OnOk, IfOk, IfErr, MatchResult}
+use Rattle.std.specs.Prelude.{◌≡◌, ◌⊎◌, ◌≤◌, ◌<◌, ◌+◌, ◌*◌, ◌-◌, ℕ, Bool, true, false, List, [], Contains, length, sum_by, count_by, Option, Some, None, slice_get, slice_index_or, is_none, replicate, Result, OnOk, IfOk, IfErr, MatchResult}
 use Rattle.decode80.specs.declared.fetching.Fetched.{Fetched}
 use Rattle.frames80.specs.declared.word.Word.{Word}
 use Rattle.frames80.specs.declared.word.Word.TheVariants.{Own, Any}
 use Rattle.frames80.specs.declared.role.Role.{Role}
 use Rattle.frames80.specs.declared.moves.Moves.{Moves}
-use Rattle.frames80.specs.declared.moves.Moves.TheVariants.{End, On, Jump, Either, Call, MaybeCall, Return, MaybeReturn}
+use Rattle.frames80.specs.declared.moves.Moves.TheVariants.{End, On, Jump, Either, Case, Call, MaybeCall, Return, MaybeReturn}
 use Rattle.frames80.specs.StackFrame.{StackFrame, entry_frame, main_frame}
 use Rattle.frames80.specs.Calls.{returned}
 use Rattle.frames80.specs.Places.{Covers}
@@ -83,8 +83,8 @@ pub record HasPoint (known : Known) (p : Procedure) (at : ℕ) (g : StackFrame) 
   pub covers : Covers point.frame g
 
 -- each way that a move leads is in the table
-pub record Follows (known : Known) (p : Procedure) (f : StackFrame) (next : ℕ) (moves : Moves) : Type 0 where
-  pub on : (to : ℕ) (g : StackFrame) → LeadsTo moves next to g → HasPoint known p to g
+pub record Follows (known : Known) (p : Procedure) (targets : List ℕ) (f : StackFrame) (next : ℕ) (moves : Moves) : Type 0 where
+  pub on : (to : ℕ) (g : StackFrame) → LeadsTo moves targets next to g → HasPoint known p to g
   pub enters : (target : ℕ) → called moves ≡ Some target → HasPoint known (Entry target) target entry_frame
   pub after : (target taken : ℕ) → called moves ≡ Some target → exit_of known.exits target ≡ Some taken → HasPoint known p next (returned taken f)
   pub return : (entry taken : ℕ) → p ≡ Entry entry → returning moves ≡ Some taken → exit_of known.exits entry ≡ Some taken
@@ -104,6 +104,7 @@ AreWithin most End = Unit {0}
 AreWithin most (On f) = IsWithin most f
 AreWithin most (Jump f _) = IsWithin most f
 AreWithin most (Either f _) = IsWithin most f
+AreWithin most (Case f) = IsWithin most f
 AreWithin most (Call f _) = IsWithin most f
 AreWithin most (MaybeCall f _) = IsWithin most f
 AreWithin most (Return _) = Unit {0}
@@ -117,17 +118,27 @@ Carries End f = Unit {0}
 Carries (On _) f = Unit {0}
 Carries (Jump _ _) f = Unit {0}
 Carries (Either _ _) f = Unit {0}
+Carries (Case _) f = Unit {0}
 Carries (Return _) f = Unit {0}
 Carries (MaybeReturn _ _) f = Unit {0}
 
 -- what comes of a point's move: as of one frame, for each way that it leads
-pub record Steps (old new : Known) (p : Procedure) (at next : ℕ) (role : Role) (moves : Moves) (result : Result Bool Refusal) : Type 0 where
+pub record Steps (old new : Known) (p : Procedure) (at : ℕ) (targets : List ℕ) (next : ℕ) (role : Role) (moves : Moves) (result : Result Bool Refusal) : Type 0 where
   pub small : OnOk result (IsSmall new)
   pub more : OnOk result (length old.points ≤ length new.points)
-  pub stands : (code : Code) (f : StackFrame) (found : Fetched) → Stands code old → AtMove code p at f found moves → Carries moves f → found.next ≡ next → role ≡ role_of code p →
+  pub stands : (code : Code) (f : StackFrame) (found : Fetched) → Stands code old → AtMove code p at f found moves → Carries moves f → targets ≡ code.targets at → found.next ≡ next → role ≡ role_of code p →
       MatchResult result (λ _. Stands code new) (λ refusal. Refused code refusal)
   pub goes : IfOk result (λ changed. Goes old new changed)
-  pub follows : IfOk result (λ changed. changed ≡ false → (f : StackFrame) → Carries moves f → Follows new p f next moves)
+  pub follows : IfOk result (λ changed. changed ≡ false → (f : StackFrame) → Carries moves f → Follows new p targets f next moves)
+
+-- how far a PCHL has come that leads to each of its targets: what was shown stays shown where the targets are, it changed nothing
+-- or is nearer to its end, and where it changed nothing the first targets are in the table
+pub record GoesToFirst (old now : Known) (p : Procedure) (f : StackFrame) (targets : List ℕ) (count : ℕ) (changed : Bool) : Type 0 where
+  pub small : IsSmall now
+  pub more : length old.points ≤ length now.points
+  pub stands : (code : Code) → Stands code old → ((to : ℕ) → Contains targets to → IsShown code p to f) → Stands code now
+  pub goes : Goes old now changed
+  pub has : changed ≡ false → (i : ℕ) → i < count → (to : ℕ) → HasPoint now p (slice_index_or targets i to) f
 
 -- what comes of a return with so many words taken
 pub record Exits (old new : Known) (p : Procedure) (at taken : ℕ) (result : Result Bool Refusal) : Type 0 where
@@ -157,7 +168,7 @@ pub record IsClosed (code : Code) (known : Known) (point : Point) : Type 0 where
   pub found : Fetched
   pub moves : Moves
   pub moving : Moving code point.procedure point.at point.frame found moves
-  pub follows : Follows known point.procedure point.frame found.next moves
+  pub follows : Follows known point.procedure (code.targets point.at) point.frame found.next moves
 
 -- what comes of a look at a point
 pub record Visits (code : Code) (old new : Known) (i : ℕ) (result : Result Bool Refusal) : Type 0 where

@@ -1,9 +1,9 @@
 -- Refusals: their numbers, names and addresses, and those for faults of looks and of frames at an address. (This project's own.)
 use Rattle.std.specs.Prelude.{ℕ, List, Option, Some, None, codes}
 use Rattle.frames80.specs.declared.fault.FrameFault.{FrameFault}
-use Rattle.frames80.specs.declared.fault.FrameFault.TheVariants.{Sphl as FrameSphl, Pchl as FramePchl, StackByByte as FrameStackByByte, SetsStack as FrameSetsStack, PopsBelow as FramePopsBelow, ReturnNotOwn as FrameReturnNotOwn, ReturnFromMain as FrameReturnFromMain, Memory as FrameMemory}
+use Rattle.frames80.specs.declared.fault.FrameFault.TheVariants.{Sphl as FrameSphl, StackByByte as FrameStackByByte, SetsStack as FrameSetsStack, PopsBelow as FramePopsBelow, ReturnNotOwn as FrameReturnNotOwn, ReturnFromMain as FrameReturnFromMain, Memory as FrameMemory}
 use Rattle.flow80.specs.declared.code.LookFault.{LookFault}
-use Rattle.flow80.specs.declared.code.LookFault.TheVariants.{Outside, Unused, EnablesInterrupts as LooksAtEi, DirectStore as LooksAtStore}
+use Rattle.flow80.specs.declared.code.LookFault.TheVariants.{Outside, Unused, EnablesInterrupts as LooksAtEi, Pchl as LooksAtPchl, DirectStore as LooksAtStore}
 use Rattle.flow80.specs.declared.refusal.Refusal.{Refusal}
 use Rattle.flow80.specs.declared.refusal.Refusal.TheVariants.{FetchOutside, UnusedOpcode, EnablesInterrupts, Sphl, Pchl, StackByByte, SetsStack, DirectStore, PopsBelow, ReturnNotOwn, ReturnFromMain, HeightsDiffer, UnevenArguments, ShortArguments, Recursion, StackTooSmall, TooManyPoints, Memory}
 
@@ -71,7 +71,6 @@ refusal_address Memory = None
 
 abbrev pub refusal_of : FrameFault → ℕ → Refusal
 refusal_of FrameSphl at = Sphl at
-refusal_of FramePchl at = Pchl at
 refusal_of FrameStackByByte at = StackByByte at
 refusal_of FrameSetsStack at = SetsStack at
 refusal_of FramePopsBelow at = PopsBelow at
@@ -83,4 +82,5 @@ abbrev pub look_refusal : LookFault → ℕ → Refusal
 look_refusal Outside at = FetchOutside at
 look_refusal Unused at = UnusedOpcode at
 look_refusal LooksAtEi at = EnablesInterrupts at
+look_refusal LooksAtPchl at = Pchl at
 look_refusal LooksAtStore at = DirectStore at

@@ -1,11 +1,11 @@
 -- The walks of a program's procedures: every way that a procedure may be gone through, with the frame that it has at each
 -- point. Frames are never merged here, and there is no order in which points are looked at. (This project's own.)
-use Rattle.std.specs.Prelude.{◌≡◌, ◌≤◌, ◌⊎◌, ℕ, Option, Some, None, Ok}
+use Rattle.std.specs.Prelude.{◌≡◌, ◌≤◌, ◌⊎◌, ℕ, List, Contains, Option, Some, None, Ok}
 use Rattle.decode80.specs.declared.fetching.Fetched.{Fetched}
 use Rattle.frames80.specs.declared.role.Role.{Role}
 use Rattle.frames80.specs.declared.role.Role.TheVariants.{Main as MainRole, Entry as EntryRole}
 use Rattle.frames80.specs.declared.moves.Moves.{Moves}
-use Rattle.frames80.specs.declared.moves.Moves.TheVariants.{End, On, Jump, Either, Call, MaybeCall, Return, MaybeReturn}
+use Rattle.frames80.specs.declared.moves.Moves.TheVariants.{End, On, Jump, Either, Case, Call, MaybeCall, Return, MaybeReturn}
 use Rattle.frames80.specs.StackFrame.{StackFrame, entry_frame, main_frame}
 use Rattle.frames80.specs.Effects.{effect_of}
 use Rattle.frames80.specs.Moves.{moves_of}
@@ -23,16 +23,18 @@ pub record Moving (code : Code) (p : Procedure) (at : ℕ) (f : StackFrame) (fou
   pub looked : code.look at ≡ Ok found
   pub moved : moves_of (role_of code p) (effect_of found.instr) f ≡ Ok moves
 
--- where a move leads in its own procedure, calls aside: to the next instruction, to an address, or to either
-abbrev pub LeadsTo : Moves → (next to : ℕ) → StackFrame → Type 0
-LeadsTo (On f) next to g = (to ≡ next) × (g ≡ f)
-LeadsTo (Jump f address) next to g = (to ≡ address) × (g ≡ f)
-LeadsTo (Either f address) next to g = ((to ≡ next) ⊎ (to ≡ address)) × (g ≡ f)
-LeadsTo (MaybeCall f _) next to g = (to ≡ next) × (g ≡ f)
-LeadsTo (MaybeReturn f _) next to g = (to ≡ next) × (g ≡ f)
-LeadsTo End next to g = ⊥
-LeadsTo (Call _ _) next to g = ⊥
-LeadsTo (Return _) next to g = ⊥
+-- where a move leads in its own procedure, calls aside: to the next instruction, to an address, to either, or to any of the
+-- targets that are declared for its instruction
+abbrev pub LeadsTo : Moves → (targets : List ℕ) → (next to : ℕ) → StackFrame → Type 0
+LeadsTo (On f) targets next to g = (to ≡ next) × (g ≡ f)
+LeadsTo (Jump f address) targets next to g = (to ≡ address) × (g ≡ f)
+LeadsTo (Either f address) targets next to g = ((to ≡ next) ⊎ (to ≡ address)) × (g ≡ f)
+LeadsTo (Case f) targets next to g = Contains targets to × (g ≡ f)
+LeadsTo (MaybeCall f _) targets next to g = (to ≡ next) × (g ≡ f)
+LeadsTo (MaybeReturn f _) targets next to g = (to ≡ next) × (g ≡ f)
+LeadsTo End targets next to g = ⊥
+LeadsTo (Call _ _) targets next to g = ⊥
+LeadsTo (Return _) targets next to g = ⊥
 
 -- the address that a move calls
 abbrev pub called : Moves → Option ℕ
@@ -42,6 +44,7 @@ called End = None
 called (On _) = None
 called (Jump _ _) = None
 called (Either _ _) = None
+called (Case _) = None
 called (Return _) = None
 called (MaybeReturn _ _) = None
 
@@ -53,6 +56,7 @@ returning End = None
 returning (On _) = None
 returning (Jump _ _) = None
 returning (Either _ _) = None
+returning (Case _) = None
 returning (Call _ _) = None
 returning (MaybeCall _ _) = None
 
@@ -67,7 +71,7 @@ pub record GoesOn (code : Code) (p : Procedure) (at : ℕ) (f : StackFrame) (to 
   pub found : Fetched
   pub moves : Moves
   pub moving : Moving code p at f found moves
-  pub leads : LeadsTo moves found.next to g
+  pub leads : LeadsTo moves (code.targets at) found.next to g
 
 -- an instruction calls a procedure, and would come back to an address
 pub record Calls (code : Code) (p : Procedure) (at : ℕ) (f : StackFrame) (target next : ℕ) : Type 0 where

@@ -14,18 +14,24 @@ pub enum LookFault {
     Unused,
     /// It is an EI whose next byte isn't a HLT in CODE.
     EnablesInterrupts,
+    /// It is a PCHL for which no targets are declared.
+    Pchl,
     /// It is a STA or SHLD with a byte outside data.
     DirectStore,
 }
 
 /// A program as the verifier sees it.
 pub trait Code {
-    /// The instruction at each address, the start, and the stack's top and length.
+    /// The instruction at each address, the targets declared for it, the start, and the stack's top and length.
     ghost code: { Self → CodeSeen };
 
     /// The instruction at an address and the address after it, or why none may be executed there.
     fn look(&self, at: u16) -> Result<Fetched, LookFault>
         ensures { result ≡ (code self.now).look at };
+
+    /// The targets that are declared for a PCHL at an address; none where it isn't declared.
+    fn targets(&self, at: u16) -> &[u16]
+        ensures { result.now ≡ (code self.now).targets at };
 
     /// The address where the main program starts.
     fn start(&self) -> u16

@@ -21,7 +21,7 @@ pub enum Refusal {
     EnablesInterrupts(u16),
     /// SPHL is reached.
     Sphl(u16),
-    /// PCHL is reached.
+    /// A PCHL is reached for which no targets are declared.
     Pchl(u16),
     /// INX SP or DCX SP is reached.
     StackByByte(u16),
@@ -136,6 +136,7 @@ impl Refusal {
             LookFault::Outside => Refusal::FetchOutside(at),
             LookFault::Unused => Refusal::UnusedOpcode(at),
             LookFault::EnablesInterrupts => Refusal::EnablesInterrupts(at),
+            LookFault::Pchl => Refusal::Pchl(at),
             LookFault::DirectStore => Refusal::DirectStore(at),
         }
     }
@@ -146,7 +147,6 @@ impl Refusal {
     {
         match fault {
             FrameFault::Sphl => Refusal::Sphl(at),
-            FrameFault::Pchl => Refusal::Pchl(at),
             FrameFault::StackByByte => Refusal::StackByByte(at),
             FrameFault::SetsStack => Refusal::SetsStack(at),
             FrameFault::PopsBelow => Refusal::PopsBelow(at),

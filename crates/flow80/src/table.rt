@@ -1,10 +1,10 @@
 //! The table of frames while it fills.
 
-ghost use Rattle.std.specs.Prelude.{◌≡◌, ◌+◌, ◌<◌, ◌≤◌, ◌↔◌, false, true, Some, None, Ok, Err, IfOk, IfErr, OnOk, IfSome, length, replicate, slice_get};
+ghost use Rattle.std.specs.Prelude.{◌≡◌, ◌+◌, ◌<◌, ◌≤◌, ◌↔◌, ℕ, List, false, true, Some, None, Ok, Err, IfOk, IfErr, OnOk, IfSome, length, replicate, slice_get};
 ghost use Rattle.bounds80.specs.declared.procedure.Procedure.TheVariants.{Entry};
 ghost use Rattle.flow80.specs.Points.{AreAddresses, IsPointAt, IsNoPoint};
 ghost use Rattle.flow80.specs.Known.{IsSmall, IsWithin, Stands, Flows, Exits, CallsOut, Steps, Visits, Looks, AreClosed, AllClosed, AreWithin, IsShort, exit_of, nothing_known};
-ghost use Rattle.frames80.specs.declared.moves.Moves.TheVariants.{Either, MaybeCall, MaybeReturn};
+ghost use Rattle.frames80.specs.declared.moves.Moves.TheVariants.{Either, Case, MaybeCall, MaybeReturn};
 ghost use Rattle.frames80.specs.Calls.{room, returned};
 ghost use Rattle.flow80.specs.Faults.{most_points, Holds};
 ghost use Rattle.flow80.specs.Survey.{IsMoveAt, IsEntered};
@@ -188,13 +188,35 @@ impl Table {
     fn branch(&mut self, alloc: Global, site: &Site, frame: Frame, to: u16) -> Result<bool, Refusal>
         requires small { IsSmall self.old }
         requires fits { IsWithin (length self.old.points + 1) frame }
-        ensures { Steps self.old self.new site.now.procedure site.now.at site.now.next site.now.role (Either frame to) result }
+        ensures { (targets : List ℕ) → Steps self.old self.new site.now.procedure site.now.at targets site.now.next site.now.role (Either frame to) result }
     {
         frame_laws();
         let copy = frame.copy(alloc)?;
         let one = self.flow(alloc, site.procedure, site.next, copy)?;
         let other = self.flow(alloc, site.procedure, to, frame)?;
         Ok(one | other)
+    }
+
+    /// A PCHL goes to each target that is declared for it, with the frame that it has.
+    fn go_to_each(
+        &mut self,
+        alloc: Global,
+        site: &Site,
+        targets: &[u16],
+        frame: &Frame,
+    ) -> Result<bool, Refusal>
+        requires small { IsSmall self.old }
+        requires fits { IsWithin (length self.old.points + 1) frame.now }
+        ensures { Steps self.old self.new site.now.procedure site.now.at targets.now site.now.next site.now.role (Case frame.now) result }
+    {
+        frame_laws();
+        let mut changed = false;
+        for to in targets {
+            let copy = frame.copy(alloc)?;
+            let here = self.flow(alloc, site.procedure, *to, copy)?;
+            changed |= here;
+        }
+        Ok(changed)
     }
 
     /// A conditional call is taken, or it goes on.
@@ -207,7 +229,7 @@ impl Table {
     ) -> Result<bool, Refusal>
         requires small { IsSmall self.old }
         requires fits { IsWithin (length self.old.points + 1) frame }
-        ensures { Steps self.old self.new site.now.procedure site.now.at site.now.next site.now.role (MaybeCall frame target) result }
+        ensures { (targets : List ℕ) → Steps self.old self.new site.now.procedure site.now.at targets site.now.next site.now.role (MaybeCall frame target) result }
     {
         frame_laws();
         let copy = frame.copy(alloc)?;
@@ -226,7 +248,7 @@ impl Table {
     ) -> Result<bool, Refusal>
         requires small { IsSmall self.old }
         requires fits { IsWithin (length self.old.points + 1) frame }
-        ensures { Steps self.old self.new site.now.procedure site.now.at site.now.next site.now.role (MaybeReturn frame taken) result }
+        ensures { (targets : List ℕ) → Steps self.old self.new site.now.procedure site.now.at targets site.now.next site.now.role (MaybeReturn frame taken) result }
     {
         frame_laws();
         let one = self.flow(alloc, site.procedure, site.next, frame)?;
@@ -234,7 +256,7 @@ impl Table {
         Ok(one | other)
     }
 
-    /// Each way that a move leads.
+    /// Each way that a move leads; a PCHL leads to the targets that are declared for it.
     ///
     /// # Errors
     /// A refusal that holds, or out of memory.
@@ -242,11 +264,12 @@ impl Table {
         &mut self,
         alloc: Global,
         site: &Site,
+        targets: &[u16],
         moves: Moves,
     ) -> Result<bool, Refusal>
         requires small { IsSmall self.old }
         requires fits { AreWithin (length self.old.points + 1) moves }
-        ensures { Steps self.old self.new site.now.procedure site.now.at site.now.next site.now.role moves result }
+        ensures { Steps self.old self.new site.now.procedure site.now.at targets.now site.now.next site.now.role moves result }
     {
         frame_laws();
         match moves {
@@ -254,6 +277,7 @@ impl Table {
             Moves::On(frame) => self.flow(alloc, site.procedure, site.next, frame),
             Moves::Jump(frame, to) => self.flow(alloc, site.procedure, to, frame),
             Moves::Either(frame, to) => self.branch(alloc, site, frame, to),
+            Moves::Case(frame) => self.go_to_each(alloc, site, targets, &frame),
             Moves::Call(frame, target) => self.call(alloc, site, &frame, target),
             Moves::MaybeCall(frame, target) => self.call_if(alloc, site, frame, target),
             Moves::Return(taken) => self.exit(site.procedure, site.at, taken),
@@ -312,7 +336,7 @@ impl Table {
         ensures { Visits (C.code program.now) self.old self.new point result }
     {
         let (site, moves) = self.moves_at(alloc, program, point)?;
-        self.follow(alloc, &site, moves)
+        self.follow(alloc, &site, program.targets(site.at), moves)
     }
 
     /// The points that are to be looked at are looked at, and those that come of it.

@@ -8,32 +8,32 @@ use Rattle.flow80.proofs.StepLemmas.{steps_first_refused, steps_both}
 use Rattle.flow80.proofs.table.Table.branch.Goals as goal
 
 pub returns-in_err-one : goal.returns-in_err-one
-returns-in_err-one c =
+returns-in_err-one c targets =
     let p = err_from_is_err_and c.from_residual-in_err-one.result c.from_residual-in_err-one.ensures.1 in
     let laws = c.frame_laws.ensures in
     let known = c.args.self.now in
     let s = c.args.site.now in
     let first : Flows known c.flow.new.self s.procedure s.next c.args.frame (Err c.in_err-one.field-0.0) =
     subst (λ (g : StackFrame). Flows known c.flow.new.self s.procedure s.next g (Err c.in_err-one.field-0.0)) c.in_ok-copy.ensures c.in_err-one.ensures in
-    rw (p.1, p.2) (steps_first_refused laws known c.flow.new.self s.procedure s.at s.next s.next s.role (Either c.args.frame c.args.to) c.args.frame c.in_err-one.field-0.0 (inl refl, refl) first c.flow.new.self)
+    rw (p.1, p.2) (steps_first_refused laws known c.flow.new.self s.procedure s.at targets s.next s.next s.role (Either c.args.frame c.args.to) c.args.frame c.in_err-one.field-0.0 (inl refl, refl) first c.flow.new.self)
 
 pub returns-in_err-other : goal.returns-in_err-other
-returns-in_err-other c =
+returns-in_err-other c targets =
     let p = err_from_is_err_and c.from_residual-in_err-other.result c.from_residual-in_err-other.ensures.1 in
     let laws = c.frame_laws.ensures in
     let known = c.args.self.now in
     let s = c.args.site.now in
     let first : Flows known c.flow.new.self s.procedure s.next c.args.frame (Ok c.in_ok-one.one) =
     subst (λ (g : StackFrame). Flows known c.flow.new.self s.procedure s.next g (Ok c.in_ok-one.one)) c.in_ok-copy.ensures c.in_ok-one.ensures in
-    rw (p.1, p.2) (steps_both laws known c.flow.new.self c.flow-2.new.self s.procedure s.at s.next c.args.to s.role c.args.frame c.in_ok-one.one (Err c.in_err-other.field-0.0) first c.in_err-other.ensures
+    rw (p.1, p.2) (steps_both laws known c.flow.new.self c.flow-2.new.self s.procedure s.at targets s.next c.args.to s.role c.args.frame c.in_ok-one.one (Err c.in_err-other.field-0.0) first c.in_err-other.ensures
     (Err c.in_err-other.field-0.0) (λ x same. cc) (λ r same. same))
 
 pub returns : goal.returns
-returns c =
+returns c targets =
     let laws = c.frame_laws.ensures in
     let known = c.args.self.now in
     let s = c.args.site.now in
     let first : Flows known c.flow.new.self s.procedure s.next c.args.frame (Ok c.in_ok-one.one) =
     subst (λ (g : StackFrame). Flows known c.flow.new.self s.procedure s.next g (Ok c.in_ok-one.one)) c.in_ok-copy.ensures c.in_ok-one.ensures in
-    steps_both laws known c.flow.new.self c.flow-2.new.self s.procedure s.at s.next c.args.to s.role c.args.frame c.in_ok-one.one (Ok c.in_ok-other.other) first c.in_ok-other.ensures
+    steps_both laws known c.flow.new.self c.flow-2.new.self s.procedure s.at targets s.next c.args.to s.role c.args.frame c.in_ok-one.one (Ok c.in_ok-other.other) first c.in_ok-other.ensures
     (Ok (c.in_ok-one.one || c.in_ok-other.other)) (λ x same. cc) (λ r same. cc)

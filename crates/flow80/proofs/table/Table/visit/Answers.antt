@@ -10,5 +10,5 @@ returns-in_err-site g c =
 
 pub returns : goal.returns
 returns g c =
-    visits_moves (g.C.Code.code c.args.program.now) c.args.self.now c.follow.new.self c.args.point c.in_ok-site.site c.in_ok-site.moves c.follow.result
-    c.in_ok-site.ensures.moves c.follow.ensures
+    visits_moves (g.C.Code.code c.args.program.now) c.args.self.now c.follow.new.self c.args.point c.in_ok-site.site c.targets.result.now c.in_ok-site.moves c.follow.result
+    c.in_ok-site.ensures.moves c.targets.ensures c.follow.ensures
