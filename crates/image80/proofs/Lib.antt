@@ -1,4 +1,5 @@
 pub mod LineLemmas
+pub mod CaseLemmas
 pub mod DigitLemmas
 pub mod DisjointLemmas
 pub mod RegionsLemmas

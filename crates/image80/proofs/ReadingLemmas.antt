@@ -13,6 +13,7 @@ use Rattle.image80.specs.declared.entry.Entry.{Entry}
 use Rattle.image80.specs.declared.entry.Entry.TheVariants.{Code, Stack, Data}
 use Rattle.image80.specs.declared.fault.RegionsFault.{RegionsFault}
 use Rattle.image80.specs.declared.fault.RegionsFault.TheVariants.{BadLine, BadVersion, RegionsOverlap, NoStack, Memory}
+use Rattle.image80.specs.Case.{DeclaredCase}
 use Rattle.image80.specs.Range.{IsInMemory}
 use Rattle.image80.specs.Regions.{Areas, AreRegions, AreDisjoint, IsByAddress}
 use Rattle.image80.specs.RegionsText.{heading, entry_text, range_of, stack_range, code_ranges, stack_ranges, data_ranges, GoodText, IsBadLine, IsFirstBadLine, Refuses, Spells}
@@ -141,10 +142,11 @@ ascending_same (x ∷ xs) (y ∷ ys) xs_rising ys_rising same =
     (λ f. same_rest (f x) (sum_by f xs) (sum_by f ys) (sym (sum_by-cons f x xs) ∙ same f ∙ sum_by-cons f y ys ∙ ap (λ r. f r + sum_by f ys) (sym head))))
 
 -- regions with the same ranges are the same
-areas_same : (x y : Areas) → x.code ≡ y.code → x.stack ≡ y.stack → x.data_ranges ≡ y.data_ranges → x ≡ y
-areas_same x y code stack data' =
-    let make : List Range → Range → List Range → Areas = λ c s d. record { code = c; stack = s; data_ranges = d } in
-    ap (λ c. make c x.stack x.data_ranges) code ∙ ap (λ s. make y.code s x.data_ranges) stack ∙ ap (λ d. make y.code y.stack d) data'
+areas_same : (x y : Areas) → x.code ≡ y.code → x.stack ≡ y.stack → x.data_ranges ≡ y.data_ranges → x.cases ≡ y.cases → x ≡ y
+areas_same x y code stack data' cases =
+    let make : List Range → Range → List Range → List DeclaredCase → Areas = λ c s d k. record { code = c; stack = s; data_ranges = d; cases = k } in
+    ap (λ c. make c x.stack x.data_ranges x.cases) code ∙ ap (λ s. make y.code s x.data_ranges x.cases) stack
+    ∙ ap (λ d. make y.code y.stack d x.cases) data' ∙ ap (λ k. make y.code y.stack y.data_ranges k) cases
 
 -- two permutations of one list, each by address
 same_ranges : (ranges xs ys : List Range) → IsPermutation ranges xs → IsPermutation ranges ys → IsByAddress xs → IsByAddress ys → xs ≡ ys
@@ -159,6 +161,7 @@ one_reading text x y x_spelled y_spelled =
     (same_ranges (code_ranges y_spelled.entries) x.code y.code (subst (λ es. IsPermutation (code_ranges es) x.code) entries x_spelled.code) y_spelled.code x_spelled.regions.code_by_address y_spelled.regions.code_by_address)
     (head_same x.stack y.stack (sym x_spelled.stack ∙ ap stack_ranges entries ∙ y_spelled.stack))
     (same_ranges (data_ranges y_spelled.entries) x.data_ranges y.data_ranges (subst (λ es. IsPermutation (data_ranges es) x.data_ranges) entries x_spelled.data_ranges) y_spelled.data_ranges x_spelled.regions.data_by_address y_spelled.regions.data_by_address)
+    (x_spelled.cases ∙ sym y_spelled.cases)
 
 not_nil : (es : List Entry) → map entry_text es ++ [] ∷ [] ≡ [] → ⊥
 not_nil [] same = cc

@@ -1,10 +1,11 @@
 -- Ranges, put by address, are regions.
-use Rattle.std.proofs.Common.{◌≡◌, ◌≢◌, ℕ, ◌+◌, ◌<◌, ◌≤◌, List, [], ◌∷◌, ◌++◌, get_or, ap, sym, ◌∙◌, arith}
+use Rattle.std.proofs.Common.{◌≡◌, ◌≢◌, ℕ, ◌+◌, ◌<◌, ◌≤◌, List, [], ◌∷◌, ◌++◌, get_or, ap, sym, subst, ◌∙◌, arith}
 use Rattle.std.specs.Prelude.{All, IsPermutation}
 use Rattle.std.specs.List.Sorted.{IsNonDecreasingBy}
-use Rattle.std.proofs.lemmas.List.Elements.{All-append, All-cons}
+use Rattle.std.proofs.lemmas.List.Elements.{All-append, All-cons, All-nil}
 use Rattle.std.proofs.lemmas.List.Sorted.{All-permutation}
 use Rattle.image80.specs.declared.range.Range.{Range}
+use Rattle.image80.specs.Case.{DeclaredCase, IsCase, AreByAddress}
 use Rattle.image80.specs.Range.{IsInMemory}
 use Rattle.image80.specs.Regions.{AreDisjoint, AreRegions, IsByAddress, held}
 use Rattle.image80.proofs.DisjointLemmas.{held_twice, held-append, held-permutation, in_range_is, disjoint_along}
@@ -51,8 +52,9 @@ pub arranged : (code code' : List Range) (stack : Range) (data' data'' : List Ra
     All (λ range. 0 < range.length) code → All (λ range. 0 < range.length) data' → All IsInMemory code → IsInMemory stack → All IsInMemory data' →
     AreDisjoint (code ++ stack ∷ data') →
     IsPermutation code code' → IsNonDecreasingBy (λ range. range.first) code' → IsPermutation data' data'' → IsNonDecreasingBy (λ range. range.first) data'' →
-    AreRegions (record { code = code'; stack = stack; data_ranges = data'' })
-arranged code code' stack data' data'' code_filled data_filled code_in stack_in data_in disjoint code_moved code_rising data_moved data_rising =
+    (cases : List DeclaredCase) → cases ≡ [] →
+    AreRegions (record { code = code'; stack = stack; data_ranges = data''; cases = cases })
+arranged code code' stack data' data'' code_filled data_filled code_in stack_in data_in disjoint code_moved code_rising data_moved data_rising cases none =
     let code_filled' : All (λ range. 0 < range.length) code' = All-permutation (λ range. 0 < range.length) code code' code_moved code_filled in
     let data_filled' : All (λ range. 0 < range.length) data'' = All-permutation (λ range. 0 < range.length) data' data'' data_moved data_filled in
     let whole : AreDisjoint (code' ++ stack ∷ data'') = disjoint_along (code ++ stack ∷ data') (code' ++ stack ∷ data'') (held_moved code code' stack data' data'' code_moved data_moved) disjoint in
@@ -64,4 +66,6 @@ arranged code code' stack data' data'' code_filled data_filled code_in stack_in 
       in_memory = All-append IsInMemory code' (stack ∷ data'') (All-permutation IsInMemory code code' code_moved code_in)
           (All-cons IsInMemory stack data'' stack_in (All-permutation IsInMemory data' data'' data_moved data_in));
       disjoint = whole;
+      cases_by_address = subst AreByAddress (sym none) (λ i j d order inside. absurd (omega arith));
+      each_case = subst (λ cs. All IsCase cs) (sym none) (All-nil IsCase);
     }

@@ -199,5 +199,6 @@ spells text entries stack code' data' areas good is code_is data_is made =
       code = subst (λ rs. IsPermutation rs areas.code) code_is made.same_code;
       stack = one_stack text entries stack good is ∙ ap (λ s. s ∷ []) (sym made.same_stack);
       data_ranges = subst (λ rs. IsPermutation rs areas.data_ranges) data_is made.same_data;
+      cases = made.no_cases;
       regions = made.rules;
     }

@@ -119,8 +119,8 @@ data_of_entries areas =
     ∙ picks_all Data data_range (λ r. refl) areas.data_ranges
 
 -- the text that is written spells the regions
-pub written_spells : (areas : Areas) → AreRegions areas → Spells (regions_text areas) areas
-written_spells areas rules =
+pub written_spells : (areas : Areas) → AreRegions areas → areas.cases ≡ [] → Spells (regions_text areas) areas
+written_spells areas rules none =
     record {
       entries = entries_of areas;
       good = record {
@@ -131,6 +131,7 @@ written_spells areas rules =
       code = subst (λ rs. IsPermutation rs areas.code) (sym (ap filled (code_of_entries areas) ∙ filled_all areas.code rules.code_filled)) (IsPermutation-refl areas.code);
       stack = stack_of_entries areas;
       data_ranges = subst (λ rs. IsPermutation rs areas.data_ranges) (sym (ap filled (data_of_entries areas) ∙ filled_all areas.data_ranges rules.data_filled)) (IsPermutation-refl areas.data_ranges);
+      cases = none;
       regions = rules;
     }
 

@@ -1,3 +1,4 @@
+pub mod Case
 pub mod Range
 pub mod Regions
 pub mod Image

@@ -80,6 +80,7 @@ pub record Spells (text : List ℕ) (areas : Areas) : Type 0 where
   pub code : IsPermutation (code_ranges entries) areas.code
   pub stack : stack_ranges entries ≡ areas.stack ∷ []
   pub data_ranges : IsPermutation (data_ranges entries) areas.data_ranges
+  pub cases : areas.cases ≡ []
   pub regions : AreRegions areas
 
 -- no entry in memory spells the line but, where there is a stack, another stack's

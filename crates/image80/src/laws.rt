@@ -1,9 +1,9 @@
 //! The laws of memory, of regions and of their text, over the definitions alone.
 
-ghost use Rattle.std.specs.Prelude.{◌≡◌, ◌≢◌, ℕ, ◌<◌, List, [], ◌∷◌, ◌++◌, length, slice_index, true, false, if◌then◌else◌};
+ghost use Rattle.std.specs.Prelude.{◌≡◌, ◌≢◌, ℕ, ◌<◌, ◌↔◌, List, [], ◌∷◌, ◌++◌, length, Contains, slice_index, true, false, if◌then◌else◌};
 ghost use Rattle.image80.specs.Image.{PlacedBytes, covers, byte_of, byte_at, memory_of};
 ghost use Rattle.image80.specs.Range.{in_range};
-ghost use Rattle.image80.specs.Regions.{Areas, AreRegions, in_code, in_data};
+ghost use Rattle.image80.specs.Regions.{Areas, AreRegions, in_code, in_data, targets_at};
 ghost use Rattle.image80.specs.RegionsText.{regions_text, Spells, Refuses};
 ghost use Rattle.image80.specs.declared.fault.RegionsFault.{RegionsFault};
 
@@ -11,7 +11,7 @@ ghost use Rattle.image80.specs.declared.fault.RegionsFault.{RegionsFault};
 /// aside; it is refused for one cause at most; and the text that is written for regions spells
 /// them. So what is written is read as itself.
 pub fn text_of_regions_is_read_as_itself()
-    ensures written { (areas : Areas) → AreRegions areas → Spells (regions_text areas) areas }
+    ensures written { (areas : Areas) → AreRegions areas → areas.cases ≡ [] → Spells (regions_text areas) areas }
     ensures one_reading { (text : List ℕ) (areas others : Areas) →
         Spells text areas → Spells text others → areas ≡ others }
     ensures not_refused { (text : List ℕ) (areas : Areas) (fault : RegionsFault) →
@@ -28,6 +28,12 @@ pub fn code_data_and_stack_are_apart()
         in_code areas address ≡ true → in_range areas.stack address ≡ false }
     ensures data_or_stack { (areas : Areas) (address : ℕ) → AreRegions areas →
         in_data areas address ≡ true → in_range areas.stack address ≡ false }
+{}
+
+/// The targets that are declared for an address are those of its case.
+pub fn targets_are_those_of_the_case()
+    ensures { (areas : Areas) (address : ℕ) (targets : List ℕ) → AreRegions areas →
+        (targets_at areas address ≡ Some targets) ↔ Contains areas.cases (record { at = address; targets = targets }) }
 {}
 
 /// A memory has 65536 bytes, each that of the last chunk over its address: a later chunk hides what

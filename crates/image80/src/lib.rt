@@ -4,7 +4,8 @@
 //! | Item | What it is |
 //! |---|---|
 //! | [`Range`] | consecutive addresses |
-//! | [`Regions`] | the ranges of code and of data, and the one range of the stack |
+//! | [`Regions`] | the ranges of code and of data, the one range of the stack, and the cases |
+//! | [`Case`] | the targets of the PCHL at an address |
 //! | [`RegionMap`] | whether an address is in the code or in the data, at the same cost for any number of ranges |
 //! | [`Chunk`], [`Image`] | bytes at an address; a located program, and its memory |
 //! | [`write_regions`], [`read_regions`], [`RegionsFault`] | regions as a text, and why bytes are no regions text |
@@ -12,6 +13,7 @@
 //! | [`laws`] | what holds of the definitions alone |
 #![tactic(auto)]
 
+mod case;
 mod chunk;
 mod entry;
 mod fault;
@@ -26,6 +28,7 @@ mod region_map;
 mod regions;
 mod write;
 
+pub use case::Case;
 pub use chunk::Chunk;
 pub use fault::RegionsFault;
 pub use image::Image;

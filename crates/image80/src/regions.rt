@@ -1,20 +1,23 @@
 ghost use Rattle.std.specs.Prelude.{◌≡◌};
 
+use crate::case::{Case, case_at};
 use crate::ordered::{are_disjoint, sort};
 use crate::range::{Range, in_ranges};
 use std::alloc::{AllocError, Global};
 use std::marker::Model;
 
 /// The addresses that a program may use: the set CODE that it is fetched from, the set data that
-/// it stores to directly, and the one range STACK that it pushes on.
+/// it stores to directly, and the one range STACK that it pushes on; and the targets of its jumps by PCHL.
 ///
 /// The ranges of code and of data are kept by address, none of them empty, each ending at or below
 /// 65536, and no address lies in two ranges. The stack may be empty. Ranges that touch stay apart.
+/// The cases are kept by address, one for an address at most.
 #[derive(Debug, Drop)]
 pub struct Regions {
     code: Vec<Range>,
     stack: Range,
     data_ranges: Vec<Range>,
+    cases: Vec<Case>,
 }
 
 impl Model for Regions {
@@ -22,18 +25,29 @@ impl Model for Regions {
 
     ghost Value = { Areas };
 
-    ghost view = { λ r. record { code = r.code.items; stack = r.stack; data_ranges = r.data_ranges.items } };
+    ghost view = { λ r. record {
+      code = r.code.items;
+      stack = r.stack;
+      data_ranges = r.data_ranges.items;
+      cases = r.cases.items;
+    } };
 
-    ghost invariant = { λ r. AreRegions (record { code = r.code.items; stack = r.stack; data_ranges = r.data_ranges.items }) };
+    ghost invariant = { λ r. AreRegions (record {
+      code = r.code.items;
+      stack = r.stack;
+      data_ranges = r.data_ranges.items;
+      cases = r.cases.items;
+    }) };
 }
 
 impl Regions {
     ghost use Rattle.std.specs.Prelude.{◌<◌, ◌∷◌, ◌++◌, All, IfOk, IfSome, IfNone};
+    ghost use Rattle.image80.specs.Case.{AreByAddress, IsCase};
     ghost use Rattle.image80.specs.Range.{IsInMemory};
-    ghost use Rattle.image80.specs.Regions.{AreDisjoint, AreRegions, Arranges, in_code, in_data, top_of};
+    ghost use Rattle.image80.specs.Regions.{AreDisjoint, AreRegions, Arranges, in_code, in_data, targets_at, top_of};
 
-    /// The regions of these ranges, which may come in any order; `None` where an address lies in
-    /// two of them.
+    /// The regions of these ranges, which may come in any order, without cases; `None` where an
+    /// address lies in two of them.
     pub(crate) fn from_ranges(
         alloc: Global,
         code: Vec<Range>,
@@ -51,11 +65,17 @@ impl Regions {
         if !are_disjoint(alloc, &code, stack, &data_ranges)? {
             return Ok(None);
         }
-        Ok(Some(Regions::from_disjoint(code, stack, data_ranges)))
+        Ok(Some(Regions::from_disjoint(alloc, code, stack, data_ranges)))
     }
 
-    /// The regions of these ranges, which may come in any order, and of which no two share an address.
-    pub fn from_disjoint(mut code: Vec<Range>, stack: Range, mut data_ranges: Vec<Range>) -> Self
+    /// The regions of these ranges, which may come in any order, and of which no two share an address, without
+    /// cases.
+    pub fn from_disjoint(
+        alloc: Global,
+        mut code: Vec<Range>,
+        stack: Range,
+        mut data_ranges: Vec<Range>,
+    ) -> Self
         requires code_filled { All (λ range. 0 < range.length) code.items }
         requires data_filled { All (λ range. 0 < range.length) data_ranges.items }
         requires code_in_memory { All IsInMemory code.items }
@@ -70,6 +90,27 @@ impl Regions {
             code,
             stack,
             data_ranges,
+            cases: Vec::new(alloc),
+        }
+    }
+
+    /// The same ranges with these cases, which stand by address, one for an address at most.
+    pub(crate) fn with_cases(self, cases: Vec<Case>) -> Self
+        requires by_address { AreByAddress cases.items }
+        requires each { All IsCase cases.items }
+        ensures { result ≡ record self { cases = cases.items } }
+    {
+        let Regions {
+            code,
+            stack,
+            data_ranges,
+            cases: _,
+        } = self;
+        Regions {
+            code,
+            stack,
+            data_ranges,
+            cases,
         }
     }
 
@@ -95,6 +136,25 @@ impl Regions {
         ensures rules { AreRegions self.now }
     {
         self.stack
+    }
+
+    /// The cases, by address.
+    pub fn cases(&self) -> &[Case]
+        ensures cases { result.now ≡ self.now.cases }
+        ensures rules { AreRegions self.now }
+    {
+        &self.cases
+    }
+
+    /// The targets that are declared for the address, ascending, each once; `None` where none are declared. The time
+    /// grows with the logarithm of the number of cases.
+    #[inline]
+    pub fn targets(&self, address: u16) -> Option<&[u16]>
+        ensures declared { IfSome result (λ targets. targets_at self.now address ≡ Some targets.now) }
+        ensures none { IfNone result (targets_at self.now address ≡ None) }
+    {
+        let case = case_at(&self.cases, address)?;
+        Some(case.targets.as_slice())
     }
 
     /// Whether the address is in the code.

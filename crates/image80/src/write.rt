@@ -16,7 +16,7 @@ use std::alloc::{AllocError, Global};
 /// `out` keeps what it held.
 pub fn write_regions(alloc: Global, regions: &Regions, out: &mut Vec<u8>) -> Result<(), AllocError>
     ensures ok { OnOk result (out.new.items ≡ out.old.items ++ regions_text regions.now) }
-    ensures read { OnOk result (Spells (regions_text regions.now) regions.now) }
+    ensures read { OnOk result (regions.now.cases ≡ [] → Spells (regions_text regions.now) regions.now) }
     ensures err { OnErr result (out.new.items ≡ out.old.items) }
 {
     text_of_regions_is_read_as_itself();

@@ -19,7 +19,7 @@ pub(crate) fn located_regions(alloc: Global, segments: &[Placed]) -> Result<Regi
     let code = code_ranges(alloc, segments)?;
     let stack = stack_range(segments);
     let data_ranges = data_ranges(alloc, segments)?;
-    Ok(Regions::from_disjoint(code, stack, data_ranges))
+    Ok(Regions::from_disjoint(alloc, code, stack, data_ranges))
 }
 
 /// The ranges of CODE, without an empty one.
