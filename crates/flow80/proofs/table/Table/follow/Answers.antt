@@ -29,3 +29,21 @@ returns-in-Return c =
     let s = c.args.site.now in
     subst (λ (m : Moves). Steps c.args.self.now c.exit.new.self s.procedure s.at c.args.targets.now s.next s.role m c.exit.result) (sym c.in-Return.is)
     (steps_return c.frame_laws.ensures c.args.self.now c.exit.new.self s.procedure s.at c.args.targets.now s.next s.role c.in-Return.taken c.exit.result c.exit.ensures)
+
+pub returns-in-Either : goal.returns-in-Either
+returns-in-Either c =
+    let s = c.args.site.now in
+    subst (λ (m : Moves). Steps c.args.self.now c.branch-self.new.self s.procedure s.at c.args.targets.now s.next s.role m c.branch-self.result) (sym c.in-Either.is)
+    (c.branch-self.ensures c.args.targets.now)
+
+pub returns-in-MaybeCall : goal.returns-in-MaybeCall
+returns-in-MaybeCall c =
+    let s = c.args.site.now in
+    subst (λ (m : Moves). Steps c.args.self.now c.call_if.new.self s.procedure s.at c.args.targets.now s.next s.role m c.call_if.result) (sym c.in-MaybeCall.is)
+    (c.call_if.ensures c.args.targets.now)
+
+pub returns-in-MaybeReturn : goal.returns-in-MaybeReturn
+returns-in-MaybeReturn c =
+    let s = c.args.site.now in
+    subst (λ (m : Moves). Steps c.args.self.now c.return_if.new.self s.procedure s.at c.args.targets.now s.next s.role m c.return_if.result) (sym c.in-MaybeReturn.is)
+    (c.return_if.ensures c.args.targets.now)
