@@ -1,10 +1,10 @@
 -- A program that a table of frames fits never goes wrong.
-use Rattle.std.specs.Prelude.{◌≡◌, ℕ, zero, suc, ◌+◌, ◌-◌, ◌*◌, ◌%◌, ◌<◌, ◌≤◌, Bool, true, false, not, ◌&&◌, List, [], ◌∷◌, Option, None, Some, All, length, slice_index_or, refl}
+use Rattle.std.specs.Prelude.{◌≡◌, ℕ, zero, suc, ◌+◌, ◌-◌, ◌*◌, ◌%◌, ◌<◌, ◌≤◌, Bool, true, false, not, ◌&&◌, List, [], ◌∷◌, Option, None, Some, All, length, slice_index_or, refl, if◌then◌else◌}
 use Rattle.std.specs.List.{list_all, range_with_len}
 use Rattle.std.proofs.Common.{◌∙◌, ap, sym, subst, arith, cond}
 use Rattle.std.proofs.lemmas.List.{length-map}
 use Rattle.decode80.specs.declared.instr.Instr.{Instr}
-use Rattle.decode80.specs.declared.instr.Instr.TheVariants.{Hlt, In, Out}
+use Rattle.decode80.specs.declared.instr.Instr.TheVariants.{Hlt, In, Out, Pchl}
 use Rattle.decode80.specs.declared.fetching.Fetched.{Fetched}
 use Rattle.decode80.specs.Fetch.{direct_bytes, FetchReadsCodeAlone}
 use Rattle.frames80.specs.declared.word.Word.TheVariants.{Own, Any}
@@ -12,17 +12,18 @@ use Rattle.frames80.specs.declared.frame_pair.FramePair.{FramePair}
 use Rattle.frames80.specs.declared.frame_pair.FramePair.TheVariants.{Bc, De, Hl}
 use Rattle.frames80.specs.StackFrame.{main_frame, pair_in, unknown}
 use Rattle.frames80.specs.Places.{ChangesByPlaces, ReturnsByPlaces}
-use Rattle.image80.specs.Regions.{in_data}
+use Rattle.image80.specs.Regions.{Areas, in_data, targets_at}
 use Rattle.image80.specs.Image.{Located, memory_of, byte_at}
 use Rattle.machine80.specs.declared.end.End.{End}
-use Rattle.machine80.specs.declared.end.End.TheVariants.{StoreOutside, Stack, Direct}
+use Rattle.machine80.specs.declared.end.End.TheVariants.{StoreOutside, JumpOutside, Stack, Direct}
+use Rattle.machine80.specs.Cpu.{hl_of}
 use Rattle.machine80.specs.Ports.{next_input}
 use Rattle.machine80.specs.Effects.{stack_bytes, pointed_bytes, target}
-use Rattle.machine80.specs.Step.{Machine, Turn, Next, Stop, fetch, guard, guarded, execute, with_input, step_on, first_outside, ends_at}
+use Rattle.machine80.specs.Step.{Machine, Turn, Next, Stop, fetch, guard, guarded, execute, turn_of, leads_outside, jump_end, proceeded, with_input, step_on, first_outside, ends_at}
 use Rattle.machine80.specs.World.{World, world_at, world_at_start, turn_at, next_world, following, world_after, places_then, places_after, refuses, returns, IsJustBelow, IsWorldOf, fetched_by, IsNewest, IsProperEnd, NeverGoesWrong}
 use Rattle.bounds80.specs.declared.procedure.Procedure.TheVariants.{Main}
 use Rattle.flow80.specs.Fitting.{Table, Fits, IsFitted}
-use Rattle.verify80.specs.Looking.{code_of}
+use Rattle.verify80.specs.Looking.{code_of, is_declared}
 use Rattle.verify80.specs.LookLaws.{IsAdmitted, LooksFindWhatIsAdmitted}
 use Rattle.soundness80.proofs.StackLemmas.{pointer}
 use Rattle.soundness80.proofs.StoreLemmas.{Ground}
@@ -72,19 +73,24 @@ input_ends : (next port : ℕ) (m : Machine) (byte : Option ℕ) (e : End) → w
 input_ends next port m None e h = subst IsProperEnd (end_in h) tt
 input_ends next port m (Some byte) e h = cc
 
-output_ends : (refused : Bool) (next port : ℕ) (m : Machine) (e : End) → execute refused (Out port) next m ≡ Stop e → IsProperEnd e
-output_ends true next port m e h = subst IsProperEnd (end_in h) tt
-output_ends false next port m e h = cc
+output_ends : (regions : Areas) (refused : Bool) (next port : ℕ) (m : Machine) (e : End) → execute regions refused (Out port) next m ≡ Stop e → IsProperEnd e
+output_ends regions true next port m e h = subst IsProperEnd (end_in h) tt
+output_ends regions false next port m e h = cc
 
-execute_ends : (refused : Bool) (i : Instr) (next : ℕ) (m : Machine) (e : End) → execute refused i next m ≡ Stop e → IsProperEnd e
-execute_ends refused Hlt next m e h = subst IsProperEnd (end_in h) tt
-execute_ends refused (In port) next m e h = input_ends next port m (next_input m.inputs port) e h
-execute_ends refused (Out port) next m e h = output_ends refused next port m e h
-execute_ends refused i next m e h = cc
+jump_ends : (outside : Bool) (to : ℕ) (after : Machine) (e : End) → turn_of (if outside then Some (JumpOutside to) else None) after ≡ Stop e → IsProperEnd e
+jump_ends true to after e h = subst IsProperEnd (end_in h) tt
+jump_ends false to after e h = cc
 
-guarded_ends : (o : Option ℕ) (refused : Bool) (found : Fetched) (m : Machine) (e : End) → guarded (ends_at o StoreOutside None) refused found m ≡ Stop e → IsProperEnd e
-guarded_ends None refused found m e h = execute_ends refused found.instr found.next m e h
-guarded_ends (Some a) refused found m e h = subst IsProperEnd (end_in h) tt
+execute_ends : (regions : Areas) (refused : Bool) (i : Instr) (next : ℕ) (m : Machine) (e : End) → execute regions refused i next m ≡ Stop e → IsProperEnd e
+execute_ends regions refused Hlt next m e h = subst IsProperEnd (end_in h) tt
+execute_ends regions refused (In port) next m e h = input_ends next port m (next_input m.inputs port) e h
+execute_ends regions refused (Out port) next m e h = output_ends regions refused next port m e h
+execute_ends regions refused Pchl next m e h = jump_ends (leads_outside (targets_at regions m.cpu.pc) (hl_of m.cpu.registers)) (hl_of m.cpu.registers) (proceeded Pchl next m) e h
+execute_ends regions refused i next m e h = cc
+
+guarded_ends : (regions : Areas) (o : Option ℕ) (refused : Bool) (found : Fetched) (m : Machine) (e : End) → guarded regions (ends_at o StoreOutside None) refused found m ≡ Stop e → IsProperEnd e
+guarded_ends regions None refused found m e h = execute_ends regions refused found.instr found.next m e h
+guarded_ends regions (Some a) refused found m e h = subst IsProperEnd (end_in h) tt
 
 range_length : (first count : ℕ) → length (range_with_len first count) ≡ count
 range_length first zero = refl
@@ -100,6 +106,7 @@ module _ (image : Located) (table : Table) (most : ℕ) (rules : Ground image.re
   record Finds (w : World) : Type 0 where
     found : Fetched
     fetched : fetched_by image.regions w ≡ Some found
+    declared : found.instr ≡ Pchl → is_declared image.regions w.machine.cpu.pc ≡ true
     stores : list_all (in_data image.regions) (direct_bytes found.instr) ≡ true
     safe : Safe image table most w found.instr found.next
 
@@ -111,12 +118,13 @@ module _ (image : Located) (table : Table) (most : ℕ) (rules : Ground image.re
       record {
         found = fit.found;
         fetched = fetch_here fetches image w.machine.memory w.machine.cpu.pc fit.found s.code admitted.fetched;
+        declared = admitted.declared;
         stores = admitted.stores;
-        safe = is_safe image table most rules fits within changes returns_law w s fit.found.next fit.moves (record { on = fit.on; call = fit.call; return = fit.return }) fit.found.instr fit.moving.moved;
+        safe = is_safe image table most rules fits within changes returns_law w s fit.found.next fit.moves (record { on = fit.on; call = fit.call; return = fit.return }) fit.found.instr admitted.declared fit.moving.moved;
       }
 
   -- the turn of what is fetched
-  turn_there : (limit : Option ℕ) (w : World) (f : Finds w) → turn_at image.regions limit w ≡ guarded (guard image.regions f.found.instr w.machine.cpu) (refuses limit w.machine.outputs) f.found w.machine
+  turn_there : (limit : Option ℕ) (w : World) (f : Finds w) → turn_at image.regions limit w ≡ guarded image.regions (guard image.regions f.found.instr w.machine.cpu) (refuses limit w.machine.outputs) f.found w.machine
   turn_there limit w f = ap (λ (o : Option Fetched). step_on image.regions (refuses limit w.machine.outputs) o w.machine) f.fetched
 
   -- the next world is watched too
@@ -130,10 +138,10 @@ module _ (image : Located) (table : Table) (most : ℕ) (rules : Ground image.re
 
   guarded_turn : (limit : Option ℕ) (w after : World) (f : Finds w) (g : Option End) (places : List ℕ) → guard image.regions f.found.instr w.machine.cpu ≡ g →
       places ≡ places_after f.found.instr f.found.next w.machine.cpu.registers.flags w.places →
-      world_after (guarded g (refuses limit w.machine.outputs) f.found w.machine) places ≡ Some after → Watched image table most after
+      world_after (guarded image.regions g (refuses limit w.machine.outputs) f.found w.machine) places ≡ Some after → Watched image table most after
   guarded_turn limit w after f (Some e) places pass same h = cc
   guarded_turn limit w after f None places pass same h =
-      turned w after f (execute (refuses limit w.machine.outputs) f.found.instr f.found.next w.machine) places same (λ m e. f.safe.goes_on (refuses limit w.machine.outputs) m pass e) h
+      turned w after f (execute image.regions (refuses limit w.machine.outputs) f.found.instr f.found.next w.machine) places same (λ m e. f.safe.goes_on (refuses limit w.machine.outputs) m pass e) h
 
   stays_watched : (limit : Option ℕ) (w after : World) → Watched image table most w → next_world image.regions limit w ≡ Some after → Watched image table most after
   stays_watched limit w after s h =
@@ -188,7 +196,7 @@ module _ (image : Located) (table : Table) (most : ℕ) (rules : Ground image.re
   never_goes_wrong = record {
     fetches_and_stores = λ limit w at.
         let f = finds w (watched_of limit w at) in
-        record { found = f.found; fetched = f.fetched; direct = all_pass (in_data image.regions) (direct_bytes f.found.instr) f.stores };
+        record { found = f.found; fetched = f.fetched; direct = all_pass (in_data image.regions) (direct_bytes f.found.instr) f.stores; declared = f.declared };
     returning = λ limit w found at fetched taken.
         let f = finds w (watched_of limit w at) in
         let same = same_found w f found fetched in
@@ -199,8 +207,8 @@ module _ (image : Located) (table : Table) (most : ℕ) (rules : Ground image.re
         subst (λ (x : Fetched). All (IsJustBelow ((image.regions.stack.first + image.regions.stack.length) % 65536) most) (stack_bytes x.instr w.machine.cpu)) same f.safe.touches.below;
     ends = λ limit w e at stops.
         let f = finds w (watched_of limit w at) in
-        guarded_ends (first_outside (in_data image.regions) (pointed_bytes f.found.instr w.machine.cpu.registers)) (refuses limit w.machine.outputs) f.found w.machine e
-        (ap (λ (o : Option End). guarded o (refuses limit w.machine.outputs) f.found w.machine) (sym (passes_guard w f)) ∙ sym (turn_there limit w f) ∙ stops);
+        guarded_ends image.regions (first_outside (in_data image.regions) (pointed_bytes f.found.instr w.machine.cpu.registers)) (refuses limit w.machine.outputs) f.found w.machine e
+        (ap (λ (o : Option End). guarded image.regions o (refuses limit w.machine.outputs) f.found w.machine) (sym (passes_guard w f)) ∙ sym (turn_there limit w f) ∙ stops);
   }
 
 -- an image that is fitted never goes wrong

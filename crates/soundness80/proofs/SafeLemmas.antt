@@ -1,7 +1,10 @@
 -- Each step of a watched world is safe, and leads to a watched world.
-use Rattle.std.specs.Prelude.{◌≡◌, ◌≢◌, ℕ, ◌+◌, ◌-◌, ◌*◌, ◌/◌, ◌%◌, ◌≤◌, Bool, true, false, ◌==◌, List, [], ◌∷◌, ◌++◌, Option, Some, None, Result, Ok, Err, drop, length, slice_index, refl, if◌then◌else◌}
+use Rattle.std.specs.Prelude.{◌≡◌, ◌≢◌, ℕ, ◌+◌, ◌-◌, ◌*◌, ◌/◌, ◌%◌, ◌≤◌, Bool, true, false, not, ◌==◌, nat_eq, List, [], ◌∷◌, ◌++◌, Contains, is_some, Option, Some, None, Result, Ok, Err, drop, length, slice_index, refl, if◌then◌else◌}
 use Rattle.std.proofs.Common.{◌∙◌, ap, sym, subst, arith, inl, inr, true≢false}
 use Rattle.std.specs.Cmp.{unsigned_Decides}
+use Rattle.std.specs.List.{list_any}
+use Rattle.std.specs.Option.{option_map_or}
+use Rattle.std.proofs.lemmas.Map.Views.{Contains-from_any}
 use Rattle.decode80.specs.declared.condition.Condition.{Condition}
 use Rattle.decode80.specs.declared.restart.Restart.{Restart}
 use Rattle.decode80.specs.declared.pair.Pair.TheVariants.{Bc as PairBc, De as PairDe, Hl as PairHl, Sp}
@@ -14,32 +17,33 @@ use Rattle.decode80.specs.Fetch.{ahead, behind}
 use Rattle.frames80.specs.declared.word.Word.{Word}
 use Rattle.frames80.specs.declared.word.Word.TheVariants.{Own, Any}
 use Rattle.frames80.specs.declared.fault.FrameFault.{FrameFault}
-use Rattle.frames80.specs.declared.fault.FrameFault.TheVariants.{Sphl as FrameSphl, Pchl as FramePchl, StackByByte, SetsStack, PopsBelow, ReturnNotOwn, ReturnFromMain}
+use Rattle.frames80.specs.declared.fault.FrameFault.TheVariants.{Sphl as FrameSphl, StackByByte, SetsStack, PopsBelow, ReturnNotOwn, ReturnFromMain}
 use Rattle.frames80.specs.declared.frame_pair.FramePair.{FramePair}
 use Rattle.frames80.specs.declared.frame_pair.FramePair.TheVariants.{Bc, De, Hl}
 use Rattle.frames80.specs.declared.effect.Change.{Change}
 use Rattle.frames80.specs.declared.effect.Change.TheVariants.{Keep, Push as PushPair, PushAny, Pop as PopPair, Drop, Swap, SetStack}
 use Rattle.frames80.specs.declared.effect.Effect.TheVariants.{Change as Changes}
 use Rattle.frames80.specs.declared.moves.Moves.{Moves}
-use Rattle.frames80.specs.declared.moves.Moves.TheVariants.{On, Jump as MovesTo, Either, Call as CallOf, MaybeCall, Return as ReturnOf, MaybeReturn}
+use Rattle.frames80.specs.declared.moves.Moves.TheVariants.{On, Jump as MovesTo, Either, Case as Cases, Call as CallOf, MaybeCall, Return as ReturnOf, MaybeReturn}
 use Rattle.frames80.specs.StackFrame.{StackFrame, pair_in, entry_frame, top_word, taken_after_pop, pushed, cleared}
 use Rattle.frames80.specs.Effects.{effect_of}
 use Rattle.frames80.specs.Moves.{moves_of, changed as changed_frame, change_fault, return_fault, pop_fault, load_fault, unless}
 use Rattle.frames80.specs.Places.{InPair, InWord, Source, From, Unknown, source, sourced, word_from_top, ChangesByPlaces, ReturnsByPlaces}
-use Rattle.image80.specs.Regions.{top_of}
+use Rattle.image80.specs.Regions.{top_of, targets_at}
 use Rattle.image80.specs.Image.{Located, memory_of}
 use Rattle.machine80.specs.declared.registers.Registers.{Registers}
 use Rattle.machine80.specs.Flags.{holds}
-use Rattle.machine80.specs.Cpu.{word, high_of, low_of, with_stack_pair}
+use Rattle.machine80.specs.Cpu.{word, hl_of, high_of, low_of, with_stack_pair}
 use Rattle.machine80.specs.Ports.{next_input, without_next}
 use Rattle.machine80.specs.Effects.{stack_bytes, stored, changed, target, word_in, pushed_bytes, popped_bytes, push_bytes}
-use Rattle.machine80.specs.Step.{Machine, Turn, Next, Stop, guard, execute, proceeded, with_input}
+use Rattle.machine80.specs.declared.end.End.TheVariants.{JumpOutside}
+use Rattle.machine80.specs.Step.{Machine, Turn, Next, Stop, guard, execute, turn_of, jump_end, proceeded, with_input}
 use Rattle.machine80.specs.World.{World, places_after, returns, IsNewest}
 use Rattle.bounds80.specs.declared.procedure.Procedure.{Procedure}
 use Rattle.bounds80.specs.declared.procedure.Procedure.TheVariants.{Main, Entry}
 use Rattle.flow80.specs.Walks.{LeadsTo, called, returning, role_of}
 use Rattle.flow80.specs.Fitting.{Table, Has, CallFits, Fits}
-use Rattle.verify80.specs.Looking.{code_of}
+use Rattle.verify80.specs.Looking.{code_of, is_declared, declared_targets}
 use Rattle.soundness80.proofs.StackLemmas.{pointer, stack_word, Touches, touches_none, after_pop, word_on_top}
 use Rattle.soundness80.proofs.StoreLemmas.{Ground, is_plain, StoresData, same_memory, plain_stores, SameCode}
 use Rattle.soundness80.proofs.PairLemmas.{pair_value, BringsPair, change_by, plain_pairs}
@@ -59,8 +63,8 @@ machine_in : (m n : Machine) → Next m ≡ Next n → m ≡ n
 machine_in m n h = ap (machine_of m) h
 
 -- where a frame's move leads in the table
-pub record Leads (image : Located) (table : Table) (p : Procedure) (f : StackFrame) (next : ℕ) (moves : Moves) : Type 0 where
-  pub on : (to : ℕ) (g : StackFrame) → LeadsTo moves next to g → Has table p to g
+pub record Leads (image : Located) (table : Table) (p : Procedure) (at : ℕ) (f : StackFrame) (next : ℕ) (moves : Moves) : Type 0 where
+  pub on : (to : ℕ) (g : StackFrame) → LeadsTo moves (declared_targets image.regions at) next to g → Has table p to g
   pub call : (target : ℕ) → called moves ≡ Some target → CallFits (code_of image) table p next f target
   pub return : (taken : ℕ) → returning moves ≡ Some taken → table.takes p ≡ Some taken
 
@@ -69,7 +73,7 @@ pub record Leads (image : Located) (table : Table) (p : Procedure) (f : StackFra
 pub record Safe (image : Located) (table : Table) (most : ℕ) (w : World) (i : Instr) (next : ℕ) : Type 0 where
   pub touches : Touches image.regions.stack most (stack_bytes i w.machine.cpu)
   pub returning : returns i w.machine.cpu.registers.flags ≡ true → IsNewest (target i next w.machine.memory w.machine.cpu) w.places
-  pub goes_on : (refused : Bool) (m : Machine) → guard image.regions i w.machine.cpu ≡ None → execute refused i next w.machine ≡ Next m →
+  pub goes_on : (refused : Bool) (m : Machine) → guard image.regions i w.machine.cpu ≡ None → execute image.regions refused i next w.machine ≡ Next m →
       Watched image table most (record { machine = m; places = places_after i next w.machine.cpu.registers.flags w.places })
 
 module _ (image : Located) (table : Table) (most : ℕ) (rules : Ground image.regions) (fits : Fits (code_of image) table) (within : most ≤ image.regions.stack.length)
@@ -84,14 +88,14 @@ module _ (image : Located) (table : Table) (most : ℕ) (rules : Ground image.re
       by (From (InWord i)) brings own = absurd brings
       by Unknown brings own = absurd (let e : Any ≡ Own = own in cc)
 
-  on_change : (change : Change) (next : ℕ) (moves : Moves) → Leads image table s.procedure s.frame next moves → moves_of (role_of (code_of image) s.procedure) (Changes change) s.frame ≡ Ok moves →
+  on_change : (change : Change) (next : ℕ) (moves : Moves) → Leads image table s.procedure w.machine.cpu.pc s.frame next moves → moves_of (role_of (code_of image) s.procedure) (Changes change) s.frame ≡ Ok moves →
       (change_fault (role_of (code_of image) s.procedure) change s.frame.words ≡ None) × (Has table s.procedure next (changed_frame change s.frame))
   on_change change next moves leads moved =
       let parts = unless_ok (change_fault (role_of (code_of image) s.procedure) change s.frame.words) (On (changed_frame change s.frame)) moves moved in
-      (parts.0, (subst (Leads image table s.procedure s.frame next) parts.1 leads).on next (changed_frame change s.frame) (refl, refl))
+      (parts.0, (subst (Leads image table s.procedure w.machine.cpu.pc s.frame next) parts.1 leads).on next (changed_frame change s.frame) (refl, refl))
 
   -- a plain instruction
-  plain_safe : (i : Instr) (next : ℕ) (moves : Moves) → is_plain i ≡ true → Leads image table s.procedure s.frame next moves → moves_of (role_of (code_of image) s.procedure) (effect_of i) s.frame ≡ Ok moves →
+  plain_safe : (i : Instr) (next : ℕ) (moves : Moves) → is_plain i ≡ true → Leads image table s.procedure w.machine.cpu.pc s.frame next moves → moves_of (role_of (code_of image) s.procedure) (effect_of i) s.frame ≡ Ok moves →
       Safe image table most w i next
   plain_safe i next moves plain leads moved =
       let change = change_by (effect_of i) in
@@ -101,7 +105,7 @@ module _ (image : Located) (table : Table) (most : ℕ) (rules : Ground image.re
         touches = subst (Touches image.regions.stack most) (sym p.touches) (touches_none image.regions.stack most);
         returning = λ returns_here. absurd (true≢false (sym returns_here ∙ p.stays));
         goes_on = λ refused m pass h.
-            let same : proceeded i next w.machine ≡ m = machine_in (proceeded i next w.machine) m (sym (p.executes refused) ∙ h) in
+            let same : proceeded i next w.machine ≡ m = machine_in (proceeded i next w.machine) m (sym (p.executes image.regions refused) ∙ h) in
             subst (λ (x : Machine). Watched image table most (record { machine = x; places = places_after i next w.machine.cpu.registers.flags w.places })) same
             (subst (λ (ps : List ℕ). Watched image table most (record { machine = proceeded i next w.machine; places = ps })) (sym p.places)
             (arrived image table most (proceeded i next w.machine) w.places s.procedure (changed_frame change s.frame) s.base s.place
@@ -149,7 +153,7 @@ module _ (image : Located) (table : Table) (most : ℕ) (rules : Ground image.re
     goes_on = λ refused m pass h. by refused m h;
   }
     where
-      by : (refused : Bool) (m : Machine) → execute refused (Out port) next w.machine ≡ Next m → Watched image table most (record { machine = m; places = w.places })
+      by : (refused : Bool) (m : Machine) → execute image.regions refused (Out port) next w.machine ≡ Next m → Watched image table most (record { machine = m; places = w.places })
       by true m h = absurd (cc)
       by false m h =
           subst (λ (x : Machine). Watched image table most (record { machine = x; places = w.places })) (machine_in _ m h)
@@ -202,7 +206,7 @@ module _ (image : Located) (table : Table) (most : ℕ) (rules : Ground image.re
   any_own : {X : Type 0} → Any ≡ Own → X
   any_own e = absurd (cc)
 
-  push_cases : (pair : StackPair) (next : ℕ) (moves : Moves) → Leads image table s.procedure s.frame next moves → moves_of (role_of (code_of image) s.procedure) (effect_of (Push pair)) s.frame ≡ Ok moves → Safe image table most w (Push pair) next
+  push_cases : (pair : StackPair) (next : ℕ) (moves : Moves) → Leads image table s.procedure w.machine.cpu.pc s.frame next moves → moves_of (role_of (code_of image) s.procedure) (effect_of (Push pair)) s.frame ≡ Ok moves → Safe image table most w (Push pair) next
   push_cases StackBc next moves leads moved = push_safe StackBc w.machine.cpu.registers.b w.machine.cpu.registers.c s.frame.pairs.bc next _ (on_change (PushPair Bc) next moves leads moved).1 refl refl refl (s.pairs Bc)
   push_cases StackDe next moves leads moved = push_safe StackDe w.machine.cpu.registers.d w.machine.cpu.registers.e s.frame.pairs.de next _ (on_change (PushPair De) next moves leads moved).1 refl refl refl (s.pairs De)
   push_cases StackHl next moves leads moved = push_safe StackHl w.machine.cpu.registers.h w.machine.cpu.registers.l s.frame.pairs.hl next _ (on_change (PushPair Hl) next moves leads moved).1 refl refl refl (s.pairs Hl)
@@ -238,7 +242,7 @@ module _ (image : Located) (table : Table) (most : ℕ) (rules : Ground image.re
   popped_top : (word_from_top s.frame.words 0 ≡ Own → word_in w.machine.memory w.machine.cpu.sp ≡ s.place) → top_word s.frame.words ≡ Own → word_in w.machine.memory w.machine.cpu.sp ≡ s.place
   popped_top value own = value (sym (top_is s.frame.words) ∙ own)
 
-  pop_cases : (pair : StackPair) (next : ℕ) (moves : Moves) → Leads image table s.procedure s.frame next moves → moves_of (role_of (code_of image) s.procedure) (effect_of (Pop pair)) s.frame ≡ Ok moves → Safe image table most w (Pop pair) next
+  pop_cases : (pair : StackPair) (next : ℕ) (moves : Moves) → Leads image table s.procedure w.machine.cpu.pc s.frame next moves → moves_of (role_of (code_of image) s.procedure) (effect_of (Pop pair)) s.frame ≡ Ok moves → Safe image table most w (Pop pair) next
   pop_cases StackBc next moves leads moved = let on = on_change (PopPair Bc) next moves leads moved in pop_safe StackBc next (changed_frame (PopPair Bc) s.frame) on.1 on.0 refl refl pairs
     where
       pairs : (word_from_top s.frame.words 0 ≡ Own → word_in w.machine.memory w.machine.cpu.sp ≡ s.place) → (p : FramePair) → pair_in (changed_frame (PopPair Bc) s.frame).pairs p ≡ Own → pair_value (with_stack_pair w.machine.cpu.registers StackBc (slice_index w.machine.memory (ahead w.machine.cpu.sp 1)) (slice_index w.machine.memory w.machine.cpu.sp)) p ≡ s.place
@@ -265,7 +269,7 @@ module _ (image : Located) (table : Table) (most : ℕ) (rules : Ground image.re
       pairs value Hl own = s.pairs Hl own
 
   -- XTHL
-  swap_safe : (next : ℕ) (moves : Moves) → Leads image table s.procedure s.frame next moves → moves_of (role_of (code_of image) s.procedure) (effect_of Xthl) s.frame ≡ Ok moves → Safe image table most w Xthl next
+  swap_safe : (next : ℕ) (moves : Moves) → Leads image table s.procedure w.machine.cpu.pc s.frame next moves → moves_of (role_of (code_of image) s.procedure) (effect_of Xthl) s.frame ≡ Ok moves → Safe image table most w Xthl next
   swap_safe next moves leads moved = record {
     touches = touches_pop image table most rules fits within w s (l.below + length (drop 1 s.frame.words)) (sym l.level);
     returning = λ returns_here. absurd (true≢false (sym returns_here));
@@ -287,7 +291,7 @@ module _ (image : Located) (table : Table) (most : ℕ) (rules : Ground image.re
       pairs Hl own = popped_top (popped_word image table most rules fits within w s l) own
 
   -- LXI SP, which only the main program may, and only with the stack's top
-  set_safe : (address next : ℕ) (moves : Moves) → Leads image table s.procedure s.frame next moves → moves_of (role_of (code_of image) s.procedure) (effect_of (Lxi Sp address)) s.frame ≡ Ok moves → Safe image table most w (Lxi Sp address) next
+  set_safe : (address next : ℕ) (moves : Moves) → Leads image table s.procedure w.machine.cpu.pc s.frame next moves → moves_of (role_of (code_of image) s.procedure) (effect_of (Lxi Sp address)) s.frame ≡ Ok moves → Safe image table most w (Lxi Sp address) next
   set_safe address next moves leads moved = record {
     touches = no_touch;
     returning = λ returns_here. absurd (true≢false (sym returns_here));
@@ -466,59 +470,83 @@ module _ (image : Located) (table : Table) (most : ℕ) (rules : Ground image.re
         by true = after_return (after true) refl refl refl
         by false = same_there (after false) next on refl refl refl (λ pair. refl)
 
+  -- PCHL goes to one of the targets that are declared for its address, where the frame is the same
+  jumped : (targets : Option (List ℕ)) → is_some targets ≡ true → ((to : ℕ) → Contains (option_map_or (λ ts. ts) targets []) to → Has table s.procedure to s.frame) →
+      (to : ℕ) (after m : Machine) → turn_of (jump_end targets to) after ≡ Next m → (after ≡ m) × (Has table s.procedure to s.frame)
+  jumped None declared leads to after m h = absurd (true≢false (sym declared))
+  jumped (Some targets) declared leads to after m h = by (list_any (λ target. target == to) targets) refl h
+    where
+      by : (b : Bool) → list_any (λ target. target == to) targets ≡ b → turn_of (if not b then Some (JumpOutside to) else None) after ≡ Next m → (after ≡ m) × (Has table s.procedure to s.frame)
+      by true is h = (machine_in after m h, leads to (Contains-from_any {eq = λ x y. nat_eq y x} (λ x y same. sym ((unsigned_Decides y x).0 same)) to targets is))
+      by false is h = absurd (cc)
+
+  case_safe : (next : ℕ) → is_declared image.regions w.machine.cpu.pc ≡ true → ((to : ℕ) → Contains (declared_targets image.regions w.machine.cpu.pc) to → Has table s.procedure to s.frame) →
+      Safe image table most w Pchl next
+  case_safe next declared leads = record {
+    touches = no_touch;
+    returning = λ taken. absurd (true≢false (sym taken));
+    goes_on = λ refused m pass h.
+        let went = jumped (targets_at image.regions w.machine.cpu.pc) declared leads (hl_of w.machine.cpu.registers) (proceeded Pchl next w.machine) m h in
+        subst (λ (x : Machine). Watched image table most (record { machine = x; places = w.places })) went.0
+        (same_there (proceeded Pchl next w.machine) (hl_of w.machine.cpu.registers) went.1 refl refl refl (λ pair. refl));
+  }
+
   halt_safe : (next : ℕ) → Safe image table most w Hlt next
   halt_safe next = record { touches = no_touch; returning = λ returns_here. absurd (true≢false (sym returns_here)); goes_on = λ refused m pass h. absurd (cc) }
 
   -- each instruction is safe that a frame of the table may execute
-  module _ (next : ℕ) (moves : Moves) (leads : Leads image table s.procedure s.frame next moves) where
+  module _ (next : ℕ) (moves : Moves) (leads : Leads image table s.procedure w.machine.cpu.pc s.frame next moves) where
     same_moves : (a b : Result Moves FrameFault) (x y : Moves) → a ≡ b → a ≡ Ok x → b ≡ Ok y → x ≡ y
     same_moves a b x y e one other = cc
 
-    leads_as : (x : Moves) (r : Result Moves FrameFault) → r ≡ Ok x → r ≡ Ok moves → Leads image table s.procedure s.frame next x
-    leads_as x r one other = subst (Leads image table s.procedure s.frame next) (same_moves r r moves x refl other one) leads
+    leads_as : (x : Moves) (r : Result Moves FrameFault) → r ≡ Ok x → r ≡ Ok moves → Leads image table s.procedure w.machine.cpu.pc s.frame next x
+    leads_as x r one other = subst (Leads image table s.procedure w.machine.cpu.pc s.frame next) (same_moves r r moves x refl other one) leads
 
     not_refused : {X : Type 0} (fault : FrameFault) (r : Result Moves FrameFault) → r ≡ Err fault → r ≡ Ok moves → X
     not_refused fault r one other = absurd (cc)
 
-    return_leads : (move : Moves) → unless (return_fault (role_of (code_of image) s.procedure) s.frame.words) move ≡ Ok moves → ReturnsHere × (Leads image table s.procedure s.frame next move)
+    return_leads : (move : Moves) → unless (return_fault (role_of (code_of image) s.procedure) s.frame.words) move ≡ Ok moves → ReturnsHere × (Leads image table s.procedure w.machine.cpu.pc s.frame next move)
     return_leads move moved =
         let parts = unless_ok (return_fault (role_of (code_of image) s.procedure) s.frame.words) move moves moved in
-        (may_return parts.0, subst (Leads image table s.procedure s.frame next) parts.1 leads)
+        (may_return parts.0, subst (Leads image table s.procedure w.machine.cpu.pc s.frame next) parts.1 leads)
 
-    pub is_safe : (i : Instr) → moves_of (role_of (code_of image) s.procedure) (effect_of i) s.frame ≡ Ok moves → Safe image table most w i next
-    is_safe (Push pair) moved = push_cases pair next moves leads moved
-    is_safe (Pop pair) moved = pop_cases pair next moves leads moved
-    is_safe Xthl moved = swap_safe next moves leads moved
-    is_safe (Lxi PairBc n) moved = plain_safe (Lxi PairBc n) next moves refl leads moved
-    is_safe (Lxi PairDe n) moved = plain_safe (Lxi PairDe n) next moves refl leads moved
-    is_safe (Lxi PairHl n) moved = plain_safe (Lxi PairHl n) next moves refl leads moved
-    is_safe (Lxi Sp n) moved = set_safe n next moves leads moved
-    is_safe (Inx PairBc) moved = plain_safe (Inx PairBc) next moves refl leads moved
-    is_safe (Inx PairDe) moved = plain_safe (Inx PairDe) next moves refl leads moved
-    is_safe (Inx PairHl) moved = plain_safe (Inx PairHl) next moves refl leads moved
-    is_safe (Inx Sp) moved = not_refused StackByByte _ refl moved
-    is_safe (Dcx PairBc) moved = plain_safe (Dcx PairBc) next moves refl leads moved
-    is_safe (Dcx PairDe) moved = plain_safe (Dcx PairDe) next moves refl leads moved
-    is_safe (Dcx PairHl) moved = plain_safe (Dcx PairHl) next moves refl leads moved
-    is_safe (Dcx Sp) moved = not_refused StackByByte _ refl moved
-    is_safe Sphl moved = not_refused FrameSphl _ refl moved
-    is_safe Pchl moved = not_refused FramePchl _ refl moved
-    is_safe (Jmp to) moved = jump_safe to next ((leads_as (MovesTo s.frame to) _ refl moved).on to s.frame (refl, refl))
-    is_safe (JumpIf condition to) moved =
+    pub is_safe : (i : Instr) → (i ≡ Pchl → is_declared image.regions w.machine.cpu.pc ≡ true) → moves_of (role_of (code_of image) s.procedure) (effect_of i) s.frame ≡ Ok moves →
+        Safe image table most w i next
+    is_safe (Push pair) declared moved = push_cases pair next moves leads moved
+    is_safe (Pop pair) declared moved = pop_cases pair next moves leads moved
+    is_safe Xthl declared moved = swap_safe next moves leads moved
+    is_safe (Lxi PairBc n) declared moved = plain_safe (Lxi PairBc n) next moves refl leads moved
+    is_safe (Lxi PairDe n) declared moved = plain_safe (Lxi PairDe n) next moves refl leads moved
+    is_safe (Lxi PairHl n) declared moved = plain_safe (Lxi PairHl n) next moves refl leads moved
+    is_safe (Lxi Sp n) declared moved = set_safe n next moves leads moved
+    is_safe (Inx PairBc) declared moved = plain_safe (Inx PairBc) next moves refl leads moved
+    is_safe (Inx PairDe) declared moved = plain_safe (Inx PairDe) next moves refl leads moved
+    is_safe (Inx PairHl) declared moved = plain_safe (Inx PairHl) next moves refl leads moved
+    is_safe (Inx Sp) declared moved = not_refused StackByByte _ refl moved
+    is_safe (Dcx PairBc) declared moved = plain_safe (Dcx PairBc) next moves refl leads moved
+    is_safe (Dcx PairDe) declared moved = plain_safe (Dcx PairDe) next moves refl leads moved
+    is_safe (Dcx PairHl) declared moved = plain_safe (Dcx PairHl) next moves refl leads moved
+    is_safe (Dcx Sp) declared moved = not_refused StackByByte _ refl moved
+    is_safe Sphl declared moved = not_refused FrameSphl _ refl moved
+    is_safe Pchl declared moved =
+        let l = leads_as (Cases s.frame) _ refl moved in
+        case_safe next (declared refl) (λ to there. l.on to s.frame (there, refl))
+    is_safe (Jmp to) declared moved = jump_safe to next ((leads_as (MovesTo s.frame to) _ refl moved).on to s.frame (refl, refl))
+    is_safe (JumpIf condition to) declared moved =
         let l = leads_as (Either s.frame to) _ refl moved in
         branch_safe condition to next (l.on next s.frame (inl refl, refl)) (l.on to s.frame (inr refl, refl))
-    is_safe (Call to) moved = call_safe to next ((leads_as (CallOf s.frame to) _ refl moved).call to refl)
-    is_safe (CallIf condition to) moved =
+    is_safe (Call to) declared moved = call_safe to next ((leads_as (CallOf s.frame to) _ refl moved).call to refl)
+    is_safe (CallIf condition to) declared moved =
         let l = leads_as (MaybeCall s.frame to) _ refl moved in
         call_if_safe condition to next (l.call to refl) (l.on next s.frame (refl, refl))
-    is_safe (Rst number) moved = restart_safe number next ((leads_as (CallOf s.frame (8 * restart_number number)) _ refl moved).call (8 * restart_number number) refl)
-    is_safe Ret moved =
+    is_safe (Rst number) declared moved = restart_safe number next ((leads_as (CallOf s.frame (8 * restart_number number)) _ refl moved).call (8 * restart_number number) refl)
+    is_safe Ret declared moved =
         let l = return_leads (ReturnOf s.frame.taken) moved in
         return_safe l.0 (l.1.return s.frame.taken refl) next
-    is_safe (ReturnIf condition) moved =
+    is_safe (ReturnIf condition) declared moved =
         let l = return_leads (MaybeReturn s.frame s.frame.taken) moved in
         return_if_safe l.0 (l.1.return s.frame.taken refl) condition next (l.1.on next s.frame (refl, refl))
-    is_safe Hlt moved = halt_safe next
-    is_safe (In port) moved = input_safe port next (on_change Keep next moves leads moved).1
-    is_safe (Out port) moved = output_safe port next (on_change Keep next moves leads moved).1
-    is_safe i moved = plain_safe i next moves refl leads moved
+    is_safe Hlt declared moved = halt_safe next
+    is_safe (In port) declared moved = input_safe port next (on_change Keep next moves leads moved).1
+    is_safe (Out port) declared moved = output_safe port next (on_change Keep next moves leads moved).1
+    is_safe i declared moved = plain_safe i next moves refl leads moved

@@ -10,6 +10,7 @@ use Rattle.frames80.specs.StackFrame.{StackFrame}
 use Rattle.frames80.specs.Effects.{effect_of, written}
 use Rattle.frames80.specs.Moves.{changed as changed_frame}
 use Rattle.machine80.specs.Effects.{stack_bytes, changed, target}
+use Rattle.image80.specs.Regions.{Areas}
 use Rattle.machine80.specs.Step.{Machine, Next, execute, proceeded}
 use Rattle.machine80.specs.World.{places_after, returns}
 use Rattle.soundness80.proofs.StoreLemmas.{is_plain}
@@ -80,7 +81,7 @@ plain_frame i f plain = record { words = refl; taken = refl }
 
 -- what the machine does of it
 pub record PlainStep (i : Instr) (next : ℕ) (m : Machine) (calls : List ℕ) : Type 0 where
-  pub executes : (refused : Bool) → execute refused i next m ≡ Next (proceeded i next m)
+  pub executes : (regions : Areas) (refused : Bool) → execute regions refused i next m ≡ Next (proceeded i next m)
   pub goes : target i next m.memory m.cpu ≡ next
   pub pointer : (changed i m.memory m.cpu).sp ≡ m.cpu.sp
   pub places : places_after i next m.cpu.registers.flags calls ≡ calls
@@ -106,13 +107,13 @@ plain_step Pchl next m calls plain = cc
 plain_step Hlt next m calls plain = cc
 plain_step (In _) next m calls plain = cc
 plain_step (Out _) next m calls plain = cc
-plain_step (Lxi PairBc n) next m calls plain = record { executes = λ refused. refl; goes = refl; pointer = refl; places = refl; stays = refl; touches = refl }
-plain_step (Lxi PairDe n) next m calls plain = record { executes = λ refused. refl; goes = refl; pointer = refl; places = refl; stays = refl; touches = refl }
-plain_step (Lxi PairHl n) next m calls plain = record { executes = λ refused. refl; goes = refl; pointer = refl; places = refl; stays = refl; touches = refl }
-plain_step (Inx PairBc) next m calls plain = record { executes = λ refused. refl; goes = refl; pointer = refl; places = refl; stays = refl; touches = refl }
-plain_step (Inx PairDe) next m calls plain = record { executes = λ refused. refl; goes = refl; pointer = refl; places = refl; stays = refl; touches = refl }
-plain_step (Inx PairHl) next m calls plain = record { executes = λ refused. refl; goes = refl; pointer = refl; places = refl; stays = refl; touches = refl }
-plain_step (Dcx PairBc) next m calls plain = record { executes = λ refused. refl; goes = refl; pointer = refl; places = refl; stays = refl; touches = refl }
-plain_step (Dcx PairDe) next m calls plain = record { executes = λ refused. refl; goes = refl; pointer = refl; places = refl; stays = refl; touches = refl }
-plain_step (Dcx PairHl) next m calls plain = record { executes = λ refused. refl; goes = refl; pointer = refl; places = refl; stays = refl; touches = refl }
-plain_step i next m calls plain = record { executes = λ refused. refl; goes = refl; pointer = refl; places = refl; stays = refl; touches = refl }
+plain_step (Lxi PairBc n) next m calls plain = record { executes = λ regions refused. refl; goes = refl; pointer = refl; places = refl; stays = refl; touches = refl }
+plain_step (Lxi PairDe n) next m calls plain = record { executes = λ regions refused. refl; goes = refl; pointer = refl; places = refl; stays = refl; touches = refl }
+plain_step (Lxi PairHl n) next m calls plain = record { executes = λ regions refused. refl; goes = refl; pointer = refl; places = refl; stays = refl; touches = refl }
+plain_step (Inx PairBc) next m calls plain = record { executes = λ regions refused. refl; goes = refl; pointer = refl; places = refl; stays = refl; touches = refl }
+plain_step (Inx PairDe) next m calls plain = record { executes = λ regions refused. refl; goes = refl; pointer = refl; places = refl; stays = refl; touches = refl }
+plain_step (Inx PairHl) next m calls plain = record { executes = λ regions refused. refl; goes = refl; pointer = refl; places = refl; stays = refl; touches = refl }
+plain_step (Dcx PairBc) next m calls plain = record { executes = λ regions refused. refl; goes = refl; pointer = refl; places = refl; stays = refl; touches = refl }
+plain_step (Dcx PairDe) next m calls plain = record { executes = λ regions refused. refl; goes = refl; pointer = refl; places = refl; stays = refl; touches = refl }
+plain_step (Dcx PairHl) next m calls plain = record { executes = λ regions refused. refl; goes = refl; pointer = refl; places = refl; stays = refl; touches = refl }
+plain_step i next m calls plain = record { executes = λ regions refused. refl; goes = refl; pointer = refl; places = refl; stays = refl; touches = refl }

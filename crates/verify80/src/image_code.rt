@@ -4,7 +4,7 @@ ghost use Rattle.std.specs.Prelude.{◌≡◌, IfOk, slice_index, true};
 ghost use Rattle.std.specs.Option.{option_map_or};
 ghost use Rattle.image80.specs.Image.{memory_of};
 ghost use Rattle.image80.specs.Regions.{in_code, in_data};
-ghost use Rattle.verify80.specs.Looking.{admitted, code_of, halt_follows, stores_in_data};
+ghost use Rattle.verify80.specs.Looking.{admitted, code_of, halt_follows, is_declared, stores_in_data};
 
 use decode80::{FetchFault, Fetched, Instr, Program, ahead, direct_bytes, fetch};
 use flow80::{Code, LookFault};
@@ -63,6 +63,14 @@ impl<'a> ImageCode<'a> {
         self.is_code(next) && self.byte(next) == 0x76
     }
 
+    /// Whether targets are declared for an address.
+    fn is_declared(&self, at: u16) -> bool
+        ensures { result ≡ is_declared self.now.regions at }
+    {
+        let image = self.image;
+        image.regions.targets(at).is_some()
+    }
+
     /// Whether each byte that an instruction stores to by its address is data.
     fn stores_in_data(&self, instr: Instr) -> bool
         ensures { result ≡ stores_in_data self.now.regions instr }
@@ -77,6 +85,7 @@ impl<'a> ImageCode<'a> {
     {
         match found.instr {
             Instr::Ei if !self.halt_follows(at) => Err(LookFault::EnablesInterrupts),
+            Instr::Pchl if !self.is_declared(at) => Err(LookFault::Pchl),
             instr if !self.stores_in_data(instr) => Err(LookFault::DirectStore),
             _ => Ok(found),
         }
@@ -106,6 +115,14 @@ impl<'a> Code for ImageCode<'a> {
             Ok(found) => self.admit(at, found),
             Err(FetchFault::Outside) => Err(LookFault::Outside),
             Err(FetchFault::Unused) => Err(LookFault::Unused),
+        }
+    }
+
+    fn targets(&self, at: u16) -> &[u16] {
+        let image = self.image;
+        match image.regions.targets(at) {
+            Some(targets) => targets,
+            None => &[],
         }
     }
 
