@@ -41,7 +41,7 @@ impl Model for Regions {
 }
 
 impl Regions {
-    ghost use Rattle.std.specs.Prelude.{◌<◌, ◌∷◌, ◌++◌, All, IfOk, IfSome, IfNone};
+    ghost use Rattle.std.specs.Prelude.{◌<◌, ◌∷◌, ◌++◌, All, AllPairs, IfOk, IfSome, IfNone};
     ghost use Rattle.image80.specs.Case.{AreByAddress, IsCase};
     ghost use Rattle.image80.specs.Range.{IsInMemory};
     ghost use Rattle.image80.specs.Regions.{AreDisjoint, AreRegions, Arranges, in_code, in_data, targets_at, top_of};
@@ -151,6 +151,7 @@ impl Regions {
     #[inline]
     pub fn targets(&self, address: u16) -> Option<&[u16]>
         ensures declared { IfSome result (λ targets. targets_at self.now address ≡ Some targets.now) }
+        ensures ascending { IfSome result (λ targets. AllPairs (λ a b. a < b) targets.now) }
         ensures none { IfNone result (targets_at self.now address ≡ None) }
     {
         let case = case_at(&self.cases, address)?;

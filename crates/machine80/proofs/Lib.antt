@@ -5,3 +5,4 @@ pub mod PortsLemmas
 pub mod Queues
 pub mod Spans
 pub mod Tables
+pub mod TargetLemmas

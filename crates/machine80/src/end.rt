@@ -3,7 +3,7 @@
 ghost use Rattle.std.specs.Prelude.{◌≡◌};
 ghost use Rattle.machine80.specs.End.{code_of};
 
-/// How a run ends. The last three are wrong; a vouched image meets none of them.
+/// How a run ends. `Fetch`, `Stack` and `Direct` are wrong; a vouched image meets none of them.
 #[derive(Clone, Copy, Debug, PartialEq, Eq)]
 pub enum End {
     /// HLT.
@@ -20,10 +20,12 @@ pub enum End {
     Stack(u16),
     /// STA or SHLD stores to this address, which isn't data.
     Direct(u16),
+    /// A PCHL for which targets are declared jumps to this address, which is none of them.
+    JumpOutside(u16),
 }
 
 impl End {
-    /// The number of this end, 1 to 7 in the order above.
+    /// The number of this end, 1 to 8 in the order above.
     pub fn code(&self) -> u8
         ensures { result ≡ code_of self.now }
     {
@@ -35,6 +37,7 @@ impl End {
             End::Fetch(_) => 5,
             End::Stack(_) => 6,
             End::Direct(_) => 7,
+            End::JumpOutside(_) => 8,
         }
     }
 }

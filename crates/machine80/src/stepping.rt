@@ -1,8 +1,11 @@
 //! One step.
 
-ghost use Rattle.std.specs.Prelude.{◌≡◌, ◌+◌, ◌-◌, ◌<◌, ◌^◌, OnSome, nat_lt};
+ghost use Rattle.std.specs.Prelude.{◌≡◌, ◌==◌, ◌+◌, ◌-◌, ◌<◌, ◌^◌, AllPairs, OnSome, IfNone, nat_lt};
+ghost use Rattle.std.specs.List.{list_any};
+ghost use Rattle.image80.specs.Regions.{targets_at};
+ghost use Rattle.machine80.specs.Cpu.{hl_of};
 ghost use Rattle.machine80.specs.Ports.{has_room};
-ghost use Rattle.machine80.specs.Step.{machine, guard, guarded, step_of, turn_of, refusals_at};
+ghost use Rattle.machine80.specs.Step.{machine, guard, guarded, jump_end, step_of, turn_of, refusals_at};
 
 use crate::bus::Bus;
 use crate::cpu::Cpu;
@@ -16,7 +19,9 @@ use image80::Regions;
 /// Makes one step: the instruction at the program counter is fetched, guarded and executed (Intel 8080 Microcomputer Systems User's
 /// Manual, chapter 4; docs/MACHINE.md). The answer is `None`, or how the run ends: [`End::Fetch`] where no instruction is fetched;
 /// else [`End::Stack`], [`End::Direct`] or [`End::StoreOutside`] at the first byte that it would touch outside its region; else
-/// [`End::Halt`] at HLT, [`End::InputEnd`] at IN where no byte waits, [`End::OutputRefused`] at OUT where the ports refuse the byte.
+/// [`End::Halt`] at HLT, [`End::InputEnd`] at IN where no byte waits, [`End::OutputRefused`] at OUT where the ports refuse the byte,
+/// [`End::JumpOutside`] at a PCHL where HL is none of the targets that are declared for its address. (Where none are declared, it
+/// goes where HL says.)
 ///
 /// Where the run ends, nothing has changed but the count of refused outputs, which is one higher after
 /// [`End::OutputRefused`]. The count must be below the greatest `u64`.
@@ -53,7 +58,7 @@ fn execute<B: Bus, P: Ports>(
     requires { P.refused ports.old < 2 ^ 64 - 1 }
     ensures turn { let before = machine cpu.old (B.memory bus.old) (P.inputs ports.old) (P.outputs ports.old) in
         let after = machine cpu.new (B.memory bus.new) (P.inputs ports.new) (P.outputs ports.new) in
-        guarded (guard regions.now found.instr cpu.old) (nat_lt (P.refused ports.old) (P.refused ports.new)) found before ≡ turn_of result after }
+        guarded regions.now (guard regions.now found.instr cpu.old) (nat_lt (P.refused ports.old) (P.refused ports.new)) found before ≡ turn_of result after }
     ensures kept { OnSome result (machine cpu.new (B.memory bus.new) (P.inputs ports.new) (P.outputs ports.new) ≡ machine cpu.old (B.memory bus.old) (P.inputs ports.old) (P.outputs ports.old)) }
     ensures refusals { P.refused ports.new ≡ P.refused ports.old + refusals_at result }
     ensures limit { P.limit ports.new ≡ P.limit ports.old }
@@ -76,6 +81,31 @@ fn execute<B: Bus, P: Ports>(
             cpu.pc = found.next;
             None
         }
+        Instr::Pchl => jump_by_pair(cpu, regions),
         _ => proceed(found, cpu, bus, regions),
     }
+}
+
+/// PCHL goes to HL, unless targets are declared for its address and HL is none of them: then nothing changes.
+fn jump_by_pair(cpu: &mut Cpu, regions: &Regions) -> Option<End>
+    ensures end { result ≡ jump_end (targets_at regions.now cpu.old.pc) (hl_of cpu.old.registers) }
+    ensures kept { OnSome result (cpu.new ≡ cpu.old) }
+    ensures cpu { IfNone result (cpu.new ≡ record cpu.old { pc = hl_of cpu.old.registers }) }
+{
+    let to = cpu.registers.hl();
+    if let Some(targets) = regions.targets(cpu.pc) {
+        if !is_target(targets, to) {
+            return Some(End::JumpOutside(to));
+        }
+    }
+    cpu.pc = to;
+    None
+}
+
+/// Whether the address is one of the targets, which ascend.
+fn is_target(targets: &[u16], to: u16) -> bool
+    requires { AllPairs (λ a b. a < b) targets.now }
+    ensures { result ≡ list_any (λ target. target == to) targets.now }
+{
+    targets.binary_search(&to).is_ok()
 }
