@@ -10,16 +10,16 @@ _plm80() {
             ;;
     esac
     if [[ $COMP_CWORD -eq 1 ]]; then
-        COMPREPLY=($(compgen -W 'link locate run list check lib help -h --help -V --version' -- "$word"))
+        COMPREPLY=($(compgen -W 'link locate run list check lib regions help -h --help -V --version' -- "$word"))
         return
     fi
     case ${COMP_WORDS[1]} in
         link) options='--name --out -h --help' ;;
         locate) options='--code --stack --common --data --memory --stack-size --memory-size -h --help' ;;
         run) options='--steps --outputs -h --help' ;;
-        list | check | lib) options='-h --help' ;;
+        list | check | lib | regions) options='-h --help' ;;
         help)
-            [[ $COMP_CWORD -eq 2 ]] && COMPREPLY=($(compgen -W 'link locate run list check lib help' -- "$word"))
+            [[ $COMP_CWORD -eq 2 ]] && COMPREPLY=($(compgen -W 'link locate run list check lib regions help' -- "$word"))
             return
             ;;
         *) return ;;

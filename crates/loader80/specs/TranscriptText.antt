@@ -3,7 +3,7 @@ use Rattle.std.specs.Prelude.{ℕ, List, [], ◌∷◌, ◌++◌, Option, None, 
 use Rattle.std.specs.Fmt.{decimal}
 use Rattle.std.specs.List.{flat_map}
 use Rattle.machine80.specs.declared.end.End.{End}
-use Rattle.machine80.specs.declared.end.End.TheVariants.{Halt, InputEnd, OutputRefused, StoreOutside, Fetch, Stack, Direct}
+use Rattle.machine80.specs.declared.end.End.TheVariants.{Halt, InputEnd, OutputRefused, StoreOutside, JumpOutside, Fetch, Stack, Direct}
 use Rattle.decode80.specs.Text.{byte_text, word_text}
 use Rattle.flow80.specs.declared.refusal.Refusal.{Refusal}
 use Rattle.flow80.specs.declared.refusal.Refusal.TheVariants.{StackTooSmall}
@@ -28,6 +28,7 @@ end_line (Some Halt) at steps = codes "HALT " ++ word_text at ++ after_steps ste
 end_line (Some (InputEnd port)) at steps = codes "INPUT " ++ byte_text port ++ after_steps steps
 end_line (Some (OutputRefused port)) at steps = codes "OUTPUT " ++ byte_text port ++ after_steps steps
 end_line (Some (StoreOutside address)) at steps = codes "STORE " ++ word_text address ++ after_steps steps
+end_line (Some (JumpOutside address)) at steps = codes "JUMP " ++ word_text address ++ after_steps steps
 end_line (Some (Fetch address)) at steps = []
 end_line (Some (Stack address)) at steps = []
 end_line (Some (Direct address)) at steps = []

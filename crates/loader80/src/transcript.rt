@@ -47,6 +47,7 @@ fn append_end(text: &mut String, end: Option<End>, at: u16, steps: u64) -> Resul
         Some(End::InputEnd(port)) => append_byte(text, "INPUT ", port, steps),
         Some(End::OutputRefused(port)) => append_byte(text, "OUTPUT ", port, steps),
         Some(End::StoreOutside(address)) => append_word(text, "STORE ", address, steps),
+        Some(End::JumpOutside(address)) => append_word(text, "JUMP ", address, steps),
         Some(End::Fetch(_) | End::Stack(_) | End::Direct(_)) => Ok(()),
     }
 }

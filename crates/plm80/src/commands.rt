@@ -9,6 +9,7 @@ mod library;
 mod linking;
 mod listing;
 mod locating;
+mod migrating;
 pub mod number_text;
 mod object_files;
 mod running;
@@ -52,6 +53,7 @@ fn perform(rt: &HostRuntime, request: Request<'_>) -> Result<u8, Reported> {
         Request::List(arguments) => listing::list_files(rt, arguments),
         Request::Check(arguments) => checking::check_files(rt, arguments),
         Request::Library(arguments) => library::write_library_file(rt, &arguments),
+        Request::Regions(arguments) => migrating::migrate_file(rt, arguments),
     }
 }
 

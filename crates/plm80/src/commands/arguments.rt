@@ -5,6 +5,7 @@ use crate::commands::library::{LIB, LibraryArguments};
 use crate::commands::linking::{LINK, LinkArguments};
 use crate::commands::listing::{LIST, ListArguments};
 use crate::commands::locating::{LOCATE, LocateArguments};
+use crate::commands::migrating::{REGIONS, RegionsArguments};
 use crate::commands::running::{RUN, RunArguments};
 use crate::commands::syntax::Syntax;
 use clap::error::ErrorKind;
@@ -20,6 +21,7 @@ pub enum Request<'a> {
     List(ListArguments<'a>),
     Check(CheckArguments<'a>),
     Library(LibraryArguments<'a>),
+    Regions(RegionsArguments<'a>),
 }
 
 const ABOUT: &str = "Links, locates, verifies and runs 8080 programs from OMF-80 object files";
@@ -31,8 +33,9 @@ of its run. Files have at most 1048576 bytes, a bundle 4194312.
 
 The exit status is 0 if the command is done or the program halted, 1 if the
 verifier refuses the program, 2 at a fault of the arguments or of a file, and
-for help, 3 if the program stops at an empty port, a refused output or a store
-outside data, and 4 if its steps are used up.
+for help, 3 if the program stops at an empty port, a refused output, a store
+outside data or a jump outside its declared targets, and 4 if its steps are used
+up.
 
 Example: plm80 locate readings.obj readings.img readings.regions
          plm80 run readings.img readings.regions readings.inputs
@@ -40,7 +43,7 @@ Example: plm80 locate readings.obj readings.img readings.regions
 Faults and what to do: docs/FAULTS.md (installed: share/doc/plm80), man plm80.";
 
 /// The commands, in the order of the help text.
-const COMMANDS: [Syntax<'static>; 6] = [LINK, LOCATE, RUN, LIST, CHECK, LIB];
+const COMMANDS: [Syntax<'static>; 7] = [LINK, LOCATE, RUN, LIST, CHECK, LIB, REGIONS];
 
 /// What `--version` prints: the program's version, and the toolchain by which it was proved.
 const VERSION: &str = "1.0 (rattle-kit-13f logic dac8208d650f15bf)";
@@ -113,6 +116,7 @@ fn asked_for<'a>(
         "list" => Request::List(ListArguments::of(arguments)),
         "check" => Request::Check(CheckArguments::of(arguments)),
         "lib" => Request::Library(LibraryArguments::of(alloc, arguments)?),
+        "regions" => Request::Regions(RegionsArguments::of(arguments)),
         _ => return Ok(None),
     };
     Ok(Some(request))

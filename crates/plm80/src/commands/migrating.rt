@@ -1,0 +1,73 @@
+//! `plm80 regions`: a regions text as one of version 2.
+
+use crate::commands::arguments::path_of;
+use crate::commands::fault_line::{Reported, report_file, report_memory};
+use crate::commands::files::{read_whole, replace};
+use crate::commands::syntax::{Argument, Kind, Syntax};
+use clap::ArgMatches;
+use image80::{RegionsFault, migrate_regions};
+
+/// The arguments of `regions`.
+#[derive(Clone, Copy)]
+pub struct RegionsArguments<'a> {
+    old: &'a str,
+    new: &'a str,
+}
+
+const ABOUT: &str = "Writes a regions text as version 2, to which CASE lines can be added";
+
+const AFTER_HELP: &str = "\
+NEW has the regions of OLD, a text of version 1 or 2. To NEW lines CASE aaaa tttt ..
+can be added: the addresses tttt that the PCHL at aaaa, the jump of a PL/M DO
+CASE, may go to. NEW is written only if OLD could be read, and may be OLD itself.
+
+Example: plm80 regions readings.regions readings.regions2
+
+Faults and what to do: docs/FAULTS.md (installed: share/doc/plm80), man plm80.";
+
+/// `regions` and its arguments.
+pub const REGIONS: Syntax<'static> = Syntax {
+    name: "regions",
+    about: ABOUT,
+    after_help: AFTER_HELP,
+    arguments: &[
+        Argument {
+            name: "OLD",
+            kind: Kind::Path,
+            help: "The regions text to read, of version 1 or 2",
+        },
+        Argument {
+            name: "NEW",
+            kind: Kind::Path,
+            help: "The file to write its text of version 2 to",
+        },
+    ],
+};
+
+impl<'a> RegionsArguments<'a> {
+    /// The arguments as clap has read them.
+    pub fn of(matches: &ArgMatches<'a>) -> RegionsArguments<'a> {
+        RegionsArguments {
+            old: path_of(matches, "OLD"),
+            new: path_of(matches, "NEW"),
+        }
+    }
+}
+
+/// Writes the text of version 2. No file is created or changed before every other fault is excluded.
+pub fn migrate_file(rt: &HostRuntime, arguments: RegionsArguments<'_>) -> Result<u8, Reported> {
+    let old = read_whole(rt, arguments.old)?;
+    let new = migrated(rt, arguments.old, &old)?;
+    replace(rt, arguments.new, &new)?;
+    Ok(0)
+}
+
+/// The text of version 2 of the regions that the file's text spells.
+fn migrated(rt: &HostRuntime, path: &str, text: &[u8]) -> Result<Vec<u8>, Reported> {
+    let mut migrated = Vec::new(rt.alloc());
+    match migrate_regions(rt.alloc(), text, &mut migrated) {
+        Ok(()) => Ok(migrated),
+        Err(RegionsFault::Memory) => Err(report_memory(rt)),
+        Err(fault) => Err(report_file(rt, path, fault)),
+    }
+}
