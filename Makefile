@@ -6,7 +6,7 @@
 #   make test      proves every crate from nothing and runs every test
 #   make commands  builds plm80 and runs the tests of its commands alone
 #   make faults    runs the tests, and plm80 on the examples, refusing one allocation, read or write at a time
-#   make bench     builds plm80 and prints million steps per second and host instructions per step of four programs, its start-up, and what it takes to verify programs, to link modules and to read libraries
+#   make bench     builds plm80 and prints million steps per second and host instructions per step of five programs, its start-up, and what it takes to verify programs, to link modules and to read libraries
 #   make help      prints this
 
 .PHONY: help run try install test commands faults bench build need-rt need-python3 need-cc
@@ -51,6 +51,7 @@ test: need-rt need-python3
 	@tests/examples/run
 	MIMALLOC_PURGE_DELAY=-1 rt ci
 	@tests/commands/run $(PROGRAM)
+	@tests/commands/migrated $(PROGRAM)
 	@tests/commands/walk $(PROGRAM)
 	@tests/commands/sums $(PROGRAM)
 	@tests/commands/completion $(PROGRAM)
@@ -58,6 +59,7 @@ test: need-rt need-python3
 
 commands: need-python3 build
 	@tests/commands/run $(PROGRAM)
+	@tests/commands/migrated $(PROGRAM)
 	@tests/commands/walk $(PROGRAM)
 	@tests/commands/sums $(PROGRAM)
 	@tests/commands/completion $(PROGRAM)

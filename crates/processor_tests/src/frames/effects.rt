@@ -50,7 +50,7 @@ static ROWS: [(Effect, &[u8]); 33] = [
     (Effect::Change(Change::Swap), &[0xE3]),
     (Effect::Change(Change::Push(FramePair::Hl)), &[0xE5]),
     (Effect::Call(0x0020), &[0xE7]),
-    (Effect::Refuse(FrameFault::Pchl), &[0xE9]),
+    (Effect::Case, &[0xE9]),
     (Effect::Change(Change::Exchange), &[0xEB]),
     (Effect::Call(0x0028), &[0xEF]),
     (Effect::Change(Change::Drop), &[0xF1]),
