@@ -1,5 +1,5 @@
 -- The case of an address.
-use Rattle.std.proofs.Common.{◌≡◌, ◌≢◌, ℕ, zero, suc, ◌+◌, ◌<◌, ◌≤◌, ◌==◌, true, false, cond, List, [], ◌∷◌, length, get_or, Option, Some, None, Result, Ok, Err, IfOk, IfErr, refl, ap, sym, subst, ◌∙◌, arith, ◌↔◌}
+use Rattle.std.proofs.Common.{◌≡◌, ◌≢◌, ℕ, zero, suc, ◌<◌, ◌≤◌, ◌==◌, true, false, cond, List, [], ◌∷◌, length, get_or, Some, None, Result, Ok, Err, IfOk, IfErr, refl, ap, sym, subst, ◌∙◌, arith, ◌↔◌}
 use Rattle.std.specs.Prelude.{Contains, find}
 use Rattle.std.specs.Option.{option_map}
 use Rattle.std.specs.List.Sorted.{IsSearchInRange, IsBinarySearchResult, IsNonDecreasingBy}
@@ -7,12 +7,10 @@ use Rattle.std.specs.Ordering.{nat_cmp, ordering_index}
 use Rattle.std.proofs.lemmas.Bool.{eq-eqb, eqb-true}
 use Rattle.std.proofs.lemmas.Bool.Decides.{nat_tests}
 use Rattle.std.proofs.lemmas.Cmp.{ranked}
-use Rattle.std.proofs.lemmas.Grind.{common_steps}
-use Rattle.std.proofs.lemmas.List.Sorted.{IsNonDecreasingBy-from_default}
 use Rattle.image80.specs.Case.{DeclaredCase, AreByAddress}
 use Rattle.image80.specs.Regions.{Areas, AreRegions, targets_at}
 
-differ : (a b : ℕ) → a ≢ b → (a == b) ≡ false
+pub differ : (a b : ℕ) → a ≢ b → (a == b) ≡ false
 differ a b other = grind (arith, nat_tests)
 
 pub by_address-tail : (case : DeclaredCase) (cases : List DeclaredCase) → AreByAddress (case ∷ cases) → AreByAddress cases

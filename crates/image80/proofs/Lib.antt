@@ -1,11 +1,16 @@
 pub mod LineLemmas
 pub mod CaseLemmas
 pub mod DigitLemmas
+pub mod CaseTextLemmas
+pub mod OnceLemmas
+pub mod SameCases
+pub mod SeenLemmas
+pub mod CasesLemmas
 pub mod DisjointLemmas
 pub mod RegionsLemmas
 pub mod TextLemmas
-pub mod WriteLemmas
 pub mod ReadingLemmas
+pub mod WriteLemmas
 pub mod FaultLemmas
 pub mod ApartLemmas
 pub mod MemoryLemmas

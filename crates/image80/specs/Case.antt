@@ -1,7 +1,8 @@
 -- The addresses that a PCHL may go to.
 -- (8080 Assembly Language Programming Manual, PCHL: the program counter becomes the word in H and L. That a program
 -- declares which words these are is this project's own.)
-use Rattle.std.specs.Prelude.{ℕ, ◌<◌, List, length, All, AllPairs}
+use Rattle.std.specs.Prelude.{ℕ, ◌<◌, ◌==◌, ◌&&◌, Bool, List, length, All, AllPairs}
+use Rattle.std.specs.List.{list_any}
 
 -- the address of a PCHL and its targets
 pub record DeclaredCase : Type 0 where
@@ -18,3 +19,11 @@ pub record IsCase (case : DeclaredCase) : Type 0 where
 -- cases by address: the address of each is below that of every later one
 abbrev pub AreByAddress : List DeclaredCase → Type 0
 AreByAddress cases = AllPairs (λ a b. a.at < b.at) cases
+
+-- whether the target is one of the targets, a set of addresses
+abbrev pub is_target : List ℕ → ℕ → Bool
+is_target targets target = list_any (λ t. t == target) targets
+
+-- whether a case of the address has the target, a set of pairs
+abbrev pub has_target : List DeclaredCase → ℕ → ℕ → Bool
+has_target cases address target = list_any (λ case. case.at == address && is_target case.targets target) cases

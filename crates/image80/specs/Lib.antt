@@ -1,4 +1,5 @@
 pub mod Case
+pub mod CaseLine
 pub mod Range
 pub mod Regions
 pub mod Image
@@ -9,3 +10,4 @@ pub mod RegionsText
 -- what the crate's own functions promise one another: no public contract cites these
 pub mod Memory
 pub mod Placing
+pub mod Reading

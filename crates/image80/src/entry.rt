@@ -1,18 +1,22 @@
 //! The lines of a regions text after the first.
 
-ghost use Rattle.std.specs.Prelude.{◌≡◌, ◌≢◌, IfSome, IfNone};
+ghost use Rattle.std.specs.Prelude.{◌≡◌, ◌≢◌, Some, None, IfOk, IfSome, IfNone};
 ghost use Rattle.image80.specs.Range.{IsInMemory};
-ghost use Rattle.image80.specs.RegionsText.{range_of, range_text, entry_text, code_range, stack_range, data_range};
+ghost use Rattle.image80.specs.RegionsText.{range_text, entry_text, code_range, stack_range, data_range, case_of, IsProper};
 
+use crate::case_line::{CaseLine, read_case};
 use crate::range::Range;
+use crate::version::Version;
 use decode80::word_of_digits;
+use std::alloc::{AllocError, Global};
 
 /// What a line of a regions text gives.
-#[derive(Clone, Copy)]
+#[derive(Drop)]
 pub(crate) enum Entry {
     Code(Range),
     Stack(Range),
     Data(Range),
+    Case(CaseLine),
 }
 
 impl Entry {
@@ -45,13 +49,44 @@ impl Entry {
             _ => None,
         }
     }
+
+    /// The case of a case line.
+    pub(crate) fn case(&self) -> Option<&CaseLine>
+        ensures some { IfSome result (λ case. case_of self.now ≡ Some case.now) }
+        ensures none { IfNone result (case_of self.now ≡ None) }
+    {
+        match self {
+            Entry::Case(case) => Some(case),
+            _ => None,
+        }
+    }
 }
 
-/// The entry that a line spells, `None` where it spells none that lies in memory.
-pub(crate) fn read_entry(line: &[u8]) -> Option<Entry>
+/// The entry that a line of a text of the version spells, `None` where it spells none that is proper.
+pub(crate) fn read_entry(
+    alloc: Global,
+    version: Version,
+    line: &[u8],
+) -> Result<Option<Entry>, AllocError>
+    ensures spelled { IfOk result (λ read. IfSome read (λ entry. line.now ≡ entry_text entry)) }
+    ensures proper { IfOk result (λ read. IfSome read (λ entry. IsProper version entry)) }
+    ensures none { IfOk result (λ read. IfNone read ((entry : Entry) → IsProper version entry → line.now ≢ entry_text entry)) }
+{
+    let Some(case) = line.strip_prefix(b"CASE ") else {
+        return Ok(read_range_entry(line));
+    };
+    match version {
+        Version::One => Ok(None),
+        Version::Two => Ok(read_case(alloc, case)?.map(Entry::Case)),
+    }
+}
+
+/// The entry that a line with a range spells, `None` where it spells none that lies in memory.
+fn read_range_entry(line: &[u8]) -> Option<Entry>
     ensures spelled { IfSome result (λ entry. line.now ≡ entry_text entry) }
-    ensures in_memory { IfSome result (λ entry. IsInMemory (range_of entry)) }
-    ensures none { IfNone result ((entry : Entry) → IsInMemory (range_of entry) → line.now ≢ entry_text entry) }
+    ensures proper { IfSome result (λ entry. (version : Version) → IsProper version entry) }
+    ensures none { IfNone result ((version : Version) (entry : Entry) → IsProper version entry → case_of entry ≡ None →
+        line.now ≢ entry_text entry) }
 {
     if let Some(range) = line.strip_prefix(b"CODE ") {
         return Some(Entry::Code(read_range(range)?));

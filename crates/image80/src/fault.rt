@@ -5,11 +5,11 @@ use thiserror::Error;
 /// `NoStack`, `RegionsOverlap`; or that memory ran out.
 #[derive(Clone, Copy, Debug, PartialEq, Eq, Error)]
 pub enum RegionsFault {
-    /// The first line of that number, counted from 1, that is no line of a regions text, is a
-    /// second STACK line, or lacks its line feed.
+    /// The first line of that number, counted from 1, that is no line of a regions text of its
+    /// version, is a second STACK line or a second CASE line of an address, or lacks its line feed.
     #[error("BadLine {0}")]
     BadLine(usize),
-    /// The first line is not `REGIONS 1`.
+    /// The first line is neither `REGIONS 1` nor `REGIONS 2`.
     #[error("BadVersion")]
     BadVersion,
     /// An address lies in two ranges.

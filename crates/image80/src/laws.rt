@@ -4,20 +4,28 @@ ghost use Rattle.std.specs.Prelude.{◌≡◌, ◌≢◌, ℕ, ◌<◌, ◌↔�
 ghost use Rattle.image80.specs.Image.{PlacedBytes, covers, byte_of, byte_at, memory_of};
 ghost use Rattle.image80.specs.Range.{in_range};
 ghost use Rattle.image80.specs.Regions.{Areas, AreRegions, in_code, in_data, targets_at};
-ghost use Rattle.image80.specs.RegionsText.{regions_text, Spells, Refuses};
+ghost use Rattle.image80.specs.RegionsText.{regions_text, text_in, Migrates, Spells, Refuses};
+ghost use Rattle.image80.specs.declared.version.Version.{Version};
 ghost use Rattle.image80.specs.declared.fault.RegionsFault.{RegionsFault};
 
 /// A text spells one list of regions at most, and none where it is refused, when memory runs out
 /// aside; it is refused for one cause at most; and the text that is written for regions spells
-/// them. So what is written is read as itself.
+/// them, and so does that of version 2. So what is written is read as itself.
 pub fn text_of_regions_is_read_as_itself()
-    ensures written { (areas : Areas) → AreRegions areas → areas.cases ≡ [] → Spells (regions_text areas) areas }
+    ensures written { (areas : Areas) → AreRegions areas → Spells (regions_text areas) areas }
+    ensures written2 { (areas : Areas) → AreRegions areas → Spells (text_in Version.Two areas) areas }
     ensures one_reading { (text : List ℕ) (areas others : Areas) →
         Spells text areas → Spells text others → areas ≡ others }
     ensures not_refused { (text : List ℕ) (areas : Areas) (fault : RegionsFault) →
         Spells text areas → Refuses text fault → fault ≡ RegionsFault.Memory }
     ensures one_fault { (text : List ℕ) (fault other : RegionsFault) → Refuses text fault → Refuses text other →
         fault ≢ RegionsFault.Memory → other ≢ RegionsFault.Memory → fault ≡ other }
+{}
+
+/// A text that was migrated, migrated again, is the same text, and one text comes of a text.
+pub fn migration_ends_at_once()
+    ensures again { (bytes text other : List ℕ) → Migrates bytes [] text → Migrates text [] other → other ≡ text }
+    ensures one_text { (bytes text other : List ℕ) → Migrates bytes [] text → Migrates bytes [] other → other ≡ text }
 {}
 
 /// An address lies in one at most of code, data and stack.

@@ -9,11 +9,13 @@
 //! | [`RegionMap`] | whether an address is in the code or in the data, at the same cost for any number of ranges |
 //! | [`Chunk`], [`Image`] | bytes at an address; a located program, and its memory |
 //! | [`write_regions`], [`read_regions`], [`RegionsFault`] | regions as a text, and why bytes are no regions text |
+//! | [`write_regions2`], [`migrate_regions`] | regions as a text of version 2 |
 //! | [`lines`] | texts over whole lines |
 //! | [`laws`] | what holds of the definitions alone |
 #![tactic(auto)]
 
 mod case;
+mod case_line;
 mod chunk;
 mod entry;
 mod fault;
@@ -21,19 +23,23 @@ mod image;
 pub mod laws;
 pub mod lines;
 mod memory;
+mod migrate;
 mod ordered;
 mod range;
 mod read;
 mod region_map;
 mod regions;
+mod seen;
+mod version;
 mod write;
 
 pub use case::Case;
 pub use chunk::Chunk;
 pub use fault::RegionsFault;
 pub use image::Image;
+pub use migrate::migrate_regions;
 pub use range::Range;
 pub use read::read_regions;
 pub use region_map::RegionMap;
 pub use regions::Regions;
-pub use write::write_regions;
+pub use write::{write_regions, write_regions2};

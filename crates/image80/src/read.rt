@@ -1,26 +1,31 @@
 //! The reader of regions texts.
 
-ghost use Rattle.std.specs.Prelude.{◌≡◌, ◌∷◌, ℕ, List, [], IsTrue, IsNone, IfOk, IfErr, OnOk, IfSome, IfNone, slice_get};
+ghost use Rattle.std.specs.Prelude.{◌≡◌, ◌≢◌, ◌∷◌, ℕ, List, [], true, false, ◌==◌, map, All, IfOk, IfErr, OnOk, IfSome, IfNone, slice_get};
+ghost use Rattle.std.specs.List.{IsDistinct};
+ghost use Rattle.image80.specs.CaseLine.{IsCaseLine};
 ghost use Rattle.image80.specs.Lines.{parts};
-ghost use Rattle.image80.specs.Range.{IsInMemory};
-ghost use Rattle.image80.specs.RegionsText.{heading, code_ranges, data_ranges, stack_range, stack_ranges, range_of, entry_text, GoodText, IsNoEntry, Spells, Refuses};
+ghost use Rattle.image80.specs.Reading.{AreCasesOf, is_seen};
+ghost use Rattle.image80.specs.RegionsText.{heading, code_ranges, data_ranges, stack_ranges, case_lines, entry_text, GoodText, IsProper, Spells, Refuses};
 ghost use Rattle.image80.specs.declared.fault.RegionsFault.TheVariants.{BadVersion};
 
+use crate::case::Case;
+use crate::case_line::case_of;
 use crate::entry::{Entry, read_entry};
 use crate::fault::RegionsFault;
 use crate::lines::first_line;
 use crate::range::Range;
 use crate::regions::Regions;
+use crate::seen::Seen;
+use crate::version::Version;
 use std::alloc::{AllocError, Global};
 
-/// The first line of a regions text, version 1.
-const HEADING: &[u8] = b"REGIONS 1";
-
-/// The regions that a text of version 1 spells.
+/// The regions that a text of version 1 or 2 spells.
 ///
-/// The first line is `REGIONS 1`. Each further line is `CODE ffff llll`, `DATA ffff llll` or
-/// `STACK ffff llll`, the first address and the length of a range in upper case hexadecimal, in
-/// any order, and each line ends with its line feed. Code and data of length 0 are left out. The
+/// The first line is `REGIONS 1` or `REGIONS 2`. Each further line is `CODE ffff llll`,
+/// `DATA ffff llll` or `STACK ffff llll`, the first address and the length of a range in upper case
+/// hexadecimal, in any order, and each line ends with its line feed. Code and data of length 0 are
+/// left out. In version 2 a line may also be `CASE aaaa tttt ..`, the address of a PCHL and at least
+/// one target; there is one for an address at most, and a target may stand in it more than once. The
 /// faults are looked for in the order `BadVersion`, `BadLine` with the first such line, `NoStack`,
 /// `RegionsOverlap`; `Memory` comes only where memory ran out, and never in place of `BadVersion`.
 pub fn read_regions(alloc: Global, bytes: &[u8]) -> Result<Regions, RegionsFault>
@@ -28,62 +33,67 @@ pub fn read_regions(alloc: Global, bytes: &[u8]) -> Result<Regions, RegionsFault
     ensures refused { IfErr result (Refuses bytes.now) }
     ensures version { IfErr result (λ fault. Refuses bytes.now BadVersion → fault ≡ BadVersion) }
 {
-    let entries = read_entries(alloc, bytes)?;
+    let (version, lines) = after_heading(bytes)?;
+    let entries = read_entries(alloc, version, lines)?;
     let Some(stack) = stack_of(&entries) else {
         return Err(RegionsFault::NoStack);
     };
     let code = code_of(alloc, &entries)?;
     let data_ranges = data_of(alloc, &entries)?;
-    match Regions::from_ranges(alloc, code, stack, data_ranges)? {
-        Some(regions) => Ok(regions),
-        None => Err(RegionsFault::RegionsOverlap),
-    }
+    let Some(regions) = Regions::from_ranges(alloc, code, stack, data_ranges)? else {
+        return Err(RegionsFault::RegionsOverlap);
+    };
+    Ok(regions.with_cases(cases_of(alloc, &entries)?))
 }
 
-/// The entries of all lines after the first.
-fn read_entries(alloc: Global, text: &[u8]) -> Result<Vec<Entry>, RegionsFault>
-    ensures good { IfOk result (λ entries. GoodText text.now entries.items) }
+/// The version of the text, and the lines after the first, which is the heading.
+fn after_heading(text: &[u8]) -> Result<(Version, &[u8]), RegionsFault>
+    ensures after { IfOk result (λ (version, after). parts text.now ≡ heading version ∷ parts after.now) }
     ensures refused { IfErr result (Refuses text.now) }
     ensures version { IfErr result (λ fault. Refuses text.now BadVersion → fault ≡ BadVersion) }
 {
-    let after = after_heading(text)?;
+    match first_line(text) {
+        Some((line, after)) => match Version::of_heading(line) {
+            Some(version) => Ok((version, after)),
+            None => Err(RegionsFault::BadVersion),
+        },
+        None => match Version::of_heading(text) {
+            Some(_) => Err(RegionsFault::BadLine(1)),
+            None => Err(RegionsFault::BadVersion),
+        },
+    }
+}
+
+/// The entries of all lines, those after the heading of a text of the version.
+fn read_entries(alloc: Global, version: Version, lines: &[u8]) -> Result<Vec<Entry>, RegionsFault>
+    ensures good { IfOk result (λ entries. (text : List ℕ) → parts text ≡ heading version ∷ parts lines.now →
+        GoodText version text entries.items) }
+    ensures refused { IfErr result (λ fault. (text : List ℕ) → parts text ≡ heading version ∷ parts lines.now → Refuses text fault) }
+{
     let mut entries = Vec::new(alloc);
-    put_entries(after, &mut entries)?;
+    put_entries(alloc, version, lines, &mut entries)?;
     Ok(entries)
 }
 
-/// The lines after the first, which is the heading.
-fn after_heading(text: &[u8]) -> Result<&[u8], RegionsFault>
-    ensures after { IfOk result (λ after. parts text.now ≡ heading ∷ parts after.now) }
-    ensures refused { IfErr result (Refuses text.now) }
-    ensures version { IfErr result (λ fault. Refuses text.now BadVersion → fault ≡ BadVersion) }
+/// Puts the entries of all lines, those after the heading of a text of the version, into an empty list.
+fn put_entries(
+    alloc: Global,
+    version: Version,
+    lines: &[u8],
+    entries: &mut Vec<Entry>,
+) -> Result<(), RegionsFault>
+    requires { entries.old.items ≡ [] }
+    ensures good { OnOk result ((text : List ℕ) → parts text ≡ heading version ∷ parts lines.now →
+        GoodText version text entries.new.items) }
+    ensures refused { IfErr result (λ fault. (text : List ℕ) → parts text ≡ heading version ∷ parts lines.now → Refuses text fault) }
 {
-    let Some((first, after)) = first_line(text) else {
-        return Err(if text == HEADING {
-            RegionsFault::BadLine(1)
-        } else {
-            RegionsFault::BadVersion
-        });
-    };
-    if first != HEADING {
-        return Err(RegionsFault::BadVersion);
-    }
-    Ok(after)
-}
-
-/// Puts the entries of all lines, those after a heading, into an empty list.
-fn put_entries(lines: &[u8], entries: &mut Vec<Entry>) -> Result<(), RegionsFault>
-    requires empty { entries.old.items ≡ [] }
-    ensures good { OnOk result ((text : List ℕ) → parts text ≡ heading ∷ parts lines.now → GoodText text entries.new.items) }
-    ensures refused { IfErr result (λ fault. (text : List ℕ) → parts text ≡ heading ∷ parts lines.now → Refuses text fault) }
-{
-    let mut has_stack = false;
+    let mut seen = Seen::new(alloc)?;
     let mut rest = lines;
     while let Some((line, after)) = first_line(rest) {
-        let Some(entry) = next_entry(line, has_stack) else {
+        let Some(entry) = next_entry(alloc, version, line, &seen)? else {
             return Err(RegionsFault::BadLine(entries.len() + 2));
         };
-        has_stack = has_stack || entry.stack().is_some();
+        seen.add(&entry);
         entries.push(entry)?;
         rest = after;
     }
@@ -93,17 +103,26 @@ fn put_entries(lines: &[u8], entries: &mut Vec<Entry>) -> Result<(), RegionsFaul
     Ok(())
 }
 
-/// The entry of a line, `None` where it spells none that lies in memory, or a second stack.
-fn next_entry(line: &[u8], has_stack: bool) -> Option<Entry>
-    ensures spelled { IfSome result (λ entry. line.now ≡ entry_text entry) }
-    ensures in_memory { IfSome result (λ entry. IsInMemory (range_of entry)) }
-    ensures one_stack { IfSome result (λ entry. IsTrue has_stack → IsNone (stack_range entry)) }
-    ensures none { IfNone result (IsNoEntry line.now has_stack) }
+/// The entry of a line, `None` where it spells none that is proper, or one that repeats a line that was read.
+fn next_entry(
+    alloc: Global,
+    version: Version,
+    line: &[u8],
+    seen: &Seen,
+) -> Result<Option<Entry>, AllocError>
+    ensures spelled { IfOk result (λ read. IfSome read (λ entry. line.now ≡ entry_text entry)) }
+    ensures proper { IfOk result (λ read. IfSome read (λ entry. IsProper version entry)) }
+    ensures new { IfOk result (λ read. IfSome read (λ entry. is_seen seen.now entry ≡ false)) }
+    ensures none { IfOk result (λ read. IfNone read ((entry : Entry) → IsProper version entry → line.now ≡ entry_text entry →
+        is_seen seen.now entry ≡ true)) }
 {
-    match read_entry(line)? {
-        Entry::Stack(_) if has_stack => None,
-        entry => Some(entry),
+    let Some(entry) = read_entry(alloc, version, line)? else {
+        return Ok(None);
+    };
+    if seen.has(&entry) {
+        return Ok(None);
     }
+    Ok(Some(entry))
 }
 
 /// The range of the first stack line.
@@ -138,4 +157,19 @@ fn data_of(alloc: Global, entries: &[Entry]) -> Result<Vec<Range>, AllocError>
         .filter_map(|entry| entry.data())
         .filter(|range| range.length > 0)
         .collect(alloc)
+}
+
+/// The cases of the case lines, by address.
+fn cases_of(alloc: Global, entries: &[Entry]) -> Result<Vec<Case>, AllocError>
+    requires { IsDistinct (λ a b. a == b) (map (λ case. case.at) (case_lines entries.now)) }
+    ensures { IfOk result (λ cases. AreCasesOf (case_lines entries.now) cases.items) }
+{
+    let mut cases = Vec::new(alloc);
+    for entry in entries {
+        if let Some(line) = entry.case() {
+            cases.push(case_of(alloc, line)?)?;
+        }
+    }
+    cases.sort_unstable_by_key(|case| case.at);
+    Ok(cases)
 }

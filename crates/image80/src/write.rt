@@ -1,38 +1,72 @@
-//! The writer of regions texts.
+//! The writers of regions texts.
 
-ghost use Rattle.std.specs.Prelude.{◌≡◌, ◌∷◌, ◌++◌, [], IfOk, OnOk, OnErr};
+ghost use Rattle.std.specs.Prelude.{◌≡◌, codes, ◌∷◌, ◌++◌, [], IfOk, OnOk, OnErr};
 ghost use Rattle.std.specs.List.{flat_map};
 ghost use Rattle.image80.specs.Regions.{AreRegions};
-ghost use Rattle.image80.specs.RegionsText.{Spells, range_text, regions_text};
+ghost use Rattle.image80.specs.RegionsText.{Spells, case_text, range_text, regions_text, targets_text, text_in};
+ghost use Rattle.image80.specs.declared.version.Version.TheVariants.{Two};
 
+use crate::case::Case;
 use crate::laws::text_of_regions_is_read_as_itself;
 use crate::range::Range;
 use crate::regions::Regions;
+use crate::version::Version;
 use decode80::word_digits;
 use std::alloc::{AllocError, Global};
 
-/// Appends the text of the regions, version 1: the line `REGIONS 1`, the code lines by address, the
-/// stack line, the data lines by address. It is read as the same regions. When memory runs out,
-/// `out` keeps what it held.
+/// Appends the text of the regions, of version 2 where they have a case, of version 1 where they have none: the line
+/// `REGIONS 1` or `REGIONS 2`, the code lines by address, the stack line, the data lines by address, the case lines by
+/// address with their targets ascending. It is read as the same regions. When memory runs out, `out` keeps what it held.
 pub fn write_regions(alloc: Global, regions: &Regions, out: &mut Vec<u8>) -> Result<(), AllocError>
     ensures ok { OnOk result (out.new.items ≡ out.old.items ++ regions_text regions.now) }
-    ensures read { OnOk result (regions.now.cases ≡ [] → Spells (regions_text regions.now) regions.now) }
+    ensures read { OnOk result (Spells (regions_text regions.now) regions.now) }
     ensures err { OnErr result (out.new.items ≡ out.old.items) }
 {
     text_of_regions_is_read_as_itself();
-    let text = spelled(alloc, regions)?;
+    let version = match regions.cases() {
+        [] => Version::One,
+        _ => Version::Two,
+    };
+    append_text(alloc, version, regions, out)
+}
+
+/// Appends the text of the regions, of version 2 whether they have a case or none, with the lines in the order of
+/// [`write_regions`]. It is read as the same regions. When memory runs out, `out` keeps what it held.
+pub fn write_regions2(alloc: Global, regions: &Regions, out: &mut Vec<u8>) -> Result<(), AllocError>
+    ensures ok { OnOk result (out.new.items ≡ out.old.items ++ text_in Two regions.now) }
+    ensures read { OnOk result (Spells (text_in Two regions.now) regions.now) }
+    ensures err { OnErr result (out.new.items ≡ out.old.items) }
+{
+    text_of_regions_is_read_as_itself();
+    append_text(alloc, Version::Two, regions, out)
+}
+
+/// Appends the text of the regions in the version.
+fn append_text(
+    alloc: Global,
+    version: Version,
+    regions: &Regions,
+    out: &mut Vec<u8>,
+) -> Result<(), AllocError>
+    ensures ok { OnOk result (out.new.items ≡ out.old.items ++ text_in version regions.now) }
+    ensures rules { OnOk result (AreRegions regions.now) }
+    ensures err { OnErr result (out.new.items ≡ out.old.items) }
+{
+    let text = spelled(alloc, version, regions)?;
     out.extend_from_slice(&text)
 }
 
-/// The text of the regions.
-fn spelled(alloc: Global, regions: &Regions) -> Result<Vec<u8>, AllocError>
-    ensures text { IfOk result (λ text. text.items ≡ regions_text regions.now) }
+/// The text of the regions in the version.
+fn spelled(alloc: Global, version: Version, regions: &Regions) -> Result<Vec<u8>, AllocError>
+    ensures text { IfOk result (λ text. text.items ≡ text_in version regions.now) }
     ensures rules { OnOk result (AreRegions regions.now) }
 {
-    let mut text = Vec::from_slice(alloc, b"REGIONS 1\n".as_slice())?;
+    let mut text = Vec::from_slice(alloc, version.heading())?;
+    text.push(b'\n')?;
     put_lines(&mut text, b"CODE ".as_slice(), regions.code())?;
     put_line(&mut text, b"STACK ".as_slice(), regions.stack())?;
     put_lines(&mut text, b"DATA ".as_slice(), regions.data_ranges())?;
+    put_cases(&mut text, regions.cases())?;
     Ok(text)
 }
 
@@ -57,5 +91,38 @@ fn put_line(text: &mut Vec<u8>, keyword: &[u8], range: Range) -> Result<(), Allo
     text.push(b' ')?;
     text.extend_from_slice(&word_digits(range.length))?;
     text.push(b'\n')?;
+    Ok(())
+}
+
+/// Appends a line for each case.
+fn put_cases(text: &mut Vec<u8>, cases: &[Case]) -> Result<(), AllocError>
+    ensures { OnOk result (text.new.items ≡ text.old.items
+        ++ flat_map (λ case. (codes "CASE " ++ case_text case) ++ 10 ∷ []) cases.now) }
+{
+    for case in cases {
+        put_case(text, case)?;
+    }
+    Ok(())
+}
+
+/// Appends the line of a case.
+fn put_case(text: &mut Vec<u8>, case: &Case) -> Result<(), AllocError>
+    ensures { OnOk result (text.new.items ≡ text.old.items ++ ((codes "CASE " ++ case_text case.now) ++ 10 ∷ [])) }
+{
+    text.extend_from_slice(b"CASE ".as_slice())?;
+    text.extend_from_slice(&word_digits(case.at))?;
+    put_targets(text, &case.targets)?;
+    text.push(b'\n')?;
+    Ok(())
+}
+
+/// Appends the targets, each after a space.
+fn put_targets(text: &mut Vec<u8>, targets: &[u16]) -> Result<(), AllocError>
+    ensures { OnOk result (text.new.items ≡ text.old.items ++ targets_text targets.now) }
+{
+    for target in targets {
+        text.push(b' ')?;
+        text.extend_from_slice(&word_digits(*target))?;
+    }
     Ok(())
 }

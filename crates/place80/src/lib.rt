@@ -5,8 +5,9 @@
 //! | [`layout`], [`Layout`], [`Placed`] | the segments of a program at their places |
 //! | [`locate`], [`Options`], [`PlaceFault`] | a program made an image, where its segments go, and why it can't be located |
 //! | [`write_image`], [`read_image`], [`ImageFault`] | an image as an object file, and why bytes are no image |
-//! | [`Image`], [`Chunk`], [`Regions`], [`Range`], [`RegionMap`] | a located program and its regions, which stand in `image80` |
+//! | [`Image`], [`Chunk`], [`Regions`], [`Range`], [`Case`], [`RegionMap`] | a located program and its regions, which stand in `image80` |
 //! | [`write_regions`], [`read_regions`], [`RegionsFault`] | regions as a text, which stand in `image80` too |
+//! | [`write_regions2`], [`migrate_regions`] | regions as a text of version 2, which stand there too |
 //! | [`laws`] | what holds of the definitions alone |
 #![tactic(auto)]
 
@@ -28,7 +29,8 @@ mod places;
 pub use image_fault::ImageFault;
 pub use image_file::{read_image, write_image};
 pub use image80::{
-    Chunk, Image, Range, RegionMap, Regions, RegionsFault, read_regions, write_regions,
+    Case, Chunk, Image, Range, RegionMap, Regions, RegionsFault, migrate_regions, read_regions,
+    write_regions, write_regions2,
 };
 pub use laying_out::layout;
 pub use locating::locate;

@@ -1,6 +1,6 @@
 use Rattle.std.proofs.Common.{Some, ap, sym, ◌∙◌, rules}
 use Rattle.std.proofs.lemmas.List.Sorted.{answers_always}
-use Rattle.image80.proofs.CaseLemmas.{IsAnswered, searched}
+use Rattle.image80.proofs.CaseLemmas.{searched}
 use Rattle.image80.proofs.case.case_at.Goals as goal
 
 pub returns-in-Ok-clause-found : goal.returns-in-Ok-clause-found

@@ -1,0 +1,96 @@
+ghost use Rattle.std.specs.Prelude.{◌≡◌, ◌≢◌, ◌<◌, ℕ, List, [], ◌∷◌, ◌++◌, length, All, IsTrue, IfOk, IfSome, IfNone};
+ghost use Rattle.decode80.specs.Text.{word_text};
+ghost use Rattle.image80.specs.Case.{DeclaredCase, IsCase, is_target};
+ghost use Rattle.image80.specs.CaseLine.{IsCaseLine};
+ghost use Rattle.image80.specs.Reading.{IsCaseOf};
+ghost use Rattle.image80.specs.RegionsText.{case_text, targets_text};
+
+use crate::case::Case;
+use decode80::word_of_digits;
+use std::alloc::{AllocError, Global};
+use std::marker::Model;
+
+/// What a case line gives: its address and its targets as they stand, at least one.
+#[derive(Drop)]
+pub(crate) struct CaseLine {
+    pub at: u16,
+    pub targets: Vec<u16>,
+}
+
+impl Model for CaseLine {
+    ghost use Rattle.image80.specs.Case.{DeclaredCase};
+    ghost use Rattle.image80.specs.CaseLine.{IsCaseLine};
+
+    ghost Value = { DeclaredCase };
+
+    ghost view = { λ c. record { at = c.at; targets = c.targets.items } };
+
+    ghost invariant = { λ c. IsCaseLine (record { at = c.at; targets = c.targets.items }) };
+}
+
+/// The case of a line: its targets ascending, each once.
+pub(crate) fn case_of(alloc: Global, line: &CaseLine) -> Result<Case, AllocError>
+    ensures { IfOk result (IsCaseOf line.now) }
+{
+    let mut targets = Vec::from_slice(alloc, &line.targets)?;
+    targets.sort_unstable();
+    targets.dedup();
+    Ok(Case {
+        at: line.at,
+        targets,
+    })
+}
+
+/// The address and the targets of a case line, `None` where the text spells none.
+pub(crate) fn read_case(alloc: Global, text: &[u8]) -> Result<Option<CaseLine>, AllocError>
+    ensures spelled { IfOk result (λ read. IfSome read (λ case. text.now ≡ case_text case)) }
+    ensures proper { IfOk result (λ read. IfSome read (λ case. IsCaseLine case)) }
+    ensures none { IfOk result (λ read. IfNone read ((case : DeclaredCase) → IsCaseLine case → text.now ≢ case_text case)) }
+{
+    let Some((at, after)) = read_word(text) else {
+        return Ok(None);
+    };
+    let mut targets = Vec::new(alloc);
+    let whole = put_targets(after, &mut targets)?;
+    if !whole || targets.is_empty() {
+        return Ok(None);
+    }
+    Ok(Some(CaseLine { at, targets }))
+}
+
+/// Puts the targets that the text begins with into an empty list; whether the text ends with them.
+fn put_targets(text: &[u8], targets: &mut Vec<u16>) -> Result<bool, AllocError>
+    requires { targets.old.items ≡ [] }
+    ensures spelled { IfOk result (λ whole. IsTrue whole → text.now ≡ targets_text targets.new.items) }
+    ensures words { IfOk result (λ _. All (λ target. target < 65536) targets.new.items) }
+    ensures whole { IfOk result (λ whole. (others : List ℕ) → All (λ target. target < 65536) others →
+        text.now ≡ targets_text others → IsTrue whole) }
+{
+    let mut rest = text;
+    while let Some((target, after)) = read_target(rest) {
+        targets.push(target)?;
+        rest = after;
+    }
+    Ok(rest.is_empty())
+}
+
+/// The target that the text begins with after a space, and the text after it.
+fn read_target(text: &[u8]) -> Option<(u16, &[u8])>
+    ensures found { IfSome result (λ (target, rest). text.now ≡ 32 ∷ (word_text target ++ rest.now)) }
+    ensures shorter { IfSome result (λ (_, rest). length rest.now < length text.now) }
+    ensures none { IfNone result ((target : ℕ) (rest : List ℕ) → target < 65536 → text.now ≢ 32 ∷ (word_text target ++ rest)) }
+{
+    read_word(text.strip_prefix(b" ")?)
+}
+
+/// The word that the text begins with, and the text after it.
+fn read_word(text: &[u8]) -> Option<(u16, &[u8])>
+    ensures found { IfSome result (λ (word, rest). text.now ≡ word_text word ++ rest.now) }
+    ensures none { IfNone result ((word : ℕ) (rest : List ℕ) → word < 65536 → text.now ≢ word_text word ++ rest) }
+{
+    if text.len() < 4 {
+        return None;
+    }
+    let word = word_of_digits([text[0], text[1], text[2], text[3]])?;
+    Some((word, &text[4..]))
+}
