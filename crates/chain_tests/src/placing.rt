@@ -1,6 +1,8 @@
 //! Worked texts, and each call once where it answers. Texts and files that are refused are rows of the program's tests.
 
-use image80::{Image, RegionMap, Regions, read_regions, write_regions};
+use image80::{
+    Image, RegionMap, Regions, RegionsFault, migrate_regions, read_regions, write_regions, write_regions2,
+};
 use place80::{read_image, write_image};
 use std::alloc::{AllocError, Global};
 use std::test::Fail;
@@ -60,6 +62,45 @@ fn lines_in_any_order(rt: HostRuntime) -> Result<(), Fail> {
     let text = text_of(rt.alloc(), &regions)?;
     assert!(rt; has_its_parts(&regions) && text.as_slice() == IN_ORDER);
     assert_eq!(rt; are_mapped(rt.alloc(), &regions), Ok(true));
+    Ok(())
+}
+
+/// A text of version 2 whose lines are in no order, with a target that is named twice.
+const CASES: &[u8] =
+    b"REGIONS 2\nCASE 3001 3001 3000 3001\nSTACK FF00 0100\nCASE 3000 0000\nCODE 3000 0002\n";
+
+/// The text that is written for its regions.
+static CASES_IN_ORDER: &[u8] =
+    b"REGIONS 2\nCODE 3000 0002\nSTACK FF00 0100\nCASE 3000 0000\nCASE 3001 3000 3001\n";
+
+/// The text of version 2 of the regions without cases.
+static MIGRATED: &[u8] =
+    b"REGIONS 2\nCODE 3000 0002\nSTACK FF00 0100\nDATA 0000 0001\nDATA 3002 0001\n";
+
+/// Whether they have the cases of that text.
+fn has_its_cases(regions: &Regions) -> bool {
+    let declared = matches!(regions.targets(0x3001), Some([0x3000, 0x3001]));
+    declared && regions.cases().len() == 2 && regions.targets(0x3002).is_none()
+}
+
+#[test]
+fn cases_in_any_order(rt: HostRuntime) -> Result<(), Fail> {
+    let regions = read_regions(rt.alloc(), CASES)?;
+    let text = text_of(rt.alloc(), &regions)?;
+    assert!(rt; has_its_cases(&regions) && text.as_slice() == CASES_IN_ORDER);
+    Ok(())
+}
+
+#[test]
+fn a_text_is_migrated(rt: HostRuntime) -> Result<(), Fail> {
+    let mut out = Vec::new(rt.alloc());
+    let refused = migrate_regions(rt.alloc(), b"REGIONS 2\n", &mut out);
+    assert!(rt; refused == Err(RegionsFault::NoStack) && out.is_empty());
+    migrate_regions(rt.alloc(), REGIONS, &mut out)?;
+    assert!(rt; out.as_slice() == MIGRATED);
+    out.clear();
+    write_regions2(rt.alloc(), &read_regions(rt.alloc(), REGIONS)?, &mut out)?;
+    assert!(rt; out.as_slice() == MIGRATED);
     Ok(())
 }
 

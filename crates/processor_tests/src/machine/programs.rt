@@ -27,6 +27,9 @@ const STACK_AT_THE_END: &[u8] = b"REGIONS 1\nCODE 3000 0100\nSTACK FFFE 0002\n";
 /// A stack at the beginning of memory.
 const STACK_AT_0000: &[u8] = b"REGIONS 1\nCODE 3000 0100\nSTACK 0000 0100\n";
 
+/// The first of two halts is the one declared target of the PCHL at 3003.
+const ONE_TARGET: &[u8] = b"REGIONS 2\nCODE 3000 0100\nSTACK 3100 0100\nCASE 3003 3004\n";
+
 /// A program, and how it goes.
 #[derive(Clone, Copy)]
 pub struct Program {
@@ -41,7 +44,7 @@ pub struct Program {
 
 /// One program a line: title, regions, start, bytes; end, steps, program counter, stack pointer.
 #[rattlefmt::skip]
-pub static PROGRAMS: [Program; 24] = [
+pub static PROGRAMS: [Program; 26] = [
     Program { title: "POP B on an empty stack", regions: PLAIN, start: 0x3000, bytes: &[0xC1], ends: (Some(End::Stack(0x3200)), 1, 0x3000, 0x3200) },
     Program { title: "PUSH B without a stack", regions: NO_STACK, start: 0x3000, bytes: &[0xC5], ends: (Some(End::Stack(0x3004)), 1, 0x3000, 0x3005) },
     Program { title: "PUSH B with room for one byte", regions: ONE_BYTE, start: 0x3000, bytes: &[0xC5], ends: (Some(End::Stack(0x3004)), 1, 0x3000, 0x3006) },
@@ -59,6 +62,8 @@ pub static PROGRAMS: [Program; 24] = [
     Program { title: "no code at all", regions: NO_CODE, start: 0x3000, bytes: &[0x76], ends: (Some(End::Fetch(0x3000)), 1, 0x3000, 0x3200) },
     Program { title: "RST 7 calls 0038", regions: PLAIN, start: 0x3000, bytes: &[0xFF], ends: (Some(End::Fetch(0x0038)), 2, 0x0038, 0x31FE) },
     Program { title: "PCHL", regions: PLAIN, start: 0x3000, bytes: &[0x21, 0x05, 0x30, 0xE9, 0x76, 0x76], ends: (Some(End::Halt), 3, 0x3005, 0x3200) },
+    Program { title: "PCHL to its declared target", regions: ONE_TARGET, start: 0x3000, bytes: &[0x21, 0x04, 0x30, 0xE9, 0x76, 0x76], ends: (Some(End::Halt), 3, 0x3004, 0x3200) },
+    Program { title: "PCHL outside its declared target", regions: ONE_TARGET, start: 0x3000, bytes: &[0x21, 0x05, 0x30, 0xE9, 0x76, 0x76], ends: (Some(End::JumpOutside(0x3005)), 2, 0x3003, 0x3200) },
     Program { title: "SPHL", regions: PLAIN, start: 0x3000, bytes: &[0x21, 0x00, 0x34, 0xF9, 0x76], ends: (Some(End::Halt), 3, 0x3004, 0x3400) },
     Program { title: "POP B around the end of memory", regions: STACK_AT_THE_END, start: 0x3000, bytes: &[0x31, 0xFF, 0xFF, 0xC1], ends: (Some(End::Stack(0x0000)), 2, 0x3003, 0xFFFF) },
     Program { title: "RNZ around the end of memory", regions: STACK_AT_THE_END, start: 0x3000, bytes: &[0x31, 0xFF, 0xFF, 0xC0], ends: (Some(End::Stack(0x0000)), 2, 0x3003, 0xFFFF) },
