@@ -1,7 +1,8 @@
 //! Worked texts, and each call once where it answers. Texts and files that are refused are rows of the program's tests.
 
 use image80::{
-    Image, RegionMap, Regions, RegionsFault, migrate_regions, read_regions, write_regions, write_regions2,
+    Image, RegionMap, Regions, RegionsFault, migrate_regions, read_regions, write_regions,
+    write_regions2,
 };
 use place80::{read_image, write_image};
 use std::alloc::{AllocError, Global};

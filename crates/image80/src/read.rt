@@ -68,7 +68,8 @@ fn after_heading(text: &[u8]) -> Result<(Version, &[u8]), RegionsFault>
 fn read_entries(alloc: Global, version: Version, lines: &[u8]) -> Result<Vec<Entry>, RegionsFault>
     ensures good { IfOk result (λ entries. (text : List ℕ) → parts text ≡ heading version ∷ parts lines.now →
         GoodText version text entries.items) }
-    ensures refused { IfErr result (λ fault. (text : List ℕ) → parts text ≡ heading version ∷ parts lines.now → Refuses text fault) }
+    ensures refused { IfErr result (λ fault. (text : List ℕ) → parts text ≡ heading version ∷ parts lines.now →
+        Refuses text fault) }
 {
     let mut entries = Vec::new(alloc);
     put_entries(alloc, version, lines, &mut entries)?;
@@ -85,7 +86,8 @@ fn put_entries(
     requires { entries.old.items ≡ [] }
     ensures good { OnOk result ((text : List ℕ) → parts text ≡ heading version ∷ parts lines.now →
         GoodText version text entries.new.items) }
-    ensures refused { IfErr result (λ fault. (text : List ℕ) → parts text ≡ heading version ∷ parts lines.now → Refuses text fault) }
+    ensures refused { IfErr result (λ fault. (text : List ℕ) → parts text ≡ heading version ∷ parts lines.now →
+        Refuses text fault) }
 {
     let mut seen = Seen::new(alloc)?;
     let mut rest = lines;
