@@ -1,4 +1,5 @@
 pub mod Completed
+pub mod FeedLemmas
 pub mod NameText
 pub mod Spelled
 pub mod SpelledNames

@@ -2,6 +2,7 @@
 //! a layer above that calls it has the law in its proof.
 
 ghost use Rattle.omf_core.specs.Laws.{OneRecordAtEachPlace, NoSpellingBeginsAnother, NoFaultExactlyAtRecords, RecordsStay, FaultsStay, TruncatedCanBeCompleted, WrittenIsSpelled, SpelledIsWritten, OneListBeginsTheOther, OneListAtEachStretch, ListsJoin, ListGrows, ListsStay, WrittenListIsSpelled, OneNameAtEachPlace, NamesExactlyWhereHeld, WrittenNameIsSpelled};
+ghost use Rattle.omf_core.specs.FeedLaws.{OneRecordFault, LastingFaultsLast, CountedHaveNone};
 
 /// At a place no two records are spelled.
 #[tactic(auto, using(crate::proofs::Spelled::one_record))]
@@ -102,4 +103,20 @@ pub fn names_exactly_where_held()
 #[tactic(auto, using(crate::proofs::SpelledNames::written_name_is_spelled))]
 pub fn written_name_is_spelled()
     ensures { WrittenNameIsSpelled }
+{}
+
+/// Bytes have one first fault at most.
+pub fn one_record_fault()
+    ensures { OneRecordFault }
+{}
+
+/// A fault that lasts of some bytes lasts of those and any others.
+#[tactic(auto, using(crate::proofs::FeedLemmas::lasting_faults_last))]
+pub fn lasting_faults_last()
+    ensures { LastingFaultsLast }
+{}
+
+/// Where whole records are counted, no fault lasts.
+pub fn counted_have_none()
+    ensures { CountedHaveNone }
 {}

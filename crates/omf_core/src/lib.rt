@@ -4,12 +4,14 @@
 //!   that both use;
 //! - [`RecordKind`] names the kinds of the standard;
 //! - [`split_name`] reads a name out of a record's body, and a [`Name`] is a name that is kept;
-//! - [`RecordFault`], [`PutFault`] and [`NameFault`] are the refusals, each with its `code`;
+//! - a [`Feed`] counts the records of a file that comes in pieces;
+//! - [`RecordFault`], [`PutFault`], [`NameFault`] and [`FeedFault`] are the refusals, each with its `code`;
 //! - [`laws`] says what holds of all spellings, as that none begins another.
 
 #![tactic(auto)]
 
 mod fault;
+mod feed;
 mod kind;
 pub mod laws;
 mod name;
@@ -18,7 +20,8 @@ mod record;
 mod split;
 mod sum;
 
-pub use fault::{NameFault, PutFault, RecordFault};
+pub use fault::{FeedFault, NameFault, PutFault, RecordFault};
+pub use feed::Feed;
 pub use kind::RecordKind;
 pub use name::Name;
 pub use put::put_record;
