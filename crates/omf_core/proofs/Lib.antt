@@ -5,3 +5,4 @@ pub mod Spelled
 pub mod SpelledNames
 pub mod SpelledRecords
 pub mod SpelledWritten
+pub mod Spoilt

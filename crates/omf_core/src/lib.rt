@@ -1,6 +1,6 @@
 //! Records and names of Intel's 8080 object files (OMF-80): the lowest layer of the object-file side.
 //!
-//! - [`next_record`] reads the record that begins at a place, [`put_record`] appends one, and [`sum_of`] is the sum
+//! - [`next_record`] reads the record that begins at a place, [`is_cut_off`] says where one is cut off, [`put_record`] appends one, and [`sum_of`] is the sum
 //!   that both use;
 //! - [`RecordKind`] names the kinds of the standard;
 //! - [`split_name`] reads a name out of a record's body, and a [`Name`] is a name that is kept;
@@ -25,6 +25,6 @@ pub use feed::Feed;
 pub use kind::RecordKind;
 pub use name::Name;
 pub use put::put_record;
-pub use record::{Record, next_record};
+pub use record::{Record, is_cut_off, next_record};
 pub use split::split_name;
 pub use sum::sum_of;
