@@ -1,12 +1,14 @@
 -- What stays of a module whatever bytes follow.
-use Rattle.std.proofs.Common.{◌≡◌, ◌≢◌, ◌⊎◌, inl, inr, ℕ, ◌<◌, ◌≤◌, Bool, true, false, if◌then◌else◌, Option, Some, None, List, [], ◌∷◌, ◌++◌, length, drop, refl, sym, ap, subst, ◌∙◌, arith, true≢false, IsTrue}
+use Rattle.std.proofs.Common.{◌≡◌, ◌≢◌, ◌⊎◌, inl, inr, ℕ, ◌<◌, ◌≤◌, Bool, true, false, if◌then◌else◌, Option, Some, None, List, [], ◌∷◌, ◌++◌, length, drop, refl, sym, ap, subst, ◌∙◌, arith}
 use Rattle.std.specs.List.{All}
-use Rattle.std.proofs.lemmas.List.{drop_all, drop-append-le, length-append}
+use Rattle.std.proofs.lemmas.Bool.{cases_lt}
+use Rattle.std.proofs.lemmas.List.{append-nil, drop_all, drop-append-le, length-append}
+use Rattle.std.proofs.lemmas.List.Elements.{All-nil}
 use Rattle.omf_core.specs.declared.fault.RecordFault.{RecordFault}
 use Rattle.omf_core.specs.declared.fault.RecordFault.TheVariants.{Truncated, BadSum, ZeroLength}
 use Rattle.omf_core.specs.Fault.{is_truncation}
-use Rattle.omf_core.specs.Record.{SpellsRecord, fault_at, is_truncated, has_zero_length, has_zero_sum}
-use Rattle.omf_core.specs.Laws.{RecordsStay, OtherFaultsStay}
+use Rattle.omf_core.specs.Record.{fault_at, is_truncated, has_zero_length, has_zero_sum}
+use Rattle.omf_core.specs.Laws.{RecordsStay, OtherFaultsStay, TruncatedCanBeSpoilt}
 use Rattle.omf_body.specs.declared.body.Body.{Body}
 use Rattle.omf_body.specs.declared.body.EndBody.{EndBody}
 use Rattle.omf_body.specs.declared.body.HeaderBody.{HeaderBody}
@@ -14,17 +16,17 @@ use Rattle.omf_body.specs.declared.body.Body.TheVariants.{ModuleHeader, ModuleEn
 use Rattle.omf_parts.specs.Modules.{made_of}
 use Rattle.omf_parts.specs.declared.symbols.Common.{Common}
 use Rattle.omf_module.specs.declared.fault.Cause.{Cause}
-use Rattle.omf_module.specs.declared.fault.Cause.TheVariants.{Memory}
+use Rattle.omf_module.specs.declared.fault.Cause.TheVariants.{Memory, NoHeader, NoEnd, Record}
 use Rattle.omf_module.specs.declared.fault.ModuleFault.{ModuleFault}
 use Rattle.omf_module.specs.declared.records.PlacedBody.{PlacedBody}
 use Rattle.omf_module.specs.Fault.{fault_of}
 use Rattle.omf_module.specs.Gathered.{parts_of}
-use Rattle.omf_module.specs.Records.{SpellsBody, SpellsBodies, commons_of, ModuleRecords, SpellsModuleRecords}
+use Rattle.omf_module.specs.Records.{SpellsBody, SpellsBodies, ModuleRecords, SpellsModuleRecords}
 use Rattle.omf_module.specs.Uses.{fault_by, use_fault}
-use Rattle.omf_module.specs.Spelled.{FaultsHeader, no_header_byte, no_header_record, other_kind, in_header_body, FaultsWithin, no_byte, no_record, file_ends, second_header, in_body, in_commons, FaultsRecords, FaultsModule, in_header, in_records, in_uses}
+use Rattle.omf_module.specs.Spelled.{FaultsHeader, no_header_byte, no_header_record, other_kind, in_header_body, FaultsWithin, no_byte, no_record, file_ends, second_header, in_body, in_commons, FaultsModule, in_header, in_records, in_uses}
 use Rattle.omf_module.specs.Reading.{Follows, is_end, OrNoMemory}
 use Rattle.omf_module.specs.ReadingLaws.{OneFault, NeverBoth}
-use Rattle.omf_module.specs.Pieces.{LastingModuleFault, BegunModule, WholeModule, IsCutOff, ReadsModule}
+use Rattle.omf_module.specs.Pieces.{LastingModuleFault, BegunModule, WholeModule, IsCutOff, ReadsModule, WaitsModule}
 use Rattle.omf_module.proofs.WithinLemmas.{WithinSoFar, one_within, by_cause}
 
 -- what stays of records
@@ -173,3 +175,70 @@ is_begun bytes begin here commons (inr b) other = b
 pub none_declared : (bytes : List ℕ) (begin here : ℕ) (commons : List Common) → ReadsModule bytes begin here commons → here ≡ begin → commons ≡ []
 none_declared bytes begin here commons (inl n) same = n.1
 none_declared bytes begin here commons (inr b) same = absurd (omega (arith, same, begun_further bytes begin here commons b))
+
+-- ---- where a module waits for bytes, no fault lasts
+
+abbrev Spoilt : List ℕ → ℕ → Type 0
+Spoilt bytes at = (more : List ℕ) × All (λ byte. byte < 256) more × (at < length (bytes ++ more)) × (fault_at (drop at (bytes ++ more)) at ≡ Some (BadSum at))
+
+inside_where_spoilt : (bytes : List ℕ) (at : ℕ) → fault_at (drop at bytes) at ≡ Some (BadSum at) → (at < length bytes) ⊎ (length bytes ≤ at) → at < length bytes
+inside_where_spoilt bytes at x (inl within) = within
+inside_where_spoilt bytes at x (inr past) = let cut = past_is_cut_off bytes at past in absurd cc
+
+spoil : TruncatedCanBeSpoilt → (bytes : List ℕ) (at : ℕ) → at ≤ length bytes → IsCutOff bytes at → Spoilt bytes at
+spoil law bytes at inside cut =
+    let more = law (drop at bytes) at cut in
+    let there : fault_at (drop at (bytes ++ more.0)) at ≡ Some (BadSum at) = ap (λ (r : List ℕ). fault_at r at) (drop-append-le at bytes more.0 inside) ∙ more.2 in
+    (more.0, more.1, inside_where_spoilt (bytes ++ more.0) at there (cases_lt at (length (bytes ++ more.0))), there)
+
+header_waits : (bytes : List ℕ) (begin : ℕ) → IsCutOff bytes begin → (begin < length bytes) ⊎ (length bytes ≤ begin)
+    → (why : Cause) × FaultsHeader bytes begin why × (why ≡ Record (BadSum begin) → ⊥)
+header_waits bytes begin cut (inl within) = (Record (Truncated begin), no_header_record (Truncated begin) within cut, λ e. cc)
+header_waits bytes begin cut (inr past) = (NoHeader, no_header_byte past, λ e. cc)
+
+within_waits : (bytes : List ℕ) (here : ℕ) (commons : List Common) → IsCutOff bytes here → (here < length bytes) ⊎ (length bytes ≤ here)
+    → (why : Cause) × FaultsWithin bytes here commons why × (why ≡ Record (BadSum here) → ⊥)
+within_waits bytes here commons cut (inl within) = (Record (Truncated here), no_record (Truncated here) within cut, λ e. cc)
+within_waits bytes here commons cut (inr past) = (NoEnd, no_byte past, λ e. cc)
+
+-- the fault of a record after the beginning of a module
+begun_faults : (bytes : List ℕ) (begin here : ℕ) (commons : List Common) (why : Cause) → BegunModule bytes begin here commons → FaultsWithin bytes here commons why → FaultsModule bytes begin (fault_by here why)
+begun_faults bytes begin here commons why b x =
+    in_records b.first b.header (fault_by here why) b.begins
+    (record {
+      here = here;
+      before = b.bodies;
+      why = why;
+      spelled = b.spelled;
+      follow = b.follow;
+      faults = subst (λ (c : List Common). FaultsWithin bytes here c why) b.declared x;
+      is = refl;
+    })
+
+bodies_inside : (bytes : List ℕ) (from to : ℕ) (ps : List PlacedBody) → from ≤ length bytes → SpellsBodies bytes from to ps → to ≤ length bytes
+bodies_inside bytes from to [] inside s = omega (arith, s)
+bodies_inside bytes from to (p ∷ ps) inside s = bodies_inside bytes s.1.0 to ps (omega (arith, s.1.1.framed.within)) s.1.2
+
+without_more : (bytes : List ℕ) (begin : ℕ) (f : ModuleFault) → LastingModuleFault bytes begin f → FaultsModule bytes begin f
+without_more bytes begin f lasts = subst (λ (b : List ℕ). FaultsModule b begin f) (append-nil bytes) (lasts [] (All-nil (λ byte. byte < 256)))
+
+-- a fault that is another one where more bytes follow doesn't last
+changes : OneFault → (bytes more : List ℕ) (begin at : ℕ) (f : ModuleFault) (why why' : Cause) → LastingModuleFault bytes begin f → All (λ byte. byte < 256) more
+    → FaultsModule bytes begin (fault_by at why) → FaultsModule (bytes ++ more) begin (fault_by at why') → (why ≡ why' → ⊥) → ⊥
+changes one bytes more begin at f why why' lasts small x y other =
+    let now = one bytes begin f (fault_by at why) (without_more bytes begin f lasts) x in
+    let then_ = one (bytes ++ more) begin f (fault_by at why') (lasts more small) y in
+    other (ap (λ (g : ModuleFault). g.cause) (sym now ∙ then_))
+
+pub waits_none : Stay → TruncatedCanBeSpoilt → OneFault → (bytes : List ℕ) (begin : ℕ) (f : ModuleFault) → begin ≤ length bytes → WaitsModule bytes begin → LastingModuleFault bytes begin f → ⊥
+waits_none s law one bytes begin f inside (inl cut) lasts =
+    let x = header_waits bytes begin cut (cases_lt begin (length bytes)) in
+    let y = spoil law bytes begin inside cut in
+    changes one bytes y.0 begin begin f x.0 (Record (BadSum begin)) lasts y.1 (in_header x.0 x.1) (in_header (Record (BadSum begin)) (no_header_record (BadSum begin) y.2 y.3)) x.2
+waits_none s law one bytes begin f inside (inr w) lasts =
+    let x = within_waits bytes w.here w.commons w.cut_off (cases_lt w.here (length bytes)) in
+    let y = spoil law bytes w.here (bodies_inside bytes w.begun.first w.here w.begun.bodies w.begun.begins.framed.within w.begun.spelled) w.cut_off in
+    let more_of = begun_stays s bytes y.0 begin w.here w.commons w.begun in
+    changes one bytes y.0 begin w.here f x.0 (Record (BadSum w.here)) lasts y.1
+    (begun_faults bytes begin w.here w.commons x.0 w.begun x.1)
+    (begun_faults (bytes ++ y.0) begin w.here w.commons (Record (BadSum w.here)) more_of (no_record (BadSum w.here) y.2 y.3)) x.2

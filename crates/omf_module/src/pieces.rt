@@ -1,6 +1,7 @@
 //! A module whose last bytes are still to come, read as far as they go.
 
 ghost use Rattle.std.specs.Prelude.{◌≡◌, ◌≤◌, ◌⊎◌, [], None, Ok, length, IfOk, IfErr, IfSome};
+ghost use Rattle.omf_module.specs.declared.fault.ModuleFault.{ModuleFault as ModuleFaultValue};
 ghost use Rattle.omf_module.specs.Spelled.{SpellsModule};
 ghost use Rattle.omf_module.specs.Reading.{OrNoMemory};
 ghost use Rattle.omf_module.specs.Pieces.{LastingModuleFault, BegunModule, WholeModule, IsCutOff, ReadsModule, WaitsModule};
@@ -11,7 +12,7 @@ use crate::reading::module_at;
 use crate::within::{header_at, next_body};
 use omf_body::Body;
 use omf_core::is_cut_off;
-use omf_core::laws::{other_faults_stay, records_stay};
+use omf_core::laws::{other_faults_stay, records_stay, truncated_can_be_spoilt};
 use omf_parts::{Common, Module};
 use std::alloc::Global;
 
@@ -92,15 +93,20 @@ pub(crate) fn next_module(
     bytes: &[u8],
     unfinished: &mut Unfinished,
 ) -> Result<Option<(Module, usize)>, ModuleFault>
-    requires { ReadsModule bytes.now unfinished.old.begin unfinished.old.here unfinished.old.commons.items }
+    requires reads { ReadsModule bytes.now unfinished.old.begin unfinished.old.here unfinished.old.commons.items }
+    requires inside { unfinished.old.begin ≤ length bytes.now }
     ensures module { IfOk result (λ next. IfSome next (λ r. SpellsModule bytes.now unfinished.old.begin r.1 r.0)) }
     ensures begin { unfinished.new.begin ≡ unfinished.old.begin }
     ensures reads { result ≡ Ok None → ReadsModule bytes.now unfinished.old.begin unfinished.new.here unfinished.new.commons.items }
     ensures waits { result ≡ Ok None → WaitsModule bytes.now unfinished.old.begin }
+
+    // A fault lasts whatever bytes follow; where more bytes are needed, none does.
     ensures fault { IfErr result (OrNoMemory (LastingModuleFault bytes.now unfinished.old.begin)) }
+    ensures none_lasts { result ≡ Ok None → (fault : ModuleFaultValue) → LastingModuleFault bytes.now unfinished.old.begin fault → ⊥ }
 {
     records_stay();
     other_faults_stay();
+    truncated_can_be_spoilt();
     one_reading();
     let begin = unfinished.begin;
     let Some(from) = unchecked_from(bytes, unfinished)? else {

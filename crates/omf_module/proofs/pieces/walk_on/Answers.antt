@@ -1,4 +1,4 @@
-use Rattle.std.proofs.Common.{◌≡◌, List, sym, subst, ◌∙◌, true≢false}
+use Rattle.std.proofs.Common.{sym, subst, ◌∙◌, true≢false}
 use Rattle.omf_body.specs.declared.body.Body.{Body}
 use Rattle.omf_module.specs.Records.{SpellsBody}
 use Rattle.omf_module.proofs.WithinLemmas.{other_than_end}
