@@ -1,7 +1,7 @@
 //! Records and names of Intel's 8080 object files (OMF-80): the lowest layer of the object-file side.
 //!
-//! - [`next_record`] reads the record that begins at a place, [`is_cut_off`] says where one is cut off, [`put_record`] appends one, and [`sum_of`] is the sum
-//!   that both use;
+//! - [`next_record`] reads the record that begins at a place, [`is_cut_off`] says where the bytes end before one does,
+//!   [`put_record`] appends one, and [`sum_of`] is the sum that both use;
 //! - [`RecordKind`] names the kinds of the standard;
 //! - [`split_name`] reads a name out of a record's body, and a [`Name`] is a name that is kept;
 //! - a [`Feed`] counts the records of a file that comes in pieces;
