@@ -6,6 +6,7 @@
 //! | `bodies` | `omf_body`: the bodies of records, written |
 //! | `modules` | `omf_module`: modules, made, read and written |
 //! | `libraries` | `omf_library`: libraries, read and written, and the first providers of names |
+//! | `feeds` | `omf_core`: files that come in pieces |
 //! | `faults` | the faults of all four, as they are printed |
 //! | `linking` | `link80`: modules linked into one |
 //! | `selecting` | `link80`: what is taken from libraries |
@@ -16,6 +17,8 @@
 mod bodies;
 #[cfg(test)]
 mod faults;
+#[cfg(test)]
+mod feeds;
 #[cfg(test)]
 mod libraries;
 #[cfg(test)]

@@ -17,7 +17,7 @@ no_fault_from rest at none =
     let zero = none.sum_zero in
     grind (arith, nat_tests)
 
-truncated_short : (rest : List ℕ) (at : ℕ) → fault_at rest at ≡ Some (Truncated at) → length rest < record_size rest
+pub truncated_short : (rest : List ℕ) (at : ℕ) → fault_at rest at ≡ Some (Truncated at) → length rest < record_size rest
 truncated_short rest at fault = grind (arith, nat_tests)
 
 -- so many bytes of 0, and the checksum
@@ -59,7 +59,7 @@ completed rest more n at small three counted = (
       (no_fault_from ((rest ++ more) ++ filling (rest ++ more) n) at (filled_up (rest ++ more) n three counted)),
 )
 
-one_byte : (byte : ℕ) (more : List ℕ) → byte < 256 → All (λ byte. byte < 256) more → All (λ byte. byte < 256) (byte ∷ more)
+pub one_byte : (byte : ℕ) (more : List ℕ) → byte < 256 → All (λ byte. byte < 256) more → All (λ byte. byte < 256) (byte ∷ more)
 one_byte byte more small others = All-cons (λ byte. byte < 256) byte more small others
 
 pub truncated_can_be_completed : TruncatedCanBeCompleted

@@ -14,7 +14,7 @@ same_value r s kinds bodies =
     ap (λ kind. value_of kind r.body) kinds ∙ ap (λ body. value_of s.kind body) bodies
 
 -- the first records of two lists that are spelled from one place on
-same_first : (bytes : List ℕ) (from : ℕ) (r s : RecordValue)
+pub same_first : (bytes : List ℕ) (from : ℕ) (r s : RecordValue)
     → SpellsRecord bytes from (from + 4 + length r.body) r.kind r.body
     → SpellsRecord bytes from (from + 4 + length s.body) s.kind s.body
     → r ≡ s

@@ -1,4 +1,6 @@
 pub mod Fault
+pub mod Feed
+pub mod FeedLaws
 pub mod Kind
 pub mod Laws
 pub mod Name

@@ -1,7 +1,7 @@
 //! The refusals of this crate. Each prints as its name, then its values with one space before each.
 
 ghost use Rattle.std.specs.Prelude.{◌≡◌};
-ghost use Rattle.omf_core.specs.Fault.{record_fault_code, put_fault_code, name_fault_code};
+ghost use Rattle.omf_core.specs.Fault.{record_fault_code, is_truncation, put_fault_code, name_fault_code, feed_fault_code};
 
 use thiserror::Error;
 
@@ -28,6 +28,16 @@ impl RecordFault {
             RecordFault::Truncated(_) => 1,
             RecordFault::BadSum(_) => 2,
             RecordFault::ZeroLength(_) => 3,
+        }
+    }
+
+    /// Whether the bytes end before the record does, so that more bytes may complete it.
+    pub fn is_truncated(&self) -> bool
+        ensures { result ≡ is_truncation self.now }
+    {
+        match self {
+            RecordFault::Truncated(_) => true,
+            RecordFault::BadSum(_) | RecordFault::ZeroLength(_) => false,
         }
     }
 }
@@ -74,6 +84,29 @@ impl NameFault {
         match self {
             NameFault::BadName => 1,
             NameFault::Memory => 2,
+        }
+    }
+}
+
+/// Why a piece of a file isn't taken.
+#[derive(Clone, Copy, PartialEq, Eq, Debug, Error)]
+pub enum FeedFault {
+    /// The records of the file have this fault, whatever bytes follow.
+    #[error("{0}")]
+    Record(RecordFault),
+    /// There is no memory for the piece.
+    #[error("Memory")]
+    Memory,
+}
+
+impl FeedFault {
+    /// The fault's number: 1 `Record`, 2 `Memory`.
+    pub fn code(&self) -> u8
+        ensures { result ≡ feed_fault_code self.now }
+    {
+        match self {
+            FeedFault::Record(_) => 1,
+            FeedFault::Memory => 2,
         }
     }
 }

@@ -1,7 +1,8 @@
 //! What holds of all spellings, whatever calls are made. Each law is ensured by a function that does nothing:
 //! a layer above that calls it has the law in its proof.
 
-ghost use Rattle.omf_core.specs.Laws.{OneRecordAtEachPlace, NoSpellingBeginsAnother, NoFaultExactlyAtRecords, RecordsStay, FaultsStay, TruncatedCanBeCompleted, WrittenIsSpelled, SpelledIsWritten, OneListBeginsTheOther, OneListAtEachStretch, ListsJoin, ListGrows, ListsStay, WrittenListIsSpelled, OneNameAtEachPlace, NamesExactlyWhereHeld, WrittenNameIsSpelled};
+ghost use Rattle.omf_core.specs.Laws.{OneRecordAtEachPlace, NoSpellingBeginsAnother, NoFaultExactlyAtRecords, RecordsStay, FaultsStay, TruncatedCanBeCompleted, OtherFaultsStay, TruncatedCanBeSpoilt, WrittenIsSpelled, SpelledIsWritten, OneListBeginsTheOther, OneListAtEachStretch, ListsJoin, ListGrows, ListsStay, WrittenListIsSpelled, OneNameAtEachPlace, NamesExactlyWhereHeld, WrittenNameIsSpelled};
+ghost use Rattle.omf_core.specs.FeedLaws.{OneRecordFault, LastingFaultsLast, CountedHaveNone};
 
 /// At a place no two records are spelled.
 #[tactic(auto, using(crate::proofs::Spelled::one_record))]
@@ -37,6 +38,16 @@ pub fn faults_stay()
 #[tactic(auto, using(crate::proofs::Completed::truncated_can_be_completed))]
 pub fn truncated_can_be_completed()
     ensures { TruncatedCanBeCompleted }
+{}
+
+/// A fault of a record that isn't cut off is reported whatever bytes follow.
+pub fn other_faults_stay()
+    ensures { OtherFaultsStay }
+{}
+
+/// A record that is cut off can be spoilt: some bytes that follow give it a wrong sum.
+pub fn truncated_can_be_spoilt()
+    ensures { TruncatedCanBeSpoilt }
 {}
 
 /// What is written for a record spells it, wherever it stands.
@@ -102,4 +113,20 @@ pub fn names_exactly_where_held()
 #[tactic(auto, using(crate::proofs::SpelledNames::written_name_is_spelled))]
 pub fn written_name_is_spelled()
     ensures { WrittenNameIsSpelled }
+{}
+
+/// Bytes have one first fault at most.
+pub fn one_record_fault()
+    ensures { OneRecordFault }
+{}
+
+/// A fault that lasts of some bytes lasts of those and any others.
+#[tactic(auto, using(crate::proofs::FeedLemmas::lasting_faults_last))]
+pub fn lasting_faults_last()
+    ensures { LastingFaultsLast }
+{}
+
+/// Where whole records are counted, no fault lasts.
+pub fn counted_have_none()
+    ensures { CountedHaveNone }
 {}

@@ -1,15 +1,17 @@
 //! Records and names of Intel's 8080 object files (OMF-80): the lowest layer of the object-file side.
 //!
-//! - [`next_record`] reads the record that begins at a place, [`put_record`] appends one, and [`sum_of`] is the sum
-//!   that both use;
+//! - [`next_record`] reads the record that begins at a place, [`is_cut_off`] says where the bytes end before one does,
+//!   [`put_record`] appends one, and [`sum_of`] is the sum that both use;
 //! - [`RecordKind`] names the kinds of the standard;
 //! - [`split_name`] reads a name out of a record's body, and a [`Name`] is a name that is kept;
-//! - [`RecordFault`], [`PutFault`] and [`NameFault`] are the refusals, each with its `code`;
+//! - a [`Feed`] counts the records of a file that comes in pieces;
+//! - [`RecordFault`], [`PutFault`], [`NameFault`] and [`FeedFault`] are the refusals, each with its `code`;
 //! - [`laws`] says what holds of all spellings, as that none begins another.
 
 #![tactic(auto)]
 
 mod fault;
+mod feed;
 mod kind;
 pub mod laws;
 mod name;
@@ -18,10 +20,11 @@ mod record;
 mod split;
 mod sum;
 
-pub use fault::{NameFault, PutFault, RecordFault};
+pub use fault::{FeedFault, NameFault, PutFault, RecordFault};
+pub use feed::Feed;
 pub use kind::RecordKind;
 pub use name::Name;
 pub use put::put_record;
-pub use record::{Record, next_record};
+pub use record::{Record, is_cut_off, next_record};
 pub use split::split_name;
 pub use sum::sum_of;

@@ -1,6 +1,6 @@
-ghost use Rattle.std.specs.Prelude.{◌≡◌, ◌+◌, ◌<◌, ◌≤◌, ℕ, List, length, drop, IfOk, IsOk};
+ghost use Rattle.std.specs.Prelude.{◌≡◌, ◌↔◌, ◌+◌, ◌<◌, ◌≤◌, ℕ, List, length, drop, Some, IfOk, IsOk, IsTrue};
 ghost use Rattle.std.specs.Result.{result_err};
-ghost use Rattle.omf_core.specs.Record.{SpellsRecord, fault_at, head_kind, head_body, record_size, word_at};
+ghost use Rattle.omf_core.specs.Record.{SpellsRecord, fault_at, head_kind, head_body, record_size, word_at, is_truncated};
 
 use crate::{RecordFault, sum_of};
 
@@ -72,4 +72,25 @@ fn counted_by(rest: &[u8], at: usize) -> Result<usize, RecordFault>
         return Err(RecordFault::BadSum(at));
     }
     Ok(counted)
+}
+
+/// Whether the bytes end before the record that begins at place `at` does: where [`next_record`] answers `Truncated`. No sum is
+/// made, and it takes no memory.
+pub fn is_cut_off(bytes: &[u8], at: usize) -> bool
+    ensures { IsTrue result ↔ (fault_at (drop at bytes.now) at ≡ Some (RecordFault.Truncated at)) }
+{
+    match bytes.get(at..) {
+        Some(rest) => holds_no_record(rest),
+        None => true,
+    }
+}
+
+/// Whether the bytes end before the record does that begins them.
+fn holds_no_record(rest: &[u8]) -> bool
+    ensures { result ≡ is_truncated rest.now }
+{
+    if rest.len() < 3 {
+        return true;
+    }
+    rest.len() - 3 < rest[1] as usize + 256 * rest[2] as usize
 }

@@ -19,3 +19,4 @@ pub mod WrittenSound
 pub mod WrittenSays
 pub mod WritingLemmas
 pub mod WrittenModule
+pub mod StayLemmas

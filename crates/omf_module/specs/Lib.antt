@@ -5,6 +5,7 @@ pub mod Uses
 pub mod Spelled
 pub mod Reading
 pub mod ReadingLaws
+pub mod Pieces
 pub mod UseLaws
 pub mod Writing
 pub mod WritingLaws

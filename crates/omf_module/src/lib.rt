@@ -19,6 +19,7 @@ mod fault;
 mod gathering;
 pub mod laws;
 mod open;
+mod pieces;
 mod reading;
 mod records;
 mod uses;

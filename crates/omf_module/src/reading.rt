@@ -99,7 +99,11 @@ fn parts_of(alloc: Global, file: &ModuleFile, commons: Vec<Common>) -> Result<Pa
     Ok(parts)
 }
 
-fn module_at(alloc: Global, bytes: &[u8], at: usize) -> Result<(Module, usize), ModuleFault>
+pub(crate) fn module_at(
+    alloc: Global,
+    bytes: &[u8],
+    at: usize,
+) -> Result<(Module, usize), ModuleFault>
     ensures read { IfOk result (λ r. SpellsModule bytes.now at r.1 r.0) }
     ensures fault { IfErr result (OrNoMemory (FaultsModule bytes.now at)) }
 {

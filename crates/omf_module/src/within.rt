@@ -36,7 +36,7 @@ pub(crate) fn header_at<'a>(bytes: &'a [u8], at: usize) -> Result<(HeaderBody<'a
 }
 
 /// The body of the record at a place after a header and records that declare these commons, and the place after it.
-fn next_body<'a>(
+pub(crate) fn next_body<'a>(
     alloc: Global,
     bytes: &'a [u8],
     at: usize,

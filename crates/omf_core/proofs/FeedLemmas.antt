@@ -1,0 +1,234 @@
+-- The first fault of the records that bytes hold, and what stays of it whatever bytes follow.
+use Rattle.std.proofs.Common.{◌≡◌, ◌≢◌, ℕ, ◌+◌, ◌<◌, ◌≤◌, ◌==◌, ◌&&◌, ◌↔◌, not, Bool, true, false, if◌then◌else◌, List, [], ◌∷◌, ◌++◌, length, drop, None, Some, IsTrue, refl, sym, subst, ap, ◌∙◌, arith, append_assoc, true≢false, get_or, Fits, w8}
+use Rattle.std.specs.List.{All, list_all}
+use Rattle.std.proofs.lemmas.Bool.{and_parts, eqb-true}
+use Rattle.std.proofs.lemmas.List.{append-nil, drop-append-le, get_or_default, length-append}
+use Rattle.std.proofs.lemmas.List.Elements.{All-append, All-drop, All-nil}
+use Rattle.std.proofs.lemmas.List.Folds.{list_all-append}
+use Rattle.omf_core.specs.declared.fault.RecordFault.{RecordFault}
+use Rattle.omf_core.specs.declared.fault.RecordFault.TheVariants.{Truncated, BadSum, ZeroLength}
+use Rattle.omf_core.specs.Fault.{is_truncation}
+use Rattle.omf_core.specs.Record.{SpellsRecord, fault_at, is_truncated, has_zero_length, has_zero_sum}
+use Rattle.omf_core.specs.Records.{RecordValue, SpellsRecords}
+use Rattle.omf_core.specs.Feed.{goes_on, OpenRecords, OpenCount, EndedCount, ended, cut_off, FirstRecordFault, LastingRecordFault, ReadsUpTo}
+use Rattle.omf_core.specs.FeedLaws.{OneRecordFault, LastingFaultsLast, CountedHaveNone}
+use Rattle.omf_core.proofs.Spelled.{no_fault_at_record, faults_stay, one_record, records_stay}
+use Rattle.omf_core.proofs.SpelledRecords.{list_grows, lists_stay, same_first}
+use Rattle.omf_core.proofs.Completed.{truncated_can_be_completed}
+
+no_record : (bytes : List ℕ) (at : ℕ) (f : RecordFault) → fault_at (drop at bytes) at ≡ Some f → (to kind : ℕ) (body : List ℕ) → SpellsRecord bytes at to kind body → ⊥
+no_record bytes at f fault to kind body s =
+    let none = no_fault_at_record bytes at to kind body s in
+    cc
+
+-- the place where records end, as the place where they begin
+moved : (bytes : List ℕ) (a b : ℕ) (f : RecordFault) → a ≡ b → fault_at (drop b bytes) b ≡ Some f → fault_at (drop a bytes) a ≡ Some f
+moved bytes a b f same fault = subst (λ (p : ℕ). fault_at (drop p bytes) p ≡ Some f) (sym same) fault
+
+one_stop : (bytes : List ℕ) (from to to' : ℕ) (records records' : List RecordValue) (f g : RecordFault)
+    → SpellsRecords bytes from to records → SpellsRecords bytes from to' records'
+    → fault_at (drop to bytes) to ≡ Some f → fault_at (drop to' bytes) to' ≡ Some g → f ≡ g
+one_stop bytes from to to' [] [] f g a b x y =
+    let here = moved bytes from to f a x in
+    let there = moved bytes from to' g b y in
+    cc
+one_stop bytes from to to' [] (s ∷ ss) f g a b x y = absurd (no_record bytes from f (moved bytes from to f a x) (from + 4 + length s.body) s.kind s.body b.0)
+one_stop bytes from to to' (r ∷ rs) [] f g a b x y = absurd (no_record bytes from g (moved bytes from to' g b y) (from + 4 + length r.body) r.kind r.body a.0)
+one_stop bytes from to to' (r ∷ rs) (s ∷ ss) f g a b x y =
+    let first : r ≡ s = same_first bytes from r s a.0 b.0 in
+    let rest : SpellsRecords bytes (from + 4 + length r.body) to' ss =
+    subst (λ (v : RecordValue). SpellsRecords bytes (from + 4 + length v.body) to' ss) (sym first) b.1 in
+    one_stop bytes (from + 4 + length r.body) to to' rs ss f g a.1 rest x y
+
+pub one_record_fault : OneRecordFault
+one_record_fault bytes f g x y = one_stop bytes 0 x.at y.at x.records y.records f g x.before.spelled y.before.spelled x.faults y.faults
+
+pub lasting_faults_last : LastingFaultsLast
+lasting_faults_last bytes more fault small lasts others small' =
+    subst (λ (b : List ℕ). FirstRecordFault b fault) (sym (append_assoc bytes more others))
+    (lasts (more ++ others) (All-append (λ byte. byte < 256) more others small small'))
+
+ends_no_file : (r : RecordValue) (rs : List RecordValue) → r.kind ≡ 14 → IsTrue (list_all goes_on (r ∷ rs)) → ⊥
+ends_no_file r rs is going = impossible (r.kind == 14) (list_all goes_on rs) (eq-true r.kind is) going
+  where
+    eq-true : (k : ℕ) → k ≡ 14 → (k == 14) ≡ true
+    eq-true k e = subst (λ (n : ℕ). (n == 14) ≡ true) (sym e) refl
+
+    impossible : (b rest : Bool) → b ≡ true → IsTrue (not b && rest) → ⊥
+    impossible true rest e going = cc
+    impossible false rest e going = cc
+
+-- Where a record ends the file, none of those before has a fault.
+none_before_end : (bytes : List ℕ) (from at to at' : ℕ) (records records' : List RecordValue) (body : List ℕ) (f : RecordFault)
+    → SpellsRecords bytes from at records → SpellsRecord bytes at to 14 body
+    → SpellsRecords bytes from at' records' → IsTrue (list_all goes_on records') → fault_at (drop at' bytes) at' ≡ Some f → ⊥
+none_before_end bytes from at to at' [] [] body f a e b going x =
+    no_record bytes at f (moved bytes at at' f (sym a ∙ b) x) to 14 body e
+none_before_end bytes from at to at' [] (s ∷ ss) body f a e b going x =
+    let here : SpellsRecord bytes from to 14 body = subst (λ (p : ℕ). SpellsRecord bytes p to 14 body) (sym a) e in
+    ends_no_file s ss (one_record bytes from (from + 4 + length s.body) to s.kind 14 s.body body b.0 here).0 going
+none_before_end bytes from at to at' (r ∷ rs) [] body f a e b going x =
+    no_record bytes from f (moved bytes from at' f b x) (from + 4 + length r.body) r.kind r.body a.0
+none_before_end bytes from at to at' (r ∷ rs) (s ∷ ss) body f a e b going x =
+    let first : r ≡ s = same_first bytes from r s a.0 b.0 in
+    let rest : SpellsRecords bytes (from + 4 + length r.body) at' ss =
+    subst (λ (v : RecordValue). SpellsRecords bytes (from + 4 + length v.body) at' ss) (sym first) b.1 in
+    none_before_end bytes (from + 4 + length r.body) at to at' rs ss body f a.1 e rest (and_parts (goes_on s) (list_all goes_on ss) going).1 x
+
+pub spelled_within : (bytes : List ℕ) (from to : ℕ) (records : List RecordValue) → from ≤ length bytes → SpellsRecords bytes from to records → to ≤ length bytes
+spelled_within bytes from to [] inside a = omega (arith, a)
+spelled_within bytes from to (r ∷ rs) inside a = spelled_within bytes (from + 4 + length r.body) to rs (omega (arith, a.0.within)) a.1
+
+pub spelled_counted : (bytes : List ℕ) (from to : ℕ) (records : List RecordValue) → SpellsRecords bytes from to records → from + length records ≤ to
+spelled_counted bytes from to [] a = omega (arith, a)
+spelled_counted bytes from to (r ∷ rs) a = omega (arith, spelled_counted bytes (from + 4 + length r.body) to rs a.1)
+
+truncated_here : (t z s : Bool) (at place : ℕ)
+    → (if t then Some (Truncated at) else (if z then Some (ZeroLength at) else (if s then None else Some (BadSum at)))) ≡ Some (Truncated place) → place ≡ at
+truncated_here true z s at place e = cc
+truncated_here false true s at place e = cc
+truncated_here false false true at place e = cc
+truncated_here false false false at place e = cc
+
+bad_sum_here : (t z s : Bool) (at place : ℕ)
+    → (if t then Some (Truncated at) else (if z then Some (ZeroLength at) else (if s then None else Some (BadSum at)))) ≡ Some (BadSum place) → place ≡ at
+bad_sum_here true z s at place e = cc
+bad_sum_here false true s at place e = cc
+bad_sum_here false false true at place e = cc
+bad_sum_here false false false at place e = cc
+
+zero_length_here : (t z s : Bool) (at place : ℕ)
+    → (if t then Some (Truncated at) else (if z then Some (ZeroLength at) else (if s then None else Some (BadSum at)))) ≡ Some (ZeroLength place) → place ≡ at
+zero_length_here true z s at place e = cc
+zero_length_here false true s at place e = cc
+zero_length_here false false true at place e = cc
+zero_length_here false false false at place e = cc
+
+-- A fault that isn't of a record cut off stays.
+pub fault_stays : (rest more : List ℕ) (at : ℕ) (f : RecordFault) → fault_at rest at ≡ Some f → f ≢ Truncated at → fault_at (rest ++ more) at ≡ Some f
+fault_stays rest more at (Truncated place) x other =
+    absurd (other (ap Truncated (truncated_here (is_truncated rest) (has_zero_length rest) (has_zero_sum rest) at place x)))
+fault_stays rest more at (BadSum place) x other =
+    let here = bad_sum_here (is_truncated rest) (has_zero_length rest) (has_zero_sum rest) at place x in
+    subst (λ (p : ℕ). fault_at (rest ++ more) at ≡ Some (BadSum p)) (sym here)
+    ((faults_stay rest more at).0 (subst (λ (p : ℕ). fault_at rest at ≡ Some (BadSum p)) here x))
+fault_stays rest more at (ZeroLength place) x other =
+    let here = zero_length_here (is_truncated rest) (has_zero_length rest) (has_zero_sum rest) at place x in
+    subst (λ (p : ℕ). fault_at (rest ++ more) at ≡ Some (ZeroLength p)) (sym here)
+    ((faults_stay rest more at).1 (subst (λ (p : ℕ). fault_at rest at ≡ Some (ZeroLength p)) here x))
+
+-- what is left from a place on, where more bytes follow
+rest_grows : (bytes more : List ℕ) (at : ℕ) (records : List RecordValue) → SpellsRecords bytes 0 at records → drop at (bytes ++ more) ≡ drop at bytes ++ more
+rest_grows bytes more at records s = drop-append-le at bytes more (spelled_within bytes 0 at records (omega arith) s)
+
+pub open_stay : (bytes more : List ℕ) (at : ℕ) (records : List RecordValue) → OpenRecords bytes at records → OpenRecords (bytes ++ more) at records
+open_stay bytes more at records o = record { spelled = lists_stay bytes more 0 at records o.spelled; going_on = o.going_on }
+
+pub lasting : (bytes : List ℕ) (at count : ℕ) (f : RecordFault) → OpenCount bytes at count → fault_at (drop at bytes) at ≡ Some f → f ≢ Truncated at → LastingRecordFault bytes f
+lasting bytes at count f o x other more small = record {
+  at = at;
+  records = o.records;
+  before = open_stay bytes more at o.records o.before;
+  faults = ap (λ (rest : List ℕ). fault_at rest at) (rest_grows bytes more at o.records o.before.spelled) ∙ fault_stays (drop at bytes) more at f x other;
+}
+
+all_dropped : (bytes : List ℕ) (at : ℕ) → All (λ byte. byte < 256) bytes → All (λ byte. byte < 256) (drop at bytes)
+all_dropped bytes at small = All-drop (λ byte. byte < 256) at bytes small
+
+without_more : (bytes : List ℕ) (f : RecordFault) → LastingRecordFault bytes f → FirstRecordFault bytes f
+without_more bytes f lasts = subst (λ (b : List ℕ). FirstRecordFault b f) (append-nil bytes) (lasts [] (All-nil (λ byte. byte < 256)))
+
+pub counted_have_none : CountedHaveNone
+counted_have_none bytes count f small (ended to e) lasts =
+    let x = without_more bytes f lasts in
+    none_before_end bytes 0 e.at to x.at e.records x.records e.body f e.before.spelled e.ends x.before.spelled x.before.going_on x.faults
+counted_have_none bytes count f small (cut_off to o cut) lasts =
+    let same : f ≡ Truncated to = one_record_fault bytes f (Truncated to) (without_more bytes f lasts) (record { at = to; records = o.records; before = o.before; faults = cut }) in
+    let whole = truncated_can_be_completed (drop to bytes) to (all_dropped bytes to small) cut in
+    let x = lasts whole.0 whole.1 in
+    let cut' : fault_at (drop x.at (bytes ++ whole.0)) x.at ≡ Some (Truncated to) = x.faults ∙ ap Some same in
+    let rest = drop x.at (bytes ++ whole.0) in
+    let here : to ≡ x.at = truncated_here (is_truncated rest) (has_zero_length rest) (has_zero_sum rest) x.at to cut' in
+    let there : fault_at (drop to (bytes ++ whole.0)) to ≡ Some (Truncated to) = moved (bytes ++ whole.0) to x.at (Truncated to) here cut' in
+    let none : fault_at (drop to (bytes ++ whole.0)) to ≡ None = ap (λ (r : List ℕ). fault_at r to) (rest_grows bytes whole.0 to o.records o.before.spelled) ∙ whole.2 in
+    cc
+
+-- ---- reading on
+
+pub reads_stay : (bytes more : List ℕ) (at count : ℕ) (ends : Bool) → ReadsUpTo bytes at count ends → ReadsUpTo (bytes ++ more) at count ends
+reads_stay bytes more at count false r = record { records = r.records; before = open_stay bytes more at r.records r.before; counted = r.counted }
+reads_stay bytes more at count true r = record {
+  at = r.at;
+  records = r.records;
+  body = r.body;
+  before = open_stay bytes more r.at r.records r.before;
+  ends = records_stay bytes more r.at at 14 r.body r.ends;
+  counted = r.counted;
+}
+
+next_by : (bytes : List ℕ) (at to count kind : ℕ) (body : List ℕ) (ends : Bool) → (kind == 14) ≡ ends
+    → OpenCount bytes at count → SpellsRecord bytes at to kind body → ReadsUpTo bytes to (count + 1) ends
+next_by bytes at to count kind body false other o s =
+    let next : RecordValue = record { kind = kind; body = body } in
+    record {
+      records = o.records ++ next ∷ [];
+      before = record {
+        spelled = list_grows bytes 0 at to o.records next o.before.spelled s;
+        going_on = list_all-append goes_on o.records (next ∷ []) ∙ both (list_all goes_on o.records) (kind == 14) o.before.going_on other;
+      };
+      counted = omega (arith, o.counted, length-append o.records (next ∷ []));
+    }
+  where
+    both : (a b : Bool) → a ≡ true → b ≡ false → (a && (not b && true)) ≡ true
+    both true false e f = refl
+    both true true e f = cc
+    both false b e f = cc
+next_by bytes at to count kind body true is o s = record {
+  at = at;
+  records = o.records;
+  body = body;
+  before = o.before;
+  ends = subst (λ (k : ℕ). SpellsRecord bytes at to k body) (eqb-true kind 14 is) s;
+  counted = omega (arith, o.counted);
+}
+
+pub reads_next : (bytes : List ℕ) (at to count kind : ℕ) (body : List ℕ) → OpenCount bytes at count → SpellsRecord bytes at to kind body → ReadsUpTo bytes to (count + 1) (kind == 14)
+reads_next bytes at to count kind body o s = next_by bytes at to count kind body (kind == 14) refl o s
+
+pub to_open : (bytes : List ℕ) (at count : ℕ) (ends : Bool) → not ends ≡ true → ReadsUpTo bytes at count ends → OpenCount bytes at count
+to_open bytes at count false is r = r
+to_open bytes at count true is r = absurd (true≢false (sym is))
+
+pub to_ended : (bytes : List ℕ) (at count : ℕ) (ends : Bool) → not ends ≡ false → ReadsUpTo bytes at count ends → EndedCount bytes at count
+to_ended bytes at count true is r = r
+to_ended bytes at count false is r = absurd (true≢false is)
+
+-- there are no more records than bytes
+pub counted_below : (bytes : List ℕ) (at count : ℕ) → OpenCount bytes at count → count ≤ at
+counted_below bytes at count o = omega (arith, o.counted, spelled_counted bytes 0 at o.records o.before.spelled)
+
+pub cut_off_here : (rest : List ℕ) (at : ℕ) (f : RecordFault) → Some f ≡ fault_at rest at → is_truncation f ≡ true → fault_at rest at ≡ Some (Truncated at)
+cut_off_here rest at (Truncated place) x is =
+    subst (λ (p : ℕ). fault_at rest at ≡ Some (Truncated p)) (truncated_here (is_truncated rest) (has_zero_length rest) (has_zero_sum rest) at place (sym x)) (sym x)
+cut_off_here rest at (BadSum place) x is = absurd (true≢false (sym is))
+cut_off_here rest at (ZeroLength place) x is = absurd (true≢false (sym is))
+
+pub no_truncation : (f : RecordFault) (at : ℕ) → is_truncation f ≡ false → f ≢ Truncated at
+no_truncation f at other is = true≢false (sym (ap is_truncation is) ∙ other)
+
+-- the bytes of a slice
+pub all_bytes : (bytes : List ℕ) → ((i : ℕ) → Fits w8 (get_or bytes i 0)) → All (λ byte. byte < 256) bytes
+all_bytes bytes fits k d within =
+    let same = get_or_default bytes k d 0 within in
+    let fit = fits k in
+    omega arith
+
+truncated_exactly : (t z s : Bool) (at : ℕ)
+    → (IsTrue t) ↔ ((if t then Some (Truncated at) else (if z then Some (ZeroLength at) else (if s then None else Some (BadSum at)))) ≡ Some (Truncated at))
+truncated_exactly true z s at = (λ e. refl, λ e. refl)
+truncated_exactly false true s at = (λ e. absurd cc, λ e. absurd cc)
+truncated_exactly false false true at = (λ e. absurd cc, λ e. absurd cc)
+truncated_exactly false false false at = (λ e. absurd cc, λ e. absurd cc)
+
+pub cut_off_exactly : (rest : List ℕ) (at : ℕ) → IsTrue (is_truncated rest) ↔ (fault_at rest at ≡ Some (Truncated at))
+cut_off_exactly rest at = truncated_exactly (is_truncated rest) (has_zero_length rest) (has_zero_sum rest) at

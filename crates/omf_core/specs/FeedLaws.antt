@@ -1,0 +1,25 @@
+-- What holds of faults that stay whatever bytes follow. (It follows from the layout of records.)
+use Rattle.std.specs.Prelude.{◌≡◌, ℕ, ◌<◌, List, ◌++◌, All}
+use Rattle.omf_core.specs.declared.fault.RecordFault.{RecordFault}
+use Rattle.omf_core.specs.Feed.{CountsRecords, FirstRecordFault, LastingRecordFault}
+
+-- Bytes have one first fault at most.
+abbrev pub OneRecordFault : Type 0
+OneRecordFault = (bytes : List ℕ) (f f' : RecordFault) → FirstRecordFault bytes f → FirstRecordFault bytes f' → f ≡ f'
+
+-- A fault that lasts of some bytes lasts of those and any others.
+abbrev pub LastingFaultsLast : Type 0
+LastingFaultsLast =
+    (bytes more : List ℕ) (fault : RecordFault)
+    → All (λ byte. byte < 256) more
+    → LastingRecordFault bytes fault
+    → LastingRecordFault (bytes ++ more) fault
+
+-- Where the whole records are counted, no fault lasts.
+abbrev pub CountedHaveNone : Type 0
+CountedHaveNone =
+    (bytes : List ℕ) (count : ℕ) (fault : RecordFault)
+    → All (λ byte. byte < 256) bytes
+    → CountsRecords bytes count
+    → LastingRecordFault bytes fault
+    → ⊥
