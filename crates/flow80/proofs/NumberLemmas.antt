@@ -45,10 +45,10 @@ apart : (p q : Procedure) (a b : ℕ) → a < 65536 → b < 65536 → same_place
 apart p q a b inside other differ =
     let different : place_number p a ≢ place_number q b =
     λ same.
-        let procedures : procedure_number p ≡ procedure_number q = omega (arith, same, inside, other) in
-        let addresses : a ≡ b = omega (arith, same, inside, other) in
-        let both : same_place p a q b ≡ true = rw (procedures, addresses) (grind (arith, nat_tests)) in
-        true≢false (sym both ∙ differ) in
+    let procedures : procedure_number p ≡ procedure_number q = omega (arith, same, inside, other) in
+    let addresses : a ≡ b = omega (arith, same, inside, other) in
+    let both : same_place p a q b ≡ true = rw (procedures, addresses) (grind (arith, nat_tests)) in
+    true≢false (sym both ∙ differ) in
     grind (arith, nat_tests, different)
 
 module _ (old new : Numbers) where

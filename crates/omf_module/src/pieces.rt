@@ -1,4 +1,5 @@
-//! A module whose last bytes are still to come, read as far as they go.
+//! A module whose last bytes are still to come, read as far as they go: what a reader of files in pieces stands on. Nothing calls it
+//! yet.
 
 ghost use Rattle.std.specs.Prelude.{◌≡◌, ◌≤◌, ◌⊎◌, [], None, Ok, length, IfOk, IfErr, IfSome};
 ghost use Rattle.omf_module.specs.declared.fault.ModuleFault.{ModuleFault as ModuleFaultValue};
