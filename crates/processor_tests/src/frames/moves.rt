@@ -10,7 +10,7 @@ use std::test::Fail;
 /// Instructions, each with the frame before it, how the procedure goes on, the address or the number of words or of the refusal, and the
 /// frame after it; where there is none, the frame before it stands there.
 #[rattlefmt::skip]
-static ROWS: [(Role, [u8; 3], Parts, &str, u32, Parts); 53] = [
+static ROWS: [(Role, [u8; 3], Parts, &str, u32, Parts); 54] = [
     // PUSH and POP of BC, DE and HL carry the return address; PSW doesn't.
     (Entry, [0xC5, 0x00, 0x00], (0, &[], [Own, Any, Any]), "on", 0, (0, &[Own], [Own, Any, Any])),
     (Entry, [0xD5, 0x00, 0x00], (0, &[], [Any, Own, Any]), "on", 0, (0, &[Own], [Any, Own, Any])),
@@ -53,9 +53,11 @@ static ROWS: [(Role, [u8; 3], Parts, &str, u32, Parts); 53] = [
     (Entry, [0x76, 0x10, 0x32], (2, &[Own], [Any, Any, Any]), "end", 0, (2, &[Own], [Any, Any, Any])),
     (Entry, [0x00, 0x10, 0x32], (2, &[Own], [Any, Any, Any]), "on", 0, (2, &[Own], [Any, Any, Any])),
     (Entry, [0xC9, 0x10, 0x32], (1, &[Own], [Any, Any, Any]), "return", 1, (1, &[Own], [Any, Any, Any])),
-    // SPHL, PCHL, INX SP, DCX SP, LXI SP,3100, pops of no words and returns in the main program.
+    // PCHL keeps the frame, also where HL has the return address.
+    (Entry, [0xE9, 0x10, 0x32], (2, &[Own], [Own, Any, Own]), "case", 0, (2, &[Own], [Own, Any, Own])),
+    (MAIN, [0xE9, 0x00, 0x31], (0, &[Any], [Any, Any, Any]), "case", 0, (0, &[Any], [Any, Any, Any])),
+    // SPHL, INX SP, DCX SP, LXI SP,3100, pops of no words and returns in the main program.
     (MAIN, [0xF9, 0x00, 0x31], (0, &[], [Any, Any, Any]), "refused", 4, (0, &[], [Any, Any, Any])),
-    (MAIN, [0xE9, 0x00, 0x31], (0, &[], [Any, Any, Any]), "refused", 5, (0, &[], [Any, Any, Any])),
     (MAIN, [0x33, 0x00, 0x31], (0, &[], [Any, Any, Any]), "refused", 6, (0, &[], [Any, Any, Any])),
     (MAIN, [0x3B, 0x00, 0x31], (0, &[], [Any, Any, Any]), "refused", 6, (0, &[], [Any, Any, Any])),
     (MAIN, [0x31, 0x00, 0x31], (0, &[], [Any, Any, Any]), "refused", 7, (0, &[], [Any, Any, Any])),
@@ -84,6 +86,7 @@ fn kind(moves: &Result<Moves, FrameFault>) -> (&'static str, u32) {
         Ok(Moves::On(_)) => ("on", 0),
         Ok(Moves::Jump(_, to)) => ("jump", u32::from(*to)),
         Ok(Moves::Either(_, to)) => ("either", u32::from(*to)),
+        Ok(Moves::Case(_)) => ("case", 0),
         Ok(Moves::Call(_, to)) => ("call", u32::from(*to)),
         Ok(Moves::MaybeCall(_, to)) => ("maybe call", u32::from(*to)),
         Ok(Moves::Return(taken)) => ("return", *taken),
@@ -101,6 +104,7 @@ fn leaves(moves: &Result<Moves, FrameFault>, wanted: &Frame) -> bool {
             Moves::On(frame)
             | Moves::Jump(frame, _)
             | Moves::Either(frame, _)
+            | Moves::Case(frame)
             | Moves::Call(frame, _)
             | Moves::MaybeCall(frame, _)
             | Moves::MaybeReturn(frame, _),
