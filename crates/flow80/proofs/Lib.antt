@@ -5,7 +5,7 @@ pub mod Slices
 pub mod KnownLemmas
 pub mod StepLemmas
 pub mod PointLemmas
-pub mod PageLemmas
+pub mod NumberLemmas
 pub mod CycleLemmas
 pub mod VisitLemmas
 pub mod LookLemmas

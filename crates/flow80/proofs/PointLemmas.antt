@@ -10,8 +10,9 @@ use Rattle.bounds80.specs.declared.procedure.Procedure.TheVariants.{Main, Entry}
 use Rattle.flow80.specs.declared.points.StoredPoint.{StoredPoint}
 use Rattle.flow80.specs.Interned.{StayNumbered}
 use Rattle.flow80.specs.Points.{Point, with_frame, AreApart, AreAddresses, IsPointAt, IsNoPoint, Reframes}
-use Rattle.flow80.specs.Pages.{Numbers, procedure_number, number_at, same_place, SameNumbers, Puts}
-use Rattle.flow80.proofs.PageLemmas.{number_below}
+use Rattle.flow80.specs.declared.numbers.Numbers.{Numbers}
+use Rattle.flow80.specs.Numbers.{procedure_number, number_at, same_place, SameNumbers, Puts}
+use Rattle.flow80.proofs.NumberLemmas.{number_below}
 use Rattle.flow80.specs.PointStore.{frame_at, point_of, points_of, IsStoredAt, AreStored}
 
 module _ {X : Type 0} where

@@ -13,6 +13,6 @@ pub mod Graph
 pub mod Shown
 pub mod Known
 pub mod Interned
-pub mod Pages
+pub mod Numbers
 pub mod PointStore
 pub mod Survey

@@ -4,7 +4,8 @@ use Rattle.frames80.specs.StackFrame.{StackFrame, entry_frame}
 use Rattle.bounds80.specs.declared.procedure.Procedure.{Procedure}
 use Rattle.flow80.specs.declared.points.StoredPoint.{StoredPoint}
 use Rattle.flow80.specs.Points.{Point}
-use Rattle.flow80.specs.Pages.{Numbers, number_at}
+use Rattle.flow80.specs.declared.numbers.Numbers.{Numbers}
+use Rattle.flow80.specs.Numbers.{number_at}
 
 -- the frame that has a number
 abbrev pub frame_at : List StackFrame → ℕ → StackFrame

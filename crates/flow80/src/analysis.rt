@@ -26,7 +26,7 @@ pub fn analyze<C: Code>(alloc: Global, program: &C) -> Result<Report, Refusal>
     ensures accepted { IfOk result (λ r. IsAccepted (C.code program.now) r.procedures.items r.stack_bytes) }
     ensures refused { IfErr result (Holds (C.code program.now)) }
 {
-    let mut table = Table::new(alloc)?;
+    let mut table = Table::new(alloc, program)?;
     fill_and_report(alloc, program, &mut table)
 }
 

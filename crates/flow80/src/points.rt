@@ -1,10 +1,10 @@
 //! The points that are known, each with what is known of its frame.
 
-ghost use Rattle.std.specs.Prelude.{◌≡◌, ◌<◌, [], ◌∷◌, ◌++◌, length, slice_get, IfSome, IfNone, IfOk, OnOk, OnErr};
+ghost use Rattle.std.specs.Prelude.{◌≡◌, ◌<◌, [], ◌∷◌, ◌++◌, length, slice_get, IfSome, IfNone, OnOk, OnErr};
 ghost use Rattle.flow80.specs.Points.{AreAddresses, AreApart, IsPointAt, IsNoPoint, Reframes};
 
 use crate::interned::Interned;
-use crate::pages::Pages;
+use crate::numbers::Numbers;
 use bounds80::Procedure;
 use frames80::Frame;
 use std::alloc::{AllocError, Global};
@@ -23,7 +23,7 @@ struct StoredPoint {
 pub(crate) struct Points {
     frames: Interned,
     stored: Vec<StoredPoint>,
-    numbers: Pages,
+    numbers: Numbers,
 }
 
 impl Model for Points {
@@ -41,18 +41,14 @@ impl Model for Points {
 
 impl Points {
     /// No points.
-    ///
-    /// # Errors
-    /// `AllocError` where memory runs out.
-    pub(crate) fn new(alloc: Global) -> Result<Points, AllocError>
-        ensures { IfOk result (λ points. points ≡ []) }
+    pub(crate) fn new(alloc: Global) -> Points
+        ensures { result ≡ [] }
     {
-        let numbers = Pages::new(alloc)?;
-        Ok(Points {
+        Points {
             frames: Interned::new(alloc),
             stored: Vec::new(alloc),
-            numbers,
-        })
+            numbers: Numbers::new(alloc),
+        }
     }
 
     /// How many points there are.

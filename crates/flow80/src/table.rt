@@ -13,6 +13,7 @@ ghost use Rattle.flow80.specs.Walks.{role_of};
 use crate::callers::Callers;
 use crate::code::Code;
 use crate::laws::frame_laws;
+use crate::pending::Pending;
 use crate::points::Points;
 use crate::refusal::Refusal;
 use crate::site::Site;
@@ -31,7 +32,7 @@ pub(crate) struct Table {
     points: Points,
     exits: Vec<Option<u32>>,
     callers: Callers,
-    pending: Vec<usize>,
+    pending: Pending,
 }
 
 impl Model for Table {
@@ -46,20 +47,20 @@ impl Model for Table {
 }
 
 impl Table {
-    /// Nothing is known.
+    /// Nothing is known of a program.
     ///
     /// # Errors
     /// `AllocError` where memory runs out.
-    pub(crate) fn new(alloc: Global) -> Result<Table, AllocError>
+    pub(crate) fn new<C: Code>(alloc: Global, program: &C) -> Result<Table, AllocError>
         ensures { IfOk result (λ table. table ≡ nothing_known) }
     {
         let exits = no_exits(alloc)?;
         let callers = Callers::new(alloc)?;
         Ok(Table {
-            points: Points::new(alloc)?,
+            points: Points::new(alloc),
             exits,
             callers,
-            pending: Vec::new(alloc),
+            pending: Pending::new(alloc, program)?,
         })
     }
 
@@ -96,7 +97,7 @@ impl Table {
             return Err(Refusal::TooManyPoints);
         }
         self.points.add(procedure, to, frame)?;
-        self.look_again(number)?;
+        self.look_again(number, to)?;
         Ok(true)
     }
 
@@ -120,7 +121,7 @@ impl Table {
             Ok(false) => Ok(false),
             Ok(true) => {
                 self.points.replace(i, merged)?;
-                self.look_again(i)?;
+                self.look_again(i, to)?;
                 Ok(true)
             }
         }
@@ -173,7 +174,7 @@ impl Table {
         let entered = self.flow(alloc, Procedure::Entry(target), target, entry)?;
         match self.exit_of(target) {
             None => {
-                self.callers.add(target, site.point)?;
+                self.callers.add(target, site.point, site.at)?;
                 Ok(entered)
             }
             Some(taken) => {
@@ -362,7 +363,7 @@ impl Table {
         ensures same { self.new ≡ self.old }
         ensures there { IfSome result (λ point. point < length self.new.points) }
     {
-        match self.pending.pop() {
+        match self.pending.take() {
             Some(point) if point < self.points.len() => Some(point),
             _ => None,
         }
@@ -440,12 +441,11 @@ impl Table {
         self.exits[usize::from(entry)]
     }
 
-    /// A point is to be looked at again.
-    fn look_again(&mut self, point: usize) -> Result<(), AllocError>
+    /// The point of an address is to be looked at again.
+    fn look_again(&mut self, point: usize, at: u16) -> Result<(), AllocError>
         ensures { self.new ≡ self.old }
     {
-        self.pending.push(point)?;
-        Ok(())
+        self.pending.add(point, at)
     }
 }
 

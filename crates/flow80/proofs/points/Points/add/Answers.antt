@@ -4,7 +4,7 @@ use Rattle.std.proofs.lemmas.Option.{slice_get_within}
 use Rattle.std.proofs.lemmas.Result.{err_from_is_err_and}
 use Rattle.flow80.specs.declared.points.StoredPoint.{StoredPoint}
 use Rattle.flow80.specs.Points.{Point, IsNoPoint}
-use Rattle.flow80.specs.Pages.{Puts}
+use Rattle.flow80.specs.Numbers.{Puts}
 use Rattle.flow80.specs.PointStore.{AreStored, point_of, points_of}
 use Rattle.flow80.proofs.PointLemmas.{points_of-stays, points_of-added, AreStored-stays, AreStored-same, AreStored-added}
 use Rattle.flow80.proofs.points.Points.add.Goals as goal

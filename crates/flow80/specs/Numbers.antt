@@ -1,0 +1,36 @@
+-- The numbers that are kept of addresses of procedures. (This project's own.)
+use Rattle.std.specs.Prelude.{◌≡◌, ℕ, ◌+◌, ◌*◌, Bool, ◌&&◌, nat_eq, nat_lt, false, if◌then◌else◌, Option, Some, None}
+use Rattle.std.specs.Ordering.{nat_cmp}
+use Rattle.std.specs.BTreeMap.{get}
+use Rattle.bounds80.specs.declared.procedure.Procedure.{Procedure}
+use Rattle.bounds80.specs.declared.procedure.Procedure.TheVariants.{Main, Entry}
+use Rattle.flow80.specs.declared.numbers.Numbers.{Numbers}
+
+-- a number for each procedure, and for each address of each
+abbrev pub procedure_number : Procedure → ℕ
+procedure_number Main = 0
+procedure_number (Entry entry) = entry + 1
+
+abbrev pub place_number : Procedure → ℕ → ℕ
+place_number procedure at = 65536 * procedure_number procedure + at
+
+-- the number that is kept of an address of a procedure
+unfoldable pub number_at : Numbers → Procedure → ℕ → Option ℕ
+number_at numbers procedure at = if nat_lt at 65536 then get nat_cmp numbers.by_place (place_number procedure at) else None
+
+-- whether two addresses of procedures are the same
+abbrev pub same_place : Procedure → ℕ → Procedure → ℕ → Bool
+same_place p a q b = nat_eq (procedure_number p) (procedure_number q) && nat_eq a b
+
+-- no number is kept
+pub record HasNone (numbers : Numbers) : Type 0 where
+  pub none : (procedure : Procedure) (at : ℕ) → number_at numbers procedure at ≡ None
+
+-- the same numbers are kept
+pub record SameNumbers (old new : Numbers) : Type 0 where
+  pub same : (procedure : Procedure) (at : ℕ) → number_at new procedure at ≡ number_at old procedure at
+
+-- a number is kept of that address of that procedure, and elsewhere nothing has changed
+pub record Puts (old new : Numbers) (procedure : Procedure) (at number : ℕ) : Type 0 where
+  pub put : number_at new procedure at ≡ Some number
+  pub others : (p : Procedure) (a : ℕ) → same_place procedure at p a ≡ false → number_at new p a ≡ number_at old p a
