@@ -111,23 +111,25 @@ count_few calls lists counts i caller within few are =
 
 -- the procedures without calls
 
-pub idle_more : (counts slots : List ℕ) (i : ℕ) → get_or counts i 0 ≡ 0 → AreIdle counts i slots → AreIdle counts (i + 1) (slots ++ i ∷ [])
-idle_more counts slots i zero_here are = record {
+pub idle_more : (lists : List (List CallSite)) (counts slots : List ℕ) (i : ℕ) → get_or counts i 0 ≡ 0 → AreIdle lists counts i slots →
+    AreIdle lists counts (i + 1) (slots ++ i ∷ [])
+idle_more lists counts slots i zero_here are = record {
   none = λ slot there. elim (Contains-push_cases slots i slot there) [
     | inl before ↦ let was = are.none slot before in (omega (arith, was.0), was.1)
     | inr same ↦ (omega (arith, same), ap (λ (k : ℕ). get_or counts k 0) (sym same) ∙ zero_here)
   ];
   all = λ slot below is. elim (cases_eq slot i) [
-    | inl same ↦ subst (λ (k : ℕ). Contains (slots ++ i ∷ []) k) (sym same) (Contains-push slots i)
-    | inr ne ↦ Contains-append_left slots (i ∷ []) slot (are.all slot (omega arith) is)
+    | inl same ↦ inl (subst (λ (k : ℕ). Contains (slots ++ i ∷ []) k) (sym same) (Contains-push slots i))
+    | inr ne ↦ elim (are.all slot (omega arith) is) [ inl there ↦ inl (Contains-append_left slots (i ∷ []) slot there) | inr empty ↦ inr empty ]
   ];
 }
 
-pub idle_same : (counts slots : List ℕ) (i : ℕ) → get_or counts i 0 ≢ 0 → AreIdle counts i slots → AreIdle counts (i + 1) slots
-idle_same counts slots i some_here are = record {
+pub idle_same : (lists : List (List CallSite)) (counts slots : List ℕ) (i : ℕ) → (get_or counts i 0 ≡ 0 → get_or lists i [] ≡ []) → AreIdle lists counts i slots →
+    AreIdle lists counts (i + 1) slots
+idle_same lists counts slots i none_here are = record {
   none = λ slot there. let was = are.none slot there in (omega (arith, was.0), was.1);
   all = λ slot below is. elim (cases_eq slot i) [
-    | inl same ↦ absurd (some_here (ap (λ (k : ℕ). get_or counts k 0) (sym same) ∙ is))
+    | inl same ↦ inr (ap (λ (k : ℕ). get_or lists k []) same ∙ none_here (ap (λ (k : ℕ). get_or counts k 0) (sym same) ∙ is))
     | inr ne ↦ are.all slot (omega arith) is
   ];
 }
@@ -135,7 +137,7 @@ idle_same counts slots i some_here are = record {
 -- the worklist at first
 
 pub worklist_first : (depths : List Depth) (calls : List CallSite) (sums : List ℕ) (lists : List (List CallSite)) (counts settled : List ℕ) → AreDepths depths sums → length sums ≡ 65537 →
-    AreGrouped calls lists counts → AreIdle counts (length counts) settled → All (λ (call : CallSite). IsModest call.depth) calls → length calls ≤ 262144 →
+    AreGrouped calls lists counts → AreIdle lists counts (length counts) settled → All (λ (call : CallSite). IsModest call.depth) calls → length calls ≤ 262144 →
     AreSums depths calls sums (joined lists) × IsWorklist sums lists counts settled
 worklist_first depths calls sums lists counts settled are places grouped idle modest few = (
   record {
@@ -157,7 +159,7 @@ worklist_first depths calls sums lists counts settled are places grouped idle mo
     none = λ slot there. let was = idle.none slot there in (omega (arith, was.0, grouped.counted.count_places), was.1);
     all = λ slot is. elim (cases_eq (65537 - slot) 0) [
       | inl past ↦ inr (get_or_past lists slot [] (omega (arith, grouped.counted.places)))
-      | inr inside ↦ inl (idle.all slot (omega (arith, grouped.counted.count_places)) is)
+      | inr inside ↦ idle.all slot (omega (arith, grouped.counted.count_places)) is
     ];
   },
 )

@@ -70,10 +70,10 @@ pub record AreGrouped (calls : List CallSite) (lists : List (List CallSite)) (co
   pub of_list : (call : CallSite) → Contains (joined lists) call → Contains calls call
   pub as_many : length (joined lists) ≡ length calls
 
--- of the first slots those that have no calls
-pub record AreIdle (counts : List ℕ) (looked : ℕ) (slots : List ℕ) : Type 0 where
+-- of the first slots those of procedures that have callers and no calls
+pub record AreIdle (lists : List (List CallSite)) (counts : List ℕ) (looked : ℕ) (slots : List ℕ) : Type 0 where
   pub none : (slot : ℕ) → Contains slots slot → (slot < looked) × (slice_index counts slot ≡ 0)
-  pub all : (slot : ℕ) → slot < looked → slice_index counts slot ≡ 0 → Contains slots slot
+  pub all : (slot : ℕ) → slot < looked → slice_index counts slot ≡ 0 → Contains slots slot ⊎ (slice_index_or lists slot [] ≡ [])
 
 -- while calls are absorbed: the calls that are left, and the procedures without one whose callers may have some
 pub record IsWorklist (sums : List ℕ) (lists : List (List CallSite)) (counts settled : List ℕ) : Type 0 where

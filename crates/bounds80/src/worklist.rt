@@ -39,13 +39,18 @@ pub(crate) fn group(alloc: Global, calls: &[CallSite]) -> Result<Grouped, AllocE
     Ok((callers, counts))
 }
 
-/// The slots of the procedures that have no calls.
-pub(crate) fn idle(alloc: Global, counts: &[usize]) -> Result<Vec<usize>, AllocError>
-    ensures { IfOk result (λ v. AreIdle counts.now (length counts.now) v.items) }
+/// The slots of the procedures that have callers and no calls.
+pub(crate) fn idle(
+    alloc: Global,
+    callers: &[Vec<CallSite>],
+    counts: &[usize],
+) -> Result<Vec<usize>, AllocError>
+    requires { length callers.now ≡ length counts.now }
+    ensures { IfOk result (λ v. AreIdle (map (λ v. v.items) callers.now) counts.now (length counts.now) v.items) }
 {
     let mut slots = Vec::new(alloc);
     for (slot, count) in counts.iter().enumerate() {
-        if *count == 0 {
+        if *count == 0 && !callers[slot].is_empty() {
             slots.push(slot)?;
         }
     }
