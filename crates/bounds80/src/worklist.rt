@@ -1,5 +1,5 @@
-//! The worklist of settled procedures: those whose sums are final. Their callers are raised; a procedure is settled once its last
-//! call is absorbed.
+//! The worklist of settled procedures: those whose sums are final. A call to one of them is absorbed into its caller's sum, and a
+//! procedure is settled when its last call is absorbed, so each call is absorbed once.
 
 ghost use Rattle.std.specs.Prelude.{◌≡◌, ◌<◌, ◌≤◌, All, IfOk, OnOk, [], length, map, vec_len};
 ghost use Rattle.bounds80.specs.Sums.{AreGrouped, AreIdle, AreLeft, IsWorklist, IsAdvance};
@@ -88,7 +88,7 @@ pub(crate) fn advance(
     Ok(())
 }
 
-/// The calls whose callees have calls that are left.
+/// The calls that aren't absorbed: those whose callees have such calls themselves.
 pub(crate) fn left(
     alloc: Global,
     calls: &[CallSite],
