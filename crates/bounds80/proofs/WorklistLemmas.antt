@@ -10,7 +10,7 @@ use Rattle.bounds80.specs.declared.procedure.Procedure.TheVariants.{Entry}
 use Rattle.bounds80.specs.declared.graph.Depth.{Depth}
 use Rattle.bounds80.specs.declared.graph.CallSite.{CallSite}
 use Rattle.bounds80.specs.Chains.{slot_of, HasLast, CallsBy, last, IsModest}
-use Rattle.bounds80.specs.Sums.{AreSums, AreDepths, IsSettled, AreSmall, IsSumAfter, AreStuck, joined, calls_of, AreGrouped, AreIdle, IsWorklist, IsAdvance, AreLeft}
+use Rattle.bounds80.specs.Sums.{AreSums, AreDepths, AreCounted, IsSettled, AreSmall, IsSumAfter, AreStuck, joined, calls_of, AreGrouped, AreIdle, IsWorklist, IsAdvance, AreLeft}
 use Rattle.bounds80.proofs.BoundLemmas.{slot_apart, absorbed, small_then}
 use Rattle.bounds80.proofs.SumLemmas.{no_call}
 use Rattle.bounds80.proofs.ListLemmas.{HasOneMore, one_pushed, one_popped, more_contains, more_contains_it, more_cases, more_length, contains_joined, some_calls, call_of, counted_more, counted_less}
@@ -111,23 +111,25 @@ count_few calls lists counts i caller within few are =
 
 -- the procedures without calls
 
-pub idle_more : (counts slots : List ℕ) (i : ℕ) → get_or counts i 0 ≡ 0 → AreIdle counts i slots → AreIdle counts (i + 1) (slots ++ i ∷ [])
-idle_more counts slots i zero_here are = record {
+pub idle_more : (lists : List (List CallSite)) (counts slots : List ℕ) (i : ℕ) → get_or counts i 0 ≡ 0 → AreIdle lists counts i slots →
+    AreIdle lists counts (i + 1) (slots ++ i ∷ [])
+idle_more lists counts slots i zero_here are = record {
   none = λ slot there. elim (Contains-push_cases slots i slot there) [
     | inl before ↦ let was = are.none slot before in (omega (arith, was.0), was.1)
     | inr same ↦ (omega (arith, same), ap (λ (k : ℕ). get_or counts k 0) (sym same) ∙ zero_here)
   ];
   all = λ slot below is. elim (cases_eq slot i) [
-    | inl same ↦ subst (λ (k : ℕ). Contains (slots ++ i ∷ []) k) (sym same) (Contains-push slots i)
-    | inr ne ↦ Contains-append_left slots (i ∷ []) slot (are.all slot (omega arith) is)
+    | inl same ↦ inl (subst (λ (k : ℕ). Contains (slots ++ i ∷ []) k) (sym same) (Contains-push slots i))
+    | inr ne ↦ elim (are.all slot (omega arith) is) [ inl there ↦ inl (Contains-append_left slots (i ∷ []) slot there) | inr empty ↦ inr empty ]
   ];
 }
 
-pub idle_same : (counts slots : List ℕ) (i : ℕ) → get_or counts i 0 ≢ 0 → AreIdle counts i slots → AreIdle counts (i + 1) slots
-idle_same counts slots i some_here are = record {
+pub idle_same : (lists : List (List CallSite)) (counts slots : List ℕ) (i : ℕ) → (get_or counts i 0 ≡ 0 → get_or lists i [] ≡ []) → AreIdle lists counts i slots →
+    AreIdle lists counts (i + 1) slots
+idle_same lists counts slots i none_here are = record {
   none = λ slot there. let was = are.none slot there in (omega (arith, was.0), was.1);
   all = λ slot below is. elim (cases_eq slot i) [
-    | inl same ↦ absurd (some_here (ap (λ (k : ℕ). get_or counts k 0) (sym same) ∙ is))
+    | inl same ↦ inr (ap (λ (k : ℕ). get_or lists k []) same ∙ none_here (ap (λ (k : ℕ). get_or counts k 0) (sym same) ∙ is))
     | inr ne ↦ are.all slot (omega arith) is
   ];
 }
@@ -135,7 +137,7 @@ idle_same counts slots i some_here are = record {
 -- the worklist at first
 
 pub worklist_first : (depths : List Depth) (calls : List CallSite) (sums : List ℕ) (lists : List (List CallSite)) (counts settled : List ℕ) → AreDepths depths sums → length sums ≡ 65537 →
-    AreGrouped calls lists counts → AreIdle counts (length counts) settled → All (λ (call : CallSite). IsModest call.depth) calls → length calls ≤ 262144 →
+    AreGrouped calls lists counts → AreIdle lists counts (length counts) settled → All (λ (call : CallSite). IsModest call.depth) calls → length calls ≤ 262144 →
     AreSums depths calls sums (joined lists) × IsWorklist sums lists counts settled
 worklist_first depths calls sums lists counts settled are places grouped idle modest few = (
   record {
@@ -157,7 +159,7 @@ worklist_first depths calls sums lists counts settled are places grouped idle mo
     none = λ slot there. let was = idle.none slot there in (omega (arith, was.0, grouped.counted.count_places), was.1);
     all = λ slot is. elim (cases_eq (65537 - slot) 0) [
       | inl past ↦ inr (get_or_past lists slot [] (omega (arith, grouped.counted.places)))
-      | inr inside ↦ inl (idle.all slot (omega (arith, grouped.counted.count_places)) is)
+      | inr inside ↦ idle.all slot (omega (arith, grouped.counted.count_places)) is
     ];
   },
 )
@@ -196,95 +198,112 @@ pub record IsLastCall (sums : List ℕ) (lists : List (List CallSite)) (counts s
   pub settled_is : Contains settled callee
   pub list : get_or lists callee [] ≡ rest ++ call ∷ []
 
-callee_within : (sums : List ℕ) (lists : List (List CallSite)) (counts settled : List ℕ) (callee : ℕ) → IsWorklist sums lists counts settled → Contains settled callee →
-    callee < length lists
-callee_within sums lists counts settled callee are there = omega (arith, (are.none callee there).0, are.counted.places)
+module _ (sums : List ℕ) (lists : List (List CallSite)) (counts settled : List ℕ) (callee : ℕ) (rest : List CallSite) (call : CallSite)
+    (is : IsLastCall sums lists counts settled callee rest call) where
+  abbrev lists_after : List (List CallSite)
+  lists_after = set lists callee rest
 
-has_one : (sums : List ℕ) (lists : List (List CallSite)) (counts settled : List ℕ) (callee : ℕ) (rest : List CallSite) (call : CallSite) →
-    IsLastCall sums lists counts settled callee rest call → HasOneMore (joined (set lists callee rest)) (joined lists) call
-has_one sums lists counts settled callee rest call is =
-    one_popped lists callee rest call (callee_within sums lists counts settled callee is.are is.settled_is) is.list
+  abbrev counts_after : ℕ → List ℕ
+  counts_after caller = set counts caller (get_or counts caller 0 - 1)
 
-pub last_modest : (sums : List ℕ) (lists : List (List CallSite)) (counts settled : List ℕ) (callee : ℕ) (rest : List CallSite) (call : CallSite) →
-    IsLastCall sums lists counts settled callee rest call → IsModest call.depth
-last_modest sums lists counts settled callee rest call is =
-    All-contains (λ (e : CallSite). IsModest e.depth) (joined lists) call is.are.modest
-    (more_contains_it _ _ call (has_one sums lists counts settled callee rest call is))
+  callee_within : callee < length lists
+  callee_within = omega (arith, (is.are.none callee is.settled_is).0, is.are.counted.places)
 
-pub last_counted : (sums : List ℕ) (lists : List (List CallSite)) (counts settled : List ℕ) (callee : ℕ) (rest : List CallSite) (call : CallSite) (caller : ℕ) →
-    IsLastCall sums lists counts settled callee rest call → caller ≡ slot_of call.caller → 1 ≤ get_or counts caller 0
-last_counted sums lists counts settled callee rest call caller is caller_is =
-    let some = some_calls caller (joined lists) call (more_contains_it _ _ call (has_one sums lists counts settled callee rest call is)) (sym caller_is) in
-    omega (arith, is.are.counted.counted caller, some)
+  has_one : HasOneMore (joined lists_after) (joined lists) call
+  has_one = one_popped lists callee rest call callee_within is.list
 
--- its callee has no call that is left
-last_settled : (sums : List ℕ) (lists : List (List CallSite)) (counts settled : List ℕ) (callee : ℕ) (rest : List CallSite) (call : CallSite) →
-    IsLastCall sums lists counts settled callee rest call → IsSettled (joined lists) (Entry call.target)
-last_settled sums lists counts settled callee rest call is = record {
-  none = λ e by.
-      let target : slot_of (Entry call.target) ≡ callee = is.are.counted.callee callee call (subst (λ (l : List CallSite). Contains l call) (sym is.list) (Contains-push rest call)) in
-      let some = some_calls callee (joined lists) e by.there (ap slot_of by.caller ∙ target) in
-      omega (arith, some, is.are.counted.counted callee, (is.are.none callee is.settled_is).1);
-}
+  pub last_modest : IsModest call.depth
+  last_modest = All-contains (λ (e : CallSite). IsModest e.depth) (joined lists) call is.are.modest (more_contains_it _ _ call has_one)
 
-pub absorbs : (sums sums_after : List ℕ) (lists : List (List CallSite)) (counts settled settled_after : List ℕ) (callee : ℕ) (rest : List CallSite) (call : CallSite) (caller : ℕ) →
-    IsLastCall sums lists counts settled callee rest call → caller ≡ slot_of call.caller → caller < 65537 → IsSumAfter sums call sums_after →
-    IsAppended settled settled_after (set counts caller (get_or counts caller 0 - 1)) caller →
-    IsAdvance sums lists settled sums_after (set lists callee rest) (set counts caller (get_or counts caller 0 - 1)) settled_after
-absorbs sums sums_after lists counts settled settled_after callee rest call caller is caller_is caller_within then appends =
-    let has : HasOneMore (joined (set lists callee rest)) (joined lists) call = has_one sums lists counts settled callee rest call is in
-    let within : callee < length lists = callee_within sums lists counts settled callee is.are is.settled_is in
-    let count_within : caller < length counts = omega (arith, caller_within, is.are.counted.count_places) in
-    let some : 1 ≤ get_or counts caller 0 = last_counted sums lists counts settled callee rest call caller is caller_is in
-    let sums_is : sums_after ≡ set sums (slot_of call.caller) then.bytes = then.is in
-    let back_is : joined (set lists callee rest) ≡ has.front ++ has.back = has.few_is in
-    record {
-      worklist = record {
-        counted = record {
-          callee = callees_set lists callee rest is.are.counted.callee within (λ e there. is.are.counted.callee callee e
-              (subst (λ (l : List CallSite). Contains l e) (sym is.list) (Contains-append_left rest (call ∷ []) e there)));
-          counted = counted_less (joined (set lists callee rest)) (joined lists) call counts caller has caller_is count_within is.are.counted.counted;
-          places = length-set lists callee rest ∙ is.are.counted.places;
-          count_places = length-set counts caller (get_or counts caller 0 - 1) ∙ is.are.counted.count_places;
-        };
-        small = subst (λ (s : List ℕ). AreSmall s (length (joined (set lists callee rest)))) (sym sums_is)
-            (subst (λ (l : List CallSite). AreSmall (set sums (slot_of call.caller) then.bytes) (length l)) (sym back_is)
-            (small_then sums has.front call has.back then.bytes then.within then.raised (last_modest sums lists counts settled callee rest call is)
-            (subst (λ (l : List CallSite). AreSmall sums (length l)) has.more_is is.are.small)));
-        modest = All-from_get_or (λ (e : CallSite). IsModest e.depth) (joined (set lists callee rest)) no_call (λ i below.
-            All-contains (λ (e : CallSite). IsModest e.depth) (joined lists) (get_or (joined (set lists callee rest)) i no_call) is.are.modest
-            (more_contains _ _ call has (get_or (joined (set lists callee rest)) i no_call) (Contains-get_or (joined (set lists callee rest)) i no_call below)));
-        places = ap length sums_is ∙ length-set sums (slot_of call.caller) then.bytes ∙ is.are.places;
-        none = λ slot there. elim (appends.of slot there) [
-          | inl before ↦ ((is.are.none slot before).0, same_count slot (λ same. omega (arith, some, ap (λ (k : ℕ). get_or counts k 0) same, (is.are.none slot before).1)) ∙ (is.are.none slot before).1)
-          | inr new ↦ (omega (arith, new.0, caller_within), ap (λ (k : ℕ). get_or (set counts caller (get_or counts caller 0 - 1)) k 0) new.0 ∙ new.1)
-        ];
-        all = λ slot zero_now. elim (cases_eq slot caller) [
-          | inl same ↦ inl (subst (λ (k : ℕ). Contains settled_after k) (sym same)
-              (appends.new (ap (λ (k : ℕ). get_or (set counts caller (get_or counts caller 0 - 1)) k 0) (sym same) ∙ zero_now)))
-          | inr ne ↦ elim (is.are.all slot (sym (same_count slot ne) ∙ zero_now)) [
-            | inl before ↦ inl (appends.still slot before)
-            | inr none ↦ elim (cases_eq slot callee) [
-              | inl here ↦ inl (appends.still slot (subst (λ (k : ℕ). Contains settled k) (sym here) is.settled_is))
-              | inr other ↦ inr (get_or-set_other lists callee slot rest [] other ∙ none)
-            ]
-          ]
-        ];
-      };
-      hold = λ depths calls was.
-          subst (λ (s : List ℕ). AreSums depths calls s (joined (set lists callee rest))) (sym sums_is)
-          (subst (λ (l : List CallSite). AreSums depths calls (set sums (slot_of call.caller) then.bytes) l) (sym back_is)
-          (absorbed depths calls sums has.front call has.back then.bytes (record {
-            are = subst (λ (l : List CallSite). AreSums depths calls sums l) has.more_is was;
-            settled = subst (λ (l : List CallSite). IsSettled l (Entry call.target)) has.more_is (last_settled sums lists counts settled callee rest call is);
-            within = then.within;
-            raise = then.raised;
-          })));
-      fewer = omega (arith, more_length _ _ call has, appends.longer);
-    }
-  where
-    same_count : (slot : ℕ) → slot ≢ caller → get_or (set counts caller (get_or counts caller 0 - 1)) slot 0 ≡ get_or counts slot 0
-    same_count slot ne = get_or-set_other counts caller slot (get_or counts caller 0 - 1) 0 ne
+  pub last_counted : (caller : ℕ) → caller ≡ slot_of call.caller → 1 ≤ get_or counts caller 0
+  last_counted caller caller_is =
+      let some = some_calls caller (joined lists) call (more_contains_it _ _ call has_one) (sym caller_is) in
+      omega (arith, is.are.counted.counted caller, some)
+
+  -- its callee has no call that is left
+  last_settled : IsSettled (joined lists) (Entry call.target)
+  last_settled = record {
+    none = λ e by.
+        let there : Contains (get_or lists callee []) call = subst (λ (l : List CallSite). Contains l call) (sym is.list) (Contains-push rest call) in
+        let some = some_calls callee (joined lists) e by.there (ap slot_of by.caller ∙ is.are.counted.callee callee call there) in
+        omega (arith, some, is.are.counted.counted callee, (is.are.none callee is.settled_is).1);
+  }
+
+  counted_after : (caller : ℕ) → caller ≡ slot_of call.caller → caller < 65537 → AreCounted lists_after (counts_after caller)
+  counted_after caller caller_is caller_within = record {
+    callee = callees_set lists callee rest is.are.counted.callee callee_within (λ e there. is.are.counted.callee callee e
+        (subst (λ (l : List CallSite). Contains l e) (sym is.list) (Contains-append_left rest (call ∷ []) e there)));
+    counted = counted_less (joined lists_after) (joined lists) call counts caller has_one caller_is (omega (arith, caller_within, is.are.counted.count_places))
+        is.are.counted.counted;
+    places = length-set lists callee rest ∙ is.are.counted.places;
+    count_places = length-set counts caller (get_or counts caller 0 - 1) ∙ is.are.counted.count_places;
+  }
+
+  modest_after : All (λ (e : CallSite). IsModest e.depth) (joined lists_after)
+  modest_after = All-from_get_or (λ (e : CallSite). IsModest e.depth) (joined lists_after) no_call (λ i below.
+      All-contains (λ (e : CallSite). IsModest e.depth) (joined lists) (get_or (joined lists_after) i no_call) is.are.modest
+      (more_contains _ _ call has_one (get_or (joined lists_after) i no_call) (Contains-get_or (joined lists_after) i no_call below)))
+
+  -- its caller's count is lowered, and no other
+  same_count : (caller slot : ℕ) → slot ≢ caller → get_or (counts_after caller) slot 0 ≡ get_or counts slot 0
+  same_count caller slot ne = get_or-set_other counts caller slot (get_or counts caller 0 - 1) 0 ne
+
+  none_after : (settled_after : List ℕ) (caller : ℕ) → caller ≡ slot_of call.caller → caller < 65537 → IsAppended settled settled_after (counts_after caller) caller →
+      (slot : ℕ) → Contains settled_after slot → (slot < 65537) × (slice_index (counts_after caller) slot ≡ 0)
+  none_after settled_after caller caller_is caller_within appends slot there = elim (appends.of slot there) [
+    | inl before ↦
+        let was = is.are.none slot before in
+        let some = last_counted caller caller_is in
+        (was.0, same_count caller slot (λ same. omega (arith, some, ap (λ (k : ℕ). get_or counts k 0) same, was.1)) ∙ was.1)
+    | inr new ↦ (omega (arith, new.0, caller_within), ap (λ (k : ℕ). get_or (counts_after caller) k 0) new.0 ∙ new.1)
+  ]
+
+  all_after : (settled_after : List ℕ) (caller : ℕ) → IsAppended settled settled_after (counts_after caller) caller → (slot : ℕ) →
+      slice_index (counts_after caller) slot ≡ 0 → Contains settled_after slot ⊎ (get_or lists_after slot [] ≡ [])
+  all_after settled_after caller appends slot zero_now = elim (cases_eq slot caller) [
+    | inl same ↦ inl (subst (λ (k : ℕ). Contains settled_after k) (sym same) (appends.new (ap (λ (k : ℕ). get_or (counts_after caller) k 0) (sym same) ∙ zero_now)))
+    | inr ne ↦ elim (is.are.all slot (sym (same_count caller slot ne) ∙ zero_now)) [
+      | inl before ↦ inl (appends.still slot before)
+      | inr none ↦ elim (cases_eq slot callee) [
+        | inl here ↦ inl (appends.still slot (subst (λ (k : ℕ). Contains settled k) (sym here) is.settled_is))
+        | inr other ↦ inr (get_or-set_other lists callee slot rest [] other ∙ none)
+      ]
+    ]
+  ]
+
+  small_after : (sums_after : List ℕ) → IsSumAfter sums call sums_after → AreSmall sums_after (length (joined lists_after))
+  small_after sums_after then =
+      subst (λ (s : List ℕ). AreSmall s (length (joined lists_after))) (sym then.is)
+      (subst (λ (l : List CallSite). AreSmall (set sums (slot_of call.caller) then.bytes) (length l)) (sym has_one.few_is)
+      (small_then sums has_one.front call has_one.back then.bytes then.within then.raised last_modest
+      (subst (λ (l : List CallSite). AreSmall sums (length l)) has_one.more_is is.are.small)))
+
+  hold_after : (sums_after : List ℕ) → IsSumAfter sums call sums_after → (depths : List Depth) (calls : List CallSite) → AreSums depths calls sums (joined lists) →
+      AreSums depths calls sums_after (joined lists_after)
+  hold_after sums_after then depths calls was =
+      subst (λ (s : List ℕ). AreSums depths calls s (joined lists_after)) (sym then.is)
+      (subst (λ (l : List CallSite). AreSums depths calls (set sums (slot_of call.caller) then.bytes) l) (sym has_one.few_is)
+      (absorbed depths calls sums has_one.front call has_one.back then.bytes (record {
+        are = subst (λ (l : List CallSite). AreSums depths calls sums l) has_one.more_is was;
+        settled = subst (λ (l : List CallSite). IsSettled l (Entry call.target)) has_one.more_is last_settled;
+        within = then.within;
+        raise = then.raised;
+      })))
+
+  pub absorbs : (sums_after settled_after : List ℕ) (caller : ℕ) → caller ≡ slot_of call.caller → caller < 65537 → IsSumAfter sums call sums_after →
+      IsAppended settled settled_after (counts_after caller) caller → IsAdvance sums lists settled sums_after lists_after (counts_after caller) settled_after
+  absorbs sums_after settled_after caller caller_is caller_within then appends = record {
+    worklist = record {
+      counted = counted_after caller caller_is caller_within;
+      small = small_after sums_after then;
+      modest = modest_after;
+      places = ap length then.is ∙ length-set sums (slot_of call.caller) then.bytes ∙ is.are.places;
+      none = none_after settled_after caller caller_is caller_within appends;
+      all = all_after settled_after caller appends;
+    };
+    hold = hold_after sums_after then;
+    fewer = omega (arith, more_length _ _ call has_one, appends.longer);
+  }
 
 -- a procedure without callers is taken off
 pub taken_off : (sums : List ℕ) (lists lists_after : List (List CallSite)) (counts settled after : List ℕ) (callee : ℕ) → IsWorklist sums lists counts settled →
@@ -356,57 +375,54 @@ pub record IsDone (depths : List Depth) (calls : List CallSite) (sums : List ℕ
   pub worklist : IsWorklist sums lists counts []
   pub left : AreLeft calls counts pending
 
-is_pending : (depths : List Depth) (calls : List CallSite) (sums : List ℕ) (lists : List (List CallSite)) (counts : List ℕ) (pending : List CallSite) →
-    IsDone depths calls sums lists counts pending → (call : CallSite) → Contains (joined lists) call → Contains pending call
-is_pending depths calls sums lists counts pending done call there =
-    let at = contains_joined lists call there in
-    let slot_is : slot_of (Entry call.target) ≡ at.0 = done.worklist.counted.callee at.0 call at.2 in
-    done.left.all call (done.are.of_list call there) (elim (cases_eq (slice_index counts (slot_of (Entry call.target))) 0) [
-      | inl none ↦ elim (done.worklist.all at.0 (ap (λ (k : ℕ). get_or counts k 0) (sym slot_is) ∙ none)) [
-        | inl in_none ↦ absurd (omega (arith, in_none.1))
-        | inr empty ↦
-            let some : Contains {X = CallSite} [] call = subst (λ (l : List CallSite). Contains l call) empty at.2 in
-            absurd (omega (arith, some.1))
-      ]
-      | inr ne ↦ omega arith
-    ])
+module _ (depths : List Depth) (calls : List CallSite) (sums : List ℕ) (lists : List (List CallSite)) (counts : List ℕ) (pending : List CallSite)
+    (done : IsDone depths calls sums lists counts pending) where
+  is_pending : (call : CallSite) → Contains (joined lists) call → Contains pending call
+  is_pending call there =
+      let at = contains_joined lists call there in
+      let slot_is : slot_of (Entry call.target) ≡ at.0 = done.worklist.counted.callee at.0 call at.2 in
+      done.left.all call (done.are.of_list call there) (elim (cases_eq (slice_index counts (slot_of (Entry call.target))) 0) [
+        | inl none ↦ elim (done.worklist.all at.0 (ap (λ (k : ℕ). get_or counts k 0) (sym slot_is) ∙ none)) [
+          | inl in_none ↦ absurd (omega (arith, in_none.1))
+          | inr empty ↦
+              let some : Contains {X = CallSite} [] call = subst (λ (l : List CallSite). Contains l call) empty at.2 in
+              absurd (omega (arith, some.1))
+        ]
+        | inr ne ↦ omega arith
+      ])
 
--- a call of a procedure that has some
-a_call : (depths : List Depth) (calls : List CallSite) (sums : List ℕ) (lists : List (List CallSite)) (counts : List ℕ) (pending : List CallSite) →
-    IsDone depths calls sums lists counts pending → (p : Procedure) → 0 < slice_index counts (slot_of p) → (call : CallSite) × CallsBy (joined lists) p call
-a_call depths calls sums lists counts pending done p some =
-    let one = call_of (slot_of p) (joined lists) (omega (arith, some, done.worklist.counted.counted (slot_of p))) in
-    (one.0, record { there = one.1; caller = slot_apart one.0.caller p one.2 })
+  -- a call of a procedure that has some
+  a_call : (p : Procedure) → 0 < slice_index counts (slot_of p) → (call : CallSite) × CallsBy (joined lists) p call
+  a_call p some =
+      let one = call_of (slot_of p) (joined lists) (omega (arith, some, done.worklist.counted.counted (slot_of p))) in
+      (one.0, record { there = one.1; caller = slot_apart one.0.caller p one.2 })
 
-is_left : (depths : List Depth) (calls : List CallSite) (sums : List ℕ) (lists : List (List CallSite)) (counts : List ℕ) (pending : List CallSite) →
-    IsDone depths calls sums lists counts pending → (call : CallSite) → Contains pending call → Contains (joined lists) call
-is_left depths calls sums lists counts pending done call there = elim (done.are.call call (done.left.of_list call there)) [
-  | inl still ↦ still
-  | inr absorbed ↦
-      let one = a_call depths calls sums lists counts pending done (Entry call.target) (done.left.counted call there) in
-      absurd (absorbed.settled.none one.0 one.1)
-]
+  is_left : (call : CallSite) → Contains pending call → Contains (joined lists) call
+  is_left call there = elim (done.are.call call (done.left.of_list call there)) [
+    | inl still ↦ still
+    | inr absorbed ↦
+        let one = a_call (Entry call.target) (done.left.counted call there) in
+        absurd (absorbed.settled.none one.0 one.1)
+  ]
 
-pub sums_at_end : (depths : List Depth) (calls : List CallSite) (sums : List ℕ) (lists : List (List CallSite)) (counts : List ℕ) (pending : List CallSite) →
-    IsDone depths calls sums lists counts pending → AreSums depths calls sums pending
-sums_at_end depths calls sums lists counts pending done = record {
-  reached = done.are.reached;
-  deep = done.are.deep;
-  call = λ call there. elim (done.are.call call there) [
-    | inl still ↦ inl (is_pending depths calls sums lists counts pending done call still)
-    | inr absorbed ↦ inr (record {
-      settled = record { none = λ e by. absorbed.settled.none e (record { there = is_left depths calls sums lists counts pending done e by.there; caller = by.caller }) };
-      ends = absorbed.ends;
-      above = absorbed.above;
-    })
-  ];
-  of_list = done.left.of_list;
-}
+  pub sums_at_end : AreSums depths calls sums pending
+  sums_at_end = record {
+    reached = done.are.reached;
+    deep = done.are.deep;
+    call = λ call there. elim (done.are.call call there) [
+      | inl still ↦ inl (is_pending call still)
+      | inr absorbed ↦ inr (record {
+        settled = record { none = λ e by. absorbed.settled.none e (record { there = is_left e by.there; caller = by.caller }) };
+        ends = absorbed.ends;
+        above = absorbed.above;
+      })
+    ];
+    of_list = done.left.of_list;
+  }
 
-pub stuck_at_end : (depths : List Depth) (calls : List CallSite) (sums : List ℕ) (lists : List (List CallSite)) (counts : List ℕ) (pending : List CallSite) →
-    IsDone depths calls sums lists counts pending → AreStuck pending
-stuck_at_end depths calls sums lists counts pending done = record {
-  next = λ call there.
-      let one = a_call depths calls sums lists counts pending done (Entry call.target) (done.left.counted call there) in
-      (one.0, record { there = is_pending depths calls sums lists counts pending done one.0 one.1.there; caller = one.1.caller });
-}
+  pub stuck_at_end : AreStuck pending
+  stuck_at_end = record {
+    next = λ call there.
+        let one = a_call (Entry call.target) (done.left.counted call there) in
+        (one.0, record { there = is_pending one.0 one.1.there; caller = one.1.caller });
+  }

@@ -70,12 +70,13 @@ pub record AreGrouped (calls : List CallSite) (lists : List (List CallSite)) (co
   pub of_list : (call : CallSite) → Contains (joined lists) call → Contains calls call
   pub as_many : length (joined lists) ≡ length calls
 
--- of the first slots those that have no calls
-pub record AreIdle (counts : List ℕ) (looked : ℕ) (slots : List ℕ) : Type 0 where
+-- of the first slots those of procedures that have callers and no calls
+pub record AreIdle (lists : List (List CallSite)) (counts : List ℕ) (looked : ℕ) (slots : List ℕ) : Type 0 where
   pub none : (slot : ℕ) → Contains slots slot → (slot < looked) × (slice_index counts slot ≡ 0)
-  pub all : (slot : ℕ) → slot < looked → slice_index counts slot ≡ 0 → Contains slots slot
+  pub all : (slot : ℕ) → slot < looked → slice_index counts slot ≡ 0 → Contains slots slot ⊎ (slice_index_or lists slot [] ≡ [])
 
--- while calls are absorbed: the calls that are left, and the procedures without one whose callers may have some
+-- while calls are absorbed: those that are left by their callees, how many each procedure has, and the settled procedures, which have none,
+-- where they have callers
 pub record IsWorklist (sums : List ℕ) (lists : List (List CallSite)) (counts settled : List ℕ) : Type 0 where
   pub counted : AreCounted lists counts
   pub small : AreSmall sums (length (joined lists))
@@ -84,7 +85,7 @@ pub record IsWorklist (sums : List ℕ) (lists : List (List CallSite)) (counts s
   pub none : (slot : ℕ) → Contains settled slot → (slot < 65537) × (slice_index counts slot ≡ 0)
   pub all : (slot : ℕ) → slice_index counts slot ≡ 0 → Contains settled slot ⊎ (slice_index_or lists slot [] ≡ [])
 
--- a call is absorbed, or a procedure without callers leaves the worklist
+-- a call is absorbed, or a procedure without callers is taken off the worklist
 pub record IsAdvance (old : List ℕ) (old_lists : List (List CallSite)) (old_settled sums : List ℕ) (lists : List (List CallSite)) (counts settled : List ℕ) : Type 0 where
   pub worklist : IsWorklist sums lists counts settled
   pub hold : (depths : List Depth) (calls : List CallSite) → AreSums depths calls old (joined old_lists) → AreSums depths calls sums (joined lists)

@@ -54,7 +54,7 @@ fn settle(alloc: Global, depths: &[Depth], calls: &[CallSite]) -> Result<Settled
 {
     let mut bytes = greatest_depths(alloc, depths)?;
     let (mut callers, mut counts) = group(alloc, calls)?;
-    let mut settled = idle(alloc, &counts)?;
+    let mut settled = idle(alloc, &callers, &counts)?;
     while !settled.is_empty() {
         advance(&mut bytes, &mut callers, &mut counts, &mut settled)?;
     }

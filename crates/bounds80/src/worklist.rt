@@ -1,5 +1,5 @@
-//! The worklist of settled procedures: those whose sums are final. Their callers are raised; a procedure is settled once its last
-//! call is absorbed.
+//! The worklist of settled procedures: those whose sums are final. A call to one of them is absorbed into its caller's sum, and a
+//! procedure is settled when its last call is absorbed, so each call is absorbed once.
 
 ghost use Rattle.std.specs.Prelude.{◌≡◌, ◌<◌, ◌≤◌, All, IfOk, OnOk, [], length, map, vec_len};
 ghost use Rattle.bounds80.specs.Sums.{AreGrouped, AreIdle, AreLeft, IsWorklist, IsAdvance};
@@ -39,13 +39,18 @@ pub(crate) fn group(alloc: Global, calls: &[CallSite]) -> Result<Grouped, AllocE
     Ok((callers, counts))
 }
 
-/// The slots of the procedures that have no calls.
-pub(crate) fn idle(alloc: Global, counts: &[usize]) -> Result<Vec<usize>, AllocError>
-    ensures { IfOk result (λ v. AreIdle counts.now (length counts.now) v.items) }
+/// The slots of the procedures that have callers and no calls.
+pub(crate) fn idle(
+    alloc: Global,
+    callers: &[Vec<CallSite>],
+    counts: &[usize],
+) -> Result<Vec<usize>, AllocError>
+    requires { length callers.now ≡ length counts.now }
+    ensures { IfOk result (λ v. AreIdle (map (λ v. v.items) callers.now) counts.now (length counts.now) v.items) }
 {
     let mut slots = Vec::new(alloc);
     for (slot, count) in counts.iter().enumerate() {
-        if *count == 0 {
+        if *count == 0 && !callers[slot].is_empty() {
             slots.push(slot)?;
         }
     }
@@ -83,7 +88,7 @@ pub(crate) fn advance(
     Ok(())
 }
 
-/// The calls whose callees have calls that are left.
+/// The calls that aren't absorbed: those whose callees have such calls themselves.
 pub(crate) fn left(
     alloc: Global,
     calls: &[CallSite],

@@ -34,8 +34,8 @@ absorbed_at : (sums sums_after : List ℕ) (callers : List (Vec CallSite Global)
 absorbed_at sums sums_after callers counts settled settled_after callee v popped call caller is list caller_is within then appends =
     subst (λ (lists : List (List CallSite)). IsAdvance sums (lists_of callers) settled sums_after lists (set counts caller (get_or counts caller 0 - 1)) settled_after)
     (sym (map-set items_of callers callee popped))
-    (absorbs sums sums_after (lists_of callers) counts settled settled_after callee popped.items call caller (last_call sums callers counts settled callee v popped.items call is list)
-    caller_is within then appends)
+    (absorbs sums (lists_of callers) counts settled callee popped.items call (last_call sums callers counts settled callee v popped.items call is list)
+    sums_after settled_after caller caller_is within then appends)
 
 taken_off_at : (sums : List ℕ) (callers : List (Vec CallSite Global)) (counts settled after : List ℕ) (callee : ℕ) (v popped : Vec CallSite Global) (taken : Option ℕ) →
     IsLast sums callers counts settled callee → items_of (get_or callers callee v) ≡ [] → popped.items ≡ [] → settled ≡ after ++ option_to_list taken → taken ≡ Some callee →
@@ -73,8 +73,9 @@ overflow_sub-counts c =
     let settled = c.args.settled.now in
     let last = is_last c.args.sums.now c.args.callers.now c.args.counts.now settled.items c.index-callee.result.now c.len.result settled.len c.requires.worklist c.requires.some settled.ok.0
     c.len.ensures c.index-callee.ensures in
-    last_counted _ _ _ _ c.index-callee.result.now _ c.in-Some.call c.slot-caller.result
-    (last_call _ _ _ _ c.index-callee.result.now c.index-callers-callee.result c.pop.new.self.items c.in-Some.call last c.in-Some.ensures.items) c.slot-caller.ensures.is
+    last_counted _ _ _ _ c.index-callee.result.now _ c.in-Some.call
+    (last_call _ _ _ _ c.index-callee.result.now c.index-callers-callee.result c.pop.new.self.items c.in-Some.call last c.in-Some.ensures.items)
+    c.slot-caller.result c.slot-caller.ensures.is
 
 pub returns-in_ok-push-in-Some : goal.returns-in_ok-push-in-Some
 returns-in_ok-push-in-Some c =
