@@ -26,7 +26,7 @@ contains_more xs y ys x h = elim (Contains-append_cases xs ys x h) [
   | inr b ↦ Contains-append_right xs (y ∷ ys) x (Contains-append_right (y ∷ []) ys x b)
 ]
 
-contains_less : {X : Type 0} (xs : List X) (y : X) (ys : List X) (x : X) → Contains (xs ++ (y ∷ ys)) x → (y ≡ x) ⊎ Contains (xs ++ ys) x
+pub contains_less : {X : Type 0} (xs : List X) (y : X) (ys : List X) (x : X) → Contains (xs ++ (y ∷ ys)) x → (y ≡ x) ⊎ Contains (xs ++ ys) x
 contains_less xs y ys x h = elim (Contains-append_cases xs (y ∷ ys) x h) [
   | inl a ↦ inr (Contains-append_left xs ys x a)
   | inr b ↦ elim (Contains-append_cases (y ∷ []) ys x b) [

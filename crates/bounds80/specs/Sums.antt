@@ -1,5 +1,6 @@
 -- What holds of the sums while calls are absorbed into them, and of the calls that are left. (This project's own.)
-use Rattle.std.specs.Prelude.{◌≡◌, ◌<◌, ◌≤◌, ◌+◌, ◌*◌, ◌++◌, ◌⊎◌, ℕ, ℤ, pos, ◌≤ℤ◌, Bool, true, false, List, Contains, All, length, slice_index, slice_index_or, slice_set}
+use Rattle.std.specs.Prelude.{◌≡◌, ◌<◌, ◌≤◌, ◌+◌, ◌*◌, ◌==◌, ◌⊎◌, ℕ, ℤ, pos, ◌≤ℤ◌, Bool, true, false, List, [], Contains, All, length, count_by, slice_index, slice_index_or, slice_set}
+use Rattle.std.specs.List.{flat_map}
 use Rattle.bounds80.specs.declared.procedure.Procedure.{Procedure}
 use Rattle.bounds80.specs.declared.procedure.Procedure.TheVariants.{Entry}
 use Rattle.bounds80.specs.declared.graph.Depth.{Depth}
@@ -47,23 +48,54 @@ pub record AreDepths (seen : List Depth) (sums : List ℕ) : Type 0 where
   pub deep : (depth : Depth) → Contains seen depth → depth.depth ≤ℤ pos (bytes_of sums depth.procedure)
   pub small : (slot : ℕ) → slice_index sums slot ≤ most_step
 
--- the procedure is marked
-pub record IsMarked (marks : List Bool) (p : Procedure) : Type 0 where
-  pub is : slice_index_or marks (slot_of p) false ≡ true
+-- all the calls of some lists
+abbrev pub joined : List (List CallSite) → List CallSite
+joined lists = flat_map (λ calls. calls) lists
 
--- the callers of the calls are marked, and no others
-pub record AreMarked (marks : List Bool) (pending : List CallSite) : Type 0 where
-  pub marked : (call : CallSite) → Contains pending call → IsMarked marks call.caller
-  pub by : (p : Procedure) → IsMarked marks p → (call : CallSite) × CallsBy pending p call
+-- how many of the calls are those of the procedure that has this slot
+abbrev pub calls_of : ℕ → List CallSite → ℕ
+calls_of slot calls = count_by (λ call. slot_of call.caller == slot) calls
 
--- of the pending calls so many have been looked at: they are kept where their callee is marked, and absorbed otherwise
-pub record AreRounded (marks : List Bool) (pending : List CallSite) (old sums : List ℕ) (kept rest : List CallSite) (looked : ℕ) : Type 0 where
-  pub hold : (depths : List Depth) (calls : List CallSite) → AreSums depths calls old pending → AreSums depths calls sums (kept ++ rest)
-  pub small : AreSmall sums (length (kept ++ rest))
-  pub of_list : (call : CallSite) → Contains (kept ++ rest) call → Contains pending call
-  pub marked : (call : CallSite) → Contains kept call → IsMarked marks (Entry call.target)
-  pub fewer : length kept ≤ looked
-  pub same : length kept ≡ looked → kept ++ rest ≡ pending
+-- lists of calls by the slots of their callees, and how many of these calls the procedure of each slot has
+pub record AreCounted (lists : List (List CallSite)) (counts : List ℕ) : Type 0 where
+  pub callee : (slot : ℕ) (call : CallSite) → Contains (slice_index_or lists slot []) call → slot_of (Entry call.target) ≡ slot
+  pub counted : (slot : ℕ) → slice_index counts slot ≡ calls_of slot (joined lists)
+  pub places : length lists ≡ 65537
+  pub count_places : length counts ≡ 65537
+
+-- the lists have each of the calls, and no others
+pub record AreGrouped (calls : List CallSite) (lists : List (List CallSite)) (counts : List ℕ) : Type 0 where
+  pub counted : AreCounted lists counts
+  pub all : (call : CallSite) → Contains calls call → Contains (joined lists) call
+  pub of_list : (call : CallSite) → Contains (joined lists) call → Contains calls call
+  pub as_many : length (joined lists) ≡ length calls
+
+-- of the first slots those of procedures that have callers and no calls
+pub record AreIdle (lists : List (List CallSite)) (counts : List ℕ) (looked : ℕ) (slots : List ℕ) : Type 0 where
+  pub none : (slot : ℕ) → Contains slots slot → (slot < looked) × (slice_index counts slot ≡ 0)
+  pub all : (slot : ℕ) → slot < looked → slice_index counts slot ≡ 0 → Contains slots slot ⊎ (slice_index_or lists slot [] ≡ [])
+
+-- while calls are absorbed: those that are left by their callees, how many each procedure has, and the settled procedures, which have none,
+-- where they have callers
+pub record IsWorklist (sums : List ℕ) (lists : List (List CallSite)) (counts settled : List ℕ) : Type 0 where
+  pub counted : AreCounted lists counts
+  pub small : AreSmall sums (length (joined lists))
+  pub modest : All (λ (call : CallSite). IsModest call.depth) (joined lists)
+  pub places : length sums ≡ 65537
+  pub none : (slot : ℕ) → Contains settled slot → (slot < 65537) × (slice_index counts slot ≡ 0)
+  pub all : (slot : ℕ) → slice_index counts slot ≡ 0 → Contains settled slot ⊎ (slice_index_or lists slot [] ≡ [])
+
+-- a call is absorbed, or a procedure without callers is taken off the worklist
+pub record IsAdvance (old : List ℕ) (old_lists : List (List CallSite)) (old_settled sums : List ℕ) (lists : List (List CallSite)) (counts settled : List ℕ) : Type 0 where
+  pub worklist : IsWorklist sums lists counts settled
+  pub hold : (depths : List Depth) (calls : List CallSite) → AreSums depths calls old (joined old_lists) → AreSums depths calls sums (joined lists)
+  pub fewer : 2 * length (joined lists) + length settled < 2 * length (joined old_lists) + length old_settled
+
+-- the calls whose callees have calls that are left
+pub record AreLeft (calls : List CallSite) (counts : List ℕ) (pending : List CallSite) : Type 0 where
+  pub of_list : (call : CallSite) → Contains pending call → Contains calls call
+  pub counted : (call : CallSite) → Contains pending call → 0 < slice_index counts (slot_of (Entry call.target))
+  pub all : (call : CallSite) → Contains calls call → 0 < slice_index counts (slot_of (Entry call.target)) → Contains pending call
 
 -- the sum of a call's caller is raised to what goes through the call
 pub record IsSumAfter (sums : List ℕ) (call : CallSite) (after : List ℕ) : Type 0 where
@@ -79,15 +111,6 @@ pub record AreStuck (pending : List CallSite) : Type 0 where
 -- for each procedure that has one of the calls that have been looked at, one of its pending calls
 pub record AreFollowed (pending seen table : List CallSite) : Type 0 where
   pub next : (p : Procedure) (call : CallSite) → CallsBy seen p call → (d : CallSite) → CallsBy pending p (slice_index_or table (slot_of p) d)
-
--- while calls are absorbed in rounds
-pub record IsSettling (depths : List Depth) (calls : List CallSite) (sums : List ℕ) (marks : List Bool) (open_calls : List CallSite) (absorbs : Bool) : Type 0 where
-  pub hold : AreSums depths calls sums open_calls
-  pub small : AreSmall sums (length open_calls)
-  pub modest : All (λ (call : CallSite). IsModest call.depth) open_calls
-  pub places : length sums ≡ 65537
-  pub mark_places : length marks ≡ 65537
-  pub stuck : absorbs ≡ false → AreStuck open_calls
 
 -- a call that the table has for its caller
 pub record IsFollowed (calls table : List CallSite) (call : CallSite) : Type 0 where

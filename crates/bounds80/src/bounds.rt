@@ -7,8 +7,9 @@ ghost use Rattle.bounds80.specs.Sums.{AreSums, AreStuck};
 use crate::cycles::cycle;
 use crate::fault::BoundsFault;
 use crate::graph::{CallSite, Depth};
-use crate::procedure::{Procedure, SLOTS, slot};
-use crate::sums::{greatest_depths, mark, round, table};
+use crate::procedure::{Procedure, slot};
+use crate::sums::greatest_depths;
+use crate::worklist::{advance, group, idle, left};
 use std::alloc::{AllocError, Global};
 use std::marker::Model;
 
@@ -43,7 +44,7 @@ impl Bounds {
 /// The sums of the procedures, and the calls that couldn't be absorbed.
 type Settled = (Vec<u64>, Vec<CallSite>);
 
-/// Absorbs calls in rounds, until a round absorbs none.
+/// Absorbs calls to settled procedures, until there are none.
 fn settle(alloc: Global, depths: &[Depth], calls: &[CallSite]) -> Result<Settled, AllocError>
     requires depths { All (λ d. IsModest d.depth) depths.now }
     requires calls { All (λ c. IsModest c.depth) calls.now }
@@ -52,15 +53,12 @@ fn settle(alloc: Global, depths: &[Depth], calls: &[CallSite]) -> Result<Settled
     ensures stuck { IfOk result (λ s. AreStuck s.1.items) }
 {
     let mut bytes = greatest_depths(alloc, depths)?;
-    let mut marks = table(alloc, false, SLOTS)?;
-    let mut pending = Vec::from_slice(alloc, calls)?;
-    let mut absorbs = true;
-    while absorbs {
-        mark(&mut marks, &pending);
-        let kept = round(alloc, &mut bytes, &marks, &pending)?;
-        absorbs = kept.len() < pending.len();
-        pending = kept;
+    let (mut callers, mut counts) = group(alloc, calls)?;
+    let mut settled = idle(alloc, &callers, &counts)?;
+    while !settled.is_empty() {
+        advance(&mut bytes, &mut callers, &mut counts, &mut settled)?;
     }
+    let pending = left(alloc, calls, &counts)?;
     Ok((bytes, pending))
 }
 

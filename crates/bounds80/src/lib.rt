@@ -15,6 +15,7 @@ mod fault;
 mod graph;
 mod procedure;
 mod sums;
+mod worklist;
 
 pub use bounds::{Bounds, find_bounds};
 pub use fault::BoundsFault;

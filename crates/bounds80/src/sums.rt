@@ -1,8 +1,8 @@
 //! The greatest sums of bytes over chains of calls, while calls are absorbed into them.
 
-ghost use Rattle.std.specs.Prelude.{◌≡◌, ◌<◌, All, IfOk, length, []};
+ghost use Rattle.std.specs.Prelude.{◌≡◌, All, IfOk, length};
 ghost use Rattle.bounds80.specs.Chains.{IsModest};
-ghost use Rattle.bounds80.specs.Sums.{IsRaised, IsSumAfter, AreDepths, AreSmall, AreMarked, AreRounded};
+ghost use Rattle.bounds80.specs.Sums.{IsRaised, IsSumAfter, AreDepths, AreSmall};
 
 use crate::graph::{CallSite, Depth};
 use crate::procedure::{Procedure, SLOTS, slot};
@@ -49,7 +49,7 @@ pub(crate) fn greatest_depths(alloc: Global, depths: &[Depth]) -> Result<Vec<u64
 }
 
 /// Absorbs a call: its caller's sum is at least what goes through the call.
-fn absorb(sums: &mut [u64], call: &CallSite)
+pub(crate) fn absorb(sums: &mut [u64], call: &CallSite)
     requires slots { length sums.old ≡ 65537 }
     requires modest { IsModest call.now.depth }
     requires small { AreSmall sums.old 0 }
@@ -58,42 +58,4 @@ fn absorb(sums: &mut [u64], call: &CallSite)
     let below = sums[slot(Procedure::Entry(call.target))];
     let caller = slot(call.caller);
     sums[caller] = raise(sums[caller], call.depth + 2 + below as i64);
-}
-
-/// Marks the callers of calls, and no other procedures.
-pub(crate) fn mark(marks: &mut [bool], pending: &[CallSite])
-    requires { length marks.old ≡ 65537 }
-    ensures { AreMarked marks.new pending.now }
-{
-    marks.fill(false);
-    for call in pending {
-        marks[slot(call.caller)] = true;
-    }
-}
-
-/// Absorbs the pending calls whose callees aren't marked, and returns the others.
-pub(crate) fn round(
-    alloc: Global,
-    sums: &mut [u64],
-    marks: &[bool],
-    pending: &[CallSite],
-) -> Result<Vec<CallSite>, AllocError>
-    requires slots { length sums.old ≡ 65537 }
-    requires marked_slots { length marks.now ≡ 65537 }
-    requires marked { AreMarked marks.now pending.now }
-    requires modest { All (λ c. IsModest c.depth) pending.now }
-    requires small { AreSmall sums.old (length pending.now) }
-    ensures { IfOk
-        result
-        (λ kept. AreRounded marks.now pending.now sums.old sums.new kept.items [] (length pending.now)) }
-{
-    let mut kept = Vec::new(alloc);
-    for call in pending {
-        if marks[slot(Procedure::Entry(call.target))] {
-            kept.push(*call)?;
-        } else {
-            absorb(sums, call);
-        }
-    }
-    Ok(kept)
 }

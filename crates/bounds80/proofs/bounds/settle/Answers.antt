@@ -1,57 +1,43 @@
-use Rattle.std.proofs.Common.{arith, length, drop, sym, ap, ◌∙◌}
-use Rattle.std.proofs.lemmas.List.{take_at}
-use Rattle.std.proofs.lemmas.Bool.{ltb-false}
-use Rattle.bounds80.proofs.SumLemmas.{settling_first, settling_at}
+use Rattle.std.proofs.Common.{Vec, Global, ◌≡◌, List, ℕ, [], length, sym, subst, ◌∙◌}
+use Rattle.bounds80.specs.declared.graph.Depth.{Depth}
+use Rattle.bounds80.specs.declared.graph.CallSite.{CallSite}
+use Rattle.bounds80.specs.Sums.{AreSums, IsWorklist, AreLeft, AreIdle, joined}
+use Rattle.bounds80.proofs.ListLemmas.{lists_of}
+use Rattle.bounds80.proofs.SumLemmas.{no_items}
+use Rattle.bounds80.proofs.WorklistLemmas.{worklist_first, IsDone, sums_at_end, stuck_at_end}
 use Rattle.bounds80.proofs.bounds.settle.Goals as goal
 
-pub loop-absorbs-init : goal.loop-absorbs-init
-loop-absorbs-init c =
-    rw (c.in_ok-pending.ensures.items)
-    (settling_first c.args.depths.now c.args.calls.now c.in_ok-bytes.bytes.items c.in_ok-marks.marks.items c.in_ok-bytes.ensures.depths c.in_ok-bytes.ensures.slots
-    c.in_ok-marks.ensures.places c.requires.calls c.requires.few)
+is_done : (depths : List Depth) (calls : List CallSite) (sums : List ℕ) (lists : List (List CallSite)) (counts seen settled : List ℕ) (pending : List CallSite) →
+    AreSums depths calls sums (joined lists) → IsWorklist sums lists counts settled → settled ≡ [] → seen ≡ counts → AreLeft calls seen pending →
+    IsDone depths calls sums lists counts pending
+is_done depths calls sums lists counts seen settled pending are worklist none same left = record {
+  are = are;
+  worklist = subst (λ (l : List ℕ). IsWorklist sums lists counts l) none worklist;
+  left = subst (λ (l : List ℕ). AreLeft calls l pending) same left;
+}
 
-pub loop-absorbs-preserved : goal.loop-absorbs-preserved
-loop-absorbs-preserved c =
-    let l = c.loop-absorbs in
-    let sums = take_at c.round.new.sums (drop (length c.round.new.sums) l.bytes.items) l.bytes.len
-    (omega (arith, c.round.auto.sums, c.deref_mut-in-loop-absorbs.ensures.len, l.bytes.ok.0)) in
-    let marks = take_at c.mark.new.marks (drop (length c.mark.new.marks) l.marks.items) l.marks.len
-    (omega (arith, c.mark.auto.marks, c.deref_mut.ensures.len, l.marks.ok.0)) in
-    settling_at c.args.depths.now c.args.calls.now l.bytes.items c.round.new.sums _ _ l.marks.items c.mark.new.marks _ _ l.pending.items _ _ c.in_ok-kept.kept.items
-    l.absorbs _ l.invariant c.mark.ensures c.in_ok-kept.ensures c.deref.ensures.value c.deref-in-loop-absorbs-2.ensures.value
-    c.deref_mut-in-loop-absorbs.ensures.value (c.deref-in-loop-absorbs.ensures.value ∙ marks) sums marks
-    (omega (arith, c.round.auto.sums, c.deref_mut-in-loop-absorbs.ensures.len, l.bytes.ok.0))
-    (omega (arith, c.mark.auto.marks, c.deref_mut.ensures.len, l.marks.ok.0))
-    (λ no. omega (arith, ltb-false c.len.result c.len-in-loop-absorbs.result no, c.len.ensures, c.len-in-loop-absorbs.ensures, c.in_ok-kept.kept.ok.0, l.pending.ok.0))
+idle_at : (callers seen_callers : List (Vec CallSite Global)) (counts seen settled : List ℕ) → seen_callers ≡ callers → seen ≡ counts →
+    AreIdle (lists_of seen_callers) seen (length seen) settled → AreIdle (lists_of callers) counts (length counts) settled
+idle_at callers seen_callers counts seen settled callers_is counts_is are =
+    subst (λ (l : List (Vec CallSite Global)). AreIdle (lists_of l) counts (length counts) settled) callers_is
+    (subst (λ (l : List ℕ). AreIdle (lists_of seen_callers) l (length l) settled) counts_is are)
 
-pub mark-requires : goal.mark-requires
-mark-requires c = ap length c.deref_mut.ensures.value ∙ c.loop-absorbs.invariant.mark_places
-
-pub round-requires-clause-slots : goal.round-requires-clause-slots
-round-requires-clause-slots c = ap length c.deref_mut-in-loop-absorbs.ensures.value ∙ c.loop-absorbs.invariant.places
-
-pub round-requires-clause-marked_slots : goal.round-requires-clause-marked_slots
-round-requires-clause-marked_slots c =
-    let l = c.loop-absorbs in
-    let marks = take_at c.mark.new.marks (drop (length c.mark.new.marks) l.marks.items) l.marks.len
-    (omega (arith, c.mark.auto.marks, c.deref_mut.ensures.len, l.marks.ok.0)) in
-    ap length (c.deref-in-loop-absorbs.ensures.value ∙ marks) ∙ c.mark.auto.marks ∙ ap length c.deref_mut.ensures.value ∙ l.invariant.mark_places
-
-pub round-requires-clause-marked : goal.round-requires-clause-marked
-round-requires-clause-marked c =
-    let l = c.loop-absorbs in
-    let marks = take_at c.mark.new.marks (drop (length c.mark.new.marks) l.marks.items) l.marks.len
-    (omega (arith, c.mark.auto.marks, c.deref_mut.ensures.len, l.marks.ok.0)) in
-    rw (c.deref-in-loop-absorbs.ensures.value ∙ marks, c.deref-in-loop-absorbs-2.ensures.value ∙ sym c.deref.ensures.value) c.mark.ensures
-
-pub round-requires-clause-modest : goal.round-requires-clause-modest
-round-requires-clause-modest c = rw (c.deref-in-loop-absorbs-2.ensures.value) c.loop-absorbs.invariant.modest
-
-pub round-requires-clause-small : goal.round-requires-clause-small
-round-requires-clause-small c = rw (c.deref_mut-in-loop-absorbs.ensures.value, c.deref-in-loop-absorbs-2.ensures.value) c.loop-absorbs.invariant.small
+pub loop-bytes-init : goal.loop-bytes-init
+loop-bytes-init c =
+    worklist_first c.args.depths.now c.args.calls.now c.in_ok-bytes.bytes.items (lists_of c.in_ok-callers.callers.items) c.in_ok-callers.counts.items c.in_ok-settled.settled.items
+    c.in_ok-bytes.ensures.depths c.in_ok-bytes.ensures.slots c.in_ok-callers.ensures
+    (idle_at _ _ _ _ _ c.deref.ensures.value c.deref-2.ensures.value c.in_ok-settled.ensures) c.requires.calls c.requires.few
 
 pub returns-clause-sums : goal.returns-clause-sums
-returns-clause-sums c = c.loop-absorbs.invariant.hold
+returns-clause-sums c =
+    let l = c.loop-bytes in
+    sums_at_end c.args.depths.now c.args.calls.now l.bytes.items (lists_of l.callers.items) l.counts.items c.in_ok-pending.pending.items
+    (is_done _ _ _ _ _ c.deref-3.result.now l.settled.items _ l.invariant.0 l.invariant.1 (no_items l.settled.items l.settled.len l.settled.ok.0 (sym c.is_empty.ensures ∙ c.loop-bytes-test.false))
+    c.deref-3.ensures.value c.in_ok-pending.ensures)
 
 pub returns-clause-stuck : goal.returns-clause-stuck
-returns-clause-stuck c = c.loop-absorbs.invariant.stuck c.loop-absorbs-test.false
+returns-clause-stuck c =
+    let l = c.loop-bytes in
+    stuck_at_end c.args.depths.now c.args.calls.now l.bytes.items (lists_of l.callers.items) l.counts.items c.in_ok-pending.pending.items
+    (is_done _ _ _ _ _ c.deref-3.result.now l.settled.items _ l.invariant.0 l.invariant.1 (no_items l.settled.items l.settled.len l.settled.ok.0 (sym c.is_empty.ensures ∙ c.loop-bytes-test.false))
+    c.deref-3.ensures.value c.in_ok-pending.ensures)

@@ -1,9 +1,10 @@
-use Rattle.std.proofs.Common.{◌+◌, length, cond}
-use Rattle.bounds80.specs.Sums.{IsSettling}
+use Rattle.std.proofs.Common.{◌+◌, ◌*◌, map, length}
+use Rattle.bounds80.specs.Sums.{AreSums, IsWorklist, joined}
 use Rattle.bounds80.proofs.bounds.settle.Given as goal
 
-abbrev pub invariant-loop-absorbs : goal.invariant-loop-absorbs
-invariant-loop-absorbs l = IsSettling l.depths l.calls l.bytes.items l.marks.items l.pending.items l.absorbs
+abbrev pub invariant-loop-bytes : goal.invariant-loop-bytes
+invariant-loop-bytes l = AreSums l.depths l.calls l.bytes.items (joined (map (λ v. v.items) l.callers.items))
+    × IsWorklist l.bytes.items (map (λ v. v.items) l.callers.items) l.counts.items l.settled.items
 
-abbrev pub decreases-loop-absorbs : goal.decreases-loop-absorbs
-decreases-loop-absorbs l = length l.pending.items + cond l.absorbs 1 0
+abbrev pub decreases-loop-bytes : goal.decreases-loop-bytes
+decreases-loop-bytes l = 2 * length (joined (map (λ v. v.items) l.callers.items)) + length l.settled.items
