@@ -4,6 +4,7 @@
 //! | Item | What it is |
 //! |---|---|
 //! | [`read_module`], [`read_file`] | the module that begins at a place; the modules of an object file |
+//! | [`next_module`], [`UnfinishedModule`] | the module that begins at a place of a file whose last bytes are still to come |
 //! | [`write_module`], [`write_file`] | a module as records; modules as an object file |
 //! | [`laws`] | bytes spell one module or have one first fault; what is written spells its module |
 //! | [`ModuleFault`], [`Cause`] | why bytes make no module |
@@ -31,5 +32,6 @@ pub use omf_parts::{
     Common, Content, Field, Fixup, Module, Parts, PartsFault, Public, Segment, Target,
     copy_commons, copy_contents, copy_names, copy_publics, names_common,
 };
+pub use pieces::{UnfinishedModule, next_module};
 pub use reading::{read_file, read_module};
 pub use writing::{write_file, write_module};

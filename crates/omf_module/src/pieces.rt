@@ -1,5 +1,4 @@
-//! A module whose last bytes are still to come, read as far as they go: what a reader of files in pieces stands on. Nothing calls it
-//! yet.
+//! A module whose last bytes are still to come, read as far as they go: what the readers of files and libraries in pieces stand on.
 
 ghost use Rattle.std.specs.Prelude.{◌≡◌, ◌≤◌, ◌⊎◌, [], None, Ok, length, IfOk, IfErr, IfSome};
 ghost use Rattle.omf_module.specs.declared.fault.ModuleFault.{ModuleFault as ModuleFaultValue};
@@ -20,7 +19,7 @@ use std::alloc::Global;
 /// How far the module is read that begins at place `begin`: its records are checked up to place `here`, and declare these commons.
 /// Where that is `begin`, nothing is checked.
 #[derive(Debug, Drop)]
-pub(crate) struct Unfinished {
+pub struct UnfinishedModule {
     pub begin: usize,
     pub here: usize,
     pub commons: Vec<Common>,
@@ -75,7 +74,7 @@ fn walk_on(
 
 /// The place from which the records of an unfinished module are to be checked, or `None` where its header is cut off. It takes
 /// no memory.
-fn unchecked_from(bytes: &[u8], unfinished: &Unfinished) -> Result<Option<usize>, ModuleFault>
+fn unchecked_from(bytes: &[u8], unfinished: &UnfinishedModule) -> Result<Option<usize>, ModuleFault>
     requires { ReadsModule bytes.now unfinished.now.begin unfinished.now.here unfinished.now.commons.items }
     ensures begun { IfOk result (λ from. IfSome from (λ here. BegunModule bytes.now unfinished.now.begin here unfinished.now.commons.items)) }
     ensures waits { result ≡ Ok None → IsCutOff bytes.now unfinished.now.begin }
@@ -89,10 +88,10 @@ fn unchecked_from(bytes: &[u8], unfinished: &Unfinished) -> Result<Option<usize>
 
 /// The module that is unfinished, with the place after its end, or `None` where more bytes are needed. Its records are checked
 /// once, whatever the pieces in which the bytes come, and read again where the end stands.
-pub(crate) fn next_module(
+pub fn next_module(
     alloc: Global,
     bytes: &[u8],
-    unfinished: &mut Unfinished,
+    unfinished: &mut UnfinishedModule,
 ) -> Result<Option<(Module, usize)>, ModuleFault>
     requires reads { ReadsModule bytes.now unfinished.old.begin unfinished.old.here unfinished.old.commons.items }
     requires inside { unfinished.old.begin ≤ length bytes.now }
