@@ -44,7 +44,7 @@ bodies_stay : Stay → (bytes more : List ℕ) (from to : ℕ) (ps : List Placed
 bodies_stay s bytes more from to [] x = x
 bodies_stay s bytes more from to (p ∷ ps) x = (x.0, (x.1.0, body_stays s bytes more from x.1.0 p.body x.1.1, bodies_stay s bytes more x.1.0 to ps x.1.2))
 
-module_records_stay : Stay → (bytes more : List ℕ) (after : ℕ) (r : ModuleRecords) → SpellsModuleRecords bytes after r → SpellsModuleRecords (bytes ++ more) after r
+pub module_records_stay : Stay → (bytes more : List ℕ) (after : ℕ) (r : ModuleRecords) → SpellsModuleRecords bytes after r → SpellsModuleRecords (bytes ++ more) after r
 module_records_stay s bytes more after r x = record {
   first = x.first;
   header = body_stays s bytes more r.at x.first (ModuleHeader r.header) x.header;

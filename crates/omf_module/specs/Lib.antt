@@ -6,6 +6,7 @@ pub mod Spelled
 pub mod Reading
 pub mod ReadingLaws
 pub mod Pieces
+pub mod StayLaws
 pub mod UseLaws
 pub mod Writing
 pub mod WritingLaws
