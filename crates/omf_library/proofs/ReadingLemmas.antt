@@ -65,7 +65,7 @@ pub record IndexSoFar (bytes : List ℕ) (from at : ℕ) : Type 0 where
 pub no_index : (bytes : List ℕ) (from : ℕ) → IndexSoFar bytes from from
 no_index bytes from = record { records = []; spelled = record { spelled = refl; kinds = refl } }
 
-all_with : (rs : List RecordValue) (r : RecordValue) → list_all (λ r. is_index_kind r.kind) rs ≡ true → is_index_kind r.kind ≡ true → list_all (λ r. is_index_kind r.kind) (rs ++ r ∷ []) ≡ true
+pub all_with : (rs : List RecordValue) (r : RecordValue) → list_all (λ r. is_index_kind r.kind) rs ≡ true → is_index_kind r.kind ≡ true → list_all (λ r. is_index_kind r.kind) (rs ++ r ∷ []) ≡ true
 all_with [] r all one = rw one refl
 all_with (s ∷ rs) r all one =
     let parts = and_parts (is_index_kind s.kind) (list_all (λ r. is_index_kind r.kind) rs) all in

@@ -30,7 +30,7 @@ const DICTIONARY: u8 = 0x2A;
 const LIBRARY_HEADER: u8 = 0x2C;
 
 /// Whether a record says how many modules a library has.
-fn is_library_header(kind: u8, body: &[u8]) -> bool
+pub(crate) fn is_library_header(kind: u8, body: &[u8]) -> bool
     ensures { result ≡ is_library_header kind body.now }
 {
     kind == LIBRARY_HEADER && 2 <= body.len()
@@ -86,7 +86,7 @@ fn modules_from(
     Ok((modules, at))
 }
 
-fn is_index_kind(kind: u8) -> bool
+pub(crate) fn is_index_kind(kind: u8) -> bool
     ensures { result ≡ is_index_kind kind }
 {
     kind == LOCATIONS || kind == NAMES || kind == DICTIONARY
