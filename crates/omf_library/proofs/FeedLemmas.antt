@@ -26,13 +26,13 @@ use Rattle.omf_module.specs.Spelled.{SpellsModules, FaultsWithin, no_byte as no_
 use Rattle.omf_module.specs.StayLaws.{ModulesStay, BegunModulesStay}
 use Rattle.omf_module.specs.Uses.{fault_by}
 use Rattle.omf_library.specs.declared.fault.LibraryFault.{LibraryFault}
-use Rattle.omf_library.specs.declared.fault.LibraryFault.TheVariants.{Module, NotLibrary, NoEnd}
+use Rattle.omf_library.specs.declared.fault.LibraryFault.TheVariants.{Module, NotLibrary, CountDiffers, NoEnd, Memory}
 use Rattle.omf_library.specs.declared.unfinished.Progress.{Progress}
 use Rattle.omf_library.specs.declared.unfinished.Progress.TheVariants.{Header, Modules, Index, Ended}
 use Rattle.omf_library.specs.Fault.{of_module, OrNoMemory}
 use Rattle.omf_library.specs.FeedLaws.{LastingFaultsLast, CountedHaveNone}
 use Rattle.omf_library.specs.Laws.{OneLibraryFault, NeverBothLibrary}
-use Rattle.omf_library.specs.LibraryFeed.{LastingLibraryFault, OpenLibrary, CountsModules, in_header as counted_in_header, at_record as counted_at_record, in_module as counted_in_module, ended}
+use Rattle.omf_library.specs.LibraryFeed.{LibraryFeedValue, LastingLibraryFault, OpenLibrary, CountsModules, in_header as counted_in_header, at_record as counted_at_record, in_module as counted_in_module, ended}
 use Rattle.omf_library.specs.Spelled.{is_indexed, BeginsLibrary, SpellsLibrary, FaultsLibraryHeader, no_header_byte, no_header_record, FaultsAt, no_byte, no_record, in_module, FaultsLibrary, in_header, after_header}
 use Rattle.omf_library.specs.Unfinished.{ReadsTo, FaultsWhereCut, truncated_at, no_end_in_module}
 use Rattle.omf_library.proofs.ReadingLemmas.{module_further}
@@ -221,6 +221,27 @@ without_more bytes f lasts = subst (λ (b : List ℕ). FaultsLibrary b f) (appen
 pub first_fault : (bytes : List ℕ) (f : LibraryFault) → OrNoMemory (LastingLibraryFault bytes) f → OrNoMemory (FaultsLibrary bytes) f
 first_fault bytes f (inl none) = inl none
 first_fault bytes f (inr lasts) = inr (without_more bytes f lasts)
+
+-- the fault of a piece that isn't taken
+pub piece_fault : (bytes : List ℕ) (f : LibraryFault) → (f ≢ Memory → LastingLibraryFault bytes f) → OrNoMemory (FaultsLibrary bytes) f
+piece_fault bytes (Module g) x = inr (without_more bytes (Module g) (x (λ e. cc)))
+piece_fault bytes NotLibrary x = inr (without_more bytes NotLibrary (x (λ e. cc)))
+piece_fault bytes (CountDiffers said found) x = inr (without_more bytes (CountDiffers said found) (x (λ e. cc)))
+piece_fault bytes (NoEnd at) x = inr (without_more bytes (NoEnd at) (x (λ e. cc)))
+piece_fault bytes Memory x = inl refl
+
+-- that of the first one
+pub first_piece_fault : (feed : LibraryFeedValue) (bytes : List ℕ) (f : LibraryFault) → feed ≡ record { bytes = []; kept = None }
+    → (feed.kept ≡ None → f ≢ Memory → LastingLibraryFault (feed.bytes ++ bytes) f) → OrNoMemory (FaultsLibrary bytes) f
+first_piece_fault feed bytes f is x =
+    piece_fault bytes f
+    (λ real. subst (λ (b : List ℕ). LastingLibraryFault (b ++ bytes) f) (ap (λ (v : LibraryFeedValue). v.bytes) is) (x (ap (λ (v : LibraryFeedValue). v.kept) is) real))
+
+-- what a feed has of one piece
+pub one_piece : (feed after : LibraryFeedValue) (bytes : List ℕ) → feed ≡ record { bytes = []; kept = None } → after ≡ record { bytes = feed.bytes ++ bytes; kept = None }
+    → (after.kept ≡ None) × (after.bytes ≡ bytes)
+one_piece feed after bytes is taken =
+    (ap (λ (v : LibraryFeedValue). v.kept) taken, ap (λ (v : LibraryFeedValue). v.bytes) taken ∙ ap (λ (v : LibraryFeedValue). v.bytes ++ bytes) is)
 
 changes : OneLibraryFault → (bytes more : List ℕ) (f now later : LibraryFault) → LastingLibraryFault bytes f → All (λ byte. byte < 256) more
     → FaultsLibrary bytes now → FaultsLibrary (bytes ++ more) later → (now ≡ later → ⊥) → ⊥

@@ -6,5 +6,4 @@ pub mod LibraryFeed
 pub mod FeedLaws
 pub mod Writing
 -- what the crate's own functions promise one another: no public contract cites these
-pub mod Reading
 pub mod Unfinished

@@ -86,13 +86,9 @@ impl LibraryFeed {
         }
         match self.library.read_on(self.alloc, &self.bytes) {
             Ok(()) => Ok(self.library.modules.len()),
-            Err(LibraryFault::Memory) => {
-                self.bytes.truncate(taken);
-                Err(LibraryFault::Memory)
-            }
             Err(fault) => {
                 self.bytes.truncate(taken);
-                self.kept = Some(fault);
+                self.kept = fault.unless_memory();
                 Err(fault)
             }
         }

@@ -5,12 +5,11 @@ ghost use Rattle.omf_parts.specs.Modules.{ModuleValue};
 ghost use Rattle.omf_module.specs.declared.pieces.UnfinishedModule.{UnfinishedModule as UnfinishedModuleValue};
 ghost use Rattle.omf_module.specs.Pieces.{IsCutOff, ReadsModule};
 ghost use Rattle.omf_library.specs.Fault.{OrNoMemory};
-ghost use Rattle.omf_library.specs.Spelled.{BeginsLibrary, SpellsLibrary, FaultsLibrary};
+ghost use Rattle.omf_library.specs.Spelled.{BeginsLibrary, SpellsLibrary, FaultsLibrary, is_library_header, is_index_kind};
 ghost use Rattle.omf_library.specs.LibraryFeed.{LastingLibraryFault};
 ghost use Rattle.omf_library.specs.Unfinished.{ReadsModules, ReadsIndexed, ReadsTo, ReadsLibrary, WaitsLibrary, left_after, ReadsFurther, ReadsAll, Extends, HeaderStands, StandsAt, RecordStands, LastingHeaderFault, LastingFaultAt, LeadsTo, LeadsNowhere, FaultsWhereCut, no_end_in_module};
 
 use crate::fault::LibraryFault;
-use crate::reading::{is_index_kind, is_library_header};
 use omf_core::laws::{list_grows, lists_stay, other_faults_stay, records_stay};
 use omf_core::{RecordFault, RecordKind, next_record};
 use omf_module::laws::modules_stay;
@@ -47,6 +46,28 @@ pub struct UnfinishedLibrary {
     pub modules: Vec<Module>,
     pub next: UnfinishedModule,
     pub progress: Progress,
+}
+
+/// The type bytes of records: the index of a library, and a library header.
+const LOCATIONS: u8 = 0x26;
+
+const NAMES: u8 = 0x28;
+
+const DICTIONARY: u8 = 0x2A;
+
+const LIBRARY_HEADER: u8 = 0x2C;
+
+/// Whether a record says how many modules a library has.
+fn is_library_header(kind: u8, body: &[u8]) -> bool
+    ensures { result ≡ is_library_header kind body.now }
+{
+    kind == LIBRARY_HEADER && 2 <= body.len()
+}
+
+fn is_index_kind(kind: u8) -> bool
+    ensures { result ≡ is_index_kind kind }
+{
+    kind == LOCATIONS || kind == NAMES || kind == DICTIONARY
 }
 
 /// How many modules the header of a library says there are, and the place after it, or `None` where it is cut off.

@@ -17,20 +17,12 @@ read_on-requires c =
     let s = of_stay c.records_stay.ensures c.lists_stay.ensures c.modules_stay.ensures.whole c.modules_stay.ensures.begun in
     subst (λ (b : List ℕ). ReadsLibrary b library) (sym same) (reads_stay s c.self.inside.bytes.items c.args.piece.now library.modules.items library.next library.progress c.self.invariant)
 
-pub invariant_of-self-in-Err-Memory : goal.invariant_of-self-in-Err-Memory
-invariant_of-self-in-Err-Memory c =
-    let grown : c.extend_from_slice.new.self.items ≡ c.self.inside.bytes.items ++ c.args.piece.now = search rules in
-    let size : c.len-taken.result ≡ length c.self.inside.bytes.items = search rules in
-    let back : c.truncate.new.self.items ≡ c.self.inside.bytes.items =
-    c.truncate.ensures.items ∙ taken_back c.self.inside.bytes.items c.args.piece.now c.extend_from_slice.new.self.items c.len-taken.result grown size in
-    subst (λ (b : List ℕ). ReadsLibrary b c.read_on.new.self) (sym back) (c.in-Err-Memory.ensures.as_before c.self.inside.bytes.items c.self.invariant)
-
 pub invariant_of-self-in-Err : goal.invariant_of-self-in-Err
 invariant_of-self-in-Err c =
     let grown : c.extend_from_slice.new.self.items ≡ c.self.inside.bytes.items ++ c.args.piece.now = search rules in
     let size : c.len-taken.result ≡ length c.self.inside.bytes.items = search rules in
-    let back : c.truncate-in-Err.new.self.items ≡ c.self.inside.bytes.items =
-    c.truncate-in-Err.ensures.items ∙ taken_back c.self.inside.bytes.items c.args.piece.now c.extend_from_slice.new.self.items c.len-taken.result grown size in
+    let back : c.truncate.new.self.items ≡ c.self.inside.bytes.items =
+    c.truncate.ensures.items ∙ taken_back c.self.inside.bytes.items c.args.piece.now c.extend_from_slice.new.self.items c.len-taken.result grown size in
     subst (λ (b : List ℕ). ReadsLibrary b c.read_on.new.self) (sym back) (c.in-Err.ensures.as_before c.self.inside.bytes.items c.self.invariant)
 
 pub returns-in-Ok-clause-counted : goal.returns-in-Ok-clause-counted
