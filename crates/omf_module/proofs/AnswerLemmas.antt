@@ -7,9 +7,9 @@ use Rattle.omf_module.specs.declared.fault.ModuleFault.{ModuleFault}
 use Rattle.omf_module.specs.Fault.{no_memory, fault_of}
 use Rattle.omf_parts.specs.Modules.{ModuleValue}
 use Rattle.omf_module.specs.Uses.{fault_by}
-use Rattle.omf_module.specs.Spelled.{SpellsModule, FaultsModule}
+use Rattle.omf_module.specs.Spelled.{SpellsModule, FaultsModule, FaultsFile}
 use Rattle.omf_module.specs.Reading.{OrNoMemory}
-use Rattle.omf_module.specs.ReadingLaws.{OneModule, NeverBoth, Answers}
+use Rattle.omf_module.specs.ReadingLaws.{OneModule, NeverBoth, OneFileFault, Answers}
 
 pub every_module : OneModule → NeverBoth → (bytes : List ℕ) (at : ℕ) (r : Result (ModuleValue × ℕ) ModuleFault)
     → IfOk r (λ x. SpellsModule bytes at x.1 x.0) → IfErr r (OrNoMemory (FaultsModule bytes at))
@@ -24,6 +24,11 @@ pub answered : {A : Type 0} (Faults : ModuleFault → Type 0) (r : Result A Modu
 answered {A} Faults (Ok x) fault none = inl refl
 answered {A} Faults (Err f) (inl e) none = inr (ap (λ (g : ModuleFault). Err g) e)
 answered {A} Faults (Err f) (inr x) none = absurd (none f x)
+
+-- a refusal of a file that has a fault
+pub refused_by : {A : Type 0} → OneFileFault → (bytes : List ℕ) (f g : ModuleFault) → OrNoMemory (FaultsFile bytes) f → FaultsFile bytes g → Answers {A = A} (Err f) (Err g)
+refused_by {A} one bytes f g (inl none) x = inr (ap (λ (h : ModuleFault). Err h) none)
+refused_by {A} one bytes f g (inr y) x = inl (ap (λ (h : ModuleFault). Err h) (one bytes f g y x))
 
 pub real_fault : (at : ℕ) (why : Cause) → why ≢ Memory → fault_of at why ≡ fault_by at why
 real_fault at Memory real = absurd (real refl)

@@ -79,10 +79,10 @@ other_fault rest at (BadSum p) x other = refl
 other_fault rest at (ZeroLength p) x other = refl
 
 -- no byte stands where a record is cut off
-past_is_cut_off : (bytes : List ℕ) (at : ℕ) → length bytes ≤ at → IsCutOff bytes at
+pub past_is_cut_off : (bytes : List ℕ) (at : ℕ) → length bytes ≤ at → IsCutOff bytes at
 past_is_cut_off bytes at past = ap (λ (r : List ℕ). fault_at r at) (drop_all at bytes past)
 
-record_fault_stays : Stay → (bytes more : List ℕ) (at : ℕ) (f : RecordFault) → at < length bytes → (IsCutOff bytes at → ⊥) → fault_at (drop at bytes) at ≡ Some f → fault_at (drop at (bytes ++ more)) at ≡ Some f
+pub record_fault_stays : Stay → (bytes more : List ℕ) (at : ℕ) (f : RecordFault) → at < length bytes → (IsCutOff bytes at → ⊥) → fault_at (drop at bytes) at ≡ Some f → fault_at (drop at (bytes ++ more)) at ≡ Some f
 record_fault_stays s bytes more at f within whole x =
     ap (λ (r : List ℕ). fault_at r at) (drop-append-le at bytes more (omega arith)) ∙ s.faults (drop at bytes) more at f (other_fault (drop at bytes) at f x whole) x
 
@@ -222,23 +222,46 @@ bodies_inside bytes from to (p ∷ ps) inside s = bodies_inside bytes s.1.0 to p
 without_more : (bytes : List ℕ) (begin : ℕ) (f : ModuleFault) → LastingModuleFault bytes begin f → FaultsModule bytes begin f
 without_more bytes begin f lasts = subst (λ (b : List ℕ). FaultsModule b begin f) (append-nil bytes) (lasts [] (All-nil (λ byte. byte < 256)))
 
--- a fault that is another one where more bytes follow doesn't last
-changes : OneFault → (bytes more : List ℕ) (begin at : ℕ) (f : ModuleFault) (why why' : Cause) → LastingModuleFault bytes begin f → All (λ byte. byte < 256) more
-    → FaultsModule bytes begin (fault_by at why) → FaultsModule (bytes ++ more) begin (fault_by at why') → (why ≡ why' → ⊥) → ⊥
-changes one bytes more begin at f why why' lasts small x y other =
-    let now = one bytes begin f (fault_by at why) (without_more bytes begin f lasts) x in
-    let then_ = one (bytes ++ more) begin f (fault_by at why') (lasts more small) y in
-    other (ap (λ (g : ModuleFault). g.cause) (sym now ∙ then_))
+-- A module that waits for bytes has one fault as it stands, and another where some bytes follow.
+pub record Undone (bytes : List ℕ) (begin : ℕ) : Type 0 where
+  pub more : List ℕ
+  pub small : All (λ byte. byte < 256) more
+  pub at : ℕ
+  pub why : Cause
+  pub now : FaultsModule bytes begin (fault_by at why)
+  pub later : FaultsModule (bytes ++ more) begin (fault_by at (Record (BadSum at)))
+  pub other : why ≡ Record (BadSum at) → ⊥
 
-pub waits_none : Stay → TruncatedCanBeSpoilt → OneFault → (bytes : List ℕ) (begin : ℕ) (f : ModuleFault) → begin ≤ length bytes → WaitsModule bytes begin → LastingModuleFault bytes begin f → ⊥
-waits_none s law one bytes begin f inside (inl cut) lasts =
+pub undone : Stay → TruncatedCanBeSpoilt → (bytes : List ℕ) (begin : ℕ) → begin ≤ length bytes → WaitsModule bytes begin → Undone bytes begin
+undone s law bytes begin inside (inl cut) =
     let x = header_waits bytes begin cut (cases_lt begin (length bytes)) in
     let y = spoil law bytes begin inside cut in
-    changes one bytes y.0 begin begin f x.0 (Record (BadSum begin)) lasts y.1 (in_header x.0 x.1) (in_header (Record (BadSum begin)) (no_header_record (BadSum begin) y.2 y.3)) x.2
-waits_none s law one bytes begin f inside (inr w) lasts =
+    record {
+      more = y.0;
+      small = y.1;
+      at = begin;
+      why = x.0;
+      now = in_header x.0 x.1;
+      later = in_header (Record (BadSum begin)) (no_header_record (BadSum begin) y.2 y.3);
+      other = x.2;
+    }
+undone s law bytes begin inside (inr w) =
     let x = within_waits bytes w.here w.commons w.cut_off (cases_lt w.here (length bytes)) in
     let y = spoil law bytes w.here (bodies_inside bytes w.begun.first w.here w.begun.bodies w.begun.begins.framed.within w.begun.spelled) w.cut_off in
     let more_of = begun_stays s bytes y.0 begin w.here w.commons w.begun in
-    changes one bytes y.0 begin w.here f x.0 (Record (BadSum w.here)) lasts y.1
-    (begun_faults bytes begin w.here w.commons x.0 w.begun x.1)
-    (begun_faults (bytes ++ y.0) begin w.here w.commons (Record (BadSum w.here)) more_of (no_record (BadSum w.here) y.2 y.3)) x.2
+    record {
+      more = y.0;
+      small = y.1;
+      at = w.here;
+      why = x.0;
+      now = begun_faults bytes begin w.here w.commons x.0 w.begun x.1;
+      later = begun_faults (bytes ++ y.0) begin w.here w.commons (Record (BadSum w.here)) more_of (no_record (BadSum w.here) y.2 y.3);
+      other = x.2;
+    }
+
+pub waits_none : Stay → TruncatedCanBeSpoilt → OneFault → (bytes : List ℕ) (begin : ℕ) (f : ModuleFault) → begin ≤ length bytes → WaitsModule bytes begin → LastingModuleFault bytes begin f → ⊥
+waits_none s law one bytes begin f inside waits lasts =
+    let u = undone s law bytes begin inside waits in
+    let now = one bytes begin f (fault_by u.at u.why) (without_more bytes begin f lasts) u.now in
+    let then_ = one (bytes ++ u.more) begin f (fault_by u.at (Record (BadSum u.at))) (lasts u.more u.small) u.later in
+    u.other (ap (λ (g : ModuleFault). g.cause) (sym now ∙ then_))

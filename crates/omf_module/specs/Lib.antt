@@ -7,6 +7,7 @@ pub mod Reading
 pub mod ReadingLaws
 pub mod Pieces
 pub mod StayLaws
+pub mod FileFeed
 pub mod UseLaws
 pub mod Writing
 pub mod WritingLaws

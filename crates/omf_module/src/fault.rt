@@ -1,6 +1,6 @@
 //! The refusals of this crate. Each prints as its name, then its values with one space before each.
 
-ghost use Rattle.std.specs.Prelude.{◌≡◌};
+ghost use Rattle.std.specs.Prelude.{◌≡◌, ◌≢◌, false, IsTrue};
 ghost use Rattle.omf_module.specs.Fault.{cause_code, no_memory, fault_of};
 ghost use Rattle.omf_module.specs.Spelled.{cause_of, commons_cause};
 ghost use Rattle.omf_module.specs.declared.fault.Cause.TheVariants.{Memory as OutOfMemory, Record as OfRecord};
@@ -142,6 +142,14 @@ impl<T: Drop> From<AllocFailed<T>> for ModuleFault {
 }
 
 impl ModuleFault {
+    /// Whether it is out of memory.
+    pub(crate) fn is_memory(&self) -> bool
+        ensures memory { IsTrue result → self.now ≡ no_memory }
+        ensures other { result ≡ false → self.now ≢ no_memory }
+    {
+        *self == Cause::Memory.at(0)
+    }
+
     /// The number of the cause: 1 `Record`, 2 `NoHeader`, 3 `UnknownKind`, 4 `BadBody`, 5 `BadName`, 6 `SegmentUnknown`,
     /// 7 `OffsetOutside`, 8 `FixupBeforeContent`, 9 `FixupOutside`, 10 `FixupTwice`, 11 `IndexUnknown`, 12 `NoEnd`, 13 `Memory`.
     pub fn code(&self) -> u8

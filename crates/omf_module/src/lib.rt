@@ -17,6 +17,7 @@
 
 mod commons;
 mod fault;
+mod file_feed;
 mod gathering;
 pub mod laws;
 mod open;
@@ -28,6 +29,7 @@ mod within;
 mod writing;
 
 pub use fault::{Cause, ModuleFault};
+pub use file_feed::FileFeed;
 pub use omf_parts::{
     Common, Content, Field, Fixup, Module, Parts, PartsFault, Public, Segment, Target,
     copy_commons, copy_contents, copy_names, copy_publics, names_common,

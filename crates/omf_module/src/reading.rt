@@ -10,18 +10,18 @@ ghost use Rattle.omf_module.specs.declared.fault.ModuleFault.{ModuleFault as Mod
 ghost use Rattle.omf_module.specs.Fault.{no_memory};
 ghost use Rattle.omf_parts.specs.Modules.{ModuleValue};
 ghost use Rattle.omf_module.specs.ReadingLaws.{Answers};
-ghost use Rattle.omf_module.specs.Spelled.{SpellsModule, FaultsHeader, FaultsModule, EndsFile, SpellsFile, FaultsFile};
+ghost use Rattle.omf_module.specs.Spelled.{SpellsModule, FaultsHeader, FaultsModule, SpellsFile, FaultsFile};
 ghost use Rattle.omf_module.specs.Reading.{OrNoMemory, records_of, with_contents};
 
 use crate::commons::kept;
-use crate::fault::{Cause, ModuleFault};
+use crate::fault::ModuleFault;
+use crate::file_feed::FileFeed;
 use crate::gathering::{externals_of, publics_of, segments_in};
 use crate::laws::{one_file_reading, one_reading};
 use crate::records::{ModuleFile, PlacedBody};
 use crate::uses::{contents_of, look_at_header, look_at_start};
 use crate::within::{header_at, records_at};
 use omf_body::{HeaderBody, Place};
-use omf_core::{RecordKind, next_record};
 use omf_parts::{Common, Content, Module, Parts};
 use std::alloc::{AllocError, Global};
 
@@ -99,6 +99,7 @@ fn parts_of(alloc: Global, file: &ModuleFile, commons: Vec<Common>) -> Result<Pa
     Ok(parts)
 }
 
+/// The module that begins at a place, and the place after its end record.
 pub(crate) fn module_at(
     alloc: Global,
     bytes: &[u8],
@@ -111,37 +112,6 @@ pub(crate) fn module_at(
     let parts = parts_of(alloc, &file, commons)?;
     let module = Module::of_rules(alloc, parts)?;
     Ok((module, after))
-}
-
-/// Whether the record that ends a file stands at a place. It takes no memory.
-fn ends_file(bytes: &[u8], at: usize) -> bool
-    ensures ends { IsTrue result → EndsFile bytes.now at }
-    ensures goes_on { result ≡ false → EndsFile bytes.now at → ⊥ }
-{
-    match next_record(bytes, at) {
-        Ok((record, _)) => record.kind == RecordKind::EndOfFile.byte(),
-        Err(_) => false,
-    }
-}
-
-/// The modules of a file, up to the record that ends it.
-fn modules_of(alloc: Global, bytes: &[u8]) -> Result<Vec<Module>, ModuleFault>
-    ensures read { IfOk result (λ modules. SpellsFile bytes.now modules.items) }
-    ensures fault { IfErr result (OrNoMemory (FaultsFile bytes.now)) }
-{
-    let (first, after) = module_at(alloc, bytes, 0)?;
-    let mut modules = Vec::new(alloc);
-    modules.push(first)?;
-    let mut at = after;
-    while !ends_file(bytes, at) {
-        if bytes.len() <= at {
-            return Err(Cause::NoEnd.at(at));
-        }
-        let (module, after) = module_at(alloc, bytes, at)?;
-        modules.push(module)?;
-        at = after;
-    }
-    Ok(modules)
 }
 
 /// The module that begins at place `at` of an object file, and the place after its end record.
@@ -195,5 +165,9 @@ pub fn read_file(alloc: Global, bytes: &[u8]) -> Result<Vec<Module>, ModuleFault
     ensures every_fault { (fault : ModuleFaultValue) → FaultsFile bytes.now fault → (result ≡ Err fault) ⊎ (result ≡ Err no_memory) }
 {
     one_file_reading();
-    modules_of(alloc, bytes)
+    let mut feed = FileFeed::new(alloc);
+    match feed.piece(bytes) {
+        Ok(_) => feed.finish(),
+        Err(fault) => Err(fault),
+    }
 }
