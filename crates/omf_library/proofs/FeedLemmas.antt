@@ -155,14 +155,17 @@ faults_so_far : (bytes : List ℕ) (said index at : ℕ) (ms : List ModuleValue)
     → FaultsAt bytes at said (length ms) (is_indexed rs) f → FaultsLibrary bytes f
 faults_so_far bytes said index at ms rs f o x = after_header o.first said index at ms rs f o.begins o.spelled o.indexed x
 
-pub header_cut : (bytes : List ℕ) (f : LibraryFault) → IsCutOff bytes 0 → FaultsWhereCut bytes 0 NotLibrary f → FaultsLibrary bytes f
-header_cut bytes f cut w =
+pub header_faults : (bytes : List ℕ) (f : LibraryFault) → IsCutOff bytes 0 → FaultsWhereCut bytes 0 NotLibrary f → FaultsLibraryHeader bytes f
+header_faults bytes f cut w =
     elim (cases_lt 0 (length bytes)) [
-      | inl within ↦ subst (λ (g : LibraryFault). FaultsLibrary bytes g) (sym (w.no_record within)) (in_header (truncated_at 0) (no_header_record (Truncated 0) within cut))
-      | inr past ↦ subst (λ (g : LibraryFault). FaultsLibrary bytes g) (sym (w.no_byte past)) (in_header NotLibrary (no_header_byte past))
+      | inl within ↦ subst (λ (g : LibraryFault). FaultsLibraryHeader bytes g) (sym (w.no_record within)) (no_header_record (Truncated 0) within cut)
+      | inr past ↦ subst (λ (g : LibraryFault). FaultsLibraryHeader bytes g) (sym (w.no_byte past)) (no_header_byte past)
     ]
 
-at_cut : (bytes : List ℕ) (at said found : ℕ) (indexed : Bool) (f : LibraryFault) → IsCutOff bytes at → FaultsWhereCut bytes at (NoEnd at) f → FaultsAt bytes at said found indexed f
+pub header_cut : (bytes : List ℕ) (f : LibraryFault) → IsCutOff bytes 0 → FaultsWhereCut bytes 0 NotLibrary f → FaultsLibrary bytes f
+header_cut bytes f cut w = in_header f (header_faults bytes f cut w)
+
+pub at_cut : (bytes : List ℕ) (at said found : ℕ) (indexed : Bool) (f : LibraryFault) → IsCutOff bytes at → FaultsWhereCut bytes at (NoEnd at) f → FaultsAt bytes at said found indexed f
 at_cut bytes at said found indexed f cut w =
     elim (cases_lt at (length bytes)) [
       | inl within ↦ subst (λ (g : LibraryFault). FaultsAt bytes at said found indexed g) (sym (w.no_record within)) (no_record (Truncated at) within cut)
@@ -192,7 +195,7 @@ begun_faults_at : (bytes : List ℕ) (begin here said found : ℕ) (commons : Li
 begun_faults_at bytes begin here said found commons why b x =
     in_module b.first (body_bytes (ModuleHeader b.header)) (fault_by here why) refl b.begins.framed (begun_faults bytes begin here commons why b x)
 
-within_cut : (bytes : List ℕ) (begin here said found : ℕ) (commons : List Common) (f : LibraryFault) → BegunModule bytes begin here commons → IsCutOff bytes here
+pub within_cut : (bytes : List ℕ) (begin here said found : ℕ) (commons : List Common) (f : LibraryFault) → BegunModule bytes begin here commons → IsCutOff bytes here
     → FaultsWhereCut bytes here (no_end_in_module here) f → FaultsAt bytes begin said found false f
 within_cut bytes begin here said found commons f b cut w =
     elim (cases_lt here (length bytes)) [
@@ -261,7 +264,7 @@ spoil law bytes at inside cut =
     let there : fault_at (drop at (bytes ++ more.0)) at ≡ Some (BadSum at) = ap (λ (r : List ℕ). fault_at r at) (drop-append-le at bytes more.0 inside) ∙ more.2 in
     record { more = more.0; small = more.1; fault = there; within = whole_is_inside (bytes ++ more.0) at (BadSum at) refl there }
 
-abbrev spoilt_at : ℕ → LibraryFault
+abbrev pub spoilt_at : ℕ → LibraryFault
 spoilt_at at = Module (fault_by at (cause.Record (BadSum at)))
 
 abbrev cause_in : LibraryFault → Cause
@@ -271,15 +274,15 @@ cause_in _ = cause.NoHeader
 truncated_not_spoilt : (at : ℕ) → truncated_at at ≡ spoilt_at at → ⊥
 truncated_not_spoilt at e = let same : cause.Record (Truncated at) ≡ cause.Record (BadSum at) = ap cause_in e in cc
 
-no_end_not_spoilt : (at : ℕ) → no_end_in_module at ≡ spoilt_at at → ⊥
+pub no_end_not_spoilt : (at : ℕ) → no_end_in_module at ≡ spoilt_at at → ⊥
 no_end_not_spoilt at e = let same : cause.NoEnd ≡ cause.Record (BadSum at) = ap cause_in e in cc
 
-record Cut (bytes : List ℕ) (at : ℕ) (none : LibraryFault) : Type 0 where
-  fault : LibraryFault
-  is : FaultsWhereCut bytes at none fault
-  other : fault ≡ spoilt_at at → ⊥
+pub record Cut (bytes : List ℕ) (at : ℕ) (none : LibraryFault) : Type 0 where
+  pub fault : LibraryFault
+  pub is : FaultsWhereCut bytes at none fault
+  pub other : fault ≡ spoilt_at at → ⊥
 
-cut_at : (bytes : List ℕ) (at : ℕ) (none : LibraryFault) → (none ≡ spoilt_at at → ⊥) → Cut bytes at none
+pub cut_at : (bytes : List ℕ) (at : ℕ) (none : LibraryFault) → (none ≡ spoilt_at at → ⊥) → Cut bytes at none
 cut_at bytes at none other =
     elim (cases_lt at (length bytes)) [
       | inl within ↦ record { fault = truncated_at at; is = record { no_byte = λ past. absurd (omega (arith, within, past)); no_record = λ _. refl }; other = truncated_not_spoilt at }

@@ -1,5 +1,5 @@
 -- What holds of faults that stay whatever bytes follow. (It follows from the layout of records.)
-use Rattle.std.specs.Prelude.{ℕ, ◌<◌, List, ◌++◌, All}
+use Rattle.std.specs.Prelude.{◌≡◌, ℕ, ◌<◌, List, ◌++◌, All}
 use Rattle.omf_library.specs.declared.fault.LibraryFault.{LibraryFault}
 use Rattle.omf_library.specs.LibraryFeed.{CountsModules, LastingLibraryFault}
 
@@ -18,3 +18,7 @@ CountedHaveNone =
     → CountsModules bytes count
     → LastingLibraryFault bytes fault
     → ⊥
+
+-- Bytes hold one number of whole modules.
+abbrev pub OneModuleCount : Type 0
+OneModuleCount = (bytes : List ℕ) (count count' : ℕ) → CountsModules bytes count → CountsModules bytes count' → count ≡ count'

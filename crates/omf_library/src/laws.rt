@@ -2,7 +2,7 @@
 //! that calls it has the law in its proof.
 
 ghost use Rattle.omf_library.specs.Laws.{OneLibrary, OneLibraryFault, NeverBothLibrary};
-ghost use Rattle.omf_library.specs.FeedLaws.{LastingFaultsLast, CountedHaveNone};
+ghost use Rattle.omf_library.specs.FeedLaws.{OneModuleCount, LastingFaultsLast, CountedHaveNone};
 ghost use Rattle.omf_library.specs.Writing.{WrittenLibraryIsSpelled};
 
 use omf_core::laws::{
@@ -28,6 +28,15 @@ pub fn written_library_is_spelled()
 {
     written_is_spelled();
     written_list_is_spelled();
+}
+
+/// Bytes hold one number of whole modules.
+pub fn one_module_count()
+    ensures { OneModuleCount }
+{
+    one_record_at_each_place();
+    no_fault_exactly_at_records();
+    one_reading();
 }
 
 /// A fault that lasts of some bytes lasts of those and any others.

@@ -1,9 +1,9 @@
 -- Object files in pieces: what stays of a file whatever bytes follow, and the faults that do.
-use Rattle.std.proofs.Common.{◌≡◌, ◌⊎◌, inl, inr, ℕ, ◌<◌, ◌≤◌, Bool, true, false, Option, Some, None, List, [], ◌∷◌, ◌++◌, length, drop, refl, sym, ap, subst, ◌∙◌, arith}
+use Rattle.std.proofs.Common.{◌≡◌, ◌⊎◌, inl, inr, ℕ, ◌<◌, ◌≤◌, Bool, true, false, Option, Some, None, List, [], ◌∷◌, ◌++◌, length, drop, refl, sym, ap, subst, ◌∙◌, append_assoc, arith}
 use Rattle.std.specs.List.{All}
 use Rattle.std.proofs.lemmas.Bool.{cases_lt}
 use Rattle.std.proofs.lemmas.List.{append-nil, length-append}
-use Rattle.std.proofs.lemmas.List.Elements.{All-nil}
+use Rattle.std.proofs.lemmas.List.Elements.{All-append, All-nil}
 use Rattle.omf_core.specs.declared.fault.RecordFault.{RecordFault}
 use Rattle.omf_core.specs.declared.fault.RecordFault.TheVariants.{BadSum}
 use Rattle.omf_core.specs.Record.{SpellsRecord, fault_at}
@@ -16,8 +16,9 @@ use Rattle.omf_module.specs.declared.file_feed.Progress.{Progress}
 use Rattle.omf_module.specs.Uses.{fault_by}
 use Rattle.omf_module.specs.Spelled.{SpellsModule, SpellsModules, EndsFile, SpellsFile, other_kind, FaultsModule, in_header, no_header_byte, FaultsFile, first_module, later_module, no_end}
 use Rattle.omf_module.specs.Reading.{OrNoMemory}
-use Rattle.omf_module.specs.ReadingLaws.{OneFault, NeverBoth, OneFileFault, NeverBothFile}
+use Rattle.omf_module.specs.ReadingLaws.{OneModule, OneFault, NeverBoth, OneFileFault, NeverBothFile}
 use Rattle.omf_module.specs.Pieces.{LastingModuleFault, IsCutOff, ReadsModule, WaitsModule}
+use Rattle.omf_module.specs.FileFeedLaws.{OneModuleCount, LastingFileFaultsLast}
 use Rattle.omf_module.specs.FileFeed.{CountsModules, LastingFileFault, EndsAfter, ReadsNext, ReadsFile, Stops, IsUnread, GrowsBy}
 use Rattle.omf_module.proofs.OneReading.{some_none}
 use Rattle.omf_module.proofs.FileLemmas.{modules_push, module_further}
@@ -246,3 +247,24 @@ stops_waiting bytes read begin on same waits =
 
 pub grows_none : (before after : List ModuleValue) → after ≡ before → GrowsBy before after
 grows_none before after same = record { more = []; joined = same ∙ sym (append-nil before) }
+
+-- ---- what holds of counts and of faults that last
+
+count_from : OneModule → (bytes : List ℕ) (from to to' : ℕ) (ms ns : List ModuleValue) → SpellsModules bytes from to ms → SpellsModules bytes from to' ns
+    → ((after : ℕ) (m : ModuleValue) → SpellsModule bytes to after m → ⊥) → ((after : ℕ) (m : ModuleValue) → SpellsModule bytes to' after m → ⊥) → length ms ≡ length ns
+count_from one bytes from to to' [] [] s t last last' = refl
+count_from one bytes from to to' [] (n ∷ ns) s t last last' = absurd (last t.0 n (subst (λ (a : ℕ). SpellsModule bytes a t.0 n) s t.1))
+count_from one bytes from to to' (m ∷ ms) [] s t last last' = absurd (last' s.0 m (subst (λ (a : ℕ). SpellsModule bytes a s.0 m) t s.1))
+count_from one bytes from to to' (m ∷ ms) (n ∷ ns) s t last last' =
+    let same = one bytes from s.0 t.0 m n s.1 t.1 in
+    let rest = count_from one bytes t.0 to to' ms ns (subst (λ (a : ℕ). SpellsModules bytes a to ms) same.1 s.2) t.2 last last' in
+    omega (arith, rest)
+
+pub one_count : OneModule → OneModuleCount
+one_count one bytes count count' x y =
+    x.counted ∙ (count_from one bytes 0 x.to y.to x.modules y.modules x.spelled y.spelled x.last y.last ∙ sym y.counted)
+
+pub lasting_file_faults_last : LastingFileFaultsLast
+lasting_file_faults_last bytes more fault small lasts others small' =
+    subst (λ (b : List ℕ). FaultsFile b fault) (sym (append_assoc bytes more others))
+    (lasts (more ++ others) (All-append (λ byte. byte < 256) more others small small'))

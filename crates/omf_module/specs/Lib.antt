@@ -8,6 +8,7 @@ pub mod ReadingLaws
 pub mod Pieces
 pub mod StayLaws
 pub mod FileFeed
+pub mod FileFeedLaws
 pub mod UseLaws
 pub mod Writing
 pub mod WritingLaws

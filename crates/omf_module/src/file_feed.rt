@@ -24,7 +24,15 @@ use std::marker::Model;
 
 /// The modules of an object file that comes in pieces, read as they are whole. A contract sees the bytes that were taken and the
 /// fault that is kept. (8080 Object Module Formats, object file.)
-#[derive(Drop)]
+///
+/// # Example
+/// ```
+/// let mut feed = FileFeed::new(rt.alloc());
+/// assert_eq!(rt; feed.piece(&HALT[..12])?, 0);
+/// assert_eq!(rt; feed.piece(&HALT[12..])?, 1);
+/// let modules = feed.finish()?;
+/// ```
+#[derive(Debug, Drop)]
 pub struct FileFeed {
     alloc: Global,
     bytes: Vec<u8>,
@@ -33,7 +41,7 @@ pub struct FileFeed {
 }
 
 /// How far a file is read: the whole modules, the one that follows them, and whether the file ends in its place.
-#[derive(Drop)]
+#[derive(Debug, Drop)]
 pub(crate) struct Progress {
     modules: Vec<Module>,
     unfinished: UnfinishedModule,

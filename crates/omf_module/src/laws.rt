@@ -3,6 +3,7 @@
 
 ghost use Rattle.omf_module.specs.ReadingLaws.{OneModule, OneFault, NeverBoth, OneHeaderFault, SoundHeader, OneFile, OneFileFault, NeverBothFile};
 ghost use Rattle.omf_module.specs.StayLaws.{ModulesStay, BegunModulesStay};
+ghost use Rattle.omf_module.specs.FileFeedLaws.{OneModuleCount, LastingFileFaultsLast};
 ghost use Rattle.omf_module.specs.UseLaws.{NoFaultExactlyWhereUsesAreThere};
 ghost use Rattle.omf_module.specs.WritingLaws.{WrittenModuleIsSpelled, WrittenFileIsSpelled};
 
@@ -47,6 +48,19 @@ pub fn modules_stay()
     records_stay();
     other_faults_stay();
 }
+
+/// Bytes hold one number of whole modules.
+pub fn one_module_count()
+    ensures { OneModuleCount }
+{
+    one_reading();
+}
+
+/// A fault of a file that is there whatever bytes follow is still so after any bytes more.
+#[tactic(auto, using(crate::proofs::FileFeedLemmas::lasting_file_faults_last))]
+pub fn lasting_file_faults_last()
+    ensures { LastingFileFaultsLast }
+{}
 
 /// The records of a module have no fault of use exactly where what they say keeps the rules, each segment that they speak of is
 /// there, and each record of fixups comes after a content.

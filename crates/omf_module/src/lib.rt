@@ -4,6 +4,7 @@
 //! | Item | What it is |
 //! |---|---|
 //! | [`read_module`], [`read_file`] | the module that begins at a place; the modules of an object file |
+//! | [`FileFeed`] | the modules of an object file that comes in pieces |
 //! | [`next_module`], [`UnfinishedModule`] | the module that begins at a place of a file whose last bytes are still to come |
 //! | [`write_module`], [`write_file`] | a module as records; modules as an object file |
 //! | [`laws`] | bytes spell one module or have one first fault; what is written spells its module |

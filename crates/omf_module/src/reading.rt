@@ -153,7 +153,7 @@ pub fn read_module(alloc: Global, bytes: &[u8], at: usize) -> Result<(Module, us
 }
 
 /// The modules of an object file, which are one or more, up to the end-of-file record after them. Bytes after that aren't
-/// looked at. (8080 Object Module Formats, object file.)
+/// looked at. A file that comes in pieces is read by a [`FileFeed`]. (8080 Object Module Formats, object file.)
 ///
 /// # Errors
 /// The first fault of the modules as they stand, as [`read_module`] gives it; `NoEnd` where no byte stands after a module;
