@@ -1,5 +1,5 @@
 -- What stays of a library whatever bytes follow, and what changes where its bytes end.
-use Rattle.std.proofs.Common.{◌≡◌, ◌≢◌, ◌⊎◌, inl, inr, ℕ, ◌+◌, ◌<◌, ◌≤◌, Bool, true, false, if◌then◌else◌, Some, None, List, [], ◌∷◌, ◌++◌, length, drop, refl, sym, ap, subst, ◌∙◌, arith, append_assoc, true≢false}
+use Rattle.std.proofs.Common.{◌≡◌, ◌≢◌, inl, inr, ℕ, ◌+◌, ◌<◌, ◌≤◌, Bool, true, false, if◌then◌else◌, Some, None, List, [], ◌∷◌, ◌++◌, length, drop, refl, sym, ap, subst, ◌∙◌, arith, append_assoc, true≢false}
 use Rattle.std.specs.List.{All}
 use Rattle.std.proofs.lemmas.Bool.{cases_lt}
 use Rattle.std.proofs.lemmas.List.{append-nil, drop_all, drop-append-le, length-append}
@@ -7,7 +7,7 @@ use Rattle.std.proofs.lemmas.List.Elements.{All-append, All-nil}
 use Rattle.omf_core.specs.declared.fault.RecordFault.{RecordFault}
 use Rattle.omf_core.specs.declared.fault.RecordFault.TheVariants.{Truncated, BadSum, ZeroLength}
 use Rattle.omf_core.specs.Fault.{is_truncation}
-use Rattle.omf_core.specs.Record.{SpellsRecord, fault_at, is_truncated, has_zero_length, has_zero_sum}
+use Rattle.omf_core.specs.Record.{fault_at, is_truncated, has_zero_length, has_zero_sum}
 use Rattle.omf_core.specs.Records.{RecordValue, SpellsRecords}
 use Rattle.omf_core.specs.Laws.{RecordsStay, ListsStay, OtherFaultsStay, TruncatedCanBeSpoilt}
 use Rattle.omf_body.specs.declared.body.Body.TheVariants.{ModuleHeader}
@@ -16,10 +16,8 @@ use Rattle.omf_parts.specs.Modules.{ModuleValue}
 use Rattle.omf_parts.specs.declared.symbols.Common.{Common}
 use Rattle.omf_module.specs.declared.fault.Cause.{Cause}
 use Rattle.omf_module.specs.declared.fault.Cause.TheVariants as cause
-use Rattle.omf_module.specs.declared.fault.ModuleFault.{ModuleFault}
 use Rattle.omf_module.specs.declared.pieces.UnfinishedModule.{UnfinishedModule}
-use Rattle.omf_module.specs.Pieces.{BegunModule, EndsWithin, IsCutOff, ReadsModule, LastingModuleFault}
-use Rattle.omf_module.specs.Reading.{OrNoMemory as OrNoModuleMemory}
+use Rattle.omf_module.specs.Pieces.{BegunModule, IsCutOff, ReadsModule}
 use Rattle.omf_module.specs.declared.records.PlacedBody.{PlacedBody}
 use Rattle.omf_module.specs.Records.{SpellsBodies}
 use Rattle.omf_module.specs.Spelled.{SpellsModules, FaultsWithin, no_byte as no_byte_within, no_record as no_record_within, FaultsModule, in_records}
@@ -32,7 +30,7 @@ use Rattle.omf_library.specs.declared.unfinished.Progress.TheVariants.{Header, M
 use Rattle.omf_library.specs.Fault.{of_module, OrNoMemory}
 use Rattle.omf_library.specs.FeedLaws.{LastingFaultsLast, CountedHaveNone}
 use Rattle.omf_library.specs.Laws.{OneLibraryFault, NeverBothLibrary}
-use Rattle.omf_library.specs.LibraryFeed.{LibraryFeedValue, LastingLibraryFault, OpenLibrary, CountsModules, in_header as counted_in_header, at_record as counted_at_record, in_module as counted_in_module, ended}
+use Rattle.omf_library.specs.LibraryFeed.{LibraryFeedValue, LastingLibraryFault, OpenLibrary, in_header as counted_in_header, at_record as counted_at_record, in_module as counted_in_module, ended}
 use Rattle.omf_library.specs.Spelled.{is_indexed, BeginsLibrary, SpellsLibrary, FaultsLibraryHeader, no_header_byte, no_header_record, FaultsAt, no_byte, no_record, in_module, FaultsLibrary, in_header, after_header}
 use Rattle.omf_library.specs.Unfinished.{ReadsTo, FaultsWhereCut, truncated_at, no_end_in_module}
 use Rattle.omf_library.proofs.ReadingLemmas.{module_further}
@@ -200,11 +198,11 @@ pub within_cut : (bytes : List ℕ) (begin here said found : ℕ) (commons : Lis
 within_cut bytes begin here said found commons f b cut w =
     elim (cases_lt here (length bytes)) [
       | inl within ↦
-        subst (λ (g : LibraryFault). FaultsAt bytes begin said found false g) (sym (w.no_record within))
-        (begun_faults_at bytes begin here said found commons (cause.Record (Truncated here)) b (no_record_within (Truncated here) within cut))
+          subst (λ (g : LibraryFault). FaultsAt bytes begin said found false g) (sym (w.no_record within))
+          (begun_faults_at bytes begin here said found commons (cause.Record (Truncated here)) b (no_record_within (Truncated here) within cut))
       | inr past ↦
-        subst (λ (g : LibraryFault). FaultsAt bytes begin said found false g) (sym (w.no_byte past))
-        (begun_faults_at bytes begin here said found commons cause.NoEnd b (no_byte_within past))
+          subst (λ (g : LibraryFault). FaultsAt bytes begin said found false g) (sym (w.no_byte past))
+          (begun_faults_at bytes begin here said found commons cause.NoEnd b (no_byte_within past))
     ]
 
 pub module_cut : (bytes : List ℕ) (said begin here : ℕ) (ms : List ModuleValue) (commons : List Common) (f : LibraryFault) → OpenLibrary bytes said begin begin ms [] → BegunModule bytes begin here commons

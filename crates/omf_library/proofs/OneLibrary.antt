@@ -22,7 +22,7 @@ use Rattle.omf_library.specs.Fault.{of_module}
 use Rattle.omf_library.specs.FeedLaws.{OneModuleCount}
 use Rattle.omf_library.specs.LibraryFeed.{OpenLibrary, CountsModules, in_header as counted_in_header, at_record as counted_at_record, in_module as counted_in_module, ended}
 use Rattle.omf_library.specs.Unfinished.{no_end_in_module}
-use Rattle.omf_library.proofs.FeedLemmas.{Cut, cut_at, no_end_not_spoilt, header_faults, at_cut, within_cut}
+use Rattle.omf_library.proofs.FeedLemmas.{cut_at, no_end_not_spoilt, header_faults, at_cut, within_cut}
 use Rattle.omf_library.specs.Spelled.{is_library_header, is_index_kind, is_indexed, goes_on, fault_of_record, BeginsLibrary, SpellsLibrary, FaultsLibraryHeader, no_header_byte, no_header_record, no_header, FaultsAt, no_byte, no_record, in_module, at_record, in_header, after_header}
 use Rattle.omf_library.specs.Laws.{OneLibrary, OneLibraryFault, NeverBothLibrary}
 

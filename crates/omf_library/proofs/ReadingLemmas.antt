@@ -1,22 +1,17 @@
 -- The steps of reading a library.
-use Rattle.std.proofs.Common.{◌≡◌, ◌≢◌, inl, inr, ℕ, ◌<◌, ◌≤◌, Bool, true, false, List, [], ◌∷◌, ◌++◌, length, Some, Result, Ok, Err, refl, sym, ap, subst, ◌∙◌, arith, true≢false}
-use Rattle.std.specs.Prelude.{◌==◌, IfOk, IfErr, IsTrue}
+use Rattle.std.proofs.Common.{◌≡◌, ◌≢◌, inl, inr, ℕ, ◌<◌, ◌≤◌, true, false, List, [], ◌∷◌, ◌++◌, length, Result, Ok, Err, refl, sym, ap, subst, arith}
+use Rattle.std.specs.Prelude.{◌==◌, IfOk, IfErr}
 use Rattle.std.specs.List.{list_all}
-use Rattle.std.proofs.lemmas.Bool.{and_parts, false_from_ne_true}
+use Rattle.std.proofs.lemmas.Bool.{and_parts}
 use Rattle.std.proofs.lemmas.Bool.Decides.{eqb_tells}
-use Rattle.omf_core.specs.Record.{SpellsRecord}
-use Rattle.omf_core.specs.Records.{RecordValue, SpellsRecords}
-use Rattle.omf_core.specs.Laws.{ListGrows}
+use Rattle.omf_core.specs.Records.{RecordValue}
 use Rattle.omf_module.specs.declared.records.PlacedBody.{PlacedBody}
-use Rattle.omf_module.specs.declared.fault.Cause.TheVariants as cause
 use Rattle.omf_parts.specs.Modules.{ModuleValue}
 use Rattle.omf_module.specs.Records.{SpellsBodies}
-use Rattle.omf_module.specs.Uses.{fault_by}
 use Rattle.omf_module.specs.Spelled.{SpellsModule, SpellsModules}
 use Rattle.omf_library.specs.declared.fault.LibraryFault.{LibraryFault}
-use Rattle.omf_library.specs.declared.fault.LibraryFault.TheVariants.{Module, CountDiffers}
 use Rattle.omf_library.specs.Fault.{OrNoMemory, Answers}
-use Rattle.omf_library.specs.Spelled.{is_index_kind, is_indexed, goes_on, SpellsIndex, BeginsLibrary, SpellsLibrary, fault_of_record, FaultsAt, FaultsLibrary, after_header, in_module}
+use Rattle.omf_library.specs.Spelled.{is_index_kind, SpellsLibrary, FaultsLibrary}
 use Rattle.omf_library.specs.Laws.{OneLibrary, OneLibraryFault, NeverBothLibrary}
 
 -- ---- modules

@@ -1,4 +1,4 @@
-use Rattle.std.proofs.Common.{◌≡◌, ℕ, List, Ok, sym, subst, ap, ◌∙◌}
+use Rattle.std.proofs.Common.{◌≡◌, ℕ, List, sym, subst, ap, ◌∙◌}
 use Rattle.omf_library.specs.Spelled.{SpellsLibrary}
 use Rattle.omf_library.specs.LibraryFeed.{LibraryFeedValue}
 use Rattle.omf_library.proofs.ReadingLemmas.{every_library}
