@@ -7,6 +7,7 @@
 //! | `modules` | `omf_module`: modules, made, read and written |
 //! | `libraries` | `omf_library`: libraries, read and written, and the first providers of names |
 //! | `feeds` | `omf_core`: files that come in pieces |
+//! | `library_feeds` | `omf_library`: libraries that come in pieces |
 //! | `faults` | the faults of all four, as they are printed |
 //! | `linking` | `link80`: modules linked into one |
 //! | `selecting` | `link80`: what is taken from libraries |
@@ -21,6 +22,8 @@ mod faults;
 mod feeds;
 #[cfg(test)]
 mod libraries;
+#[cfg(test)]
+mod library_feeds;
 #[cfg(test)]
 mod linking;
 #[cfg(test)]

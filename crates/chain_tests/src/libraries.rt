@@ -7,7 +7,7 @@ use std::alloc::{AllocError, Global};
 use std::test::Fail;
 
 /// A library of one module `A`, a main program with one byte of code.
-static ONE: [u8; 61] = [
+pub static ONE: [u8; 61] = [
     0x2C, 0x07, 0x00, 0x01, 0x00, 0x00, 0x00, 0x26, 0x00, 0xA6, // library header
     0x02, 0x09, 0x00, 0x01, 0x41, 0x00, 0x00, 0x01, 0x01, 0x00, 0x03, 0xAE, // module header
     0x06, 0x05, 0x00, 0x01, 0x00, 0x00, 0x76, 0x7E, // content
@@ -24,12 +24,17 @@ static NONE: [u8; 26] = [
     0x00, 0xD9, 0x2A, 0x01, 0x00, 0xD5, 0x0E, 0x01, 0x00, 0xF1,
 ];
 
-/// The file that is written for the modules of one that is read.
-fn written_again(alloc: Global, bytes: &[u8]) -> Result<Vec<u8>, Fail> {
-    let library = read_library(alloc, bytes)?;
+/// The file that is written for a library.
+pub fn library_bytes(alloc: Global, library: &Library) -> Result<Vec<u8>, Fail> {
     let mut out = Vec::new(alloc);
     write_library(alloc, &library.modules, &mut out)?;
     Ok(out)
+}
+
+/// The file that is written for the modules of one that is read.
+fn written_again(alloc: Global, bytes: &[u8]) -> Result<Vec<u8>, Fail> {
+    let library = read_library(alloc, bytes)?;
+    library_bytes(alloc, &library)
 }
 
 #[test]

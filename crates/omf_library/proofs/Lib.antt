@@ -1,6 +1,8 @@
+mod FeedLemmas
 mod OneLibrary
 mod ProviderLemmas
 mod ReadingLemmas
 mod TakenLemmas
+mod UnfinishedLemmas
 mod WritingLemmas
 mod WrittenLibrary

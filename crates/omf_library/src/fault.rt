@@ -1,7 +1,7 @@
 //! The refusals of this crate. Each prints as its name, then its values with one space before each; a fault of a module
 //! prints alone.
 
-ghost use Rattle.std.specs.Prelude.{◌≡◌};
+ghost use Rattle.std.specs.Prelude.{◌≡◌, ◌≢◌, None, Some};
 ghost use Rattle.omf_library.specs.Fault.{library_fault_code, library_put_fault_code, of_module};
 ghost use Rattle.omf_library.specs.declared.fault.LibraryFault.TheVariants.{Memory as OutOfMemory, Module as InModule};
 ghost use Rattle.omf_library.specs.declared.fault.LibraryPutFault.TheVariants.{Memory as NoMemory};
@@ -42,6 +42,17 @@ impl LibraryFault {
             LibraryFault::CountDiffers(_, _) => 3,
             LibraryFault::NoEnd(_) => 4,
             LibraryFault::Memory => 5,
+        }
+    }
+
+    /// The fault, or `None` where memory ran out.
+    pub(crate) fn unless_memory(self) -> Option<LibraryFault>
+        ensures memory { self ≡ LibraryFault.Memory → result ≡ None }
+        ensures other { self ≢ LibraryFault.Memory → result ≡ Some self }
+    {
+        match self {
+            LibraryFault::Memory => None,
+            fault => Some(fault),
         }
     }
 

@@ -2,13 +2,14 @@
 //! that calls it has the law in its proof.
 
 ghost use Rattle.omf_library.specs.Laws.{OneLibrary, OneLibraryFault, NeverBothLibrary};
+ghost use Rattle.omf_library.specs.FeedLaws.{OneModuleCount, LastingFaultsLast, CountedHaveNone};
 ghost use Rattle.omf_library.specs.Writing.{WrittenLibraryIsSpelled};
 
 use omf_core::laws::{
-    no_fault_exactly_at_records, one_record_at_each_place, written_is_spelled,
-    written_list_is_spelled,
+    lists_stay, no_fault_exactly_at_records, one_record_at_each_place, records_stay,
+    truncated_can_be_spoilt, written_is_spelled, written_list_is_spelled,
 };
-use omf_module::laws::one_reading;
+use omf_module::laws::{modules_stay, one_reading};
 
 /// Bytes spell one list of modules as a library at most, or have one first fault, and never both.
 pub fn one_library()
@@ -27,4 +28,30 @@ pub fn written_library_is_spelled()
 {
     written_is_spelled();
     written_list_is_spelled();
+}
+
+/// Bytes hold one number of whole modules.
+pub fn one_module_count()
+    ensures { OneModuleCount }
+{
+    one_record_at_each_place();
+    no_fault_exactly_at_records();
+    one_reading();
+}
+
+/// A fault that lasts of some bytes lasts of those and any others.
+#[tactic(auto, using(crate::proofs::FeedLemmas::lasting_faults_last))]
+pub fn lasting_faults_last()
+    ensures { LastingFaultsLast }
+{}
+
+/// Where whole modules are counted, no fault lasts.
+pub fn counted_have_none()
+    ensures { CountedHaveNone }
+{
+    one_library();
+    records_stay();
+    lists_stay();
+    modules_stay();
+    truncated_can_be_spoilt();
 }

@@ -6,19 +6,23 @@
 //! | [`Library`] | the modules of a library, in order; the first that declares a name |
 //! | [`Providers`] | the first module of a list that declares each name |
 //! | [`read_library`] | the library that a file holds |
+//! | [`LibraryFeed`] | the library that a file holds which comes in pieces |
 //! | [`write_library`] | modules as a library |
 //! | [`laws`] | what holds of all libraries |
 //! | [`LibraryFault`], [`LibraryPutFault`] | why bytes are no library, and why modules are written as none |
 #![tactic(auto)]
 
 mod fault;
+mod feed;
 pub mod laws;
 mod library;
 mod providers;
 mod reading;
+mod unfinished;
 mod writing;
 
 pub use fault::{LibraryFault, LibraryPutFault};
+pub use feed::LibraryFeed;
 pub use library::Library;
 pub use providers::Providers;
 pub use reading::read_library;

@@ -6,6 +6,7 @@ pub mod Spelled
 pub mod Reading
 pub mod ReadingLaws
 pub mod Pieces
+pub mod StayLaws
 pub mod FileFeed
 pub mod FileFeedLaws
 pub mod UseLaws

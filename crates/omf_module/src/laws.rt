@@ -2,12 +2,16 @@
 //! nothing: a layer above that calls it has the law in its proof.
 
 ghost use Rattle.omf_module.specs.ReadingLaws.{OneModule, OneFault, NeverBoth, OneHeaderFault, SoundHeader, OneFile, OneFileFault, NeverBothFile};
+ghost use Rattle.omf_module.specs.StayLaws.{ModulesStay, BegunModulesStay};
 ghost use Rattle.omf_module.specs.FileFeedLaws.{OneModuleCount, LastingFileFaultsLast};
 ghost use Rattle.omf_module.specs.UseLaws.{NoFaultExactlyWhereUsesAreThere};
 ghost use Rattle.omf_module.specs.WritingLaws.{WrittenModuleIsSpelled, WrittenFileIsSpelled};
 
 use omf_body::laws::{one_body, one_fault};
-use omf_core::laws::{no_fault_exactly_at_records, one_record_at_each_place, written_is_spelled};
+use omf_core::laws::{
+    no_fault_exactly_at_records, one_record_at_each_place, other_faults_stay, records_stay,
+    written_is_spelled,
+};
 pub use omf_parts::laws::segments_are_kept;
 
 /// Bytes spell one module at a place at most, or have one first fault there, and never both.
@@ -34,6 +38,15 @@ pub fn one_file_reading()
     no_fault_exactly_at_records();
     one_body();
     one_fault();
+}
+
+/// What is spelled of modules is spelled whatever bytes follow.
+pub fn modules_stay()
+    ensures whole { ModulesStay }
+    ensures begun { BegunModulesStay }
+{
+    records_stay();
+    other_faults_stay();
 }
 
 /// Bytes hold one number of whole modules.

@@ -78,6 +78,7 @@ fn unchecked_from(bytes: &[u8], unfinished: &UnfinishedModule) -> Result<Option<
     requires { ReadsModule bytes.now unfinished.now.begin unfinished.now.here unfinished.now.commons.items }
     ensures begun { IfOk result (λ from. IfSome from (λ here. BegunModule bytes.now unfinished.now.begin here unfinished.now.commons.items)) }
     ensures waits { result ≡ Ok None → IsCutOff bytes.now unfinished.now.begin }
+    ensures unchecked { result ≡ Ok None → unfinished.now.here ≡ unfinished.now.begin }
     ensures fault { IfErr result (OrNoMemory (LastingModuleFault bytes.now unfinished.now.begin)) }
 {
     if unfinished.here != unfinished.begin {
@@ -99,6 +100,7 @@ pub fn next_module(
     ensures begin { unfinished.new.begin ≡ unfinished.old.begin }
     ensures reads { result ≡ Ok None → ReadsModule bytes.now unfinished.old.begin unfinished.new.here unfinished.new.commons.items }
     ensures waits { result ≡ Ok None → WaitsModule bytes.now unfinished.old.begin }
+    ensures cut_off { result ≡ Ok None → IsCutOff bytes.now unfinished.new.here }
 
     // A fault lasts whatever bytes follow; where more bytes are needed, none does.
     ensures fault { IfErr result (OrNoMemory (LastingModuleFault bytes.now unfinished.old.begin)) }

@@ -1,0 +1,140 @@
+//! Libraries that come in pieces.
+
+ghost use Rattle.std.specs.Prelude.{◌≡◌, ◌≢◌, ◌++◌, ℕ, List, [], length, None, Some, Ok, Err, IfOk, IfErr, OnOk};
+ghost use Rattle.omf_parts.specs.Modules.{ModuleValue};
+ghost use Rattle.omf_library.specs.declared.fault.LibraryFault.{LibraryFault as LibraryFaultValue};
+ghost use Rattle.omf_library.specs.Fault.{OrNoMemory, Answers};
+ghost use Rattle.omf_library.specs.Spelled.{SpellsLibrary, FaultsLibrary};
+ghost use Rattle.omf_library.specs.LibraryFeed.{CountsModules, LastingLibraryFault};
+ghost use Rattle.omf_library.specs.Unfinished.{ReadsLibrary};
+
+use crate::fault::LibraryFault;
+use crate::laws::{counted_have_none, one_library};
+use crate::library::Library;
+use crate::unfinished::UnfinishedLibrary;
+use omf_core::laws::{lists_stay, records_stay};
+use omf_module::laws::modules_stay;
+use std::alloc::Global;
+use std::marker::Model;
+
+/// A library that comes in pieces. A contract sees the bytes that were taken and the fault that is kept.
+/// (8080 Object Module Formats, library file.)
+#[derive(Debug, Drop)]
+pub struct LibraryFeed {
+    alloc: Global,
+    bytes: Vec<u8>,
+    library: UnfinishedLibrary,
+    kept: Option<LibraryFault>,
+}
+
+impl Model for LibraryFeed {
+    ghost use Rattle.omf_library.specs.LibraryFeed.{LibraryFeedValue};
+    ghost use Rattle.omf_library.specs.Unfinished.{ReadsLibrary};
+
+    ghost Value = { LibraryFeedValue };
+
+    ghost view = { λ feed. record { bytes = feed.bytes.items; kept = feed.kept } };
+
+    ghost invariant = { λ feed. ReadsLibrary feed.bytes.items feed.library };
+}
+
+impl LibraryFeed {
+    /// A feed that has taken no bytes. It takes no memory; the feed grows by `alloc`.
+    pub fn new(alloc: Global) -> LibraryFeed
+        ensures { result ≡ record { bytes = []; kept = None } }
+    {
+        LibraryFeed {
+            alloc,
+            bytes: Vec::new(alloc),
+            library: UnfinishedLibrary::new(alloc),
+            kept: None,
+        }
+    }
+
+    /// Takes a piece of the library, and gives the number of whole modules so far. A record or a module that the piece cuts off is
+    /// completed by later pieces; bytes after the end-of-file record aren't looked at.
+    ///
+    /// # Errors
+    /// A fault other than `Memory` exactly where [`read_library`](crate::read_library) gives it on all bytes so far, this piece's
+    /// too, and on those followed by any others. It is kept, and answered to every later piece and by `finish`; the bytes are
+    /// those before the piece.
+    /// `Memory` only where there is none; the feed is unchanged.
+    pub fn piece(&mut self, piece: &[u8]) -> Result<usize, LibraryFault>
+        ensures kept { (fault : LibraryFaultValue) → self.old.kept ≡ Some fault
+            → (result ≡ Err fault) × (self.new ≡ self.old) }
+        ensures taken { OnOk result (self.new ≡ record { bytes = self.old.bytes ++ piece.now; kept = None }) }
+
+        // The count is that of all bytes so far, of which no fault lasts.
+        ensures counted { IfOk result (λ count. CountsModules (self.old.bytes ++ piece.now) count) }
+        ensures none_lasts { OnOk result ((fault : LibraryFaultValue) → LastingLibraryFault (self.old.bytes ++ piece.now) fault → ⊥) }
+
+        // A fault lasts of all bytes so far, and is kept; out of memory is never kept.
+        ensures fault { (fault : LibraryFaultValue) → self.old.kept ≡ None → fault ≢ LibraryFault.Memory → result ≡ Err fault
+            → LastingLibraryFault (self.old.bytes ++ piece.now) fault × (self.new ≡ record { bytes = self.old.bytes; kept = Some fault }) }
+        ensures memory { result ≡ Err LibraryFault.Memory → self.new ≡ self.old }
+    {
+        counted_have_none();
+        records_stay();
+        lists_stay();
+        modules_stay();
+        if let Some(fault) = self.kept {
+            return Err(fault);
+        }
+        let taken = self.bytes.len();
+        if self.bytes.extend_from_slice(piece).is_err() {
+            return Err(LibraryFault::Memory);
+        }
+        match self.library.read_on(self.alloc, &self.bytes) {
+            Ok(()) => Ok(self.library.modules.len()),
+            Err(fault) => {
+                self.bytes.truncate(taken);
+                self.kept = fault.unless_memory();
+                Err(fault)
+            }
+        }
+    }
+
+    /// The library that the bytes of all pieces are, as [`read_library`](crate::read_library) reads them.
+    ///
+    /// # Errors
+    /// The fault that is kept; or the fault of the bytes, as [`read_library`](crate::read_library) gives it. `Memory` only where
+    /// there is none.
+    pub fn finish(self) -> Result<Library, LibraryFault>
+        ensures kept { (fault : LibraryFaultValue) → self.kept ≡ Some fault → result ≡ Err fault }
+
+        // What is read is what the bytes spell, and nothing that they spell is refused or read as another.
+        ensures read { IfOk result (SpellsLibrary self.bytes) }
+        ensures every_library { self.kept ≡ None → (ms : List ModuleValue) → SpellsLibrary self.bytes ms → Answers result (Ok ms) }
+
+        // Each refusal but out of memory has its cause, and it is the first.
+        ensures fault { self.kept ≡ None → IfErr result (OrNoMemory (FaultsLibrary self.bytes)) }
+        ensures every_fault { self.kept ≡ None → (fault : LibraryFaultValue) → FaultsLibrary self.bytes fault → Answers result (Err fault) }
+    {
+        one_library();
+        if let Some(fault) = self.kept {
+            return Err(fault);
+        }
+        let library = self.library;
+        finished(self.alloc, &self.bytes, library)
+    }
+}
+
+/// The library that bytes are which are read so far, and of which no more come.
+fn finished(
+    alloc: Global,
+    bytes: &[u8],
+    unfinished: UnfinishedLibrary,
+) -> Result<Library, LibraryFault>
+    requires { ReadsLibrary bytes.now unfinished }
+    ensures read { IfOk result (SpellsLibrary bytes.now) }
+    ensures fault { IfErr result (OrNoMemory (FaultsLibrary bytes.now)) }
+{
+    let mut library = unfinished;
+    library.read_on(alloc, bytes)?;
+    match library.fault_at_end(bytes) {
+        Some(fault) => Err(fault),
+        None => Ok(Library {
+            modules: library.modules,
+        }),
+    }
+}

@@ -1,0 +1,381 @@
+//! A library whose last bytes are still to come, read as far as they go.
+
+ghost use Rattle.std.specs.Prelude.{◌≡◌, ◌≢◌, ◌+◌, ◌-◌, ◌<◌, ℕ, List, [], length, take, Ok, None, Bool, true, false, IfOk, IfErr, IfSome, OnOk, OnErr};
+ghost use Rattle.omf_parts.specs.Modules.{ModuleValue};
+ghost use Rattle.omf_module.specs.declared.pieces.UnfinishedModule.{UnfinishedModule as UnfinishedModuleValue};
+ghost use Rattle.omf_module.specs.Pieces.{IsCutOff, ReadsModule};
+ghost use Rattle.omf_library.specs.Fault.{OrNoMemory};
+ghost use Rattle.omf_library.specs.Spelled.{BeginsLibrary, SpellsLibrary, FaultsLibrary, is_library_header, is_index_kind};
+ghost use Rattle.omf_library.specs.LibraryFeed.{LastingLibraryFault};
+ghost use Rattle.omf_library.specs.Unfinished.{ReadsModules, ReadsIndexed, ReadsTo, ReadsLibrary, WaitsLibrary, left_after, ReadsFurther, ReadsAll, Extends, HeaderStands, StandsAt, RecordStands, LastingHeaderFault, LastingFaultAt, LeadsTo, LeadsNowhere, FaultsWhereCut, no_end_in_module};
+
+use crate::fault::LibraryFault;
+use omf_core::laws::{list_grows, lists_stay, other_faults_stay, records_stay};
+use omf_core::{RecordFault, RecordKind, next_record};
+use omf_module::laws::modules_stay;
+use omf_module::{Cause, Module, UnfinishedModule, next_module};
+use std::alloc::Global;
+
+/// How far a library is read.
+#[derive(Clone, Copy, Debug)]
+pub enum Progress {
+    /// Its header is still to come.
+    Header,
+    /// Its header says that there are so many modules. No index record has come.
+    Modules(u16),
+    /// Its header says that there were so many modules. Index records are read up to this place.
+    Index(u16, usize),
+    /// Its end-of-file record has come.
+    Ended,
+}
+
+/// What stands where a module may begin.
+#[derive(Clone, Copy, Debug)]
+pub enum Standing {
+    /// No whole record.
+    CutOff,
+    /// The header of a module.
+    ModuleHeader,
+    /// A record of another type, and the place after it.
+    Other(u8, usize),
+}
+
+/// A library as far as it is read: its whole modules, and the module that follows them.
+#[derive(Debug, Drop)]
+pub struct UnfinishedLibrary {
+    pub modules: Vec<Module>,
+    pub next: UnfinishedModule,
+    pub progress: Progress,
+}
+
+/// The type bytes of records: the index of a library, and a library header.
+const LOCATIONS: u8 = 0x26;
+
+const NAMES: u8 = 0x28;
+
+const DICTIONARY: u8 = 0x2A;
+
+const LIBRARY_HEADER: u8 = 0x2C;
+
+/// Whether a record says how many modules a library has.
+fn is_library_header(kind: u8, body: &[u8]) -> bool
+    ensures { result ≡ is_library_header kind body.now }
+{
+    kind == LIBRARY_HEADER && 2 <= body.len()
+}
+
+fn is_index_kind(kind: u8) -> bool
+    ensures { result ≡ is_index_kind kind }
+{
+    kind == LOCATIONS || kind == NAMES || kind == DICTIONARY
+}
+
+/// How many modules the header of a library says there are, and the place after it, or `None` where it is cut off.
+fn read_header(bytes: &[u8]) -> Result<Option<(u16, usize)>, LibraryFault>
+    ensures begins { IfOk result (λ header. IfSome header (λ r. BeginsLibrary bytes.now r.1 r.0)) }
+    ensures cut_off { result ≡ Ok None → IsCutOff bytes.now 0 }
+    ensures fault { IfErr result (LastingHeaderFault bytes.now) }
+{
+    records_stay();
+    other_faults_stay();
+    match next_record(bytes, 0) {
+        Ok((record, after)) => {
+            if !is_library_header(record.kind, record.body) {
+                return Err(LibraryFault::NotLibrary);
+            }
+            let said = u16::from_le_bytes([record.body[0], record.body[1]]);
+            Ok(Some((said, after)))
+        }
+        Err(fault) if fault.is_truncated() => Ok(None),
+        Err(fault) => Err(LibraryFault::of_record(0, Cause::Record(fault))),
+    }
+}
+
+/// The type of the record that stands at a place, with the place after it, or `None` where it is cut off.
+fn record_at(bytes: &[u8], at: usize) -> Result<Option<(u8, usize)>, LibraryFault>
+    ensures record { IfOk result (λ next. IfSome next (RecordStands bytes.now at)) }
+    ensures cut_off { result ≡ Ok None → IsCutOff bytes.now at }
+    ensures fault { IfErr result (LastingFaultAt bytes.now at) }
+{
+    other_faults_stay();
+    match next_record(bytes, at) {
+        Ok((record, after)) => Ok(Some((record.kind, after))),
+        Err(fault) if fault.is_truncated() => Ok(None),
+        Err(fault) => Err(LibraryFault::of_record(at, Cause::Record(fault))),
+    }
+}
+
+/// How far the record of this type leads that stands at a place outside the modules and is no module header that may stand there:
+/// to the place after it where it is one of the index, and to the end of a library of as many modules as were found.
+fn after_record(
+    kind: u8,
+    at: usize,
+    after: usize,
+    said: u16,
+    found: usize,
+) -> Result<Progress, LibraryFault>
+    ensures leads { IfOk result (LeadsTo said after found kind) }
+    ensures fault { IfErr result (LeadsNowhere at said found kind) }
+{
+    if is_index_kind(kind) {
+        return Ok(Progress::Index(said, after));
+    }
+    if kind != RecordKind::EndOfFile.byte() {
+        return Err(LibraryFault::of_record(at, Cause::UnknownKind(kind)));
+    }
+    if said as usize != found {
+        return Err(LibraryFault::CountDiffers(said, found));
+    }
+    Ok(Progress::Ended)
+}
+
+/// What stands where the next module may begin. Of a module that is begun the header isn't read again.
+fn standing_at(bytes: &[u8], next: &UnfinishedModule) -> Result<Standing, LibraryFault>
+    requires { ReadsModule bytes.now next.now.begin next.now.here next.now.commons.items }
+    ensures stands { IfOk result (StandsAt bytes.now next.now) }
+    ensures fault { IfErr result (LastingFaultAt bytes.now next.now.begin) }
+{
+    if next.here != next.begin {
+        return Ok(Standing::ModuleHeader);
+    }
+    match record_at(bytes, next.begin)? {
+        None => Ok(Standing::CutOff),
+        Some((kind, after)) => {
+            if kind == RecordKind::ModuleHeader.byte() {
+                return Ok(Standing::ModuleHeader);
+            }
+            Ok(Standing::Other(kind, after))
+        }
+    }
+}
+
+/// Begins a module at a place: nothing of it is read.
+fn begin_at(next: &mut UnfinishedModule, place: usize)
+    ensures begin { next.new.begin ≡ place }
+    ensures here { next.new.here ≡ place }
+    ensures commons { next.new.commons.items ≡ [] }
+{
+    next.begin = place;
+    next.here = place;
+    next.commons.clear();
+}
+
+/// Appends the module whose header stands where the next one begins, if all of it has come. The answer is whether it has.
+fn read_module(
+    alloc: Global,
+    bytes: &[u8],
+    said: u16,
+    modules: &mut Vec<Module>,
+    next: &mut UnfinishedModule,
+) -> Result<bool, LibraryFault>
+    requires reads { ReadsModules bytes.now said modules.old.items next.old }
+    requires header { HeaderStands bytes.now next.old.begin }
+    ensures further { result ≡ Ok true → ReadsFurther bytes.now (left_after bytes.now next.old (Progress.Modules said)) modules.new.items next.new (Progress.Modules said) }
+    ensures waits { result ≡ Ok false → ReadsAll bytes.now modules.new.items next.new (Progress.Modules said) }
+    ensures extends { Extends modules.old.items modules.new.items }
+    ensures fault { IfErr result (OrNoMemory (LastingLibraryFault bytes.now)) }
+{
+    records_stay();
+    lists_stay();
+    modules_stay();
+    match next_module(alloc, bytes, next)? {
+        None => Ok(false),
+        Some((module, after)) => {
+            modules.push(module)?;
+            begin_at(next, after);
+            Ok(true)
+        }
+    }
+}
+
+/// Reads the next module, or the record that stands in its place. The answer is how far that leads, or `None` where more bytes
+/// are needed.
+fn read_after_modules(
+    alloc: Global,
+    bytes: &[u8],
+    said: u16,
+    modules: &mut Vec<Module>,
+    next: &mut UnfinishedModule,
+) -> Result<Option<Progress>, LibraryFault>
+    requires { ReadsModules bytes.now said modules.old.items next.old }
+    ensures further { IfOk result (λ o. IfSome o (ReadsFurther bytes.now (left_after bytes.now next.old (Progress.Modules said)) modules.new.items next.new)) }
+    ensures waits { result ≡ Ok None → ReadsAll bytes.now modules.new.items next.new (Progress.Modules said) }
+    ensures extends { Extends modules.old.items modules.new.items }
+    ensures fault { IfErr result (OrNoMemory (LastingLibraryFault bytes.now)) }
+{
+    records_stay();
+    lists_stay();
+    list_grows();
+    modules_stay();
+    match standing_at(bytes, next)? {
+        Standing::CutOff => Ok(None),
+        Standing::ModuleHeader => match read_module(alloc, bytes, said, modules, next)? {
+            true => Ok(Some(Progress::Modules(said))),
+            false => Ok(None),
+        },
+        Standing::Other(kind, after) => {
+            let progress = after_record(kind, next.begin, after, said, modules.len())?;
+            Ok(Some(progress))
+        }
+    }
+}
+
+/// Reads the record that stands at a place after index records. The answer is how far it leads, or `None` where it is cut off.
+fn read_after_index(
+    bytes: &[u8],
+    said: u16,
+    at: usize,
+    modules: &[Module],
+) -> Result<Option<Progress>, LibraryFault>
+    requires { ReadsIndexed bytes.now said at modules.now }
+    ensures further { IfOk result (λ o. IfSome o (λ p. (next : UnfinishedModuleValue) → ReadsFurther bytes.now (length bytes.now - at + 1) modules.now next p)) }
+    ensures waits { result ≡ Ok None → IsCutOff bytes.now at }
+    ensures fault { IfErr result (LastingLibraryFault bytes.now) }
+{
+    records_stay();
+    lists_stay();
+    list_grows();
+    modules_stay();
+    let Some((kind, after)) = record_at(bytes, at)? else {
+        return Ok(None);
+    };
+    let progress = after_record(kind, at, after, said, modules.len())?;
+    Ok(Some(progress))
+}
+
+/// The fault of bytes that end at a place, or inside the record there; `none` is that where no byte stands there.
+fn fault_where_cut(bytes: &[u8], at: usize, none: LibraryFault) -> LibraryFault
+    ensures { FaultsWhereCut bytes.now at none result }
+{
+    if at < bytes.len() {
+        return LibraryFault::of_record(at, Cause::Record(RecordFault::Truncated(at)));
+    }
+    none
+}
+
+impl UnfinishedLibrary {
+    /// A library of which nothing is read.
+    pub fn new(alloc: Global) -> UnfinishedLibrary
+        ensures { (bytes : List ℕ) → ReadsLibrary bytes result }
+    {
+        UnfinishedLibrary {
+            modules: Vec::new(alloc),
+            next: UnfinishedModule {
+                begin: 0,
+                here: 0,
+                commons: Vec::new(alloc),
+            },
+            progress: Progress::Header,
+        }
+    }
+
+    /// Reads the header, where it is whole.
+    fn read_header(&mut self, bytes: &[u8]) -> Result<Option<Progress>, LibraryFault>
+        requires { self.old.modules.items ≡ [] }
+        ensures modules { self.new.modules.items ≡ self.old.modules.items }
+        ensures progress { self.new.progress ≡ self.old.progress }
+        ensures further { IfOk result (λ o. IfSome o (ReadsFurther bytes.now (length bytes.now + 2) self.new.modules.items self.new.next)) }
+        ensures waits { result ≡ Ok None → IsCutOff bytes.now 0 }
+        ensures fault { IfErr result (LastingLibraryFault bytes.now) }
+    {
+        let Some((said, first)) = read_header(bytes)? else {
+            return Ok(None);
+        };
+        begin_at(&mut self.next, first);
+        Ok(Some(Progress::Modules(said)))
+    }
+
+    /// Reads the next module, or the next record outside the modules. The answer is how far it leads, or `None` where more bytes
+    /// are needed or the library has ended.
+    fn read_next(&mut self, alloc: Global, bytes: &[u8]) -> Result<Option<Progress>, LibraryFault>
+        requires { ReadsLibrary bytes.now self.old }
+        ensures further { IfOk result (λ o. IfSome o (ReadsFurther bytes.now (left_after bytes.now self.old.next self.old.progress) self.new.modules.items self.new.next)) }
+        ensures waits { result ≡ Ok None → ReadsAll bytes.now self.new.modules.items self.new.next self.new.progress }
+        ensures extends { Extends self.old.modules.items self.new.modules.items }
+        ensures fault { IfErr result (OrNoMemory (LastingLibraryFault bytes.now)) }
+    {
+        match self.progress {
+            Progress::Header => self.read_header(bytes),
+            Progress::Modules(said) => {
+                read_after_modules(alloc, bytes, said, &mut self.modules, &mut self.next)
+            }
+            Progress::Index(said, at) => read_after_index(bytes, said, at, &self.modules),
+            Progress::Ended => Ok(None),
+        }
+    }
+
+    /// Reads as far as the bytes go.
+    fn read_all(&mut self, alloc: Global, bytes: &[u8]) -> Result<(), LibraryFault>
+        requires { ReadsLibrary bytes.now self.old }
+        ensures all { OnOk result (ReadsAll bytes.now self.new.modules.items self.new.next self.new.progress) }
+        ensures extends { Extends self.old.modules.items self.new.modules.items }
+        ensures fault { IfErr result (OrNoMemory (LastingLibraryFault bytes.now)) }
+    {
+        'items: loop {
+            match self.read_next(alloc, bytes)? {
+                Some(progress) => self.progress = progress,
+                None => return Ok(()),
+            }
+        }
+    }
+
+    /// Forgets what was read after the first `count` modules.
+    fn forget(&mut self, count: usize, begin: usize, progress: Progress)
+        ensures modules { self.new.modules.items ≡ take count self.old.modules.items }
+        ensures begin { self.new.next.begin ≡ begin }
+        ensures here { self.new.next.here ≡ begin }
+        ensures commons { self.new.next.commons.items ≡ [] }
+        ensures progress { self.new.progress ≡ progress }
+    {
+        self.modules.truncate(count);
+        begin_at(&mut self.next, begin);
+        self.progress = progress;
+    }
+
+    /// Reads on as far as the bytes go. After a fault what was read before is read; of a module that was unfinished nothing is.
+    pub fn read_on(&mut self, alloc: Global, bytes: &[u8]) -> Result<(), LibraryFault>
+        requires { ReadsLibrary bytes.now self.old }
+        ensures reads { OnOk result (ReadsLibrary bytes.now self.new) }
+        ensures waits { OnOk result (WaitsLibrary bytes.now self.new) }
+        ensures fault { IfErr result (OrNoMemory (LastingLibraryFault bytes.now)) }
+        ensures as_before { OnErr result ((taken : List ℕ) → ReadsLibrary taken self.old → ReadsLibrary taken self.new) }
+    {
+        let count = self.modules.len();
+        let begin = self.next.begin;
+        let progress = self.progress;
+        match self.read_all(alloc, bytes) {
+            Ok(()) => Ok(()),
+            Err(fault) => {
+                self.forget(count, begin, progress);
+                Err(fault)
+            }
+        }
+    }
+
+    /// The fault of a library of which no more bytes come, or `None` where it has ended.
+    pub fn fault_at_end(&self, bytes: &[u8]) -> Option<LibraryFault>
+        requires reads { ReadsLibrary bytes.now self.now }
+        requires waits { WaitsLibrary bytes.now self.now }
+        ensures fault { IfSome result (FaultsLibrary bytes.now) }
+        ensures library { result ≡ None → SpellsLibrary bytes.now self.now.modules.items }
+    {
+        match self.progress {
+            Progress::Header => Some(fault_where_cut(bytes, 0, LibraryFault::NotLibrary)),
+            Progress::Modules(_) => Some(self.fault_in_modules(bytes)),
+            Progress::Index(_, at) => Some(fault_where_cut(bytes, at, LibraryFault::NoEnd(at))),
+            Progress::Ended => None,
+        }
+    }
+
+    /// The fault of a library that ends between modules or inside one.
+    fn fault_in_modules(&self, bytes: &[u8]) -> LibraryFault
+        ensures between { self.now.next.here ≡ self.now.next.begin → FaultsWhereCut bytes.now self.now.next.here (LibraryFault.NoEnd self.now.next.here) result }
+        ensures inside { self.now.next.here ≢ self.now.next.begin → FaultsWhereCut bytes.now self.now.next.here (no_end_in_module self.now.next.here) result }
+    {
+        let at = self.next.here;
+        if at == self.next.begin {
+            return fault_where_cut(bytes, at, LibraryFault::NoEnd(at));
+        }
+        fault_where_cut(bytes, at, LibraryFault::of_record(at, Cause::NoEnd))
+    }
+}
