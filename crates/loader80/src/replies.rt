@@ -10,7 +10,7 @@ use crate::running::run;
 use crate::transcript::{refusal_text, transcript_text};
 use crate::vouched::{Vouched, vouch};
 use image80::{Image, RegionsFault, read_regions};
-use machine80::{End, FlatBus, Inputs, ListPorts, Ports};
+use machine80::{End, PagedBus, Inputs, ListPorts, Ports};
 use place80::{ImageFault, read_image};
 use std::alloc::{AllocError, Global};
 use verify80::Refusal;
