@@ -1,6 +1,6 @@
 //! From three texts to an answer and a text.
 
-ghost use Rattle.std.specs.Prelude.{◌≡◌, ◌<◌, ◌≤◌, [], false, length, IfOk, IfErr, string_bytes};
+ghost use Rattle.std.specs.Prelude.{◌≡◌, ◌<◌, ◌↔◌, [], IsTrue, length, IfOk, IfErr, string_bytes};
 ghost use Rattle.machine80.specs.Ports.{lists_of};
 ghost use Rattle.loader80.specs.Session.{Says, SpellsProgram, Faults, IsRefused, Transcribes};
 
@@ -10,7 +10,7 @@ use crate::running::run;
 use crate::transcript::{refusal_text, transcript_text};
 use crate::vouched::{Vouched, vouch};
 use image80::{Image, RegionsFault, read_regions};
-use machine80::{End, FlatBus, Inputs, ListPorts, Ports};
+use machine80::{End, Inputs, ListPorts, PagedBus, Ports};
 use place80::{ImageFault, read_image};
 use std::alloc::{AllocError, Global};
 use verify80::Refusal;
@@ -124,7 +124,7 @@ fn refuse(alloc: Global, refusal: Refusal) -> Reply
 fn transcribe(alloc: Global, vouched: &Vouched, inputs: Inputs, steps: u64, outputs: usize) -> Reply
     ensures { Transcribes vouched.now.image vouched.now.stack_bytes (lists_of inputs.pairs.items) outputs steps result.answer (string_bytes result.text) }
 {
-    let Ok(mut bus) = FlatBus::new(alloc, vouched.image()) else {
+    let Ok(mut bus) = PagedBus::new(alloc, vouched.image()) else {
         return faulty(alloc, SessionFault::Memory);
     };
     let mut ports = ListPorts::new(alloc, inputs, outputs);
@@ -156,7 +156,7 @@ fn transcribe(alloc: Global, vouched: &Vouched, inputs: Inputs, steps: u64, outp
 
 /// Whether an output was refused below the limit, because memory ran out.
 fn was_out_of_memory(ports: &ListPorts, limit: usize) -> bool
-    ensures { result ≡ false → 0 < ports.now.refused → limit ≤ length ports.now.outputs }
+    ensures { IsTrue result ↔ ((0 < ports.now.refused) × (length ports.now.outputs < limit)) }
 {
     ports.refusals() > 0 && ports.outputs().len() < limit
 }

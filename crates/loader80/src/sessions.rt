@@ -44,9 +44,9 @@ pub fn session<A: Source, B: Source, C: Source, K: Sink>(
     ensures regions_failures { B.failed regions.new ≡ B.failed regions.old + read_failures_at 2 result }
     ensures inputs_failures { C.failed inputs.new ≡ C.failed inputs.old + read_failures_at 3 result }
     ensures out_failures { K.failed out.new ≡ K.failed out.old + write_failures_of result }
-    ensures image_taken { TakesAtMost (TEXT_LIMIT + 1) (A.left image.old) (A.left image.new) }
-    ensures regions_taken { TakesAtMost (TEXT_LIMIT + 1) (B.left regions.old) (B.left regions.new) }
-    ensures inputs_taken { TakesAtMost (TEXT_LIMIT + 1) (C.left inputs.old) (C.left inputs.new) }
+    ensures image_taken { TakesAtMost (text_limit + 1) (A.left image.old) (A.left image.new) }
+    ensures regions_taken { TakesAtMost (text_limit + 1) (B.left regions.old) (B.left regions.new) }
+    ensures inputs_taken { TakesAtMost (text_limit + 1) (C.left inputs.old) (C.left inputs.new) }
 {
     let image = read_text(alloc, image, 1)?;
     let regions = read_text(alloc, regions, 2)?;
@@ -70,7 +70,7 @@ fn read_text<S: Source>(alloc: Global, source: &mut S, number: u8) -> Result<Vec
     ensures within { IfOk result (λ bytes. vec_len bytes ≤ TEXT_LIMIT) }
     ensures fault { IfErr result (TextFault number (S.left source.old)) }
     ensures failures { S.failed source.new ≡ S.failed source.old + read_failures_at number result }
-    ensures taken { TakesAtMost (TEXT_LIMIT + 1) (S.left source.old) (S.left source.new) }
+    ensures taken { TakesAtMost (text_limit + 1) (S.left source.old) (S.left source.new) }
 {
     match read_all(alloc, source, TEXT_LIMIT) {
         Ok(bytes) => Ok(bytes),

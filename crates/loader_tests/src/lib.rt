@@ -4,10 +4,21 @@
 //! |---|---|
 //! | `vouching` | `verify80` and `loader80`: an image that is verified, vouched for and run |
 //! | `sessions` | `loader80`: sessions, over readers and writers that give and take a byte at a time |
+//! | `failures` | `loader80` and `bundle80`: sessions and bundles whose readers or writers fail, or never end |
+//! | `faults` | `loader80` and `bundle80`: faults as they are shown |
+//! | `pushing`, `outside` | the program, and the sources and sinks, of these tests |
 //!
 //! What the program shows of texts, images, refusals and transcripts stands in the tables of `tests/commands`.
 #![tactic(auto)]
 
+#[cfg(test)]
+mod failures;
+#[cfg(test)]
+mod faults;
+#[cfg(test)]
+mod outside;
+#[cfg(test)]
+mod pushing;
 #[cfg(test)]
 mod sessions;
 #[cfg(test)]

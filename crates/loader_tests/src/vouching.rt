@@ -1,28 +1,18 @@
-//! A main program that pushes an argument for a procedure: its image is verified, vouched for and run. Other programs are rows of
-//! the program's tests.
+//! The program that pushes an argument is verified, vouched for, and run over either memory. Other programs are rows of the program's
+//! tests.
 
+ghost use Rattle.std.specs.Prelude.{◌≡◌};
+ghost use Rattle.image80.specs.Image.{memory_of};
+
+use crate::pushing::{IMAGE, INPUTS, REGIONS};
 use image80::{Image, read_regions};
 use loader80::{ProcRow, Vouched, read_inputs, run, vouch};
-use machine80::{End, FlatBus, ListPorts, Ports};
+use machine80::{Bus, End, FlatBus, ListPorts, PagedBus, Ports};
 use place80::read_image;
 use std::alloc::Global;
 use std::process::Abort;
 use std::test::Fail;
 use verify80::verify;
-
-/// The image.
-#[rattlefmt::skip]
-static IMAGE: [u8; 45] = [
-    0x02, 0x05, 0x00, 0x01, 0x41, 0x00, 0x00, 0xB7, // module header
-    0x06, 0x16, 0x00, 0x00, 0x00, 0x30, // content at 3000
-    0x31, 0x00, 0x32, 0x21, 0x05, 0x00, 0xE5, 0xCD, 0x0B, 0x30, 0x76, // LXI SP,3200, LXI H,0005, PUSH H, CALL 300B, HLT
-    0xD1, 0xC1, 0xD5, 0x79, 0xD3, 0x01, 0xC9, 0x4B, // 300B: POP D, POP B, PUSH D, MOV A,C, OUT 01, RET
-    0x04, 0x05, 0x00, 0x01, 0x00, 0x00, 0x30, 0xC6, // module end
-    0x0E, 0x01, 0x00, 0xF1, // end of file
-];
-
-/// Its regions.
-const REGIONS: &[u8] = b"REGIONS 1\nCODE 3000 0012\nSTACK 3100 0100\n";
 
 /// Its procedure.
 #[rattlefmt::skip]
@@ -57,15 +47,19 @@ fn a_vouched_image_is_run(rt: HostRuntime) -> Result<(), Fail> {
     };
     assert_eq!(rt; vouched.stack_bytes(), 4);
     assert!(rt; vouched.rows() == ROWS.as_slice());
-    runs(&rt, &vouched)
+    let mut memory = FlatBus::new(rt.alloc(), vouched.image())?;
+    runs(&rt, &vouched, &mut memory)?;
+    let mut pages = PagedBus::new(rt.alloc(), vouched.image())?;
+    runs(&rt, &vouched, &mut pages)
 }
 
 /// The run puts out the argument. It takes no input, so both bytes are left.
-fn runs(rt: &(impl Abort + AllocGlobal), vouched: &Vouched) -> Result<(), Fail> {
-    let inputs = read_inputs(rt.alloc(), b"02 41FF\n")?;
-    let mut bus = FlatBus::new(rt.alloc(), vouched.image())?;
+fn runs<B: Bus>(rt: &(impl Abort + AllocGlobal), vouched: &Vouched, bus: &mut B) -> Result<(), Fail>
+    requires { B.memory bus.old ≡ memory_of vouched.now.image.chunks }
+{
+    let inputs = read_inputs(rt.alloc(), INPUTS)?;
     let mut ports = ListPorts::new(rt.alloc(), inputs, 65_536);
-    let ended = run(&vouched, &mut bus, &mut ports, 1_000_000);
+    let ended = run(vouched, bus, &mut ports, 1_000_000);
     assert!(rt; ended.end == Some(End::Halt) && ended.steps == 11);
     assert!(rt; ended.cpu.pc() == 0x300A && ports.outputs() == [(0x01, 0x05)].as_slice());
     assert!(rt; ports.take(0x02) == Some(0x41) && ports.take(0x02) == Some(0xFF));

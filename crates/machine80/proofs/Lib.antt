@@ -1,6 +1,7 @@
 pub mod ArithmeticLemmas
 pub mod DecimalLemmas
 pub mod FlagsLemmas
+pub mod PagesLemmas
 pub mod PortsLemmas
 pub mod Queues
 pub mod Spans

@@ -1,5 +1,6 @@
 pub mod Ports
 pub mod ListPorts
+pub mod Pages
 pub mod Flags
 pub mod Arithmetic
 pub mod ArithmeticLaws

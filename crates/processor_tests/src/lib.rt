@@ -4,8 +4,8 @@
 //! |---|---|
 //! | `texts` | `decode80`: texts of instructions |
 //! | `frames` | `frames80`: what instructions, calls and meetings make of frames |
-//! | `machine` | `machine80`: programs with their ends, and ports that are lists |
-//! | `quick_steps` | `quick80`: quick steps, compared with steps |
+//! | `machine` | `machine80`: programs with their ends, in either memory, and ports that are lists |
+//! | `quick_steps` | `quick80`: quick steps over a memory in pages, compared with steps over one in one piece |
 //!
 //! The text of each first byte, the results and flags of an outside core, and runs of programs that the verifier accepts are in
 //! `tests/commands`.

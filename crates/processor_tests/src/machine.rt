@@ -1,8 +1,8 @@
 //! Programs with their ends, and ports that are lists.
 
-use crate::memory::empty_memory;
+use crate::memory::{empty_memory, empty_pages};
 use image80::{Regions, read_regions};
-use machine80::{Bus, Cpu, End, FlatBus, Inputs, ListPorts, PortRefused, Ports, step};
+use machine80::{Bus, Cpu, End, Inputs, ListPorts, PortRefused, Ports, step};
 use std::alloc::{AllocError, Global};
 use std::test::Fail;
 
@@ -16,21 +16,19 @@ fn no_inputs(alloc: Global) -> Inputs {
     }
 }
 
-/// A memory that holds a program's bytes, and 00 elsewhere.
-fn memory_of(alloc: Global, program: &Program) -> Result<FlatBus, Fail> {
-    let mut bus = empty_memory(alloc)?;
+/// Writes a program's bytes, from its start on.
+fn write_program<B: Bus>(program: &Program, bus: &mut B) {
     let mut address = program.start;
     for byte in program.bytes {
         bus.store(address, *byte);
         address = address.wrapping_add(1);
     }
-    Ok(bus)
 }
 
 /// How a program goes, for at most ten steps: its end, its steps, and the processor then.
-fn run_of(
+fn run_of<B: Bus>(
     program: &Program,
-    bus: &mut FlatBus,
+    bus: &mut B,
     ports: &mut ListPorts,
     regions: &Regions,
 ) -> (Option<End>, u64, Cpu) {
@@ -46,19 +44,26 @@ fn run_of(
     (end, steps, cpu)
 }
 
-/// Whether a program goes as it is said.
-fn goes_as_said(alloc: Global, program: &Program) -> Result<bool, Fail> {
+/// Whether a program goes as it is said, in a memory that holds 00 everywhere.
+fn goes_as_said<B: Bus>(alloc: Global, program: &Program, bus: &mut B) -> Result<bool, Fail> {
     let regions = read_regions(alloc, program.regions)?;
-    let mut bus = memory_of(alloc, program)?;
+    write_program(program, bus);
     let mut ports = ListPorts::new(alloc, no_inputs(alloc), 0);
-    let (end, steps, cpu) = run_of(program, &mut bus, &mut ports, &regions);
+    let (end, steps, cpu) = run_of(program, bus, &mut ports, &regions);
     Ok((end, steps, cpu.pc(), cpu.sp()) == program.ends)
+}
+
+/// Whether it does so in either memory.
+fn goes_in_either(alloc: Global, program: &Program) -> Result<bool, Fail> {
+    let mut memory = empty_memory(alloc)?;
+    let mut pages = empty_pages(alloc)?;
+    Ok(goes_as_said(alloc, program, &mut memory)? && goes_as_said(alloc, program, &mut pages)?)
 }
 
 #[test]
 fn programs_go_as_worked_out(rt: HostRuntime) -> Result<(), Fail> {
     for program in &PROGRAMS {
-        assert!(rt; goes_as_said(rt.alloc(), program)?, "{}", program.title);
+        assert!(rt; goes_in_either(rt.alloc(), program)?, "{}", program.title);
     }
     Ok(())
 }

@@ -1,7 +1,7 @@
-//! A memory for the tests of steps.
+//! Memories for the tests of steps.
 
-use image80::read_regions;
-use machine80::FlatBus;
+use image80::{Image, read_regions};
+use machine80::{FlatBus, PagedBus};
 use place80::read_image;
 use std::alloc::Global;
 use std::test::Fail;
@@ -13,11 +13,23 @@ static EMPTY: [u8; 20] = [
     0x0E, 0x01, 0x00, 0xF1, // end of file
 ];
 
-/// A memory that holds 00 everywhere.
-pub fn empty_memory(alloc: Global) -> Result<FlatBus, Fail> {
+/// An image whose memory holds 00 everywhere.
+fn empty_image(alloc: Global) -> Result<Image, Fail> {
     let regions = read_regions(alloc, b"REGIONS 1\nSTACK 3100 0100\n")?;
     match read_image(alloc, &EMPTY, regions) {
-        Ok(image) => FlatBus::new(alloc, &image).map_err(Fail::from),
+        Ok(image) => Ok(image),
         Err((_, fault)) => Err(fault.into()),
     }
+}
+
+/// A memory in one piece that holds 00 everywhere.
+pub fn empty_memory(alloc: Global) -> Result<FlatBus, Fail> {
+    let image = empty_image(alloc)?;
+    FlatBus::new(alloc, &image).map_err(Fail::from)
+}
+
+/// The same in pages.
+pub fn empty_pages(alloc: Global) -> Result<PagedBus, Fail> {
+    let image = empty_image(alloc)?;
+    PagedBus::new(alloc, &image).map_err(Fail::from)
 }

@@ -1,9 +1,9 @@
-//! A quick step is the step: both are made from the same states, and must leave the same.
+//! A quick step is the step: both are made from the same states, and must leave the same. The quick steps go over a memory in pages.
 
-use crate::memory::empty_memory;
+use crate::memory::{empty_memory, empty_pages};
 use decode80::length_of;
 use image80::{RegionMap, Regions, read_regions};
-use machine80::{Bus, Cpu, Flags, FlatBus, Inputs, ListPorts, Ports, Registers, step};
+use machine80::{Bus, Cpu, Flags, FlatBus, Inputs, ListPorts, PagedBus, Ports, Registers, step};
 use quick80::quick_step;
 use std::alloc::{AllocError, Global};
 use std::process::Abort;
@@ -30,12 +30,12 @@ static FLAGS: [u8; 8] = [0x00, 0x01, 0x04, 0x10, 0x40, 0x80, 0x11, 0xD5];
 #[derive(Drop)]
 struct Pair {
     slow: FlatBus,
-    quick: FlatBus,
+    quick: PagedBus,
 }
 
 fn new_pair(alloc: Global) -> Result<Pair, Fail> {
     let slow = empty_memory(alloc)?;
-    let quick = empty_memory(alloc)?;
+    let quick = empty_pages(alloc)?;
     Ok(Pair { slow, quick })
 }
 
@@ -48,7 +48,7 @@ fn inputs(alloc: Global, kind: usize) -> Result<Inputs, AllocError> {
     Ok(Inputs { pairs })
 }
 
-fn same_memory(left: &FlatBus, right: &FlatBus) -> bool {
+fn same_memory(left: &FlatBus, right: &PagedBus) -> bool {
     for address in 0..=u16::MAX {
         if left.load(address) != right.load(address) {
             return false;
@@ -77,7 +77,7 @@ fn state(set: Set, flags: u8, pc: u16) -> Cpu {
 }
 
 /// Puts an instruction with the operand 1234 at an address.
-fn put(bus: &mut FlatBus, opcode: u8, pc: u16) {
+fn put<B: Bus>(bus: &mut B, opcode: u8, pc: u16) {
     bus.store(pc, opcode);
     bus.store(pc.wrapping_add(1), 0x34);
     bus.store(pc.wrapping_add(2), 0x12);

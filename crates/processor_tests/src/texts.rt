@@ -53,6 +53,15 @@ fn a_refused_growth_leaves_the_text_as_it_was(rt: HostRuntime) {
     }
 }
 
+/// A text comes after what stands there, also where the vector has no room for it.
+#[test]
+fn a_text_after_others(rt: HostRuntime) -> Result<(), Fail> {
+    let mut out = b"3000 ".to_vec(rt.alloc())?;
+    write_text(rt.alloc(), Instr::Mvi(Register::A, 0xA5), &mut out)?;
+    assert!(rt; out.as_slice() == b"3000 MVI A,A5".as_slice());
+    Ok(())
+}
+
 /// An instruction is shown by its mnemonic and the bytes that the manual gives it.
 #[test]
 fn instructions_as_shown(rt: HostRuntime) -> Result<(), Fail> {

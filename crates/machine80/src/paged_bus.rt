@@ -1,0 +1,65 @@
+ghost use Rattle.std.specs.Prelude.{◌≡◌, ◌+◌, ◌*◌, ◌≤◌, IfOk, length, take, drop};
+ghost use Rattle.image80.specs.Image.{memory_of};
+
+use crate::bus::Bus;
+use image80::Image;
+use std::alloc::{AllocError, Global};
+use std::marker::Model;
+
+/// A memory of 65536 bytes in 256 pages of 256 bytes. All of them are made at once, so that a store takes no memory.
+#[derive(Drop)]
+pub struct PagedBus {
+    pages: Vec<[u8; 256]>,
+}
+
+impl Model for PagedBus {
+    ghost use Rattle.std.specs.Prelude.{ℕ, List};
+    ghost use Rattle.machine80.specs.Pages.{memory_in_pages, ArePages};
+
+    ghost Value = { List ℕ };
+
+    ghost view = { λ b. memory_in_pages b.pages.items };
+
+    ghost invariant = { λ b. ArePages b.pages.items };
+}
+
+impl PagedBus {
+    /// A memory that holds the image's content, and 0 where it has none.
+    ///
+    /// # Errors
+    /// `AllocError` where there is no memory for it.
+    pub fn new(alloc: Global, image: &Image) -> Result<Self, AllocError>
+        ensures { IfOk result (λ bus. bus ≡ memory_of image.now.chunks) }
+    {
+        let bytes = image.memory(alloc)?;
+        let mut pages = Vec::with_capacity(alloc, 256)?;
+        for number in 0..256 {
+            pages.push(page_of(&bytes, number))?;
+        }
+        Ok(PagedBus { pages })
+    }
+}
+
+/// The page of this number, from 0, of bytes by address.
+fn page_of(bytes: &[u8], number: usize) -> [u8; 256]
+    requires { number * 256 + 256 ≤ length bytes.now }
+    ensures page { result ≡ take 256 (drop (number * 256) bytes.now) }
+    ensures whole { length result ≡ 256 }
+{
+    let mut page = [0; 256];
+    let first = number * 256;
+    page.copy_from_slice(&bytes[first..first + 256]);
+    page
+}
+
+impl Bus for PagedBus {
+    ghost memory = { λ b. b };
+
+    fn load(&self, address: u16) -> u8 {
+        self.pages[usize::from(address / 256)][usize::from(address % 256)]
+    }
+
+    fn store(&mut self, address: u16, byte: u8) {
+        self.pages[usize::from(address / 256)][usize::from(address % 256)] = byte;
+    }
+}
