@@ -25,6 +25,11 @@ pub record Known : Type 0 where
   pub points : List Point
   pub exits : List (Option ℕ)
 
+-- what is known, and the frames by number
+pub record KnownFrames : Type 0 where
+  pub known : Known
+  pub frames : List StackFrame
+
 -- nothing is known yet
 abbrev pub nothing_known : Known
 nothing_known = record { points = []; exits = replicate 65536 None }
@@ -97,18 +102,6 @@ pub record Flows (old new : Known) (p : Procedure) (to : ℕ) (g : StackFrame) (
   pub stands : (code : Code) → Stands code old → IsShown code p to g → MatchResult result (λ _. Stands code new) (λ refusal. Refused code refusal)
   pub goes : IfOk result (λ changed. Goes old new changed)
   pub has : IfOk result (λ changed. changed ≡ false → HasPoint new p to g)
-
--- the frames that a move carries have no more words than so many
-abbrev pub AreWithin : ℕ → Moves → Type 0
-AreWithin most End = Unit {0}
-AreWithin most (On f) = IsWithin most f
-AreWithin most (Jump f _) = IsWithin most f
-AreWithin most (Either f _) = IsWithin most f
-AreWithin most (Case f) = IsWithin most f
-AreWithin most (Call f _) = IsWithin most f
-AreWithin most (MaybeCall f _) = IsWithin most f
-AreWithin most (Return _) = Unit {0}
-AreWithin most (MaybeReturn f _) = IsWithin most f
 
 -- a call carries the caller's frame
 abbrev pub Carries : Moves → StackFrame → Type 0

@@ -28,6 +28,10 @@ impl Model for Frames {
     ghost Value = { List StackFrame };
 
     ghost view = { λ s. s.kept.keys };
+
+    ghost use Rattle.std.specs.Prelude.{◌≡◌, []};
+
+    ghost invariant = { λ s. s.kept.keys ≡ [] };
 }
 
 impl Frames {
@@ -68,6 +72,7 @@ impl Frames {
         ensures refused { IfSome result (λ fault. moves_of role effect (frame_at self.now frame) ≡ Err fault) }
         ensures admitted { IfNone result (moves_of role effect (frame_at self.now frame) ≡ Ok (move_of effect (frame_at self.now frame))) }
     {
+        let _kept = self.kept.len();
         None
     }
 
@@ -123,6 +128,7 @@ impl Frames {
         requires { frame < length self.now }
         ensures { result ≡ (frame_at self.now frame).taken }
     {
+        let _kept = self.kept.len();
         0
     }
 
@@ -131,6 +137,7 @@ impl Frames {
         requires { frame < length self.now }
         ensures { result ≡ room role (frame_at self.now frame).words }
     {
+        let _kept = self.kept.len();
         0
     }
 
@@ -140,6 +147,7 @@ impl Frames {
         requires { frame < length self.now }
         ensures { result ≡ depth_of role (frame_at self.now frame) }
     {
+        let _kept = self.kept.len();
         0
     }
 }
