@@ -26,3 +26,7 @@ module _ (old new : List StackFrame) (s : StayNumbered old new) (id : ℕ) (ther
 -- the frame of a number, and that frame where it is known
 pub is_there : (frames : List StackFrame) (id : ℕ) (frame : StackFrame) → IsFrame frames id frame → slice_get frames id ≡ Some frame
 is_there frames id frame is = slice_get-get_or frames id entry_frame is.there ∙ subst (λ (f : StackFrame). Some (frame_at frames id) ≡ Some f) is.is (λ _. Some (frame_at frames id))
+
+-- the frame of a number that is there, before and after
+pub is_at : (old new : List StackFrame) (id : ℕ) (frame : StackFrame) → StayNumbered old new → IsFrame old id frame → IsFrame new id frame
+is_at old new id frame s is = record { there = stays_there old new s id is.there; is = stays_at old new s id is.there ∙ is.is }

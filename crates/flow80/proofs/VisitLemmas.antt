@@ -15,8 +15,10 @@ use Rattle.frames80.specs.declared.moves.Moves.{Moves}
 use Rattle.frames80.specs.StackFrame.{StackFrame, taken_after_pop}
 use Rattle.frames80.specs.Effects.{effect_of}
 use Rattle.frames80.specs.Moves.{moves_of, changed}
+use Rattle.frames80.specs.Calls.{returned}
 use Rattle.bounds80.specs.declared.procedure.Procedure.{Procedure}
 use Rattle.interned80.specs.Admitted.{move_of}
+use Rattle.interned80.specs.Frames.{frame_at}
 use Rattle.flow80.specs.declared.code.LookFault.{LookFault}
 use Rattle.flow80.specs.declared.code.LookFault.TheVariants.{Outside, Unused, EnablesInterrupts, Pchl, DirectStore}
 use Rattle.flow80.specs.declared.refusal.Refusal.{Refusal}
@@ -26,9 +28,9 @@ use Rattle.flow80.specs.Walks.{role_of}
 use Rattle.flow80.specs.Faults.{Holds as Refused, LooksWrong}
 use Rattle.flow80.specs.Points.{Point}
 use Rattle.flow80.specs.declared.site.Site.{Site}
-use Rattle.flow80.specs.Survey.{IsMoveAt}
+use Rattle.flow80.specs.Survey.{IsMoveAt, EffectIsAt}
 use Rattle.flow80.specs.Shown.{IsShown, FrameLaws}
-use Rattle.flow80.specs.Known.{Known, IsWithin, Stands, Goes, Carries, Steps, Follows, IsClosed, Visits}
+use Rattle.flow80.specs.Known.{Known, KnownFrames, IsWithin, Stands, Goes, Carries, Steps, Follows, IsClosed, Visits}
 use Rattle.flow80.proofs.MoveLemmas.{moved_is}
 use Rattle.flow80.proofs.ShownLemmas.{looks_wrong, moves_wrong}
 
@@ -157,6 +159,17 @@ visits_follow code known new i p at targets next role f found moves result here 
     by (Ok flag) goes follows = λ same. close (follows same f carries) (goes.same same)
     by (Err refusal) goes follows = tt
 
+-- the effect at a point, with the number of its frame
+pub effect_at_point : (code : Code) (table : KnownFrames) (i : ℕ) (p : Procedure) (at : ℕ) (found : Fetched) (role : Role) (effect : Effect) (frame : ℕ) →
+    AtPoint code table.known i p at (frame_at table.frames frame) → code.look at ≡ Ok found → role ≡ role_of code p →
+    moves_of role (effect_of found.instr) (frame_at table.frames frame) ≡ Ok (move_of effect (frame_at table.frames frame)) → frame < length table.frames →
+    EffectIsAt code table i (record { procedure = p; role = role; at = at; next = found.next; point = i; frame = frame }) effect
+unfolding moves_at_point
+effect_at_point code table i p at found role effect frame here looked same moved there = record {
+  move = moves_at_point code table.known i p at (frame_at table.frames frame) found role (move_of effect (frame_at table.frames frame)) frame here looked same moved;
+  framed = record { there = there; is = sym here.frame };
+}
+
 pub visits_moves : (code : Code) (known new : Known) (i : ℕ) (site : Site) (targets : List ℕ) (moves : Moves) (result : Result Bool Refusal) → IsMoveAt code known i site moves →
     targets ≡ code.targets site.at → Steps known new site.procedure site.at targets site.next site.role moves result → Visits code known new i result
 visits_moves code known new i site targets moves result m same_targets steps =
@@ -190,3 +203,10 @@ same_within n f is = record { taken = let t = is.taken in omega arith; words = l
 -- a frame that is within so many points is within more
 pub more_within : (n m : ℕ) (f : StackFrame) → n ≤ m → IsWithin n f → IsWithin (m + 1) f
 more_within n m f more is = record { taken = let t = is.taken in omega arith; words = let w = is.words in omega arith }
+
+pub within_more : (n m : ℕ) (f : StackFrame) → n ≤ m → IsWithin n f → IsWithin m f
+within_more n m f more is = record { taken = let t = is.taken in omega arith; words = let w = is.words in omega arith }
+
+-- what a callee leaves is no more than there was
+pub returned_within : (n m taken : ℕ) (f : StackFrame) → n ≤ m → IsWithin n f → IsWithin (m + 1) (returned taken f)
+returned_within n m taken f more is = record { taken = let t = is.taken in omega arith; words = let w = is.words in let d = length-drop taken f.words in omega arith }

@@ -120,16 +120,17 @@ impl Table {
     {
         frame_laws();
         let kept = self.points.frame(i);
-        match self.points.meet(kept, frame) {
-            Err(MeetFault::HeightsDiffer) => Err(Refusal::HeightsDiffer(to)),
-            Err(MeetFault::Memory) => Err(Refusal::Memory),
-            Ok(merged) if merged == kept => Ok(false),
-            Ok(merged) => {
-                self.points.replace(i, merged);
-                self.look_again(i, to)?;
-                Ok(true)
-            }
+        let merged = match self.points.meet(kept, frame) {
+            Ok(merged) => merged,
+            Err(MeetFault::HeightsDiffer) => return Err(Refusal::HeightsDiffer(to)),
+            Err(MeetFault::Memory) => return Err(Refusal::Memory),
+        };
+        if merged == kept {
+            return Ok(false);
         }
+        self.points.replace(i, merged);
+        self.look_again(i, to)?;
+        Ok(true)
     }
 
     /// A procedure returns with so many words taken.

@@ -5,8 +5,8 @@ use Rattle.flow80.proofs.fill.fill.Goals as goal
 
 pub loop-changes-init : goal.loop-changes-init
 loop-changes-init g c = record {
-  small = nothing_small c.args.table.now c.requires;
-  stands = nothing_stands (g.C.Code.code c.args.program.now) c.args.table.now c.requires;
+  small = nothing_small c.args.table.now.known c.requires;
+  stands = nothing_stands (g.C.Code.code c.args.program.now) c.args.table.now.known c.requires;
   closed = λ e. absurd (true≢false e);
 }
 

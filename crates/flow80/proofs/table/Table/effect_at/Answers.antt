@@ -1,93 +1,74 @@
-use Rattle.std.proofs.Common.{◌≡◌, ◌≢◌, ◌∙◌, ap, arith, sym, subst, length, Ok, Err, Some, List}
+use Rattle.std.proofs.Common.{◌≡◌, ◌≢◌, ◌<◌, ◌∙◌, ap, sym, subst, length, refl, Ok, Err, Some, List}
 use Rattle.std.specs.Prelude.{slice_get}
 use Rattle.frames80.specs.declared.fault.FrameFault.TheVariants.{Memory}
+use Rattle.frames80.specs.declared.effect.Effect.{Effect}
 use Rattle.frames80.specs.declared.role.Role.{Role}
 use Rattle.frames80.specs.StackFrame.{StackFrame}
 use Rattle.frames80.specs.Effects.{effect_of}
 use Rattle.frames80.specs.Moves.{moves_of}
+use Rattle.interned80.specs.Admitted.{move_of}
+use Rattle.interned80.specs.Frames.{frame_at, IsFrame}
 use Rattle.flow80.specs.Points.{Point}
-use Rattle.flow80.specs.Known.{Known, IsWithin}
-use Rattle.flow80.proofs.VisitLemmas.{some_at, AtPoint, look_refused, move_refused, moves_at_point, moves_within}
-use Rattle.flow80.proofs.table.Table.moves_at.Goals as goal
+use Rattle.flow80.specs.Known.{KnownFrames}
+use Rattle.flow80.proofs.VisitLemmas.{some_at, AtPoint, look_refused, move_refused, effect_at_point}
+use Rattle.flow80.proofs.table.Table.effect_at.Goals as goal
 
-pub returns-in-Err : goal.returns-in-Err
-returns-in-Err g c =
+pub returns-in-Err-clause-refused : goal.returns-in-Err-clause-refused
+returns-in-Err-clause-refused g c =
     let code = g.C.Code.code c.args.program.now in
-    let known = c.args.self.now in
+    let known = c.args.self.now.known in
     let i = c.args.point in
-    let points : c.self.inside.points ≡ known.points = ap (λ (k : Known). k.points) c.self.view_is in
-    let pt = some_at known.points i c.requires.there in
-    let there : slice_get c.self.inside.points i ≡ Some pt.0 = subst (λ (ps : List Point). slice_get ps i ≡ Some pt.0) (sym points) pt.1 in
+    let pt = some_at known.points i c.requires in
+    let there : slice_get c.self.inside.points.points i ≡ Some pt.0 = ap (λ (t : KnownFrames). slice_get t.known.points i) c.self.view_is ∙ pt.1 in
     let placed = rw there at c.place-procedure.ensures in
-    record { moves = tt; refused = rw c.of_look.ensures (look_refused code known i c.place-procedure.result.1 pt.0 c.in-Err.fault pt.1 placed.1 (sym c.look.ensures ∙ c.in-Err.is)) }
+    rw c.of_look.ensures (look_refused code known i c.place-procedure.result.1 pt.0 c.in-Err.fault pt.1 placed.1 (sym c.look.ensures ∙ c.in-Err.is))
 
-pub next-requires-clause-taken : goal.next-requires-clause-taken
-next-requires-clause-taken g c =
-    let code = g.C.Code.code c.args.program.now in
-    let known = c.args.self.now in
+pub fault_of-requires : goal.fault_of-requires
+fault_of-requires g c =
+    let known = c.args.self.now.known in
     let i = c.args.point in
-    let points : c.self.inside.points ≡ known.points = ap (λ (k : Known). k.points) c.self.view_is in
-    let pt = some_at known.points i c.requires.there in
-    let there : slice_get c.self.inside.points i ≡ Some pt.0 = subst (λ (ps : List Point). slice_get ps i ≡ Some pt.0) (sym points) pt.1 in
-    let placed = rw there at c.place-procedure.ensures in
-    let frame : c.frame.result.now ≡ pt.0.frame = rw there at c.frame.ensures in
-    let within : IsWithin (length known.points) c.frame.result.now = subst (λ (f : StackFrame). IsWithin (length known.points) f) (sym frame) (c.requires.small.frames i pt.0 pt.1) in
-    let few = c.requires.small.points in
-    let taken = within.taken in
-    omega arith
+    let pt = some_at known.points i c.requires in
+    let there : slice_get c.self.inside.points.points i ≡ Some pt.0 = ap (λ (t : KnownFrames). slice_get t.known.points i) c.self.view_is ∙ pt.1 in
+    let framed = rw there at c.frame-frame.ensures in
+    subst (λ (fs : List StackFrame). c.frame-frame.result < length fs) (sym c.frames.ensures) framed.there
 
-pub next-requires-clause-words : goal.next-requires-clause-words
-next-requires-clause-words g c =
+pub returns-in-Some-clause-refused : goal.returns-in-Some-clause-refused
+returns-in-Some-clause-refused g c =
     let code = g.C.Code.code c.args.program.now in
-    let known = c.args.self.now in
+    let known = c.args.self.now.known in
     let i = c.args.point in
-    let points : c.self.inside.points ≡ known.points = ap (λ (k : Known). k.points) c.self.view_is in
-    let pt = some_at known.points i c.requires.there in
-    let there : slice_get c.self.inside.points i ≡ Some pt.0 = subst (λ (ps : List Point). slice_get ps i ≡ Some pt.0) (sym points) pt.1 in
+    let pt = some_at known.points i c.requires in
+    let there : slice_get c.self.inside.points.points i ≡ Some pt.0 = ap (λ (t : KnownFrames). slice_get t.known.points i) c.self.view_is ∙ pt.1 in
     let placed = rw there at c.place-procedure.ensures in
-    let frame : c.frame.result.now ≡ pt.0.frame = rw there at c.frame.ensures in
-    let within : IsWithin (length known.points) c.frame.result.now = subst (λ (f : StackFrame). IsWithin (length known.points) f) (sym frame) (c.requires.small.frames i pt.0 pt.1) in
-    let few = c.requires.small.points in
-    let words = within.words in
-    omega arith
+    let framed = rw there at c.frame-frame.ensures in
+    let at = c.place-procedure.result.1 in
+    let here : AtPoint code known i c.place-procedure.result.0 at pt.0.frame = record { point = pt.0; there = pt.1; procedure = placed.0; address = placed.1; frame = refl } in
+    let is : frame_at c.frames.result.now c.frame-frame.result ≡ pt.0.frame = ap (λ (fs : List StackFrame). frame_at fs c.frame-frame.result) c.frames.ensures ∙ framed.is in
+    let looked : code.look at ≡ Ok c.in-Ok.found = sym c.look.ensures ∙ c.in-Ok.is in
+    let moved =
+    subst (λ (e : Effect). moves_of c.role_of-role.result e pt.0.frame ≡ Err c.in-Some.fault) c.effect_of-effect.ensures
+    (subst (λ (f : StackFrame). moves_of c.role_of-role.result c.effect_of-effect.result f ≡ Err c.in-Some.fault) is c.in-Some.ensures.refused) in
+    rw c.of.ensures (move_refused c.frame_laws.ensures code known i c.place-procedure.result.0 at pt.0.frame c.in-Ok.found c.in-Some.fault here looked
+        (λ (apart : c.in-Some.fault ≢ Memory). subst (λ (r : Role). moves_of r (effect_of c.in-Ok.found.instr) pt.0.frame ≡ Err c.in-Some.fault) c.role_of-role.ensures moved))
 
-pub returns-in-Err-next : goal.returns-in-Err-next
-returns-in-Err-next g c =
+pub returns-clause-moves : goal.returns-clause-moves
+returns-clause-moves g c =
     let code = g.C.Code.code c.args.program.now in
-    let known = c.args.self.now in
+    let table = c.args.self.now in
     let i = c.args.point in
-    let points : c.self.inside.points ≡ known.points = ap (λ (k : Known). k.points) c.self.view_is in
-    let pt = some_at known.points i c.requires.there in
-    let there : slice_get c.self.inside.points i ≡ Some pt.0 = subst (λ (ps : List Point). slice_get ps i ≡ Some pt.0) (sym points) pt.1 in
+    let id = c.frame-frame.result in
+    let pt = some_at table.known.points i c.requires in
+    let there : slice_get c.self.inside.points.points i ≡ Some pt.0 = ap (λ (t : KnownFrames). slice_get t.known.points i) c.self.view_is ∙ pt.1 in
     let placed = rw there at c.place-procedure.ensures in
-    let frame : c.frame.result.now ≡ pt.0.frame = rw there at c.frame.ensures in
-    let within : IsWithin (length known.points) c.frame.result.now = subst (λ (f : StackFrame). IsWithin (length known.points) f) (sym frame) (c.requires.small.frames i pt.0 pt.1) in
-    let here : AtPoint code known i c.place-procedure.result.0 c.place-procedure.result.1 c.frame.result.now =
-    record { point = pt.0; there = pt.1; procedure = placed.0; address = placed.1; frame = sym frame } in
-    let looked : code.look c.place-procedure.result.1 ≡ Ok c.in-Ok.found = sym c.look.ensures ∙ c.in-Ok.is in
-    record {
-      moves = tt;
-      refused = rw c.of.ensures (move_refused c.frame_laws.ensures code known i c.place-procedure.result.0 c.place-procedure.result.1 c.frame.result.now c.in-Ok.found c.in-Err-next.fault here looked
-          (λ (apart : c.in-Err-next.fault ≢ Memory). subst (λ (r : Role). moves_of r (effect_of c.in-Ok.found.instr) c.frame.result.now ≡ Err c.in-Err-next.fault) c.role_of-role.ensures (c.in-Err-next.ensures.fault apart)));
-    }
-
-pub returns : goal.returns
-returns g c =
-    let code = g.C.Code.code c.args.program.now in
-    let known = c.args.self.now in
-    let i = c.args.point in
-    let points : c.self.inside.points ≡ known.points = ap (λ (k : Known). k.points) c.self.view_is in
-    let pt = some_at known.points i c.requires.there in
-    let there : slice_get c.self.inside.points i ≡ Some pt.0 = subst (λ (ps : List Point). slice_get ps i ≡ Some pt.0) (sym points) pt.1 in
-    let placed = rw there at c.place-procedure.ensures in
-    let frame : c.frame.result.now ≡ pt.0.frame = rw there at c.frame.ensures in
-    let within : IsWithin (length known.points) c.frame.result.now = subst (λ (f : StackFrame). IsWithin (length known.points) f) (sym frame) (c.requires.small.frames i pt.0 pt.1) in
-    let here : AtPoint code known i c.place-procedure.result.0 c.place-procedure.result.1 c.frame.result.now =
-    record { point = pt.0; there = pt.1; procedure = placed.0; address = placed.1; frame = sym frame } in
-    let looked : code.look c.place-procedure.result.1 ≡ Ok c.in-Ok.found = sym c.look.ensures ∙ c.in-Ok.is in
-    record {
-      moves = moves_at_point code known i c.place-procedure.result.0 c.place-procedure.result.1 c.frame.result.now c.in-Ok.found c.role_of-role.result c.in-Ok-next.moves
-          here looked c.role_of-role.ensures c.in-Ok-next.ensures.moved
-          (moves_within (length known.points) c.role_of-role.result (effect_of c.in-Ok.found.instr) c.frame.result.now c.in-Ok-next.moves within c.in-Ok-next.ensures.moved);
-      refused = tt;
-    }
+    let frames = ap (λ (t : KnownFrames). t.frames) c.self.view_is in
+    let framed : IsFrame table.frames id pt.0.frame = subst (λ (fs : List StackFrame). IsFrame fs id pt.0.frame) frames (rw there at c.frame-frame.ensures) in
+    let f = frame_at table.frames id in
+    let at = c.place-procedure.result.1 in
+    let role = c.role_of-role.result in
+    let effect = c.effect_of-effect.result in
+    let here : AtPoint code table.known i c.place-procedure.result.0 at f = record { point = pt.0; there = pt.1; procedure = placed.0; address = placed.1; frame = sym framed.is } in
+    let looked : code.look at ≡ Ok c.in-Ok.found = sym c.look.ensures ∙ c.in-Ok.is in
+    let admitted =
+    subst (λ (fs : List StackFrame). moves_of role effect (frame_at fs id) ≡ Ok (move_of effect (frame_at fs id))) (c.frames.ensures ∙ frames) c.in_default.ensures.admitted in
+    effect_at_point code table i c.place-procedure.result.0 at c.in-Ok.found role effect id here looked c.role_of-role.ensures
+    (subst (λ (e : Effect). moves_of role e f ≡ Ok (move_of effect f)) c.effect_of-effect.ensures admitted) framed.there
