@@ -21,7 +21,7 @@ returns-then-room-wanted-clause-refused g c =
     let has : c.room.result ≡ room site.role f.words = c.room.ensures ∙ ap (λ (fs : List StackFrame). room site.role (frame_at fs site.frame).words) c.frames-2.ensures in
     let less : room site.role f.words < slice_index c.args.wants.now c.slot.result = omega (arith, has, c.if-room-wanted.true) in
     short_here c.frame_laws.ensures (g.C.Code.code c.args.program.now) table.known c.args.wants.now c.args.point site (move_of c.in_ok-site.effect f) c.in-Some.target
-    f (ShortArguments site.at) is.move is.framed.is (sym (c.target_of-target.ensures f) ∙ c.in-Some.is) c.requires.wants
+    f (ShortArguments site.at) is.move is.framed.is (sym (c.target_of.ensures f) ∙ c.in-Some.is) c.requires.wants
     (subst (λ n. IsShort site.at (room site.role f.words) (slice_index c.args.wants.now n) (ShortArguments site.at)) c.slot.ensures.is (inr (refl, less)))
 
 pub returns-in_default-clause-seen : goal.returns-in_default-clause-seen
@@ -40,7 +40,7 @@ returns-in_default-clause-seen g c =
       moves = moves;
       move = is.move;
       depth_is = depth_noted code table.known c.args.point site moves f depth is.move is.framed.is deep;
-      call_is = subst (λ (o : Option ℕ). IsCallOf code c.args.wants.now is.move.point o None) (sym (sym (c.target_of-target.ensures f) ∙ c.in_default.is)) tt;
+      call_is = subst (λ (o : Option ℕ). IsCallOf code c.args.wants.now is.move.point o None) (sym (sym (c.target_of.ensures f) ∙ c.in_default.is)) tt;
     })
 
 pub returns-clause-seen : goal.returns-clause-seen
@@ -65,7 +65,7 @@ returns-clause-seen g c =
       moves = moves;
       move = is.move;
       depth_is = depth_noted code table.known i site moves f depth is.move is.framed.is deep;
-      call_is = subst (λ (o : Option ℕ). IsCallOf code wants is.move.point o (Some call)) (sym (sym (c.target_of-target.ensures f) ∙ c.in-Some.is)) (
+      call_is = subst (λ (o : Option ℕ). IsCallOf code wants is.move.point o (Some call)) (sym (sym (c.target_of.ensures f) ∙ c.in-Some.is)) (
         call_noted code table.known i site moves f depth target is.move is.framed.is deep,
         words_enough code table.known wants i site moves f target c.slot.result is.move is.framed.is c.slot.ensures.is enough,
       );
