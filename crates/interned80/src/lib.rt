@@ -11,6 +11,8 @@
 mod fault;
 mod frame_id;
 mod frames;
+mod link;
+mod stacks;
 
 pub use fault::MeetFault;
 pub use frame_id::FrameId;
