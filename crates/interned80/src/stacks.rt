@@ -1,10 +1,11 @@
 //! Stacks of words by number.
 
 ghost use Rattle.std.specs.Prelude.{◌≡◌, ◌<◌, [], ◌∷◌, drop, length, IfOk, IfSome, IfNone};
+ghost use Rattle.frames80.specs.Calls.{room};
 ghost use Rattle.interned80.specs.Stacks.{words_at, IsLink, IsStack, StacksStay};
 
 use crate::link::Link;
-use frames80::Word;
+use frames80::{Role, Word};
 use indexmap::IndexSet;
 use std::alloc::{AllocError, Global};
 use std::marker::Model;
@@ -39,6 +40,19 @@ impl Stacks {
         }
     }
 
+    /// What the stacks grow by.
+    pub(crate) fn alloc(&self) -> Global {
+        *self.links.allocator()
+    }
+
+    /// The number of the stack with no words.
+    pub(crate) fn empty(&self) -> u32
+        ensures { IsStack self.now result [] }
+    {
+        let _links = &self.links;
+        0
+    }
+
     /// The word on top of a stack, with the number of the stack beneath it.
     pub(crate) fn top(&self, number: u32) -> Option<Link>
         requires { number < length self.now }
@@ -63,6 +77,18 @@ impl Stacks {
         }
     }
 
+    /// How many of its words a callee may take.
+    pub(crate) fn room(&self, number: u32, role: Role) -> u32
+        requires { number < length self.now }
+        ensures { result ≡ room role (words_at self.now number) }
+    {
+        let height = self.height(number);
+        match role {
+            Role::Main { .. } => height,
+            Role::Entry => height.saturating_sub(1),
+        }
+    }
+
     /// The number of the stack without its top. Where it has no words, that is its own.
     pub(crate) fn below(&self, number: u32) -> u32
         requires { number < length self.now }
@@ -72,6 +98,18 @@ impl Stacks {
             Some(link) => link.below,
             None => number,
         }
+    }
+
+    /// The number of the stack without its top `count` words. Where it has fewer, that is a stack with none.
+    pub(crate) fn beneath(&self, number: u32, count: u32) -> u32
+        requires { number < length self.now }
+        ensures { IsStack self.now result (drop count (words_at self.now number)) }
+    {
+        let mut beneath = number;
+        for _popped in 0..count {
+            beneath = self.below(beneath);
+        }
+        beneath
     }
 
     /// The number of the stack with a word on top of it.
