@@ -1,3 +1,4 @@
 pub mod ListLemmas
 pub mod LinkEquality
 pub mod StackLemmas
+pub mod MeetLemmas

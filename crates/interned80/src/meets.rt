@@ -1,6 +1,6 @@
 //! How kept frames meet at a point.
 
-ghost use Rattle.std.specs.Prelude.{◌≡◌, ◌<◌, ◌++◌, true, false, length, Err, IfOk, OnOk, IfSome, IfNone};
+ghost use Rattle.std.specs.Prelude.{◌≡◌, ◌<◌, ◌↔◌, ◌++◌, true, false, length, Err, IfOk, OnOk, IfSome, IfNone};
 ghost use Rattle.frames80.specs.Word.{met};
 ghost use Rattle.frames80.specs.Calls.{agree, merged, words_met};
 ghost use Rattle.interned80.specs.Stacks.{words_at, IsLink, IsStack, StacksStay};
@@ -89,7 +89,7 @@ fn meet_tops(stacks: &Stacks, one: u32, other: u32) -> Result<Meeting, AllocErro
     while let Some((link, other_link)) = tops(stacks, rest, beside) {
         let word = meet_word(link.word, other_link.word);
         words.push(word)?;
-        changed = changed || word != link.word;
+        changed |= differs(word, link.word);
         rest = link.below;
         beside = other_link.below;
     }
@@ -130,6 +130,13 @@ fn push_all(stacks: &mut Stacks, below: u32, words: Vec<Word>) -> Result<u32, Al
         number = stacks.push(number, word)?;
     }
     Ok(number)
+}
+
+/// Whether two words differ.
+fn differs(one: Word, other: Word) -> bool
+    ensures { (result ≡ false) ↔ (one ≡ other) }
+{
+    one != other
 }
 
 /// What is known of both words.
