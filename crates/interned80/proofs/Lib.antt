@@ -2,3 +2,4 @@ pub mod ListLemmas
 pub mod LinkEquality
 pub mod StackLemmas
 pub mod MeetLemmas
+pub mod FrameLemmas
