@@ -1,5 +1,5 @@
 -- The frames that are kept: what one more of them, and more stacks, leave as it was.
-use Rattle.std.proofs.Common.{◌≡◌, ◌<◌, ℕ, zero, suc, ◌⊎◌, inl, inr, List, [], ◌∷◌, ◌++◌, Some, length, map, slice_get, refl, sym, ◌∙◌, ap, subst, arith}
+use Rattle.std.proofs.Common.{◌≡◌, ◌<◌, ℕ, zero, suc, ◌⊎◌, inl, inr, List, [], ◌∷◌, ◌++◌, Some, length, map, slice_get, Result, Ok, Err, IfOk, refl, sym, ◌∙◌, ap, subst, arith}
 use Rattle.std.specs.Option.{option_map}
 use Rattle.std.proofs.lemmas.Option.{slice_get-map, slice_get_within, slice_get-get_or, get_or_from_slice_get, same_Some, none-some}
 use Rattle.std.proofs.lemmas.List.{length-map}
@@ -79,3 +79,8 @@ IsFrame-kept stacks kept i last frame e is = record {
   there = slice_get_within (frames_of stacks kept) i (frame_of stacks last) (framed stacks kept i last e);
   is = get_or_from_slice_get (frames_of stacks kept) i (frame_of stacks last) entry_frame (framed stacks kept i last e) ∙ is;
 }
+
+pub IsFrame-result : {E : Type 0} (r : Result ℕ E) (stacks : List (List Word)) (kept : List Kept) (last : Kept) (frame : StackFrame) → IfOk r (λ id. slice_get kept id ≡ Some last) → frame_of stacks last ≡ frame
+    → IfOk r (λ id. IsFrame (frames_of stacks kept) id frame)
+IsFrame-result (Ok id) stacks kept last frame e is = IsFrame-kept stacks kept id last frame e is
+IsFrame-result (Err err) stacks kept last frame e is = e

@@ -2,4 +2,6 @@ pub mod ListLemmas
 pub mod LinkEquality
 pub mod StackLemmas
 pub mod MeetLemmas
+pub mod KeptEquality
 pub mod FrameLemmas
+pub mod Depths

@@ -31,7 +31,6 @@ pub struct Frames {
 impl Model for Frames {
     ghost use Rattle.std.specs.Prelude.{List};
     ghost use Rattle.frames80.specs.StackFrame.{StackFrame};
-
     ghost use Rattle.interned80.specs.Kept.{frames_of, AreKept};
 
     ghost Value = { List StackFrame };
