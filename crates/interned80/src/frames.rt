@@ -7,9 +7,14 @@ ghost use Rattle.frames80.specs.Calls.{agree, depth_of, merged, returned, room};
 ghost use Rattle.interned80.specs.Frames.{frame_at, IsFrame, StayNumbered};
 ghost use Rattle.interned80.specs.Admitted.{move_of};
 
+use crate::changes::change_frame;
 use crate::fault::MeetFault;
 use crate::frame_id::FrameId;
-use frames80::{CallFault, Change, Effect, Frame, FrameFault, Role};
+use crate::kept::{Kept, keep, kept_at};
+use crate::meets::meet_frames;
+use crate::refusal::refusal_of;
+use crate::stacks::Stacks;
+use frames80::{CallFault, Change, Effect, FrameFault, Role, Word};
 use indexmap::IndexSet;
 use std::alloc::{AllocError, Global};
 use std::marker::Model;
@@ -18,20 +23,21 @@ use std::marker::Model;
 /// its number. Words that frames have in common, from the bottom up, are kept once.
 #[derive(Drop)]
 pub struct Frames {
-    kept: IndexSet<Frame>,
+    stacks: Stacks,
+    /// Each distinct frame once, in order of first sight.
+    kept: IndexSet<Kept>,
 }
 
 impl Model for Frames {
     ghost use Rattle.std.specs.Prelude.{List};
     ghost use Rattle.frames80.specs.StackFrame.{StackFrame};
+    ghost use Rattle.interned80.specs.Kept.{frames_of, AreKept};
 
     ghost Value = { List StackFrame };
 
-    ghost view = { λ s. s.kept.keys };
+    ghost view = { λ s. frames_of s.stacks s.kept.keys };
 
-    ghost use Rattle.std.specs.Prelude.{◌≡◌, []};
-
-    ghost invariant = { λ s. s.kept.keys ≡ [] };
+    ghost invariant = { λ s. AreKept s.stacks s.kept.keys };
 }
 
 impl Frames {
@@ -40,6 +46,7 @@ impl Frames {
         ensures { result ≡ [] }
     {
         Frames {
+            stacks: Stacks::new(alloc),
             kept: IndexSet::new(alloc),
         }
     }
@@ -52,7 +59,9 @@ impl Frames {
         ensures entry { IfOk result (λ id. IsFrame self.new id entry_frame) }
         ensures stays { StayNumbered self.old self.new }
     {
-        Err(AllocError)
+        let bare = self.stacks.empty();
+        let words = self.stacks.push(bare, Word::Own)?;
+        keep(&mut self.kept, Kept::of_words(0, words))
     }
 
     /// The number of the frame at the start of the main program: it has no words.
@@ -63,7 +72,8 @@ impl Frames {
         ensures entry { IfOk result (λ id. IsFrame self.new id main_frame) }
         ensures stays { StayNumbered self.old self.new }
     {
-        Err(AllocError)
+        let words = self.stacks.empty();
+        keep(&mut self.kept, Kept::of_words(0, words))
     }
 
     /// Why an effect is refused with a frame, or `None` where it is admitted. It takes no memory.
@@ -72,8 +82,11 @@ impl Frames {
         ensures refused { IfSome result (λ fault. moves_of role effect (frame_at self.now frame) ≡ Err fault) }
         ensures admitted { IfNone result (moves_of role effect (frame_at self.now frame) ≡ Ok (move_of effect (frame_at self.now frame))) }
     {
-        let _kept = self.kept.len();
-        None
+        if let Effect::Refuse(fault) = effect {
+            return Some(fault);
+        }
+        let kept = kept_at(&self.kept, frame);
+        refusal_of(&self.stacks, kept.words, role, effect)
     }
 
     /// The number of a frame after a change. The frame has up to 1,000,000 words taken.
@@ -86,7 +99,9 @@ impl Frames {
         ensures changed { IfOk result (λ id. IsFrame self.new id (changed change (frame_at self.old frame))) }
         ensures stays { StayNumbered self.old self.new }
     {
-        Err(AllocError)
+        let kept = kept_at(&self.kept, frame);
+        let changed = change_frame(&mut self.stacks, kept, change)?;
+        keep(&mut self.kept, changed)
     }
 
     /// The number of a caller's frame after a call of a procedure that takes so many words: they are gone, and BC, DE and HL may
@@ -102,7 +117,12 @@ impl Frames {
         ensures short { result ≡ Err CallFault.ShortArguments → room role (frame_at self.old frame).words < taken }
         ensures stays { StayNumbered self.old self.new }
     {
-        Err(CallFault::Memory)
+        let kept = kept_at(&self.kept, frame);
+        if self.stacks.room(kept.words, role) < taken {
+            return Err(CallFault::ShortArguments);
+        }
+        let words = self.stacks.beneath(kept.words, taken);
+        Ok(keep(&mut self.kept, Kept::of_words(kept.taken, words))?)
     }
 
     /// The number of the frame that is known of both: a word or a pair is the return address only where it is in both. It is that of
@@ -120,7 +140,13 @@ impl Frames {
         ensures differ { result ≡ Err MeetFault.HeightsDiffer → agree (frame_at self.old one) (frame_at self.old other) ≡ false }
         ensures stays { StayNumbered self.old self.new }
     {
-        Err(MeetFault::Memory)
+        let first = kept_at(&self.kept, one);
+        let second = kept_at(&self.kept, other);
+        let met = meet_frames(&mut self.stacks, first, second)?;
+        if met == first {
+            return Ok(one);
+        }
+        Ok(keep(&mut self.kept, met)?)
     }
 
     /// How many words beneath the procedure's own a frame has taken. It takes no memory.
@@ -128,8 +154,7 @@ impl Frames {
         requires { frame < length self.now }
         ensures { result ≡ (frame_at self.now frame).taken }
     {
-        let _kept = self.kept.len();
-        0
+        kept_at(&self.kept, frame).taken
     }
 
     /// How many words a callee may take: those above the bottom word, and in the main program all. It takes no memory.
@@ -137,8 +162,8 @@ impl Frames {
         requires { frame < length self.now }
         ensures { result ≡ room role (frame_at self.now frame).words }
     {
-        let _kept = self.kept.len();
-        0
+        let kept = kept_at(&self.kept, frame);
+        self.stacks.room(kept.words, role)
     }
 
     /// By how many bytes the stack has grown since the procedure's start: `2 * (words - 1 - taken)` in an entry, which starts with
@@ -147,7 +172,11 @@ impl Frames {
         requires { frame < length self.now }
         ensures { result ≡ depth_of role (frame_at self.now frame) }
     {
-        let _kept = self.kept.len();
-        0
+        let kept = kept_at(&self.kept, frame);
+        let words = i64::from(self.stacks.height(kept.words));
+        match role {
+            Role::Main { .. } => 2 * words,
+            Role::Entry => 2 * (words - 1 - i64::from(kept.taken)),
+        }
     }
 }

@@ -8,9 +8,15 @@
 //! | [`MeetFault`] | why two frames have none in common |
 #![tactic(auto)]
 
+mod changes;
 mod fault;
 mod frame_id;
 mod frames;
+mod kept;
+mod link;
+mod meets;
+mod refusal;
+mod stacks;
 
 pub use fault::MeetFault;
 pub use frame_id::FrameId;
