@@ -188,6 +188,14 @@ pub record Looks (code : Code) (old new : Known) (result : Result Bool Refusal) 
   pub ongoing : IfOk result (Ongoing code old new)
   pub refused : IfErr result (λ refusal. Stands code old → Refused code refusal)
 
+-- what comes of a sweep: what was shown stays shown, and the measure doesn't rise; where the last part of it changed something, it
+-- falls
+pub record Sweeps (code : Code) (old new : Known) (result : Result Bool Refusal) : Type 0 where
+  pub small : OnOk result (IsSmall new)
+  pub stands : Stands code old → MatchResult result (λ _. Stands code new) (λ refusal. Refused code refusal)
+  pub no_more : OnOk result (weight new ≤ weight old)
+  pub less : IfOk result (λ changed. changed ≡ true → weight new < weight old)
+
 -- the first points are closed
 pub record AreClosed (code : Code) (known : Known) (count : ℕ) : Type 0 where
   pub closed : (i : ℕ) (point : Point) → i < count → slice_get known.points i ≡ Some point → IsClosed code known point

@@ -3,7 +3,7 @@
 ghost use Rattle.std.specs.Prelude.{◌≡◌, ◌+◌, ◌<◌, ◌≤◌, ◌↔◌, ℕ, List, false, true, Some, None, Ok, Err, IfOk, IfErr, OnOk, IfSome, length, replicate, slice_get};
 ghost use Rattle.bounds80.specs.declared.procedure.Procedure.TheVariants.{Main, Entry};
 ghost use Rattle.flow80.specs.Points.{AreAddresses, IsPointAt, IsNoPoint};
-ghost use Rattle.flow80.specs.Known.{IsSmall, IsWithin, Stands, Flows, Exits, CallsOut, Steps, Visits, Looks, AreClosed, AllClosed, IsShort, exit_of, nothing_known};
+ghost use Rattle.flow80.specs.Known.{IsSmall, IsWithin, Stands, Flows, Exits, CallsOut, Steps, Visits, Looks, Sweeps, AreClosed, AllClosed, IsShort, exit_of, nothing_known};
 ghost use Rattle.frames80.specs.declared.moves.Moves.TheVariants.{Either, Case, MaybeCall, MaybeReturn};
 ghost use Rattle.frames80.specs.Calls.{room, returned};
 ghost use Rattle.frames80.specs.Moves.{changed};
@@ -423,20 +423,20 @@ impl Table {
         Ok(changed)
     }
 
-    /// The main program begins, what is to be looked at is looked at, and then every point. Where that changes nothing the table
-    /// is closed.
+    /// What is to be looked at is looked at, then the main program begins, and every point is looked at. Where those two change
+    /// nothing the table is closed.
     ///
     /// # Errors
     /// A refusal that holds, or out of memory.
     pub(crate) fn sweep<C: Code>(&mut self, program: &C) -> Result<bool, Refusal>
         requires { IsSmall self.old.known }
-        ensures looks { Looks (C.code program.now) self.old.known self.new.known result }
+        ensures sweeps { Sweeps (C.code program.now) self.old.known self.new.known result }
         ensures closed { IfOk result (λ changed. changed ≡ false → AllClosed (C.code program.now) self.new.known) }
     {
+        self.drain(program)?;
         let begun = self.begin(program.start())?;
-        let drained = self.drain(program)?;
         let passed = self.pass(program)?;
-        Ok(begun | drained | passed)
+        Ok(begun | passed)
     }
 
     /// How many points there are.

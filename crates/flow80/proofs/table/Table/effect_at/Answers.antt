@@ -49,7 +49,7 @@ returns-in-Some-clause-refused g c =
     subst (λ (e : Effect). moves_of c.role_of-role.result e pt.0.frame ≡ Err c.in-Some.fault) c.effect_of-effect.ensures
     (subst (λ (f : StackFrame). moves_of c.role_of-role.result c.effect_of-effect.result f ≡ Err c.in-Some.fault) is c.in-Some.ensures.refused) in
     rw c.of.ensures (move_refused c.frame_laws.ensures code known i c.place-procedure.result.0 at pt.0.frame c.in-Ok.found c.in-Some.fault here looked
-        (λ (apart : c.in-Some.fault ≢ Memory). subst (λ (r : Role). moves_of r (effect_of c.in-Ok.found.instr) pt.0.frame ≡ Err c.in-Some.fault) c.role_of-role.ensures moved))
+    (λ (apart : c.in-Some.fault ≢ Memory). subst (λ (r : Role). moves_of r (effect_of c.in-Ok.found.instr) pt.0.frame ≡ Err c.in-Some.fault) c.role_of-role.ensures moved))
 
 pub returns-clause-moves : goal.returns-clause-moves
 returns-clause-moves g c =
