@@ -11,13 +11,14 @@ use Rattle.frames80.specs.Calls.{room, returned}
 use Rattle.frames80.specs.Places.{SameCounts, Covers}
 use Rattle.bounds80.specs.declared.procedure.Procedure.{Procedure}
 use Rattle.bounds80.specs.declared.procedure.Procedure.TheVariants.{Main, Entry}
+use Rattle.interned80.specs.Admitted.{move_of}
 use Rattle.flow80.specs.declared.code.LookFault.{LookFault}
 use Rattle.flow80.specs.Code.{Code}
 use Rattle.flow80.specs.Walks.{Walk, begins, goes_on, enters, comes_back, Calls, Returns, Moving, LeadsTo, called, returning, role_of}
 use Rattle.flow80.specs.Faults.{LooksWrong, MovesWrong, Differ, Uneven, Short}
 use Rattle.flow80.specs.Fitting.{Table, Has, Closes, CallFits, Fits}
 use Rattle.flow80.specs.Shown.{FrameLaws}
-use Rattle.flow80.proofs.MoveLemmas.{change_of, frame_after, move_with, moved_is, covered_moves, LeadsAlong, leads_along, called_along, returning_along}
+use Rattle.flow80.proofs.MoveLemmas.{change_of, frame_after, moved_is, covered_moves, LeadsAlong, leads_along, called_along, returning_along}
 use Rattle.flow80.proofs.ShownLemmas.{counts_back, counts_then}
 
 covers_then : (f g h : StackFrame) → Covers f g → Covers g h → Covers f h
@@ -54,15 +55,15 @@ fits_close code table fits = record {
 record Over (code : Code) (table : Table) (p : Procedure) (at : ℕ) (f : StackFrame) (found : Fetched) (moves : Moves) : Type 0 where
   frame : StackFrame
   covers : Covers frame f
-  move : moves ≡ move_with (effect_of found.instr) f
-  on : (to : ℕ) (g : StackFrame) → LeadsTo (move_with (effect_of found.instr) frame) (code.targets at) found.next to g → Has table p to g
-  enters : (target : ℕ) → called (move_with (effect_of found.instr) frame) ≡ Some target → Has table (Entry target) target entry_frame
-  after : (target taken : ℕ) → called (move_with (effect_of found.instr) frame) ≡ Some target → table.takes (Entry target) ≡ Some taken → Has table p found.next (returned taken frame)
-  return : (taken : ℕ) → returning (move_with (effect_of found.instr) frame) ≡ Some taken → table.takes p ≡ Some taken
+  move : moves ≡ move_of (effect_of found.instr) f
+  on : (to : ℕ) (g : StackFrame) → LeadsTo (move_of (effect_of found.instr) frame) (code.targets at) found.next to g → Has table p to g
+  enters : (target : ℕ) → called (move_of (effect_of found.instr) frame) ≡ Some target → Has table (Entry target) target entry_frame
+  after : (target taken : ℕ) → called (move_of (effect_of found.instr) frame) ≡ Some target → table.takes (Entry target) ≡ Some taken → Has table p found.next (returned taken frame)
+  return : (taken : ℕ) → returning (move_of (effect_of found.instr) frame) ≡ Some taken → table.takes p ≡ Some taken
 
 -- the moves of a frame that covers another one, by the effect of what is found there
 pub moves_there : (code : Code) (p : Procedure) (at : ℕ) (frame : StackFrame) (here found : Fetched) (moves : Moves) → Moving code p at frame here moves → here ≡ found →
-    moves ≡ move_with (effect_of found.instr) frame
+    moves ≡ move_of (effect_of found.instr) frame
 moves_there code p at frame here found moves moving same =
     (moved_is (role_of code p) (effect_of found.instr) frame moves
     (subst (λ (x : Fetched). moves_of (role_of code p) (effect_of x.instr) frame ≡ Ok moves) same moving.moved)).move
@@ -73,7 +74,7 @@ over code table closes p at f has found moves moving =
     let here = closes.frames p at has.frame has.there in
     let effect = effect_of found.instr in
     let same : here.found ≡ found = found_same (code.look at) here.found found here.moving.looked moving.looked in
-    let there : here.moves ≡ move_with effect has.frame = moves_there code p at has.frame here.found found here.moves here.moving same in
+    let there : here.moves ≡ move_of effect has.frame = moves_there code p at has.frame here.found found here.moves here.moving same in
     record {
       frame = has.frame;
       covers = has.covers;
@@ -88,7 +89,7 @@ over code table closes p at f has found moves moving =
 
 -- a call of a frame is one of the frame over it
 called_over : (code : Code) (table : Table) (p : Procedure) (at : ℕ) (f : StackFrame) (target next : ℕ) (call : Calls code p at f target next) →
-    (o : Over code table p at f call.found call.moves) → called (move_with (effect_of call.found.instr) o.frame) ≡ Some target
+    (o : Over code table p at f call.found call.moves) → called (move_of (effect_of call.found.instr) o.frame) ≡ Some target
 called_over code table p at f target next call o = called_along (effect_of call.found.instr) o.frame f ∙ ap called (sym o.move) ∙ call.call
 
 -- the table's number of words taken is that of any walk that returns
@@ -134,8 +135,8 @@ call_fits code table fits p at f has target next call =
     let here = fits.frames p at has.frame has.there in
     let effect = effect_of call.found.instr in
     let same : here.found ≡ call.found = found_same (code.look at) here.found call.found here.moving.looked call.moving.looked in
-    let there : here.moves ≡ move_with effect has.frame = moves_there code p at has.frame here.found call.found here.moves here.moving same in
-    let mine : call.moves ≡ move_with effect f = (moved_is (role_of code p) effect f call.moves call.moving.moved).move in
+    let there : here.moves ≡ move_of effect has.frame = moves_there code p at has.frame here.found call.found here.moves here.moving same in
+    let mine : call.moves ≡ move_of effect f = (moved_is (role_of code p) effect f call.moves call.moving.moved).move in
     let is : called here.moves ≡ Some target = ap called there ∙ called_along effect has.frame f ∙ ap called (sym mine) ∙ call.call in (
       has.frame,
       has.covers,
@@ -158,7 +159,7 @@ no_move_fault laws code table fits at fault wrong =
     let moved : moves_of (role_of code wrong.procedure) effect has.frame ≡ Ok here.moves =
     subst (λ (x : Fetched). moves_of (role_of code wrong.procedure) (effect_of x.instr) has.frame ≡ Ok here.moves) same here.moving.moved in
     let along = covered_moves laws (role_of code wrong.procedure) effect has.frame wrong.frame here.moves has.covers moved in
-    not_moved (moves_of (role_of code wrong.procedure) effect wrong.frame) (move_with effect wrong.frame) fault along wrong.moved
+    not_moved (moves_of (role_of code wrong.procedure) effect wrong.frame) (move_of effect wrong.frame) fault along wrong.moved
 
 same_frame : (r : Option StackFrame) (a b : StackFrame) → r ≡ Some a → r ≡ Some b → a ≡ b
 same_frame r a b one other = cc

@@ -13,6 +13,7 @@ use Rattle.frames80.specs.Places.{SameCounts, Covers}
 use Rattle.bounds80.specs.declared.procedure.Procedure.{Procedure}
 use Rattle.bounds80.specs.declared.graph.Depth.{Depth}
 use Rattle.bounds80.specs.declared.graph.CallSite.{CallSite}
+use Rattle.interned80.specs.Admitted.{move_of}
 use Rattle.flow80.specs.Code.{Code}
 use Rattle.flow80.specs.Walks.{Walk, Calls, called, role_of}
 use Rattle.flow80.specs.Points.{Point}
@@ -21,7 +22,7 @@ use Rattle.flow80.specs.Graph.{HasDepth, HasCall, IsGraph}
 use Rattle.flow80.specs.Shown.{Shows, Whole, FrameLaws}
 use Rattle.flow80.specs.Known.{Known, IsWithin, IsSmall, HasPoint, IsClosed, IsFilled}
 use Rattle.flow80.specs.Survey.{depth_at, call_at, IsDepthAt, IsCallAt, IsSurvey}
-use Rattle.flow80.proofs.MoveLemmas.{move_with, moved_is, called_along}
+use Rattle.flow80.proofs.MoveLemmas.{moved_is, called_along}
 use Rattle.flow80.proofs.FitLemmas.{covers_walks, found_same, moves_there}
 use Rattle.flow80.proofs.KnownTable.{known_table, known_closes, found_stands}
 use Rattle.flow80.proofs.ShownLemmas.{calls_along}
@@ -99,8 +100,8 @@ pub call_there : (code : Code) (known : Known) (point : Point) → IsClosed code
 call_there code known point closed w target next call =
     let effect = effect_of call.found.instr in
     let same : closed.found ≡ call.found = found_same (code.look point.at) closed.found call.found closed.moving.looked call.moving.looked in
-    let there : closed.moves ≡ move_with effect point.frame = moves_there code point.procedure point.at point.frame closed.found call.found closed.moves closed.moving same in
-    let mine : call.moves ≡ move_with effect w = (moved_is (role_of code point.procedure) effect w call.moves call.moving.moved).move in
+    let there : closed.moves ≡ move_of effect point.frame = moves_there code point.procedure point.at point.frame closed.found call.found closed.moves closed.moving same in
+    let mine : call.moves ≡ move_of effect w = (moved_is (role_of code point.procedure) effect w call.moves call.moving.moved).move in
     record {
       found = closed.found;
       moves = closed.moves;

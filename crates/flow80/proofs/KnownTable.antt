@@ -12,11 +12,12 @@ use Rattle.frames80.specs.Effects.{effect_of}
 use Rattle.frames80.specs.Calls.{returned}
 use Rattle.bounds80.specs.declared.procedure.Procedure.{Procedure}
 use Rattle.bounds80.specs.declared.procedure.Procedure.TheVariants.{Main, Entry}
+use Rattle.interned80.specs.Admitted.{move_of}
 use Rattle.flow80.specs.Code.{Code}
 use Rattle.flow80.specs.Walks.{Moving, returning, role_of}
 use Rattle.flow80.specs.Points.{Point, AreApart, is_at, same_procedure}
 use Rattle.flow80.specs.Fitting.{Table, Has, FrameCloses, Closes}
-use Rattle.flow80.proofs.MoveLemmas.{move_with, fault_of, moved_is}
+use Rattle.flow80.proofs.MoveLemmas.{fault_of, moved_is}
 use Rattle.flow80.specs.Known.{Known, HasPoint, Follows, AllClosed, takes_of}
 
 -- the frame of the first point of that address of that procedure
@@ -114,7 +115,7 @@ main_stays code at f found moves taken moving returns =
     let moved = moved_is (role_of code Main) (effect_of found.instr) f moves moving.moved in
     no_return (effect_of found.instr) moved.none (ap returning (sym moved.move) ∙ returns)
   where
-    no_return : (effect : Effect) → fault_of (role_of code Main) effect f ≡ None → returning (move_with effect f) ≡ Some taken → ⊥
+    no_return : (effect : Effect) → fault_of (role_of code Main) effect f ≡ None → returning (move_of effect f) ≡ Some taken → ⊥
     no_return (Changes made) none is = let e : None ≡ Some taken = is in cc
     no_return Halt none is = let e : None ≡ Some taken = is in cc
     no_return (Jump to) none is = let e : None ≡ Some taken = is in cc

@@ -1,3 +1,4 @@
+pub mod FrameLemmas
 pub mod MoveLemmas
 pub mod ShownLemmas
 pub mod FitLemmas

@@ -1,5 +1,5 @@
 -- Many looks, one after another.
-use Rattle.std.specs.Prelude.{◌≡◌, ◌<◌, ◌+◌, ◌⊎◌, ◌||◌, ℕ, zero, suc, Bool, false, [], length, replicate, Some, None, Ok, Err, slice_get, refl}
+use Rattle.std.specs.Prelude.{◌≡◌, ◌<◌, ◌≤◌, ◌+◌, ◌⊎◌, ◌||◌, ℕ, zero, suc, Bool, true, false, [], length, replicate, Some, None, Ok, Err, slice_get, refl}
 use Rattle.std.proofs.Common.{ap, sym, ◌∙◌, subst, arith, inl, inr, true≢false}
 use Rattle.flow80.specs.declared.refusal.Refusal.{Refusal}
 use Rattle.flow80.specs.Code.{Code}
@@ -8,7 +8,7 @@ use Rattle.bounds80.specs.declared.procedure.Procedure.{Procedure}
 use Rattle.bounds80.specs.declared.procedure.Procedure.TheVariants.{Main}
 use Rattle.flow80.specs.Points.{Point}
 use Rattle.flow80.specs.Shown.{IsShown}
-use Rattle.flow80.specs.Known.{Known, nothing_known, exit_of, IsSmall, IsWithin, Stands, HasPoint, Flows, IsClosed, Visits, Ongoing, Looks, AreClosed, AllClosed}
+use Rattle.flow80.specs.Known.{Known, nothing_known, exit_of, IsSmall, IsWithin, Stands, HasPoint, Flows, Goes, IsClosed, Visits, Ongoing, Looks, Sweeps, AreClosed, AllClosed, weight}
 use Rattle.flow80.proofs.Slices.{within}
 use Rattle.flow80.proofs.StepLemmas.{goes_then, first_false, second_false}
 
@@ -74,19 +74,32 @@ main_within n = record { taken = omega arith; words = omega arith }
 pub main_is_within : (n : ℕ) (f : StackFrame) → f ≡ main_frame → IsWithin (n + 1) f
 main_is_within n f is = subst (λ (g : StackFrame). IsWithin (n + 1) g) (sym is) (main_within n)
 
--- where nothing changes the table is closed
-pub all_closed : (code : Code) (old mid then_ new : Known) (begun drained passed : Bool) → Flows old mid Main code.start main_frame (Ok begun) → Ongoing code mid then_ drained → Ongoing code then_ new passed →
-    (passed ≡ false → AreClosed code new (length new.points)) → ((begun || drained) || passed) ≡ false → AllClosed code new
-all_closed code old mid then_ new begun drained passed flows drain pass closed none =
-    let no_two : (begun || drained) ≡ false = first_false (begun || drained) passed none in
-    let no_pass : passed ≡ false = second_false (begun || drained) passed none in
-    let no_begun : begun ≡ false = first_false begun drained no_two in
-    let no_drain : drained ≡ false = second_false begun drained no_two in
-    let same : new ≡ mid = pass.goes.same no_pass ∙ drain.goes.same no_drain in
+-- where the start and a pass change nothing the table is closed
+pub all_closed : (code : Code) (old mid new : Known) (begun passed : Bool) → Flows old mid Main code.start main_frame (Ok begun) → Ongoing code mid new passed →
+    (passed ≡ false → AreClosed code new (length new.points)) → (begun || passed) ≡ false → AllClosed code new
+all_closed code old mid new begun passed flows pass closed none =
+    let no_pass : passed ≡ false = second_false begun passed none in
     record {
-      start = subst (λ (k : Known). HasPoint k Main code.start main_frame) (sym same) (flows.has no_begun);
+      start = subst (λ (k : Known). HasPoint k Main code.start main_frame) (sym (pass.goes.same no_pass)) (flows.has (first_false begun passed none));
       points = λ i point there. (closed no_pass).closed i point (within new.points i point there) there;
     }
+
+-- what goes doesn't raise the measure
+no_more : (old new : Known) (changed : Bool) → Goes old new changed → weight new ≤ weight old
+no_more old new true goes = let less = goes.less refl in omega arith
+no_more old new false goes = let same = ap weight (goes.same refl) in omega arith
+
+-- a sweep: points that wait, and then the start and a pass
+pub sweeps_done : (code : Code) (old drained new : Known) (some changed : Bool) → Ongoing code old drained some → Ongoing code drained new changed → Sweeps code old new (Ok changed)
+sweeps_done code old drained new some changed first second = record {
+  small = second.small;
+  stands = λ stands. second.stands (first.stands stands);
+  no_more = let a = no_more old drained some first.goes in let b = no_more drained new changed second.goes in omega arith;
+  less = λ is. let a = no_more old drained some first.goes in let b = second.goes.less is in omega arith;
+}
+
+pub sweeps_refused : (code : Code) (old new : Known) (refusal : Refusal) → Looks code old new (Err refusal) → Sweeps code old new (Err refusal)
+sweeps_refused code old new refusal looks = record { small = tt; stands = looks.refused; no_more = tt; less = tt }
 
 -- nothing is known, and all of it is shown
 none_known : (n entry taken : ℕ) → exit_of (replicate n None) entry ≡ Some taken → ⊥

@@ -14,6 +14,7 @@ use Rattle.frames80.specs.declared.moves.Moves.TheVariants.{End, On, Jump as Mov
 use Rattle.frames80.specs.StackFrame.{StackFrame}
 use Rattle.frames80.specs.Moves.{moves_of, changed, change_fault, return_fault, unless}
 use Rattle.frames80.specs.Places.{InWord, word_at, Covers}
+use Rattle.interned80.specs.Admitted.{move_of}
 use Rattle.flow80.specs.Walks.{LeadsTo, called, returning}
 use Rattle.flow80.specs.Shown.{Query, Whole, At, MayBeAny, FrameLaws}
 
@@ -25,19 +26,6 @@ change_of _ = Keep
 abbrev pub frame_after : Effect → StackFrame → StackFrame
 frame_after effect f = changed (change_of effect) f
 
--- the move of an effect, where there is one
-abbrev pub move_with : Effect → StackFrame → Moves
-move_with (Changes change) f = On (changed change f)
-move_with Halt f = End
-move_with (Jump to) f = MovesTo f to
-move_with (JumpIf to) f = Either f to
-move_with Case f = Cases f
-move_with (Call to) f = CallOf f to
-move_with (CallIf to) f = MaybeCall f to
-move_with Return f = ReturnOf f.taken
-move_with ReturnIf f = MaybeReturn f f.taken
-move_with (Refuse fault) f = End
-
 -- why an effect is refused, if it is
 abbrev pub fault_of : Role → Effect → StackFrame → Option FrameFault
 fault_of role (Changes change) f = change_fault role change f.words
@@ -47,7 +35,7 @@ fault_of role (Refuse fault) f = Some fault
 fault_of role _ f = None
 
 -- a move is that of its effect, and nothing refuses it
-pub moves_by : (role : Role) (effect : Effect) (f : StackFrame) → moves_of role effect f ≡ unless (fault_of role effect f) (move_with effect f)
+pub moves_by : (role : Role) (effect : Effect) (f : StackFrame) → moves_of role effect f ≡ unless (fault_of role effect f) (move_of effect f)
 moves_by role (Changes change) f = refl
 moves_by role Halt f = refl
 moves_by role (Jump to) f = refl
@@ -61,7 +49,7 @@ moves_by role (Refuse fault) f = refl
 
 pub record Moved (role : Role) (effect : Effect) (f : StackFrame) (moves : Moves) : Type 0 where
   pub none : fault_of role effect f ≡ None
-  pub move : moves ≡ move_with effect f
+  pub move : moves ≡ move_of effect f
 
 unless_ok : (fault : Option FrameFault) (move moves : Moves) → unless fault move ≡ Ok moves → (fault ≡ None) × (moves ≡ move)
 unless_ok None move moves is = (refl, cc)
@@ -73,17 +61,17 @@ unless_err (Some found) move fault is = cc
 
 pub moved_is : (role : Role) (effect : Effect) (f : StackFrame) (moves : Moves) → moves_of role effect f ≡ Ok moves → Moved role effect f moves
 moved_is role effect f moves is =
-    let parts = unless_ok (fault_of role effect f) (move_with effect f) moves (sym (moves_by role effect f) ∙ is) in
+    let parts = unless_ok (fault_of role effect f) (move_of effect f) moves (sym (moves_by role effect f) ∙ is) in
     record { none = parts.0; move = parts.1 }
 
 pub refused_is : (role : Role) (effect : Effect) (f : StackFrame) (fault : FrameFault) → moves_of role effect f ≡ Err fault → fault_of role effect f ≡ Some fault
-refused_is role effect f fault is = unless_err (fault_of role effect f) (move_with effect f) fault (sym (moves_by role effect f) ∙ is)
+refused_is role effect f fault is = unless_err (fault_of role effect f) (move_of effect f) fault (sym (moves_by role effect f) ∙ is)
 
-pub moves_ok : (role : Role) (effect : Effect) (f : StackFrame) → fault_of role effect f ≡ None → moves_of role effect f ≡ Ok (move_with effect f)
-moves_ok role effect f none = moves_by role effect f ∙ ap (λ fault. unless fault (move_with effect f)) none
+pub moves_ok : (role : Role) (effect : Effect) (f : StackFrame) → fault_of role effect f ≡ None → moves_of role effect f ≡ Ok (move_of effect f)
+moves_ok role effect f none = moves_by role effect f ∙ ap (λ fault. unless fault (move_of effect f)) none
 
 pub moves_err : (role : Role) (effect : Effect) (f : StackFrame) (fault : FrameFault) → fault_of role effect f ≡ Some fault → moves_of role effect f ≡ Err fault
-moves_err role effect f fault some = moves_by role effect f ∙ ap (λ found. unless found (move_with effect f)) some
+moves_err role effect f fault some = moves_by role effect f ∙ ap (λ found. unless found (move_of effect f)) some
 
 -- what a frame may do, one that it covers may do
 covered_fault : FrameLaws → (role : Role) (effect : Effect) (f w : StackFrame) → Covers f w → fault_of role effect f ≡ None → fault_of role effect w ≡ None
@@ -99,16 +87,16 @@ covered_fault laws role ReturnIf f w covers none = (laws.covered f w covers).may
 covered_fault laws role (Refuse fault) f w covers none = none
 
 pub covered_moves : FrameLaws → (role : Role) (effect : Effect) (f w : StackFrame) (moves : Moves) → Covers f w → moves_of role effect f ≡ Ok moves →
-    moves_of role effect w ≡ Ok (move_with effect w)
+    moves_of role effect w ≡ Ok (move_of effect w)
 covered_moves laws role effect f w moves covers is =
     moves_ok role effect w (covered_fault laws role effect f w covers (moved_is role effect f moves is).none)
 
 -- where a move leads is a matter of the effect: with another frame it leads there too
 pub record LeadsAlong (effect : Effect) (f w : StackFrame) (targets : List ℕ) (next to : ℕ) (g : StackFrame) : Type 0 where
   pub frame : g ≡ frame_after effect f
-  pub other : LeadsTo (move_with effect w) targets next to (frame_after effect w)
+  pub other : LeadsTo (move_of effect w) targets next to (frame_after effect w)
 
-pub leads_along : (effect : Effect) (f w : StackFrame) (targets : List ℕ) (next to : ℕ) (g : StackFrame) → LeadsTo (move_with effect f) targets next to g →
+pub leads_along : (effect : Effect) (f w : StackFrame) (targets : List ℕ) (next to : ℕ) (g : StackFrame) → LeadsTo (move_of effect f) targets next to g →
     LeadsAlong effect f w targets next to g
 leads_along (Changes change) f w targets next to g leads = record { frame = leads.1; other = (leads.0, refl) }
 leads_along Halt f w targets next to g leads = absurd leads
@@ -121,7 +109,7 @@ leads_along Return f w targets next to g leads = absurd leads
 leads_along ReturnIf f w targets next to g leads = record { frame = leads.1; other = (leads.0, refl) }
 leads_along (Refuse fault) f w targets next to g leads = absurd leads
 
-pub called_along : (effect : Effect) (f w : StackFrame) → called (move_with effect f) ≡ called (move_with effect w)
+pub called_along : (effect : Effect) (f w : StackFrame) → called (move_of effect f) ≡ called (move_of effect w)
 called_along (Changes change) f w = refl
 called_along Halt f w = refl
 called_along (Jump to) f w = refl
@@ -133,7 +121,7 @@ called_along Return f w = refl
 called_along ReturnIf f w = refl
 called_along (Refuse fault) f w = refl
 
-pub returning_along : (effect : Effect) (f w : StackFrame) → f.taken ≡ w.taken → returning (move_with effect f) ≡ returning (move_with effect w)
+pub returning_along : (effect : Effect) (f w : StackFrame) → f.taken ≡ w.taken → returning (move_of effect f) ≡ returning (move_of effect w)
 returning_along (Changes change) f w same = refl
 returning_along Halt f w same = refl
 returning_along (Jump to) f w same = refl

@@ -1,5 +1,5 @@
 -- Elements of a list by index after a push and after a write, and what the store of points keeps through each of its changes.
-use Rattle.std.proofs.Common.{◌≡◌, ◌<◌, ℕ, zero, suc, Bool, true, false, nat_eq, ◌⊎◌, inl, inr, List, [], ◌∷◌, ◌++◌, Some, None, length, slice_get, slice_set, refl, sym, ◌∙◌, ap, subst, arith}
+use Rattle.std.proofs.Common.{◌≡◌, ◌<◌, ℕ, zero, suc, Bool, true, false, nat_eq, ◌⊎◌, inl, inr, List, [], ◌∷◌, ◌++◌, Option, Some, None, IfSome, length, slice_get, slice_set, refl, sym, ◌∙◌, ap, subst, arith}
 use Rattle.std.specs.Option.{option_map}
 use Rattle.std.specs.Cmp.{unsigned_Decides, first_so, second_so}
 use Rattle.std.proofs.lemmas.Option.{slice_get-map, slice_get_within, slice_get-get_or, get_or_from_slice_get, same_Some, none-some}
@@ -8,12 +8,13 @@ use Rattle.frames80.specs.StackFrame.{StackFrame, entry_frame}
 use Rattle.bounds80.specs.declared.procedure.Procedure.{Procedure}
 use Rattle.bounds80.specs.declared.procedure.Procedure.TheVariants.{Main, Entry}
 use Rattle.flow80.specs.declared.points.StoredPoint.{StoredPoint}
-use Rattle.flow80.specs.Interned.{StayNumbered}
+use Rattle.interned80.specs.Frames.{frame_at, IsFrame, StayNumbered}
+use Rattle.flow80.proofs.FrameLemmas.{stays_there, stays_at}
 use Rattle.flow80.specs.Points.{Point, with_frame, AreApart, AreAddresses, IsPointAt, IsNoPoint, Reframes}
 use Rattle.flow80.specs.declared.numbers.Numbers.{Numbers}
 use Rattle.flow80.specs.Numbers.{procedure_number, number_at, same_place, SameNumbers, Puts}
 use Rattle.flow80.proofs.NumberLemmas.{number_below}
-use Rattle.flow80.specs.PointStore.{frame_at, point_of, points_of, IsStoredAt, AreStored}
+use Rattle.flow80.specs.PointStore.{point_of, points_of, IsStoredAt, AreStored}
 
 module _ {X : Type 0} where
   -- a push leaves what is there, and adds one at the end
@@ -75,23 +76,17 @@ module _ (p q : Procedure) (a b : ℕ) (e : same_place p a q b ≡ true) where
 
 -- a frame that has a number is found by it, also when there are more
 module _ (old new : List StackFrame) (s : StayNumbered old new) where
-  frame_at-stays : (n : ℕ) → n < length old → frame_at new n ≡ frame_at old n
-  frame_at-stays n h = get_or_from_slice_get new n (frame_at old n) entry_frame (s.stays n (frame_at old n) (slice_get-get_or old n entry_frame h))
-
-  framed-stays : (n : ℕ) → n < length old → n < length new
-  framed-stays n h = slice_get_within new n (frame_at old n) (s.stays n (frame_at old n) (slice_get-get_or old n entry_frame h))
-
   pub points_of-stays : (stored : List StoredPoint) → ((i : ℕ) (point : StoredPoint) → slice_get stored i ≡ Some point → point.frame < length old) → points_of new stored ≡ points_of old stored
   points_of-stays [] framed = refl
   points_of-stays (point ∷ stored) framed =
       let with : StackFrame → Point = λ f. record { procedure = point.procedure; at = point.at; frame = f } in
-      let here : point_of new point ≡ point_of old point = ap with (frame_at-stays point.frame (framed 0 point refl)) in
+      let here : point_of new point ≡ point_of old point = ap with (stays_at old new s point.frame (framed 0 point refl)) in
       let rest = points_of-stays stored (λ i q e. framed (suc i) q e) in
       λ j. here j ∷ rest j
 
   pub AreStored-stays : (stored : List StoredPoint) (numbers : Numbers) → AreStored old stored numbers → AreStored new stored numbers
   AreStored-stays stored numbers h = record {
-    framed = λ i point e. framed-stays point.frame (h.framed i point e);
+    framed = λ i point e. stays_there old new s point.frame (h.framed i point e);
     numbered = h.numbered;
     stands = h.stands;
   }
@@ -213,24 +208,26 @@ module _ (frames : List StackFrame) (stored : List StoredPoint) (numbers : Numbe
                 on (inr other) = record { point = s.point; stands = other; in_procedure = s.in_procedure; at_address = s.at_address }
 
 -- the points after a push and after a write
-module _ (frames : List StackFrame) (stored : List StoredPoint) (next : StoredPoint) (frame : StackFrame) (has : slice_get frames next.frame ≡ Some frame) where
-  at_number : frame_at frames next.frame ≡ frame
-  at_number = get_or_from_slice_get frames next.frame frame entry_frame has
+module _ (frames : List StackFrame) (stored : List StoredPoint) (next : StoredPoint) where
+  pub points_of-added : points_of frames (stored ++ next ∷ []) ≡ points_of frames stored ++ record { procedure = next.procedure; at = next.at; frame = frame_at frames next.frame } ∷ []
+  points_of-added = map_push (point_of frames) stored next
 
-  pub points_of-added : points_of frames (stored ++ next ∷ []) ≡ points_of frames stored ++ record { procedure = next.procedure; at = next.at; frame = frame } ∷ []
-  points_of-added =
-      let with : StackFrame → Point = λ f. record { procedure = next.procedure; at = next.at; frame = f } in
-      map_push (point_of frames) stored next ∙ ap (λ f. points_of frames stored ++ with f ∷ []) at_number
-
-  pub points_of-reframed : (before : List StackFrame) (i : ℕ) (point : StoredPoint) → points_of frames stored ≡ points_of before stored → slice_get stored i ≡ Some point → next.procedure ≡ point.procedure → next.at ≡ point.at
-      → Reframes (points_of before stored) (points_of frames (slice_set stored i next)) i frame
-  points_of-reframed before i point same there ep et = record {
+  pub points_of-reframed : (i : ℕ) (point : StoredPoint) → slice_get stored i ≡ Some point → next.procedure ≡ point.procedure → next.at ≡ point.at
+      → Reframes (points_of frames stored) (points_of frames (slice_set stored i next)) i (frame_at frames next.frame)
+  points_of-reframed i point there ep et = record {
     reframed = λ (was : Point) e.
-        let eq = same_Some (point_of before point) was (sym (point_at before stored i point there) ∙ e) in
-        let now : point_of frames next ≡ with_frame frame was = λ j. record {
+        let eq = same_Some (point_of frames point) was (sym (point_at frames stored i point there) ∙ e) in
+        let now : point_of frames next ≡ with_frame (frame_at frames next.frame) was = λ j. record {
           procedure = (ep ∙ ap (λ (r : Point). r.procedure) eq) j;
           at = (et ∙ ap (λ (r : Point). r.at) eq) j;
-          frame = at_number j;
+          frame = frame_at frames next.frame;
         } in
-        map-set (point_of frames) stored i next ∙ ap (λ l. slice_set l i (point_of frames next)) same ∙ ap (λ r. slice_set (points_of before stored) i r) now;
+        map-set (point_of frames) stored i next ∙ ap (λ r. slice_set (points_of frames stored) i r) now;
   }
+
+-- the frame of a point that is stored has the number that is stored
+pub framed_at : (frames : List StackFrame) (stored : List StoredPoint) (numbers : Numbers) → AreStored frames stored numbers → (i : ℕ) (q : StoredPoint) → slice_get stored i ≡ Some q →
+    IfSome (slice_get (points_of frames stored) i) (λ (p : Point). IsFrame frames q.frame p.frame)
+framed_at frames stored numbers h i q there =
+    subst (λ (o : Option Point). IfSome o (λ (p : Point). IsFrame frames q.frame p.frame)) (sym (point_at frames stored i q there))
+    (record { there = h.framed i q there; is = refl })

@@ -18,13 +18,14 @@ use Rattle.frames80.specs.Calls.{room, returned, agree, merged}
 use Rattle.frames80.specs.Places.{Place, word_at, Source, From, Unknown, sourced, source, source_after, SameCounts, Covers}
 use Rattle.bounds80.specs.declared.procedure.Procedure.{Procedure}
 use Rattle.bounds80.specs.declared.procedure.Procedure.TheVariants.{Main, Entry}
+use Rattle.interned80.specs.Admitted.{move_of}
 use Rattle.flow80.specs.declared.code.LookFault.{LookFault}
 use Rattle.flow80.specs.Code.{Code}
 use Rattle.flow80.specs.Walks.{Walk, begins, goes_on, enters, comes_back, Calls, Moving, LeadsTo, called, returning, role_of}
 use Rattle.flow80.specs.Faults.{LooksWrong, MovesWrong, Differ, Uneven, Short}
 use Rattle.flow80.specs.Rows.{ReturnsWith}
 use Rattle.flow80.specs.Shown.{Query, Whole, At, MayBeAny, Shows, IsShown, AtMove, FrameLaws}
-use Rattle.flow80.proofs.MoveLemmas.{change_of, frame_after, move_with, moved_is, covered_moves, leads_along, called_along, returning_along, query_of, asked, refused_along}
+use Rattle.flow80.proofs.MoveLemmas.{change_of, frame_after, moved_is, covered_moves, leads_along, called_along, returning_along, query_of, asked, refused_along}
 
 pub counts_back : (f g : StackFrame) → SameCounts f g → SameCounts g f
 counts_back f g same = record { taken = sym same.taken; words = sym same.words }
@@ -44,7 +45,7 @@ shown_start code = shown_self code Main code.start main_frame (begins Main code.
 
 -- with a frame that it covers it moves too
 pub moving_along : FrameLaws → (code : Code) (p : Procedure) (at : ℕ) (f : StackFrame) (found : Fetched) (moves : Moves) → AtMove code p at f found moves →
-    (w : StackFrame) → Covers f w → Moving code p at w found (move_with (effect_of found.instr) w)
+    (w : StackFrame) → Covers f w → Moving code p at w found (move_of (effect_of found.instr) w)
 moving_along laws code p at f found moves move w covers =
     record { looked = move.looked; moved = covered_moves laws (role_of code p) (effect_of found.instr) f w moves covers move.moved }
 
@@ -91,7 +92,7 @@ pub shown_on : FrameLaws → (code : Code) (p : Procedure) (at : ℕ) (f : Stack
 shown_on laws code p at f found moves move to g leads =
     let effect = effect_of found.instr in
     let moved = moved_is (role_of code p) effect f moves move.moved in
-    let there : LeadsTo (move_with effect f) (code.targets at) found.next to g = subst (λ m. LeadsTo m (code.targets at) found.next to g) moved.move leads in
+    let there : LeadsTo (move_of effect f) (code.targets at) found.next to g = subst (λ m. LeadsTo m (code.targets at) found.next to g) moved.move leads in
     let along = λ (w : StackFrame). leads_along effect f w (code.targets at) found.next to g there in
     let after : frame_after effect f ≡ g = sym (along f).frame in
     let here : IsShown code p to (frame_after effect f) = record {
@@ -101,7 +102,7 @@ shown_on laws code p at f found moves move to g leads =
             frame = frame_after effect s.frame;
             walk = goes_on p at s.frame to (frame_after effect s.frame) s.walk (record {
               found = found;
-              moves = move_with effect s.frame;
+              moves = move_of effect s.frame;
               moving = moving_along laws code p at f found moves move s.frame s.covers;
               leads = (along s.frame).other;
             });
@@ -119,7 +120,7 @@ calls_along laws code p at f found moves move target call w covers =
     let moved = moved_is (role_of code p) effect f moves move.moved in
     record {
       found = found;
-      moves = move_with effect w;
+      moves = move_of effect w;
       moving = moving_along laws code p at f found moves move w covers;
       call = sym (called_along effect f w) ∙ ap called (sym moved.move) ∙ call;
       after = refl;
@@ -204,7 +205,7 @@ exit_shown laws code p at f found moves move taken return =
       walk = s.walk;
       returns = record {
         found = found;
-        moves = move_with effect s.frame;
+        moves = move_of effect s.frame;
         moving = moving_along laws code p at f found moves move s.frame s.covers;
         return = sym (returning_along effect f s.frame s.covers.counts.taken) ∙ ap returning (sym moved.move) ∙ return;
       };
@@ -216,7 +217,7 @@ unfolding exit_shown
 exit_shown_at laws code p at f found moves move taken return = refl
 
 -- at a return the words taken are those of its frame
-taken_by : (effect : Effect) (f : StackFrame) (taken : ℕ) → returning (move_with effect f) ≡ Some taken → f.taken ≡ taken
+taken_by : (effect : Effect) (f : StackFrame) (taken : ℕ) → returning (move_of effect f) ≡ Some taken → f.taken ≡ taken
 taken_by (Changes made) f taken is = absurd (let e : None ≡ Some taken = is in cc)
 taken_by Halt f taken is = absurd (let e : None ≡ Some taken = is in cc)
 taken_by (Jump to) f taken is = absurd (let e : None ≡ Some taken = is in cc)

@@ -15,7 +15,10 @@ use Rattle.frames80.specs.declared.moves.Moves.{Moves}
 use Rattle.frames80.specs.StackFrame.{StackFrame, taken_after_pop}
 use Rattle.frames80.specs.Effects.{effect_of}
 use Rattle.frames80.specs.Moves.{moves_of, changed}
+use Rattle.frames80.specs.Calls.{returned}
 use Rattle.bounds80.specs.declared.procedure.Procedure.{Procedure}
+use Rattle.interned80.specs.Admitted.{move_of}
+use Rattle.interned80.specs.Frames.{frame_at}
 use Rattle.flow80.specs.declared.code.LookFault.{LookFault}
 use Rattle.flow80.specs.declared.code.LookFault.TheVariants.{Outside, Unused, EnablesInterrupts, Pchl, DirectStore}
 use Rattle.flow80.specs.declared.refusal.Refusal.{Refusal}
@@ -25,10 +28,10 @@ use Rattle.flow80.specs.Walks.{role_of}
 use Rattle.flow80.specs.Faults.{Holds as Refused, LooksWrong}
 use Rattle.flow80.specs.Points.{Point}
 use Rattle.flow80.specs.declared.site.Site.{Site}
-use Rattle.flow80.specs.Survey.{IsMoveAt}
+use Rattle.flow80.specs.Survey.{IsMoveAt, EffectIsAt}
 use Rattle.flow80.specs.Shown.{IsShown, FrameLaws}
-use Rattle.flow80.specs.Known.{Known, IsWithin, Stands, Goes, AreWithin, Carries, Steps, Follows, IsClosed, Visits}
-use Rattle.flow80.proofs.MoveLemmas.{move_with, moved_is}
+use Rattle.flow80.specs.Known.{Known, KnownFrames, IsWithin, Stands, Goes, Carries, Steps, Follows, IsClosed, Visits}
+use Rattle.flow80.proofs.MoveLemmas.{moved_is}
 use Rattle.flow80.proofs.ShownLemmas.{looks_wrong, moves_wrong}
 
 pub some_at : {A : Type 0} (xs : List A) (i : ℕ) → i < length xs → (x : A) × (slice_get xs i ≡ Some x)
@@ -80,10 +83,10 @@ pub move_refused : FrameLaws → (code : Code) (known : Known) (i : ℕ) (p : Pr
 move_refused laws code known i p at f found fault here looked moved stands = refused_move laws code p at f found fault (shown_at code known i p at f here stands) looked moved
 
 -- the move at a point
-pub moves_at_point : (code : Code) (known : Known) (i : ℕ) (p : Procedure) (at : ℕ) (f : StackFrame) (found : Fetched) (role : Role) (moves : Moves) →
-    AtPoint code known i p at f → code.look at ≡ Ok found → role ≡ role_of code p → moves_of role (effect_of found.instr) f ≡ Ok moves → AreWithin (length known.points + 1) moves →
-    IsMoveAt code known i (record { procedure = p; role = role; at = at; next = found.next; point = i }) moves
-moves_at_point code known i p at f found role moves here looked same moved within = record {
+pub moves_at_point : (code : Code) (known : Known) (i : ℕ) (p : Procedure) (at : ℕ) (f : StackFrame) (found : Fetched) (role : Role) (moves : Moves) (frame : ℕ) →
+    AtPoint code known i p at f → code.look at ≡ Ok found → role ≡ role_of code p → moves_of role (effect_of found.instr) f ≡ Ok moves →
+    IsMoveAt code known i (record { procedure = p; role = role; at = at; next = found.next; point = i; frame = frame }) moves
+moves_at_point code known i p at f found role moves frame here looked same moved = record {
   point = here.point;
   there = here.there;
   found = found;
@@ -97,13 +100,12 @@ moves_at_point code known i p at f found role moves here looked same moved withi
   address = sym here.address;
   next = refl;
   role = same ∙ ap (role_of code) (sym here.procedure);
-  within = within;
 }
 
 same_point : (o : Option Point) (x y : Point) → o ≡ Some x → o ≡ Some y → x ≡ y
 same_point o x y one other = cc
 
-carries_by : (effect : Effect) (f : StackFrame) → Carries (move_with effect f) f
+carries_by : (effect : Effect) (f : StackFrame) → Carries (move_of effect f) f
 carries_by (Changes made) f = tt
 carries_by Halt f = tt
 carries_by (Jump to) f = tt
@@ -157,6 +159,17 @@ visits_follow code known new i p at targets next role f found moves result here 
     by (Ok flag) goes follows = λ same. close (follows same f carries) (goes.same same)
     by (Err refusal) goes follows = tt
 
+-- the effect at a point, with the number of its frame
+pub effect_at_point : (code : Code) (table : KnownFrames) (i : ℕ) (p : Procedure) (at : ℕ) (found : Fetched) (role : Role) (effect : Effect) (frame : ℕ) →
+    AtPoint code table.known i p at (frame_at table.frames frame) → code.look at ≡ Ok found → role ≡ role_of code p →
+    moves_of role (effect_of found.instr) (frame_at table.frames frame) ≡ Ok (move_of effect (frame_at table.frames frame)) → frame < length table.frames →
+    EffectIsAt code table i (record { procedure = p; role = role; at = at; next = found.next; point = i; frame = frame }) effect
+unfolding moves_at_point
+effect_at_point code table i p at found role effect frame here looked same moved there = record {
+  move = moves_at_point code table.known i p at (frame_at table.frames frame) found role (move_of effect (frame_at table.frames frame)) frame here looked same moved;
+  framed = record { there = there; is = sym here.frame };
+}
+
 pub visits_moves : (code : Code) (known new : Known) (i : ℕ) (site : Site) (targets : List ℕ) (moves : Moves) (result : Result Bool Refusal) → IsMoveAt code known i site moves →
     targets ≡ code.targets site.at → Steps known new site.procedure site.at targets site.next site.role moves result → Visits code known new i result
 visits_moves code known new i site targets moves result m same_targets steps =
@@ -173,7 +186,7 @@ popped_within : (words : List Word) (taken n : ℕ) → taken ≤ n → taken_af
 popped_within [] taken n less = omega arith
 popped_within (word ∷ words) taken n less = omega arith
 
-changed_within : (n : ℕ) (change : Change) (f : StackFrame) → IsWithin n f → IsWithin (n + 1) (changed change f)
+pub changed_within : (n : ℕ) (change : Change) (f : StackFrame) → IsWithin n f → IsWithin (n + 1) (changed change f)
 changed_within n Keep f is = record { taken = let t = is.taken in omega arith; words = let w = is.words in omega arith }
 changed_within n (Push pair) f is = record { taken = let t = is.taken in omega arith; words = let w = is.words in omega arith }
 changed_within n PushAny f is = record { taken = let t = is.taken in omega arith; words = let w = is.words in omega arith }
@@ -184,20 +197,16 @@ changed_within n Exchange f is = record { taken = let t = is.taken in omega arit
 changed_within n (Forget pair) f is = record { taken = let t = is.taken in omega arith; words = let w = is.words in omega arith }
 changed_within n (SetStack address) f is = record { taken = let t = is.taken in omega arith; words = omega arith }
 
-same_within : (n : ℕ) (f : StackFrame) → IsWithin n f → IsWithin (n + 1) f
+pub same_within : (n : ℕ) (f : StackFrame) → IsWithin n f → IsWithin (n + 1) f
 same_within n f is = record { taken = let t = is.taken in omega arith; words = let w = is.words in omega arith }
 
-move_within : (n : ℕ) (effect : Effect) (f : StackFrame) → IsWithin n f → AreWithin (n + 1) (move_with effect f)
-move_within n (Changes made) f is = changed_within n made f is
-move_within n Halt f is = tt
-move_within n (Jump to) f is = same_within n f is
-move_within n (JumpIf to) f is = same_within n f is
-move_within n Case f is = same_within n f is
-move_within n (Call to) f is = same_within n f is
-move_within n (CallIf to) f is = same_within n f is
-move_within n Return f is = tt
-move_within n ReturnIf f is = same_within n f is
-move_within n (Refuse fault) f is = tt
+-- a frame that is within so many points is within more
+pub more_within : (n m : ℕ) (f : StackFrame) → n ≤ m → IsWithin n f → IsWithin (m + 1) f
+more_within n m f more is = record { taken = let t = is.taken in omega arith; words = let w = is.words in omega arith }
 
-pub moves_within : (n : ℕ) (role : Role) (effect : Effect) (f : StackFrame) (moves : Moves) → IsWithin n f → moves_of role effect f ≡ Ok moves → AreWithin (n + 1) moves
-moves_within n role effect f moves is moved = subst (λ (m : Moves). AreWithin (n + 1) m) (sym (moved_is role effect f moves moved).move) (move_within n effect f is)
+pub within_more : (n m : ℕ) (f : StackFrame) → n ≤ m → IsWithin n f → IsWithin m f
+within_more n m f more is = record { taken = let t = is.taken in omega arith; words = let w = is.words in omega arith }
+
+-- what a callee leaves is no more than there was
+pub returned_within : (n m taken : ℕ) (f : StackFrame) → n ≤ m → IsWithin n f → IsWithin (m + 1) (returned taken f)
+returned_within n m taken f more is = record { taken = let t = is.taken in omega arith; words = let w = is.words in let d = length-drop taken f.words in omega arith }

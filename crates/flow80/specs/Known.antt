@@ -25,6 +25,11 @@ pub record Known : Type 0 where
   pub points : List Point
   pub exits : List (Option ℕ)
 
+-- what is known, and the frames by number
+pub record KnownFrames : Type 0 where
+  pub known : Known
+  pub frames : List StackFrame
+
 -- nothing is known yet
 abbrev pub nothing_known : Known
 nothing_known = record { points = []; exits = replicate 65536 None }
@@ -97,18 +102,6 @@ pub record Flows (old new : Known) (p : Procedure) (to : ℕ) (g : StackFrame) (
   pub stands : (code : Code) → Stands code old → IsShown code p to g → MatchResult result (λ _. Stands code new) (λ refusal. Refused code refusal)
   pub goes : IfOk result (λ changed. Goes old new changed)
   pub has : IfOk result (λ changed. changed ≡ false → HasPoint new p to g)
-
--- the frames that a move carries have no more words than so many
-abbrev pub AreWithin : ℕ → Moves → Type 0
-AreWithin most End = Unit {0}
-AreWithin most (On f) = IsWithin most f
-AreWithin most (Jump f _) = IsWithin most f
-AreWithin most (Either f _) = IsWithin most f
-AreWithin most (Case f) = IsWithin most f
-AreWithin most (Call f _) = IsWithin most f
-AreWithin most (MaybeCall f _) = IsWithin most f
-AreWithin most (Return _) = Unit {0}
-AreWithin most (MaybeReturn f _) = IsWithin most f
 
 -- a call carries the caller's frame
 abbrev pub Carries : Moves → StackFrame → Type 0
@@ -194,6 +187,14 @@ pub record Ongoing (code : Code) (old now : Known) (changed : Bool) : Type 0 whe
 pub record Looks (code : Code) (old new : Known) (result : Result Bool Refusal) : Type 0 where
   pub ongoing : IfOk result (Ongoing code old new)
   pub refused : IfErr result (λ refusal. Stands code old → Refused code refusal)
+
+-- what comes of a sweep: what was shown stays shown, and the measure doesn't rise; where the last part of it changed something, it
+-- falls
+pub record Sweeps (code : Code) (old new : Known) (result : Result Bool Refusal) : Type 0 where
+  pub small : OnOk result (IsSmall new)
+  pub stands : Stands code old → MatchResult result (λ _. Stands code new) (λ refusal. Refused code refusal)
+  pub no_more : OnOk result (weight new ≤ weight old)
+  pub less : IfOk result (λ changed. changed ≡ true → weight new < weight old)
 
 -- the first points are closed
 pub record AreClosed (code : Code) (known : Known) (count : ℕ) : Type 0 where

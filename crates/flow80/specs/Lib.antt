@@ -12,7 +12,6 @@ pub mod Points
 pub mod Graph
 pub mod Shown
 pub mod Known
-pub mod Interned
 pub mod Numbers
 pub mod PointStore
 pub mod Survey

@@ -1,15 +1,12 @@
 -- How the points are stored: each with the number of its frame, and a number kept of the address of each. (This project's own.)
-use Rattle.std.specs.Prelude.{◌≡◌, ◌<◌, ℕ, List, map, Some, length, slice_get, slice_index_or}
-use Rattle.frames80.specs.StackFrame.{StackFrame, entry_frame}
+use Rattle.std.specs.Prelude.{◌≡◌, ◌<◌, ℕ, List, map, Some, length, slice_get}
+use Rattle.frames80.specs.StackFrame.{StackFrame}
+use Rattle.interned80.specs.Frames.{frame_at}
 use Rattle.bounds80.specs.declared.procedure.Procedure.{Procedure}
 use Rattle.flow80.specs.declared.points.StoredPoint.{StoredPoint}
 use Rattle.flow80.specs.Points.{Point}
 use Rattle.flow80.specs.declared.numbers.Numbers.{Numbers}
 use Rattle.flow80.specs.Numbers.{number_at}
-
--- the frame that has a number
-abbrev pub frame_at : List StackFrame → ℕ → StackFrame
-frame_at frames number = slice_index_or frames number entry_frame
 
 -- the point that is stored
 abbrev pub point_of : List StackFrame → StoredPoint → Point

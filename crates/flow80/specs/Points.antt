@@ -10,6 +10,11 @@ pub record Point : Type 0 where
   pub at : ℕ
   pub frame : StackFrame
 
+-- what is seen of the points that are stored: the points, and the frames by number
+pub record StoredPoints : Type 0 where
+  pub points : List Point
+  pub frames : List StackFrame
+
 -- whether two procedures are the same
 abbrev pub same_procedure : Procedure → Procedure → Bool
 same_procedure Main Main = true

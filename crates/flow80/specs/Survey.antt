@@ -1,8 +1,11 @@
 -- What a filled table says of each procedure and each call. (This project's own.)
 use Rattle.std.specs.Prelude.{◌≡◌, ◌⊎◌, ◌≤◌, ◌<◌, ◌+◌, ◌++◌, ◌∷◌, [], ℕ, Bool, true, false, List, AllPairs, Contains, length, Option, Some, None, slice_get}
 use Rattle.decode80.specs.declared.fetching.Fetched.{Fetched}
+use Rattle.frames80.specs.declared.effect.Effect.{Effect}
 use Rattle.frames80.specs.declared.moves.Moves.{Moves}
 use Rattle.frames80.specs.Calls.{room, depth_of}
+use Rattle.interned80.specs.Admitted.{move_of}
+use Rattle.interned80.specs.Frames.{frame_at, IsFrame}
 use Rattle.bounds80.specs.declared.procedure.Procedure.{Procedure}
 use Rattle.bounds80.specs.declared.procedure.Procedure.TheVariants.{Entry}
 use Rattle.bounds80.specs.declared.graph.Depth.{Depth}
@@ -14,7 +17,7 @@ use Rattle.flow80.specs.Walks.{Moving, Calls, called, role_of}
 use Rattle.flow80.specs.Points.{Point, AreAddresses}
 use Rattle.flow80.specs.Graph.{AreBounds, NoneRecurs}
 use Rattle.bounds80.specs.Chains.{bytes_of}
-use Rattle.flow80.specs.Known.{Known, AreWithin, exit_of}
+use Rattle.flow80.specs.Known.{Known, KnownFrames, exit_of}
 
 -- the instruction of the point at i moves so, and stands there
 pub record IsMoveAt (code : Code) (known : Known) (i : ℕ) (site : Site) (moves : Moves) : Type 0 where
@@ -26,7 +29,11 @@ pub record IsMoveAt (code : Code) (known : Known) (i : ℕ) (site : Site) (moves
   pub address : site.at ≡ point.at
   pub next : site.next ≡ found.next
   pub role : site.role ≡ role_of code point.procedure
-  pub within : AreWithin (length known.points + 1) moves
+
+-- the instruction of the point at i stands there and has this effect; its frame has this number
+pub record EffectIsAt (code : Code) (table : KnownFrames) (i : ℕ) (site : Site) (effect : Effect) : Type 0 where
+  pub move : IsMoveAt code table.known i site (move_of effect (frame_at table.frames site.frame))
+  pub framed : IsFrame table.frames site.frame move.point.frame
 
 -- a procedure's entry is one of the points
 pub record IsEntered (known : Known) (entry : ℕ) : Type 0 where

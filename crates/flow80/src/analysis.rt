@@ -36,17 +36,17 @@ fn fill_and_report<C: Code>(
     program: &C,
     table: &mut Table,
 ) -> Result<Report, Refusal>
-    requires { table.old ≡ nothing_known }
+    requires { table.old.known ≡ nothing_known }
     ensures accepted { IfOk result (λ r. IsAccepted (C.code program.now) r.procedures.items r.stack_bytes) }
     ensures refused { IfErr result (Holds (C.code program.now)) }
 {
-    fill(alloc, program, table)?;
+    fill(program, table)?;
     report_on(alloc, program, table)
 }
 
 /// Reports on a program whose table is filled.
 fn report_on<C: Code>(alloc: Global, program: &C, table: &Table) -> Result<Report, Refusal>
-    requires { IsFilled (C.code program.now) table.now }
+    requires { IsFilled (C.code program.now) table.now.known }
     ensures accepted { IfOk result (λ r. IsAccepted (C.code program.now) r.procedures.items r.stack_bytes) }
     ensures refused { IfErr result (Holds (C.code program.now)) }
 {

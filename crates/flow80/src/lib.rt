@@ -15,7 +15,6 @@ mod callers;
 mod code;
 mod fill;
 mod fitting;
-mod interned;
 mod laws;
 mod marks;
 mod numbers;

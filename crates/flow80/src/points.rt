@@ -1,12 +1,16 @@
 //! The points that are known, each with what is known of its frame.
 
-ghost use Rattle.std.specs.Prelude.{◌≡◌, ◌<◌, [], ◌∷◌, ◌++◌, length, slice_get, IfSome, IfNone, OnOk, OnErr};
+ghost use Rattle.std.specs.Prelude.{◌≡◌, ◌≤◌, ◌<◌, [], ◌∷◌, ◌++◌, true, false, length, slice_get, Err, IfSome, IfNone, IfOk, OnOk, OnErr};
+ghost use Rattle.frames80.specs.StackFrame.{entry_frame, main_frame};
+ghost use Rattle.frames80.specs.Moves.{changed};
+ghost use Rattle.frames80.specs.Calls.{agree, merged, returned, room};
+ghost use Rattle.interned80.specs.Frames.{frame_at, IsFrame, StayNumbered};
 ghost use Rattle.flow80.specs.Points.{AreAddresses, AreApart, IsPointAt, IsNoPoint, Reframes};
 
-use crate::interned::Interned;
 use crate::numbers::Numbers;
 use bounds80::Procedure;
-use frames80::Frame;
+use frames80::{CallFault, Change, Role};
+use interned80::{FrameId, Frames, MeetFault};
 use std::alloc::{AllocError, Global};
 use std::marker::Model;
 
@@ -15,26 +19,26 @@ use std::marker::Model;
 struct StoredPoint {
     procedure: Procedure,
     at: u16,
-    frame: u32,
+    frame: FrameId,
 }
 
-/// The points that are known: addresses of procedures, each with what is known of its frame, in order of first sight.
+/// The points that are known: addresses of procedures, each with what is known of its frame, in order of first sight; and the frames
+/// that they and what leads to them have.
 #[derive(Drop)]
 pub(crate) struct Points {
-    frames: Interned,
+    frames: Frames,
     stored: Vec<StoredPoint>,
     numbers: Numbers,
 }
 
 impl Model for Points {
-    ghost use Rattle.std.specs.Prelude.{List};
-    ghost use Rattle.flow80.specs.Points.{Point};
+    ghost use Rattle.flow80.specs.Points.{StoredPoints};
 
-    ghost Value = { List Point };
+    ghost Value = { StoredPoints };
 
     ghost use Rattle.flow80.specs.PointStore.{points_of, AreStored};
 
-    ghost view = { λ s. points_of s.frames s.stored.items };
+    ghost view = { λ s. record { points = points_of s.frames s.stored.items; frames = s.frames } };
 
     ghost invariant = { λ s. AreStored s.frames s.stored.items s.numbers };
 }
@@ -42,10 +46,10 @@ impl Model for Points {
 impl Points {
     /// No points.
     pub(crate) fn new(alloc: Global) -> Points
-        ensures { result ≡ [] }
+        ensures { result ≡ record { points = []; frames = [] } }
     {
         Points {
-            frames: Interned::new(alloc),
+            frames: Frames::new(alloc),
             stored: Vec::new(alloc),
             numbers: Numbers::new(alloc),
         }
@@ -53,17 +57,17 @@ impl Points {
 
     /// How many points there are.
     pub(crate) fn len(&self) -> usize
-        ensures count { result ≡ length self.now }
-        ensures apart { AreApart self.now }
-        ensures addresses { AreAddresses self.now }
+        ensures count { result ≡ length self.now.points }
+        ensures apart { AreApart self.now.points }
+        ensures addresses { AreAddresses self.now.points }
     {
         self.stored.len()
     }
 
     /// Where the point of an address of a procedure stands.
     pub(crate) fn position(&self, procedure: Procedure, at: u16) -> Option<usize>
-        ensures found { IfSome result (λ i. IsPointAt self.now procedure at i) }
-        ensures none { IfNone result (IsNoPoint self.now procedure at) }
+        ensures found { IfSome result (λ i. IsPointAt self.now.points procedure at i) }
+        ensures none { IfNone result (IsNoPoint self.now.points procedure at) }
     {
         let number = self.numbers.get(procedure, at)?;
         Some(number as usize)
@@ -71,19 +75,26 @@ impl Points {
 
     /// The procedure and the address of the point that stands at `i`.
     pub(crate) fn place(&self, i: usize) -> (Procedure, u16)
-        requires { i < length self.now }
-        ensures { IfSome (slice_get self.now i) (λ point. (point.procedure ≡ result.0) × (point.at ≡ result.1)) }
+        requires { i < length self.now.points }
+        ensures { IfSome (slice_get self.now.points i) (λ point. (point.procedure ≡ result.0) × (point.at ≡ result.1)) }
     {
         let point = self.stored[i];
         (point.procedure, point.at)
     }
 
-    /// The frame of the point that stands at `i`.
-    pub(crate) fn frame(&self, i: usize) -> &Frame
-        requires { i < length self.now }
-        ensures { IfSome (slice_get self.now i) (λ point. result.now ≡ point.frame) }
+    /// The number of the frame of the point that stands at `i`.
+    pub(crate) fn frame(&self, i: usize) -> FrameId
+        requires { i < length self.now.points }
+        ensures { IfSome (slice_get self.now.points i) (λ point. IsFrame self.now.frames result point.frame) }
     {
-        self.frames.get(self.stored[i].frame)
+        self.stored[i].frame
+    }
+
+    /// The frames by number.
+    pub(crate) fn frames(&self) -> &Frames
+        ensures { result.now ≡ self.now.frames }
+    {
+        &self.frames
     }
 
     /// Adds a point that isn't there.
@@ -94,15 +105,15 @@ impl Points {
         &mut self,
         procedure: Procedure,
         at: u16,
-        frame: Frame,
+        frame: FrameId,
     ) -> Result<(), AllocError>
-        requires new { IsNoPoint self.old procedure at }
-        requires room { length self.old < 4294967295 }
-        ensures added { OnOk result (self.new ≡ self.old ++ record { procedure = procedure; at = at; frame = frame } ∷ []) }
-        ensures err { OnErr result (self.new ≡ self.old) }
+        requires new { IsNoPoint self.old.points procedure at }
+        requires room { length self.old.points < 4294967295 }
+        requires there { frame < length self.old.frames }
+        ensures added { OnOk result (self.new.points ≡ self.old.points ++ record { procedure = procedure; at = at; frame = frame_at self.old.frames frame } ∷ []) }
+        ensures frames { self.new.frames ≡ self.old.frames }
     {
         self.stored.reserve(1)?;
-        let frame = self.frames.intern(frame)?;
         self.numbers.put(procedure, at, self.stored.len() as u32)?;
         self.stored.push(StoredPoint {
             procedure,
@@ -113,16 +124,87 @@ impl Points {
     }
 
     /// The point that stands at `i` gets another frame.
+    pub(crate) fn replace(&mut self, i: usize, frame: FrameId)
+        requires here { i < length self.old.points }
+        requires there { frame < length self.old.frames }
+        ensures reframed { Reframes self.old.points self.new.points i (frame_at self.old.frames frame) }
+        ensures frames { self.new.frames ≡ self.old.frames }
+    {
+        self.stored[i].frame = frame;
+    }
+
+    /// The number of the frame at the start of a procedure that is called.
     ///
     /// # Errors
-    /// `AllocError` where memory runs out: the points are unchanged.
-    pub(crate) fn replace(&mut self, i: usize, frame: Frame) -> Result<(), AllocError>
-        requires { i < length self.old }
-        ensures reframed { OnOk result (Reframes self.old self.new i frame) }
-        ensures err { OnErr result (self.new ≡ self.old) }
+    /// `AllocError` where memory runs out.
+    pub(crate) fn entry(&mut self) -> Result<FrameId, AllocError>
+        ensures entry { IfOk result (λ id. IsFrame self.new.frames id entry_frame) }
+        ensures points { self.new.points ≡ self.old.points }
+        ensures stays { StayNumbered self.old.frames self.new.frames }
     {
-        let frame = self.frames.intern(frame)?;
-        self.stored[i].frame = frame;
-        Ok(())
+        self.frames.entry()
+    }
+
+    /// The number of the frame at the start of the main program.
+    ///
+    /// # Errors
+    /// `AllocError` where memory runs out.
+    pub(crate) fn main_entry(&mut self) -> Result<FrameId, AllocError>
+        ensures entry { IfOk result (λ id. IsFrame self.new.frames id main_frame) }
+        ensures points { self.new.points ≡ self.old.points }
+        ensures stays { StayNumbered self.old.frames self.new.frames }
+    {
+        self.frames.main_entry()
+    }
+
+    /// The number of a frame after a change.
+    ///
+    /// # Errors
+    /// `AllocError` where memory runs out.
+    pub(crate) fn change(&mut self, frame: FrameId, change: Change) -> Result<FrameId, AllocError>
+        requires there { frame < length self.old.frames }
+        requires taken { (frame_at self.old.frames frame).taken ≤ 1000000 }
+        ensures changed { IfOk result (λ id. IsFrame self.new.frames id (changed change (frame_at self.old.frames frame))) }
+        ensures points { self.new.points ≡ self.old.points }
+        ensures stays { StayNumbered self.old.frames self.new.frames }
+    {
+        self.frames.change(frame, change)
+    }
+
+    /// The number of a caller's frame after a call of a procedure that takes so many words.
+    ///
+    /// # Errors
+    /// `ShortArguments` where the caller has fewer words above its bottom word, or out of memory.
+    pub(crate) fn after(
+        &mut self,
+        frame: FrameId,
+        role: Role,
+        taken: u32,
+    ) -> Result<FrameId, CallFault>
+        requires { frame < length self.old.frames }
+        ensures enough { OnOk result (taken ≤ room role (frame_at self.old.frames frame).words) }
+        ensures back { IfOk result (λ id. IsFrame self.new.frames id (returned taken (frame_at self.old.frames frame))) }
+        ensures short { result ≡ Err CallFault.ShortArguments → room role (frame_at self.old.frames frame).words < taken }
+        ensures points { self.new.points ≡ self.old.points }
+        ensures stays { StayNumbered self.old.frames self.new.frames }
+    {
+        self.frames.after(frame, role, taken)
+    }
+
+    /// The number of the frame that is known of both; that of the first where the first doesn't change.
+    ///
+    /// # Errors
+    /// `HeightsDiffer` where the counts differ, or out of memory.
+    pub(crate) fn meet(&mut self, one: FrameId, other: FrameId) -> Result<FrameId, MeetFault>
+        requires one { one < length self.old.frames }
+        requires other { other < length self.old.frames }
+        ensures agree { OnOk result (agree (frame_at self.old.frames one) (frame_at self.old.frames other) ≡ true) }
+        ensures merged { IfOk result (λ id. IsFrame self.new.frames id (merged (frame_at self.old.frames one) (frame_at self.old.frames other))) }
+        ensures unchanged { IfOk result (λ id. merged (frame_at self.old.frames one) (frame_at self.old.frames other) ≡ frame_at self.old.frames one → id ≡ one) }
+        ensures differ { result ≡ Err MeetFault.HeightsDiffer → agree (frame_at self.old.frames one) (frame_at self.old.frames other) ≡ false }
+        ensures points { self.new.points ≡ self.old.points }
+        ensures stays { StayNumbered self.old.frames self.new.frames }
+    {
+        self.frames.meet(one, other)
     }
 }

@@ -19,7 +19,7 @@ pub(crate) fn list_rows(
     bounds: &Bounds,
 ) -> Result<Vec<ProcRow>, AllocError>
     requires slots { length wants.now ≡ 65537 }
-    ensures { IfOk result (λ rows. AreListed table.now wants.now bounds.now 65536 rows.items) }
+    ensures { IfOk result (λ rows. AreListed table.now.known wants.now bounds.now 65536 rows.items) }
 {
     let mut rows = Vec::new(alloc);
     for address in 0..65_536_u32 {
@@ -34,7 +34,7 @@ pub(crate) fn list_rows(
 /// The row of a procedure.
 fn row(table: &Table, wants: &[u32], bounds: &Bounds, entry: u16) -> ProcRow
     requires slots { length wants.now ≡ 65537 }
-    ensures { result ≡ row_of table.now wants.now bounds.now entry }
+    ensures { result ≡ row_of table.now.known wants.now bounds.now entry }
 {
     let procedure = Procedure::Entry(entry);
     let exit = table.exit_of(entry);

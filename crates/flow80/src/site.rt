@@ -2,9 +2,10 @@
 
 use bounds80::Procedure;
 use frames80::Role;
+use interned80::FrameId;
 
-/// Where an instruction stands: in which procedure and in what role, at which address, what comes after it, and the number of
-/// the point.
+/// Where an instruction stands: in which procedure and in what role, at which address, what comes after it, and the numbers
+/// of the point and of its frame.
 #[derive(Clone, Copy)]
 pub(crate) struct Site {
     pub(crate) procedure: Procedure,
@@ -12,4 +13,5 @@ pub(crate) struct Site {
     pub(crate) at: u16,
     pub(crate) next: u16,
     pub(crate) point: usize,
+    pub(crate) frame: FrameId,
 }

@@ -23,10 +23,10 @@ pub(crate) fn bound_stack<C: Code>(
     table: &Table,
     wants: &[u32],
 ) -> Result<Bounds, Refusal>
-    requires filled { IsFilled (C.code program.now) table.now }
+    requires filled { IsFilled (C.code program.now) table.now.known }
     requires slots { length wants.now ≡ 65537 }
-    requires wants { AreWants table.now.points wants.now (length table.now.points) }
-    ensures bounded { IfOk result (IsBounded (C.code program.now) table.now wants.now) }
+    requires wants { AreWants table.now.known.points wants.now (length table.now.known.points) }
+    ensures bounded { IfOk result (IsBounded (C.code program.now) table.now.known wants.now) }
     ensures refused { IfErr result (Holds (C.code program.now)) }
 {
     frame_laws();

@@ -1,19 +1,19 @@
 //! The depths and the calls of a program, read off its table.
 
-ghost use Rattle.std.specs.Prelude.{◌≡◌, ◌≤◌, ◌<◌, [], ◌∷◌, ◌++◌, IfOk, IfErr, OnOk, length, slice_index};
+ghost use Rattle.std.specs.Prelude.{◌≡◌, ◌<◌, [], ◌∷◌, ◌++◌, IfOk, IfErr, OnOk, length};
 ghost use Rattle.flow80.specs.Faults.{Holds};
-ghost use Rattle.flow80.specs.Known.{IsSmall, Stands, IsShort};
+ghost use Rattle.flow80.specs.Known.{Stands};
 ghost use Rattle.flow80.specs.Survey.{AreWants, IsSurvey, IsSeen, noted};
 ghost use Rattle.flow80.specs.Walks.{called};
-ghost use Rattle.frames80.specs.Calls.{room};
+ghost use Rattle.frames80.specs.StackFrame.{StackFrame};
+ghost use Rattle.interned80.specs.Admitted.{move_of};
 
 use crate::code::Code;
 use crate::laws::frame_laws;
 use crate::refusal::Refusal;
-use crate::site::Site;
-use crate::table::{Table, come_back};
+use crate::table::Table;
 use bounds80::{CallSite, Depth, Procedure, slot};
-use frames80::{Frame, Moves, depth};
+use frames80::Effect;
 use std::alloc::{AllocError, Global};
 
 /// The depths of a program's frames, and its calls.
@@ -33,18 +33,17 @@ pub(crate) fn find_calls<C: Code>(
     table: &Table,
     wants: &[u32],
 ) -> Result<CallGraph, Refusal>
-    requires small { IsSmall table.now }
     requires slots { length wants.now ≡ 65537 }
-    requires wants { AreWants table.now.points wants.now (length table.now.points) }
-    ensures surveyed { IfOk result (λ s. IsSurvey (C.code program.now) table.now wants.now (length table.now.points) s.depths.items s.calls.items) }
-    ensures refused { IfErr result (λ refusal. Stands (C.code program.now) table.now → Holds (C.code program.now) refusal) }
+    requires wants { AreWants table.now.known.points wants.now (length table.now.known.points) }
+    ensures surveyed { IfOk result (λ s. IsSurvey (C.code program.now) table.now.known wants.now (length table.now.known.points) s.depths.items s.calls.items) }
+    ensures refused { IfErr result (λ refusal. Stands (C.code program.now) table.now.known → Holds (C.code program.now) refusal) }
 {
     let mut graph = CallGraph {
         depths: Vec::new(alloc),
         calls: Vec::new(alloc),
     };
     for point in 0..table.len() {
-        let (depth, call) = look_at(alloc, program, table, wants, point)?;
+        let (depth, call) = look_at(program, table, wants, point)?;
         graph.note(depth, call)?;
     }
     Ok(graph)
@@ -67,35 +66,33 @@ impl CallGraph {
 /// The depth of a point's frame, and its call, whose caller must have the words that the callee wants.
 ///
 /// # Errors
-/// `ShortArguments`, and any other refusal that holds; out of memory.
+/// `ShortArguments`, and any other refusal that holds.
 fn look_at<C: Code>(
-    alloc: Global,
     program: &C,
     table: &Table,
     wants: &[u32],
     point: usize,
 ) -> Result<(Depth, Option<CallSite>), Refusal>
-    requires small { IsSmall table.now }
     requires slots { length wants.now ≡ 65537 }
-    requires wants { AreWants table.now.points wants.now (length table.now.points) }
-    requires there { point < length table.now.points }
-    ensures seen { IfOk result (λ seen. IsSeen (C.code program.now) table.now wants.now point seen.0 seen.1) }
-    ensures refused { IfErr result (λ refusal. Stands (C.code program.now) table.now → Holds (C.code program.now) refusal) }
+    requires wants { AreWants table.now.known.points wants.now (length table.now.known.points) }
+    requires there { point < length table.now.known.points }
+    ensures seen { IfOk result (λ seen. IsSeen (C.code program.now) table.now.known wants.now point seen.0 seen.1) }
+    ensures refused { IfErr result (λ refusal. Stands (C.code program.now) table.now.known → Holds (C.code program.now) refusal) }
 {
     frame_laws();
-    let (site, moves) = table.moves_at(alloc, program, point)?;
-    let target = target_of(moves);
-    let frame = table.frame(point);
-    let depth = depth(frame, site.role);
+    let (site, effect) = table.effect_at(program, point)?;
+    let depth = table.frames().depth(site.frame, site.role);
     let noted = Depth {
         procedure: site.procedure,
         depth,
     };
-    let Some(target) = target else {
+    let Some(target) = target_of(effect) else {
         return Ok((noted, None));
     };
     let wanted = wants[slot(Procedure::Entry(target))];
-    check_words(alloc, &site, frame, wanted)?;
+    if table.frames().room(site.frame, site.role) < wanted {
+        return Err(Refusal::ShortArguments(site.at));
+    }
     let call = CallSite {
         caller: site.procedure,
         at: site.at,
@@ -105,28 +102,12 @@ fn look_at<C: Code>(
     Ok((noted, Some(call)))
 }
 
-/// A caller has so many words above its bottom word.
-///
-/// # Errors
-/// `ShortArguments` where it has fewer, or out of memory.
-fn check_words(alloc: Global, site: &Site, frame: &Frame, wanted: u32) -> Result<(), Refusal>
-    requires few { frame.now.taken ≤ 1000000 }
-    requires words { length frame.now.words ≤ 1000000 }
-    ensures enough { OnOk result (wanted ≤ room site.now.role frame.now.words) }
-    ensures short { IfErr result (IsShort site.now.at (room site.now.role frame.now.words) wanted) }
+/// The address that an effect calls.
+fn target_of(effect: Effect) -> Option<u16>
+    ensures { (frame : StackFrame) → result ≡ called (move_of effect frame) }
 {
-    match come_back(alloc, site, frame, wanted) {
-        Ok(_) => Ok(()),
-        Err(refusal) => Err(refusal),
-    }
-}
-
-/// The address that a move calls.
-fn target_of(moves: Moves) -> Option<u16>
-    ensures { result ≡ called moves }
-{
-    match moves {
-        Moves::Call(_, target) | Moves::MaybeCall(_, target) => Some(target),
+    match effect {
+        Effect::Call(target) | Effect::CallIf(target) => Some(target),
         _ => None,
     }
 }

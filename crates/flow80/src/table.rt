@@ -1,13 +1,17 @@
 //! The table of frames while it fills.
 
 ghost use Rattle.std.specs.Prelude.{◌≡◌, ◌+◌, ◌<◌, ◌≤◌, ◌↔◌, ℕ, List, false, true, Some, None, Ok, Err, IfOk, IfErr, OnOk, IfSome, length, replicate, slice_get};
-ghost use Rattle.bounds80.specs.declared.procedure.Procedure.TheVariants.{Entry};
+ghost use Rattle.bounds80.specs.declared.procedure.Procedure.TheVariants.{Main, Entry};
 ghost use Rattle.flow80.specs.Points.{AreAddresses, IsPointAt, IsNoPoint};
-ghost use Rattle.flow80.specs.Known.{IsSmall, IsWithin, Stands, Flows, Exits, CallsOut, Steps, Visits, Looks, AreClosed, AllClosed, AreWithin, IsShort, exit_of, nothing_known};
+ghost use Rattle.flow80.specs.Known.{IsSmall, IsWithin, Stands, Flows, Exits, CallsOut, Steps, Visits, Looks, Sweeps, AreClosed, AllClosed, IsShort, exit_of, nothing_known};
 ghost use Rattle.frames80.specs.declared.moves.Moves.TheVariants.{Either, Case, MaybeCall, MaybeReturn};
 ghost use Rattle.frames80.specs.Calls.{room, returned};
+ghost use Rattle.frames80.specs.Moves.{changed};
+ghost use Rattle.frames80.specs.StackFrame.{entry_frame, main_frame};
+ghost use Rattle.interned80.specs.Admitted.{move_of};
+ghost use Rattle.interned80.specs.Frames.{frame_at, IsFrame, StayNumbered};
 ghost use Rattle.flow80.specs.Faults.{most_points, Holds};
-ghost use Rattle.flow80.specs.Survey.{IsMoveAt, IsEntered};
+ghost use Rattle.flow80.specs.Survey.{EffectIsAt, IsEntered};
 ghost use Rattle.flow80.specs.Walks.{role_of};
 
 use crate::callers::Callers;
@@ -18,7 +22,8 @@ use crate::points::Points;
 use crate::refusal::Refusal;
 use crate::site::Site;
 use bounds80::Procedure;
-use frames80::{CallFault, Frame, HeightsDiffer, Moves, Role, after, meet, next};
+use frames80::{CallFault, Change, Effect, Role, effect_of};
+use interned80::{FrameId, Frames, MeetFault};
 use std::alloc::{AllocError, Global};
 use std::marker::Model;
 
@@ -37,11 +42,11 @@ pub(crate) struct Table {
 
 impl Model for Table {
     ghost use Rattle.std.specs.Prelude.{◌≡◌, length};
-    ghost use Rattle.flow80.specs.Known.{Known};
+    ghost use Rattle.flow80.specs.Known.{KnownFrames};
 
-    ghost Value = { Known };
+    ghost Value = { KnownFrames };
 
-    ghost view = { λ t. record { points = t.points; exits = t.exits.items } };
+    ghost view = { λ t. record { known = record { points = t.points.points; exits = t.exits.items }; frames = t.points.frames } };
 
     ghost invariant = { λ t. length t.exits.items ≡ 65536 };
 }
@@ -52,7 +57,7 @@ impl Table {
     /// # Errors
     /// `AllocError` where memory runs out.
     pub(crate) fn new<C: Code>(alloc: Global, program: &C) -> Result<Table, AllocError>
-        ensures { IfOk result (λ table. table ≡ nothing_known) }
+        ensures { IfOk result (λ table. table.known ≡ nothing_known) }
     {
         let exits = no_exits(alloc)?;
         let callers = Callers::new(alloc)?;
@@ -68,29 +73,27 @@ impl Table {
     ///
     /// # Errors
     /// A refusal that holds, or out of memory.
-    pub(crate) fn flow(
-        &mut self,
-        alloc: Global,
-        procedure: Procedure,
-        to: u16,
-        frame: Frame,
-    ) -> Result<bool, Refusal>
-        requires small { IsSmall self.old }
-        requires fits { IsWithin (length self.old.points + 1) frame }
-        ensures { Flows self.old self.new procedure to frame result }
+    fn flow(&mut self, procedure: Procedure, to: u16, frame: FrameId) -> Result<bool, Refusal>
+        requires small { IsSmall self.old.known }
+        requires there { frame < length self.old.frames }
+        requires fits { IsWithin (length self.old.known.points + 1) (frame_at self.old.frames frame) }
+        ensures flows { Flows self.old.known self.new.known procedure to (frame_at self.old.frames frame) result }
+        ensures stays { StayNumbered self.old.frames self.new.frames }
     {
         match self.points.position(procedure, to) {
-            Some(i) => self.merge(alloc, i, procedure, to, &frame),
+            Some(i) => self.merge(i, procedure, to, frame),
             None => self.add(procedure, to, frame),
         }
     }
 
     /// A point that is new.
-    fn add(&mut self, procedure: Procedure, to: u16, frame: Frame) -> Result<bool, Refusal>
-        requires small { IsSmall self.old }
-        requires fits { IsWithin (length self.old.points + 1) frame }
-        requires new { IsNoPoint self.old.points procedure to }
-        ensures { Flows self.old self.new procedure to frame result }
+    fn add(&mut self, procedure: Procedure, to: u16, frame: FrameId) -> Result<bool, Refusal>
+        requires small { IsSmall self.old.known }
+        requires there { frame < length self.old.frames }
+        requires fits { IsWithin (length self.old.known.points + 1) (frame_at self.old.frames frame) }
+        requires new { IsNoPoint self.old.known.points procedure to }
+        ensures flows { Flows self.old.known self.new.known procedure to (frame_at self.old.frames frame) result }
+        ensures stays { StayNumbered self.old.frames self.new.frames }
     {
         let number = self.points.len();
         if number >= MOST_POINTS {
@@ -104,41 +107,40 @@ impl Table {
     /// A point that is there.
     fn merge(
         &mut self,
-        alloc: Global,
         i: usize,
         procedure: Procedure,
         to: u16,
-        frame: &Frame,
+        frame: FrameId,
     ) -> Result<bool, Refusal>
-        requires small { IsSmall self.old }
-        requires there { IsPointAt self.old.points procedure to i }
-        ensures { Flows self.old self.new procedure to frame.now result }
+        requires small { IsSmall self.old.known }
+        requires there { frame < length self.old.frames }
+        requires at { IsPointAt self.old.known.points procedure to i }
+        ensures flows { Flows self.old.known self.new.known procedure to (frame_at self.old.frames frame) result }
+        ensures stays { StayNumbered self.old.frames self.new.frames }
     {
         frame_laws();
-        let mut merged = self.points.frame(i).copy(alloc)?;
-        match meet(&mut merged, frame) {
-            Err(HeightsDiffer) => Err(Refusal::HeightsDiffer(to)),
-            Ok(false) => Ok(false),
-            Ok(true) => {
-                self.points.replace(i, merged)?;
-                self.look_again(i, to)?;
-                Ok(true)
-            }
+        let kept = self.points.frame(i);
+        let merged = match self.points.meet(kept, frame) {
+            Ok(merged) => merged,
+            Err(MeetFault::HeightsDiffer) => return Err(Refusal::HeightsDiffer(to)),
+            Err(MeetFault::Memory) => return Err(Refusal::Memory),
+        };
+        if merged == kept {
+            return Ok(false);
         }
+        self.points.replace(i, merged);
+        self.look_again(i, to)?;
+        Ok(true)
     }
 
     /// A procedure returns with so many words taken.
     ///
     /// # Errors
     /// A refusal that holds, or out of memory.
-    pub(crate) fn exit(
-        &mut self,
-        procedure: Procedure,
-        at: u16,
-        taken: u32,
-    ) -> Result<bool, Refusal>
-        requires { IsSmall self.old }
-        ensures { Exits self.old self.new procedure at taken result }
+    fn exit(&mut self, procedure: Procedure, at: u16, taken: u32) -> Result<bool, Refusal>
+        requires { IsSmall self.old.known }
+        ensures exits { Exits self.old.known self.new.known procedure at taken result }
+        ensures stays { StayNumbered self.old.frames self.new.frames }
     {
         let Procedure::Entry(entry) = procedure else {
             return Ok(false);
@@ -154,152 +156,193 @@ impl Table {
         }
     }
 
+    /// The main program begins.
+    ///
+    /// # Errors
+    /// A refusal that holds, or out of memory.
+    fn begin(&mut self, start: u16) -> Result<bool, Refusal>
+        requires { IsSmall self.old.known }
+        ensures { Flows self.old.known self.new.known Main start main_frame result }
+    {
+        let frame = self.points.main_entry()?;
+        self.flow(Procedure::Main, start, frame)
+    }
+
+    /// A procedure is entered.
+    ///
+    /// # Errors
+    /// A refusal that holds, or out of memory.
+    fn enter(&mut self, target: u16) -> Result<bool, Refusal>
+        requires { IsSmall self.old.known }
+        ensures flows { Flows self.old.known self.new.known (Entry target) target entry_frame result }
+        ensures stays { StayNumbered self.old.frames self.new.frames }
+    {
+        let frame = self.points.entry()?;
+        self.flow(Procedure::Entry(target), target, frame)
+    }
+
+    /// An instruction goes on to the next one with a changed frame.
+    ///
+    /// # Errors
+    /// A refusal that holds, or out of memory.
+    fn go_on(&mut self, site: &Site, change: Change) -> Result<bool, Refusal>
+        requires small { IsSmall self.old.known }
+        requires there { site.now.frame < length self.old.frames }
+        requires fits { IsWithin (length self.old.known.points) (frame_at self.old.frames site.now.frame) }
+        ensures flows { Flows self.old.known self.new.known site.now.procedure site.now.next (changed change (frame_at self.old.frames site.now.frame)) result }
+        ensures stays { StayNumbered self.old.frames self.new.frames }
+    {
+        let frame = self.points.change(site.frame, change)?;
+        self.flow(site.procedure, site.next, frame)
+    }
+
+    /// A caller goes on after a call of a procedure that takes so many words.
+    ///
+    /// # Errors
+    /// `ShortArguments` where the caller has fewer words above its bottom word; any other refusal that holds; out of memory.
+    fn come_back(&mut self, site: &Site, taken: u32) -> Result<FrameId, Refusal>
+        requires { site.now.frame < length self.old.frames }
+        ensures enough { OnOk result (taken ≤ room site.now.role (frame_at self.old.frames site.now.frame).words) }
+        ensures back { IfOk result (λ id. IsFrame self.new.frames id (returned taken (frame_at self.old.frames site.now.frame))) }
+        ensures short { IfErr result (IsShort site.now.at (room site.now.role (frame_at self.old.frames site.now.frame).words) taken) }
+        ensures known { self.new.known ≡ self.old.known }
+        ensures stays { StayNumbered self.old.frames self.new.frames }
+    {
+        match self.points.after(site.frame, site.role, taken) {
+            Ok(back) => Ok(back),
+            Err(CallFault::ShortArguments) => Err(Refusal::ShortArguments(site.at)),
+            Err(CallFault::Memory) => Err(Refusal::Memory),
+        }
+    }
+
     /// A call: the callee is entered, and where a return of it was seen, the caller goes on without the words that it takes.
     ///
     /// # Errors
     /// A refusal that holds, or out of memory.
-    fn call(
-        &mut self,
-        alloc: Global,
-        site: &Site,
-        frame: &Frame,
-        target: u16,
-    ) -> Result<bool, Refusal>
-        requires small { IsSmall self.old }
-        requires fits { IsWithin (length self.old.points + 1) frame.now }
-        ensures { CallsOut self.old self.new site.now.procedure site.now.at site.now.next site.now.role frame.now target result }
+    fn call(&mut self, site: &Site, target: u16) -> Result<bool, Refusal>
+        requires small { IsSmall self.old.known }
+        requires there { site.now.frame < length self.old.frames }
+        requires fits { IsWithin (length self.old.known.points) (frame_at self.old.frames site.now.frame) }
+        ensures calls { CallsOut self.old.known self.new.known site.now.procedure site.now.at site.now.next site.now.role (frame_at self.old.frames site.now.frame) target result }
+        ensures stays { StayNumbered self.old.frames self.new.frames }
     {
         frame_laws();
-        let entry = Frame::entry(alloc)?;
-        let entered = self.flow(alloc, Procedure::Entry(target), target, entry)?;
+        let entered = self.enter(target)?;
         match self.exit_of(target) {
             None => {
                 self.callers.add(target, site.point, site.at)?;
                 Ok(entered)
             }
             Some(taken) => {
-                let back = come_back(alloc, site, frame, taken)?;
-                let went_on = self.flow(alloc, site.procedure, site.next, back)?;
+                let back = self.come_back(site, taken)?;
+                let went_on = self.flow(site.procedure, site.next, back)?;
                 Ok(entered | went_on)
             }
         }
     }
 
     /// A conditional jump goes both ways.
-    fn branch(&mut self, alloc: Global, site: &Site, frame: Frame, to: u16) -> Result<bool, Refusal>
-        requires small { IsSmall self.old }
-        requires fits { IsWithin (length self.old.points + 1) frame }
-        ensures { (targets : List ℕ) → Steps self.old self.new site.now.procedure site.now.at targets site.now.next site.now.role (Either frame to) result }
+    fn branch(&mut self, site: &Site, to: u16) -> Result<bool, Refusal>
+        requires small { IsSmall self.old.known }
+        requires there { site.now.frame < length self.old.frames }
+        requires fits { IsWithin (length self.old.known.points) (frame_at self.old.frames site.now.frame) }
+        ensures steps { (targets : List ℕ) → Steps self.old.known self.new.known site.now.procedure site.now.at targets site.now.next site.now.role (Either (frame_at self.old.frames site.now.frame) to) result }
+        ensures stays { StayNumbered self.old.frames self.new.frames }
     {
         frame_laws();
-        let copy = frame.copy(alloc)?;
-        let one = self.flow(alloc, site.procedure, site.next, copy)?;
-        let other = self.flow(alloc, site.procedure, to, frame)?;
+        let one = self.flow(site.procedure, site.next, site.frame)?;
+        let other = self.flow(site.procedure, to, site.frame)?;
         Ok(one | other)
     }
 
     /// A PCHL goes to each target that is declared for it, with the frame that it has.
-    fn go_to_each(
-        &mut self,
-        alloc: Global,
-        site: &Site,
-        targets: &[u16],
-        frame: &Frame,
-    ) -> Result<bool, Refusal>
-        requires small { IsSmall self.old }
-        requires fits { IsWithin (length self.old.points + 1) frame.now }
-        ensures { Steps self.old self.new site.now.procedure site.now.at targets.now site.now.next site.now.role (Case frame.now) result }
+    fn go_to_each(&mut self, site: &Site, targets: &[u16]) -> Result<bool, Refusal>
+        requires small { IsSmall self.old.known }
+        requires there { site.now.frame < length self.old.frames }
+        requires fits { IsWithin (length self.old.known.points) (frame_at self.old.frames site.now.frame) }
+        ensures steps { Steps self.old.known self.new.known site.now.procedure site.now.at targets.now site.now.next site.now.role (Case (frame_at self.old.frames site.now.frame)) result }
+        ensures stays { StayNumbered self.old.frames self.new.frames }
     {
         frame_laws();
         let mut changed = false;
         for to in targets {
-            let copy = frame.copy(alloc)?;
-            let here = self.flow(alloc, site.procedure, *to, copy)?;
+            let here = self.flow(site.procedure, *to, site.frame)?;
             changed |= here;
         }
         Ok(changed)
     }
 
     /// A conditional call is taken, or it goes on.
-    fn call_if(
-        &mut self,
-        alloc: Global,
-        site: &Site,
-        frame: Frame,
-        target: u16,
-    ) -> Result<bool, Refusal>
-        requires small { IsSmall self.old }
-        requires fits { IsWithin (length self.old.points + 1) frame }
-        ensures { (targets : List ℕ) → Steps self.old self.new site.now.procedure site.now.at targets site.now.next site.now.role (MaybeCall frame target) result }
+    fn call_if(&mut self, site: &Site, target: u16) -> Result<bool, Refusal>
+        requires small { IsSmall self.old.known }
+        requires there { site.now.frame < length self.old.frames }
+        requires fits { IsWithin (length self.old.known.points) (frame_at self.old.frames site.now.frame) }
+        ensures steps { (targets : List ℕ) → Steps self.old.known self.new.known site.now.procedure site.now.at targets site.now.next site.now.role (MaybeCall (frame_at self.old.frames site.now.frame) target) result }
+        ensures stays { StayNumbered self.old.frames self.new.frames }
     {
         frame_laws();
-        let copy = frame.copy(alloc)?;
-        let one = self.flow(alloc, site.procedure, site.next, copy)?;
-        let other = self.call(alloc, site, &frame, target)?;
+        let one = self.flow(site.procedure, site.next, site.frame)?;
+        let other = self.call(site, target)?;
         Ok(one | other)
     }
 
     /// A conditional return is taken, or it goes on.
-    fn return_if(
-        &mut self,
-        alloc: Global,
-        site: &Site,
-        frame: Frame,
-        taken: u32,
-    ) -> Result<bool, Refusal>
-        requires small { IsSmall self.old }
-        requires fits { IsWithin (length self.old.points + 1) frame }
-        ensures { (targets : List ℕ) → Steps self.old self.new site.now.procedure site.now.at targets site.now.next site.now.role (MaybeReturn frame taken) result }
+    fn return_if(&mut self, site: &Site, taken: u32) -> Result<bool, Refusal>
+        requires small { IsSmall self.old.known }
+        requires there { site.now.frame < length self.old.frames }
+        requires fits { IsWithin (length self.old.known.points) (frame_at self.old.frames site.now.frame) }
+        ensures steps { (targets : List ℕ) → Steps self.old.known self.new.known site.now.procedure site.now.at targets site.now.next site.now.role (MaybeReturn (frame_at self.old.frames site.now.frame) taken) result }
+        ensures stays { StayNumbered self.old.frames self.new.frames }
     {
         frame_laws();
-        let one = self.flow(alloc, site.procedure, site.next, frame)?;
+        let one = self.flow(site.procedure, site.next, site.frame)?;
         let other = self.exit(site.procedure, site.at, taken)?;
         Ok(one | other)
     }
 
-    /// Each way that a move leads; a PCHL leads to the targets that are declared for it.
+    /// Each way that an instruction leads; a PCHL leads to the targets that are declared for it.
     ///
     /// # Errors
     /// A refusal that holds, or out of memory.
-    pub(crate) fn follow(
-        &mut self,
-        alloc: Global,
-        site: &Site,
-        targets: &[u16],
-        moves: Moves,
-    ) -> Result<bool, Refusal>
-        requires small { IsSmall self.old }
-        requires fits { AreWithin (length self.old.points + 1) moves }
-        ensures { Steps self.old self.new site.now.procedure site.now.at targets.now site.now.next site.now.role moves result }
+    fn follow(&mut self, site: &Site, targets: &[u16], effect: Effect) -> Result<bool, Refusal>
+        requires small { IsSmall self.old.known }
+        requires there { site.now.frame < length self.old.frames }
+        requires fits { IsWithin (length self.old.known.points) (frame_at self.old.frames site.now.frame) }
+        ensures { Steps self.old.known self.new.known site.now.procedure site.now.at targets.now site.now.next site.now.role (move_of effect (frame_at self.old.frames site.now.frame)) result }
     {
         frame_laws();
-        match moves {
-            Moves::End => Ok(false),
-            Moves::On(frame) => self.flow(alloc, site.procedure, site.next, frame),
-            Moves::Jump(frame, to) => self.flow(alloc, site.procedure, to, frame),
-            Moves::Either(frame, to) => self.branch(alloc, site, frame, to),
-            Moves::Case(frame) => self.go_to_each(alloc, site, targets, &frame),
-            Moves::Call(frame, target) => self.call(alloc, site, &frame, target),
-            Moves::MaybeCall(frame, target) => self.call_if(alloc, site, frame, target),
-            Moves::Return(taken) => self.exit(site.procedure, site.at, taken),
-            Moves::MaybeReturn(frame, taken) => self.return_if(alloc, site, frame, taken),
+        match effect {
+            Effect::Change(change) => self.go_on(site, change),
+            Effect::Jump(to) => self.flow(site.procedure, to, site.frame),
+            Effect::JumpIf(to) => self.branch(site, to),
+            Effect::Case => self.go_to_each(site, targets),
+            Effect::Call(target) => self.call(site, target),
+            Effect::CallIf(target) => self.call_if(site, target),
+            Effect::Return => {
+                let taken = self.points.frames().taken(site.frame);
+                self.exit(site.procedure, site.at, taken)
+            }
+            Effect::ReturnIf => {
+                let taken = self.points.frames().taken(site.frame);
+                self.return_if(site, taken)
+            }
+            // (What is refused in every frame isn't followed.)
+            Effect::Halt | Effect::Refuse(_) => Ok(false),
         }
     }
 
-    /// Where the instruction at a point stands, and how it moves.
+    /// Where the instruction at a point stands, and what it does.
     ///
     /// # Errors
-    /// A refusal that holds, or out of memory.
-    pub(crate) fn moves_at<C: Code>(
+    /// A refusal that holds.
+    pub(crate) fn effect_at<C: Code>(
         &self,
-        alloc: Global,
         program: &C,
         point: usize,
-    ) -> Result<(Site, Moves), Refusal>
-        requires small { IsSmall self.now }
-        requires there { point < length self.now.points }
-        ensures moves { IfOk result (λ r. IsMoveAt (C.code program.now) self.now point r.0 r.1) }
-        ensures refused { IfErr result (λ refusal. Stands (C.code program.now) self.now → Holds (C.code program.now) refusal) }
+    ) -> Result<(Site, Effect), Refusal>
+        requires { point < length self.now.known.points }
+        ensures moves { IfOk result (λ r. EffectIsAt (C.code program.now) self.now point r.0 r.1) }
+        ensures refused { IfErr result (λ refusal. Stands (C.code program.now) self.now.known → Holds (C.code program.now) refusal) }
     {
         frame_laws();
         let (procedure, at) = self.points.place(point);
@@ -308,42 +351,39 @@ impl Table {
             Err(fault) => return Err(Refusal::of_look(fault, at)),
         };
         let role = role_of(program, procedure);
-        let moves = match next(alloc, self.points.frame(point), found.instr, role) {
-            Ok(moves) => moves,
-            Err(fault) => return Err(Refusal::of(fault, at)),
-        };
+        let frame = self.points.frame(point);
+        let effect = effect_of(found.instr);
+        if let Some(fault) = self.points.frames().fault_of(frame, role, effect) {
+            return Err(Refusal::of(fault, at));
+        }
         let site = Site {
             procedure,
             role,
             at,
             next: found.next,
             point,
+            frame,
         };
-        Ok((site, moves))
+        Ok((site, effect))
     }
 
     /// A point is looked at: its instruction, and each way that it leads.
     ///
     /// # Errors
     /// A refusal that holds, or out of memory.
-    pub(crate) fn visit<C: Code>(
-        &mut self,
-        alloc: Global,
-        program: &C,
-        point: usize,
-    ) -> Result<bool, Refusal>
-        requires small { IsSmall self.old }
-        requires there { point < length self.old.points }
-        ensures { Visits (C.code program.now) self.old self.new point result }
+    fn visit<C: Code>(&mut self, program: &C, point: usize) -> Result<bool, Refusal>
+        requires small { IsSmall self.old.known }
+        requires there { point < length self.old.known.points }
+        ensures { Visits (C.code program.now) self.old.known self.new.known point result }
     {
-        let (site, moves) = self.moves_at(alloc, program, point)?;
-        self.follow(alloc, &site, program.targets(site.at), moves)
+        let (site, effect) = self.effect_at(program, point)?;
+        self.follow(&site, program.targets(site.at), effect)
     }
 
     /// The points that are to be looked at are looked at, and those that come of it.
-    fn drain<C: Code>(&mut self, alloc: Global, program: &C) -> Result<bool, Refusal>
-        requires { IsSmall self.old }
-        ensures { Looks (C.code program.now) self.old self.new result }
+    fn drain<C: Code>(&mut self, program: &C) -> Result<bool, Refusal>
+        requires { IsSmall self.old.known }
+        ensures { Looks (C.code program.now) self.old.known self.new.known result }
     {
         let mut changed = false;
         // (The bound is never met: a point is put there only where a frame has changed, which no frame can do for ever. Nothing rests
@@ -352,7 +392,7 @@ impl Table {
             let Some(point) = self.next_pending() else {
                 break;
             };
-            let here = self.visit(alloc, program, point)?;
+            let here = self.visit(program, point)?;
             changed |= here;
         }
         Ok(changed)
@@ -361,7 +401,7 @@ impl Table {
     /// The next point that is to be looked at.
     fn next_pending(&mut self) -> Option<usize>
         ensures same { self.new ≡ self.old }
-        ensures there { IfSome result (λ point. point < length self.new.points) }
+        ensures there { IfSome result (λ point. point < length self.new.known.points) }
     {
         match self.pending.take() {
             Some(point) if point < self.points.len() => Some(point),
@@ -370,64 +410,70 @@ impl Table {
     }
 
     /// Every point is looked at once.
-    fn pass<C: Code>(&mut self, alloc: Global, program: &C) -> Result<bool, Refusal>
-        requires { IsSmall self.old }
-        ensures looks { Looks (C.code program.now) self.old self.new result }
-        ensures closed { IfOk result (λ changed. changed ≡ false → AreClosed (C.code program.now) self.new (length self.new.points)) }
+    fn pass<C: Code>(&mut self, program: &C) -> Result<bool, Refusal>
+        requires { IsSmall self.old.known }
+        ensures looks { Looks (C.code program.now) self.old.known self.new.known result }
+        ensures closed { IfOk result (λ changed. changed ≡ false → AreClosed (C.code program.now) self.new.known (length self.new.known.points)) }
     {
         let mut changed = false;
         for point in 0..self.len() {
-            let here = self.visit(alloc, program, point)?;
+            let here = self.visit(program, point)?;
             changed |= here;
         }
         Ok(changed)
     }
 
-    /// The main program begins, what is to be looked at is looked at, and then every point. Where that changes nothing the table
-    /// is closed.
+    /// What is to be looked at is looked at, then the main program begins, and every point is looked at. Where those two change
+    /// nothing the table is closed.
     ///
     /// # Errors
     /// A refusal that holds, or out of memory.
-    pub(crate) fn sweep<C: Code>(&mut self, alloc: Global, program: &C) -> Result<bool, Refusal>
-        requires { IsSmall self.old }
-        ensures looks { Looks (C.code program.now) self.old self.new result }
-        ensures closed { IfOk result (λ changed. changed ≡ false → AllClosed (C.code program.now) self.new) }
+    pub(crate) fn sweep<C: Code>(&mut self, program: &C) -> Result<bool, Refusal>
+        requires { IsSmall self.old.known }
+        ensures sweeps { Sweeps (C.code program.now) self.old.known self.new.known result }
+        ensures closed { IfOk result (λ changed. changed ≡ false → AllClosed (C.code program.now) self.new.known) }
     {
-        let start = Frame::main_entry(alloc)?;
-        let begun = self.flow(alloc, Procedure::Main, program.start(), start)?;
-        let drained = self.drain(alloc, program)?;
-        let passed = self.pass(alloc, program)?;
-        Ok(begun | drained | passed)
+        self.drain(program)?;
+        let begun = self.begin(program.start())?;
+        let passed = self.pass(program)?;
+        Ok(begun | passed)
     }
 
     /// How many points there are.
     pub(crate) fn len(&self) -> usize
-        ensures count { result ≡ length self.now.points }
-        ensures addresses { AreAddresses self.now.points }
+        ensures count { result ≡ length self.now.known.points }
+        ensures addresses { AreAddresses self.now.known.points }
     {
         self.points.len()
     }
 
     /// The procedure of the point that stands at `i`.
     pub(crate) fn procedure(&self, i: usize) -> Procedure
-        requires { i < length self.now.points }
-        ensures { IfSome (slice_get self.now.points i) (λ point. point.procedure ≡ result) }
+        requires { i < length self.now.known.points }
+        ensures { IfSome (slice_get self.now.known.points i) (λ point. point.procedure ≡ result) }
     {
         self.points.place(i).0
     }
 
-    /// The frame of the point that stands at `i`.
-    pub(crate) fn frame(&self, i: usize) -> &Frame
-        requires { i < length self.now.points }
-        ensures { IfSome (slice_get self.now.points i) (λ point. result.now ≡ point.frame) }
+    /// How many words are taken at the point that stands at `i`.
+    pub(crate) fn taken(&self, i: usize) -> u32
+        requires { i < length self.now.known.points }
+        ensures { IfSome (slice_get self.now.known.points i) (λ point. result ≡ point.frame.taken) }
     {
-        self.points.frame(i)
+        self.frames().taken(self.points.frame(i))
+    }
+
+    /// The frames by number.
+    pub(crate) fn frames(&self) -> &Frames
+        ensures { result.now ≡ self.now.frames }
+    {
+        self.points.frames()
     }
 
     /// Whether a call reaches the procedure that is entered at an address.
     pub(crate) fn is_entered(&self, entry: u16) -> bool
-        ensures yes { result ≡ true → IsEntered self.now entry }
-        ensures no { result ≡ false → IsNoPoint self.now.points (Entry entry) entry }
+        ensures yes { result ≡ true → IsEntered self.now.known entry }
+        ensures no { result ≡ false → IsNoPoint self.now.known.points (Entry entry) entry }
     {
         self.points
             .position(Procedure::Entry(entry), entry)
@@ -436,7 +482,7 @@ impl Table {
 
     /// How many words a procedure takes where it returns, once a return was seen.
     pub(crate) fn exit_of(&self, entry: u16) -> Option<u32>
-        ensures { result ≡ exit_of self.now.exits entry }
+        ensures { result ≡ exit_of self.now.known.exits entry }
     {
         self.exits[usize::from(entry)]
     }
@@ -458,29 +504,6 @@ fn no_exits(alloc: Global) -> Result<Vec<Option<u32>>, AllocError>
         exits.push(None)?;
     }
     Ok(exits)
-}
-
-/// The caller's frame after a call of a procedure that takes so many words.
-///
-/// # Errors
-/// `ShortArguments` where the caller has fewer words above its bottom word, or out of memory.
-pub(crate) fn come_back(
-    alloc: Global,
-    site: &Site,
-    frame: &Frame,
-    taken: u32,
-) -> Result<Frame, Refusal>
-    requires few { frame.now.taken ≤ 1000000 }
-    requires words { length frame.now.words ≤ 1000000 }
-    ensures enough { OnOk result (taken ≤ room site.now.role frame.now.words) }
-    ensures back { IfOk result (λ back. back ≡ returned taken frame.now) }
-    ensures short { IfErr result (IsShort site.now.at (room site.now.role frame.now.words) taken) }
-{
-    match after(alloc, frame, site.role, taken, taken) {
-        Ok(back) => Ok(back),
-        Err(CallFault::ShortArguments) => Err(Refusal::ShortArguments(site.at)),
-        Err(CallFault::Memory) => Err(Refusal::Memory),
-    }
 }
 
 /// The role of a procedure.

@@ -13,12 +13,12 @@ use std::alloc::{AllocError, Global};
 /// `AllocError` where memory runs out.
 pub(crate) fn find_wants(alloc: Global, table: &Table) -> Result<Vec<u32>, AllocError>
     ensures slots { IfOk result (λ wants. length wants.items ≡ 65537) }
-    ensures wants { IfOk result (λ wants. AreWants table.now.points wants.items (length table.now.points)) }
+    ensures wants { IfOk result (λ wants. AreWants table.now.known.points wants.items (length table.now.known.points)) }
 {
     let mut wants = slots(alloc, 0, SLOTS)?;
     for point in 0..table.len() {
         let place = slot(table.procedure(point));
-        let taken = table.frame(point).taken;
+        let taken = table.taken(point);
         if taken > wants[place] {
             wants[place] = taken;
         }

@@ -8,7 +8,7 @@ use Rattle.flow80.proofs.analysis.report_on.Goals as goal
 pub returns-then-stack_bytes-from-clause-refused : goal.returns-then-stack_bytes-from-clause-refused
 returns-then-stack_bytes-from-clause-refused g c =
     let code = g.C.Code.code c.args.program.now in
-    let known = c.args.table.now in
+    let known = c.args.table.now.known in
     let wants = c.in_ok-wants.wants.items in
     let bytes = c.in_ok-bounds.bounds in
     let analyzed : IsAnalyzed code known wants bytes =
@@ -23,7 +23,7 @@ returns-then-stack_bytes-from-clause-refused g c =
 pub returns-clause-accepted : goal.returns-clause-accepted
 returns-clause-accepted g c =
     let code = g.C.Code.code c.args.program.now in
-    let known = c.args.table.now in
+    let known = c.args.table.now.known in
     let wants = c.in_ok-wants.wants.items in
     let bytes = c.in_ok-bounds.bounds in
     let analyzed : IsAnalyzed code known wants bytes =

@@ -5,8 +5,8 @@ use Rattle.flow80.proofs.fill.fill.Goals as goal
 
 pub loop-changes-init : goal.loop-changes-init
 loop-changes-init g c = record {
-  small = nothing_small c.args.table.now c.requires;
-  stands = nothing_stands (g.C.Code.code c.args.program.now) c.args.table.now c.requires;
+  small = nothing_small c.args.table.now.known c.requires;
+  stands = nothing_stands (g.C.Code.code c.args.program.now) c.args.table.now.known c.requires;
   closed = λ e. absurd (true≢false e);
 }
 
@@ -16,12 +16,12 @@ sweep-requires g c = c.loop-changes.invariant.small
 pub returns-in_err-changes-clause-refused : goal.returns-in_err-changes-clause-refused
 returns-in_err-changes-clause-refused g c =
     let p = err_from_is_err_and c.from_residual.result c.from_residual.ensures.1 in
-    rw (p.1, p.2) (c.in_err-changes.ensures.looks.refused c.loop-changes.invariant.stands)
+    rw (p.1, p.2) (c.in_err-changes.ensures.sweeps.stands c.loop-changes.invariant.stands)
 
 pub loop-changes-preserved : goal.loop-changes-preserved
 loop-changes-preserved g c = record {
-  small = c.in_ok-changes.ensures.looks.ongoing.small;
-  stands = c.in_ok-changes.ensures.looks.ongoing.stands c.loop-changes.invariant.stands;
+  small = c.in_ok-changes.ensures.sweeps.small;
+  stands = c.in_ok-changes.ensures.sweeps.stands c.loop-changes.invariant.stands;
   closed = c.in_ok-changes.ensures.closed;
 }
 

@@ -4,10 +4,10 @@ use Rattle.flow80.proofs.fill.fill.Given as goal
 
 abbrev pub invariant-loop-changes : goal.invariant-loop-changes
 invariant-loop-changes g l = record {
-  small : IsSmall l.table;
-  stands : Stands (g.C.Code.code l.program) l.table;
-  closed : l.changes ≡ false → AllClosed (g.C.Code.code l.program) l.table;
+  small : IsSmall l.table.known;
+  stands : Stands (g.C.Code.code l.program) l.table.known;
+  closed : l.changes ≡ false → AllClosed (g.C.Code.code l.program) l.table.known;
 }
 
 abbrev pub decreases-loop-changes : goal.decreases-loop-changes
-decreases-loop-changes g l = weight l.table + cond l.changes 1 0
+decreases-loop-changes g l = weight l.table.known + cond l.changes 1 0

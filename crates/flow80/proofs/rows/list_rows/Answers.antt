@@ -4,7 +4,7 @@ use Rattle.flow80.proofs.rows.list_rows.Goals.{then-is_entered+in_ok-push, else-
 
 pub loop-address-preserved : goal.loop-address-preserved
 loop-address-preserved c =
-    let known = c.args.table.now in
+    let known = c.args.table.now.known in
     let wants = c.args.wants.now in
     let bytes = c.args.bounds.now in
     let address = c.loop-address.address in

@@ -13,18 +13,18 @@ pub find_bounds-requires-clause-depths : goal.find_bounds-requires-clause-depths
 find_bounds-requires-clause-depths g c =
     let graph = c.in_ok-graph.graph in
     subst (λ (ds : List Depth). All (λ (d : Depth). IsModest d.depth) ds) (sym c.deref.ensures.value)
-    (modest_depths (g.C.Code.code c.args.program.now) c.args.table.now c.args.wants.now graph.depths.items graph.calls.items c.requires.filled.small c.in_ok-graph.ensures.surveyed)
+    (modest_depths (g.C.Code.code c.args.program.now) c.args.table.now.known c.args.wants.now graph.depths.items graph.calls.items c.requires.filled.small c.in_ok-graph.ensures.surveyed)
 
 pub find_bounds-requires-clause-calls : goal.find_bounds-requires-clause-calls
 find_bounds-requires-clause-calls g c =
     let graph = c.in_ok-graph.graph in
     subst (λ (cs : List CallSite). All (λ (d : CallSite). IsModest d.depth) cs) (sym c.deref-2.ensures.value)
-    (modest_calls (g.C.Code.code c.args.program.now) c.args.table.now c.args.wants.now graph.depths.items graph.calls.items c.requires.filled.small c.in_ok-graph.ensures.surveyed)
+    (modest_calls (g.C.Code.code c.args.program.now) c.args.table.now.known c.args.wants.now graph.depths.items graph.calls.items c.requires.filled.small c.in_ok-graph.ensures.surveyed)
 
 pub returns-in-Ok-clause-bounded : goal.returns-in-Ok-clause-bounded
 returns-in-Ok-clause-bounded g c =
     let code = g.C.Code.code c.args.program.now in
-    let known = c.args.table.now in
+    let known = c.args.table.now.known in
     let depths = c.in_ok-graph.graph.depths.items in
     let calls = c.in_ok-graph.graph.calls.items in
     let survey = c.in_ok-graph.ensures.surveyed in
@@ -44,7 +44,7 @@ returns-in-Err-Recursion-clause-refused g c =
     let code = g.C.Code.code c.args.program.now in
     let depths = c.in_ok-graph.graph.depths.items in
     let calls = c.in_ok-graph.graph.calls.items in
-    let graph = are_graph c.frame_laws.ensures code c.args.table.now c.args.wants.now depths calls c.requires.filled c.in_ok-graph.ensures.surveyed in
+    let graph = are_graph c.frame_laws.ensures code c.args.table.now.known c.args.wants.now depths calls c.requires.filled c.in_ok-graph.ensures.surveyed in
     let handed =
     subst (λ (ds : List Depth). IsGraph code ds c.deref-2.result.now) (sym c.deref.ensures.value)
     (subst (λ (cs : List CallSite). IsGraph code depths cs) (sym c.deref-2.ensures.value) graph) in

@@ -1,71 +1,72 @@
-use Rattle.std.proofs.Common.{◌≡◌, ◌∙◌, sym, subst, arith, length, w64, ℕ, None, Some}
+use Rattle.std.proofs.Common.{◌≡◌, ◌≤◌, ◌<◌, ◌∙◌, ap, sym, subst, inr, refl, arith, length, w64, ℕ, List, None, Some}
 use Rattle.std.specs.Prelude.{slice_index, Option}
 use Rattle.std.proofs.lemmas.Int.{to_z-of_z}
-use Rattle.std.proofs.lemmas.Result.{err_from_is_err_and}
 use Rattle.frames80.specs.StackFrame.{StackFrame}
-use Rattle.frames80.specs.Calls.{room}
+use Rattle.frames80.specs.Calls.{room, depth_of}
+use Rattle.interned80.specs.Admitted.{move_of}
+use Rattle.interned80.specs.Frames.{frame_at}
 use Rattle.bounds80.specs.declared.graph.CallSite.{CallSite}
-use Rattle.flow80.specs.Known.{IsWithin, IsShort}
+use Rattle.flow80.specs.declared.refusal.Refusal.TheVariants.{ShortArguments}
+use Rattle.flow80.specs.Known.{IsShort}
 use Rattle.flow80.specs.Survey.{IsCallOf}
 use Rattle.flow80.proofs.SurveyLemmas.{depth_noted, call_noted, words_enough, short_here}
 use Rattle.flow80.proofs.survey.look_at.Goals as goal
 
-pub depth-depth-requires-clause-taken : goal.depth-depth-requires-clause-taken
-depth-depth-requires-clause-taken g c =
-    let m = c.in_ok-site.ensures.moves in
-    let frame : c.frame-frame.result.now ≡ m.point.frame = rw m.there at c.frame-frame.ensures in
-    let within = subst (λ (f : StackFrame). IsWithin (length c.args.table.now.points) f) (sym frame) (c.requires.small.frames c.args.point m.point m.there) in
-    omega (arith, within.taken, c.requires.small.points)
-
-pub returns-in_err-check_words-clause-refused : goal.returns-in_err-check_words-clause-refused
-returns-in_err-check_words-clause-refused g c =
-    let m = c.in_ok-site.ensures.moves in
-    let frame : c.frame-frame.result.now ≡ m.point.frame = rw m.there at c.frame-frame.ensures in
-    let p = err_from_is_err_and c.from_residual-in_err-check_words.result c.from_residual-in_err-check_words.ensures.1 in
-    rw (p.1, p.2)
-    (short_here c.frame_laws.ensures (g.C.Code.code c.args.program.now) c.args.table.now c.args.wants.now c.args.point c.in_ok-site.site c.in_ok-site.moves c.in-Some.target
-    c.frame-frame.result.now c.in_err-check_words.field-0.0 m frame (sym c.target_of-target.ensures ∙ c.in-Some.is) c.requires.wants
-    (subst (λ n. IsShort c.in_ok-site.site.at (room c.in_ok-site.site.role c.frame-frame.result.now.words) (slice_index c.args.wants.now n) c.in_err-check_words.field-0.0)
-    c.slot.ensures.is c.in_err-check_words.ensures.short))
+pub returns-then-room-wanted-clause-refused : goal.returns-then-room-wanted-clause-refused
+returns-then-room-wanted-clause-refused g c =
+    let table = c.args.table.now in
+    let site = c.in_ok-site.site in
+    let is = c.in_ok-site.ensures.moves in
+    let f = frame_at table.frames site.frame in
+    let has : c.room.result ≡ room site.role f.words = c.room.ensures ∙ ap (λ (fs : List StackFrame). room site.role (frame_at fs site.frame).words) c.frames-2.ensures in
+    let less : room site.role f.words < slice_index c.args.wants.now c.slot.result = omega (arith, has, c.if-room-wanted.true) in
+    short_here c.frame_laws.ensures (g.C.Code.code c.args.program.now) table.known c.args.wants.now c.args.point site (move_of c.in_ok-site.effect f) c.in-Some.target
+    f (ShortArguments site.at) is.move is.framed.is (sym (c.target_of.ensures f) ∙ c.in-Some.is) c.requires.wants
+    (subst (λ n. IsShort site.at (room site.role f.words) (slice_index c.args.wants.now n) (ShortArguments site.at)) c.slot.ensures.is (inr (refl, less)))
 
 pub returns-in_default-clause-seen : goal.returns-in_default-clause-seen
 returns-in_default-clause-seen g c =
     let code = g.C.Code.code c.args.program.now in
-    let m = c.in_ok-site.ensures.moves in
-    let f = c.frame-frame.result.now in
-    let frame : f ≡ m.point.frame = rw m.there at c.frame-frame.ensures in
+    let table = c.args.table.now in
+    let site = c.in_ok-site.site in
+    let is = c.in_ok-site.ensures.moves in
+    let f = frame_at table.frames site.frame in
+    let moves = move_of c.in_ok-site.effect f in
     let depth = c.depth-depth.result in
+    let deep = c.depth-depth.ensures ∙ ap (λ (fs : List StackFrame). depth_of site.role (frame_at fs site.frame)) c.frames.ensures in
     rw (to_z-of_z w64 depth (record { sfits = c.depth-depth.type_inv }))
     (record {
-      site = c.in_ok-site.site;
-      moves = c.in_ok-site.moves;
-      move = m;
-      depth_is = depth_noted code c.args.table.now c.args.point c.in_ok-site.site c.in_ok-site.moves f depth m frame c.depth-depth.ensures;
-      call_is = subst (λ (o : Option ℕ). IsCallOf code c.args.wants.now m.point o None) (sym (sym c.target_of-target.ensures ∙ c.in_default.is)) tt;
+      site = site;
+      moves = moves;
+      move = is.move;
+      depth_is = depth_noted code table.known c.args.point site moves f depth is.move is.framed.is deep;
+      call_is = subst (λ (o : Option ℕ). IsCallOf code c.args.wants.now is.move.point o None) (sym (sym (c.target_of.ensures f) ∙ c.in_default.is)) tt;
     })
 
 pub returns-clause-seen : goal.returns-clause-seen
 returns-clause-seen g c =
     let code = g.C.Code.code c.args.program.now in
-    let known = c.args.table.now in
+    let table = c.args.table.now in
     let wants = c.args.wants.now in
     let i = c.args.point in
     let site = c.in_ok-site.site in
-    let moves = c.in_ok-site.moves in
-    let m = c.in_ok-site.ensures.moves in
-    let f = c.frame-frame.result.now in
-    let frame : f ≡ m.point.frame = rw m.there at c.frame-frame.ensures in
+    let is = c.in_ok-site.ensures.moves in
+    let f = frame_at table.frames site.frame in
+    let moves = move_of c.in_ok-site.effect f in
     let depth = c.depth-depth.result in
+    let deep = c.depth-depth.ensures ∙ ap (λ (fs : List StackFrame). depth_of site.role (frame_at fs site.frame)) c.frames.ensures in
     let target = c.in-Some.target in
     let call : CallSite = record { caller = site.procedure; at = site.at; depth = depth; target = target } in
+    let has : c.room.result ≡ room site.role f.words = c.room.ensures ∙ ap (λ (fs : List StackFrame). room site.role (frame_at fs site.frame).words) c.frames-2.ensures in
+    let enough : slice_index wants c.slot.result ≤ room site.role f.words = omega (arith, has, c.if-room-wanted.false) in
     rw (to_z-of_z w64 depth (record { sfits = c.depth-depth.type_inv }))
     (record {
       site = site;
       moves = moves;
-      move = m;
-      depth_is = depth_noted code known i site moves f depth m frame c.depth-depth.ensures;
-      call_is = subst (λ (o : Option ℕ). IsCallOf code wants m.point o (Some call)) (sym (sym c.target_of-target.ensures ∙ c.in-Some.is)) (
-        call_noted code known i site moves f depth target m frame c.depth-depth.ensures,
-        words_enough code known wants i site moves f target c.slot.result m frame c.slot.ensures.is c.in_ok-check_words.ensures.enough,
+      move = is.move;
+      depth_is = depth_noted code table.known i site moves f depth is.move is.framed.is deep;
+      call_is = subst (λ (o : Option ℕ). IsCallOf code wants is.move.point o (Some call)) (sym (sym (c.target_of.ensures f) ∙ c.in-Some.is)) (
+        call_noted code table.known i site moves f depth target is.move is.framed.is deep,
+        words_enough code table.known wants i site moves f target c.slot.result is.move is.framed.is c.slot.ensures.is enough,
       );
     })

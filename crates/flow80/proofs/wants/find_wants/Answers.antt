@@ -9,18 +9,17 @@ use Rattle.flow80.proofs.wants.find_wants.Goals.{then-taken-index, else-taken-in
 
 pub loop-point-preserved : goal.loop-point-preserved
 loop-point-preserved c =
-    let points = c.args.table.now.points in
+    let points = c.args.table.now.known.points in
     let i = c.loop-point.point in
     let wants = c.loop-point.wants.items in
     let place = c.slot-place.result in
-    let taken = c.behind-table.inside.taken in
+    let taken = c.taken-taken.result in
     let pt = some_at points i (omega (arith, c.len-point-end.ensures.count, c.loop-point-test.true)) in
-    let frame : c.frame.result.now ≡ pt.0.frame = rw pt.1 at c.frame.ensures in
     let procedure : pt.0.procedure ≡ c.procedure.result = rw pt.1 at c.procedure.ensures in
     let at : place ≡ slot_of pt.0.procedure = c.slot-place.ensures.is ∙ sym (ap slot_of procedure) in
     let inside : place < length wants = omega (arith, c.loop-point.invariant.1, c.slot-place.ensures.within) in
     let read = get_or_read wants place c.index.result.now inside c.index.ensures 0 in
-    let is : taken ≡ pt.0.frame.taken = ap (λ (f : StackFrame). f.taken) (c.behind-table.view_is ∙ frame) in
+    let is : taken ≡ pt.0.frame.taken = rw pt.1 at c.taken-taken.ensures in
     elim c.if-taken-index.branch [
       | then-taken-index w ↦
           rw w.wants-is (

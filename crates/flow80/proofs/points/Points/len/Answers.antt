@@ -1,14 +1,14 @@
-use Rattle.std.proofs.Common.{subst}
-use Rattle.flow80.specs.Points.{AreApart, AreAddresses}
+use Rattle.std.proofs.Common.{◌∙◌, ap, subst}
+use Rattle.flow80.specs.Points.{AreApart, AreAddresses, StoredPoints}
 use Rattle.flow80.proofs.PointLemmas.{AreApart-stored, AreAddresses-stored}
 use Rattle.flow80.proofs.points.Points.len.Goals as goal
 
 pub returns-clause-apart : goal.returns-clause-apart
 returns-clause-apart c =
     let fields = c.self.inside in
-    subst AreApart c.self.view_is (AreApart-stored fields.frames fields.stored.items fields.numbers c.self.invariant)
+    subst AreApart (ap (λ (s : StoredPoints). s.points) c.self.view_is) (AreApart-stored fields.frames fields.stored.items fields.numbers c.self.invariant)
 
 pub returns-clause-addresses : goal.returns-clause-addresses
 returns-clause-addresses c =
     let fields = c.self.inside in
-    subst AreAddresses c.self.view_is (AreAddresses-stored fields.frames fields.stored.items fields.numbers c.self.invariant)
+    subst AreAddresses (ap (λ (s : StoredPoints). s.points) c.self.view_is) (AreAddresses-stored fields.frames fields.stored.items fields.numbers c.self.invariant)

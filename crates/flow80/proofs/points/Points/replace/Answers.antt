@@ -1,30 +1,31 @@
-use Rattle.std.proofs.Common.{◌<◌, List, length, slice_set, refl, ap, subst, arith}
+use Rattle.std.proofs.Common.{◌<◌, List, length, slice_set, refl, sym, ap, subst, arith}
 use Rattle.std.proofs.lemmas.List.{length-map}
-use Rattle.std.proofs.lemmas.Option.{slice_get_within, slice_get_read}
+use Rattle.std.proofs.lemmas.Option.{slice_get_read}
+use Rattle.frames80.specs.StackFrame.{StackFrame}
+use Rattle.interned80.specs.Frames.{frame_at}
 use Rattle.flow80.specs.declared.points.StoredPoint.{StoredPoint}
-use Rattle.flow80.specs.Points.{Point, Reframes}
+use Rattle.flow80.specs.Points.{Point, Reframes, StoredPoints}
 use Rattle.flow80.specs.PointStore.{point_of, points_of}
-use Rattle.flow80.proofs.PointLemmas.{points_of-stays, points_of-reframed, AreStored-stays, AreStored-reframed}
+use Rattle.flow80.proofs.PointLemmas.{points_of-reframed, AreStored-reframed}
 use Rattle.flow80.proofs.points.Points.replace.Goals as goal
 
-pub invariant_of-self-2 : goal.invariant_of-self-2
-invariant_of-self-2 c =
+pub invariant_of-self : goal.invariant_of-self
+invariant_of-self c =
     let fields = c.self.inside in
     let point = c.index_mut.result.now in
-    let next : StoredPoint = record { procedure = point.procedure; at = point.at; frame = c.in_ok-frame.frame } in
-    let before = AreStored-stays fields.frames c.intern.new.self c.intern.ensures.stays fields.stored.items fields.numbers c.self.invariant in
-    let within : c.args.i < length fields.stored.items = omega (arith, ap length c.self.view_is, length-map fields.stored.items (point_of fields.frames)) in
+    let next : StoredPoint = record { procedure = point.procedure; at = point.at; frame = c.args.frame } in
+    let within : c.args.i < length fields.stored.items = omega (arith, ap (λ (s : StoredPoints). length s.points) c.self.view_is, length-map fields.stored.items (point_of fields.frames)) in
     let there = slice_get_read fields.stored.items (length fields.stored.items) c.args.i point refl within c.index_mut.ensures.value in
-    let framed = slice_get_within c.intern.new.self c.in_ok-frame.frame c.args.frame c.in_ok-frame.ensures.number in
-    AreStored-reframed c.intern.new.self fields.stored.items fields.numbers before c.args.i point next there refl refl framed
+    let frames = ap (λ (s : StoredPoints). s.frames) c.self.view_is in
+    let framed = subst (λ (fs : List StackFrame). c.args.frame < length fs) (sym frames) c.requires.there in
+    AreStored-reframed fields.frames fields.stored.items fields.numbers c.self.invariant c.args.i point next there refl refl framed
 
 pub returns-clause-reframed : goal.returns-clause-reframed
 returns-clause-reframed c =
     let fields = c.self.inside in
     let point = c.index_mut.result.now in
-    let next : StoredPoint = record { procedure = point.procedure; at = point.at; frame = c.in_ok-frame.frame } in
-    let same = points_of-stays fields.frames c.intern.new.self c.intern.ensures.stays fields.stored.items c.self.invariant.framed in
-    let within : c.args.i < length fields.stored.items = omega (arith, ap length c.self.view_is, length-map fields.stored.items (point_of fields.frames)) in
+    let next : StoredPoint = record { procedure = point.procedure; at = point.at; frame = c.args.frame } in
+    let within : c.args.i < length fields.stored.items = omega (arith, ap (λ (s : StoredPoints). length s.points) c.self.view_is, length-map fields.stored.items (point_of fields.frames)) in
     let there = slice_get_read fields.stored.items (length fields.stored.items) c.args.i point refl within c.index_mut.ensures.value in
-    subst (λ (points : List Point). Reframes points (points_of c.intern.new.self (slice_set fields.stored.items c.args.i next)) c.args.i c.args.frame) c.self.view_is
-    (points_of-reframed c.intern.new.self fields.stored.items next c.args.frame c.in_ok-frame.ensures.number fields.frames c.args.i point same there refl refl)
+    subst (λ (s : StoredPoints). Reframes s.points (points_of fields.frames (slice_set fields.stored.items c.args.i next)) c.args.i (frame_at s.frames c.args.frame)) c.self.view_is
+    (points_of-reframed fields.frames fields.stored.items next c.args.i point there refl refl)

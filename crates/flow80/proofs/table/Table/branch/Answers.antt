@@ -3,37 +3,50 @@ use Rattle.std.specs.Prelude.{refl}
 use Rattle.std.proofs.lemmas.Result.{err_from_is_err_and}
 use Rattle.frames80.specs.StackFrame.{StackFrame}
 use Rattle.frames80.specs.declared.moves.Moves.TheVariants.{Either}
-use Rattle.flow80.specs.Known.{Flows}
+use Rattle.interned80.specs.Frames.{frame_at}
+use Rattle.flow80.specs.Known.{Flows, IsWithin}
+use Rattle.flow80.proofs.FrameLemmas.{stays_there, stays_at}
+use Rattle.flow80.proofs.VisitLemmas.{more_within}
 use Rattle.flow80.proofs.StepLemmas.{steps_first_refused, steps_both}
 use Rattle.flow80.proofs.table.Table.branch.Goals as goal
 
-pub returns-in_err-one : goal.returns-in_err-one
-returns-in_err-one c targets =
-    let p = err_from_is_err_and c.from_residual-in_err-one.result c.from_residual-in_err-one.ensures.1 in
-    let laws = c.frame_laws.ensures in
-    let known = c.args.self.now in
-    let s = c.args.site.now in
-    let first : Flows known c.flow.new.self s.procedure s.next c.args.frame (Err c.in_err-one.field-0.0) =
-    subst (λ (g : StackFrame). Flows known c.flow.new.self s.procedure s.next g (Err c.in_err-one.field-0.0)) c.in_ok-copy.ensures c.in_err-one.ensures in
-    rw (p.1, p.2) (steps_first_refused laws known c.flow.new.self s.procedure s.at targets s.next s.next s.role (Either c.args.frame c.args.to) c.args.frame c.in_err-one.field-0.0 (inl refl, refl) first c.flow.new.self)
+pub flow-requires-2-clause-there : goal.flow-requires-2-clause-there
+flow-requires-2-clause-there c = stays_there c.args.self.now.frames c.flow.new.self.frames c.in_ok-one.ensures.stays c.args.site.now.frame c.requires.there
 
-pub returns-in_err-other : goal.returns-in_err-other
-returns-in_err-other c targets =
-    let p = err_from_is_err_and c.from_residual-in_err-other.result c.from_residual-in_err-other.ensures.1 in
-    let laws = c.frame_laws.ensures in
-    let known = c.args.self.now in
+pub flow-requires-2-clause-fits : goal.flow-requires-2-clause-fits
+flow-requires-2-clause-fits c =
+    let table = c.args.self.now in
+    let mid = c.flow.new.self in
+    rw (stays_at table.frames mid.frames c.in_ok-one.ensures.stays c.args.site.now.frame c.requires.there)
+    (more_within _ _ (frame_at table.frames c.args.site.now.frame) c.in_ok-one.ensures.flows.more c.requires.fits)
+
+pub returns-in_err-one-clause-steps : goal.returns-in_err-one-clause-steps
+returns-in_err-one-clause-steps c targets =
+    let p = err_from_is_err_and c.from_residual.result c.from_residual.ensures.1 in
+    let table = c.args.self.now in
     let s = c.args.site.now in
-    let first : Flows known c.flow.new.self s.procedure s.next c.args.frame (Ok c.in_ok-one.one) =
-    subst (λ (g : StackFrame). Flows known c.flow.new.self s.procedure s.next g (Ok c.in_ok-one.one)) c.in_ok-copy.ensures c.in_ok-one.ensures in
-    rw (p.1, p.2) (steps_both laws known c.flow.new.self c.flow-2.new.self s.procedure s.at targets s.next c.args.to s.role c.args.frame c.in_ok-one.one (Err c.in_err-other.field-0.0) first c.in_err-other.ensures
+    let f = frame_at table.frames s.frame in
+    rw (p.1, p.2) (steps_first_refused c.frame_laws.ensures table.known c.flow.new.self.known s.procedure s.at targets s.next s.next s.role (Either f c.args.to) f c.in_err-one.field-0.0 (inl refl, refl) c.in_err-one.ensures.flows c.flow.new.self.known)
+
+pub returns-in_err-other-clause-steps : goal.returns-in_err-other-clause-steps
+returns-in_err-other-clause-steps c targets =
+    let p = err_from_is_err_and c.from_residual-in_err-other.result c.from_residual-in_err-other.ensures.1 in
+    let table = c.args.self.now in
+    let mid = c.flow.new.self in
+    let s = c.args.site.now in
+    let f = frame_at table.frames s.frame in
+    let second : Flows mid.known c.flow-2.new.self.known s.procedure c.args.to f (Err c.in_err-other.field-0.0) =
+    subst (λ (g : StackFrame). Flows mid.known c.flow-2.new.self.known s.procedure c.args.to g (Err c.in_err-other.field-0.0)) (stays_at table.frames mid.frames c.in_ok-one.ensures.stays s.frame c.requires.there) c.in_err-other.ensures.flows in
+    rw (p.1, p.2) (steps_both c.frame_laws.ensures table.known mid.known c.flow-2.new.self.known s.procedure s.at targets s.next c.args.to s.role f c.in_ok-one.one (Err c.in_err-other.field-0.0) c.in_ok-one.ensures.flows second
     (Err c.in_err-other.field-0.0) (λ x same. cc) (λ r same. same))
 
-pub returns : goal.returns
-returns c targets =
-    let laws = c.frame_laws.ensures in
-    let known = c.args.self.now in
+pub returns-clause-steps : goal.returns-clause-steps
+returns-clause-steps c targets =
+    let table = c.args.self.now in
+    let mid = c.flow.new.self in
     let s = c.args.site.now in
-    let first : Flows known c.flow.new.self s.procedure s.next c.args.frame (Ok c.in_ok-one.one) =
-    subst (λ (g : StackFrame). Flows known c.flow.new.self s.procedure s.next g (Ok c.in_ok-one.one)) c.in_ok-copy.ensures c.in_ok-one.ensures in
-    steps_both laws known c.flow.new.self c.flow-2.new.self s.procedure s.at targets s.next c.args.to s.role c.args.frame c.in_ok-one.one (Ok c.in_ok-other.other) first c.in_ok-other.ensures
+    let f = frame_at table.frames s.frame in
+    let second : Flows mid.known c.flow-2.new.self.known s.procedure c.args.to f (Ok c.in_ok-other.other) =
+    subst (λ (g : StackFrame). Flows mid.known c.flow-2.new.self.known s.procedure c.args.to g (Ok c.in_ok-other.other)) (stays_at table.frames mid.frames c.in_ok-one.ensures.stays s.frame c.requires.there) c.in_ok-other.ensures.flows in
+    steps_both c.frame_laws.ensures table.known mid.known c.flow-2.new.self.known s.procedure s.at targets s.next c.args.to s.role f c.in_ok-one.one (Ok c.in_ok-other.other) c.in_ok-one.ensures.flows second
     (Ok (c.in_ok-one.one || c.in_ok-other.other)) (λ x same. cc) (λ r same. cc)

@@ -3,35 +3,47 @@ use Rattle.std.specs.Prelude.{refl}
 use Rattle.std.proofs.lemmas.Result.{err_from_is_err_and}
 use Rattle.frames80.specs.StackFrame.{StackFrame}
 use Rattle.frames80.specs.declared.moves.Moves.TheVariants.{MaybeCall}
-use Rattle.flow80.specs.Known.{Flows}
+use Rattle.interned80.specs.Frames.{frame_at}
+use Rattle.flow80.specs.Known.{CallsOut}
+use Rattle.flow80.proofs.FrameLemmas.{stays_there, stays_at}
+use Rattle.flow80.proofs.VisitLemmas.{within_more}
 use Rattle.flow80.proofs.StepLemmas.{steps_first_refused, steps_maybe_call, steps_maybe_call_refused}
 use Rattle.flow80.proofs.table.Table.call_if.Goals as goal
 
-pub returns-in_err-one : goal.returns-in_err-one
-returns-in_err-one c targets =
-    let p = err_from_is_err_and c.from_residual-in_err-one.result c.from_residual-in_err-one.ensures.1 in
-    let laws = c.frame_laws.ensures in
-    let known = c.args.self.now in
-    let s = c.args.site.now in
-    let first : Flows known c.flow.new.self s.procedure s.next c.args.frame (Err c.in_err-one.field-0.0) =
-    subst (λ (g : StackFrame). Flows known c.flow.new.self s.procedure s.next g (Err c.in_err-one.field-0.0)) c.in_ok-copy.ensures c.in_err-one.ensures in
-    rw (p.1, p.2) (steps_first_refused laws known c.flow.new.self s.procedure s.at targets s.next s.next s.role (MaybeCall c.args.frame c.args.target) c.args.frame c.in_err-one.field-0.0 (refl, refl) first c.flow.new.self)
+pub call-requires-clause-there : goal.call-requires-clause-there
+call-requires-clause-there c = stays_there c.args.self.now.frames c.flow.new.self.frames c.in_ok-one.ensures.stays c.args.site.now.frame c.requires.there
 
-pub returns-in_err-other : goal.returns-in_err-other
-returns-in_err-other c targets =
+pub call-requires-clause-fits : goal.call-requires-clause-fits
+call-requires-clause-fits c =
+    let table = c.args.self.now in
+    rw (stays_at table.frames c.flow.new.self.frames c.in_ok-one.ensures.stays c.args.site.now.frame c.requires.there)
+    (within_more _ _ (frame_at table.frames c.args.site.now.frame) c.in_ok-one.ensures.flows.more c.requires.fits)
+
+pub returns-in_err-one-clause-steps : goal.returns-in_err-one-clause-steps
+returns-in_err-one-clause-steps c targets =
+    let p = err_from_is_err_and c.from_residual.result c.from_residual.ensures.1 in
+    let table = c.args.self.now in
+    let s = c.args.site.now in
+    let f = frame_at table.frames s.frame in
+    rw (p.1, p.2) (steps_first_refused c.frame_laws.ensures table.known c.flow.new.self.known s.procedure s.at targets s.next s.next s.role (MaybeCall f c.args.target) f c.in_err-one.field-0.0 (refl, refl) c.in_err-one.ensures.flows c.flow.new.self.known)
+
+pub returns-in_err-other-clause-steps : goal.returns-in_err-other-clause-steps
+returns-in_err-other-clause-steps c targets =
     let p = err_from_is_err_and c.from_residual-in_err-other.result c.from_residual-in_err-other.ensures.1 in
-    let laws = c.frame_laws.ensures in
-    let known = c.args.self.now in
+    let table = c.args.self.now in
+    let mid = c.flow.new.self in
     let s = c.args.site.now in
-    let first : Flows known c.flow.new.self s.procedure s.next c.args.frame (Ok c.in_ok-one.one) =
-    subst (λ (g : StackFrame). Flows known c.flow.new.self s.procedure s.next g (Ok c.in_ok-one.one)) c.in_ok-copy.ensures c.in_ok-one.ensures in
-    rw (p.1, p.2) (steps_maybe_call_refused laws known c.flow.new.self c.call.new.self s.procedure s.at targets s.next s.role c.args.frame c.args.target c.in_ok-one.one c.in_err-other.field-0.0 first c.in_err-other.ensures)
+    let f = frame_at table.frames s.frame in
+    let calls : CallsOut mid.known c.call.new.self.known s.procedure s.at s.next s.role f c.args.target (Err c.in_err-other.field-0.0) =
+    subst (λ (g : StackFrame). CallsOut mid.known c.call.new.self.known s.procedure s.at s.next s.role g c.args.target (Err c.in_err-other.field-0.0)) (stays_at table.frames mid.frames c.in_ok-one.ensures.stays s.frame c.requires.there) c.in_err-other.ensures.calls in
+    rw (p.1, p.2) (steps_maybe_call_refused c.frame_laws.ensures table.known mid.known c.call.new.self.known s.procedure s.at targets s.next s.role f c.args.target c.in_ok-one.one c.in_err-other.field-0.0 c.in_ok-one.ensures.flows calls)
 
-pub returns : goal.returns
-returns c targets =
-    let laws = c.frame_laws.ensures in
-    let known = c.args.self.now in
+pub returns-clause-steps : goal.returns-clause-steps
+returns-clause-steps c targets =
+    let table = c.args.self.now in
+    let mid = c.flow.new.self in
     let s = c.args.site.now in
-    let first : Flows known c.flow.new.self s.procedure s.next c.args.frame (Ok c.in_ok-one.one) =
-    subst (λ (g : StackFrame). Flows known c.flow.new.self s.procedure s.next g (Ok c.in_ok-one.one)) c.in_ok-copy.ensures c.in_ok-one.ensures in
-    steps_maybe_call laws known c.flow.new.self c.call.new.self s.procedure s.at targets s.next s.role c.args.frame c.args.target c.in_ok-one.one c.in_ok-other.other first c.in_ok-other.ensures
+    let f = frame_at table.frames s.frame in
+    let calls : CallsOut mid.known c.call.new.self.known s.procedure s.at s.next s.role f c.args.target (Ok c.in_ok-other.other) =
+    subst (λ (g : StackFrame). CallsOut mid.known c.call.new.self.known s.procedure s.at s.next s.role g c.args.target (Ok c.in_ok-other.other)) (stays_at table.frames mid.frames c.in_ok-one.ensures.stays s.frame c.requires.there) c.in_ok-other.ensures.calls in
+    steps_maybe_call c.frame_laws.ensures table.known mid.known c.call.new.self.known s.procedure s.at targets s.next s.role f c.args.target c.in_ok-one.one c.in_ok-other.other c.in_ok-one.ensures.flows calls

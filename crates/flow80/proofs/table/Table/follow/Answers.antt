@@ -1,49 +1,65 @@
-use Rattle.std.proofs.Common.{sym, subst}
+use Rattle.std.proofs.Common.{◌≡◌, ◌∙◌, ℕ, List, ap, sym, subst}
+use Rattle.frames80.specs.StackFrame.{StackFrame}
+use Rattle.frames80.specs.Moves.{changed}
+use Rattle.frames80.specs.declared.effect.Effect.{Effect}
 use Rattle.frames80.specs.declared.moves.Moves.{Moves}
-use Rattle.frames80.specs.declared.moves.Moves.TheVariants.{On, Jump}
-use Rattle.flow80.specs.Known.{Steps}
-use Rattle.flow80.proofs.StepLemmas.{steps_one, on_way, jump_way, steps_call, steps_return}
+use Rattle.frames80.specs.declared.moves.Moves.TheVariants.{On, Jump, Return, MaybeReturn}
+use Rattle.interned80.specs.Admitted.{move_of}
+use Rattle.interned80.specs.Frames.{frame_at}
+use Rattle.flow80.specs.Known.{KnownFrames, Steps}
+use Rattle.flow80.proofs.StepLemmas.{steps_one, on_way, jump_way, steps_return}
 use Rattle.flow80.proofs.table.Table.follow.Goals as goal
 
-pub returns-in-On : goal.returns-in-On
-returns-in-On c =
+pub returns-in-Change : goal.returns-in-Change
+returns-in-Change c =
+    let table = c.args.self.now in
     let s = c.args.site.now in
-    subst (λ (m : Moves). Steps c.args.self.now c.flow.new.self s.procedure s.at c.args.targets.now s.next s.role m c.flow.result) (sym c.in-On.is)
-    (steps_one c.frame_laws.ensures c.args.self.now c.flow.new.self s.procedure s.at c.args.targets.now s.next s.next s.role (On c.in-On.frame) c.in-On.frame c.flow.result (on_way c.in-On.frame c.args.targets.now s.next) c.flow.ensures)
+    let f = frame_at table.frames s.frame in
+    let after = changed c.in-Change.change f in
+    subst (λ (e : Effect). Steps table.known c.go_on.new.self.known s.procedure s.at c.args.targets.now s.next s.role (move_of e f) c.go_on.result) (sym c.in-Change.is)
+    (steps_one c.frame_laws.ensures table.known c.go_on.new.self.known s.procedure s.at c.args.targets.now s.next s.next s.role (On after) after c.go_on.result (on_way after c.args.targets.now s.next) c.go_on.ensures.flows)
 
 pub returns-in-Jump : goal.returns-in-Jump
 returns-in-Jump c =
+    let table = c.args.self.now in
     let s = c.args.site.now in
-    subst (λ (m : Moves). Steps c.args.self.now c.flow-in-Jump.new.self s.procedure s.at c.args.targets.now s.next s.role m c.flow-in-Jump.result) (sym c.in-Jump.is)
-    (steps_one c.frame_laws.ensures c.args.self.now c.flow-in-Jump.new.self s.procedure s.at c.args.targets.now s.next c.in-Jump.to s.role (Jump c.in-Jump.frame c.in-Jump.to) c.in-Jump.frame c.flow-in-Jump.result
-    (jump_way c.in-Jump.frame c.args.targets.now s.next c.in-Jump.to) c.flow-in-Jump.ensures)
+    let f = frame_at table.frames s.frame in
+    subst (λ (e : Effect). Steps table.known c.flow.new.self.known s.procedure s.at c.args.targets.now s.next s.role (move_of e f) c.flow.result) (sym c.in-Jump.is)
+    (steps_one c.frame_laws.ensures table.known c.flow.new.self.known s.procedure s.at c.args.targets.now s.next c.in-Jump.to s.role (Jump f c.in-Jump.to) f c.flow.result
+    (jump_way f c.args.targets.now s.next c.in-Jump.to) c.flow.ensures.flows)
 
-pub returns-in-Call : goal.returns-in-Call
-returns-in-Call c =
+pub returns-in-JumpIf : goal.returns-in-JumpIf
+returns-in-JumpIf c =
+    let table = c.args.self.now in
     let s = c.args.site.now in
-    subst (λ (m : Moves). Steps c.args.self.now c.call.new.self s.procedure s.at c.args.targets.now s.next s.role m c.call.result) (sym c.in-Call.is)
-    (steps_call c.args.self.now c.call.new.self s.procedure s.at c.args.targets.now s.next s.role c.in-Call.frame c.in-Call.target c.call.result c.call.ensures)
+    subst (λ (e : Effect). Steps table.known c.branch-self.new.self.known s.procedure s.at c.args.targets.now s.next s.role (move_of e (frame_at table.frames s.frame)) c.branch-self.result) (sym c.in-JumpIf.is)
+    (c.branch-self.ensures.steps c.args.targets.now)
+
+pub returns-in-CallIf : goal.returns-in-CallIf
+returns-in-CallIf c =
+    let table = c.args.self.now in
+    let s = c.args.site.now in
+    subst (λ (e : Effect). Steps table.known c.call_if.new.self.known s.procedure s.at c.args.targets.now s.next s.role (move_of e (frame_at table.frames s.frame)) c.call_if.result) (sym c.in-CallIf.is)
+    (c.call_if.ensures.steps c.args.targets.now)
 
 pub returns-in-Return : goal.returns-in-Return
 returns-in-Return c =
+    let table = c.args.self.now in
     let s = c.args.site.now in
-    subst (λ (m : Moves). Steps c.args.self.now c.exit.new.self s.procedure s.at c.args.targets.now s.next s.role m c.exit.result) (sym c.in-Return.is)
-    (steps_return c.frame_laws.ensures c.args.self.now c.exit.new.self s.procedure s.at c.args.targets.now s.next s.role c.in-Return.taken c.exit.result c.exit.ensures)
+    let f = frame_at table.frames s.frame in
+    let taken = c.taken-taken.result in
+    let is : taken ≡ f.taken = c.taken-taken.ensures ∙ ap (λ (fs : List StackFrame). (frame_at fs s.frame).taken) (c.frames.ensures ∙ ap (λ (t : KnownFrames). t.frames) c.self.view_is) in
+    subst (λ (e : Effect). Steps table.known c.exit.new.self.known s.procedure s.at c.args.targets.now s.next s.role (move_of e f) c.exit.result) (sym c.in-Return.is)
+    (subst (λ (n : ℕ). Steps table.known c.exit.new.self.known s.procedure s.at c.args.targets.now s.next s.role (Return n) c.exit.result) is
+    (steps_return c.frame_laws.ensures table.known c.exit.new.self.known s.procedure s.at c.args.targets.now s.next s.role taken c.exit.result c.exit.ensures.exits))
 
-pub returns-in-Either : goal.returns-in-Either
-returns-in-Either c =
+pub returns-in-ReturnIf : goal.returns-in-ReturnIf
+returns-in-ReturnIf c =
+    let table = c.args.self.now in
     let s = c.args.site.now in
-    subst (λ (m : Moves). Steps c.args.self.now c.branch-self.new.self s.procedure s.at c.args.targets.now s.next s.role m c.branch-self.result) (sym c.in-Either.is)
-    (c.branch-self.ensures c.args.targets.now)
-
-pub returns-in-MaybeCall : goal.returns-in-MaybeCall
-returns-in-MaybeCall c =
-    let s = c.args.site.now in
-    subst (λ (m : Moves). Steps c.args.self.now c.call_if.new.self s.procedure s.at c.args.targets.now s.next s.role m c.call_if.result) (sym c.in-MaybeCall.is)
-    (c.call_if.ensures c.args.targets.now)
-
-pub returns-in-MaybeReturn : goal.returns-in-MaybeReturn
-returns-in-MaybeReturn c =
-    let s = c.args.site.now in
-    subst (λ (m : Moves). Steps c.args.self.now c.return_if.new.self s.procedure s.at c.args.targets.now s.next s.role m c.return_if.result) (sym c.in-MaybeReturn.is)
-    (c.return_if.ensures c.args.targets.now)
+    let f = frame_at table.frames s.frame in
+    let taken = c.taken-taken-in-ReturnIf.result in
+    let is : taken ≡ f.taken = c.taken-taken-in-ReturnIf.ensures ∙ ap (λ (fs : List StackFrame). (frame_at fs s.frame).taken) (c.frames-in-ReturnIf.ensures ∙ ap (λ (t : KnownFrames). t.frames) c.self-in-ReturnIf.view_is) in
+    subst (λ (e : Effect). Steps table.known c.return_if.new.self.known s.procedure s.at c.args.targets.now s.next s.role (move_of e f) c.return_if.result) (sym c.in-ReturnIf.is)
+    (subst (λ (n : ℕ). Steps table.known c.return_if.new.self.known s.procedure s.at c.args.targets.now s.next s.role (MaybeReturn f n) c.return_if.result) is
+    (c.return_if.ensures.steps c.args.targets.now))

@@ -2,12 +2,12 @@ use Rattle.std.proofs.Common.{◌≡◌, ap, subst, List}
 use Rattle.std.specs.Prelude.{IfSome}
 use Rattle.bounds80.specs.declared.procedure.Procedure.TheVariants.{Entry}
 use Rattle.flow80.specs.Points.{Point, IsPointAt}
-use Rattle.flow80.specs.Known.{Known}
+use Rattle.flow80.specs.Known.{KnownFrames}
 use Rattle.flow80.proofs.SurveyLemmas.{entered_there}
 use Rattle.flow80.proofs.table.Table.is_entered.Goals as goal
 
 pub returns-clause-yes : goal.returns-clause-yes
 returns-clause-yes c =
-    let points : c.self.inside.points ≡ c.args.self.now.points = ap (λ (k : Known). k.points) c.self.view_is in
-    entered_there c.args.self.now c.args.entry c.position.result c.is_some.result c.is_some.ensures
+    let points : c.self.inside.points.points ≡ c.args.self.now.known.points = ap (λ (t : KnownFrames). t.known.points) c.self.view_is in
+    entered_there c.args.self.now.known c.args.entry c.position.result c.is_some.result c.is_some.ensures
     (subst (λ (ps : List Point). IfSome c.position.result (λ i. IsPointAt ps (Entry c.args.entry) c.args.entry i)) points c.position.ensures.found)

@@ -1,14 +1,16 @@
-use Rattle.std.proofs.lemmas.Result.{err_from_is_err_and}
-use Rattle.flow80.proofs.VisitLemmas.{visits_moves, visits_refused}
+use Rattle.flow80.proofs.VisitLemmas.{visits_moves}
+use Rattle.interned80.specs.Admitted.{move_of}
+use Rattle.interned80.specs.Frames.{frame_at}
 use Rattle.flow80.proofs.table.Table.visit.Goals as goal
 
-pub returns-in_err-site : goal.returns-in_err-site
-returns-in_err-site g c =
-    let p = err_from_is_err_and c.from_residual.result c.from_residual.ensures.1 in
-    rw (p.1, p.2)
-    (visits_refused (g.C.Code.code c.args.program.now) c.args.self.now c.args.self.now c.args.point c.in_err-site.field-0.0 c.in_err-site.ensures.refused)
+pub follow-requires-clause-fits : goal.follow-requires-clause-fits
+follow-requires-clause-fits g c =
+    let is = c.in_ok-site.ensures.moves in
+    rw is.framed.is (c.requires.small.frames c.args.point is.move.point is.move.there)
 
 pub returns : goal.returns
 returns g c =
-    visits_moves (g.C.Code.code c.args.program.now) c.args.self.now c.follow.new.self c.args.point c.in_ok-site.site c.targets.result.now c.in_ok-site.moves c.follow.result
-    c.in_ok-site.ensures.moves c.targets.ensures c.follow.ensures
+    let table = c.args.self.now in
+    let site = c.in_ok-site.site in
+    visits_moves (g.C.Code.code c.args.program.now) table.known c.follow.new.self.known c.args.point site c.targets.result.now (move_of c.in_ok-site.effect (frame_at table.frames site.frame)) c.follow.result
+    c.in_ok-site.ensures.moves.move c.targets.ensures c.follow.ensures

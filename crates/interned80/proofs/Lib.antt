@@ -1,0 +1,7 @@
+pub mod ListLemmas
+pub mod LinkEquality
+pub mod StackLemmas
+pub mod MeetLemmas
+pub mod KeptEquality
+pub mod FrameLemmas
+pub mod Depths

@@ -1,0 +1,60 @@
+-- Words that meet from the top down.
+use Rattle.std.specs.Prelude.{◌≡◌, ℕ, ◌<◌, Bool, true, false, ◌||◌, ◌&&◌, ◌↔◌, nat_eq, List, [], ◌∷◌, ◌++◌, suc, length, refl}
+use Rattle.std.proofs.Common.{sym, ◌∙◌, ap, arith}
+use Rattle.std.specs.Cmp.{unsigned_Decides, first_so, second_so}
+use Rattle.std.proofs.lemmas.List.{append_assoc}
+use Rattle.frames80.specs.declared.word.Word.{Word}
+use Rattle.frames80.specs.declared.word.Word.TheVariants.{Own, Any}
+use Rattle.frames80.specs.Word.{met}
+use Rattle.frames80.specs.Calls.{words_met, agree, merged}
+use Rattle.frames80.specs.StackFrame.{StackFrame}
+use Rattle.interned80.specs.Meets.{IsWalk}
+
+met-self : (w : Word) → met w w ≡ w
+met-self Own = refl
+met-self Any = refl
+
+-- a list that meets itself is unchanged
+pub words_met-self : (words : List Word) → words_met words words ≡ words
+words_met-self [] = refl
+words_met-self (w ∷ words) = let a = met-self w in let e = words_met-self words in cc
+
+both_false : (p q : Bool) → (p || q) ≡ false → (p ≡ false) × (q ≡ false)
+both_false true q no_ = absurd (let e : true ≡ false = no_ in cc)
+both_false false q no_ = (refl, no_)
+
+neither : (p q : Bool) → p ≡ false → q ≡ false → (p || q) ≡ false
+neither p q e f = rw (e, f) refl
+
+-- nothing has met yet
+pub walk_start : (one other : List Word) → length one ≡ length other → IsWalk one other [] false one other
+walk_start one other even = record {
+  even = even;
+  met_so_far = refl;
+  unchanged = λ _ same. same;
+  same = λ _. refl;
+  same_rest = λ same. same;
+}
+
+-- one more pair of words meets
+module _ (one other met_words rest beside : List Word) (changed differs : Bool) (x y w : Word) (xs ys : List Word) (h : IsWalk one other met_words changed rest beside) (ex : rest ≡ x ∷ xs) (ey : beside ≡ y ∷ ys) (is : w ≡ met x y)
+    (tells : (differs ≡ false) ↔ (w ≡ x)) where
+  step : words_met rest beside ≡ w ∷ words_met xs ys
+  step = rw (ex, ey, is) refl
+
+  heads : words_met one other ≡ one → (w ≡ x) × (words_met xs ys ≡ xs)
+  heads same =
+      let e : w ∷ words_met xs ys ≡ x ∷ xs = sym step ∙ h.same_rest same ∙ ex in
+      (cc, cc)
+
+  pub walk_on : IsWalk one other (met_words ++ w ∷ []) (changed || differs) xs ys
+  walk_on = record {
+    even = let e = h.even in let a = ap length ex in let b = ap length ey in omega arith;
+    met_so_far = h.met_so_far ∙ ap (λ ws. met_words ++ ws) step ∙ sym (append_assoc met_words (w ∷ []) (words_met xs ys));
+    unchanged = λ none same.
+        let both = both_false changed differs none in
+        let e : w ≡ x = tells.0 both.1 in
+        h.unchanged both.0 (step ∙ (let f = same in cc) ∙ sym ex);
+    same = λ same. neither changed differs (h.same same) (tells.1 (heads same).0);
+    same_rest = λ same. (heads same).1;
+  }

@@ -1,0 +1,31 @@
+use Rattle.std.proofs.Common.{◌≡◌, ◌<◌, ℕ, ◌+◌, suc, List, length, ap, subst, sym, ◌∙◌, arith}
+use Rattle.frames80.specs.declared.word.Word.{Word}
+use Rattle.interned80.specs.Stacks.{words_at}
+use Rattle.interned80.specs.declared.link.Link.{Link}
+use Rattle.interned80.proofs.StackLemmas.{short, length-stacks_of, AreLinks-inserted, stays-inserted, stack-inserted}
+use Rattle.interned80.proofs.stacks.Stacks.push.Goals as goal
+
+pub overflow_add-link : goal.overflow_add-link
+overflow_add-link c =
+    let e : length c.args.self.now ≡ suc (length c.self.inside.links.keys) = ap length (sym c.self.view_is) ∙ length-stacks_of c.self.inside.links.keys in
+    let s : length (words_at c.args.self.now c.args.below) < length c.args.self.now = subst (λ (s : List (List Word)). length (words_at s c.args.below) < length s) c.self.view_is (short c.self.inside.links.keys c.args.below) in
+    omega (arith, c.height-height.ensures, c.len.ensures.len)
+
+pub invariant_of-self-2 : goal.invariant_of-self-2
+invariant_of-self-2 c =
+    let link : Link = record { below = c.args.below; word = c.args.word; height = c.height-height.result + 1 } in
+    let high = ap (λ n. n + 1) c.height-height.ensures in
+    AreLinks-inserted c.self.inside.links.keys c.insert_full.new.self.keys c.args.self.now link c.self.view_is c.requires high c.in_ok-index.ensures.keys c.self.invariant
+
+pub returns-clause-pushed : goal.returns-clause-pushed
+returns-clause-pushed c =
+    let link : Link = record { below = c.args.below; word = c.args.word; height = c.height-height.result + 1 } in
+    let high = ap (λ n. n + 1) c.height-height.ensures in
+    let stored = c.in_ok-index.ensures.stored in
+    stack-inserted c.self.inside.links.keys c.insert_full.new.self.keys c.args.self.now link c.self.view_is c.requires high c.in_ok-index.ensures.keys c.self.invariant c.in_ok-index.index stored.0 stored.1 stored.2
+
+pub returns-clause-stays : goal.returns-clause-stays
+returns-clause-stays c =
+    let link : Link = record { below = c.args.below; word = c.args.word; height = c.height-height.result + 1 } in
+    let high = ap (λ n. n + 1) c.height-height.ensures in
+    stays-inserted c.self.inside.links.keys c.insert_full.new.self.keys c.args.self.now link c.self.view_is c.requires high c.in_ok-index.ensures.keys

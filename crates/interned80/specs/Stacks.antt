@@ -1,0 +1,37 @@
+-- Stacks of words by number, top first, as links make them. (This project's own.)
+use Rattle.std.specs.Prelude.{◌≡◌, ◌<◌, ◌≤◌, ℕ, suc, List, [], ◌∷◌, ◌++◌, Some, length, slice_get, slice_index_or}
+use Rattle.frames80.specs.declared.word.Word.{Word}
+use Rattle.interned80.specs.declared.link.Link.{Link}
+
+-- the words of a number
+abbrev pub words_at : List (List Word) → ℕ → List Word
+words_at stacks number = slice_index_or stacks number []
+
+-- the stacks when each link in turn has added its word on top of a stack before it
+abbrev pub stacks_after : List (List Word) → List Link → List (List Word)
+stacks_after stacks [] = stacks
+stacks_after stacks (link ∷ links) = stacks_after (stacks ++ (link.word ∷ words_at stacks link.below) ∷ []) links
+
+-- the first stack has no words
+abbrev pub stacks_of : List Link → List (List Word)
+stacks_of links = stacks_after ([] ∷ []) links
+
+-- a number has these words
+pub record IsStack (stacks : List (List Word)) (number : ℕ) (words : List Word) : Type 0 where
+  pub there : number < length stacks
+  pub is : words_at stacks number ≡ words
+
+-- each stack has the number that it had
+pub record StacksStay (old new : List (List Word)) : Type 0 where
+  pub stays : (number : ℕ) (words : List Word) → slice_get old number ≡ Some words → slice_get new number ≡ Some words
+
+-- the words of a number are those of a link: its word on top of a stack before it
+pub record IsLink (stacks : List (List Word)) (number : ℕ) (link : Link) : Type 0 where
+  pub before : link.below < number
+  pub words : words_at stacks number ≡ link.word ∷ words_at stacks link.below
+  pub height : link.height ≡ length (words_at stacks number)
+
+-- each link lies on a stack before it, and its height is that of its words
+pub record AreLinks (links : List Link) : Type 0 where
+  pub before : (i : ℕ) (link : Link) → slice_get links i ≡ Some link → link.below < suc i
+  pub height : (i : ℕ) (link : Link) → slice_get links i ≡ Some link → link.height ≡ length (words_at (stacks_of links) (suc i))

@@ -1,0 +1,23 @@
+//! Frames of the verifier by number: each distinct frame is kept once, and frames share the words that they have in common. What
+//! becomes of a frame at an instruction, a call or a join is what `frames80` says of it; it takes the time of the words that change.
+//!
+//! | Item | What it is |
+//! |---|---|
+//! | [`Frames`] | the frames by number, and what becomes of them |
+//! | [`FrameId`] | the number of a frame |
+//! | [`MeetFault`] | why two frames have none in common |
+#![tactic(auto)]
+
+mod changes;
+mod fault;
+mod frame_id;
+mod frames;
+mod kept;
+mod link;
+mod meets;
+mod refusal;
+mod stacks;
+
+pub use fault::MeetFault;
+pub use frame_id::FrameId;
+pub use frames::Frames;

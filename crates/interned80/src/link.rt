@@ -1,0 +1,13 @@
+//! A word on top of a stack.
+
+use frames80::Word;
+
+/// A word on top of a stack that has a number.
+#[derive(Clone, Copy, PartialEq, Eq, Hash)]
+pub(crate) struct Link {
+    /// The number of the stack beneath the word.
+    pub(crate) below: u32,
+    pub(crate) word: Word,
+    /// How many words there are, this one among them.
+    pub(crate) height: u32,
+}
