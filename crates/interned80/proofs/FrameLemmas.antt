@@ -7,7 +7,7 @@ use Rattle.frames80.specs.declared.word.Word.{Word}
 use Rattle.frames80.specs.StackFrame.{StackFrame, entry_frame}
 use Rattle.interned80.specs.declared.kept.Kept.{Kept}
 use Rattle.interned80.specs.Frames.{frame_at, IsFrame, StayNumbered}
-use Rattle.interned80.specs.Stacks.{words_at, StacksStay}
+use Rattle.interned80.specs.Stacks.{words_at, IsStack, StacksStay}
 use Rattle.interned80.specs.Kept.{pairs_of, frame_of, frames_of, IsKept, AreKept}
 use Rattle.interned80.proofs.ListLemmas.{slice_get-append, slice_get-push}
 use Rattle.interned80.proofs.StackLemmas.{words_at-stays, within-stays}
@@ -43,12 +43,15 @@ module _ (old new : List (List Word)) (kept : List Kept) (frames : List StackFra
         framed new more i k.0 (stay i k.0 k.1) ∙ ap (λ (f : StackFrame). Some f) (same-frame k.0 (h.there i k.0 k.1) ∙ k.2);
   }
 
+  empty-stays : IsStack new 0 []
+  empty-stays = record { there = within-stays old new s 0 h.empty.there; is = words_at-stays old new s 0 h.empty.there ∙ h.empty.is }
+
   -- more stacks alone
   pub StayNumbered-stacks : StayNumbered frames (frames_of new kept)
   StayNumbered-stacks = stays-numbered kept (λ i frame e. e)
 
   pub AreKept-stacks : AreKept new kept
-  AreKept-stacks = record { there = λ i frame e. within-stays old new s frame.words (h.there i frame e) }
+  AreKept-stacks = record { empty = empty-stays; there = λ i frame e. within-stays old new s frame.words (h.there i frame e) }
 
   -- a frame is kept
   module _ (more : List Kept) (last : Kept) (grows : (more ≡ kept) ⊎ (more ≡ kept ++ last ∷ [])) where
@@ -71,7 +74,7 @@ module _ (old new : List (List Word)) (kept : List Kept) (frames : List StackFra
 
         by : (more ≡ kept) ⊎ (more ≡ kept ++ last ∷ []) → AreKept new more
         by (inl same) = subst (AreKept new) (sym same) AreKept-stacks
-        by (inr push) = subst (AreKept new) (sym push) (record { there = pushed })
+        by (inr push) = subst (AreKept new) (sym push) (record { empty = empty-stays; there = pushed })
 
 -- the number of a kept frame
 pub IsFrame-kept : (stacks : List (List Word)) (kept : List Kept) (i : ℕ) (last : Kept) (frame : StackFrame) → slice_get kept i ≡ Some last → frame_of stacks last ≡ frame → IsFrame (frames_of stacks kept) i frame
@@ -84,3 +87,10 @@ pub IsFrame-result : {E : Type 0} (r : Result ℕ E) (stacks : List (List Word))
     → IfOk r (λ id. IsFrame (frames_of stacks kept) id frame)
 IsFrame-result (Ok id) stacks kept last frame e is = IsFrame-kept stacks kept id last frame e is
 IsFrame-result (Err err) stacks kept last frame e is = e
+
+-- a number that is there stays there
+pub numbered_stays : (old new : List StackFrame) (i : ℕ) → StayNumbered old new → i < length old → i < length new
+numbered_stays old new i s h = slice_get_within new i (frame_at old i) (s.stays i (frame_at old i) (slice_get-get_or old i entry_frame h))
+
+pub numbered_on : (one two three : List StackFrame) → StayNumbered one two → StayNumbered two three → StayNumbered one three
+numbered_on one two three s t = record { stays = λ i frame e. t.stays i frame (s.stays i frame e) }

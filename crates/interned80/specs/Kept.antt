@@ -1,9 +1,9 @@
 -- Frames as they are kept: their words are those of a stack that has a number. (This project's own.)
-use Rattle.std.specs.Prelude.{◌≡◌, ◌<◌, ℕ, List, map, Some, length, slice_get}
+use Rattle.std.specs.Prelude.{◌≡◌, ◌<◌, ℕ, List, [], map, Some, length, slice_get}
 use Rattle.frames80.specs.declared.word.Word.{Word}
 use Rattle.frames80.specs.StackFrame.{Pairs, StackFrame}
 use Rattle.interned80.specs.declared.kept.Kept.{Kept}
-use Rattle.interned80.specs.Stacks.{words_at}
+use Rattle.interned80.specs.Stacks.{words_at, IsStack}
 
 abbrev pub pairs_of : Kept → Pairs
 pairs_of kept = record { bc = kept.bc; de = kept.de; hl = kept.hl }
@@ -20,6 +20,7 @@ pub record IsKept (stacks : List (List Word)) (kept : Kept) (frame : StackFrame)
   pub there : kept.words < length stacks
   pub is : frame_of stacks kept ≡ frame
 
--- the words of each frame are those of a stack
+-- the words of each frame are those of a stack, and stack 0 has none
 pub record AreKept (stacks : List (List Word)) (kept : List Kept) : Type 0 where
+  pub empty : IsStack stacks 0 []
   pub there : (i : ℕ) (frame : Kept) → slice_get kept i ≡ Some frame → frame.words < length stacks

@@ -1,13 +1,13 @@
 //! What becomes of a kept frame at a change.
 
-ghost use Rattle.std.specs.Prelude.{◌≡◌, ◌<◌, ◌≤◌, length, IfOk};
+ghost use Rattle.std.specs.Prelude.{◌≡◌, ◌<◌, ◌≤◌, [], length, IfOk};
 ghost use Rattle.frames80.specs.StackFrame.{popped, pushed, top_word};
 ghost use Rattle.frames80.specs.Moves.{changed};
-ghost use Rattle.interned80.specs.Stacks.{words_at, StacksStay};
+ghost use Rattle.interned80.specs.Stacks.{words_at, IsStack, StacksStay};
 ghost use Rattle.interned80.specs.Kept.{frame_of, IsKept};
 
 use crate::kept::Kept;
-use crate::stacks::Stacks;
+use crate::stacks::{EMPTY, Stacks};
 use frames80::{Change, FramePair, Word};
 use std::alloc::AllocError;
 
@@ -21,6 +21,7 @@ pub(crate) fn change_frame(
     change: Change,
 ) -> Result<Kept, AllocError>
     requires there { kept.words < length stacks.old }
+    requires empty { IsStack stacks.old 0 [] }
     requires taken { kept.taken ≤ 1000000 }
     ensures changed { IfOk result (λ after. IsKept stacks.new after (changed change (frame_of stacks.old kept))) }
     ensures stays { StacksStay stacks.old stacks.new }
@@ -46,7 +47,7 @@ pub(crate) fn change_frame(
         }),
         Change::Forget(pair) => Ok(kept.holding(pair, Word::Any)),
         Change::SetStack(_) => Ok(Kept {
-            words: stacks.empty(),
+            words: EMPTY,
             ..kept
         }),
     }

@@ -13,7 +13,7 @@ use crate::frame_id::FrameId;
 use crate::kept::{Kept, keep, kept_at};
 use crate::meets::meet_frames;
 use crate::refusal::refusal_of;
-use crate::stacks::Stacks;
+use crate::stacks::{EMPTY, Stacks};
 use frames80::{CallFault, Change, Effect, FrameFault, Role, Word};
 use indexmap::IndexSet;
 use std::alloc::{AllocError, Global};
@@ -59,8 +59,7 @@ impl Frames {
         ensures entry { IfOk result (λ id. IsFrame self.new id entry_frame) }
         ensures stays { StayNumbered self.old self.new }
     {
-        let bare = self.stacks.empty();
-        let words = self.stacks.push(bare, Word::Own)?;
+        let words = self.stacks.push(EMPTY, Word::Own)?;
         keep(&mut self.kept, Kept::of_words(0, words))
     }
 
@@ -72,8 +71,7 @@ impl Frames {
         ensures entry { IfOk result (λ id. IsFrame self.new id main_frame) }
         ensures stays { StayNumbered self.old self.new }
     {
-        let words = self.stacks.empty();
-        keep(&mut self.kept, Kept::of_words(0, words))
+        keep(&mut self.kept, Kept::of_words(0, EMPTY))
     }
 
     /// Why an effect is refused with a frame, or `None` where it is admitted. It takes no memory.

@@ -17,6 +17,8 @@ mod link;
 mod meets;
 mod refusal;
 mod stacks;
+#[cfg(test)]
+mod tests;
 
 pub use fault::MeetFault;
 pub use frame_id::FrameId;

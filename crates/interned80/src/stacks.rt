@@ -10,7 +10,10 @@ use indexmap::IndexSet;
 use std::alloc::{AllocError, Global};
 use std::marker::Model;
 
-/// Stacks of words by number. A contract sees the words of each number, top first. Number 0 has no words, and number n + 1 has
+/// The number of the stack with no words.
+pub(crate) const EMPTY: u32 = 0;
+
+/// Stacks of words by number. A contract sees the words of each number, top first. `EMPTY` has no words, and number n + 1 has
 /// the word of link n on top of the stack beneath it, so stacks share the words that they have in common from the bottom up.
 #[derive(Drop)]
 pub(crate) struct Stacks {
@@ -45,14 +48,6 @@ impl Stacks {
         *self.links.allocator()
     }
 
-    /// The number of the stack with no words.
-    pub(crate) fn empty(&self) -> u32
-        ensures { IsStack self.now result [] }
-    {
-        let _links = &self.links;
-        0
-    }
-
     /// The word on top of a stack, with the number of the stack beneath it.
     pub(crate) fn top(&self, number: u32) -> Option<Link>
         requires { number < length self.now }
@@ -60,7 +55,7 @@ impl Stacks {
         ensures none { IfNone result (words_at self.now number ≡ []) }
     {
         let links = &self.links;
-        if number == 0 {
+        if number == EMPTY {
             return None;
         }
         Some(links[number as usize - 1])

@@ -19,7 +19,7 @@ invariant_of-self-2 c =
 
 pub returns-clause-entry : goal.returns-clause-entry
 returns-clause-entry c =
-    let is = c.of_words.ensures.frame c.push.new.self ∙ ap (of_words 0) (c.in_ok-words.ensures.pushed.is ∙ ap (λ (ws : List Word). Own ∷ ws) c.empty-bare.ensures.is) in
+    let is = c.of_words.ensures.frame c.push.new.self ∙ ap (of_words 0) (c.in_ok-words.ensures.pushed.is ∙ ap (λ (ws : List Word). Own ∷ ws) c.self.invariant.empty.is) in
     IsFrame-result c.keep.result c.push.new.self c.keep.new.frames.keys c.of_words.result entry_frame c.keep.ensures.number is
 
 pub returns-clause-stays : goal.returns-clause-stays
