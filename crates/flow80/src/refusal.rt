@@ -164,7 +164,7 @@ impl fmt::Display for Refusal {
             return write!(f, "{name} {need} {has}");
         }
         match self.address() {
-            Some(at) => write!(f, "{name} {at:04X}"),
+            Some(at) => write!(f, "{name} AT {at:04X}"),
             None => f.write_str(name),
         }
     }
