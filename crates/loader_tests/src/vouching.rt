@@ -1,13 +1,10 @@
 //! The program that pushes an argument is verified, vouched for, and run over either memory. Other programs are rows of the program's
 //! tests.
 
-ghost use Rattle.std.specs.Prelude.{◌≡◌};
-ghost use Rattle.image80.specs.Image.{memory_of};
-
 use crate::pushing::{IMAGE, INPUTS, REGIONS};
 use image80::{Image, read_regions};
 use loader80::{ProcRow, Vouched, read_inputs, run, vouch};
-use machine80::{Bus, End, FlatBus, ListPorts, PagedBus, Ports};
+use machine80::{End, FlatBus, ListPorts, PagedBus, Ports};
 use place80::read_image;
 use std::alloc::Global;
 use std::process::Abort;
@@ -47,21 +44,29 @@ fn a_vouched_image_is_run(rt: HostRuntime) -> Result<(), Fail> {
     };
     assert_eq!(rt; vouched.stack_bytes(), 4);
     assert!(rt; vouched.rows() == ROWS.as_slice());
-    let mut memory = FlatBus::new(rt.alloc(), vouched.image())?;
-    runs(&rt, &vouched, &mut memory)?;
-    let mut pages = PagedBus::new(rt.alloc(), vouched.image())?;
-    runs(&rt, &vouched, &mut pages)
+    runs(&rt, &vouched)?;
+    runs_in_pages(&rt, &vouched)
 }
 
 /// The run puts out the argument. It takes no input, so both bytes are left.
-fn runs<B: Bus>(rt: &(impl Abort + AllocGlobal), vouched: &Vouched, bus: &mut B) -> Result<(), Fail>
-    requires { B.memory bus.old ≡ memory_of vouched.now.image.chunks }
-{
-    let inputs = read_inputs(rt.alloc(), INPUTS)?;
+fn runs(rt: &(impl Abort + AllocGlobal), vouched: &Vouched) -> Result<(), Fail> {
+    let inputs = read_inputs(rt.alloc(), b"02 41FF\n")?;
+    let mut bus = FlatBus::new(rt.alloc(), vouched.image())?;
     let mut ports = ListPorts::new(rt.alloc(), inputs, 65_536);
-    let ended = run(vouched, bus, &mut ports, 1_000_000);
+    let ended = run(&vouched, &mut bus, &mut ports, 1_000_000);
     assert!(rt; ended.end == Some(End::Halt) && ended.steps == 11);
     assert!(rt; ended.cpu.pc() == 0x300A && ports.outputs() == [(0x01, 0x05)].as_slice());
     assert!(rt; ports.take(0x02) == Some(0x41) && ports.take(0x02) == Some(0xFF));
+    Ok(())
+}
+
+/// The same over a memory in pages.
+fn runs_in_pages(rt: &(impl Abort + AllocGlobal), vouched: &Vouched) -> Result<(), Fail> {
+    let inputs = read_inputs(rt.alloc(), INPUTS)?;
+    let mut bus = PagedBus::new(rt.alloc(), vouched.image())?;
+    let mut ports = ListPorts::new(rt.alloc(), inputs, 65_536);
+    let ended = run(vouched, &mut bus, &mut ports, 1_000_000);
+    assert!(rt; ended.end == Some(End::Halt) && ended.steps == 11 && ended.cpu.pc() == 0x300A);
+    assert!(rt; ports.outputs() == [(0x01, 0x05)].as_slice());
     Ok(())
 }

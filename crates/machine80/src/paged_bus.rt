@@ -6,7 +6,8 @@ use image80::Image;
 use std::alloc::{AllocError, Global};
 use std::marker::Model;
 
-/// A memory of 65536 bytes in 256 pages of 256 bytes. All of them are made at once, so that a store takes no memory.
+/// A memory of 65536 bytes in 256 pages of 256 bytes. All of them are made at once, so that a store takes no memory. They stand one after
+/// another, so that a load needs no look at its page.
 #[derive(Drop)]
 pub struct PagedBus {
     pages: Vec<[u8; 256]>,
@@ -56,7 +57,7 @@ impl Bus for PagedBus {
     ghost memory = { λ b. b };
 
     fn load(&self, address: u16) -> u8 {
-        self.pages[usize::from(address / 256)][usize::from(address % 256)]
+        self.pages.as_slice().as_flattened()[usize::from(address)]
     }
 
     fn store(&mut self, address: u16, byte: u8) {
