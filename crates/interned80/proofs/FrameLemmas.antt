@@ -1,5 +1,5 @@
 -- The frames that are kept: what one more of them, and more stacks, leave as it was.
-use Rattle.std.proofs.Common.{◌≡◌, ◌<◌, ℕ, zero, suc, ◌⊎◌, inl, inr, List, [], ◌∷◌, ◌++◌, Some, length, map, slice_get, Result, Ok, Err, IfOk, refl, sym, ◌∙◌, ap, subst, arith}
+use Rattle.std.proofs.Common.{◌≡◌, ◌<◌, ℕ, zero, suc, ◌⊎◌, inl, inr, List, [], ◌∷◌, ◌++◌, Some, length, slice_get, Result, Ok, Err, IfOk, refl, sym, ◌∙◌, ap, subst, arith}
 use Rattle.std.specs.Option.{option_map}
 use Rattle.std.proofs.lemmas.Option.{slice_get-map, slice_get_within, slice_get-get_or, get_or_from_slice_get, same_Some, none-some}
 use Rattle.std.proofs.lemmas.List.{length-map}
@@ -7,8 +7,8 @@ use Rattle.frames80.specs.declared.word.Word.{Word}
 use Rattle.frames80.specs.StackFrame.{StackFrame, entry_frame}
 use Rattle.interned80.specs.declared.kept.Kept.{Kept}
 use Rattle.interned80.specs.Frames.{frame_at, IsFrame, StayNumbered}
-use Rattle.interned80.specs.Stacks.{words_at, IsStack, StacksStay}
-use Rattle.interned80.specs.Kept.{pairs_of, frame_of, frames_of, IsKept, AreKept}
+use Rattle.interned80.specs.Stacks.{IsStack, StacksStay}
+use Rattle.interned80.specs.Kept.{pairs_of, frame_of, frames_of, AreKept}
 use Rattle.interned80.proofs.ListLemmas.{slice_get-append, slice_get-push}
 use Rattle.interned80.proofs.StackLemmas.{words_at-stays, within-stays}
 

@@ -1,13 +1,11 @@
 -- Words that meet from the top down.
-use Rattle.std.specs.Prelude.{◌≡◌, ℕ, ◌<◌, Bool, true, false, ◌||◌, ◌&&◌, ◌↔◌, nat_eq, List, [], ◌∷◌, ◌++◌, suc, length, refl}
+use Rattle.std.specs.Prelude.{◌≡◌, Bool, true, false, ◌||◌, ◌↔◌, List, [], ◌∷◌, ◌++◌, length, refl}
 use Rattle.std.proofs.Common.{sym, ◌∙◌, ap, arith}
-use Rattle.std.specs.Cmp.{unsigned_Decides, first_so, second_so}
 use Rattle.std.proofs.lemmas.List.{append_assoc}
 use Rattle.frames80.specs.declared.word.Word.{Word}
 use Rattle.frames80.specs.declared.word.Word.TheVariants.{Own, Any}
 use Rattle.frames80.specs.Word.{met}
-use Rattle.frames80.specs.Calls.{words_met, agree, merged}
-use Rattle.frames80.specs.StackFrame.{StackFrame}
+use Rattle.frames80.specs.Calls.{words_met}
 use Rattle.interned80.specs.Meets.{IsWalk}
 
 met-self : (w : Word) → met w w ≡ w

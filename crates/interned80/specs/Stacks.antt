@@ -1,5 +1,5 @@
 -- Stacks of words by number, top first, as links make them. (This project's own.)
-use Rattle.std.specs.Prelude.{◌≡◌, ◌<◌, ◌≤◌, ℕ, suc, List, [], ◌∷◌, ◌++◌, Some, length, slice_get, slice_index_or}
+use Rattle.std.specs.Prelude.{◌≡◌, ◌<◌, ℕ, suc, List, [], ◌∷◌, ◌++◌, Some, length, slice_get, slice_index_or}
 use Rattle.frames80.specs.declared.word.Word.{Word}
 use Rattle.interned80.specs.declared.link.Link.{Link}
 

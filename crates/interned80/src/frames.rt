@@ -20,7 +20,8 @@ use std::alloc::{AllocError, Global};
 use std::marker::Model;
 
 /// Frames by number: each distinct frame is kept once, in order of first sight. A contract sees the list of frames; a frame keeps
-/// its number. Words that frames have in common, from the bottom up, are kept once.
+/// its number. Words that frames have in common, from the bottom up, are kept once. Where there are 4,294,967,295 frames, or as
+/// many words, a call that would add one answers as where memory runs out.
 #[derive(Drop)]
 pub struct Frames {
     stacks: Stacks,

@@ -48,7 +48,7 @@ impl Stacks {
         *self.links.allocator()
     }
 
-    /// The word on top of a stack, with the number of the stack beneath it.
+    /// The word on top of a stack, with the number of the stack beneath it, or `None` where the stack has no words.
     pub(crate) fn top(&self, number: u32) -> Option<Link>
         requires { number < length self.now }
         ensures link { IfSome result (λ link. IsLink self.now number link) }

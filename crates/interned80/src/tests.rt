@@ -5,7 +5,7 @@ ghost use Rattle.interned80.specs.Frames.{StayNumbered};
 
 use crate::{FrameId, Frames, MeetFault};
 use frames80::{CallFault, Change, Effect, FrameFault, FramePair, Role};
-use std::alloc::AllocError;
+use std::alloc::{AllocError, Global};
 use std::process::Abort;
 use std::test::Fail;
 
@@ -30,54 +30,86 @@ fn repeat(
     Ok(number)
 }
 
-#[test]
-#[tactic(auto, using(crate::proofs::FrameLemmas::numbered_stays))]
-fn pops_lead_back(rt: HostRuntime) -> Result<(), Fail> {
-    let mut frames = Frames::new(rt.alloc());
+/// An entry's frame after so many pushes of the flags.
+#[tactic(auto, using(crate::proofs::FrameLemmas::numbered_on))]
+fn pushed(rt: &impl Abort, frames: &mut Frames, times: u32) -> Result<FrameId, AllocError>
+    ensures there { IfOk result (λ id. id < length frames.new) }
+    ensures stays { StayNumbered frames.old frames.new }
+{
     let entry = frames.entry()?;
-    let high = repeat(&rt, &mut frames, entry, Change::PushAny, 70_000)?;
+    repeat(rt, frames, entry, Change::PushAny, times)
+}
+
+/// An entry's frame whose return address is popped and pushed twice.
+fn address_twice(rt: &impl Abort, frames: &mut Frames) -> Result<FrameId, AllocError>
+    ensures there { IfOk result (λ id. id < length frames.new) }
+{
+    let entry = frames.entry()?;
+    let held = repeat(rt, frames, entry, Change::Pop(FramePair::Bc), 1)?;
+    repeat(rt, frames, held, Change::Push(FramePair::Bc), 2)
+}
+
+fn pop_all(rt: &impl Abort, alloc: Global) -> Result<(), Fail> {
+    let mut frames = Frames::new(alloc);
+    let high = pushed(rt, &mut frames, 70_000)?;
     assert_eq!(rt; frames.room(high, Role::Entry), 70_000);
-    assert_eq!(rt; frames.depth(high, Role::Entry), 140_000);
-    let low = repeat(&rt, &mut frames, high, Change::Drop, 70_000)?;
-    assert_eq!(rt; low, entry);
+    let low = repeat(rt, &mut frames, high, Change::Drop, 70_000)?;
+    assert_eq!(rt; low, frames.entry()?);
     Ok(())
 }
 
-#[test]
 #[tactic(auto, using(crate::proofs::FrameLemmas::numbered_stays))]
-fn meetings(rt: HostRuntime) -> Result<(), Fail> {
-    let mut frames = Frames::new(rt.alloc());
-    let entry = frames.entry()?;
-    let held = repeat(&rt, &mut frames, entry, Change::Pop(FramePair::Bc), 1)?;
-    let twice = repeat(&rt, &mut frames, held, Change::Push(FramePair::Bc), 2)?;
-    let once = repeat(&rt, &mut frames, entry, Change::PushAny, 1)?;
-    assert_eq!(rt; frames.meet(twice, once), Ok(once));
-    assert_eq!(rt; frames.meet(once, twice), Ok(once));
-    assert_eq!(rt; frames.meet(entry, once), Err(MeetFault::HeightsDiffer));
+fn meet_one_word(rt: &impl Abort, alloc: Global) -> Result<(), Fail> {
+    let mut frames = Frames::new(alloc);
+    let one = address_twice(rt, &mut frames)?;
+    let other = pushed(rt, &mut frames, 1)?;
+    assert_eq!(rt; frames.meet(one, other), Ok(other));
     Ok(())
 }
 
-#[test]
 #[tactic(auto, using(crate::proofs::FrameLemmas::numbered_stays))]
-fn calls_and_returns(rt: HostRuntime) -> Result<(), Fail> {
-    let mut frames = Frames::new(rt.alloc());
-    let entry = frames.entry()?;
-    let more = repeat(&rt, &mut frames, entry, Change::PushAny, 1)?;
-    let left = frames.after(more, Role::Entry, 1);
-    assert_eq!(rt; left, Ok(entry));
-    let short = frames.after(entry, Role::Entry, 1);
-    assert_eq!(rt; short, Err(CallFault::ShortArguments));
-    assert_eq!(rt; frames.fault_of(entry, Role::Entry, Effect::Return), None);
-    assert_eq!(rt;
-        frames.fault_of(more, Role::Entry, Effect::Return),
-        Some(FrameFault::ReturnNotOwn)
-    );
+fn meet_heights(rt: &impl Abort, alloc: Global) -> Result<(), Fail> {
+    let mut frames = Frames::new(alloc);
+    let one = frames.entry()?;
+    let other = pushed(rt, &mut frames, 1)?;
+    assert_eq!(rt; frames.meet(one, other), Err(MeetFault::HeightsDiffer));
+    Ok(())
+}
+
+fn call(rt: &impl Abort, alloc: Global, taken: u32) -> Result<bool, Fail> {
+    let mut frames = Frames::new(alloc);
+    let caller = pushed(rt, &mut frames, 1)?;
+    assert_eq!(rt; frames.depth(caller, Role::Entry), 2);
+    let after = frames.after(caller, Role::Entry, taken);
+    if after == Err(CallFault::ShortArguments) {
+        return Ok(false);
+    }
+    assert_eq!(rt; after?, frames.entry()?);
+    Ok(true)
+}
+
+fn return_of_main(alloc: Global) -> Result<Option<FrameFault>, AllocError> {
+    let mut frames = Frames::new(alloc);
     let main = frames.main_entry()?;
-    let main_role = Role::Main { top: 0x1000 };
-    assert_eq!(rt; frames.depth(main, main_role), 0);
-    assert_eq!(rt;
-        frames.fault_of(main, main_role, Effect::Return),
-        Some(FrameFault::ReturnFromMain)
-    );
+    Ok(frames.fault_of(main, Role::Main { top: 0x1000 }, Effect::Return))
+}
+
+#[test]
+fn pops_lead_back(rt: HostRuntime) -> Result<(), Fail> {
+    pop_all(&rt, rt.alloc())
+}
+
+#[test]
+fn frames_meet(rt: HostRuntime) -> Result<(), Fail> {
+    meet_one_word(&rt, rt.alloc())?;
+    meet_heights(&rt, rt.alloc())
+}
+
+#[test]
+fn calls_and_returns(rt: HostRuntime) -> Result<(), Fail> {
+    assert!(rt; call(&rt, rt.alloc(), 1)?);
+    assert!(rt; !call(&rt, rt.alloc(), 2)?);
+    let fault = return_of_main(rt.alloc())?;
+    assert_eq!(rt; fault, Some(FrameFault::ReturnFromMain));
     Ok(())
 }

@@ -1,4 +1,4 @@
-use Rattle.std.proofs.Common.{◌≡◌, ◌<◌, length}
+use Rattle.std.proofs.Common.{◌<◌, length}
 use Rattle.interned80.specs.Stacks.{words_at}
 use Rattle.interned80.specs.Meets.{IsWalk}
 use Rattle.interned80.proofs.meets.meet_tops.Given as goal

@@ -1,4 +1,3 @@
-use Rattle.std.specs.Prelude.{◌≡◌, List}
 use Rattle.std.proofs.Common.{ap, sym, ◌∙◌}
 use Rattle.frames80.specs.Calls.{words_met}
 use Rattle.interned80.specs.Stacks.{words_at}

@@ -1,6 +1,5 @@
-use Rattle.std.specs.Prelude.{ℕ, ◌<◌, ◌≤◌, List, length, drop}
-use Rattle.std.proofs.Common.{◌≡◌, ap, subst, sym, ◌∙◌, arith}
-use Rattle.frames80.specs.declared.word.Word.{Word}
+use Rattle.std.specs.Prelude.{ℕ, ◌<◌, length}
+use Rattle.std.proofs.Common.{ap, subst, sym, ◌∙◌, arith}
 use Rattle.frames80.specs.StackFrame.{StackFrame, of_words}
 use Rattle.frames80.specs.Calls.{room, returned}
 use Rattle.interned80.specs.Frames.{frame_at}

@@ -1,4 +1,4 @@
-use Rattle.std.proofs.Common.{◌≡◌, ap, sym, ◌∙◌}
+use Rattle.std.proofs.Common.{ap, sym, ◌∙◌}
 use Rattle.frames80.specs.Moves.{changed}
 use Rattle.interned80.specs.Frames.{frame_at}
 use Rattle.interned80.proofs.FrameLemmas.{frame-read, AreKept-stacks, StayNumbered-stacks, AreKept-kept, StayNumbered-kept, IsFrame-result}

@@ -1,8 +1,7 @@
 use Rattle.std.specs.Prelude.{◌<◌, ◌^◌, length, pos}
-use Rattle.std.proofs.Common.{◌≡◌, ◌∙◌, ap, sym, subst, arith}
+use Rattle.std.proofs.Common.{◌∙◌, ap, sym, arith}
 use Rattle.frames80.specs.StackFrame.{StackFrame}
 use Rattle.interned80.specs.Frames.{frame_at}
-use Rattle.interned80.specs.Stacks.{words_at}
 use Rattle.interned80.proofs.Depths.{entry_depth}
 use Rattle.interned80.proofs.FrameLemmas.{frame-read}
 use Rattle.interned80.proofs.frames.Frames.depth.Goals as goal

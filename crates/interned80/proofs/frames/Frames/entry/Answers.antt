@@ -1,4 +1,4 @@
-use Rattle.std.proofs.Common.{◌≡◌, ◌<◌, ◌∷◌, length, ap, subst, sym, ◌∙◌, List}
+use Rattle.std.proofs.Common.{◌<◌, ◌∷◌, length, ap, subst, sym, ◌∙◌, List}
 use Rattle.std.specs.Prelude.{ℕ}
 use Rattle.frames80.specs.declared.word.Word.{Word}
 use Rattle.frames80.specs.declared.word.Word.TheVariants.{Own}

@@ -1,13 +1,11 @@
-use Rattle.std.specs.Prelude.{true, false, Some, Result, Err, slice_get}
+use Rattle.std.specs.Prelude.{Some, Result, Err}
 use Rattle.std.proofs.Common.{◌≡◌, ap, sym, ◌∙◌, true≢false}
 use Rattle.std.proofs.lemmas.Result.{err_from_is_err_and}
-use Rattle.frames80.specs.StackFrame.{StackFrame}
 use Rattle.frames80.specs.Calls.{agree, merged}
 use Rattle.interned80.specs.declared.fault.MeetFault.{MeetFault}
 use Rattle.interned80.specs.declared.fault.MeetFault.TheVariants.{HeightsDiffer}
 use Rattle.interned80.specs.declared.kept.Kept.{Kept}
 use Rattle.interned80.specs.Frames.{frame_at}
-use Rattle.interned80.specs.Kept.{frame_of}
 use Rattle.interned80.proofs.KeptEquality.{kept_eq, kept_same, kept_own}
 use Rattle.interned80.proofs.FrameLemmas.{frame-read, AreKept-stacks, StayNumbered-stacks, AreKept-kept, StayNumbered-kept, IsFrame-kept}
 use Rattle.interned80.proofs.frames.Frames.meet.Goals as goal

@@ -1,4 +1,4 @@
-use Rattle.std.proofs.Common.{◌≡◌, ap, sym, ◌∙◌, drop, arith}
+use Rattle.std.proofs.Common.{ap, ◌∙◌, drop}
 use Rattle.std.proofs.lemmas.List.{drop-drop}
 use Rattle.interned80.specs.Stacks.{words_at}
 use Rattle.interned80.proofs.stacks.Stacks.beneath.Goals as goal

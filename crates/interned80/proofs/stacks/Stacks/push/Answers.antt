@@ -1,4 +1,4 @@
-use Rattle.std.proofs.Common.{◌≡◌, ◌<◌, ℕ, ◌+◌, suc, List, length, ap, subst, sym, ◌∙◌, arith}
+use Rattle.std.proofs.Common.{◌≡◌, ◌<◌, ◌+◌, suc, List, length, ap, subst, sym, ◌∙◌, arith}
 use Rattle.frames80.specs.declared.word.Word.{Word}
 use Rattle.interned80.specs.Stacks.{words_at}
 use Rattle.interned80.specs.declared.link.Link.{Link}

@@ -1,4 +1,4 @@
-use Rattle.std.proofs.Common.{◌≡◌, ◌<◌, ℕ, ◌+◌, ◌-◌, suc, List, length, [], ap, subst, sym, ◌∙◌, arith}
+use Rattle.std.proofs.Common.{◌≡◌, ℕ, ◌-◌, suc, List, length, ap, subst, sym, ◌∙◌, arith}
 use Rattle.frames80.specs.declared.word.Word.{Word}
 use Rattle.interned80.specs.Stacks.{words_at, stacks_of, IsLink}
 use Rattle.interned80.proofs.StackLemmas.{bare, read, length-stacks_of}
