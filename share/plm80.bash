@@ -28,7 +28,7 @@ _plm80() {
         COMPREPLY=($(compgen -W "$options" -- "$word"))
     else
         compopt -o filenames 2> /dev/null
-        COMPREPLY=($(compgen -f -- "$word"))
+        mapfile -t COMPREPLY < <(compgen -f -- "$word") # (A path may have blanks.)
     fi
 }
 complete -F _plm80 plm80
