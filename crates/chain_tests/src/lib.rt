@@ -6,7 +6,8 @@
 //! | `bodies` | `omf_body`: the bodies of records, written |
 //! | `modules` | `omf_module`: modules, made, read and written |
 //! | `libraries` | `omf_library`: libraries, read and written, and the first providers of names |
-//! | `feeds` | `omf_core`: files that come in pieces |
+//! | `feeds` | `omf_core`: the records of files that come in pieces |
+//! | `file_feeds` | `omf_module`: object files that come in pieces |
 //! | `library_feeds` | `omf_library`: libraries that come in pieces |
 //! | `faults` | the faults of all four, as they are printed |
 //! | `linking` | `link80`: modules linked into one |
@@ -20,6 +21,8 @@ mod bodies;
 mod faults;
 #[cfg(test)]
 mod feeds;
+#[cfg(test)]
+mod file_feeds;
 #[cfg(test)]
 mod libraries;
 #[cfg(test)]

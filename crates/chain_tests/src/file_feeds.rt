@@ -1,0 +1,148 @@
+//! Object files that come in pieces: the answers don't depend on the cuts. Where memory runs out at a piece, the same piece again
+//! is answered as with ample memory.
+
+use omf_core::RecordFault;
+use omf_module::{Cause, FileFeed, Module, ModuleFault, write_file};
+use std::alloc::Global;
+use std::slice;
+use std::test::Fail;
+
+/// A main program `A` with one byte of code, and nothing else.
+static HALT: [u8; 32] = [
+    0x02, 0x09, 0x00, 0x01, 0x41, 0x00, 0x00, 0x01, 0x01, 0x00, 0x03, 0xAE, // module header
+    0x06, 0x05, 0x00, 0x01, 0x00, 0x00, 0x76, 0x7E, // content
+    0x04, 0x05, 0x00, 0x01, 0x01, 0x00, 0x00, 0xF5, // module end
+    0x0E, 0x01, 0x00, 0xF1, // end of file
+];
+
+/// An end of file with a wrong sum.
+static BAD_END: [u8; 4] = [0x0E, 0x01, 0x00, 0xF0];
+
+/// The program, and once more with its byte in a segment that it doesn't have.
+static TWO: [u8; 56] = [
+    0x02, 0x09, 0x00, 0x01, 0x41, 0x00, 0x00, 0x01, 0x01, 0x00, 0x03, 0xAE, // module header
+    0x06, 0x05, 0x00, 0x01, 0x00, 0x00, 0x76, 0x7E, // content
+    0x04, 0x05, 0x00, 0x01, 0x01, 0x00, 0x00, 0xF5, // module end
+    0x02, 0x09, 0x00, 0x01, 0x41, 0x00, 0x00, 0x01, 0x01, 0x00, 0x03, 0xAE, // module header
+    0x06, 0x05, 0x00, 0x05, 0x00, 0x00, 0x76, 0x7A, // content of segment 5
+    0x04, 0x05, 0x00, 0x01, 0x01, 0x00, 0x00, 0xF5, // module end
+];
+
+/// What is answered of a piece, or of the same piece again where memory ran out.
+fn answer(feed: &mut FileFeed, piece: &[u8]) -> Result<usize, ModuleFault> {
+    match feed.piece(piece) {
+        Err(fault) if fault.cause == Cause::Memory => feed.piece(piece),
+        answered => answered,
+    }
+}
+
+/// What is answered of the last byte, where each byte is a piece.
+fn answer_by_bytes(feed: &mut FileFeed, bytes: &[u8]) -> Result<usize, ModuleFault> {
+    let mut count = 0;
+    for byte in bytes {
+        count = answer(feed, slice::from_ref(byte))?;
+    }
+    Ok(count)
+}
+
+/// The file that is written for the modules of a feed.
+fn finished(alloc: Global, feed: FileFeed) -> Result<Vec<u8>, Fail> {
+    let modules = feed.finish()?;
+    if modules.is_empty() {
+        return Err("no module".into());
+    }
+    let mut out = Vec::new(alloc);
+    write_file(alloc, &modules, &mut out)?;
+    Ok(out)
+}
+
+/// The fault that a feed ends with.
+fn fault_of(feed: FileFeed) -> Option<ModuleFault> {
+    feed.finish().err()
+}
+
+/// The fault of a cause at its record.
+fn fault_at(at: usize, cause: Cause) -> ModuleFault {
+    ModuleFault { at, cause }
+}
+
+#[test]
+fn modules_are_counted_as_they_are_whole(rt: HostRuntime) -> Result<(), Fail> {
+    let mut feed = FileFeed::new(rt.alloc());
+    assert_eq!(rt; answer(&mut feed, &HALT[..12]), Ok(0));
+    assert_eq!(rt; answer(&mut feed, &HALT[12..28]), Ok(1));
+    assert_eq!(rt; answer(&mut feed, &HALT[28..]), Ok(1));
+    assert!(rt; finished(rt.alloc(), feed)?.as_slice() == HALT.as_slice());
+    Ok(())
+}
+
+#[test]
+fn a_wrong_sum_is_kept(rt: HostRuntime) {
+    let mut feed = FileFeed::new(rt.alloc());
+    let bad = fault_at(28, Cause::Record(RecordFault::BadSum(28)));
+    assert_eq!(rt; answer(&mut feed, &HALT[..28]), Ok(1));
+    assert_eq!(rt; answer(&mut feed, &BAD_END), Err(bad));
+    assert_eq!(rt; answer(&mut feed, &HALT[28..]), Err(bad));
+    assert_eq!(rt; fault_of(feed), Some(bad));
+}
+
+#[test]
+fn each_byte_is_a_piece(rt: HostRuntime) -> Result<(), Fail> {
+    let mut feed = FileFeed::new(rt.alloc());
+    assert_eq!(rt; answer_by_bytes(&mut feed, &HALT), Ok(1));
+    assert!(rt; finished(rt.alloc(), feed)?.as_slice() == HALT.as_slice());
+    Ok(())
+}
+
+#[test]
+fn a_file_that_is_cut_off(rt: HostRuntime) {
+    let mut feed = FileFeed::new(rt.alloc());
+    let cut_off = fault_at(28, Cause::Record(RecordFault::Truncated(28)));
+    assert_eq!(rt; answer_by_bytes(&mut feed, &HALT[..31]), Ok(1));
+    assert_eq!(rt; fault_of(feed), Some(cut_off));
+    assert_eq!(rt;
+        fault_of(FileFeed::new(rt.alloc())),
+        Some(fault_at(0, Cause::NoHeader))
+    );
+}
+
+#[test]
+fn empty_pieces_change_nothing(rt: HostRuntime) -> Result<(), Fail> {
+    let mut feed = FileFeed::new(rt.alloc());
+    assert_eq!(rt; answer(&mut feed, &[]), Ok(0));
+    assert_eq!(rt; answer(&mut feed, &HALT[..20]), Ok(0));
+    assert_eq!(rt; answer(&mut feed, &[]), Ok(0));
+    assert_eq!(rt; answer(&mut feed, &HALT[20..]), Ok(1));
+    assert_eq!(rt; answer(&mut feed, &[]), Ok(1));
+    assert!(rt; finished(rt.alloc(), feed)?.as_slice() == HALT.as_slice());
+    Ok(())
+}
+
+#[test]
+fn bytes_after_the_end_are_not_read(rt: HostRuntime) -> Result<(), Fail> {
+    let mut feed = FileFeed::new(rt.alloc());
+    assert_eq!(rt; answer(&mut feed, &HALT), Ok(1));
+    assert_eq!(rt; answer(&mut feed, &BAD_END), Ok(1));
+    assert!(rt; finished(rt.alloc(), feed)?.as_slice() == HALT.as_slice());
+    Ok(())
+}
+
+#[test]
+fn an_end_without_modules(rt: HostRuntime) {
+    let mut feed = FileFeed::new(rt.alloc());
+    let none = fault_at(0, Cause::NoHeader);
+    assert_eq!(rt; answer(&mut feed, &HALT[28..]), Err(none));
+    assert_eq!(rt; answer(&mut feed, &HALT), Err(none));
+    assert_eq!(rt; fault_of(feed), Some(none));
+}
+
+#[test]
+fn the_second_module_has_a_fault(rt: HostRuntime) {
+    let unknown = fault_at(40, Cause::SegmentUnknown(5));
+    let mut feed = FileFeed::new(rt.alloc());
+    assert_eq!(rt; answer(&mut feed, &TWO), Err(unknown));
+    assert_eq!(rt; fault_of(feed), Some(unknown));
+    let mut feed = FileFeed::new(rt.alloc());
+    assert_eq!(rt; answer_by_bytes(&mut feed, &TWO[..55]), Ok(1));
+    assert_eq!(rt; answer_by_bytes(&mut feed, &TWO[55..]), Err(unknown));
+}
