@@ -76,9 +76,21 @@ fn a_wrong_number_of_modules_is_kept(rt: HostRuntime) {
 fn a_library_that_is_cut_off_has_the_fault_of_its_end(rt: HostRuntime) {
     let truncated = Cause::Record(RecordFault::Truncated(22));
     assert_eq!(rt; fault_of(rt.alloc(), &[]), Some(LibraryFault::NotLibrary));
-    assert_eq!(rt; fault_of(rt.alloc(), &ONE[..10]), Some(LibraryFault::NoEnd(10)));
-    assert_eq!(rt; fault_of(rt.alloc(), &ONE[..22]), in_module(22, Cause::NoEnd));
+    assert_eq!(rt;
+        fault_of(rt.alloc(), &ONE[..10]),
+        Some(LibraryFault::NoEnd(10))
+    );
+    assert_eq!(rt;
+        fault_of(rt.alloc(), &ONE[..22]),
+        in_module(22, Cause::NoEnd)
+    );
     assert_eq!(rt; fault_of(rt.alloc(), &ONE[..24]), in_module(22, truncated));
-    assert_eq!(rt; fault_of(rt.alloc(), &ONE[..57]), Some(LibraryFault::NoEnd(57)));
-    assert_eq!(rt; fault_of(rt.alloc(), &END_OF_FILE), Some(LibraryFault::NotLibrary));
+    assert_eq!(rt;
+        fault_of(rt.alloc(), &ONE[..57]),
+        Some(LibraryFault::NoEnd(57))
+    );
+    assert_eq!(rt;
+        fault_of(rt.alloc(), &END_OF_FILE),
+        Some(LibraryFault::NotLibrary)
+    );
 }
