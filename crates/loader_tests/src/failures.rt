@@ -132,15 +132,15 @@ fn a_bundle_never_ends(rt: HostRuntime) -> Result<(), Fail> {
 /// The first read of a bundle fails, or a later one.
 #[test]
 fn a_read_of_a_bundle_fails(rt: HostRuntime) -> Result<(), Fail> {
-    let mut out = ByteSink::new(rt.alloc(), usize::MAX, true);
     for reads in [0, 1] {
         let mut source = ByteSource::new(REGIONS, reads);
+        let mut out = ByteSink::new(rt.alloc(), usize::MAX, true);
         let answer = bundle(rt.alloc(), &mut source, &mut out, 1_000_000, 65_536);
         assert_eq!(rt;
             answer.err(),
             Some(BundleFault::Session(SessionFault::Read(1)))
         );
+        assert!(rt; out.taken.is_empty());
     }
-    assert!(rt; out.taken.is_empty());
     Ok(())
 }

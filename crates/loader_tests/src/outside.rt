@@ -27,9 +27,9 @@ impl<'a> ByteSource<'a> {
 }
 
 impl<'a> Source for ByteSource<'a> {
-    ghost use Rattle.std.specs.Prelude.{Some};
+    ghost use Rattle.std.specs.Prelude.{None};
 
-    ghost left = { λ s. Some s.left.now };
+    ghost left = { λ _. None };
 
     ghost failed = { λ s. s.failures };
 
