@@ -77,6 +77,16 @@ fn modules_are_counted_as_they_are_whole(rt: HostRuntime) -> Result<(), Fail> {
 }
 
 #[test]
+fn a_file_in_two_pieces(rt: HostRuntime) -> Result<(), Fail> {
+    let mut feed = FileFeed::new(rt.alloc());
+    assert_eq!(rt; feed.piece(&HALT[..12])?, 0);
+    assert_eq!(rt; feed.piece(&HALT[12..])?, 1);
+    let modules = feed.finish()?;
+    assert_eq!(rt; modules.len(), 1);
+    Ok(())
+}
+
+#[test]
 fn a_wrong_sum_is_kept(rt: HostRuntime) {
     let mut feed = FileFeed::new(rt.alloc());
     let bad = fault_at(28, Cause::Record(RecordFault::BadSum(28)));

@@ -4,14 +4,17 @@ mod arguments;
 mod check_text;
 mod checking;
 mod fault_line;
+mod file_fault;
 mod files;
 mod library;
+mod link_feed;
 mod linking;
 mod listing;
 mod locating;
 mod migrating;
 pub mod number_text;
 mod object_files;
+mod pieces;
 mod running;
 mod syntax;
 

@@ -46,7 +46,7 @@ Faults and what to do: docs/FAULTS.md (installed: share/doc/plm80), man plm80.";
 const COMMANDS: [Syntax<'static>; 7] = [LINK, LOCATE, RUN, LIST, CHECK, LIB, REGIONS];
 
 /// What `--version` prints: the program's version, and the toolchain by which it was proved.
-const VERSION: &str = "1.0 (rattle-kit-13b logic dac8208d650f15bf)";
+const VERSION: &str = "1.0 (rattle-kit-13f logic dac8208d650f15bf)";
 
 /// The command of a command line, whose first argument is the program's own name.
 pub fn read_arguments<'a>(alloc: Global, arguments: &'a [String]) -> Result<Request<'a>, Error> {

@@ -2,8 +2,8 @@
 
 use crate::commands::arguments::path_of;
 use crate::commands::fault_line::{Reported, report, report_memory};
-use crate::commands::files::{read_whole, replace};
-use crate::commands::object_files::append_modules;
+use crate::commands::files::replace;
+use crate::commands::object_files::{append_modules, read_modules};
 use crate::commands::syntax::{Argument, Kind, Syntax};
 use clap::ArgMatches;
 use omf_library::{LibraryPutFault, write_library};
@@ -78,7 +78,7 @@ fn write_modules(rt: &HostRuntime, path: &str, modules: &[Module]) -> Result<u8,
 fn modules_of(rt: &HostRuntime, paths: &[&str]) -> Result<Vec<Module>, Reported> {
     let mut modules = Vec::new(rt.alloc());
     for path in paths {
-        append_modules(rt, path, &read_whole(rt, path)?, &mut modules)?;
+        append_modules(rt, &mut modules, &mut read_modules(rt, path)?)?;
     }
     Ok(modules)
 }

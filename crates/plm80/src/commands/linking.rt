@@ -1,14 +1,16 @@
 //! `plm80 link`: the modules of object files, and what they need of libraries, linked into one.
 
 use crate::commands::arguments::path_of;
-use crate::commands::fault_line::{Reported, report, report_file, report_memory};
-use crate::commands::files::{print, read_whole, replace};
+use crate::commands::fault_line::{Reported, report, report_memory};
+use crate::commands::files::{LateFile, print, replace};
+use crate::commands::link_feed::{LinkFile, read_link_file};
 use crate::commands::object_files::append_modules;
 use crate::commands::syntax::{Argument, Kind, Syntax};
 use clap::ArgMatches;
 use link80::{Chosen, Linked, link};
+use loader80::Reading;
 use omf_core::{Name, NameFault};
-use omf_library::{Library, LibraryFault, read_library};
+use omf_library::Library;
 use omf_module::{Module, write_file};
 use std::alloc::{AllocError, Global};
 use std::fmt::Write;
@@ -143,29 +145,29 @@ fn read_files(rt: &HostRuntime, paths: &[&str]) -> Result<LinkFiles, Reported> {
     Ok(files)
 }
 
-/// The type of a library header, which no module begins with.
-const LIBRARY_HEADER: u8 = 0x2C;
-
 impl LinkFiles {
     /// Adds what the file of this path has.
     fn add(&mut self, rt: &HostRuntime, path: &str) -> Result<(), Reported> {
-        let bytes = read_whole(rt, path)?;
-        match bytes.first() {
-            Some(&LIBRARY_HEADER) => self.add_library(rt, path, &bytes),
-            _ => append_modules(rt, path, &bytes, &mut self.roots),
+        match read_file(rt, path)? {
+            LinkFile::Modules(mut modules) => append_modules(rt, &mut self.roots, &mut modules),
+            LinkFile::Library(library) => self.add_library(rt, library),
         }
     }
 
-    fn add_library(&mut self, rt: &HostRuntime, path: &str, bytes: &[u8]) -> Result<(), Reported> {
-        let library = match read_library(rt.alloc(), bytes) {
-            Ok(library) => library,
-            Err(LibraryFault::Memory) => return Err(report_memory(rt)),
-            Err(fault) => return Err(report_file(rt, path, fault)),
-        };
+    fn add_library(&mut self, rt: &HostRuntime, library: Library) -> Result<(), Reported> {
         match self.libraries.push(library) {
             Ok(()) => Ok(()),
             Err(_) => Err(report_memory(rt)),
         }
+    }
+}
+
+/// What the file of this path has.
+fn read_file(rt: &HostRuntime, path: &str) -> Result<LinkFile, Reported> {
+    let mut source = Reading::new(LateFile::new(rt, path));
+    match read_link_file(rt.alloc(), &mut source) {
+        Ok(file) => Ok(file),
+        Err(fault) => Err(fault.report(rt, path)),
     }
 }
 
