@@ -28,6 +28,13 @@ static TWO: [u8; 56] = [
     0x04, 0x05, 0x00, 0x01, 0x01, 0x00, 0x00, 0xF5, // module end
 ];
 
+/// The header of a module, and two records of named commons that have one name.
+static TWICE: [u8; 22] = [
+    0x02, 0x05, 0x00, 0x01, 0x41, 0x00, 0x00, 0xB7, // module header
+    0x2E, 0x04, 0x00, 0x06, 0x01, 0x58, 0x6F, // common 6, X
+    0x2E, 0x04, 0x00, 0x07, 0x01, 0x58, 0x6E, // common 7, X
+];
+
 /// What is answered of a piece, or of the same piece again where memory ran out.
 fn answer(feed: &mut FileFeed, piece: &[u8]) -> Result<usize, ModuleFault> {
     match feed.piece(piece) {
@@ -155,4 +162,17 @@ fn the_second_module_has_a_fault(rt: HostRuntime) {
     let mut feed = FileFeed::new(rt.alloc());
     assert_eq!(rt; answer_by_bytes(&mut feed, &TWO[..55]), Ok(1));
     assert_eq!(rt; answer_by_bytes(&mut feed, &TWO[55..]), Err(unknown));
+}
+
+#[test]
+fn a_name_stands_twice_on_both_sides_of_a_cut(rt: HostRuntime) {
+    let twice = fault_at(15, Cause::BadBody(0x2E));
+    let mut feed = FileFeed::new(rt.alloc());
+    assert_eq!(rt; answer(&mut feed, &TWICE[..18]), Ok(0));
+    assert_eq!(rt; answer(&mut feed, &TWICE[18..]), Err(twice));
+    assert_eq!(rt; answer(&mut feed, &HALT), Err(twice));
+    let mut feed = FileFeed::new(rt.alloc());
+    assert_eq!(rt; answer_by_bytes(&mut feed, &TWICE[..21]), Ok(0));
+    assert_eq!(rt; answer_by_bytes(&mut feed, &TWICE[21..]), Err(twice));
+    assert_eq!(rt; fault_of(feed), Some(twice));
 }
