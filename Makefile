@@ -1,7 +1,7 @@
 # plm80: LINK, LOCATE and a verifying loader for 8080 programs.
 #
 #   make run       proves every crate, shows its progress, builds plm80 and runs it on the stored examples
-#   make try       shows the transcript of a stored example within a minute or two: plm80 is built without any proof
+#   make try       shows the transcript of a stored example within a minute or two: plm80 is built without any proof. ARGS=".." does a command, as in make try ARGS="check a.img a.regions"
 #   make install   builds plm80 as `make run` does, and installs it with its manual page, FAULTS.md and its completion for bash: make install PREFIX=/usr/local
 #   make test      proves every crate from nothing and runs every test
 #   make commands  builds plm80 and runs the tests of its commands alone
@@ -36,8 +36,12 @@ run: build
 	@examples/run $(PROGRAM)
 
 try: need-rt
+ifdef ARGS
+	@tools/try $(ARGS)
+else
 	@echo "plm80 < examples/echo.bundle, built without any proof (make run proves it):"
 	@cd crates/plm80 && rt try < ../../examples/echo.bundle 2>&1 | sed '/^checked: /,$$d'
+endif
 
 install: build
 	install -D -m 755 $(PROGRAM) $(DESTDIR)$(PREFIX)/bin/plm80
@@ -54,6 +58,7 @@ test: need-rt need-python3
 	@tests/commands/migrated $(PROGRAM)
 	@tests/commands/walk $(PROGRAM)
 	@tests/commands/sums $(PROGRAM)
+	@tests/commands/explained $(PROGRAM)
 	@tests/commands/completion $(PROGRAM)
 	@tests/commands/faults
 
@@ -62,6 +67,7 @@ commands: need-python3 build
 	@tests/commands/migrated $(PROGRAM)
 	@tests/commands/walk $(PROGRAM)
 	@tests/commands/sums $(PROGRAM)
+	@tests/commands/explained $(PROGRAM)
 	@tests/commands/completion $(PROGRAM)
 	@tests/commands/faults
 

@@ -5,21 +5,24 @@ _plm80() {
     local word=${COMP_WORDS[COMP_CWORD]} before=${COMP_WORDS[COMP_CWORD - 1]} options
     COMPREPLY=()
     case $before in
-        --name | --code | --stack | --common | --data | --memory | --stack-size | --memory-size | --steps | --outputs)
+        --name | --code | --stack | --common | --data | --memory | --stack-size | --memory-size | --steps | --outputs | --first | \
+            --length | --start)
             return
             ;;
     esac
     if [[ $COMP_CWORD -eq 1 ]]; then
-        COMPREPLY=($(compgen -W 'link locate run list check lib regions help -h --help -V --version' -- "$word"))
+        COMPREPLY=($(compgen -W 'link locate run list check explain lib regions map extract absolute help -h --help -V --version' -- "$word"))
         return
     fi
     case ${COMP_WORDS[1]} in
         link) options='--name --out -h --help' ;;
-        locate) options='--code --stack --common --data --memory --stack-size --memory-size -h --help' ;;
+        locate | map) options='--code --stack --common --data --memory --stack-size --memory-size -h --help' ;;
         run) options='--steps --outputs -h --help' ;;
-        list | check | lib | regions) options='-h --help' ;;
+        extract) options='--first --length -h --help' ;;
+        absolute) options='--first --start --name -h --help' ;;
+        list | check | explain | lib | regions) options='-h --help' ;;
         help)
-            [[ $COMP_CWORD -eq 2 ]] && COMPREPLY=($(compgen -W 'link locate run list check lib regions help' -- "$word"))
+            [[ $COMP_CWORD -eq 2 ]] && COMPREPLY=($(compgen -W 'link locate run list check explain lib regions map extract absolute help' -- "$word"))
             return
             ;;
         *) return ;;

@@ -308,9 +308,6 @@ flows_too_many known new p to g small full none = record {
   stands = λ code stands shown. many code known (record { procedure = p; at = to; frame = g }) stands small (let few = small.points in omega arith) shown none;
 }
 
-pub flows_out_of_memory : (known new : Known) (p : Procedure) (to : ℕ) (g : StackFrame) → Flows known new p to g (Err Memory)
-flows_out_of_memory known new p to g = record { small = tt; more = tt; stands = λ code stands shown. tt; goes = tt; has = tt }
-
 -- a frame that changes nothing where it is met is covered
 covered_by_same : FrameLaws → (f g : StackFrame) → agree f g ≡ true → merged f g ≡ f → Covers f g
 covered_by_same laws f g same unchanged = record {
@@ -365,7 +362,3 @@ flows_differ known new p to i g at apart = record {
       subst (λ a. Differ code a) at.at_address
       (differ code at.point.procedure at.point.at at.point.frame g (stands.points i at.point at.stands) (shown_there code at.point p to g at.in_procedure at.at_address shown) apart);
 }
-
-pub not_agreed : (b : Bool) → (b ≡ true → false ≡ true) → b ≡ false
-not_agreed true absurd_if = absurd (true≢false (sym (absurd_if refl)))
-not_agreed false absurd_if = refl

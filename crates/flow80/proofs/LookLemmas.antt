@@ -12,23 +12,6 @@ use Rattle.flow80.specs.Known.{Known, nothing_known, exit_of, IsSmall, IsWithin,
 use Rattle.flow80.proofs.Slices.{within}
 use Rattle.flow80.proofs.StepLemmas.{goes_then, first_false, second_false}
 
-pub ongoing_start : (code : Code) (known : Known) → IsSmall known → Ongoing code known known false
-ongoing_start code known small = record { small = small; more = omega arith; stands = λ stands. stands; goes = record { same = λ _. refl; less = λ e. absurd (true≢false (sym e)) } }
-
-pub ongoing_then : (code : Code) (old now new : Known) (i : ℕ) (changed here : Bool) → Ongoing code old now changed → Visits code now new i (Ok here) → Ongoing code old new (changed || here)
-ongoing_then code old now new i changed here so_far visits = record {
-  small = visits.small;
-  more = let a = so_far.more in let b = visits.more in omega arith;
-  stands = λ stands. visits.stands (so_far.stands stands);
-  goes = goes_then old now new changed here so_far.goes visits.goes;
-}
-
-pub looks_refused : (code : Code) (old now new : Known) (i : ℕ) (changed : Bool) (refusal : Refusal) → Ongoing code old now changed → Visits code now new i (Err refusal) → Looks code old new (Err refusal)
-looks_refused code old now new i changed refusal so_far visits = record { ongoing = tt; refused = λ stands. visits.stands (so_far.stands stands) }
-
-pub looks_done : (code : Code) (old new : Known) (changed : Bool) → Ongoing code old new changed → Looks code old new (Ok changed)
-looks_done code old new changed so_far = record { ongoing = so_far; refused = tt }
-
 pub split : (j k : ℕ) → j < k + 1 → (j < k) ⊎ (j ≡ k)
 split j zero less = inr (omega arith)
 split zero (suc k) less = inl (omega arith)
@@ -37,18 +20,6 @@ split (suc j) (suc k) less = by (split j k (omega arith))
     by : (j < k) ⊎ (j ≡ k) → (suc j < suc k) ⊎ (suc j ≡ suc k)
     by (inl before) = inl (omega arith)
     by (inr at) = inr (ap suc at)
-
--- one more point is closed
-pub closed_then : (code : Code) (old now new : Known) (i : ℕ) (changed here : Bool) → Ongoing code old now changed → Visits code now new i (Ok here) →
-    (changed ≡ false → AreClosed code now i) → (changed || here) ≡ false → AreClosed code new (i + 1)
-closed_then code old now new i changed here so_far visits closed none = record { closed = λ j point less there. by j point there (split j i less) }
-  where
-    by : (j : ℕ) (point : Point) → slice_get new.points j ≡ Some point → (j < i) ⊎ (j ≡ i) → IsClosed code new point
-    by j point there (inl before) =
-        let same : new ≡ now = visits.goes.same (second_false changed here none) in
-        subst (λ (k : Known). IsClosed code k point) (sym same)
-        ((closed (first_false changed here none)).closed j point before (subst (λ (k : Known). slice_get k.points j ≡ Some point) same there))
-    by j point there (inr at) = visits.closed (second_false changed here none) point (subst (λ n. slice_get new.points n ≡ Some point) at there)
 
 -- one step of many looks, and then another
 pub ongoing_more : (code : Code) (old mid new : Known) (one other : Bool) → Ongoing code old mid one → Ongoing code mid new other → Ongoing code old new (one || other)
@@ -67,12 +38,6 @@ flow_refused code old new last p to g refusal shown flows = record { ongoing = t
 
 pub more_refused : (code : Code) (old mid new : Known) (one : Bool) (refusal : Refusal) → Ongoing code old mid one → Looks code mid new (Err refusal) → (last : Known) → Looks code old last (Err refusal)
 more_refused code old mid new one refusal first looks last = record { ongoing = tt; refused = λ stands. looks.refused (first.stands stands) }
-
-main_within : (n : ℕ) → IsWithin (n + 1) main_frame
-main_within n = record { taken = omega arith; words = omega arith }
-
-pub main_is_within : (n : ℕ) (f : StackFrame) → f ≡ main_frame → IsWithin (n + 1) f
-main_is_within n f is = subst (λ (g : StackFrame). IsWithin (n + 1) g) (sym is) (main_within n)
 
 -- where the start and a pass change nothing the table is closed
 pub all_closed : (code : Code) (old mid new : Known) (begun passed : Bool) → Flows old mid Main code.start main_frame (Ok begun) → Ongoing code mid new passed →

@@ -37,21 +37,6 @@ pub second_false : (one other : Bool) → (one || other) ≡ false → other ≡
 second_false true other e = absurd (true≢false e)
 second_false false other e = e
 
--- a move that leads one way
-pub steps_end : (known : Known) (p : Procedure) (at : ℕ) (targets : List ℕ) (next : ℕ) (role : Role) → IsSmall known → Steps known known p at targets next role End (Ok false)
-steps_end known p at targets next role small = record {
-  small = small;
-  more = omega arith;
-  stands = λ code f found stands move carries same_targets same_next same_role. stands;
-  goes = record { same = λ _. refl; less = λ e. absurd (true≢false (sym e)) };
-  follows = λ _ f carries. record {
-    on = λ to g leads. absurd leads;
-    enters = λ target is. absurd (let e : None ≡ Some target = is in cc);
-    after = λ target taken is exit. absurd (let e : None ≡ Some target = is in cc);
-    return = λ entry taken in_entry is. absurd (let e : None ≡ Some taken = is in cc);
-  };
-}
-
 pub steps_refused : (old new : Known) (p : Procedure) (at : ℕ) (targets : List ℕ) (next : ℕ) (role : Role) (moves : Moves) (refusal : Refusal) →
     ((code : Code) (f : StackFrame) (found : Fetched) → Stands code old → AtMove code p at f found moves → Carries moves f → targets ≡ code.targets at → found.next ≡ next → role ≡ role_of code p → Refused code refusal) →
     Steps old new p at targets next role moves (Err refusal)
@@ -227,16 +212,6 @@ steps_first_refused laws old new p at targets next to role moves g r leads flows
     steps_refused old last p at targets next role moves r
     (λ code f found stands move carries same_targets same_next same_role. flows.stands code stands (leads_shown laws code p at f found moves move targets next to g same_targets same_next leads))
 
--- returns, case by case
-pub exits_main : (known : Known) (at taken : ℕ) → IsSmall known → Exits known known Main at taken (Ok false)
-exits_main known at taken small = record {
-  small = small;
-  more = omega arith;
-  stands = λ code stands returns same. stands;
-  goes = record { same = λ _. refl; less = λ e. absurd (true≢false (sym e)) };
-  has = λ _ entry is. absurd (let e : Main ≡ Entry entry = is in cc);
-}
-
 pub exits_same : (known : Known) (entry at taken : ℕ) → IsSmall known → exit_of known.exits entry ≡ Some taken → Exits known known (Entry entry) at taken (Ok false)
 exits_same known entry at taken small seen = record {
   small = small;
@@ -263,9 +238,6 @@ exits_first known entry at taken small none = record {
   goes = record { same = λ e. absurd (true≢false e); less = λ _. goes_exit known entry taken none };
   has = λ e. absurd (true≢false e);
 }
-
-pub exits_out_of_memory : (old new : Known) (p : Procedure) (at taken : ℕ) → Exits old new p at taken (Err Memory)
-exits_out_of_memory old new p at taken = record { small = tt; more = tt; stands = λ code stands returns same. tt; goes = tt; has = tt }
 
 -- calls, case by case: the callee's entry first
 entry_shown : FrameLaws → (code : Code) (p : Procedure) (at : ℕ) (f : StackFrame) (found : Fetched) (moves : Moves) → AtMove code p at f found moves →
@@ -348,26 +320,6 @@ calls_short laws old mid new p at next role g target taken entered first exit le
       (let t = taken_at_return code (Entry target) taken returns in
       let h : room (role_of code p) g.words < taken = subst (λ (r : Role). room r g.words < taken) same_role less in omega arith);
 }
-
--- a call, and a conditional one
-pub steps_call : (old new : Known) (p : Procedure) (at : ℕ) (targets : List ℕ) (next : ℕ) (role : Role) (g : StackFrame) (target : ℕ) (result : Result Bool Refusal) →
-    CallsOut old new p at next role g target result → Steps old new p at targets next role (Call g target) result
-steps_call old new p at targets next role g target (Ok changed) calls = record {
-  small = calls.small;
-  more = calls.more;
-  stands = λ code f found stands move carries same_targets same_next same_role. calls.stands code found (Call g target) stands (subst (λ (x : StackFrame). AtMove code p at x found (Call g target)) (sym carries) move) refl same_next same_role;
-  goes = calls.goes;
-  follows = λ same f carries. record {
-    on = λ to h leads. absurd leads;
-    enters = λ to is. let e : target ≡ to = cc in subst (λ n. HasPoint new (Entry n) n entry_frame) e (calls.enters same);
-    after = λ to taken is exit. let e : target ≡ to = cc in
-        subst (λ (x : StackFrame). HasPoint new p next (returned taken x)) carries (calls.after same taken (subst (λ n. exit_of new.exits n ≡ Some taken) (sym e) exit));
-    return = λ entry taken in_entry is. absurd (let e : None ≡ Some taken = is in cc);
-  };
-}
-steps_call old new p at targets next role g target (Err r) calls =
-    steps_refused old new p at targets next role (Call g target) r (λ code f found stands move carries same_targets same_next same_role.
-    calls.stands code found (Call g target) stands (subst (λ (x : StackFrame). AtMove code p at x found (Call g target)) (sym carries) move) refl same_next same_role)
 
 pub steps_maybe_call : FrameLaws → (old mid new : Known) (p : Procedure) (at : ℕ) (targets : List ℕ) (next : ℕ) (role : Role) (g : StackFrame) (target : ℕ) (one x : Bool) →
     Flows old mid p next g (Ok one) → CallsOut mid new p at next role g target (Ok x) → Steps old new p at targets next role (MaybeCall g target) (Ok (one || x))

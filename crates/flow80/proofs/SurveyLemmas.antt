@@ -1,5 +1,5 @@
 -- What the loops over the points of a filled table keep.
-use Rattle.std.proofs.Common.{◌≡◌, ◌<◌, ◌≤◌, ◌+◌, ◌⊎◌, inl, inr, ℕ, Bool, true, List, [], ◌∷◌, ◌++◌, length, get_or, set, refl, sym, ap, subst, ◌∙◌, arith, true≢false}
+use Rattle.std.proofs.Common.{◌≡◌, ◌<◌, ◌≤◌, ◌+◌, ◌⊎◌, inl, inr, ℕ, Bool, true, false, List, [], ◌∷◌, ◌++◌, length, get_or, set, refl, sym, ap, subst, ◌∙◌, arith, true≢false}
 use Rattle.std.specs.Prelude.{ℤ, Option, Some, None, is_some, IfSome, Result, Ok, Contains, slice_get, slice_index}
 use Rattle.std.proofs.lemmas.List.{get_or-set_same, get_or-set_other, length_push}
 use Rattle.std.proofs.lemmas.List.Elements.{Contains-get_or, Contains-append_left, Contains-push_cases, Contains-push}
@@ -27,7 +27,7 @@ use Rattle.flow80.specs.Points.{Point, AreAddresses, IsPointAt, IsNoPoint}
 use Rattle.bounds80.specs.Chains.{slot_of, bytes_of}
 use Rattle.flow80.specs.Shown.{Whole, FrameLaws}
 use Rattle.flow80.specs.Known.{Known, Stands, IsShort}
-use Rattle.flow80.specs.Survey.{IsSeen, IsCallOf, noted, IsMoveAt, IsEntered, TakesAt, AreWants, depth_at, call_at, IsDepthAt, IsCallAt, IsSurvey, row_of, IsRowIn, AreListed}
+use Rattle.flow80.specs.Survey.{IsSeen, IsCallOf, noted, IsMoveAt, IsEntered, TakesAt, AreWants, AreMarked, depth_at, call_at, IsDepthAt, IsCallAt, IsSurvey, row_of, IsRowIn, AreListed}
 use Rattle.flow80.proofs.FitLemmas.{found_same}
 use Rattle.flow80.proofs.LookLemmas.{split}
 use Rattle.flow80.proofs.ShownLemmas.{short}
@@ -49,10 +49,6 @@ slot_apart Main Main e = refl
 slot_apart Main (Entry b) e = absurd (omega arith)
 slot_apart (Entry a) Main e = absurd (omega arith)
 slot_apart (Entry a) (Entry b) e = ap Entry (omega arith)
-
--- the words that are wanted
-pub no_wants : (points : List Point) (wants : List ℕ) → ((k : ℕ) → get_or wants k 0 ≡ 0) → AreWants points wants 0
-no_wants points wants zero_at = record { above = λ i point less there. absurd (omega (arith, less)); reached = λ p. inl (zero_at (slot_of p)) }
 
 pub wants_kept : (points : List Point) (wants : List ℕ) (i : ℕ) (point : Point) (place taken : ℕ) → slice_get points i ≡ Some point → place ≡ slot_of point.procedure →
     taken ≡ point.frame.taken → taken ≤ get_or wants place 0 → AreWants points wants i → AreWants points wants (i + 1)
@@ -104,18 +100,6 @@ called_here code p at f found moves target next moving call =
     subst (λ (x : Fetched). moves_of (role_of code p) (effect_of x.instr) f ≡ Ok call.moves) same call.moving.moved in
     let e : moves ≡ call.moves = moves_same (moves_of (role_of code p) (effect_of found.instr) f) moves call.moves moving.moved moved in
     ap called e ∙ call.call
-
--- one point more is gone over
-pub no_survey : (code : Code) (known : Known) (wants : List ℕ) → AreAddresses known.points → IsSurvey code known wants 0 [] []
-no_survey code known wants addresses = record {
-  depth = λ d there. absurd (omega (arith, there.1));
-  every_depth = λ i point less there. absurd (omega (arith, less));
-  call = λ c there. absurd (omega (arith, there.1));
-  every_call = λ i point target next less there calls. absurd (omega (arith, less));
-  words = λ i point target next less there calls. absurd (omega (arith, less));
-  few = omega arith;
-  addresses = addresses;
-}
 
 -- what is called from one point is in the longer list, with its words
 record IsCalled (code : Code) (wants : List ℕ) (point : Point) (calls : List CallSite) (target : ℕ) : Type 0 where
@@ -217,14 +201,6 @@ short_here laws code known wants i site moves target f refusal m frame call are 
         (subst (λ (q : Procedure). Walk code q takes.point.at shown.frame) takes.procedure shown.walk)
         (let taken = shown.covers.counts.taken in omega (arith, same_room, less, takes.is, taken)))
 
--- the rows, one address after another
-pub no_rows : (known : Known) (wants bytes : List ℕ) → AreListed known wants bytes 0 []
-no_rows known wants bytes = record {
-  each = λ row there. absurd (omega (arith, there.1));
-  all = λ entry less is. absurd (omega (arith, less));
-  by_entry = λ i j d less within. absurd (omega (arith, within));
-}
-
 pub row_less : (known : Known) (wants bytes : List ℕ) (count : ℕ) (rows : List ProcRow) → (IsEntered known count → ⊥) → AreListed known wants bytes count rows → AreListed known wants bytes (count + 1) rows
 row_less known wants bytes count rows none are = record {
   each = λ row there. later row (are.each row there);
@@ -295,3 +271,22 @@ words_enough code known wants i site moves f target place m frame at enough =
 
 pub not_entered : (known : Known) (entry : ℕ) → IsNoPoint known.points (Entry entry) entry → IsEntered known entry → ⊥
 not_entered known entry none entered = none.none entered.number entered.point entered.there entered.procedure entered.address
+
+pub none_marked : (points : List Point) (marks : List Bool) → AreMarked points marks 0
+none_marked points marks = record { marked = λ i point less there. absurd (omega (arith, less)) }
+
+-- one procedure more is marked
+module _ (points : List Point) (marks : List Bool) (i : ℕ) (point : Point) (place : ℕ) (there : slice_get points i ≡ Some point) (at : place ≡ slot_of point.procedure) (within : place < length marks) where
+  still_marked : (n : ℕ) → get_or marks n false ≡ true → get_or (set marks place true) n false ≡ true
+  still_marked n is = elim (cases_eq n place) [
+    | inl e ↦ subst (λ (k : ℕ). get_or (set marks place true) k false ≡ true) (sym e) (get_or-set_same marks place true false within)
+    | inr other ↦ get_or-set_other marks place n true false other ∙ is
+  ]
+
+  pub mark_more : AreMarked points marks i → AreMarked points (set marks place true) (i + 1)
+  mark_more are = record {
+    marked = λ j other less here. below_more i j point points there other less here
+        (λ before. still_marked (slot_of other.procedure) (are.marked j other before here))
+        (λ same. subst (λ (x : Point). get_or (set marks place true) (slot_of x.procedure) false ≡ true) (sym same)
+        (subst (λ (k : ℕ). get_or (set marks place true) k false ≡ true) at (get_or-set_same marks place true false within)));
+  }

@@ -178,28 +178,6 @@ visits_moves code known new i site targets moves result m same_targets steps =
     (subst (λ n. code.look n ≡ Ok m.found) (sym m.address) m.moving.looked) same_targets (sym m.next) (m.role ∙ ap (role_of code) (sym m.procedure))
     (subst (λ (r : Role). moves_of r (effect_of m.found.instr) m.point.frame ≡ Ok moves) (sym m.role) m.moving.moved) steps
 
-pub visits_refused : (code : Code) (known new : Known) (i : ℕ) (refusal : Refusal) → (Stands code known → Refused code refusal) → Visits code known new i (Err refusal)
-visits_refused code known new i refusal holds = record { small = tt; more = tt; goes = tt; closed = tt; stands = holds }
-
--- the frames that a move carries are within bounds
-popped_within : (words : List Word) (taken n : ℕ) → taken ≤ n → taken_after_pop words taken ≤ n + 1
-popped_within [] taken n less = omega arith
-popped_within (word ∷ words) taken n less = omega arith
-
-pub changed_within : (n : ℕ) (change : Change) (f : StackFrame) → IsWithin n f → IsWithin (n + 1) (changed change f)
-changed_within n Keep f is = record { taken = let t = is.taken in omega arith; words = let w = is.words in omega arith }
-changed_within n (Push pair) f is = record { taken = let t = is.taken in omega arith; words = let w = is.words in omega arith }
-changed_within n PushAny f is = record { taken = let t = is.taken in omega arith; words = let w = is.words in omega arith }
-changed_within n (Pop pair) f is = record { taken = popped_within f.words f.taken n is.taken; words = let w = is.words in let d = length-drop 1 f.words in omega arith }
-changed_within n Drop f is = record { taken = popped_within f.words f.taken n is.taken; words = let w = is.words in let d = length-drop 1 f.words in omega arith }
-changed_within n Swap f is = record { taken = popped_within f.words f.taken n is.taken; words = let w = is.words in let d = length-drop 1 f.words in omega arith }
-changed_within n Exchange f is = record { taken = let t = is.taken in omega arith; words = let w = is.words in omega arith }
-changed_within n (Forget pair) f is = record { taken = let t = is.taken in omega arith; words = let w = is.words in omega arith }
-changed_within n (SetStack address) f is = record { taken = let t = is.taken in omega arith; words = omega arith }
-
-pub same_within : (n : ℕ) (f : StackFrame) → IsWithin n f → IsWithin (n + 1) f
-same_within n f is = record { taken = let t = is.taken in omega arith; words = let w = is.words in omega arith }
-
 -- a frame that is within so many points is within more
 pub more_within : (n m : ℕ) (f : StackFrame) → n ≤ m → IsWithin n f → IsWithin (m + 1) f
 more_within n m f more is = record { taken = let t = is.taken in omega arith; words = let w = is.words in omega arith }

@@ -1,5 +1,5 @@
 -- What a filled table says of each procedure and each call. (This project's own.)
-use Rattle.std.specs.Prelude.{◌≡◌, ◌⊎◌, ◌≤◌, ◌<◌, ◌+◌, ◌++◌, ◌∷◌, [], ℕ, Bool, true, false, List, AllPairs, Contains, length, Option, Some, None, slice_get}
+use Rattle.std.specs.Prelude.{◌≡◌, ◌⊎◌, ◌≤◌, ◌<◌, ◌+◌, ◌++◌, ◌∷◌, [], ℕ, Bool, true, false, List, AllPairs, Contains, length, Option, Some, None, slice_get, slice_index_or}
 use Rattle.decode80.specs.declared.fetching.Fetched.{Fetched}
 use Rattle.frames80.specs.declared.effect.Effect.{Effect}
 use Rattle.frames80.specs.declared.moves.Moves.{Moves}
@@ -16,7 +16,7 @@ use Rattle.flow80.specs.Code.{Code}
 use Rattle.flow80.specs.Walks.{Moving, Calls, called, role_of}
 use Rattle.flow80.specs.Points.{Point, AreAddresses}
 use Rattle.flow80.specs.Graph.{AreBounds, NoneRecurs}
-use Rattle.bounds80.specs.Chains.{bytes_of}
+use Rattle.bounds80.specs.Chains.{bytes_of, slot_of}
 use Rattle.flow80.specs.Known.{Known, KnownFrames, exit_of}
 
 -- the instruction of the point at i moves so, and stands there
@@ -55,6 +55,10 @@ pub record TakesAt (points : List Point) (p : Procedure) (taken : ℕ) : Type 0 
 pub record AreWants (points : List Point) (wants : List ℕ) (count : ℕ) : Type 0 where
   pub above : (i : ℕ) (point : Point) → i < count → slice_get points i ≡ Some point → point.frame.taken ≤ bytes_of wants point.procedure
   pub reached : (p : Procedure) → (bytes_of wants p ≡ 0) ⊎ TakesAt points p (bytes_of wants p)
+
+-- each procedure of the first points is marked, by its slot
+pub record AreMarked (points : List Point) (marks : List Bool) (count : ℕ) : Type 0 where
+  pub marked : (i : ℕ) (point : Point) → i < count → slice_get points i ≡ Some point → slice_index_or marks (slot_of point.procedure) false ≡ true
 
 -- the depth at a point
 abbrev pub depth_at : Code → Point → Depth

@@ -8,10 +8,19 @@ use decode80::Fetched;
 use frames80::{Effect, effect_of};
 use std::alloc::{AllocError, Global};
 
-/// An address on the path of the search, and how many of its ways on have been tried.
+/// The ways on from an address, in its own procedure.
+#[derive(Clone, Copy)]
+enum Ways {
+    To(Option<u16>, Option<u16>),
+    /// To the declared targets.
+    Case,
+}
+
+/// An address on the path of the search, its ways on, and how many of them have been tried.
 #[derive(Clone, Copy)]
 struct Step {
     at: u16,
+    ways: Ways,
     tried: usize,
 }
 
@@ -71,10 +80,11 @@ impl Search {
             return Ok(());
         }
         *seen = true;
-        if let Some(target) = called(program, at) {
+        let (ways, called) = ways_from(program, at);
+        if let Some(target) = called {
             self.roots.push(target)?;
         }
-        self.path.push(Step { at, tried: 0 })?;
+        self.path.push(Step { at, ways, tried: 0 })?;
         Ok(())
     }
 
@@ -98,12 +108,13 @@ impl Search {
     /// # Errors
     /// `AllocError` where memory runs out.
     fn go_on<C: Code>(&mut self, program: &C, step: Step) -> Result<(), AllocError> {
-        let Some(to) = way_on(program, step.at, step.tried) else {
+        let Some(to) = way_on(program, step) else {
             self.finish(step.at);
             return Ok(());
         };
         self.path.push(Step {
             at: step.at,
+            ways: step.ways,
             tried: step.tried.saturating_add(1),
         })?;
         self.enter(program, to)
@@ -118,30 +129,31 @@ impl Search {
     }
 }
 
-/// The procedure that the instruction at an address calls.
-fn called<C: Code>(program: &C, at: u16) -> Option<u16> {
-    let found = program.look(at).ok()?;
-    match effect_of(found.instr) {
-        Effect::Call(target) | Effect::CallIf(target) => Some(target),
-        _ => None,
-    }
-}
-
-/// The way on of a number from an address, in its own procedure.
-fn way_on<C: Code>(program: &C, at: u16, number: usize) -> Option<u16> {
-    let Fetched { instr, next } = program.look(at).ok()?;
+/// The ways on from an address, and the procedure that its instruction calls.
+fn ways_from<C: Code>(program: &C, at: u16) -> (Ways, Option<u16>) {
+    let Ok(Fetched { instr, next }) = program.look(at) else {
+        return (Ways::To(None, None), None);
+    };
     match effect_of(instr) {
-        Effect::Change(_) | Effect::Call(_) | Effect::CallIf(_) | Effect::ReturnIf => {
-            one_of(&[next], number)
+        Effect::Change(_) | Effect::ReturnIf => (Ways::To(Some(next), None), None),
+        Effect::Call(target) | Effect::CallIf(target) => {
+            (Ways::To(Some(next), None), Some(target))
         }
-        Effect::Jump(to) => one_of(&[to], number),
-        Effect::JumpIf(to) => one_of(&[to, next], number),
-        Effect::Case => one_of(program.targets(at), number),
-        Effect::Halt | Effect::Return | Effect::Refuse(_) => None,
+        Effect::Jump(to) => (Ways::To(Some(to), None), None),
+        Effect::JumpIf(to) => (Ways::To(Some(to), Some(next)), None),
+        Effect::Case => (Ways::Case, None),
+        Effect::Halt | Effect::Return | Effect::Refuse(_) => (Ways::To(None, None), None),
     }
 }
 
-/// The address of a number.
-fn one_of(ways: &[u16], number: usize) -> Option<u16> {
-    ways.get(number).copied()
+/// The next way on that wasn't tried.
+fn way_on<C: Code>(program: &C, step: Step) -> Option<u16> {
+    match step.ways {
+        Ways::To(first, second) => match step.tried {
+            0 => first,
+            1 => second,
+            _ => None,
+        },
+        Ways::Case => program.targets(step.at).get(step.tried).copied(),
+    }
 }

@@ -1,11 +1,13 @@
 //! The rows of a report.
 
-ghost use Rattle.std.specs.Prelude.{◌≡◌, IfOk, length};
-ghost use Rattle.flow80.specs.Survey.{AreListed, row_of};
+ghost use Rattle.std.specs.Prelude.{◌≡◌, IfOk, length, true, false};
+ghost use Rattle.bounds80.specs.declared.procedure.Procedure.TheVariants.{Entry};
+ghost use Rattle.flow80.specs.Points.{IsNoPoint};
+ghost use Rattle.flow80.specs.Survey.{AreListed, AreMarked, IsEntered, row_of};
 
 use crate::report::ProcRow;
 use crate::table::Table;
-use bounds80::{Bounds, Procedure, slot};
+use bounds80::{Bounds, Procedure, SLOTS, slot};
 use std::alloc::{AllocError, Global};
 
 /// The rows of the procedures that are entered, by entry.
@@ -21,14 +23,41 @@ pub(crate) fn list_rows(
     requires slots { length wants.now ≡ 65537 }
     ensures { IfOk result (λ rows. AreListed table.now.known wants.now bounds.now 65536 rows.items) }
 {
+    let marks = mark_procedures(alloc, table)?;
     let mut rows = Vec::new(alloc);
     for address in 0..65_536_u32 {
         let entry = address as u16;
-        if table.is_entered(entry) {
+        if has_row(table, &marks, entry) {
             rows.push(row(table, wants, bounds, entry))?;
         }
     }
     Ok(rows)
+}
+
+/// For each procedure, by slot, whether it has a point: so that few addresses are looked up.
+///
+/// # Errors
+/// `AllocError` where memory runs out.
+fn mark_procedures(alloc: Global, table: &Table) -> Result<Vec<bool>, AllocError>
+    ensures slots { IfOk result (λ marks. length marks.items ≡ 65537) }
+    ensures marked { IfOk result (λ marks. AreMarked table.now.known.points marks.items (length table.now.known.points)) }
+{
+    let mut marks = vec![in alloc; false; SLOTS]?;
+    for point in 0..table.len() {
+        marks[slot(table.procedure(point))] = true;
+    }
+    Ok(marks)
+}
+
+/// Whether a call reaches the procedure that is entered at an address.
+fn has_row(table: &Table, marks: &[bool], entry: u16) -> bool
+    requires slots { length marks.now ≡ 65537 }
+    requires marked { AreMarked table.now.known.points marks.now (length table.now.known.points) }
+    ensures yes { result ≡ true → IsEntered table.now.known entry }
+    ensures no { result ≡ false → IsNoPoint table.now.known.points (Entry entry) entry }
+{
+    let marked = marks[slot(Procedure::Entry(entry))];
+    marked && table.is_entered(entry)
 }
 
 /// The row of a procedure.

@@ -10,7 +10,8 @@ use Rattle.omf_parts.specs.declared.segment.Segment.{Segment}
 use Rattle.omf_parts.specs.declared.symbols.Common.{Common}
 use Rattle.omf_parts.specs.Segments.{empty_segment, is_fixed_id, segment_in}
 use Rattle.omf_parts.specs.Modules.{ModuleValue}
-use Rattle.omf_parts.specs.Rules.{each_after, is_new_common, is_start, IsModule}
+use Rattle.omf_parts.specs.Rules.{each_after, is_new_common, IsModule}
+use Rattle.omf_parts.specs.SoundParts.{sound_parts}
 use Rattle.omf_relocation.specs.Place.{common_name, is_laid_out}
 use Rattle.link80.specs.FirstSight.{number_in}
 use Rattle.link80.specs.Joined.{joined_parts, with_parts, parts_of_commons, with_part_at, with_named_parts}
@@ -269,4 +270,4 @@ with_both_parts names segments (p ∷ ps) qs = with_both_parts names (with_part_
 
 -- a module's commons keep their rule
 pub once_part : (m : ModuleValue) → IsModule m → OncePart m
-once_part m is = (and_parts (each_after is_new_common [] m.commons) _ (and_parts _ _ (and_parts _ (is_start m.commons m.start) is.sound).0).0).0
+once_part m is = (sound_parts m is.sound).commons

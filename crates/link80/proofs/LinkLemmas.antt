@@ -9,7 +9,7 @@ use Rattle.std.proofs.lemmas.Bool.{cases_Bool, ltb-false, or_parts}
 use Rattle.std.proofs.lemmas.List.{append-nil}
 use Rattle.omf_parts.specs.declared.symbols.Common.{Common}
 use Rattle.omf_parts.specs.Contents.{ContentValue}
-use Rattle.omf_parts.specs.Segments.{names_common}
+use Rattle.omf_parts.specs.Segments.{has_common_id}
 use Rattle.omf_parts.specs.Modules.{ModuleValue}
 use Rattle.omf_parts.specs.Rules.{IsModule}
 use Rattle.omf_relocation.specs.PatchLaws.{TwoPassesAreOne}
@@ -29,10 +29,10 @@ use Rattle.link80.proofs.ContentLemmas.{chunk_same}
 
 -- ---- each module is one of the list
 
-own_common : (commons : List Common) (id : ℕ) → names_common commons id ≡ true → has_name (map (λ c. c.name) commons) (common_name commons id) ≡ true
+own_common : (commons : List Common) (id : ℕ) → has_common_id commons id ≡ true → has_name (map (λ c. c.name) commons) (common_name commons id) ≡ true
 own_common [] id named = absurd cc
 own_common (c ∷ cs) id named =
-    (elim (c.id == id) as (λ b. (b || names_common cs id) ≡ true →
+    (elim (c.id == id) as (λ b. (b || has_common_id cs id) ≡ true →
     (pointwise nat_eq c.name (option_map_or (λ (d : Common). d.name) (cond b (Some c) (find (λ (d : Common). d.id == id) cs)) []) || has_name (map (λ d. d.name) cs) (option_map_or (λ (d : Common). d.name) (cond b (Some c) (find (λ (d : Common). d.id == id) cs)) [])) ≡ true) [
       | true ↦ λ _. ap (λ b. b || has_name (map (λ (d : Common). d.name) cs) c.name) (name_itself c.name)
       | false ↦ λ later. any_back (λ n. pointwise nat_eq n (common_name cs id)) (c.name ∷ []) (map (λ d. d.name) cs) (own_common cs id later)

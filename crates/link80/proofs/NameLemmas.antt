@@ -6,7 +6,7 @@ use Rattle.std.specs.Cmp.Lexicographic.{pointwise}
 use Rattle.std.proofs.Common.{◌∙◌, ap, sym, arith, inl, inr, cond, eqb-true, eq-eqb}
 use Rattle.std.proofs.lemmas.Bool.{cases_Bool, and_parts, ne_eqb, not_from_false}
 use Rattle.omf_parts.specs.declared.symbols.Common.{Common}
-use Rattle.omf_parts.specs.Segments.{names_common}
+use Rattle.omf_parts.specs.Segments.{has_common_id}
 use Rattle.omf_relocation.specs.Place.{common_name}
 use Rattle.omf_relocation.specs.ImageByte.{name_at}
 use Rattle.link80.specs.Linked.{distinct, numbered_common, id_of, index_of}
@@ -94,7 +94,7 @@ numbered start names = map numbered_common (enumerate_from start names)
 pub record IsNumbered (start : ℕ) (names : List (List ℕ)) (name : List ℕ) : Type 0 where
   pub least : start ≤ id_of (numbered start names) name
   pub most : id_of (numbered start names) name < start + length names
-  pub there : names_common (numbered start names) (id_of (numbered start names) name) ≡ true
+  pub there : has_common_id (numbered start names) (id_of (numbered start names) name) ≡ true
   pub called : common_name (numbered start names) (id_of (numbered start names) name) ≡ name
 
 abbrev id_if : ℕ → List ℕ → List (List ℕ) → List ℕ → Bool → ℕ
@@ -112,7 +112,7 @@ is_numbered start (n ∷ ns) name here = elim (cases_Bool (pointwise nat_eq n na
       record {
         least = omega (arith, is);
         most = omega (arith, is);
-        there = ap (λ b. b || names_common (numbered (start + 1) ns) (id_of (numbered start (n ∷ ns)) name)) first;
+        there = ap (λ b. b || has_common_id (numbered (start + 1) ns) (id_of (numbered start (n ∷ ns)) name)) first;
         called = ap (name_if start n ns (id_of (numbered start (n ∷ ns)) name)) first ∙ name_is n name same;
       }
   | inr differs ↦
@@ -125,7 +125,7 @@ is_numbered start (n ∷ ns) name here = elim (cases_Bool (pointwise nat_eq n na
       record {
         least = omega (arith, is, low);
         most = omega (arith, is, high);
-        there = ap (λ i. names_common (numbered start (n ∷ ns)) i) is ∙ ap (λ b. b || names_common (numbered (start + 1) ns) id) not_first ∙ later.there;
+        there = ap (λ i. has_common_id (numbered start (n ∷ ns)) i) is ∙ ap (λ b. b || has_common_id (numbered (start + 1) ns) id) not_first ∙ later.there;
         called = ap (λ i. common_name (numbered start (n ∷ ns)) i) is ∙ ap (name_if start n ns id) not_first ∙ later.called;
       }
 ]

@@ -4,7 +4,7 @@ use Rattle.std.specs.List.{flat_map}
 use Rattle.std.proofs.Common.{◌∙◌, ap, sym, subst, arith, inl, inr, cond, eqb-true, true≢false}
 use Rattle.std.proofs.lemmas.Bool.{cases_Bool, ne_eqb}
 use Rattle.std.proofs.lemmas.Bool.Decides.{nat_tests}
-use Rattle.omf_parts.specs.Segments.{is_fixed_id, names_common, has_segment}
+use Rattle.omf_parts.specs.Segments.{is_fixed_id, has_common_id, has_segment}
 use Rattle.omf_parts.specs.Modules.{ModuleValue}
 use Rattle.omf_relocation.specs.Place.{Bases, word_of, common_name, base_of, part_start, place_in}
 use Rattle.omf_relocation.specs.ImageByte.{name_at}
@@ -15,14 +15,14 @@ use Rattle.link80.proofs.NameLemmas.{has_name, distinct_has, IsNumbered, is_numb
 -- a module of the list: it keeps the rules, and its names are among those of all
 pub record Listed (modules : List ModuleValue) (m : ModuleValue) : Type 0 where
   pub rules : RulesOf m
-  pub commons : (id : ℕ) → names_common m.commons id ≡ true → has_name (flat_map names_of_commons modules) (common_name m.commons id) ≡ true
+  pub commons : (id : ℕ) → has_common_id m.commons id ≡ true → has_name (flat_map names_of_commons modules) (common_name m.commons id) ≡ true
   pub externals : (index : ℕ) → index < length m.externals → has_name (flat_map (λ m. m.externals) modules) (name_at m.externals index) ≡ true
 
 abbrev pub few_commons : List ModuleValue → Type 0
 few_commons modules = length (common_names modules) ≤ 249
 
 -- the linked common of a module's common
-pub common_found : (modules : List ModuleValue) (m : ModuleValue) (id : ℕ) → Listed modules m → names_common m.commons id ≡ true → IsNumbered 6 (common_names modules) (common_name m.commons id)
+pub common_found : (modules : List ModuleValue) (m : ModuleValue) (id : ℕ) → Listed modules m → has_common_id m.commons id ≡ true → IsNumbered 6 (common_names modules) (common_name m.commons id)
 common_found modules m id listed named =
     is_numbered 6 (common_names modules) (common_name m.commons id)
     (distinct_has (flat_map names_of_commons modules) (common_name m.commons id) (listed.commons id named))
@@ -86,11 +86,11 @@ same_segment name modules m bases id few listed has not_absolute not_stack = eli
       record {
         not_absolute = ap (λ i. i == 0) same ∙ not_absolute;
         not_stack = ap (λ i. i == 3) same ∙ not_stack;
-        there = ap (λ i. has_segment (linked_commons modules) i) same ∙ ap (λ b. b || names_common (linked_commons modules) id) fixed;
+        there = ap (λ i. has_segment (linked_commons modules) i) same ∙ ap (λ b. b || has_common_id (linked_commons modules) id) fixed;
         base = ap (λ i. base_of bases (linked name modules) i) same ∙ fixed_base bases (linked name modules) m id fixed not_absolute not_stack;
       }
   | inr named ↦
-      let is_named : names_common m.commons id ≡ true = sym (ap (λ b. b || names_common m.commons id) named) ∙ has in
+      let is_named : has_common_id m.commons id ≡ true = sym (ap (λ b. b || has_common_id m.commons id) named) ∙ has in
       let found : IsNumbered 6 (common_names modules) (common_name m.commons id) = common_found modules m id listed is_named in
       let new : ℕ = id_of (linked_commons modules) (common_name m.commons id) in
       let same : linked_id modules m id ≡ new = ap (λ b. cond b id new) named in
@@ -100,7 +100,7 @@ same_segment name modules m bases id few listed has not_absolute not_stack = eli
       record {
         not_absolute = ap (λ i. i == 0) same ∙ other_than new 0 (λ e. omega (arith, e, low));
         not_stack = ap (λ i. i == 3) same ∙ other_than new 3 (λ e. omega (arith, e, low));
-        there = ap (λ i. has_segment (linked_commons modules) i) same ∙ later (is_fixed_id new) (names_common (linked_commons modules) new) found.there;
+        there = ap (λ i. has_segment (linked_commons modules) i) same ∙ later (is_fixed_id new) (has_common_id (linked_commons modules) new) found.there;
         base =
             ap (λ i. base_of bases (linked name modules) i) same
             ∙ named_base bases (linked name modules) new (other_than new 1 (λ e. omega (arith, e, low))) (other_than new 2 (λ e. omega (arith, e, low))) (other_than new 4 (λ e. omega (arith, e, low))) (other_than new 255 (λ e. omega (arith, e, high)))

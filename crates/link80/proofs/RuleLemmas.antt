@@ -13,7 +13,7 @@ use Rattle.omf_parts.specs.declared.fixup.Fixup.{Fixup}
 use Rattle.omf_parts.specs.declared.fixup.Target.{Target}
 use Rattle.omf_parts.specs.declared.fixup.Target.TheVariants as target
 use Rattle.omf_parts.specs.Contents.{ContentValue}
-use Rattle.omf_parts.specs.Segments.{is_fixed_id, names_common, has_segment, segment_in}
+use Rattle.omf_parts.specs.Segments.{is_fixed_id, has_common_id, has_segment, segment_in}
 use Rattle.omf_parts.specs.Modules.{ModuleValue}
 use Rattle.omf_parts.specs.Rules.{each_after, is_new_entry, is_new_common, has_target, is_fitting, has_fitting, lies_within, is_in_bounds, is_content, end_of, is_start}
 use Rattle.omf_relocation.specs.Patches.{byte_with}
@@ -68,12 +68,12 @@ linked_there : (modules : List ModuleValue) (m : ModuleValue) (id : ℕ) → Lis
 linked_there modules m id listed has = elim (cases_Bool (is_fixed_id id)) [
   | inl fixed ↦
       ap (λ b. has_segment (linked_commons modules) (cond b id (id_of (linked_commons modules) (common_name m.commons id)))) fixed
-      ∙ ap (λ b. b || names_common (linked_commons modules) id) fixed
+      ∙ ap (λ b. b || has_common_id (linked_commons modules) id) fixed
   | inr named ↦
-      let is_named : names_common m.commons id ≡ true = sym (ap (λ b. b || names_common m.commons id) named) ∙ has in
+      let is_named : has_common_id m.commons id ≡ true = sym (ap (λ b. b || has_common_id m.commons id) named) ∙ has in
       let found = common_found modules m id listed is_named in
       let new : ℕ = id_of (linked_commons modules) (common_name m.commons id) in
-      ap (λ b. has_segment (linked_commons modules) (cond b id new)) named ∙ later (is_fixed_id new) (names_common (linked_commons modules) new) found.there
+      ap (λ b. has_segment (linked_commons modules) (cond b id new)) named ∙ later (is_fixed_id new) (has_common_id (linked_commons modules) new) found.there
 ]
 
 public_there : (modules : List ModuleValue) → all_listed modules (enumerate_from 0 modules) → list_all (λ (p : Public). has_segment (linked_commons modules) p.segment) (linked_publics modules) ≡ true
@@ -164,10 +164,10 @@ all_fit modules =
     from_zero : (k : ℕ) → 0 + k ≡ k
     from_zero k = omega arith
 
-common_listed : (commons : List Common) (id : ℕ) → names_common commons id ≡ true → list_any (λ i. i == id) (map (λ (c : Common). c.id) commons) ≡ true
+common_listed : (commons : List Common) (id : ℕ) → has_common_id commons id ≡ true → list_any (λ i. i == id) (map (λ (c : Common). c.id) commons) ≡ true
 common_listed [] id named = absurd cc
 common_listed (c ∷ cs) id named =
-    (elim (c.id == id) as (λ b. (b || names_common cs id) ≡ true → (b || list_any (λ i. i == id) (map (λ (d : Common). d.id) cs)) ≡ true) [
+    (elim (c.id == id) as (λ b. (b || has_common_id cs id) ≡ true → (b || list_any (λ i. i == id) (map (λ (d : Common). d.id) cs)) ≡ true) [
       | true ↦ λ _. refl
       | false ↦ λ there. common_listed cs id there
     ]) named
@@ -177,12 +177,6 @@ fixed_listed id rest fixed other = grind (arith, nat_tests, fixed, other)
 
 five_later : (a b c d e rest : Bool) → rest ≡ true → (a || (b || (c || (d || (e || rest))))) ≡ true
 five_later a b c d e rest h = later a (b || (c || (d || (e || rest)))) (later b (c || (d || (e || rest))) (later c (d || (e || rest)) (later d (e || rest) (later e rest h))))
-
-laid_out_fixed : (id : ℕ) → is_laid_out id ≡ true → is_fixed_id id ≡ true
-laid_out_fixed id laid = grind (arith, nat_tests, laid)
-
-laid_out_some : (id : ℕ) → is_laid_out id ≡ true → (id == 0) ≡ false
-laid_out_some id laid = grind (arith, nat_tests, laid)
 
 high_not_laid : (id : ℕ) → 6 ≤ id → is_laid_out id ≡ false
 high_not_laid id high = grind (arith, nat_tests, high)
@@ -226,7 +220,7 @@ holds by_name name modules m id reach few listed fits has not_stack within = eli
                   omega (arith, ends, at, long, part, fit, inside)
             ]
         | inr named ↦
-            let is_named : names_common m.1.commons id ≡ true = sym (ap (λ b. b || names_common m.1.commons id) named) ∙ has in
+            let is_named : has_common_id m.1.commons id ≡ true = sym (ap (λ b. b || has_common_id m.1.commons id) named) ∙ has in
             let found = common_found modules m.1 id listed is_named in
             let numbered : ℕ = id_of (linked_commons modules) (common_name m.1.commons id) in
             let same : new ≡ numbered = ap (λ b. cond b id numbered) named in
@@ -236,7 +230,7 @@ holds by_name name modules m id reach few listed fits has not_stack within = eli
             let ends : end_of (linked_parts name modules).segments new ≡ linked_length modules new =
             linked_end name modules new (ne_eqb new 0 (λ z. omega (arith, z, low)))
             (five_later (1 == new) (2 == new) (3 == new) (4 == new) (255 == new) (list_any (λ i. i == new) (map (λ (c : Common). c.id) (linked_commons modules)))
-            (common_listed (linked_commons modules) new (ap (names_common (linked_commons modules)) same ∙ found.there))) in
+            (common_listed (linked_commons modules) new (ap (has_common_id (linked_commons modules)) same ∙ found.there))) in
             let long : linked_length modules new ≡ longest = ap (λ b. cond b (parts_end new 0 modules) longest) (high_not_laid new low) in
             let at : start ≡ 0 = ap (λ b. cond b laid_start 0) (not_fixed_not_laid id named) in
             let part : (part_of (linked_commons modules) m.1 new).length ≡ size =
@@ -263,7 +257,7 @@ not_stack_linked : (modules : List ModuleValue) (m : ModuleValue) (id : ℕ) →
 not_stack_linked modules m id listed has not_stack = elim (cases_Bool (is_fixed_id id)) [
   | inl fixed ↦ ap (λ b. cond b id (id_of (linked_commons modules) (common_name m.commons id)) == 3) fixed ∙ not_stack
   | inr named ↦
-      let is_named : names_common m.commons id ≡ true = sym (ap (λ b. b || names_common m.commons id) named) ∙ has in
+      let is_named : has_common_id m.commons id ≡ true = sym (ap (λ b. b || has_common_id m.commons id) named) ∙ has in
       let found = common_found modules m id listed is_named in
       let new : ℕ = id_of (linked_commons modules) (common_name m.commons id) in
       let low : 6 ≤ new = found.least in

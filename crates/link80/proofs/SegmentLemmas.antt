@@ -8,7 +8,7 @@ use Rattle.std.proofs.lemmas.Bool.{cases_Bool, and_parts, and_from, or_parts, or
 use Rattle.std.proofs.lemmas.Bool.Decides.{nat_tests}
 use Rattle.omf_parts.specs.declared.segment.Segment.{Segment}
 use Rattle.omf_parts.specs.declared.symbols.Common.{Common}
-use Rattle.omf_parts.specs.Segments.{empty_segment, is_fixed_id, is_common_id, names_common, has_segment, segment_in}
+use Rattle.omf_parts.specs.Segments.{empty_segment, is_fixed_id, is_common_id, has_common_id, has_segment, segment_in}
 use Rattle.omf_parts.specs.Modules.{ModuleValue}
 use Rattle.omf_parts.specs.Rules.{each_after, is_new_entry, is_new_common}
 use Rattle.omf_relocation.specs.Place.{common_name, rounded, starts_from}
@@ -43,13 +43,13 @@ later false b e = e
 
 -- ---- the ids of numbered commons
 
-pub numbered_has : (start : ℕ) (names : List (List ℕ)) (i : ℕ) → start ≤ i → i < start + length names → names_common (numbered start names) i ≡ true
+pub numbered_has : (start : ℕ) (names : List (List ℕ)) (i : ℕ) → start ≤ i → i < start + length names → has_common_id (numbered start names) i ≡ true
 numbered_has start [] i low high = absurd (omega (arith, low, high))
 numbered_has start (n ∷ ns) i low high = elim (cases_Bool (start == i)) [
-  | inl e ↦ ap (λ b. b || names_common (numbered (start + 1) ns) i) e
+  | inl e ↦ ap (λ b. b || has_common_id (numbered (start + 1) ns) i) e
   | inr e ↦
       let above : start + 1 ≤ i = grind (arith, nat_tests, low, e) in
-      later (start == i) (names_common (numbered (start + 1) ns) i) (numbered_has (start + 1) ns i above (omega (arith, high)))
+      later (start == i) (has_common_id (numbered (start + 1) ns) i) (numbered_has (start + 1) ns i above (omega (arith, high)))
 ]
 
 -- ---- segment entries: the five that every module has, and one for each common
@@ -67,11 +67,11 @@ before_itself : (start : ℕ) → (nat_lt start (start + 1) || start == 255) ≡
 before_itself start = grind (arith, nat_tests)
 
 pub new_entries : (segment : ℕ → Segment) (commons : List Common) (start : ℕ) (names : List (List ℕ)) (before : List (ℕ × Segment)) → start + length names ≤ 255 →
-    ((i : ℕ) → start ≤ i → i < start + length names → names_common commons i ≡ true) → list_all (is_before start) before ≡ true →
+    ((i : ℕ) → start ≤ i → i < start + length names → has_common_id commons i ≡ true) → list_all (is_before start) before ≡ true →
     each_after (is_new_entry commons) before (map (λ id. (id, segment id)) (map (λ (c : Common). c.id) (numbered start names))) ≡ true
 new_entries segment commons start [] before few has told = refl
 new_entries segment commons start (n ∷ ns) before few has told =
-    let first : has_segment commons start ≡ true = later (is_fixed_id start) (names_common commons start) (has start (omega arith) (omega arith)) in
+    let first : has_segment commons start ≡ true = later (is_fixed_id start) (has_common_id commons start) (has start (omega arith) (omega arith)) in
     let new : list_any (λ (d : ℕ × Segment). d.0 == start) before ≡ false = none_by (is_before start) (λ d. d.0 == start) (λ d is. before_other d.0 start (omega (arith, few)) is) before told in
     and_from (is_new_entry commons before (start, segment start))
     (each_after (is_new_entry commons) (before ++ (start, segment start) ∷ []) (map (λ id. (id, segment id)) (map (λ (c : Common). c.id) (numbered (start + 1) ns))))
@@ -232,7 +232,7 @@ all_numbered P number [] all = tt
 all_numbered P number (x ∷ xs) all = (all.0, all_numbered P (number + 1) xs all.1)
 
 -- the part that a module has of a common, found by the common's name
-pub named_part : CommonsByName → (commons : List Common) (m : ModuleValue) (id new : ℕ) → IsTrue (each_after is_new_common [] m.commons) → names_common m.commons id ≡ true → is_fixed_id new ≡ false → common_name commons new ≡ common_name m.commons id →
+pub named_part : CommonsByName → (commons : List Common) (m : ModuleValue) (id new : ℕ) → IsTrue (each_after is_new_common [] m.commons) → has_common_id m.commons id ≡ true → is_fixed_id new ≡ false → common_name commons new ≡ common_name m.commons id →
     (part_of commons m new).length ≡ (segment_in m.segments id).length
 named_part by_name commons m id new rules named not_fixed called =
     let name : List ℕ = common_name m.commons id in

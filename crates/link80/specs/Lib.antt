@@ -1,5 +1,6 @@
 pub mod Linked
 pub mod LinkFault
+pub mod Linking
 pub mod LinkLaws
 pub mod Selection
 pub use Rattle.select80.specs.Selected
@@ -8,5 +9,5 @@ pub mod FirstSight
 pub mod Gathered
 pub mod Joined
 pub mod Starts
-pub mod Tables
+pub mod SymbolTables
 pub mod Movable

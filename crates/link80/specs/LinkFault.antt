@@ -9,6 +9,7 @@ use Rattle.omf_parts.specs.declared.fixup.Fixup.{Fixup}
 use Rattle.omf_parts.specs.declared.fixup.Target.{Target}
 use Rattle.omf_parts.specs.declared.fixup.Target.TheVariants as target
 use Rattle.omf_parts.specs.declared.symbols.Public.{Public}
+use Rattle.omf_parts.specs.Segments.{code_id, data_id, stack_id}
 use Rattle.omf_parts.specs.Modules.{ModuleValue}
 use Rattle.omf_relocation.specs.HighReferences.{is_high}
 use Rattle.link80.specs.declared.fault.LinkFault.{LinkFault}
@@ -35,7 +36,7 @@ duplicate_public modules = option_map DuplicatePublic (first_again [] (linked_pu
 
 -- the parts of CODE, DATA or STACK come to more than 65535 bytes: the least id
 abbrev pub segment_too_long : List ModuleValue → Option LinkFault
-segment_too_long modules = option_map SegmentTooLong (find (λ id. nat_lt 65535 (linked_length modules id)) (1 ∷ 2 ∷ 3 ∷ []))
+segment_too_long modules = option_map SegmentTooLong (find (λ id. nat_lt 65535 (linked_length modules id)) (code_id ∷ data_id ∷ stack_id ∷ []))
 
 abbrev pub two_mains : List ModuleValue → Option LinkFault
 two_mains modules = if nat_lt 1 (length (starts modules)) then Some TwoMains else None

@@ -12,7 +12,7 @@ use Rattle.omf_parts.specs.declared.fixup.Fixup.{Fixup}
 use Rattle.omf_parts.specs.declared.fixup.Target.{Target}
 use Rattle.omf_parts.specs.declared.fixup.Target.TheVariants as target
 use Rattle.omf_parts.specs.Contents.{ContentValue}
-use Rattle.omf_parts.specs.Segments.{empty_segment, is_fixed_id, segment_in}
+use Rattle.omf_parts.specs.Segments.{absolute_id, code_id, data_id, stack_id, memory_id, unnamed_common_id, empty_segment, is_fixed_id, segment_in}
 use Rattle.omf_parts.specs.Modules.{ModuleValue, made_of}
 use Rattle.omf_relocation.specs.declared.patching.Patch.{Patch}
 use Rattle.link80.specs.declared.reference.Reference.{Reference}
@@ -49,7 +49,7 @@ linked_id modules m id = if is_fixed_id id then id else id_of (linked_commons mo
 -- ---- publics move with their parts; absolute offsets stand as they are, and STACK is spoken of from its top
 
 abbrev pub moved : List ModuleValue → (number id offset : ℕ) → ℕ
-moved modules number id offset = if id == 0 || id == 3 then offset else (offset + part_start modules number id) % 65536
+moved modules number id offset = if id == absolute_id || id == stack_id then offset else (offset + part_start modules number id) % 65536
 
 abbrev pub linked_public : List ModuleValue → ℕ × ModuleValue → Public → Public
 linked_public modules m p = record { name = p.name; segment = linked_id modules m.1 p.segment; offset = moved modules m.0 p.segment p.offset }
@@ -73,7 +73,7 @@ index_of (n ∷ ns) name = if pointwise nat_eq n name then 0 else suc (index_of 
 -- ---- references: the word that LINK adds to one, and what it is to from then on, unless to absolute bytes
 
 abbrev pub to_place : (id offset : ℕ) → Reference
-to_place id offset = record { word = offset; target = if id == 0 then None else Some (target.Segment id) }
+to_place id offset = record { word = offset; target = if id == absolute_id then None else Some (target.Segment id) }
 
 abbrev pub to_public : List ModuleValue → List ℕ → Option Public → Reference
 to_public modules name None = record { word = 0; target = Some (target.External (index_of (unresolved modules) name)) }
@@ -133,7 +133,7 @@ linked_segment modules id = record {
 }
 
 abbrev pub linked_ids : List ModuleValue → List ℕ
-linked_ids modules = 1 ∷ 2 ∷ 3 ∷ 4 ∷ 255 ∷ map (λ c. c.id) (linked_commons modules)
+linked_ids modules = code_id ∷ data_id ∷ stack_id ∷ memory_id ∷ unnamed_common_id ∷ map (λ c. c.id) (linked_commons modules)
 
 -- ---- the starts of all main programs
 

@@ -2,6 +2,7 @@
 -- (ISIS-II User's Guide, LINK.)
 use Rattle.std.specs.Prelude.{◌≡◌, ℕ, ◌+◌, nat_le, if◌then◌else◌, Option, Some, None, List}
 use Rattle.omf_parts.specs.declared.segment.Segment.{Segment}
+use Rattle.omf_parts.specs.Segments.{code_id, data_id, stack_id}
 use Rattle.omf_parts.specs.Modules.{ModuleValue}
 use Rattle.omf_relocation.specs.Place.{rounded, starts_from}
 use Rattle.link80.specs.Linked.{parts_end}
@@ -22,7 +23,7 @@ next_part before s =
 
 -- the parts of CODE, DATA and STACK of these modules, each ending at a word
 pub record AreLaid (modules : List ModuleValue) (code variables stack : LaidOutValue) : Type 0 where
-  pub code_is : code ≡ laid_out modules 1
-  pub variables_are : variables ≡ laid_out modules 2
-  pub stack_is : stack ≡ laid_out modules 3
+  pub code_is : code ≡ laid_out modules code_id
+  pub variables_are : variables ≡ laid_out modules data_id
+  pub stack_is : stack ≡ laid_out modules stack_id
   pub fit : segment_too_long modules ≡ None

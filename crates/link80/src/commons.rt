@@ -1,7 +1,6 @@
 //! The ids of segments in the linked module: those of named commons go by their names.
 
-ghost use Rattle.std.specs.Prelude.{◌≡◌, ◌≢◌, ◌<◌, ◌≤◌, [], None, Some, is_some, length, slice_get, map, IfOk, IfErr, IfSome, OnOk, IsTrue};
-ghost use Rattle.std.specs.List.{flat_map};
+ghost use Rattle.std.specs.Prelude.{◌≡◌, ◌≢◌, ◌<◌, ◌≤◌, [], None, Some, is_some, length, slice_get, IfOk, IfErr, IfSome, OnOk};
 ghost use Rattle.omf_parts.specs.Segments.{is_fixed_id};
 ghost use Rattle.omf_relocation.specs.Place.{common_name, is_laid_out, part_start};
 ghost use Rattle.link80.specs.FirstSight.{number_in, with_names};
@@ -44,12 +43,12 @@ fn add_commons<'a>(
     alloc: Global,
     names: &mut NameTable<'a>,
     copies: &mut Vec<Name>,
-    of: &'a Module,
+    source: &'a Module,
 ) -> Result<(), AllocError>
-    ensures names { OnOk result (names.new ≡ with_names names.old (names_of_commons of.now)) }
+    ensures names { OnOk result (names.new ≡ with_names names.old (names_of_commons source.now)) }
     ensures copies { OnOk result (copies.old.items ≡ names.old → copies.new.items ≡ names.new) }
 {
-    for common in of.commons() {
+    for common in source.commons() {
         add_name(alloc, names, copies, &common.name)?;
     }
     Ok(())
@@ -180,13 +179,13 @@ impl<'a> JoinedModules<'a> {
     }
 
     /// The id that a module's segment has in the linked module: a named common's goes by its name.
-    pub(crate) fn linked_id(&self, of: &Module, id: u8) -> u8
-        ensures { result ≡ linked_id self.now of.now id }
+    pub(crate) fn linked_id(&self, source: &Module, id: u8) -> u8
+        ensures { result ≡ linked_id self.now source.now id }
     {
         if is_fixed_id(id) {
             return id;
         }
-        match self.commons.number_of(common_name(of.commons(), id)) {
+        match self.commons.number_of(common_name(source.commons(), id)) {
             Some(number) => FIRST_COMMON + number as u8,
             None => 0,
         }

@@ -8,7 +8,7 @@ ghost use Rattle.link80.specs.Linked.{link_patch, linked_content, linked_content
 ghost use Rattle.link80.specs.LinkFault.{segment_too_long};
 ghost use Rattle.link80.specs.Movable.{CanBeMoved};
 
-use crate::tables::Tables;
+use crate::symbol_tables::SymbolTables;
 use omf_parts::{Content, Fixup, Module};
 use omf_relocation::laws::sound_modules_keep_rules;
 use omf_relocation::{Patch, apply_patches};
@@ -18,21 +18,21 @@ use std::alloc::{AllocError, Global};
 /// as those to absolute bytes are done with.
 fn resolved(
     alloc: Global,
-    tables: &Tables,
+    tables: &SymbolTables,
     number: usize,
-    of: &Module,
+    source: &Module,
     content: &Content,
 ) -> Result<(Vec<Patch>, Vec<Fixup>), AllocError>
-    requires here { slice_get tables.now number ≡ Some of.now }
-    requires movable { CanBeMoved tables.now number of.now content.now }
-    ensures patches { IfOk result (λ made. made.0.items ≡ map (link_patch tables.now (number, of.now) content.now) content.now.fixups) }
-    ensures left { IfOk result (λ made. made.1.items ≡ filter_map (linked_fixup tables.now (number, of.now) content.now) content.now.fixups) }
+    requires here { slice_get tables.now number ≡ Some source.now }
+    requires movable { CanBeMoved tables.now number source.now content.now }
+    ensures patches { IfOk result (λ made. made.0.items ≡ map (link_patch tables.now (number, source.now) content.now) content.now.fixups) }
+    ensures left { IfOk result (λ made. made.1.items ≡ filter_map (linked_fixup tables.now (number, source.now) content.now) content.now.fixups) }
 {
     let start = tables.joined.start(number, content.segment);
     let mut patches = Vec::new(alloc);
     let mut left = Vec::new(alloc);
     for fixup in &content.fixups {
-        let reference = tables.reference(number, of, fixup.target);
+        let reference = tables.reference(number, source, fixup.target);
         patches.push(Patch {
             at: usize::from(fixup.offset - content.offset),
             field: fixup.field,
@@ -63,19 +63,19 @@ fn patched(alloc: Global, bytes: &[u8], patches: &[Patch]) -> Result<Vec<u8>, Al
 /// A content, moved with its part, with the words added that LINK adds to its bytes.
 fn linked_content(
     alloc: Global,
-    tables: &Tables,
+    tables: &SymbolTables,
     number: usize,
-    of: &Module,
+    source: &Module,
     content: &Content,
 ) -> Result<Content, AllocError>
-    requires here { slice_get tables.now number ≡ Some of.now }
-    requires movable { CanBeMoved tables.now number of.now content.now }
-    ensures { IfOk result (λ moved. moved ≡ linked_content tables.now (number, of.now) content.now) }
+    requires here { slice_get tables.now number ≡ Some source.now }
+    requires movable { CanBeMoved tables.now number source.now content.now }
+    ensures { IfOk result (λ moved. moved ≡ linked_content tables.now (number, source.now) content.now) }
 {
-    let (patches, fixups) = resolved(alloc, tables, number, of, content)?;
+    let (patches, fixups) = resolved(alloc, tables, number, source, content)?;
     let bytes = patched(alloc, &content.bytes, &patches)?;
     Ok(Content {
-        segment: tables.joined.linked_id(of, content.segment),
+        segment: tables.joined.linked_id(source, content.segment),
         offset: content.offset + tables.joined.start(number, content.segment),
         bytes,
         fixups,
@@ -85,25 +85,28 @@ fn linked_content(
 /// Puts a module's contents last, moved with their parts.
 fn add_contents(
     alloc: Global,
-    tables: &Tables,
+    tables: &SymbolTables,
     number: usize,
-    of: &Module,
+    source: &Module,
     contents: &mut Vec<Content>,
 ) -> Result<(), AllocError>
-    requires here { slice_get tables.now number ≡ Some of.now }
+    requires here { slice_get tables.now number ≡ Some source.now }
     requires segments_fit { segment_too_long tables.now ≡ None }
-    ensures contents { OnOk result (contents.new.items ≡ contents.old.items ++ map (linked_content tables.now (number, of.now)) of.now.contents) }
-    ensures sound { OnOk result (IsModule of.now) }
+    ensures contents { OnOk result (contents.new.items ≡ contents.old.items ++ map (linked_content tables.now (number, source.now)) source.now.contents) }
+    ensures sound { OnOk result (IsModule source.now) }
 {
     sound_modules_keep_rules();
-    for content in of.contents() {
-        contents.push(linked_content(alloc, tables, number, of, content)?)?;
+    for content in source.contents() {
+        contents.push(linked_content(alloc, tables, number, source, content)?)?;
     }
     Ok(())
 }
 
 /// The contents of all modules, moved with their parts, by module and then by record.
-pub(crate) fn linked_contents(alloc: Global, tables: &Tables) -> Result<Vec<Content>, AllocError>
+pub(crate) fn linked_contents(
+    alloc: Global,
+    tables: &SymbolTables,
+) -> Result<Vec<Content>, AllocError>
     ensures contents { IfOk result (λ contents. contents.items ≡ linked_contents tables.now) }
     ensures sound { OnOk result (AllByRecursion IsModule tables.now) }
 {

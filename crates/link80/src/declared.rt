@@ -1,6 +1,6 @@
 //! The names that modules declare public: none of them stands twice.
 
-ghost use Rattle.std.specs.Prelude.{◌≡◌, ◌≢◌, [], None, Some, map, IfOk, IfErr, OnOk};
+ghost use Rattle.std.specs.Prelude.{◌≡◌, ◌≢◌, None, Some, map, IfOk, IfErr, OnOk};
 ghost use Rattle.link80.specs.Gathered.{names_of_publics, TakesNames, RepeatsName};
 ghost use Rattle.link80.specs.Linked.{linked_publics};
 ghost use Rattle.link80.specs.LinkFault.{duplicate_public};
@@ -18,12 +18,12 @@ use std::alloc::Global;
 fn add_publics<'a>(
     alloc: Global,
     names: &mut NameTable<'a>,
-    of: &'a Module,
+    source: &'a Module,
 ) -> Result<(), LinkFault>
-    ensures taken { OnOk result (TakesNames names.old (names_of_publics of.now) names.new) }
-    ensures fault { IfErr result (λ fault. fault ≢ LinkFault.Memory → RepeatsName names.old (names_of_publics of.now) fault) }
+    ensures taken { OnOk result (TakesNames names.old (names_of_publics source.now) names.new) }
+    ensures fault { IfErr result (λ fault. fault ≢ LinkFault.Memory → RepeatsName names.old (names_of_publics source.now) fault) }
 {
-    for public in of.publics() {
+    for public in source.publics() {
         if !names.add(public.name.bytes())? {
             return Err(LinkFault::DuplicatePublic(public.name.copy(alloc)?));
         }

@@ -24,7 +24,7 @@ mod reference;
 mod segments;
 mod selecting;
 mod starts;
-mod tables;
+mod symbol_tables;
 
 pub use fault::LinkFault;
 pub use linking::{Linked, link};

@@ -1,11 +1,12 @@
 //! Modules are linked into one.
 
-ghost use Rattle.std.specs.Prelude.{◌≡◌, ◌≢◌, ◌<◌, ◌++◌, [], None, Some, filter_map, length, map, option_copied, slice_get, IfOk, IfErr, OnOk};
+ghost use Rattle.std.specs.Prelude.{◌≡◌, ◌≢◌, ◌<◌, [], None, map, option_copied, slice_get, IfOk, IfErr, OnOk};
 ghost use Rattle.std.specs.List.{AllByRecursion, cons_option};
 ghost use Rattle.omf_parts.specs.Rules.{IsModule};
 ghost use Rattle.link80.specs.Gathered.{mains_from};
 ghost use Rattle.link80.specs.Linked.{linked, linked_parts, linked_publics, starts, unresolved};
 ghost use Rattle.link80.specs.LinkFault.{duplicate_public, link_fault, segment_too_long, too_many_externals};
+ghost use Rattle.link80.specs.Linking.{IsFirstFault, IsLinkOf};
 ghost use Rattle.link80.specs.Selection.{IsSelection, modules_with, CannotBeLinked};
 ghost use Rattle.select80.specs.Selected.{module_at};
 
@@ -21,10 +22,10 @@ use crate::name_table::NameTable;
 use crate::segments::linked_segments;
 use crate::selecting::select;
 use crate::starts::LaidModules;
-use crate::tables::Tables;
+use crate::symbol_tables::SymbolTables;
 use omf_core::Name;
 use omf_library::Library;
-use omf_parts::{Module, Parts, PartsFault, copy_names};
+use omf_parts::{Module, Parts, copy_names};
 use select80::Chosen;
 use std::alloc::{AllocError, Global};
 
@@ -67,15 +68,15 @@ fn modules_with<'a>(
 }
 
 /// The start of the main program, moved with its part.
-fn start_of(tables: &Tables, main: Option<usize>) -> Option<(u8, u16)>
+fn start_of(tables: &SymbolTables, main: Option<usize>) -> Option<(u8, u16)>
     requires { cons_option main [] ≡ mains_from 0 tables.now }
     ensures { result ≡ slice_get (starts tables.now) 0 }
 {
     let number = main?;
-    let of = tables.joined.get(number);
-    let (id, offset) = of.start()?;
+    let source = tables.joined.get(number);
+    let (id, offset) = source.start()?;
     Some((
-        tables.joined.linked_id(of, id),
+        tables.joined.linked_id(source, id),
         tables.joined.moved(number, id, offset),
     ))
 }
@@ -84,7 +85,7 @@ fn start_of(tables: &Tables, main: Option<usize>) -> Option<(u8, u16)>
 fn parts_without_publics(
     alloc: Global,
     name: &Name,
-    tables: &Tables,
+    tables: &SymbolTables,
     main: Option<usize>,
 ) -> Result<Parts, AllocError>
     requires { cons_option main [] ≡ mains_from 0 tables.now }
@@ -112,7 +113,7 @@ fn parts_without_publics(
 fn parts_of(
     alloc: Global,
     name: &Name,
-    tables: Tables,
+    tables: SymbolTables,
     main: Option<usize>,
 ) -> Result<(Parts, Vec<Name>), AllocError>
     requires { cons_option main [] ≡ mains_from 0 tables }
@@ -141,20 +142,14 @@ fn link_joined(
     requires main { cons_option main [] ≡ mains_from 0 joined.now }
     requires segments_fit { segment_too_long joined.now ≡ None }
     requires no_other_fault { link_fault joined.now ≡ too_many_externals joined.now }
-    ensures made { IfOk result (λ made. made.0 ≡ linked name.now joined.now) }
-    ensures unresolved { IfOk result (λ made. made.1.items ≡ unresolved joined.now) }
-    ensures no_fault { OnOk result (link_fault joined.now ≡ None) }
-    ensures sound { OnOk result (AllByRecursion IsModule joined.now) }
-    ensures fault { IfErr result (λ fault. fault ≢ LinkFault.Memory → link_fault joined.now ≡ Some fault) }
+    ensures made { IfOk result (λ made. IsLinkOf name.now joined.now made.0 made.1.items) }
+    ensures fault { IfErr result (IsFirstFault joined.now) }
 {
     linked_module_keeps_rules();
-    let tables = Tables::new(alloc, joined, declared)?;
+    let tables = SymbolTables::new(alloc, joined, declared)?;
     let (parts, unresolved) = parts_of(alloc, name, tables, main)?;
-    match Module::from_parts(alloc, parts) {
-        Ok(linked) => Ok((linked, unresolved)),
-        Err((_, PartsFault::Memory)) => Err(LinkFault::Memory),
-        Err((_, PartsFault::Rule)) => unreachable!(),
-    }
+    let linked = Module::from_sound_parts(alloc, parts)?;
+    Ok((linked, unresolved))
 }
 
 /// The module that is linked of laid modules, and the names that none of them declares.
@@ -167,11 +162,8 @@ fn link_laid(
     requires names { declared.now ≡ map (λ p. p.name) (linked_publics laid.now) }
     requires once { duplicate_public laid.now ≡ None }
     requires segments_fit { segment_too_long laid.now ≡ None }
-    ensures made { IfOk result (λ made. made.0 ≡ linked name.now laid.now) }
-    ensures unresolved { IfOk result (λ made. made.1.items ≡ unresolved laid.now) }
-    ensures no_fault { OnOk result (link_fault laid.now ≡ None) }
-    ensures sound { OnOk result (AllByRecursion IsModule laid.now) }
-    ensures fault { IfErr result (λ fault. fault ≢ LinkFault.Memory → link_fault laid.now ≡ Some fault) }
+    ensures made { IfOk result (λ made. IsLinkOf name.now laid.now made.0 made.1.items) }
+    ensures fault { IfErr result (IsFirstFault laid.now) }
 {
     let main = main_of(laid)?;
     if any_high_off_page(laid) {
@@ -190,11 +182,8 @@ fn link_declared(
 ) -> Result<(Module, Vec<Name>), LinkFault>
     requires names { declared.now ≡ map (λ p. p.name) (linked_publics modules.now) }
     requires once { duplicate_public modules.now ≡ None }
-    ensures made { IfOk result (λ made. made.0 ≡ linked name.now modules.now) }
-    ensures unresolved { IfOk result (λ made. made.1.items ≡ unresolved modules.now) }
-    ensures no_fault { OnOk result (link_fault modules.now ≡ None) }
-    ensures sound { OnOk result (AllByRecursion IsModule modules.now) }
-    ensures fault { IfErr result (λ fault. fault ≢ LinkFault.Memory → link_fault modules.now ≡ Some fault) }
+    ensures made { IfOk result (λ made. IsLinkOf name.now modules.now made.0 made.1.items) }
+    ensures fault { IfErr result (IsFirstFault modules.now) }
 {
     let laid = LaidModules::new(alloc, modules)?;
     link_laid(alloc, name, &laid, declared)
@@ -206,11 +195,8 @@ fn link_modules(
     name: &Name,
     modules: &Modules,
 ) -> Result<(Module, Vec<Name>), LinkFault>
-    ensures made { IfOk result (λ made. made.0 ≡ linked name.now modules.now) }
-    ensures unresolved { IfOk result (λ made. made.1.items ≡ unresolved modules.now) }
-    ensures no_fault { OnOk result (link_fault modules.now ≡ None) }
-    ensures sound { OnOk result (AllByRecursion IsModule modules.now) }
-    ensures fault { IfErr result (λ fault. fault ≢ LinkFault.Memory → link_fault modules.now ≡ Some fault) }
+    ensures made { IfOk result (λ made. IsLinkOf name.now modules.now made.0 made.1.items) }
+    ensures fault { IfErr result (IsFirstFault modules.now) }
 {
     let declared = declared_names(alloc, modules)?;
     link_declared(alloc, name, modules, &declared)

@@ -1,7 +1,6 @@
 //! Modules that are linked together, by number.
 
 ghost use Rattle.std.specs.Prelude.{◌≡◌, ◌<◌, [], ◌∷◌, ◌++◌, Some, length, slice_get, OnOk};
-ghost use Rattle.omf_parts.specs.Rules.{IsModule};
 
 use omf_parts::Module;
 use std::alloc::{AllocError, Global};

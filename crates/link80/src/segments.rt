@@ -49,15 +49,15 @@ fn fixed_segment(joined: &JoinedModules, id: u8) -> Segment
 }
 
 /// Joins a module's parts of named commons to the segments of their names.
-fn join_commons(segments: &mut Vec<Segment>, joined: &JoinedModules, of: &Module)
+fn join_commons(segments: &mut Vec<Segment>, joined: &JoinedModules, source: &Module)
     requires { length segments.old.items ≡ length (common_names joined.now) }
-    ensures joined { segments.new.items ≡ with_named_parts (common_names joined.now) segments.old.items (parts_of_commons of.now) }
+    ensures joined { segments.new.items ≡ with_named_parts (common_names joined.now) segments.old.items (parts_of_commons source.now) }
     ensures len { length segments.new.items ≡ length segments.old.items }
-    ensures rules { IsModule of.now }
+    ensures rules { IsModule source.now }
 {
-    for common in of.commons() {
+    for common in source.commons() {
         if let Some(number) = joined.common_number(common.name.bytes()) {
-            segments[number] = joined_parts(segments[number], segment_of(of, common.id));
+            segments[number] = joined_parts(segments[number], segment_of(source, common.id));
         }
     }
 }

@@ -32,11 +32,11 @@ impl Model for LaidOut {
 }
 
 /// A segment that the module has.
-pub(crate) fn segment_of(of: &Module, id: u8) -> Segment
-    requires { IsTrue (has_segment of.now.commons id) }
-    ensures { result ≡ segment_in of.now.segments id }
+pub(crate) fn segment_of(source: &Module, id: u8) -> Segment
+    requires { IsTrue (has_segment source.now.commons id) }
+    ensures { result ≡ segment_in source.now.segments id }
 {
-    match of.segment(id) {
+    match source.segment(id) {
         Some(segment) => segment,
         None => unreachable!(),
     }

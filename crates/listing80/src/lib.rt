@@ -3,10 +3,11 @@
 //! | Item | What it is |
 //! |---|---|
 //! | [`listing`] | the instructions of an image's code, a line each |
+//! | [`instruction_line`] | the line of one instruction |
 //! | [`laws`] | the lines of a range take all of its bytes, as a contract |
 #![tactic(auto)]
 
 pub mod laws;
 mod list_text;
 
-pub use list_text::listing;
+pub use list_text::{instruction_line, listing};

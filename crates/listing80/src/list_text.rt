@@ -3,7 +3,7 @@
 ghost use Rattle.std.specs.Prelude.{◌≡◌, ◌+◌, ◌<◌, ◌≤◌, ◌++◌, [], ◌∷◌, length, drop, take, codes, IfOk, IfSome, OnOk};
 ghost use Rattle.std.specs.List.{flat_map};
 ghost use Rattle.decode80.specs.Text.{byte_text};
-ghost use Rattle.listing80.specs.Listing.{bytes_from, columns, instruction_of, line_length, list_line, listing_of, range_lines};
+ghost use Rattle.listing80.specs.Listing.{bytes_from, columns, instruction_line_of, instruction_of, line_length, list_line, listing_of, range_lines};
 
 use decode80::{Instr, byte_digits, decode, spelling_laws, word_digits, write_text};
 use image80::{Image, Range};
@@ -23,6 +23,28 @@ pub fn listing(alloc: Global, image: &Image) -> Result<Vec<u8>, AllocError>
     let mut text = Vec::new(alloc);
     append_ranges(alloc, &memory, image.regions.code(), &mut text)?;
     Ok(text)
+}
+
+/// The line of one instruction, where so many bytes of its range of code are left.
+///
+/// `left` must be at least 1. A byte that begins no instruction, or whose instruction is longer than what is left, has the text
+/// `??`.
+///
+/// # Errors
+/// `AllocError` only where memory runs out.
+pub fn instruction_line(
+    alloc: Global,
+    image: &Image,
+    at: u16,
+    left: usize,
+) -> Result<Vec<u8>, AllocError>
+    requires { 0 < left }
+    ensures { IfOk result (λ line. line.items ≡ instruction_line_of image.now at left) }
+{
+    let memory = FlatBus::new(alloc, image)?;
+    let mut line = Vec::new(alloc);
+    append_line(alloc, &memory, at, left, &mut line)?;
+    Ok(line)
 }
 
 /// Appends the lines of each range.

@@ -124,7 +124,7 @@ fn refuse(alloc: Global, refusal: Refusal) -> Reply
 fn transcribe(alloc: Global, vouched: &Vouched, inputs: Inputs, steps: u64, outputs: usize) -> Reply
     ensures { Transcribes vouched.now.image vouched.now.stack_bytes (lists_of inputs.pairs.items) outputs steps result.answer (string_bytes result.text) }
 {
-    let Ok(mut bus) = PagedBus::new(alloc, vouched.image()) else {
+    let Ok(mut bus) = PagedBus::of_bytes(alloc, vouched.memory()) else {
         return faulty(alloc, SessionFault::Memory);
     };
     let mut ports = ListPorts::new(alloc, inputs, outputs);

@@ -9,9 +9,9 @@ ghost use Rattle.loader80.specs.Vouched.{IsVouched};
 
 use image80::{Image, RegionMap};
 use soundness80::fitted_images_never_go_wrong;
-use std::alloc::{AllocError, Global};
+use std::alloc::Global;
 use std::marker::Model;
-use verify80::{ProcRow, Refusal, Report, verify};
+use verify80::{ProcRow, Refusal, Verified, verify_and_keep};
 
 /// An image that was vouched for: the verifier accepts it, so no run of it goes wrong.
 ///
@@ -19,40 +19,49 @@ use verify80::{ProcRow, Refusal, Report, verify};
 #[derive(Drop)]
 pub struct Vouched {
     image: Image,
+    memory: Vec<u8>,
     map: RegionMap,
     stack_bytes: u64,
     rows: Vec<ProcRow>,
 }
 
 impl Model for Vouched {
-    ghost use Rattle.image80.specs.RegionMap.{Maps};
+    ghost use Rattle.verify80.specs.Kept.{IsKept};
     ghost use Rattle.loader80.specs.Vouched.{IsVouched, Voucher};
 
     ghost Value = { Voucher };
 
     ghost view = { λ v. record { image = v.image; stack_bytes = v.stack_bytes; rows = v.rows.items } };
 
-    ghost invariant = { λ v. IsVouched v.image v.rows.items v.stack_bytes × Maps v.image.regions v.map };
+    ghost invariant = { λ v. IsVouched v.image v.rows.items v.stack_bytes × IsKept v.image v.memory.items v.map };
 }
 
 impl Vouched {
-    ghost use Rattle.std.specs.Prelude.{◌≡◌, ◌≤◌};
+    ghost use Rattle.std.specs.Prelude.{◌≡◌, ◌≤◌, length};
     ghost use Rattle.machine80.specs.World.{NeverGoesWrong};
     ghost use Rattle.flow80.specs.Accepted.{IsAccepted};
+    ghost use Rattle.image80.specs.Image.{memory_of};
     ghost use Rattle.image80.specs.RegionMap.{Maps};
+    ghost use Rattle.verify80.specs.Kept.{IsKept};
     ghost use Rattle.verify80.specs.Looking.{code_of};
     ghost use Rattle.loader80.specs.Vouched.{IsVouched};
 
-    /// An image that is accepted with this report.
-    fn new(image: Image, map: RegionMap, report: Report) -> Vouched
-        requires accepted { IsAccepted (code_of image) report.procedures.items report.stack_bytes }
-        requires maps { Maps image.regions map }
+    /// An image that is accepted.
+    fn new(image: Image, verified: Verified) -> Vouched
+        requires accepted { IsAccepted (code_of image) verified.report.procedures.items verified.report.stack_bytes }
+        requires kept { IsKept image verified.memory.items verified.map }
         ensures image { result.image ≡ image }
         ensures vouched { IsVouched image result.rows result.stack_bytes }
     {
         runs_as_verified(&image);
+        let Verified {
+            report,
+            memory,
+            map,
+        } = verified;
         Vouched {
             image,
+            memory,
             map,
             stack_bytes: report.stack_bytes,
             rows: report.procedures,
@@ -65,6 +74,14 @@ impl Vouched {
         ensures vouched { IsVouched self.now.image self.now.rows self.now.stack_bytes }
     {
         &self.image
+    }
+
+    /// The image's memory, by address.
+    pub(crate) fn memory(&self) -> &[u8]
+        ensures bytes { result.now ≡ memory_of self.now.image.chunks }
+        ensures whole { length result.now ≡ 65536 }
+    {
+        self.memory.as_slice()
     }
 
     /// Which region each address of the image is in.
@@ -119,13 +136,9 @@ pub fn vouch(alloc: Global, image: Image) -> Result<Vouched, (Image, Refusal)>
     ensures handed_back { IfErr result (λ refused. refused.0 ≡ image) }
     ensures refused { IfErr result (λ refused. Holds (code_of image) refused.1) }
 {
-    let report = match verify(alloc, &image) {
-        Ok(report) => report,
-        Err(refusal) => return Err((image, refusal)),
-    };
-    match RegionMap::new(alloc, &image.regions) {
-        Ok(map) => Ok(Vouched::new(image, map, report)),
-        Err(AllocError) => Err((image, Refusal::Memory)),
+    match verify_and_keep(alloc, &image) {
+        Ok(verified) => Ok(Vouched::new(image, verified)),
+        Err(refusal) => Err((image, refusal)),
     }
 }
 

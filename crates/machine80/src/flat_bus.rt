@@ -1,3 +1,5 @@
+//! A memory in one piece.
+
 ghost use Rattle.std.specs.Prelude.{◌≡◌, IfOk};
 ghost use Rattle.image80.specs.Image.{memory_of};
 

@@ -1,3 +1,5 @@
+//! A memory in pages.
+
 ghost use Rattle.std.specs.Prelude.{◌≡◌, ◌+◌, ◌*◌, ◌≤◌, IfOk, length, take, drop};
 ghost use Rattle.image80.specs.Image.{memory_of};
 
@@ -33,9 +35,20 @@ impl PagedBus {
         ensures { IfOk result (λ bus. bus ≡ memory_of image.now.chunks) }
     {
         let bytes = image.memory(alloc)?;
+        PagedBus::of_bytes(alloc, &bytes)
+    }
+
+    /// A memory that holds these 65536 bytes, by address.
+    ///
+    /// # Errors
+    /// `AllocError` where there is no memory for it.
+    pub fn of_bytes(alloc: Global, bytes: &[u8]) -> Result<Self, AllocError>
+        requires { length bytes.now ≡ 65536 }
+        ensures { IfOk result (λ bus. bus ≡ bytes.now) }
+    {
         let mut pages = Vec::with_capacity(alloc, 256)?;
         for number in 0..256 {
-            pages.push(page_of(&bytes, number))?;
+            pages.push(page_of(bytes, number))?;
         }
         Ok(PagedBus { pages })
     }

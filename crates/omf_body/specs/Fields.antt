@@ -1,7 +1,8 @@
 -- The fields of a body: the bytes that each is written as, and what the first bytes of a list read as: the field and the
 -- bytes after it, or its fault. (8080 Object Module Formats, record formats.)
-use Rattle.std.specs.Prelude.{ℕ, ◌+◌, ◌*◌, ◌/◌, ◌%◌, ◌==◌, if◌then◌else◌, List, [], ◌∷◌, drop, slice_index, Result, Ok, Err}
+use Rattle.std.specs.Prelude.{ℕ, ◌+◌, ◌*◌, ◌==◌, if◌then◌else◌, List, [], ◌∷◌, drop, slice_index, Result, Ok, Err}
 use Rattle.omf_core.specs.Name.{holds_counted, counted_bytes, is_name}
+pub use Rattle.omf_core.specs.Record.{word_bytes}
 use Rattle.omf_body.specs.declared.fault.FieldFault.{FieldFault}
 use Rattle.omf_body.specs.declared.fault.FieldFault.TheVariants.{BadBody, BadName}
 use Rattle.omf_body.specs.declared.field.Field.{Field}
@@ -18,9 +19,6 @@ read_byte [] = Err BadBody
 read_byte (byte ∷ rest) = Ok (byte, rest)
 
 -- a word: low byte first
-abbrev pub word_bytes : ℕ → List ℕ
-word_bytes word = word % 256 ∷ word / 256 ∷ []
-
 abbrev pub read_word : List ℕ → Result (ℕ × List ℕ) FieldFault
 read_word [] = Err BadBody
 read_word (byte ∷ []) = Err BadBody

@@ -1,9 +1,7 @@
 //! The entries that bodies repeat. A byte that isn't looked at is kept as `unread`; it is written as 00.
 //! (8080 Object Module Formats, record formats.)
 
-ghost use Rattle.std.specs.Prelude.{◌≡◌, ◌++◌, OnOk, IsTrue};
-ghost use Rattle.omf_core.specs.Name.{name_spelling};
-ghost use Rattle.omf_body.specs.Fields.{word_bytes};
+ghost use Rattle.std.specs.Prelude.{◌≡◌};
 ghost use Rattle.omf_body.specs.Entries.{is_paged, segment_layout, common_layout, public_layout, external_layout, offset_layout, index_layout};
 ghost use Rattle.omf_body.specs.EntryLaws.{segment_laws, common_laws, public_laws, external_laws, offset_laws, index_laws};
 
@@ -12,6 +10,7 @@ use crate::entry::{Entry, ReadEntry};
 use crate::fault::FieldFault;
 use crate::name::NameBytes;
 use crate::segment_id::{FIRST_COMMON, LAST_COMMON};
+use omf_core::{push_name, push_word};
 use std::alloc::AllocError;
 
 /// The alignment byte of a part that may start at any byte.
@@ -69,21 +68,6 @@ impl SegmentEntry {
     }
 }
 
-pub(crate) fn push_word(word: u16, out: &mut Vec<u8>) -> Result<(), AllocError>
-    ensures { OnOk result (out.new.items ≡ out.old.items ++ word_bytes word) }
-{
-    out.extend_from_slice(&[(word % 256) as u8, (word / 256) as u8])
-}
-
-/// Appends the name's length byte and its bytes.
-pub(crate) fn push_name(name: &NameBytes, out: &mut Vec<u8>) -> Result<(), AllocError>
-    ensures { OnOk result (out.new.items ≡ out.old.items ++ name_spelling name.now) }
-{
-    let bytes = name.bytes();
-    out.push(bytes.len() as u8)?;
-    out.extend_from_slice(bytes)
-}
-
 impl Entry for SegmentEntry {
     ghost layout = { segment_layout };
 
@@ -115,7 +99,7 @@ impl<'a> Entry for CommonEntry<'a> {
 
     fn write(&self, out: &mut Vec<u8>) -> Result<(), AllocError> {
         out.push(self.id)?;
-        push_name(&self.name, out)
+        push_name(self.name.bytes(), out)
     }
 
     ghost laws = { common_laws };
@@ -137,7 +121,7 @@ impl<'a> Entry for PublicEntry<'a> {
 
     fn write(&self, out: &mut Vec<u8>) -> Result<(), AllocError> {
         push_word(self.offset, out)?;
-        push_name(&self.name, out)?;
+        push_name(self.name.bytes(), out)?;
         out.push(self.unread)?;
         Ok(())
     }
@@ -162,7 +146,7 @@ impl<'a> Entry for ExternalEntry<'a> {
     ghost layout = { external_layout };
 
     fn write(&self, out: &mut Vec<u8>) -> Result<(), AllocError> {
-        push_name(&self.name, out)?;
+        push_name(self.name.bytes(), out)?;
         out.push(self.unread)?;
         Ok(())
     }

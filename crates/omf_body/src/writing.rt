@@ -9,13 +9,12 @@ ghost use Rattle.omf_body.specs.Writing.{Appends, end_filling};
 
 use crate::body::Place;
 use crate::entries::{
-    CommonEntry, ExternalEntry, IndexEntry, OffsetEntry, PublicEntry, SegmentEntry, push_name,
-    push_word,
+    CommonEntry, ExternalEntry, IndexEntry, OffsetEntry, PublicEntry, SegmentEntry,
 };
 use crate::entry::Entry;
 use crate::field::Field;
 use crate::name::NameBytes;
-use omf_core::{PutFault, RecordKind, put_record};
+use omf_core::{PutFault, RecordKind, push_name, push_word, put_record};
 use std::alloc::{AllocError, Global};
 
 /// Appends the entries' bytes, one entry after another.
@@ -36,7 +35,7 @@ fn header_bytes(
     ensures { IfOk result (λ made. made.items ≡ body_bytes (body_of.ModuleHeader (record { name = name.now; translator = 0; version = 0; segments = segments.now }))) }
 {
     let mut body = Vec::new(alloc);
-    push_name(name, &mut body)?;
+    push_name(name.bytes(), &mut body)?;
     body.extend_from_slice(&[0, 0])?;
     push_row(segments, &mut body)?;
     Ok(body)

@@ -12,6 +12,10 @@ byte_sum bytes = sum bytes % 256
 abbrev pub word_at : List ℕ → ℕ → ℕ
 word_at bytes i = slice_index bytes i + 256 * slice_index bytes (i + 1)
 
+-- the bytes that are written for a word, low byte first
+abbrev pub word_bytes : ℕ → List ℕ
+word_bytes word = word % 256 ∷ word / 256 ∷ []
+
 -- The bytes from place `from` up to place `to` spell the record of this kind and body:
 -- the kind, a length word that counts all bytes after it, the body, and a checksum that makes the sum of all 0 modulo 256.
 pub record SpellsRecord (bytes : List ℕ) (from to kind : ℕ) (body : List ℕ) : Type 0 where

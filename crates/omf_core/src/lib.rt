@@ -1,7 +1,8 @@
 //! Records and names of Intel's 8080 object files (OMF-80): the lowest layer of the object-file side.
 //!
 //! - [`next_record`] reads the record that begins at a place, [`is_cut_off`] says where the bytes end before one does,
-//!   [`put_record`] appends one, and [`sum_of`] is the sum that both use;
+//!   [`put_record`] appends one, and [`sum_of`] is the sum that both use; [`push_word`] and [`push_name`] append what bodies
+//!   are made of, and [`never_too_long`] is for bodies that fit a record;
 //! - [`RecordKind`] names the kinds of the standard;
 //! - [`split_name`] reads a name out of a record's body, and a [`Name`] is a name that is kept;
 //! - a [`Feed`] counts the records of a file that comes in pieces;
@@ -24,7 +25,7 @@ pub use fault::{FeedFault, NameFault, PutFault, RecordFault};
 pub use feed::Feed;
 pub use kind::RecordKind;
 pub use name::Name;
-pub use put::put_record;
+pub use put::{never_too_long, push_name, push_word, put_record};
 pub use record::{Record, is_cut_off, next_record};
 pub use split::split_name;
 pub use sum::sum_of;

@@ -1,8 +1,12 @@
-ghost use Rattle.std.specs.Prelude.{◌≡◌, ◌+◌, ◌<◌, ◌≤◌, ◌↔◌, [], ◌∷◌, ◌++◌, length, vec_len, vec_capacity, OnOk, OnErr, IsErrOf};
-ghost use Rattle.omf_core.specs.Record.{SpellsRecord, spelling, checksum};
+//! Records, and the words and names of their bodies, appended to bytes.
+
+ghost use Rattle.std.specs.Prelude.{◌≡◌, ◌≢◌, ◌+◌, ◌<◌, ◌≤◌, ◌↔◌, [], ◌∷◌, ◌++◌, length, vec_len, vec_capacity, is_ok, Err, OnOk, OnErr, IsErrOf, IsTrue};
+ghost use Rattle.omf_core.specs.Name.{is_name, name_spelling};
+ghost use Rattle.omf_core.specs.Record.{SpellsRecord, spelling, checksum, word_bytes};
+ghost use Rattle.omf_core.specs.declared.fault.PutFault.TheVariants.{TooLong};
 
 use crate::{PutFault, sum_of};
-use std::alloc::Global;
+use std::alloc::{AllocError, Global};
 
 /// The most bytes that a record's body has: its length word counts them and the checksum.
 const LONGEST_BODY: usize = 65534;
@@ -48,4 +52,41 @@ fn checksum_of(head: &[u8], body: &[u8]) -> u8
     ensures { result ≡ checksum (head.now ++ body.now) }
 {
     sum_of(head).wrapping_add(sum_of(body)).wrapping_neg()
+}
+
+/// The result of appending a record whose body fits it: if the record wasn't appended, memory ran out.
+///
+/// # Errors
+/// `AllocError` exactly where `appended` is `Memory`.
+pub fn never_too_long(appended: Result<(), PutFault>) -> Result<(), AllocError>
+    requires { appended ≢ Err TooLong }
+    ensures { is_ok result ≡ is_ok appended }
+{
+    match appended {
+        Ok(()) => Ok(()),
+        Err(PutFault::TooLong) => unreachable!(),
+        Err(PutFault::Memory) => Err(AllocError),
+    }
+}
+
+/// Appends the two bytes of a word, the low one first.
+///
+/// # Errors
+/// `AllocError` only where `out` can't grow.
+pub fn push_word(word: u16, out: &mut Vec<u8>) -> Result<(), AllocError>
+    ensures { OnOk result (out.new.items ≡ out.old.items ++ word_bytes word) }
+{
+    out.extend_from_slice(&[(word % 256) as u8, (word / 256) as u8])
+}
+
+/// Appends the length byte and the bytes of a name: 1 to 255 bytes, each 21h to 7Eh.
+///
+/// # Errors
+/// `AllocError` only where `out` can't grow; the length byte may then stand there.
+pub fn push_name(name: &[u8], out: &mut Vec<u8>) -> Result<(), AllocError>
+    requires { IsTrue (is_name name.now) }
+    ensures { OnOk result (out.new.items ≡ out.old.items ++ name_spelling name.now) }
+{
+    out.push(name.len() as u8)?;
+    out.extend_from_slice(name)
 }

@@ -18,7 +18,7 @@ use Rattle.omf_module.specs.declared.fault.Cause.{Cause}
 use Rattle.omf_module.specs.declared.fault.Cause.TheVariants as cause
 use Rattle.omf_module.specs.declared.pieces.UnfinishedModule.{UnfinishedModule}
 use Rattle.omf_module.specs.Pieces.{BegunModule, IsCutOff, ReadsModule}
-use Rattle.omf_module.specs.declared.records.PlacedBody.{PlacedBody}
+use Rattle.omf_module.specs.declared.module_file.PlacedBody.{PlacedBody}
 use Rattle.omf_module.specs.Records.{SpellsBodies}
 use Rattle.omf_module.specs.Spelled.{SpellsModules, FaultsWithin, no_byte as no_byte_within, no_record as no_record_within, FaultsModule, in_records}
 use Rattle.omf_module.specs.StayLaws.{ModulesStay, BegunModulesStay}

@@ -1,6 +1,6 @@
 //! Libraries that come in pieces.
 
-ghost use Rattle.std.specs.Prelude.{◌≡◌, ◌≢◌, ◌++◌, ℕ, List, [], length, None, Some, Ok, Err, IfOk, IfErr, OnOk};
+ghost use Rattle.std.specs.Prelude.{◌≡◌, ◌≢◌, ◌++◌, List, [], None, Some, Ok, Err, IfOk, IfErr, OnOk};
 ghost use Rattle.omf_parts.specs.Modules.{ModuleValue};
 ghost use Rattle.omf_library.specs.declared.fault.LibraryFault.{LibraryFault as LibraryFaultValue};
 ghost use Rattle.omf_library.specs.Fault.{OrNoMemory, Answers};

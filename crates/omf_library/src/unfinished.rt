@@ -1,13 +1,12 @@
 //! A library whose last bytes are still to come, read as far as they go.
 
-ghost use Rattle.std.specs.Prelude.{◌≡◌, ◌≢◌, ◌+◌, ◌-◌, ◌<◌, ℕ, List, [], length, take, Ok, None, Bool, true, false, IfOk, IfErr, IfSome, OnOk, OnErr};
-ghost use Rattle.omf_parts.specs.Modules.{ModuleValue};
+ghost use Rattle.std.specs.Prelude.{◌≡◌, ◌≢◌, ◌+◌, ◌-◌, ◌<◌, ℕ, List, [], length, take, Ok, None, true, false, IfOk, IfErr, IfSome, OnOk, OnErr};
 ghost use Rattle.omf_module.specs.declared.pieces.UnfinishedModule.{UnfinishedModule as UnfinishedModuleValue};
 ghost use Rattle.omf_module.specs.Pieces.{IsCutOff, ReadsModule};
 ghost use Rattle.omf_library.specs.Fault.{OrNoMemory};
 ghost use Rattle.omf_library.specs.Spelled.{BeginsLibrary, SpellsLibrary, FaultsLibrary, is_library_header, is_index_kind};
 ghost use Rattle.omf_library.specs.LibraryFeed.{LastingLibraryFault};
-ghost use Rattle.omf_library.specs.Unfinished.{ReadsModules, ReadsIndexed, ReadsTo, ReadsLibrary, WaitsLibrary, left_after, ReadsFurther, ReadsAll, Extends, HeaderStands, StandsAt, RecordStands, LastingHeaderFault, LastingFaultAt, LeadsTo, LeadsNowhere, FaultsWhereCut, no_end_in_module};
+ghost use Rattle.omf_library.specs.Unfinished.{ReadsModules, ReadsIndexed, ReadsLibrary, WaitsLibrary, left_after, ReadsFurther, ReadsAll, Extends, HeaderStands, StandsAt, RecordStands, LastingHeaderFault, LastingFaultAt, LeadsTo, LeadsNowhere, FaultsWhereCut, no_end_in_module};
 
 use crate::fault::LibraryFault;
 use omf_core::laws::{list_grows, lists_stay, other_faults_stay, records_stay};
@@ -48,26 +47,19 @@ pub struct UnfinishedLibrary {
     pub progress: Progress,
 }
 
-/// The type bytes of records: the index of a library, and a library header.
-const LOCATIONS: u8 = 0x26;
-
-const NAMES: u8 = 0x28;
-
-const DICTIONARY: u8 = 0x2A;
-
-const LIBRARY_HEADER: u8 = 0x2C;
-
 /// Whether a record says how many modules a library has.
 fn is_library_header(kind: u8, body: &[u8]) -> bool
     ensures { result ≡ is_library_header kind body.now }
 {
-    kind == LIBRARY_HEADER && 2 <= body.len()
+    kind == RecordKind::LibraryHeader.byte() && 2 <= body.len()
 }
 
 fn is_index_kind(kind: u8) -> bool
     ensures { result ≡ is_index_kind kind }
 {
-    kind == LOCATIONS || kind == NAMES || kind == DICTIONARY
+    kind == RecordKind::LibraryModuleLocations.byte()
+        || kind == RecordKind::LibraryModuleNames.byte()
+        || kind == RecordKind::LibraryDictionary.byte()
 }
 
 /// How many modules the header of a library says there are, and the place after it, or `None` where it is cut off.

@@ -1,11 +1,9 @@
 //! Libraries as bytes, in canonical form.
 
-ghost use Rattle.std.specs.Prelude.{◌≡◌, ◌≢◌, ◌≤◌, [], ◌∷◌, ◌++◌, ◌+◌, ◌/◌, ◌||◌, length, nat_lt, is_ok, Err, IfOk, OnOk, OnErr, IsErrOf, IsTrue, false};
+ghost use Rattle.std.specs.Prelude.{◌≡◌, ◌≤◌, [], ◌∷◌, ◌++◌, ◌+◌, ◌/◌, ◌||◌, length, nat_lt, IfOk, OnOk, OnErr, IsErrOf, IsTrue, false};
 ghost use Rattle.std.specs.List.{flat_map, AllByRecursion};
-ghost use Rattle.omf_core.specs.Name.{name_spelling};
 ghost use Rattle.omf_core.specs.Kind.{kind_byte};
 ghost use Rattle.omf_core.specs.Record.{spelling};
-ghost use Rattle.omf_core.specs.declared.fault.PutFault.TheVariants.{TooLong};
 ghost use Rattle.omf_body.specs.Fields.{word_bytes};
 ghost use Rattle.omf_module.specs.Writing.{module_bytes};
 ghost use Rattle.omf_module.specs.WritingLaws.{IsReadAgain};
@@ -14,7 +12,7 @@ ghost use Rattle.omf_library.specs.Writing.{location_bytes, places_from, names_b
 
 use crate::fault::LibraryPutFault;
 use crate::laws::written_library_is_spelled;
-use omf_core::{Name, PutFault, RecordKind, put_record};
+use omf_core::{RecordKind, never_too_long, push_name, push_word, put_record};
 use omf_module::{Module, write_module};
 use std::alloc::{AllocError, Global};
 
@@ -32,12 +30,6 @@ const LOCATION: usize = 4;
 
 const GREATEST_WORD: usize = 65535;
 
-fn push_word(word: u16, out: &mut Vec<u8>) -> Result<(), AllocError>
-    ensures { OnOk result (out.new.items ≡ out.old.items ++ word_bytes word) }
-{
-    out.extend_from_slice(&[(word % 256) as u8, (word / 256) as u8])
-}
-
 /// Appends a place's block and the byte in it.
 fn push_location(place: usize, out: &mut Vec<u8>) -> Result<(), AllocError>
     requires { place / 128 ≤ 65535 }
@@ -45,15 +37,6 @@ fn push_location(place: usize, out: &mut Vec<u8>) -> Result<(), AllocError>
 {
     push_word((place / BLOCK) as u16, out)?;
     push_word((place % BLOCK) as u16, out)
-}
-
-/// Appends the name's length byte and its bytes.
-fn push_name(name: &Name, out: &mut Vec<u8>) -> Result<(), AllocError>
-    ensures { OnOk result (out.new.items ≡ out.old.items ++ name_spelling name.now) }
-{
-    let bytes = name.bytes();
-    out.push(bytes.len() as u8)?;
-    out.extend_from_slice(bytes)
 }
 
 /// Appends the bytes of a module, and the place at which it begins.
@@ -93,7 +76,7 @@ fn names_of(alloc: Global, modules: &[Module]) -> Result<Vec<u8>, AllocError>
 {
     let mut body = Vec::new(alloc);
     for source in modules {
-        push_name(source.name(), &mut body)?;
+        push_name(source.name().bytes(), &mut body)?;
     }
     Ok(body)
 }
@@ -113,7 +96,7 @@ fn push_public_names(source: &Module, out: &mut Vec<u8>) -> Result<(), AllocErro
     ensures { OnOk result (out.new.items ≡ out.old.items ++ public_names source.now) }
 {
     for public in source.publics() {
-        push_name(&public.name, out)?;
+        push_name(public.name.bytes(), out)?;
     }
     out.extend_from_slice(&[0])
 }
@@ -175,18 +158,6 @@ fn is_too_large(
         dictionary: dictionary.len(),
         index: FIRST_PLACE + bytes.len(),
     })
-}
-
-/// What came of a body that fits its record: if it wasn't appended, memory ran out.
-fn never_too_long(appended: Result<(), PutFault>) -> Result<(), AllocError>
-    requires { appended ≢ Err TooLong }
-    ensures { is_ok result ≡ is_ok appended }
-{
-    match appended {
-        Ok(()) => Ok(()),
-        Err(PutFault::TooLong) => unreachable!(),
-        Err(PutFault::Memory) => Err(AllocError),
-    }
 }
 
 /// Appends a record whose body fits it.

@@ -15,7 +15,7 @@ use Rattle.omf_parts.specs.Rules.{each_after, is_new_common}
 use Rattle.omf_module.specs.Spelled.{read_new_common, FaultsCommons, here, later, commons_cause}
 use Rattle.omf_module.specs.Reading.{common_of, TakesCommons, RefusesCommons}
 use Rattle.omf_module.proofs.ListLemmas.{each_after_push}
-use Rattle.omf_module.proofs.RuleLemmas.{new_common}
+use Rattle.omf_parts.specs.SoundParts.{new_common}
 
 -- what was taken, and what is left
 pub record CommonsSoFar (before : List Common) (bytes : List ℕ) (now : List Common) (rest : List ℕ) : Type 0 where

@@ -20,7 +20,7 @@ use Rattle.omf_parts.specs.declared.fixup.Fixup.{Fixup}
 use Rattle.omf_parts.specs.declared.fixup.Target.{Target}
 use Rattle.omf_parts.specs.declared.fixup.Target.TheVariants as target
 use Rattle.omf_module.specs.declared.fault.Cause.TheVariants.{SegmentUnknown, OffsetOutside, FixupOutside, FixupTwice, IndexUnknown}
-use Rattle.omf_module.specs.declared.records.PlacedBody.{PlacedBody}
+use Rattle.omf_module.specs.declared.module_file.PlacedBody.{PlacedBody}
 use Rattle.omf_parts.specs.Contents.{ContentValue, is_inside, shares_a_byte}
 use Rattle.omf_parts.specs.Segments.{has_segment}
 use Rattle.omf_parts.specs.Modules.{ModuleValue}
@@ -29,7 +29,7 @@ use Rattle.omf_module.specs.Records.{SpellsBodies, commons_in, commons_of, stand
 use Rattle.omf_module.specs.Gathered.{publics_in, fixups_in, with_fixups, content_after, begins_content, contents_from, parts_of}
 use Rattle.omf_module.specs.Uses.{unknown_id, ids_in, place_fault, lacks_external, fixup_fault, fixups_fault, reference_fault, body_fault, fault_by, bodies_fault, header_fault, end_fault, use_fault}
 use Rattle.omf_module.proofs.ListLemmas.{each_after_both}
-use Rattle.omf_module.proofs.RuleLemmas.{in_bounds_parts}
+use Rattle.omf_parts.specs.SoundParts.{in_bounds_parts}
 
 -- ---- options and tests
 

@@ -1,4 +1,3 @@
-pub mod RuleLemmas
 pub mod ShortLemmas
 pub mod ListLemmas
 pub mod CommonLemmas

@@ -23,13 +23,13 @@ use Rattle.omf_body.specs.Laws.{OneBody, OneFault as OneBodyFault, NeverBoth as 
 use Rattle.omf_module.specs.declared.fault.Cause.{Cause}
 use Rattle.omf_module.specs.declared.fault.Cause.TheVariants.{Record, UnknownKind, NoEnd}
 use Rattle.omf_parts.specs.declared.symbols.Common.{Common}
-use Rattle.omf_parts.specs.Rules.{each_after, has_name, is_new_common}
-use Rattle.omf_parts.specs.Segments.{names_common}
+use Rattle.omf_parts.specs.Rules.{each_after, has_common_name, is_new_common}
+use Rattle.omf_parts.specs.Segments.{has_common_id}
 use Rattle.omf_module.specs.Records.{SpellsBody, may_follow}
 use Rattle.omf_module.specs.Spelled.{cause_of, no_header_byte, no_header_record, other_kind, in_header_body, read_new_common, FaultsCommons, here, later, commons_cause, FaultsWithin, no_byte, no_record, file_ends, second_header, in_body, in_commons}
 use Rattle.omf_module.specs.Reading.{common_of, is_end}
 use Rattle.omf_module.specs.ReadingLaws.{OneHeaderFault, SoundHeader}
-use Rattle.omf_module.proofs.RuleLemmas.{new_common}
+use Rattle.omf_parts.specs.SoundParts.{new_common}
 
 -- what holds of records and bodies
 pub record Below : Type 0 where
@@ -118,11 +118,11 @@ read_new : (before : List Common) (e : CommonEntry) (rest : List ℕ) → IsTrue
 read_new before e rest sound new =
     let s = and_parts (is_common_id e.id) (is_name e.name) sound in
     let n = new_common before (common_of e) new in
-    cond-true (is_common_id e.id && not (names_common before e.id))
-    (read_name (name_spelling e.name ++ rest) >>= λ name. if has_name before name.0 then Err BadField else Ok (record { id = e.id; name = name.0 }, name.1))
-    (Err BadField) (and_from (is_common_id e.id) (not (names_common before e.id)) n.id n.new_id)
-    ∙ (ap (λ (r : Result (List ℕ × List ℕ) FieldFault). r >>= λ name. if has_name before name.0 then Err BadField else Ok (record { id = e.id; name = name.0 }, name.1)) (name_again e.name rest s.1)
-    ∙ cond-false (has_name before e.name) (Err BadField) (Ok (common_of e, rest)) (not-true (has_name before e.name) n.new_name))
+    cond-true (is_common_id e.id && not (has_common_id before e.id))
+    (read_name (name_spelling e.name ++ rest) >>= λ name. if has_common_name before name.0 then Err BadField else Ok (record { id = e.id; name = name.0 }, name.1))
+    (Err BadField) (and_from (is_common_id e.id) (not (has_common_id before e.id)) n.id n.new_id)
+    ∙ (ap (λ (r : Result (List ℕ × List ℕ) FieldFault). r >>= λ name. if has_common_name before name.0 then Err BadField else Ok (record { id = e.id; name = name.0 }, name.1)) (name_again e.name rest s.1)
+    ∙ cond-false (has_common_name before e.name) (Err BadField) (Ok (common_of e, rest)) (not-true (has_common_name before e.name) n.new_name))
 
 pub commons_sound : (before : List Common) (bytes : List ℕ) (f : FieldFault) → FaultsCommons before bytes f → (es : List CommonEntry)
     → bytes ≡ flat_map common_bytes es → IsTrue (list_all common_layout.is_sound es) → IsTrue (each_after is_new_common before (map common_of es)) → ⊥

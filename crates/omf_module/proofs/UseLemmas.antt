@@ -8,7 +8,7 @@ use Rattle.omf_body.specs.declared.body.Body.{Body}
 use Rattle.omf_body.specs.declared.body.Body.TheVariants.{Content}
 use Rattle.omf_module.specs.declared.fault.Cause.{Cause}
 use Rattle.omf_module.specs.declared.fault.Cause.TheVariants.{SegmentUnknown, Memory}
-use Rattle.omf_module.specs.declared.records.PlacedBody.{PlacedBody}
+use Rattle.omf_module.specs.declared.module_file.PlacedBody.{PlacedBody}
 use Rattle.omf_parts.specs.declared.segment.Segment.{Segment}
 use Rattle.omf_module.specs.Fault.{fault_of}
 use Rattle.omf_parts.specs.Contents.{ContentValue}

@@ -36,7 +36,7 @@ from_header : (before header within end after : List ℕ) → before ++ header +
 from_header before header within end after = sym (append_assoc (before ++ header) within (end ++ after)) ∙ from_within before header within end after
 
 same_form : (m : ModuleValue) → IsModule m → m ≡ made_of m
-same_form m is = ap (λ (segments : List (ℕ × Segment)). record m { segments = segments }) is.one_form
+same_form m is = ap (λ (segments : List (ℕ × Segment)). record m { segments = segments }) is.canonical
 
 spelled_in : WrittenIsSpelled → (m : ModuleValue) → IsModule m → (before after header within end : List ℕ)
     → header ≡ record_bytes (ModuleHeader (header_body m)) → within ≡ flat_map record_bytes (bodies_within m) → end ≡ record_bytes (ModuleEnd (end_body m.start))
@@ -46,7 +46,7 @@ spelled_in law m is before after header within end eh ew ee =
     let front = before ++ header in
     let h : SpellsBody (before ++ header ++ (within ++ (end ++ after))) (length before) (length front) (ModuleHeader (header_body m)) =
     subst (λ (bs : List ℕ). SpellsBody (before ++ bs ++ (within ++ (end ++ after))) (length before) (length (before ++ bs)) (ModuleHeader (header_body m))) (sym eh)
-    (one_spelled law before (within ++ (end ++ after)) (ModuleHeader (header_body m)) (header_fits m is.one_form (name_of m is.names))) in
+    (one_spelled law before (within ++ (end ++ after)) (ModuleHeader (header_body m)) (header_fits m is.canonical (name_of m is.names))) in
     let w : SpellsBodies (front ++ within ++ (end ++ after)) (length front) (length (front ++ within)) (placed_after front (bodies_within m)) =
     subst (λ (bs : List ℕ). SpellsBodies (front ++ bs ++ (end ++ after)) (length front) (length (front ++ bs)) (placed_after front (bodies_within m))) (sym ew)
     (bodies_spelled law front (end ++ after) (bodies_within m) (within_passes m is).fit) in

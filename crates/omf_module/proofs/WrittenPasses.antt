@@ -26,7 +26,7 @@ use Rattle.omf_module.specs.Records.{commons_in, may_follow, each_follows}
 use Rattle.omf_module.specs.Gathered.{publics_in, externals_in, with_fixups, content_after, begins_content, contents_from}
 use Rattle.omf_module.specs.Uses.{fixups_fault, body_fault, fault_by, bodies_fault}
 use Rattle.omf_module.specs.Writing.{common_body, public_body, external_body, fixup_by, fixup_body, content_body, content_bodies}
-use Rattle.omf_module.proofs.RuleLemmas.{in_bounds_parts, new_common}
+use Rattle.omf_parts.specs.SoundParts.{in_bounds_parts, new_common}
 use Rattle.omf_module.proofs.UsesThere.{fixups_fit, body_fits}
 use Rattle.omf_module.proofs.WrittenSpelled.{Fits, placed_after}
 use Rattle.omf_module.proofs.WrittenSound.{chosen_by, common_fits, public_fits, external_fits, own_fits, other_fits, external_reference_fits, content_fits}

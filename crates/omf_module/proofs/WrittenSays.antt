@@ -16,7 +16,7 @@ use Rattle.omf_module.specs.Records.{ModuleRecords}
 use Rattle.omf_module.specs.Gathered.{parts_of}
 use Rattle.omf_module.specs.Uses.{use_fault}
 use Rattle.omf_module.specs.Writing.{segment_entry, header_body, common_body, public_body, external_body, content_bodies, place_of, end_body, bodies_within}
-use Rattle.omf_module.proofs.RuleLemmas.{sound_parts}
+use Rattle.omf_parts.specs.SoundParts.{sound_parts}
 use Rattle.omf_module.proofs.UsesThere.{none_unknown, start_known}
 use Rattle.omf_module.proofs.WrittenSpelled.{placed_after}
 use Rattle.omf_module.proofs.WrittenPasses.{Passes, commons_pass, publics_pass, externals_pass, contents_pass}

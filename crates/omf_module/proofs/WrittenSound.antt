@@ -14,10 +14,10 @@ use Rattle.omf_parts.specs.declared.segment.Segment.{Segment}
 use Rattle.omf_parts.specs.declared.symbols.Common.{Common}
 use Rattle.omf_parts.specs.declared.symbols.Public.{Public}
 use Rattle.omf_parts.specs.Contents.{ContentValue}
-use Rattle.omf_parts.specs.Segments.{is_common_id, names_common, is_used, segment_in, entries_for, listed_ids, in_one_form}
+use Rattle.omf_parts.specs.Segments.{is_common_id, has_common_id, is_used, segment_in, entries_for, listed_ids, canonical_segments}
 use Rattle.omf_parts.specs.Modules.{ModuleValue}
 use Rattle.omf_module.specs.Writing.{segment_entry, header_body, common_body, public_body, external_body, content_body, end_body}
-use Rattle.omf_module.proofs.ShortLemmas.{one_form_few}
+use Rattle.omf_parts.specs.FewSegments.{canonical_few}
 use Rattle.omf_module.proofs.WrittenSpelled.{Fits}
 
 pub chosen_by : {A : Type 0} (P : A → Type 0) (b : Bool) (x y : A) → (b ≡ true → P x) → P y → P (if b then x else y)
@@ -48,15 +48,15 @@ none_below : (e : List (ℕ × Segment)) (c : List Common) (id a n : ℕ) → id
 unfolding entries_for
 none_below e c id a zero below = refl
 none_below e c id a (suc n) below =
-    none_with (names_common c a || is_used (segment_in e a)) id a (segment_in e a) (entries_for e c (range_with_len (a + 1) n)) below (none_below e c id (a + 1) n (omega arith))
+    none_with (has_common_id c a || is_used (segment_in e a)) id a (segment_in e a) (entries_for e c (range_with_len (a + 1) n)) below (none_below e c id (a + 1) n (omega arith))
 
 distinct_from : (e : List (ℕ × Segment)) (c : List Common) (a n : ℕ) → are_distinct (map segment_entry (entries_for e c (range_with_len a n))) ≡ true
 unfolding entries_for
 distinct_from e c a zero = refl
 distinct_from e c a (suc n) =
-    distinct_with (names_common c a || is_used (segment_in e a)) a (segment_in e a) (entries_for e c (range_with_len (a + 1) n)) (none_below e c a (a + 1) n (omega arith)) (distinct_from e c (a + 1) n)
+    distinct_with (has_common_id c a || is_used (segment_in e a)) a (segment_in e a) (entries_for e c (range_with_len (a + 1) n)) (none_below e c a (a + 1) n (omega arith)) (distinct_from e c (a + 1) n)
 
-one_form_distinct : (e : List (ℕ × Segment)) (c : List Common) → are_distinct (map segment_entry (in_one_form e c)) ≡ true
+one_form_distinct : (e : List (ℕ × Segment)) (c : List Common) → are_distinct (map segment_entry (canonical_segments e c)) ≡ true
 unfolding listed_ids
 one_form_distinct e c = distinct_from e c 1 255
 
@@ -74,9 +74,9 @@ pub header_short : (name : List ℕ) (segments : List (ℕ × Segment)) → is_n
 header_short name segments is few =
     omega (arith, few, name_short name is, segments_length segments, length-append (name_spelling name) (0 ∷ 0 ∷ flat_map segment_bytes (map segment_entry segments)))
 
-pub header_fits : (m : ModuleValue) → m.segments ≡ in_one_form m.segments m.commons → is_name m.name ≡ true → Fits (ModuleHeader (header_body m))
+pub header_fits : (m : ModuleValue) → m.segments ≡ canonical_segments m.segments m.commons → is_name m.name ≡ true → Fits (ModuleHeader (header_body m))
 header_fits m form name =
-    let few : length m.segments ≤ 255 = subst (λ (ss : List (ℕ × Segment)). length ss ≤ 255) (sym form) (one_form_few m.segments m.commons) in
+    let few : length m.segments ≤ 255 = subst (λ (ss : List (ℕ × Segment)). length ss ≤ 255) (sym form) (canonical_few m.segments m.commons) in
     record {
       sound = and_from (is_name m.name) (are_distinct (map segment_entry m.segments)) name
           (subst (λ (ss : List (ℕ × Segment)). are_distinct (map segment_entry ss) ≡ true) (sym form) (one_form_distinct m.segments m.commons));

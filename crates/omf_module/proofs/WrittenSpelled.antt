@@ -7,7 +7,7 @@ use Rattle.omf_core.specs.Record.{SpellsRecord, spelling, unsummed, checksum}
 use Rattle.omf_core.specs.Laws.{WrittenIsSpelled}
 use Rattle.omf_body.specs.declared.body.Body.{Body}
 use Rattle.omf_body.specs.Bodies.{body_kind, body_bytes, is_sound_body, record_bytes}
-use Rattle.omf_module.specs.declared.records.PlacedBody.{PlacedBody}
+use Rattle.omf_module.specs.declared.module_file.PlacedBody.{PlacedBody}
 use Rattle.omf_module.specs.Records.{SpellsBody, SpellsBodies}
 
 -- bodies at the places where they stand after these bytes

@@ -12,7 +12,7 @@ use Rattle.omf_parts.specs.declared.segment.Segment.{Segment}
 use Rattle.omf_parts.specs.declared.symbols.Public.{Public}
 use Rattle.omf_parts.specs.declared.fixup.Fixup.{Fixup}
 use Rattle.omf_parts.specs.declared.fixup.Target.TheVariants as target
-use Rattle.omf_module.specs.declared.records.PlacedBody.{PlacedBody}
+use Rattle.omf_module.specs.declared.module_file.PlacedBody.{PlacedBody}
 use Rattle.omf_parts.specs.Contents.{ContentValue}
 use Rattle.omf_parts.specs.Modules.{ModuleValue}
 use Rattle.omf_module.specs.Records.{ModuleRecords, commons_of}

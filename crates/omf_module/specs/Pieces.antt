@@ -7,7 +7,7 @@ use Rattle.omf_body.specs.declared.body.HeaderBody.{HeaderBody}
 use Rattle.omf_body.specs.declared.body.Body.TheVariants.{ModuleHeader}
 use Rattle.omf_parts.specs.declared.symbols.Common.{Common}
 use Rattle.omf_module.specs.declared.fault.ModuleFault.{ModuleFault}
-use Rattle.omf_module.specs.declared.records.PlacedBody.{PlacedBody}
+use Rattle.omf_module.specs.declared.module_file.PlacedBody.{PlacedBody}
 use Rattle.omf_module.specs.Records.{SpellsBody, SpellsBodies, commons_of, each_follows, ModuleRecords, SpellsModuleRecords}
 use Rattle.omf_module.specs.Spelled.{FaultsModule}
 

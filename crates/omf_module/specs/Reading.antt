@@ -10,8 +10,8 @@ use Rattle.omf_body.specs.Entries.{common_layout}
 use Rattle.omf_body.specs.Layouts.{SpellsRow}
 use Rattle.omf_module.specs.declared.fault.Cause.{Cause}
 use Rattle.omf_module.specs.declared.fault.ModuleFault.{ModuleFault}
-use Rattle.omf_module.specs.declared.records.ModuleFile.{ModuleFile}
-use Rattle.omf_module.specs.declared.records.Within.{Within}
+use Rattle.omf_module.specs.declared.module_file.ModuleFile.{ModuleFile}
+use Rattle.omf_module.specs.declared.module_file.Within.{Within}
 use Rattle.omf_parts.specs.declared.symbols.Common.{Common}
 use Rattle.omf_module.specs.Fault.{no_memory}
 use Rattle.omf_parts.specs.Rules.{each_after, is_new_common}

@@ -18,9 +18,9 @@ use Rattle.omf_module.specs.declared.fault.Cause.{Cause}
 use Rattle.omf_module.specs.declared.fault.Cause.TheVariants as cause
 use Rattle.omf_module.specs.declared.fault.ModuleFault.{ModuleFault}
 use Rattle.omf_parts.specs.declared.symbols.Common.{Common}
-use Rattle.omf_module.specs.declared.records.PlacedBody.{PlacedBody}
-use Rattle.omf_parts.specs.Segments.{names_common}
-use Rattle.omf_parts.specs.Rules.{has_name}
+use Rattle.omf_module.specs.declared.module_file.PlacedBody.{PlacedBody}
+use Rattle.omf_parts.specs.Segments.{has_common_id}
+use Rattle.omf_parts.specs.Rules.{has_common_name}
 use Rattle.omf_parts.specs.Modules.{ModuleValue, made_of}
 use Rattle.omf_module.specs.Records.{SpellsBody, SpellsBodies, commons_of, each_follows, ModuleRecords, SpellsModuleRecords}
 use Rattle.omf_module.specs.Gathered.{parts_of}
@@ -56,8 +56,8 @@ pub data FaultsHeader (bytes : List ℕ) (at : ℕ) : Cause → Type 0 where
 abbrev pub read_new_common : List Common → List ℕ → Result (Common × List ℕ) FieldFault
 read_new_common before bytes = do
   id ← read_byte bytes
-  if is_common_id id.0 && not (names_common before id.0)
-      then (read_name id.1 >>= λ name. if has_name before name.0 then Err field.BadBody else Ok (record { id = id.0; name = name.0 }, name.1))
+  if is_common_id id.0 && not (has_common_id before id.0)
+      then (read_name id.1 >>= λ name. if has_common_name before name.0 then Err field.BadBody else Ok (record { id = id.0; name = name.0 }, name.1))
       else Err field.BadBody
 
 -- the first fault of the commons of a record, after those that stand before it

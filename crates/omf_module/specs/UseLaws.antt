@@ -2,7 +2,7 @@
 use Rattle.std.specs.Prelude.{◌≡◌, ◌↔◌, ℕ, Bool, not, ◌||◌, None, List, [], IsTrue}
 use Rattle.std.specs.List.{list_all, list_any}
 use Rattle.omf_parts.specs.declared.symbols.Common.{Common}
-use Rattle.omf_module.specs.declared.records.PlacedBody.{PlacedBody}
+use Rattle.omf_module.specs.declared.module_file.PlacedBody.{PlacedBody}
 use Rattle.omf_parts.specs.Segments.{has_segment}
 use Rattle.omf_parts.specs.Rules.{each_after, keeps_rules}
 use Rattle.omf_module.specs.Records.{ModuleRecords, SpellsModuleRecords, commons_of}

@@ -11,7 +11,7 @@ use crate::fault::Cause;
 use omf_body::segment_id::{FIRST_COMMON, LAST_COMMON};
 use omf_body::{CommonEntry, Cursor, FieldFault, NameBytes};
 use omf_core::{Name, NameFault};
-use omf_parts::{Common, names_common, names_name};
+use omf_parts::{Common, has_common_id, has_common_name};
 use std::alloc::{AllocError, Global};
 
 /// A copy of a name that stands in a file.
@@ -34,11 +34,11 @@ fn new_common<'a>(cursor: &mut Cursor<'a>, before: &[Common]) -> Result<CommonEn
     ensures fault { IfErr result (λ fault. read_new_common before.now cursor.old ≡ Err fault) }
 {
     let id = cursor.byte()?;
-    if !(FIRST_COMMON <= id && id <= LAST_COMMON) || names_common(before, id) {
+    if !(FIRST_COMMON <= id && id <= LAST_COMMON) || has_common_id(before, id) {
         return Err(FieldFault::BadBody);
     }
     let name = cursor.name()?;
-    if names_name(before, name.bytes()) {
+    if has_common_name(before, name.bytes()) {
         return Err(FieldFault::BadBody);
     }
     Ok(CommonEntry { id, name })

@@ -1,11 +1,11 @@
 //! Modules of an object file that comes in pieces.
 
-ghost use Rattle.std.specs.Prelude.{◌≡◌, ◌<◌, ◌≤◌, ◌++◌, ◌⊎◌, ℕ, List, [], None, Some, Ok, Err, length, take, true, false, IfOk, IfErr, OnOk, IsOk, IsTrue};
+ghost use Rattle.std.specs.Prelude.{◌≡◌, ◌<◌, ◌++◌, ◌⊎◌, List, [], None, Some, Ok, Err, length, take, true, false, IfOk, IfErr, OnOk, IsOk, IsTrue};
 ghost use Rattle.omf_parts.specs.Modules.{ModuleValue};
 ghost use Rattle.omf_module.specs.declared.fault.ModuleFault.{ModuleFault as ModuleFaultValue};
 ghost use Rattle.omf_module.specs.Fault.{no_memory};
 ghost use Rattle.omf_module.specs.Reading.{OrNoMemory};
-ghost use Rattle.omf_module.specs.Spelled.{SpellsModule, SpellsModules, EndsFile, SpellsFile, FaultsFile};
+ghost use Rattle.omf_module.specs.Spelled.{EndsFile, SpellsFile, FaultsFile};
 ghost use Rattle.omf_module.specs.Pieces.{ReadsModule, WaitsModule};
 ghost use Rattle.omf_module.specs.FileFeed.{CountsModules, LastingFileFault, EndsAfter, ReadsFile, Stops, GrowsBy, IsUnread};
 

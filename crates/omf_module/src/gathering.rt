@@ -6,7 +6,7 @@ ghost use Rattle.omf_parts.specs.declared.fixup.Target.TheVariants as target;
 ghost use Rattle.omf_module.specs.Gathered.{segments_in, publics_in, externals_in, fixups_in};
 
 use crate::commons::kept;
-use crate::records::PlacedBody;
+use crate::module_file::PlacedBody;
 use omf_body::{Body, ExternalReferencesBody, Field, HeaderBody, OffsetEntry, Row};
 use omf_core::Name;
 use omf_parts::{Fixup, Public, Segment, Target};

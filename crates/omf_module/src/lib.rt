@@ -12,8 +12,6 @@
 //! | [`Module`], [`Parts`], [`PartsFault`] | a module that keeps the rules; the parts that it is made of; why they make none |
 //! | [`Segment`], [`Common`], [`Public`] | a segment's size and alignment; a named common; a declared name |
 //! | [`Content`], [`Fixup`], [`Field`], [`Target`] | bytes of a segment, and the references that stand in them |
-//! | [`names_common`] | whether a module has a named common of an id |
-//! | [`copy_names`], [`copy_commons`], [`copy_publics`], [`copy_contents`] | copies of a module's parts |
 #![tactic(auto)]
 
 mod commons;
@@ -21,19 +19,18 @@ mod fault;
 mod file_feed;
 mod gathering;
 pub mod laws;
-mod open;
+mod module_file;
+mod open_content;
 mod pieces;
 mod reading;
-mod records;
+mod record_reading;
 mod uses;
-mod within;
 mod writing;
 
 pub use fault::{Cause, ModuleFault};
 pub use file_feed::FileFeed;
 pub use omf_parts::{
     Common, Content, Field, Fixup, Module, Parts, PartsFault, Public, Segment, Target,
-    copy_commons, copy_contents, copy_names, copy_publics, names_common,
 };
 pub use pieces::{UnfinishedModule, next_module};
 pub use reading::{read_file, read_module};

@@ -1,6 +1,6 @@
 //! A module whose last bytes are still to come, read as far as they go: what the readers of files and libraries in pieces stand on.
 
-ghost use Rattle.std.specs.Prelude.{◌≡◌, ◌≤◌, ◌⊎◌, [], None, Ok, length, IfOk, IfErr, IfSome};
+ghost use Rattle.std.specs.Prelude.{◌≡◌, ◌≤◌, [], None, Ok, length, IfOk, IfErr, IfSome};
 ghost use Rattle.omf_module.specs.declared.fault.ModuleFault.{ModuleFault as ModuleFaultValue};
 ghost use Rattle.omf_module.specs.Spelled.{SpellsModule};
 ghost use Rattle.omf_module.specs.Reading.{OrNoMemory};
@@ -9,7 +9,7 @@ ghost use Rattle.omf_module.specs.Pieces.{LastingModuleFault, BegunModule, Whole
 use crate::fault::{Cause, ModuleFault};
 use crate::laws::one_reading;
 use crate::reading::module_at;
-use crate::within::{header_at, next_body};
+use crate::record_reading::{header_at, next_body};
 use omf_body::Body;
 use omf_core::is_cut_off;
 use omf_core::laws::{other_faults_stay, records_stay, truncated_can_be_spoilt};

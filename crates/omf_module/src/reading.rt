@@ -1,9 +1,9 @@
 //! Modules read from an object file.
 
-ghost use Rattle.std.specs.Prelude.{◌≡◌, ◌≢◌, ◌<◌, ◌≤◌, ◌⊎◌, ℕ, List, None, Some, Ok, Err, [], length, option_map, true, false, IfOk, IfErr, OnOk, IsOk, IsTrue};
+ghost use Rattle.std.specs.Prelude.{◌≡◌, ◌<◌, ◌⊎◌, ℕ, List, None, Some, Ok, Err, [], option_map, IfOk, IfErr, OnOk, IsOk};
 ghost use Rattle.std.specs.List.{flat_map};
 ghost use Rattle.omf_module.specs.Records.{commons_of};
-ghost use Rattle.omf_module.specs.Gathered.{segments_in, publics_in, externals_in, start_in, contents_from, parts_of};
+ghost use Rattle.omf_module.specs.Gathered.{segments_in, publics_in, externals_in, contents_from, parts_of};
 ghost use Rattle.omf_module.specs.Uses.{fault_by, use_fault};
 ghost use Rattle.omf_module.specs.declared.fault.Cause.{Cause as CauseValue};
 ghost use Rattle.omf_module.specs.declared.fault.ModuleFault.{ModuleFault as ModuleFaultValue};
@@ -18,9 +18,9 @@ use crate::fault::ModuleFault;
 use crate::file_feed::FileFeed;
 use crate::gathering::{externals_of, publics_of, segments_in};
 use crate::laws::{one_file_reading, one_reading};
-use crate::records::{ModuleFile, PlacedBody};
+use crate::module_file::{ModuleFile, PlacedBody};
+use crate::record_reading::{header_at, records_at};
 use crate::uses::{contents_of, look_at_header, look_at_start};
-use crate::within::{header_at, records_at};
 use omf_body::{HeaderBody, Place};
 use omf_parts::{Common, Content, Module, Parts};
 use std::alloc::{AllocError, Global};
@@ -110,7 +110,7 @@ pub(crate) fn module_at(
 {
     let (file, commons, after) = records_at(alloc, bytes, at)?;
     let parts = parts_of(alloc, &file, commons)?;
-    let module = Module::of_rules(alloc, parts)?;
+    let module = Module::from_sound_parts(alloc, parts)?;
     Ok((module, after))
 }
 

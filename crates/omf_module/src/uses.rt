@@ -4,13 +4,13 @@ ghost use Rattle.std.specs.Prelude.{◌≡◌, ◌≢◌, ◌++◌, List, [], �
 ghost use Rattle.std.specs.Option.{option_or, option_to_list};
 ghost use Rattle.std.specs.Result.{result_err};
 ghost use Rattle.omf_parts.specs.Contents.{ContentValue};
-ghost use Rattle.omf_module.specs.Gathered.{content_after, contents_from, fixups_in, with_fixups};
+ghost use Rattle.omf_module.specs.Gathered.{contents_from, fixups_in, with_fixups};
 ghost use Rattle.omf_module.specs.Uses.{unknown_id, ids_in, place_fault, reference_fault, body_fault, bodies_fault};
 ghost use Rattle.omf_module.specs.Reading.{with_contents, TakesBody, OrNoMemory};
 
 use crate::fault::{Cause, ModuleFault};
-use crate::open::Open;
-use crate::records::PlacedBody;
+use crate::module_file::PlacedBody;
+use crate::open_content::OpenContent;
 use omf_body::segment_id::STACK;
 use omf_body::{Body, HeaderBody, Place};
 use omf_parts::{Content, Parts, end_of, has_segment};
@@ -89,8 +89,8 @@ fn take_fixups<'a>(
     alloc: Global,
     parts: &Parts,
     body: &Body,
-    nearest: Option<Open<'a>>,
-) -> Result<Option<Open<'a>>, Cause>
+    nearest: Option<OpenContent<'a>>,
+) -> Result<Option<OpenContent<'a>>, Cause>
     ensures taken { IfOk result (λ after. after ≡ option_map (λ c. with_fixups c (fixups_in c.segment body.now)) nearest.entry) }
     ensures sound { OnOk result ((cs : List ContentValue) → reference_fault (with_contents parts.now cs) nearest.entry body.now ≡ None) }
     ensures fault { IfErr result (λ why. why ≢ Cause.Memory → (cs : List ContentValue) → reference_fault (with_contents parts.now cs) nearest.entry body.now ≡ Some why) }
@@ -108,7 +108,11 @@ fn take_fixups<'a>(
 }
 
 /// Adds a content that is whole to the others.
-fn close(alloc: Global, nearest: Option<Open>, whole: &mut Vec<Content>) -> Result<(), AllocError>
+fn close(
+    alloc: Global,
+    nearest: Option<OpenContent>,
+    whole: &mut Vec<Content>,
+) -> Result<(), AllocError>
     ensures { OnOk result (whole.new.items ≡ whole.old.items ++ option_to_list nearest.entry) }
 {
     if let Some(open) = nearest {
@@ -122,9 +126,9 @@ fn take_body<'a>(
     alloc: Global,
     parts: &Parts,
     body: &Body<'a>,
-    nearest: Option<Open<'a>>,
+    nearest: Option<OpenContent<'a>>,
     whole: &mut Vec<Content>,
-) -> Result<Option<Open<'a>>, Cause>
+) -> Result<Option<OpenContent<'a>>, Cause>
     ensures taken { IfOk result (λ after. TakesBody parts.now nearest.entry body.now whole.old.items whole.new.items after) }
     ensures fault { IfErr result (λ why. why ≢ Cause.Memory → (cs : List ContentValue) → body_fault (with_contents parts.now cs) nearest.entry body.now ≡ Some why) }
 {
@@ -133,7 +137,7 @@ fn take_body<'a>(
         return take_fixups(alloc, parts, body, nearest);
     };
     close(alloc, nearest, whole)?;
-    Ok(Some(Open::new(alloc, b.segment, b.offset, b.bytes.bytes)?))
+    Ok(Some(OpenContent::new(alloc, b.segment, b.offset, b.bytes.bytes)?))
 }
 
 /// The contents of a module, each with the fixups of the records up to the next one.

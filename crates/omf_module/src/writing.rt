@@ -1,14 +1,13 @@
 //! Modules as records, in canonical form: each kind of record is appended by its own function.
 
-ghost use Rattle.std.specs.Prelude.{◌≡◌, ◌≢◌, ◌≤◌, ◌<◌, ◌++◌, [], length, map, is_ok, option_map, Err, IfOk, OnOk, OnErr, IsTrue};
+ghost use Rattle.std.specs.Prelude.{◌≡◌, ◌≤◌, ◌<◌, ◌++◌, [], length, map, IfOk, OnOk, OnErr, IsTrue};
 ghost use Rattle.std.specs.List.{flat_map, AllByRecursion};
 ghost use Rattle.omf_core.specs.Name.{is_name};
-ghost use Rattle.omf_core.specs.declared.fault.PutFault.TheVariants.{TooLong};
 ghost use Rattle.omf_body.specs.declared.body.Body.TheVariants.{ModuleHeader, ModuleEnd};
 ghost use Rattle.omf_body.specs.Bodies.{record_bytes};
 ghost use Rattle.omf_parts.specs.Rules.{IsModule};
 ghost use Rattle.omf_module.specs.Spelled.{SpellsFile};
-ghost use Rattle.omf_module.specs.Writing.{segment_entry, header_body, common_body, public_body, external_body, fixup_body, content_bodies, place_of, end_body, module_bytes, file_bytes};
+ghost use Rattle.omf_module.specs.Writing.{segment_entry, header_body, common_body, public_body, external_body, fixup_body, content_bodies, end_body, module_bytes, file_bytes};
 ghost use Rattle.omf_module.specs.WritingLaws.{IsReadAgain};
 
 use crate::laws::{written_file_is_spelled, written_module_is_spelled};
@@ -17,24 +16,12 @@ use omf_body::{
     SegmentEntry, put_commons, put_content, put_end, put_external_references, put_externals,
     put_header, put_intersegment, put_publics, put_relocation,
 };
-use omf_core::{Name, PutFault, RecordKind, put_record};
+use omf_core::{Name, RecordKind, never_too_long, put_record};
 use omf_parts::{Common, Content, Fixup, Module, Public, Segment, Target};
 use std::alloc::{AllocError, Global};
 
 /// The alignment byte of a part that starts at a multiple of 256.
 pub(crate) const PAGED: u8 = 2;
-
-/// What came of a body that fits its record: if it wasn't appended, memory ran out.
-fn never_too_long(appended: Result<(), PutFault>) -> Result<(), AllocError>
-    requires { appended ≢ Err TooLong }
-    ensures { is_ok result ≡ is_ok appended }
-{
-    match appended {
-        Ok(()) => Ok(()),
-        Err(PutFault::TooLong) => unreachable!(),
-        Err(PutFault::Memory) => Err(AllocError),
-    }
-}
 
 /// The name as an entry has it.
 fn name_bytes(name: &Name) -> NameBytes

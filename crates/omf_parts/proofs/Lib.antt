@@ -1,5 +1,4 @@
 pub mod RuleLemmas
 pub mod ListingLemmas
 pub mod MarkLemmas
-pub mod OneForm
-pub mod ShortLemmas
+pub mod CanonicalLemmas

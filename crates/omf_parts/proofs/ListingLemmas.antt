@@ -3,14 +3,14 @@ use Rattle.std.proofs.Common.{◌≡◌, ℕ, suc, ◌+◌, ◌-◌, ◌<◌, �
 use Rattle.std.specs.List.{range_with_len, cons_option}
 use Rattle.omf_parts.specs.declared.segment.Segment.{Segment}
 use Rattle.omf_parts.specs.declared.symbols.Common.{Common}
-use Rattle.omf_parts.specs.Segments.{entry_for, entries_for, listed_ids, in_one_form}
+use Rattle.omf_parts.specs.Segments.{entry_for, entries_for, listed_ids, canonical_segments}
 
 all_ids : range_with_len 1 (256 - 1) ≡ listed_ids
 unfolding listed_ids
 all_ids = refl
 
 -- all that are listed are those from the first id on
-pub listed_from_first : (entries : List (ℕ × Segment)) (commons : List Common) → entries_for entries commons (range_with_len 1 (256 - 1)) ≡ in_one_form entries commons
+pub listed_from_first : (entries : List (ℕ × Segment)) (commons : List Common) → entries_for entries commons (range_with_len 1 (256 - 1)) ≡ canonical_segments entries commons
 listed_from_first entries commons = ap (entries_for entries commons) all_ids
 
 -- the entries from an id on: its own, if it is listed, and those from the next one on

@@ -2,6 +2,8 @@ pub mod Contents
 pub mod Fault
 pub mod Modules
 pub mod Rules
+pub mod SoundParts
 pub mod Segments
+pub mod FewSegments
 pub mod Laws
 pub mod Marks

@@ -5,7 +5,7 @@ use Rattle.omf_parts.specs.declared.segment.Segment.{Segment}
 use Rattle.omf_parts.specs.declared.symbols.Common.{Common}
 use Rattle.omf_parts.specs.declared.symbols.Public.{Public}
 use Rattle.omf_parts.specs.Contents.{ContentValue}
-use Rattle.omf_parts.specs.Segments.{segment_in, has_segment, in_one_form}
+use Rattle.omf_parts.specs.Segments.{segment_in, has_segment, canonical_segments}
 
 pub record ModuleValue : Type 0 where
   pub name : List ℕ
@@ -18,7 +18,7 @@ pub record ModuleValue : Type 0 where
 
 -- the module of these parts: they are kept as they are, but for the segments, which have one form
 abbrev pub made_of : ModuleValue → ModuleValue
-made_of p = record p { segments = in_one_form p.segments p.commons }
+made_of p = record p { segments = canonical_segments p.segments p.commons }
 
 -- the segment of an id, where the module has one
 abbrev pub segment_of : ModuleValue → ℕ → Option Segment

@@ -10,7 +10,7 @@ use Rattle.omf_parts.specs.declared.fixup.Fixup.{Fixup}
 use Rattle.omf_parts.specs.declared.fixup.Target.{Target}
 use Rattle.omf_parts.specs.declared.fixup.Target.TheVariants as target
 use Rattle.omf_parts.specs.Contents.{ContentValue, is_inside, shares_a_byte}
-use Rattle.omf_parts.specs.Segments.{names_common, has_segment, is_common_id, segment_in, in_one_form}
+use Rattle.omf_parts.specs.Segments.{absolute_id, stack_id, has_common_id, has_segment, is_common_id, segment_in, canonical_segments}
 use Rattle.omf_parts.specs.Modules.{ModuleValue}
 
 -- Each item passes the test, which also looks at the items before it: those of `before`, and of the list.
@@ -23,12 +23,12 @@ abbrev pub is_new_entry : List Common → List (ℕ × Segment) → ℕ × Segme
 is_new_entry commons before e = has_segment commons e.0 && not (list_any (λ d. d.0 == e.0) before)
 
 -- one of the commons has this name
-abbrev pub has_name : List Common → List ℕ → Bool
-has_name commons name = list_any (λ c. pointwise nat_eq c.name name) commons
+abbrev pub has_common_name : List Common → List ℕ → Bool
+has_common_name commons name = list_any (λ c. pointwise nat_eq c.name name) commons
 
 -- the common's id is one for commons, and neither id nor name stands before
 abbrev pub is_new_common : List Common → Common → Bool
-is_new_common before c = is_common_id c.id && not (names_common before c.id) && not (has_name before c.name)
+is_new_common before c = is_common_id c.id && not (has_common_id before c.id) && not (has_common_name before c.name)
 
 -- what a reference is to is there
 abbrev pub has_target : List Common → ℕ → Target → Bool
@@ -42,12 +42,12 @@ is_fitting commons externals first size before f =
 
 -- the end of a segment: its length, and for absolute bytes the end of memory
 abbrev pub end_of : List (ℕ × Segment) → ℕ → ℕ
-end_of segments id = if id == 0 then 65536 else (segment_in segments id).length
+end_of segments id = if id == absolute_id then 65536 else (segment_in segments id).length
 
 -- the record lies within a segment that the module has and that isn't STACK
 abbrev pub lies_within : List (ℕ × Segment) → List Common → ContentValue → Bool
 lies_within segments commons c =
-    has_segment commons c.segment && not (c.segment == 3) && nat_le (c.offset + length c.bytes) (end_of segments c.segment)
+    has_segment commons c.segment && not (c.segment == stack_id) && nat_le (c.offset + length c.bytes) (end_of segments c.segment)
 
 -- and fits one record of a file
 abbrev pub is_in_bounds : List (ℕ × Segment) → List Common → ContentValue → Bool
@@ -104,5 +104,5 @@ has_names m =
 pub record IsModule (m : ModuleValue) : Type 0 where
   pub sound : IsTrue (is_sound m)
   pub own : IsTrue (list_all (λ e. has_segment m.commons e.0) m.segments)
-  pub one_form : m.segments ≡ in_one_form m.segments m.commons
+  pub canonical : m.segments ≡ canonical_segments m.segments m.commons
   pub names : IsTrue (has_names m)

@@ -11,17 +11,40 @@ use Rattle.omf_parts.specs.declared.symbols.Common.{Common}
 abbrev pub empty_segment : Segment
 empty_segment = record { length = 0; paged = false }
 
+-- ---- the ids of segments; those of named commons are 6 to 254
+
+-- bytes whose offsets are addresses
+abbrev pub absolute_id : ℕ
+absolute_id = 0
+
+abbrev pub code_id : ℕ
+code_id = 1
+
+abbrev pub data_id : ℕ
+data_id = 2
+
+abbrev pub stack_id : ℕ
+stack_id = 3
+
+abbrev pub memory_id : ℕ
+memory_id = 4
+
+abbrev pub unnamed_common_id : ℕ
+unnamed_common_id = 255
+
 -- absolute, CODE, DATA, STACK, MEMORY and the unnamed common: every module has them
 abbrev pub is_fixed_id : ℕ → Bool
-is_fixed_id id = nat_le id 4 || id == 255
+is_fixed_id id = nat_le id memory_id || id == unnamed_common_id
+
+-- ---- the segments that a module lists
 
 -- one of the commons has this id
-abbrev pub names_common : List Common → ℕ → Bool
-names_common commons id = list_any (λ c. c.id == id) commons
+abbrev pub has_common_id : List Common → ℕ → Bool
+has_common_id commons id = list_any (λ c. c.id == id) commons
 
 -- the id is one of a segment that the module has
 abbrev pub has_segment : List Common → ℕ → Bool
-has_segment commons id = is_fixed_id id || names_common commons id
+has_segment commons id = is_fixed_id id || has_common_id commons id
 
 -- the listed segment of this id
 abbrev pub segment_in : List (ℕ × Segment) → ℕ → Segment
@@ -35,7 +58,7 @@ is_used s = nat_lt 0 s.length || s.paged
 -- and of the others those that have bytes or are paged. Id 0 is never listed.
 abbrev pub entry_for : List (ℕ × Segment) → List Common → ℕ → Option (ℕ × Segment)
 entry_for entries commons id =
-    if names_common commons id || is_used (segment_in entries id) then Some (id, segment_in entries id) else None
+    if has_common_id commons id || is_used (segment_in entries id) then Some (id, segment_in entries id) else None
 
 unfoldable pub entries_for : List (ℕ × Segment) → List Common → List ℕ → List (ℕ × Segment)
 entries_for entries commons ids = filter_map (entry_for entries commons) ids
@@ -44,5 +67,5 @@ entries_for entries commons ids = filter_map (entry_for entries commons) ids
 unfoldable pub listed_ids : List ℕ
 listed_ids = range_with_len 1 255
 
-abbrev pub in_one_form : List (ℕ × Segment) → List Common → List (ℕ × Segment)
-in_one_form entries commons = entries_for entries commons listed_ids
+abbrev pub canonical_segments : List (ℕ × Segment) → List Common → List (ℕ × Segment)
+canonical_segments entries commons = entries_for entries commons listed_ids

@@ -25,7 +25,7 @@ pub fn copy_names(alloc: Global, names: &[Name]) -> Result<Vec<Name>, AllocError
 ///
 /// # Errors
 /// `AllocError` only where there is no memory for them.
-pub fn copy_commons(alloc: Global, commons: &[Common]) -> Result<Vec<Common>, AllocError>
+pub(crate) fn copy_commons(alloc: Global, commons: &[Common]) -> Result<Vec<Common>, AllocError>
     ensures { IfOk result (λ copies. copies.items ≡ commons.now) }
 {
     let mut copies = Vec::new(alloc);
@@ -42,7 +42,7 @@ pub fn copy_commons(alloc: Global, commons: &[Common]) -> Result<Vec<Common>, Al
 ///
 /// # Errors
 /// `AllocError` only where there is no memory for them.
-pub fn copy_publics(alloc: Global, publics: &[Public]) -> Result<Vec<Public>, AllocError>
+pub(crate) fn copy_publics(alloc: Global, publics: &[Public]) -> Result<Vec<Public>, AllocError>
     ensures { IfOk result (λ copies. copies.items ≡ publics.now) }
 {
     let mut copies = Vec::new(alloc);
@@ -60,7 +60,7 @@ pub fn copy_publics(alloc: Global, publics: &[Public]) -> Result<Vec<Public>, Al
 ///
 /// # Errors
 /// `AllocError` only where there is no memory for them.
-pub fn copy_contents(alloc: Global, contents: &[Content]) -> Result<Vec<Content>, AllocError>
+pub(crate) fn copy_contents(alloc: Global, contents: &[Content]) -> Result<Vec<Content>, AllocError>
     ensures { IfOk result (λ copies. copies.items ≡ contents.now) }
 {
     let mut copies = Vec::new(alloc);

@@ -4,37 +4,37 @@
 //! |---|---|
 //! | [`Module`], [`Parts`] | a module that keeps the rules; the parts that it is made of |
 //! | [`Segment`], [`Common`], [`Public`] | a segment's size and alignment; a named common; a declared name |
-//! | [`names_common`], [`names_name`], [`has_segment`], [`end_of`] | what commons and segments a module has, while it is read |
+//! | [`has_common_id`], [`has_common_name`], [`has_segment`], [`end_of`] | what commons and segments a module has, while it is read |
 //! | [`Content`], [`Fixup`], [`Field`], [`Target`] | bytes of a segment, and the references that stand in them |
 //! | [`marks`] | which bytes of a content its references have |
-//! | [`copy_names`], [`copy_commons`], [`copy_publics`], [`copy_contents`] | copies of a module's parts |
+//! | [`copy_names`] | a copy of names |
 //! | [`laws`] | segments are kept |
 //! | [`PartsFault`] | why parts make no module |
 #![tactic(auto)]
 
+mod canonical_segments;
 mod content;
 mod copies;
-mod distinct;
+mod duplicates;
 mod fault;
 mod fixup;
 pub mod laws;
-mod listing;
 pub mod marks;
 mod modules;
-mod names;
+mod name_invariants;
 mod parts;
 mod rules;
 mod segment;
 mod symbols;
 
 pub use content::Content;
-pub use copies::{copy_commons, copy_contents, copy_names, copy_publics};
-pub use distinct::names_name;
+pub use copies::copy_names;
+pub use duplicates::has_common_name;
 pub use fault::PartsFault;
 pub use fixup::{Fixup, Target};
 pub use modules::Module;
 pub use omf_body::Field;
 pub use parts::Parts;
-pub use rules::{end_of, has_segment, names_common};
+pub use rules::{end_of, has_common_id, has_segment};
 pub use segment::Segment;
 pub use symbols::{Common, Public};

@@ -1,8 +1,8 @@
+use crate::canonical_segments::canonical_segments;
 use crate::content::Content;
 use crate::copies::{copy_commons, copy_contents, copy_names, copy_publics};
 use crate::fault::PartsFault;
-use crate::listing::in_one_form;
-use crate::names::look_at_names;
+use crate::name_invariants::look_at_names;
 use crate::parts::Parts;
 use crate::rules::{has_segment, keeps_fixup_rules, keeps_rules_but_for_fixups, segment_in};
 use crate::segment::Segment;
@@ -40,7 +40,7 @@ impl Model for Module {
 impl Module {
     ghost use Rattle.std.specs.Prelude.{◌≡◌, ◌≤◌, length, false, Err, IfOk, IfErr, OnOk, IsTrue};
     ghost use Rattle.omf_parts.specs.declared.fault.PartsFault.TheVariants.{Rule, Memory};
-    ghost use Rattle.omf_parts.specs.Segments.{in_one_form};
+    ghost use Rattle.omf_parts.specs.Segments.{canonical_segments};
     ghost use Rattle.omf_parts.specs.Modules.{made_of, segment_of};
     ghost use Rattle.omf_parts.specs.Rules.{keeps_rules, keeps_rules_but_for_fixups, has_names, IsModule};
 
@@ -70,7 +70,7 @@ impl Module {
             Ok(false) => return Err((parts, PartsFault::Rule)),
             Err(_) => return Err((parts, PartsFault::Memory)),
         }
-        let segments = match in_one_form(alloc, &parts.segments, &parts.commons) {
+        let segments = match canonical_segments(alloc, &parts.segments, &parts.commons) {
             Ok(segments) => segments,
             Err(_) => return Err((parts, PartsFault::Memory)),
         };
@@ -79,11 +79,11 @@ impl Module {
     }
 
     /// The module of parts that keep the rules.
-    pub fn of_rules(alloc: Global, parts: Parts) -> Result<Module, AllocError>
+    pub fn from_sound_parts(alloc: Global, parts: Parts) -> Result<Module, AllocError>
         requires { IsTrue (keeps_rules parts) }
         ensures { IfOk result (λ m. m ≡ made_of parts) }
     {
-        let segments = in_one_form(alloc, &parts.segments, &parts.commons)?;
+        let segments = canonical_segments(alloc, &parts.segments, &parts.commons)?;
         look_at_names(&parts);
         Ok(Module::with_segments(parts, segments))
     }
@@ -91,7 +91,7 @@ impl Module {
     fn with_segments(parts: Parts, segments: Vec<(u8, Segment)>) -> Module
         requires rules { IsTrue (keeps_rules parts) }
         requires names { IsTrue (has_names parts) }
-        requires one_form { segments.items ≡ in_one_form parts.segments parts.commons }
+        requires canonical { segments.items ≡ canonical_segments parts.segments parts.commons }
         ensures { result ≡ made_of parts }
     {
         Module {

@@ -2,11 +2,11 @@
 
 ghost use Rattle.std.specs.Prelude.{◌≡◌, ℕ, ◌+◌, length, IfOk};
 ghost use Rattle.std.specs.List.{list_all};
-ghost use Rattle.omf_parts.specs.Segments.{names_common, has_segment, segment_in};
+ghost use Rattle.omf_parts.specs.Segments.{has_common_id, has_segment, segment_in};
 ghost use Rattle.omf_parts.specs.Rules.{end_of, is_in_bounds, has_fitting, is_start, keeps_rules_but_for_fixups, keeps_fixup_rules};
 
 use crate::content::Content;
-use crate::distinct::{are_commons, are_entries};
+use crate::duplicates::{are_commons, are_entries};
 use crate::marks::are_fitting;
 use crate::parts::Parts;
 use crate::segment::Segment;
@@ -18,8 +18,8 @@ use std::alloc::{AllocError, Global};
 const LONGEST_CONTENT: usize = 65531;
 
 /// Whether one of the commons has this id. It takes no memory.
-pub fn names_common(commons: &[Common], id: u8) -> bool
-    ensures { result ≡ names_common commons.now id }
+pub fn has_common_id(commons: &[Common], id: u8) -> bool
+    ensures { result ≡ has_common_id commons.now id }
 {
     commons.iter().any(|c| c.id == id)
 }
@@ -28,7 +28,7 @@ pub fn names_common(commons: &[Common], id: u8) -> bool
 pub fn has_segment(commons: &[Common], id: u8) -> bool
     ensures { result ≡ has_segment commons.now id }
 {
-    id <= MEMORY || id == UNNAMED_COMMON || names_common(commons, id)
+    id <= MEMORY || id == UNNAMED_COMMON || has_common_id(commons, id)
 }
 
 /// The listed segment of this id, and an empty one where none is listed.

@@ -6,7 +6,7 @@ use Rattle.std.specs.Option.{option_map_or}
 use Rattle.std.specs.Cmp.Lexicographic.{pointwise}
 use Rattle.std.proofs.lemmas.Bool.{and_parts, cases_Bool, not_from_false}
 use Rattle.omf_parts.specs.declared.symbols.Common.{Common}
-use Rattle.omf_parts.specs.Segments.{is_common_id, names_common, segment_in}
+use Rattle.omf_parts.specs.Segments.{is_common_id, has_common_id, segment_in}
 use Rattle.omf_parts.specs.Modules.{ModuleValue}
 use Rattle.omf_relocation.specs.Place.{word_of, common_name, is_laid_out, starts_from, part_start}
 use Rattle.omf_parts.specs.Rules.{each_after, is_new_common}
@@ -27,12 +27,12 @@ new_name front c back d new =
     not_from_false (pointwise nat_eq c.name d.name)
     (none_at (λ (e : Common). pointwise nat_eq e.name d.name) front c back (not_true (list_any (λ (e : Common). pointwise nat_eq e.name d.name) (front ++ c ∷ back)) none))
 
-other_name : (c : Common) (commons : List Common) (id : ℕ) → IsTrue (list_all (is_other_name c) commons) → names_common commons id ≡ true →
+other_name : (c : Common) (commons : List Common) (id : ℕ) → IsTrue (list_all (is_other_name c) commons) → has_common_id commons id ≡ true →
     pointwise nat_eq c.name (common_name commons id) ≡ false
 other_name c [] id others named = absurd cc
 other_name c (d ∷ ds) id others named =
     let parts = and_parts (is_other_name c d) (list_all (is_other_name c) ds) others in
-    (elim (d.id == id) as (λ b. (b || names_common ds id) ≡ true → pointwise nat_eq c.name (option_map_or (λ e. e.name) (cond b (Some d) (find (λ e. e.id == id) ds)) []) ≡ false) [
+    (elim (d.id == id) as (λ b. (b || has_common_id ds id) ≡ true → pointwise nat_eq c.name (option_map_or (λ e. e.name) (cond b (Some d) (find (λ e. e.id == id) ds)) []) ≡ false) [
       | true ↦ λ _. not_true (pointwise nat_eq c.name d.name) parts.0
       | false ↦ λ later. other_name c ds id parts.1 later
     ]) named
@@ -47,7 +47,7 @@ word_if base c cs name same = option_map_or (λ w. w.1) (cond same (Some (c.name
 abbrev name_if : Common → List Common → ℕ → Bool → List ℕ
 name_if c cs id same = option_map_or (λ d. d.name) (cond same (Some c) (find (λ d. d.id == id) cs)) []
 
-pub common_word : (base : ℕ → ℕ) (before commons : List Common) (id : ℕ) → IsTrue (each_after is_new_common before commons) → names_common commons id ≡ true →
+pub common_word : (base : ℕ → ℕ) (before commons : List Common) (id : ℕ) → IsTrue (each_after is_new_common before commons) → has_common_id commons id ≡ true →
     word_of (bases_by_name base commons) (common_name commons id) ≡ base id
 common_word base before [] id new named = absurd cc
 common_word base before (c ∷ cs) id new named = elim (cases_Bool (c.id == id)) [
@@ -57,7 +57,7 @@ common_word base before (c ∷ cs) id new named = elim (cases_Bool (c.id == id))
       ∙ ap base (eqb-true c.id id e)
   | inr e ↦
       let parts = rest_after is_new_common before c cs new in
-      let later : names_common cs id ≡ true = sym (ap (λ b. b || names_common cs id) e) ∙ named in
+      let later : has_common_id cs id ≡ true = sym (ap (λ b. b || has_common_id cs id) e) ∙ named in
       ap (λ name. word_of (bases_by_name base (c ∷ cs)) name) (ap (name_if c cs id) e)
       ∙ ap (word_if base c cs (common_name cs id)) (other_name c cs id (all_after_one is_new_common (is_other_name c) before c [] cs (λ front back d new. new_name front c back d new) parts.1) later)
       ∙ common_word base (before ++ c ∷ []) cs id parts.1 later

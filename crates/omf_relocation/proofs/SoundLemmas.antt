@@ -1,85 +1,39 @@
 -- What the rules of a module say of its commons, its contents and their places.
-use Rattle.std.proofs.Common.{◌≡◌, ℕ, ◌+◌, ◌≤◌, Bool, true, false, ◌&&◌, ◌||◌, List, [], ◌∷◌, length, refl, subst, eqb-true}
-use Rattle.std.specs.Prelude.{not, nat_eq, nat_le, ◌==◌, IsTrue}
-use Rattle.std.specs.List.{list_all, list_any, AllByRecursion}
-use Rattle.std.specs.Cmp.Lexicographic.{pointwise}
+use Rattle.std.proofs.Common.{◌≡◌, ℕ, ◌≤◌, Bool, true, false, ◌||◌, List, [], ◌∷◌, length, refl, subst, eqb-true}
+use Rattle.std.specs.Prelude.{nat_le, ◌==◌, IsTrue}
+use Rattle.std.specs.List.{list_all, AllByRecursion}
 use Rattle.std.proofs.lemmas.Bool.{and_parts, leb-true}
-use Rattle.omf_parts.specs.declared.segment.Segment.{Segment}
 use Rattle.omf_parts.specs.declared.symbols.Common.{Common}
 use Rattle.omf_parts.specs.Contents.{ContentValue}
-use Rattle.omf_parts.specs.Segments.{is_common_id, names_common, has_segment}
+use Rattle.omf_parts.specs.Segments.{is_common_id, has_common_id, has_segment}
 use Rattle.omf_parts.specs.Modules.{ModuleValue}
-use Rattle.omf_parts.specs.Rules.{each_after, is_new_common, is_fitting, has_target, is_in_bounds, is_content, end_of, is_start, is_sound}
+use Rattle.omf_parts.specs.Rules.{each_after, is_new_common, is_fitting, has_target, is_in_bounds, is_content}
+use Rattle.omf_parts.specs.SoundParts.{sound_parts, in_bounds_parts, new_common}
 use Rattle.omf_relocation.specs.SoundModules.{LiesIn, HasItsFixups, SoundModulesKeepRules}
 use Rattle.omf_relocation.proofs.FixupLemmas.{content_above, content_inside, content_apart, content_targets}
-use Rattle.omf_relocation.proofs.AfterLemmas.{all_after, not_true}
-
--- the rules of a module, one by one
-abbrev rules_of_commons : ModuleValue → Bool
-rules_of_commons m = each_after is_new_common [] m.commons
-
-abbrev rules_of_publics : ModuleValue → Bool
-rules_of_publics m = list_all (λ p. has_segment m.commons p.segment) m.publics
-
-abbrev rules_of_contents : ModuleValue → Bool
-rules_of_contents m = list_all (is_content m.segments m.commons (length m.externals)) m.contents
-
-pub sound_commons : (m : ModuleValue) → IsTrue (is_sound m) → IsTrue (each_after is_new_common [] m.commons)
-sound_commons m sound =
-    (and_parts (rules_of_commons m) (rules_of_publics m)
-    (and_parts (rules_of_commons m && rules_of_publics m) (rules_of_contents m)
-    (and_parts (rules_of_commons m && rules_of_publics m && rules_of_contents m) (is_start m.commons m.start) sound).0).0).0
-
-pub sound_publics : (m : ModuleValue) → IsTrue (is_sound m) → IsTrue (list_all (λ p. has_segment m.commons p.segment) m.publics)
-sound_publics m sound =
-    (and_parts (rules_of_commons m) (rules_of_publics m)
-    (and_parts (rules_of_commons m && rules_of_publics m) (rules_of_contents m)
-    (and_parts (rules_of_commons m && rules_of_publics m && rules_of_contents m) (is_start m.commons m.start) sound).0).0).1
-
-pub sound_contents : (m : ModuleValue) → IsTrue (is_sound m) → IsTrue (list_all (is_content m.segments m.commons (length m.externals)) m.contents)
-sound_contents m sound =
-    (and_parts (rules_of_commons m && rules_of_publics m) (rules_of_contents m)
-    (and_parts (rules_of_commons m && rules_of_publics m && rules_of_contents m) (is_start m.commons m.start) sound).0).1
-
-pub sound_start : (m : ModuleValue) → IsTrue (is_sound m) → IsTrue (is_start m.commons m.start)
-sound_start m sound = (and_parts (rules_of_commons m && rules_of_publics m && rules_of_contents m) (is_start m.commons m.start) sound).1
+use Rattle.omf_relocation.proofs.AfterLemmas.{all_after}
 
 -- the ids of named commons are 6 to 254
-common_id : (commons : List Common) (id : ℕ) → IsTrue (list_all (λ c. is_common_id c.id) commons) → names_common commons id ≡ true → is_common_id id ≡ true
+common_id : (commons : List Common) (id : ℕ) → IsTrue (list_all (λ c. is_common_id c.id) commons) → has_common_id commons id ≡ true → is_common_id id ≡ true
 common_id [] id ids named = absurd cc
 common_id (c ∷ cs) id ids named =
     let parts = and_parts (is_common_id c.id) (list_all (λ d. is_common_id d.id) cs) ids in
-    (elim (c.id == id) as (λ b. (c.id == id) ≡ b → (b || names_common cs id) ≡ true → is_common_id id ≡ true) [
+    (elim (c.id == id) as (λ b. (c.id == id) ≡ b → (b || has_common_id cs id) ≡ true → is_common_id id ≡ true) [
       | true ↦ λ e _. subst (λ n. is_common_id n ≡ true) (eqb-true c.id id e) parts.0
       | false ↦ λ _ later. common_id cs id parts.1 later
     ]) refl named
 
-pub named_id : (commons : List Common) (id : ℕ) → IsTrue (each_after is_new_common [] commons) → names_common commons id ≡ true → (6 ≤ id) × (id ≤ 254)
+pub named_id : (commons : List Common) (id : ℕ) → IsTrue (each_after is_new_common [] commons) → has_common_id commons id ≡ true → (6 ≤ id) × (id ≤ 254)
 named_id commons id new named =
-    let ids = all_after is_new_common (λ c. is_common_id c.id) [] commons
-    (λ told c ok. (and_parts (is_common_id c.id) (not (list_any (λ d. d.id == c.id) told))
-    (and_parts (is_common_id c.id && not (list_any (λ d. d.id == c.id) told)) (not (list_any (λ d. pointwise nat_eq d.name c.name) told)) ok).0).0) new in
+    let ids = all_after is_new_common (λ c. is_common_id c.id) [] commons (λ before c ok. (new_common before c ok).id) new in
     let parts = and_parts (nat_le 6 id) (nat_le id 254) (common_id commons id ids named) in
     (leb-true 6 id parts.0, leb-true id 254 parts.1)
 
 pub content_lies : (m : ModuleValue) (c : ContentValue) → IsTrue (is_content m.segments m.commons (length m.externals) c) → LiesIn m c
 content_lies m c good =
-    let segments : List (ℕ × Segment) = m.segments in
-    let commons : List Common = m.commons in
-    let externals : ℕ = length m.externals in
-    let has : Bool = has_segment commons c.segment in
-    let other : Bool = not (c.segment == 3) in
-    let inside : Bool = nat_le (c.offset + length c.bytes) (end_of segments c.segment) in
-    let short : Bool = nat_le (length c.bytes) 65531 in
-    let last = and_parts (has && other && inside) short (and_parts (is_in_bounds segments commons c) (each_after (is_fitting commons externals c.offset (length c.bytes)) [] c.fixups) good).0 in
-    let third = and_parts (has && other) inside last.0 in
-    let first = and_parts has other third.0 in
-    record {
-      has = first.0;
-      not_stack = not_true (c.segment == 3) first.1;
-      within = leb-true (c.offset + length c.bytes) (end_of segments c.segment) third.1;
-      in_record = leb-true (length c.bytes) 65531 last.1;
-    }
+    let p = in_bounds_parts m.segments m.commons c
+    (and_parts (is_in_bounds m.segments m.commons c) (each_after (is_fitting m.commons (length m.externals) c.offset (length c.bytes)) [] c.fixups) good).0 in
+    record { has = p.has; not_stack = p.not_stack; within = p.within; in_record = p.short }
 
 -- ---- one by one
 
@@ -99,11 +53,11 @@ content_fixups m c good = record {
 }
 
 pub rules_of : SoundModulesKeepRules
-rules_of m sound = record {
-  commons = sound_commons m sound;
-  ids = λ id named. named_id m.commons id (sound_commons m sound) named;
-  publics = from_tests (λ p. has_segment m.commons p.segment) (λ p. has_segment m.commons p.segment ≡ true) (λ p h. h) m.publics (sound_publics m sound);
-  contents = from_tests (is_content m.segments m.commons (length m.externals)) (LiesIn m) (content_lies m) m.contents (sound_contents m sound);
-  fixups = from_tests (is_content m.segments m.commons (length m.externals)) (HasItsFixups m) (content_fixups m) m.contents (sound_contents m sound);
-  start = sound_start m sound;
+rules_of m sound = let parts = sound_parts m sound in record {
+  commons = parts.commons;
+  ids = λ id named. named_id m.commons id parts.commons named;
+  publics = from_tests (λ p. has_segment m.commons p.segment) (λ p. has_segment m.commons p.segment ≡ true) (λ p h. h) m.publics parts.publics;
+  contents = from_tests (is_content m.segments m.commons (length m.externals)) (LiesIn m) (content_lies m) m.contents parts.contents;
+  fixups = from_tests (is_content m.segments m.commons (length m.externals)) (HasItsFixups m) (content_fixups m) m.contents parts.contents;
+  start = parts.start;
 }

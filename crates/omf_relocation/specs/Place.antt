@@ -5,7 +5,7 @@ use Rattle.std.specs.Prelude.{ℕ, ◌+◌, ◌*◌, ◌/◌, ◌%◌, ◌==◌,
 use Rattle.std.specs.Option.{option_map_or}
 use Rattle.std.specs.Cmp.Lexicographic.{pointwise}
 use Rattle.omf_parts.specs.declared.symbols.Common.{Common}
-use Rattle.omf_parts.specs.Segments.{segment_in}
+use Rattle.omf_parts.specs.Segments.{absolute_id, code_id, data_id, stack_id, memory_id, unnamed_common_id, segment_in}
 use Rattle.omf_parts.specs.Modules.{ModuleValue}
 
 -- a base for each segment, those of named commons by name; the stack's top; and a word for each name that no module
@@ -30,10 +30,10 @@ common_name commons id = option_map_or (λ c. c.name) (find (λ c. c.id == id) c
 -- the base of a module's segment: CODE, DATA, MEMORY, the unnamed common, or a named common
 abbrev pub base_of : Bases → ModuleValue → ℕ → ℕ
 base_of bases m id =
-    if id == 1 then bases.code
-    else if id == 2 then bases.data_base
-    else if id == 4 then bases.memory
-    else if id == 255 then bases.common
+    if id == code_id then bases.code
+    else if id == data_id then bases.data_base
+    else if id == memory_id then bases.memory
+    else if id == unnamed_common_id then bases.common
     else word_of bases.commons (common_name m.commons id)
 
 -- a paged part starts at a multiple of 256
@@ -42,7 +42,7 @@ rounded paged n = if paged then (n + 255) / 256 * 256 else n
 
 -- the parts of CODE, DATA and STACK lie one after another, those of MEMORY and of commons over one another
 abbrev pub is_laid_out : ℕ → Bool
-is_laid_out id = id == 1 || id == 2 || id == 3
+is_laid_out id = id == code_id || id == data_id || id == stack_id
 
 -- the starts of the parts of a segment in module order, from the end of what lies before
 abbrev pub starts_from : ℕ → ℕ → List ModuleValue → List ℕ
@@ -58,8 +58,8 @@ part_start modules number id = if is_laid_out id then slice_index (starts_from i
 -- everything else from where it begins
 abbrev pub place_at : (begin top id offset : ℕ) → ℕ
 place_at begin top id offset =
-    if id == 0 then offset
-    else if id == 3 then (top + offset) % 65536
+    if id == absolute_id then offset
+    else if id == stack_id then (top + offset) % 65536
     else (begin + offset) % 65536
 
 -- in a module a segment begins at its base and its part's start

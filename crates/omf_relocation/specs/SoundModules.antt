@@ -5,7 +5,7 @@ use Rattle.std.specs.List.{AllByRecursion}
 use Rattle.omf_parts.specs.declared.symbols.Common.{Common}
 use Rattle.omf_parts.specs.declared.fixup.Fixup.{Fixup}
 use Rattle.omf_parts.specs.Contents.{ContentValue}
-use Rattle.omf_parts.specs.Segments.{names_common, has_segment}
+use Rattle.omf_parts.specs.Segments.{stack_id, has_common_id, has_segment}
 use Rattle.omf_parts.specs.Modules.{ModuleValue}
 use Rattle.omf_parts.specs.Rules.{each_after, is_new_common, has_target, has_fitting, end_of, is_start, is_sound}
 use Rattle.omf_relocation.specs.declared.patching.Patch.{Patch}
@@ -15,7 +15,7 @@ use Rattle.omf_relocation.specs.Place.{word_of, common_name, part_start}
 -- a content lies within a segment that the module has and that isn't STACK, and fits one record
 pub record LiesIn (m : ModuleValue) (c : ContentValue) : Type 0 where
   pub has : has_segment m.commons c.segment ≡ true
-  pub not_stack : (c.segment == 3) ≡ false
+  pub not_stack : (c.segment == stack_id) ≡ false
   pub within : c.offset + length c.bytes ≤ end_of m.segments c.segment
   pub in_record : length c.bytes ≤ 65531
 
@@ -35,7 +35,7 @@ pub record HasItsFixups (m : ModuleValue) (c : ContentValue) : Type 0 where
 -- the rules, one by one
 pub record RulesOf (m : ModuleValue) : Type 0 where
   pub commons : IsTrue (each_after is_new_common [] m.commons)
-  pub ids : (id : ℕ) → names_common m.commons id ≡ true → (6 ≤ id) × (id ≤ 254)
+  pub ids : (id : ℕ) → has_common_id m.commons id ≡ true → (6 ≤ id) × (id ≤ 254)
   pub publics : AllByRecursion (λ p. has_segment m.commons p.segment ≡ true) m.publics
   pub contents : AllByRecursion (LiesIn m) m.contents
   pub fixups : AllByRecursion (HasItsFixups m) m.contents
@@ -49,7 +49,7 @@ abbrev pub CommonsByName : Type 0
 CommonsByName =
     (commons : List Common) (base : ℕ → ℕ) (id : ℕ)
     → IsTrue (each_after is_new_common [] commons)
-    → names_common commons id ≡ true
+    → has_common_id commons id ≡ true
     → word_of (map (λ c. (c.name, base c.id)) commons) (common_name commons id) ≡ base id
 
 -- the part of a module alone starts where its segment does

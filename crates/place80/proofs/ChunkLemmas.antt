@@ -16,7 +16,7 @@ use Rattle.omf_relocation.specs.declared.patching.Patch.{Patch}
 use Rattle.omf_relocation.specs.Patches.{byte_with, with_patches}
 use Rattle.omf_relocation.specs.SoundModules.{LiesIn}
 use Rattle.place80.specs.declared.options.Options.{Options}
-use Rattle.place80.specs.declared.placed.Placed.{Placed}
+use Rattle.place80.specs.declared.placed_segments.Placed.{Placed}
 use Rattle.image80.specs.Image.{IsChunk}
 use Rattle.place80.specs.Layout.{own_segment, nowhere, placed_in, base_in, top_in, layout_of, program_bases}
 use Rattle.place80.specs.Locating.{placed_bytes}

@@ -10,7 +10,7 @@ use Rattle.std.proofs.lemmas.List.Kept.{AllPairs-cons}
 use Rattle.omf_parts.specs.Contents.{ContentValue}
 use Rattle.omf_parts.specs.Modules.{ModuleValue}
 use Rattle.place80.specs.declared.options.Options.{Options}
-use Rattle.place80.specs.declared.placed.Placed.{Placed}
+use Rattle.place80.specs.declared.placed_segments.Placed.{Placed}
 use Rattle.place80.specs.declared.place_fault.PlaceFault.TheVariants.{OutsideMemory}
 use Rattle.place80.specs.Layout.{layout_of}
 use Rattle.place80.specs.LayoutLaws.{LiesInMemory, AreApart, Fit}

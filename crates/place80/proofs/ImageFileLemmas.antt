@@ -1,14 +1,15 @@
 -- The module of an image keeps the rules of modules, and is read as the image.
-use Rattle.std.proofs.Common.{◌≡◌, ◌≢◌, ◌≤◌, ◌<◌, get_or, inl, inr, ℕ, ◌+◌, arith, Result, Bool, true, false, ◌&&◌, List, [], ◌∷◌, length, map, Some, Ok, Err, refl, sym, ap, subst, ◌∙◌, true≢false}
-use Rattle.std.specs.Prelude.{◌==◌, nat_le, not, if◌then◌else◌, IfOk, IfErr}
+use Rattle.std.proofs.Common.{◌≡◌, ◌≢◌, ◌≤◌, ◌<◌, get_or, inl, inr, ℕ, ◌+◌, arith, Result, Bool, true, false, ◌&&◌, List, [], ◌∷◌, length, map, Some, Ok, Err, refl, sym, ap, subst, ◌∙◌}
+use Rattle.std.specs.Prelude.{◌==◌, nat_le, if◌then◌else◌, IfOk, IfErr}
 use Rattle.std.specs.List.{list_all, AllByRecursion}
-use Rattle.std.proofs.lemmas.Bool.{and_parts, le-leb, leb-true, eqb-true}
+use Rattle.std.proofs.lemmas.Bool.{and_parts, le-leb, eqb-true}
 use Rattle.omf_core.specs.Name.{is_name}
 use Rattle.omf_parts.specs.declared.segment.Segment.{Segment}
 use Rattle.omf_parts.specs.Contents.{ContentValue}
-use Rattle.omf_parts.specs.Segments.{entries_for, listed_ids, in_one_form, has_segment}
+use Rattle.omf_parts.specs.Segments.{entries_for, listed_ids, canonical_segments}
 use Rattle.omf_parts.specs.Modules.{ModuleValue, made_of}
-use Rattle.omf_parts.specs.Rules.{IsModule, keeps_rules, is_content, is_in_bounds, is_fitting, is_start, each_after, is_new_common, end_of}
+use Rattle.omf_parts.specs.Rules.{IsModule, keeps_rules, is_content, is_in_bounds, is_fitting, each_after, end_of}
+use Rattle.omf_parts.specs.SoundParts.{in_bounds_parts, sound_parts}
 use Rattle.omf_module.specs.declared.fault.Cause.{Cause}
 use Rattle.omf_module.specs.declared.fault.Cause.TheVariants.{Record, NoHeader, UnknownKind, BadBody, BadName, SegmentUnknown, OffsetOutside, FixupBeforeContent, FixupOutside, FixupTwice, IndexUnknown, NoEnd, Memory}
 use Rattle.omf_module.specs.declared.fault.ModuleFault.{ModuleFault}
@@ -24,7 +25,7 @@ use Rattle.place80.specs.ImageFile.{AbsoluteProgram, SpellsImage, without_region
 -- ---- the module of an image
 
 -- a module without commons lists no segments where none is listed
-pub none_listed : in_one_form [] [] ≡ []
+pub none_listed : canonical_segments [] [] ≡ []
 unfolding entries_for listed_ids
 none_listed = refl
 
@@ -50,13 +51,9 @@ image_is_module : (image : Located) → is_name image.name ≡ true → AllByRec
 image_is_module image name w = record {
   sound = image_keeps_rules image w;
   own = refl;
-  one_form = sym none_listed;
+  canonical = sym none_listed;
   names = ap (λ (b : Bool). b && true && true && true) name;
 }
-
--- so no rule forbids it
-pub no_rule_broken : (image : Located) → AllByRecursion IsChunk image.chunks → keeps_rules (image_module image) ≡ false → ⊥
-no_rule_broken image w broken = true≢false (sym (image_keeps_rules image w) ∙ broken)
 
 -- ---- what is written is read
 
@@ -147,12 +144,8 @@ content_is_chunk : (m : ModuleValue) (content : ContentValue) → is_absolute_co
 content_is_chunk m content absolute kept =
     let own : content.segment ≡ 0 = eqb-true content.segment 0 (and_parts (content.segment == 0) (length content.fixups == 0) absolute).0 in
     let placed = (and_parts (is_in_bounds m.segments m.commons content) (each_after (is_fitting m.commons (length m.externals) content.offset (length content.bytes)) [] content.fixups) kept).0 in
-    let p = and_parts (has_segment m.commons content.segment && not (content.segment == 3) && nat_le (content.offset + length content.bytes) (end_of m.segments content.segment)) (nat_le (length content.bytes) 65531) placed in
-    let q = and_parts (has_segment m.commons content.segment && not (content.segment == 3)) (nat_le (content.offset + length content.bytes) (end_of m.segments content.segment)) p.0 in
-    record {
-      in_record = leb-true (length content.bytes) 65531 p.1;
-      in_memory = leb-true (content.offset + length content.bytes) 65536 (subst (λ (id : ℕ). nat_le (content.offset + length content.bytes) (end_of m.segments id) ≡ true) own q.1);
-    }
+    let p = in_bounds_parts m.segments m.commons content placed in
+    record { in_record = p.short; in_memory = subst (λ (id : ℕ). content.offset + length content.bytes ≤ end_of m.segments id) own p.within }
 
 contents_are_chunks : (m : ModuleValue) (contents : List ContentValue) → list_all is_absolute_content contents ≡ true → list_all (is_content m.segments m.commons (length m.externals)) contents ≡ true
     → AllByRecursion (λ (content : ContentValue). IsChunk (content_chunk content)) contents
@@ -166,9 +159,7 @@ pub absolute_contents : (m : ModuleValue) → IsModule m → is_absolute m ≡ t
 absolute_contents m w absolute =
     let a = and_parts (length m.externals == 0 && list_all is_absolute_content m.contents) (is_absolute_start m.start) absolute in
     let b = and_parts (length m.externals == 0) (list_all is_absolute_content m.contents) a.0 in
-    let c = and_parts (each_after is_new_common [] m.commons && list_all (λ p. has_segment m.commons p.segment) m.publics && list_all (is_content m.segments m.commons (length m.externals)) m.contents) (is_start m.commons m.start) w.sound in
-    let d = and_parts (each_after is_new_common [] m.commons && list_all (λ p. has_segment m.commons p.segment) m.publics) (list_all (is_content m.segments m.commons (length m.externals)) m.contents) c.0 in
-    contents_are_chunks m m.contents b.1 d.1
+    contents_are_chunks m m.contents b.1 (sound_parts m w.sound).contents
 
 pub refused_by_module : {A : Type 0} (bytes : List ℕ) (m : ModuleValue) (ms : List ModuleValue) (r : Result A ImageFault)
     → SpellsFile bytes ms → program_of_one ms ≡ program_of m

@@ -7,10 +7,10 @@ use Rattle.std.proofs.lemmas.Bool.{cases_Bool, eqb-false}
 use Rattle.std.proofs.lemmas.Bool.Decides.{nat_tests}
 use Rattle.std.proofs.lemmas.List.Elements.{All-nil, All-cons, All-weaker}
 use Rattle.std.proofs.lemmas.List.Folds.{find-append}
-use Rattle.omf_parts.specs.Segments.{has_segment, names_common, is_fixed_id}
+use Rattle.omf_parts.specs.Segments.{has_segment, has_common_id, is_fixed_id}
 use Rattle.omf_parts.specs.Modules.{ModuleValue}
 use Rattle.place80.specs.declared.options.Options.{Options}
-use Rattle.place80.specs.declared.placed.Placed.{Placed}
+use Rattle.place80.specs.declared.placed_segments.Placed.{Placed}
 use Rattle.place80.specs.Layout.{default_base, common_ids, order_of, given_length, own_segment, common_numbers, placed_after, placed_from, layout_of}
 use Rattle.place80.specs.PlaceFault.{ids_of, overlap_of, first_shared, with_each, is_outside, overlaps, pairs, all_pairs, absolute_places, outside_memory, overlap, layout_fault}
 use Rattle.place80.specs.declared.place_fault.PlaceFault.TheVariants.{OutsideMemory}
@@ -125,15 +125,15 @@ fixed_in_order named id fixed not_absolute =
     ]
 
 -- every segment of the program but the absolute one is placed
-pub layout_has : (options : Options) (m : ModuleValue) (id : ℕ) → ((i : ℕ) → names_common m.commons i ≡ true → (6 ≤ i) × (i ≤ 254)) → has_segment m.commons id ≡ true → (id == 0) ≡ false →
+pub layout_has : (options : Options) (m : ModuleValue) (id : ℕ) → ((i : ℕ) → has_common_id m.commons i ≡ true → (6 ≤ i) × (i ≤ 254)) → has_segment m.commons id ≡ true → (id == 0) ≡ false →
     list_any (λ p. p.id == id) (layout_of options m) ≡ true
 unfolding common_numbers
 layout_has options m id ids has not_absolute = elim (cases_Bool (is_fixed_id id)) [
   | inl e ↦ layout_ids options m id ∙ fixed_in_order (common_ids m.commons) id e not_absolute
   | inr e ↦
-      let named : names_common m.commons id ≡ true = sym (ap (λ b. b || names_common m.commons id) e) ∙ has in
+      let named : has_common_id m.commons id ≡ true = sym (ap (λ b. b || has_common_id m.commons id) e) ∙ has in
       let bounds = ids id named in
       layout_ids options m id
       ∙ from_later (common_ids m.commons) id
-      (any_front (λ i. i == id) (common_ids m.commons) (255 ∷ 2 ∷ 4 ∷ []) (any_of_range (names_common m.commons) 249 6 id bounds.0 (omega (arith, bounds.1)) named))
+      (any_front (λ i. i == id) (common_ids m.commons) (255 ∷ 2 ∷ 4 ∷ []) (any_of_range (has_common_id m.commons) 249 6 id bounds.0 (omega (arith, bounds.1)) named))
 ]

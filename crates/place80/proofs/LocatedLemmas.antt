@@ -3,7 +3,7 @@ use Rattle.std.specs.Prelude.{◌≡◌, ℕ, zero, suc, ◌+◌, ◌==◌, ◌<
 use Rattle.std.specs.List.{AllByRecursion}
 use Rattle.std.proofs.Common.{cond, arith, Some, sym, ap, subst, ◌∙◌, append_assoc, get_or, drop-cons}
 use Rattle.std.proofs.lemmas.List.{drop_more}
-use Rattle.place80.specs.declared.placed.Placed.{Placed}
+use Rattle.place80.specs.declared.placed_segments.Placed.{Placed}
 use Rattle.omf_parts.specs.Contents.{ContentValue}
 use Rattle.image80.specs.Image.{PlacedBytes}
 use Rattle.image80.specs.declared.range.Range.{Range}

@@ -21,7 +21,7 @@ use Rattle.omf_relocation.specs.HighReferences.{is_high, loses_with, loses_low_b
 use Rattle.omf_relocation.specs.SoundModules.{LiesIn, HasItsFixups}
 use Rattle.std.proofs.Math.Bool.{or-false}
 use Rattle.place80.specs.declared.options.Options.{Options}
-use Rattle.place80.specs.declared.placed.Placed.{Placed}
+use Rattle.place80.specs.declared.placed_segments.Placed.{Placed}
 use Rattle.image80.specs.Image.{PlacedBytes}
 use Rattle.place80.specs.Layout.{placed_in, place_among, bases_of, layout_of, program_bases}
 use Rattle.place80.specs.Locating.{Fit, word_among, chunk_among, CanBePlaced, placed_bytes, located_chunks}

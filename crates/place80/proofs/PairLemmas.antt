@@ -3,7 +3,7 @@ use Rattle.std.specs.Prelude.{◌≡◌, ℕ, suc, ◌+◌, ◌-◌, ◌==◌, �
 use Rattle.std.specs.Option.{option_or}
 use Rattle.std.proofs.Common.{cond, ◌∙◌, ap, sym, get_or, drop-cons, take_all, length-drop, arith}
 use Rattle.omf_parts.specs.Contents.{ContentValue}
-use Rattle.place80.specs.declared.placed.Placed.{Placed}
+use Rattle.place80.specs.declared.placed_segments.Placed.{Placed}
 use Rattle.place80.specs.PlaceFault.{overlaps, first_over, ids_of, first_shared, pairs, absolute_place, absolute_places, with_each}
 
 abbrev pub beside : ℕ → ℕ → ℕ × ℕ

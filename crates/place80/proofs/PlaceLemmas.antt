@@ -4,12 +4,12 @@ use Rattle.std.specs.Prelude.{◌==◌, IsTrue, if◌then◌else◌}
 use Rattle.std.proofs.lemmas.Bool.{cases_Bool}
 use Rattle.std.proofs.lemmas.Bool.Decides.{nat_tests}
 use Rattle.omf_parts.specs.declared.symbols.Common.{Common}
-use Rattle.omf_parts.specs.Segments.{is_fixed_id, names_common, has_segment}
+use Rattle.omf_parts.specs.Segments.{is_fixed_id, has_common_id, has_segment}
 use Rattle.omf_parts.specs.Modules.{ModuleValue}
 use Rattle.omf_relocation.specs.Place.{word_of, common_name, base_of, part_start, place_in}
 use Rattle.omf_parts.specs.Rules.{each_after, is_new_common}
 use Rattle.omf_relocation.specs.SoundModules.{SoundModulesKeepRules, CommonsByName, PartsOfOneStartAtZero}
-use Rattle.place80.specs.declared.placed.Placed.{Placed}
+use Rattle.place80.specs.declared.placed_segments.Placed.{Placed}
 use Rattle.place80.specs.Layout.{base_in, top_in, bases_of}
 
 -- what holds of modules that keep the rules, of their commons and of their places
@@ -39,7 +39,7 @@ base_of_id laws segments m id new has not_absolute not_stack =
     let or_memory : ℕ = cond (id == 4) (base_in segments 4) or_common in
     let or_data : ℕ = cond (id == 2) (base_in segments 2) or_memory in
     base_or segments id 1 or_data (λ b. base_or segments id 2 or_memory (λ c. base_or segments id 4 or_common (λ e. base_or segments id 255 named (λ f.
-    laws.by_name m.commons (base_in segments) id new (sym (ap (λ fixed. fixed || names_common m.commons id) (no_fixed_id id not_absolute b c not_stack e f)) ∙ has)))))
+    laws.by_name m.commons (base_in segments) id new (sym (ap (λ fixed. fixed || has_common_id m.commons id) (no_fixed_id id not_absolute b c not_stack e f)) ∙ has)))))
 
 -- the place of an offset in a segment of the program
 pub place_of_id : ModuleLaws → (segments : List Placed) (m : ModuleValue) (id offset : ℕ) → IsTrue (each_after is_new_common [] m.commons) → has_segment m.commons id ≡ true →

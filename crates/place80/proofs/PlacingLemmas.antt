@@ -4,28 +4,28 @@ use Rattle.std.specs.List.{AllByRecursion, range_with_len}
 use Rattle.std.proofs.Common.{cond, ap, sym, arith, append_assoc, get_or, ◌∙◌}
 use Rattle.std.proofs.lemmas.List.{drop_more}
 use Rattle.omf_parts.specs.declared.symbols.Common.{Common}
-use Rattle.omf_parts.specs.Segments.{names_common}
+use Rattle.omf_parts.specs.Segments.{has_common_id}
 use Rattle.omf_parts.specs.Modules.{ModuleValue}
 use Rattle.place80.specs.declared.options.Options.{Options}
-use Rattle.place80.specs.declared.placed.Placed.{Placed}
+use Rattle.place80.specs.declared.placed_segments.Placed.{Placed}
 use Rattle.place80.specs.Layout.{common_numbers, common_ids, order_of, placed_after, placed_from, layout_of}
 
 all_numbers : range_with_len 6 (255 - 6) ≡ common_numbers
 unfolding common_numbers
 all_numbers = refl
 
-pub from_first_id : (commons : List Common) → filter (names_common commons) (range_with_len 6 (255 - 6)) ≡ common_ids commons
-from_first_id commons = ap (filter (names_common commons)) all_numbers
+pub from_first_id : (commons : List Common) → filter (has_common_id commons) (range_with_len 6 (255 - 6)) ≡ common_ids commons
+from_first_id commons = ap (filter (has_common_id commons)) all_numbers
 
 -- the ids from one on: itself, if a common has it, and those after it
 pub ids_step : (commons : List Common) (id : ℕ) → id < 255 →
-    filter (names_common commons) (range_with_len id (255 - id))
-    ≡ cond (names_common commons id) (id ∷ filter (names_common commons) (range_with_len (id + 1) (255 - (id + 1)))) (filter (names_common commons) (range_with_len (id + 1) (255 - (id + 1))))
+    filter (has_common_id commons) (range_with_len id (255 - id))
+    ≡ cond (has_common_id commons id) (id ∷ filter (has_common_id commons) (range_with_len (id + 1) (255 - (id + 1)))) (filter (has_common_id commons) (range_with_len (id + 1) (255 - (id + 1))))
 ids_step commons id below =
     let left : 255 - id ≡ suc (255 - (id + 1)) = omega arith in
     rw left refl
 
-pub ids_end : (commons : List Common) (id : ℕ) → 255 ≤ id → filter (names_common commons) (range_with_len id (255 - id)) ≡ []
+pub ids_end : (commons : List Common) (id : ℕ) → 255 ≤ id → filter (has_common_id commons) (range_with_len id (255 - id)) ≡ []
 ids_end commons id above =
     let none : 255 - id ≡ 0 = omega arith in
     rw none refl

@@ -8,6 +8,7 @@ use Rattle.omf_module.specs.declared.fault.Cause.{Cause}
 use Rattle.omf_module.specs.declared.fault.Cause.TheVariants.{Memory as OutOfMemory}
 use Rattle.omf_module.specs.declared.fault.ModuleFault.{ModuleFault}
 use Rattle.omf_parts.specs.Contents.{ContentValue}
+use Rattle.omf_parts.specs.Segments.{absolute_id}
 use Rattle.omf_parts.specs.Modules.{ModuleValue}
 use Rattle.omf_module.specs.Spelled.{SpellsFile, FaultsFile}
 use Rattle.omf_module.specs.Writing.{file_bytes}
@@ -28,11 +29,11 @@ without_regions image = record { name = image.name; chunks = image.chunks; start
 
 -- the content of the absolute segment that a chunk is; nothing in it is a reference
 abbrev pub chunk_content : PlacedBytes → ContentValue
-chunk_content chunk = record { segment = 0; offset = chunk.address; bytes = chunk.bytes; fixups = [] }
+chunk_content chunk = record { segment = absolute_id; offset = chunk.address; bytes = chunk.bytes; fixups = [] }
 
 -- the module of an image: its name, one content for each chunk, in order, and its start; it has no segments of its own
 abbrev pub image_module : Located → ModuleValue
-image_module image = record { name = image.name; segments = []; commons = []; publics = []; externals = []; contents = map chunk_content image.chunks; start = Some (0, image.start) }
+image_module image = record { name = image.name; segments = []; commons = []; publics = []; externals = []; contents = map chunk_content image.chunks; start = Some (absolute_id, image.start) }
 
 -- the object file of an image
 abbrev pub image_bytes : Located → List ℕ
@@ -42,12 +43,12 @@ image_bytes image = file_bytes (image_module image ∷ [])
 
 -- the content is absolute, and no part of it is a reference
 abbrev pub is_absolute_content : ContentValue → Bool
-is_absolute_content content = content.segment == 0 && length content.fixups == 0
+is_absolute_content content = content.segment == absolute_id && length content.fixups == 0
 
 -- the start, if there is one, is absolute
 abbrev pub is_absolute_start : Option (ℕ × ℕ) → Bool
 is_absolute_start None = true
-is_absolute_start (Some place) = place.0 == 0
+is_absolute_start (Some place) = place.0 == absolute_id
 
 -- nothing of the module waits for other modules or for a place
 abbrev pub is_absolute : ModuleValue → Bool

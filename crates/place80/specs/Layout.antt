@@ -5,11 +5,11 @@ use Rattle.std.specs.Prelude.{ℕ, ◌+◌, ◌%◌, ◌==◌, if◌then◌else�
 use Rattle.std.specs.List.{range_with_len}
 use Rattle.omf_parts.specs.declared.symbols.Common.{Common}
 use Rattle.omf_parts.specs.declared.segment.Segment.{Segment}
-use Rattle.omf_parts.specs.Segments.{names_common, empty_segment}
+use Rattle.omf_parts.specs.Segments.{code_id, data_id, stack_id, memory_id, unnamed_common_id, has_common_id, empty_segment}
 use Rattle.omf_parts.specs.Modules.{ModuleValue, segment_of}
 use Rattle.omf_relocation.specs.Place.{Bases, place_at, rounded}
 use Rattle.place80.specs.declared.options.Options.{Options}
-use Rattle.place80.specs.declared.placed.Placed.{Placed}
+use Rattle.place80.specs.declared.placed_segments.Placed.{Placed}
 
 -- where CODE stands without an option
 abbrev pub default_base : ℕ
@@ -20,24 +20,24 @@ unfoldable pub common_numbers : List ℕ
 common_numbers = range_with_len 6 249
 
 abbrev pub common_ids : List Common → List ℕ
-common_ids commons = filter (names_common commons) common_numbers
+common_ids commons = filter (has_common_id commons) common_numbers
 
 abbrev pub order_of : List Common → List ℕ
-order_of commons = 1 ∷ 3 ∷ (common_ids commons ++ 255 ∷ 2 ∷ 4 ∷ [])
+order_of commons = code_id ∷ stack_id ∷ (common_ids commons ++ unnamed_common_id ∷ data_id ∷ memory_id ∷ [])
 
 -- the base that an option gives a segment
 abbrev pub given_base : Options → ℕ → Option ℕ
 given_base options id =
-    if id == 1 then options.code
-    else if id == 3 then options.stack
-    else if id == 255 then options.common
-    else if id == 2 then options.data_base
-    else if id == 4 then options.memory
+    if id == code_id then options.code
+    else if id == stack_id then options.stack
+    else if id == unnamed_common_id then options.common
+    else if id == data_id then options.data_base
+    else if id == memory_id then options.memory
     else None
 
 -- the length that an option gives STACK or MEMORY in place of their own
 abbrev pub given_length : Options → ℕ → Option ℕ
-given_length options id = if id == 3 then options.stack_size else if id == 4 then options.memory_size else None
+given_length options id = if id == stack_id then options.stack_size else if id == memory_id then options.memory_size else None
 
 -- the module's segment of an id in that order
 abbrev pub own_segment : ModuleValue → ℕ → Segment
@@ -73,7 +73,7 @@ base_in segments id = (placed_in segments id).base
 
 -- the stack's top, as a word
 abbrev pub top_in : List Placed → ℕ
-top_in segments = let stack = placed_in segments 3 in (stack.base + stack.length) % 65536
+top_in segments = let stack = placed_in segments stack_id in (stack.base + stack.length) % 65536
 
 -- the place of an offset in a segment of the one module that is located
 abbrev pub place_among : List Placed → (id offset : ℕ) → ℕ
@@ -82,10 +82,10 @@ place_among segments id = place_at (base_in segments id) (top_in segments) id
 -- the bases that these places give, those of named commons by name; no name stands for a word
 abbrev pub bases_of : List Common → List Placed → Bases
 bases_of commons segments = record {
-  code = base_in segments 1;
-  data_base = base_in segments 2;
-  memory = base_in segments 4;
-  common = base_in segments 255;
+  code = base_in segments code_id;
+  data_base = base_in segments data_id;
+  memory = base_in segments memory_id;
+  common = base_in segments unnamed_common_id;
   commons = map (λ c. (c.name, base_in segments c.id)) commons;
   top = top_in segments;
   words = [];

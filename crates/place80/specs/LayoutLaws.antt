@@ -3,10 +3,11 @@
 use Rattle.std.specs.Prelude.{◌≡◌, ◌↔◌, ℕ, ◌+◌, ◌≤◌, true, false, unwrap_or, None, List, [], ◌∷◌, map, length, All, AllPairs}
 use Rattle.std.specs.List.{AllByRecursion}
 use Rattle.omf_parts.specs.Contents.{ContentValue}
+use Rattle.omf_parts.specs.Segments.{absolute_id, memory_id}
 use Rattle.omf_parts.specs.Modules.{ModuleValue}
 use Rattle.omf_relocation.specs.Place.{rounded}
 use Rattle.place80.specs.declared.options.Options.{Options}
-use Rattle.place80.specs.declared.placed.Placed.{Placed}
+use Rattle.place80.specs.declared.placed_segments.Placed.{Placed}
 use Rattle.place80.specs.Layout.{default_base, order_of, given_base, given_length, own_segment, layout_of}
 use Rattle.place80.specs.PlaceFault.{overlaps, is_in_placed, absolute_place, layout_fault}
 
@@ -48,7 +49,7 @@ OverlapIsASharedAddress = (p q : Placed) → overlaps p q ≡ true ↔ ((address
 -- the segment ends with memory or before it, and where it is MEMORY, it holds all of its content
 pub record LiesInMemory (contents : List ContentValue) (p : Placed) : Type 0 where
   pub «end» : p.base + p.length ≤ 65536
-  pub content : p.id ≡ 4 → All (λ c. c.segment ≡ 4 → c.offset + length c.bytes ≤ p.length) contents
+  pub content : p.id ≡ memory_id → All (λ c. c.segment ≡ memory_id → c.offset + length c.bytes ≤ p.length) contents
 
 -- no address lies in both
 abbrev pub AreApart : Placed → Placed → Type 0
@@ -58,7 +59,7 @@ AreApart p q = (address : ℕ) → is_in_placed p address ≡ true → is_in_pla
 pub record Fit (m : ModuleValue) (segments : List Placed) : Type 0 where
   pub in_memory : All (LiesInMemory m.contents) segments
   pub apart : AllPairs AreApart segments
-  pub absolute_apart : All (λ c. c.segment ≡ 0 → All (AreApart (absolute_place c)) segments) m.contents
+  pub absolute_apart : All (λ c. c.segment ≡ absolute_id → All (AreApart (absolute_place c)) segments) m.contents
 
 -- a layout has no fault exactly where its segments fit
 abbrev pub NoFaultWhereSegmentsFit : Type 0

@@ -2,7 +2,8 @@
 -- (ISIS-II User's Guide, LOCATE: the segments CODE, DATA, STACK and MEMORY, and the stack's top.)
 use Rattle.std.specs.Prelude.{◌≡◌, ℕ, ◌+◌, ◌≤◌, ◌==◌, Bool, ◌&&◌, List, All}
 use Rattle.std.specs.List.{list_any}
-use Rattle.place80.specs.declared.placed.Placed.{Placed}
+use Rattle.omf_parts.specs.Segments.{code_id, stack_id}
+use Rattle.place80.specs.declared.placed_segments.Placed.{Placed}
 use Rattle.image80.specs.Range.{in_range}
 use Rattle.image80.specs.Regions.{Areas, Arranges, in_code, in_data, top_of}
 use Rattle.place80.specs.Layout.{placed_in, top_in}
@@ -16,9 +17,9 @@ is_in_any chosen segments address = list_any (λ p. chosen p.id && is_in_placed 
 -- the regions hold the addresses of the segments: code those of CODE, data those of all others but STACK, and the stack those
 -- of STACK, which ends where the stack's top is
 pub record HoldsSegments (segments : List Placed) (areas : Areas) : Type 0 where
-  pub code : (address : ℕ) → in_code areas address ≡ is_in_any (λ id. id == 1) segments address
+  pub code : (address : ℕ) → in_code areas address ≡ is_in_any (λ id. id == code_id) segments address
   pub data_ranges : (address : ℕ) → in_data areas address ≡ is_in_any is_data segments address
-  pub stack : (address : ℕ) → in_range areas.stack address ≡ is_in_placed (placed_in segments 3) address
+  pub stack : (address : ℕ) → in_range areas.stack address ≡ is_in_placed (placed_in segments stack_id) address
   pub top : top_of areas ≡ top_in segments
 
 -- so do those of a located program, whose segments end with memory or before it

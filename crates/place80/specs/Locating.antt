@@ -2,6 +2,7 @@
 -- (ISIS-II User's Guide, LOCATE: an absolute module.)
 use Rattle.std.specs.Prelude.{ℕ, ◌≡◌, ◌+◌, ◌≤◌, ◌<◌, All, IsTrue, length, ◌%◌, ◌==◌, Bool, ◌||◌, not, None, List, [], ◌∷◌, filter, find, map}
 use Rattle.std.specs.List.{AllByRecursion}
+use Rattle.omf_parts.specs.Segments.{code_id, stack_id}
 use Rattle.omf_parts.specs.Modules.{ModuleValue}
 use Rattle.omf_parts.specs.declared.fixup.Target.{Target}
 use Rattle.omf_parts.specs.Contents.{ContentValue}
@@ -9,7 +10,7 @@ use Rattle.omf_relocation.specs.Patches.{are_inside, are_apart}
 use Rattle.omf_relocation.specs.ImageByte.{word_to, patch_with, ByteChunk, chunk_at, chunks_of}
 use Rattle.image80.specs.declared.range.Range.{Range}
 use Rattle.place80.specs.declared.options.Options.{Options}
-use Rattle.place80.specs.declared.placed.Placed.{Placed}
+use Rattle.place80.specs.declared.placed_segments.Placed.{Placed}
 use Rattle.image80.specs.Image.{PlacedBytes}
 use Rattle.image80.specs.RegionsText.{filled}
 use Rattle.place80.specs.Layout.{placed_in, place_among, program_bases}
@@ -51,13 +52,13 @@ range_at p = record { first = p.base % 65536; length = p.length }
 
 -- code is CODE, data are DATA, MEMORY and all commons, and the stack is STACK, which may be empty
 abbrev pub located_code : List Placed → List Range
-located_code segments = filled (map range_at (filter (λ p. p.id == 1) segments))
+located_code segments = filled (map range_at (filter (λ p. p.id == code_id) segments))
 
 abbrev pub located_stack : List Placed → Range
-located_stack segments = range_at (placed_in segments 3)
+located_stack segments = range_at (placed_in segments stack_id)
 
 abbrev pub is_data : ℕ → Bool
-is_data id = not (id == 1 || id == 3)
+is_data id = not (id == code_id || id == stack_id)
 
 abbrev pub located_data : List Placed → List Range
 located_data segments = filled (map range_at (filter (λ p. is_data p.id) segments))

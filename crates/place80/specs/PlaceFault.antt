@@ -5,11 +5,12 @@ use Rattle.std.specs.Prelude.{ℕ, ◌+◌, ◌==◌, Bool, ◌&&◌, ◌||◌, 
 use Rattle.std.specs.List.{list_any, flat_map}
 use Rattle.std.specs.Option.{option_or}
 use Rattle.omf_parts.specs.Contents.{ContentValue}
+use Rattle.omf_parts.specs.Segments.{absolute_id, code_id, memory_id}
 use Rattle.omf_parts.specs.Modules.{ModuleValue}
 use Rattle.omf_relocation.specs.Place.{Bases, place_in}
 use Rattle.omf_relocation.specs.HighReferences.{any_loses_low_byte}
 use Rattle.place80.specs.declared.options.Options.{Options}
-use Rattle.place80.specs.declared.placed.Placed.{Placed}
+use Rattle.place80.specs.declared.placed_segments.Placed.{Placed}
 use Rattle.place80.specs.declared.place_fault.PlaceFault.{PlaceFault}
 use Rattle.place80.specs.declared.place_fault.PlaceFault.TheVariants.{Unresolved, NoStart, OutsideMemory, Overlap, HighNotPaged, StartNotCode, Memory}
 use Rattle.place80.specs.Layout.{placed_in, layout_of, program_bases}
@@ -33,11 +34,11 @@ no_start m = if is_none m.start then Some NoStart else None
 
 -- content of MEMORY that a length doesn't hold
 abbrev pub passes_memory : ℕ → ContentValue → Bool
-passes_memory size c = c.segment == 4 && nat_lt size (c.offset + length c.bytes)
+passes_memory size c = c.segment == memory_id && nat_lt size (c.offset + length c.bytes)
 
 -- the segment passes the end of memory, or is MEMORY and no longer holds its content
 abbrev pub is_outside : List ContentValue → Placed → Bool
-is_outside contents p = nat_lt 65536 (p.base + p.length) || (p.id == 4 && list_any (passes_memory p.length) contents)
+is_outside contents p = nat_lt 65536 (p.base + p.length) || (p.id == memory_id && list_any (passes_memory p.length) contents)
 
 abbrev pub outside_memory : ModuleValue → List Placed → Option PlaceFault
 outside_memory m segments = option_map (λ p. OutsideMemory p.id) (find (is_outside m.contents) segments)
@@ -57,10 +58,10 @@ pairs (p ∷ ps) = map (λ q. (p, q)) ps ++ pairs ps
 
 -- the absolute contents, each as a place of id 0
 abbrev pub absolute_place : ContentValue → Placed
-absolute_place c = record { id = 0; base = c.offset; length = length c.bytes }
+absolute_place c = record { id = absolute_id; base = c.offset; length = length c.bytes }
 
 abbrev pub absolute_places : List ContentValue → List Placed
-absolute_places contents = map absolute_place (filter (λ c. c.segment == 0) contents)
+absolute_places contents = map absolute_place (filter (λ c. c.segment == absolute_id) contents)
 
 -- each of the places with each segment
 abbrev pub with_each : List Placed → List Placed → List (Placed × Placed)
@@ -95,7 +96,7 @@ abbrev pub start_place : Bases → ModuleValue → ℕ × ℕ → ℕ
 start_place bases m start = place_in bases (m ∷ []) 0 m start.0 start.1
 
 abbrev pub start_not_code : Bases → ModuleValue → List Placed → Option PlaceFault
-start_not_code bases m segments = option_and_then (λ start. if is_in_placed (placed_in segments 1) (start_place bases m start) then None else Some StartNotCode) m.start
+start_not_code bases m segments = option_and_then (λ start. if is_in_placed (placed_in segments code_id) (start_place bases m start) then None else Some StartNotCode) m.start
 
 -- why segments can't be laid out
 abbrev pub layout_fault : Options → ModuleValue → Option PlaceFault

@@ -11,7 +11,7 @@ use crate::image_fault::ImageFault;
 use crate::laws::written_image_is_spelled;
 use image80::{Chunk, Image, Regions};
 use omf_body::segment_id::ABSOLUTE;
-use omf_module::{Content, Module, Parts, PartsFault, read_file, write_file};
+use omf_module::{Content, Module, Parts, read_file, write_file};
 use std::alloc::{AllocError, Global};
 
 /// Appends the object file of the image to `out`, which grows by its own allocator: one module of the image's name that
@@ -36,12 +36,9 @@ fn module_of(alloc: Global, image: &Image) -> Result<Module, AllocError>
     ensures name { OnOk result (IsTrue (is_name image.now.name)) }
     ensures rules { OnOk result (AllByRecursion IsChunk image.now.chunks) }
 {
-    match Module::from_parts(alloc, parts_of(alloc, image)?) {
-        Ok(module) => Ok(module),
-        // Chunks keep the rules of contents, and the image has no other part that a rule speaks of.
-        Err((_, PartsFault::Rule)) => unreachable!(),
-        Err((_, PartsFault::Memory)) => Err(AllocError),
-    }
+    // Chunks keep the rules of contents, and the image has no other part that a rule speaks of.
+    let parts = parts_of(alloc, image)?;
+    Module::from_sound_parts(alloc, parts)
 }
 
 /// The parts of that module.

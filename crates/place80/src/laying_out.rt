@@ -11,9 +11,10 @@ use crate::options::Options;
 use crate::outside::first_outside;
 use crate::overlap::first_overlap;
 use crate::place_fault::PlaceFault;
-use crate::placed::{Layout, Placed};
+use crate::placed_segments::{Layout, Placed};
 use omf_body::segment_id::{CODE, DATA, FIRST_COMMON, MEMORY, STACK, UNNAMED_COMMON};
-use omf_module::{Common, Module, Segment, names_common};
+use omf_module::{Common, Module, Segment};
+use omf_parts::has_common_id;
 use std::alloc::{AllocError, Global};
 
 /// Where CODE stands without an option.
@@ -50,7 +51,7 @@ fn common_ids(alloc: Global, commons: &[Common]) -> Result<Vec<u8>, AllocError>
 {
     let mut ids = Vec::new(alloc);
     for id in FIRST_COMMON..UNNAMED_COMMON {
-        if names_common(commons, id) {
+        if has_common_id(commons, id) {
             ids.push(id)?;
         }
     }

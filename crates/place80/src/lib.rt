@@ -12,6 +12,7 @@
 #![tactic(auto)]
 
 mod absolute;
+mod addresses;
 mod image_fault;
 mod image_file;
 pub mod laws;
@@ -23,8 +24,7 @@ mod options;
 mod outside;
 mod overlap;
 mod place_fault;
-mod placed;
-mod places;
+mod placed_segments;
 
 pub use image_fault::ImageFault;
 pub use image_file::{read_image, write_image};
@@ -36,4 +36,4 @@ pub use laying_out::layout;
 pub use locating::locate;
 pub use options::Options;
 pub use place_fault::PlaceFault;
-pub use placed::{Layout, Placed};
+pub use placed_segments::{Layout, Placed};

@@ -1,14 +1,13 @@
 //! The chunks of an image: contents at their places, with their references applied.
 
-ghost use Rattle.std.specs.Prelude.{◌≡◌, ◌+◌, ◌≤◌, [], map, length, IsTrue, IfOk};
-ghost use Rattle.std.specs.List.{AllByRecursion, list_all, list_any};
-ghost use Rattle.omf_relocation.specs.Patches.{are_inside, are_apart};
+ghost use Rattle.std.specs.Prelude.{◌≡◌, ◌≤◌, map, IfOk};
+ghost use Rattle.std.specs.List.{AllByRecursion, list_any};
 ghost use Rattle.omf_relocation.specs.ImageByte.{patch_with};
 ghost use Rattle.omf_relocation.specs.HighReferences.{loses_with};
 ghost use Rattle.place80.specs.Locating.{word_among, chunk_among, CanBePlaced};
 
-use crate::placed::Placed;
-use crate::places::place_of;
+use crate::addresses::place_of;
+use crate::placed_segments::Placed;
 use image80::Chunk;
 use omf_module::{Content, Field, Fixup, Target};
 use omf_relocation::{Patch, apply_patches};

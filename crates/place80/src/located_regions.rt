@@ -6,7 +6,7 @@ ghost use Rattle.std.specs.List.{AllByRecursion};
 ghost use Rattle.image80.specs.Regions.{Arranges};
 ghost use Rattle.place80.specs.Locating.{Fit, is_data, range_at, located_code, located_stack, located_data};
 
-use crate::placed::{Placed, placed_in};
+use crate::placed_segments::{Placed, placed_in};
 use image80::{Range, Regions};
 use omf_body::segment_id::{CODE, STACK};
 use std::alloc::{AllocError, Global};

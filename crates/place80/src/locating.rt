@@ -11,13 +11,13 @@ ghost use Rattle.place80.specs.Locating.{CanBePlaced, Fit, chunk_among, located_
 ghost use Rattle.place80.specs.PlaceFault.{locate_fault, start_place};
 ghost use Rattle.place80.specs.declared.place_fault.PlaceFault.TheVariants.{Memory, NoStart, Unresolved};
 
+use crate::addresses::{is_in_placed, place_of};
 use crate::laying_out::layout;
 use crate::located_chunks::{any_loses_its_low_byte, located_chunks};
 use crate::located_regions::located_regions;
 use crate::options::Options;
 use crate::place_fault::PlaceFault;
-use crate::placed::{Placed, placed_in};
-use crate::places::{is_in_placed, place_of};
+use crate::placed_segments::{Placed, placed_in};
 use image80::Image;
 use omf_body::segment_id::CODE;
 use omf_core::Name;

@@ -3,9 +3,9 @@
 ghost use Rattle.std.specs.Prelude.{◌≡◌, ◌+◌, ◌==◌, ◌&&◌, option_map, find, nat_lt, length};
 ghost use Rattle.std.specs.List.{list_any};
 ghost use Rattle.place80.specs.PlaceFault.{passes_memory, is_outside};
-ghost use Rattle.place80.specs.declared.placed.Placed.{Placed};
+ghost use Rattle.place80.specs.declared.placed_segments.Placed.{Placed};
 
-use crate::placed::Placed;
+use crate::placed_segments::Placed;
 use omf_body::segment_id::MEMORY;
 use omf_module::{Content, Module};
 

@@ -3,7 +3,7 @@
 ghost use Rattle.std.specs.Prelude.{◌≡◌, ◌+◌, ◌<◌, ◌==◌, if◌then◌else◌, None};
 ghost use Rattle.place80.specs.PlaceFault.{overlaps, pairs, first_over, absolute_place, absolute_places, with_each, all_pairs, first_shared};
 
-use crate::placed::Placed;
+use crate::placed_segments::Placed;
 use omf_body::segment_id::ABSOLUTE;
 use omf_module::{Content, Module};
 

@@ -1,8 +1,12 @@
 //! The commands of the program, done with files. Tests show what they print.
 
+mod absolute;
 mod arguments;
 mod check_text;
 mod checking;
+mod explain_text;
+mod explaining;
+mod extracting;
 mod fault_line;
 mod file_fault;
 mod files;
@@ -10,12 +14,16 @@ mod library;
 mod link_feed;
 mod linking;
 mod listing;
+mod locate_options;
 mod locating;
+mod mapping;
 mod migrating;
+mod name_text;
 pub mod number_text;
 mod object_files;
 mod pieces;
 mod running;
+mod shared_paths;
 mod syntax;
 
 use arguments::{Request, read_arguments};
@@ -55,8 +63,12 @@ fn perform(rt: &HostRuntime, request: Request<'_>) -> Result<u8, Reported> {
         Request::Run(arguments) => running::run_files(rt, arguments),
         Request::List(arguments) => listing::list_files(rt, arguments),
         Request::Check(arguments) => checking::check_files(rt, arguments),
+        Request::Explain(arguments) => explaining::explain_files(rt, arguments),
         Request::Library(arguments) => library::write_library_file(rt, &arguments),
         Request::Regions(arguments) => migrating::migrate_file(rt, arguments),
+        Request::Map(arguments) => mapping::map_file(rt, arguments),
+        Request::Extract(arguments) => extracting::extract_file(rt, arguments),
+        Request::Absolute(arguments) => absolute::write_absolute(rt, arguments),
     }
 }
 

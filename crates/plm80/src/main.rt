@@ -3,7 +3,7 @@
 //! | Item | What it is |
 //! |---|---|
 //! | [`bundle`] | one input with an image, regions and inputs, to the transcript of a run |
-//! | `commands` | `link`, `locate`, `run`, `list`, `check` and `lib`, with their arguments |
+//! | `commands` | the commands of the command line, with their arguments |
 #![tactic(auto)]
 
 mod commands;

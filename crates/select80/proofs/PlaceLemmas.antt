@@ -44,10 +44,6 @@ after_in : (p : Chosen) (library at : ℕ) (ms : List ModuleValue) → IsBefore 
 after_in p library at [] before = tt
 after_in p library at (m ∷ ms) before = (before, after_in p library (at + 1) ms (next_in p library at before))
 
-ascending_in : (library at : ℕ) (ms : List ModuleValue) → AreAscending (places_in library at ms)
-ascending_in library at [] = tt
-ascending_in library at (m ∷ ms) = (after_in (place library at) library (at + 1) ms (inr (refl, omega arith)), ascending_in library (at + 1) ms)
-
 after_from : (p : Chosen) (at : ℕ) (libraries : List (List ModuleValue)) → p.library < at → AllByRecursion (IsBefore p) (places_from at libraries)
 after_from p at [] before = tt
 after_from p at (l ∷ ls) before = all_append (IsBefore p) (places_in at 0 l) (places_from (at + 1) ls) (after_in p at 0 l (inl before)) (after_from p (at + 1) ls (omega arith))

@@ -32,8 +32,8 @@ impl<'a> Model for Row<'a> {
 fn push_modules<'a>(row: &mut Vec<&'a Module>, modules: &'a [Module]) -> Result<(), AllocError>
     ensures { OnOk result (map (λ m. m.now) row.new.items ≡ map (λ m. m.now) row.old.items ++ modules.now) }
 {
-    for one in modules {
-        row.push(one)?;
+    for source in modules {
+        row.push(source)?;
     }
     Ok(())
 }

@@ -46,11 +46,11 @@ impl Search {
     }
 
     /// Marks the modules that a module needs.
-    fn mark_needed(&mut self, row: &Row<'_>, user: &Module) -> Result<(), AllocError>
+    fn mark_needed(&mut self, row: &Row<'_>, source: &Module) -> Result<(), AllocError>
         requires { length self.old.marked.items ≡ length row.now }
-        ensures { OnOk result (Marks (needed row.now user.now) self.old.marked.items self.old.queue.items self.new.marked.items self.new.queue.items) }
+        ensures { OnOk result (Marks (needed row.now source.now) self.old.marked.items self.old.queue.items self.new.marked.items self.new.queue.items) }
     {
-        for name in user.externals() {
+        for name in source.externals() {
             if let Some(number) = row.first(name.bytes()) {
                 self.mark(number)?;
             }

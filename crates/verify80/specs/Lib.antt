@@ -1,4 +1,3 @@
 pub mod Looking
 pub mod LookLaws
--- what the crate's own functions promise one another: no public contract cites these
 pub mod Kept

@@ -4,6 +4,7 @@ ghost use Rattle.std.specs.Prelude.{◌≡◌, IfOk, slice_index, true};
 ghost use Rattle.std.specs.Option.{option_map_or};
 ghost use Rattle.image80.specs.Image.{memory_of};
 ghost use Rattle.image80.specs.Regions.{in_code, in_data};
+ghost use Rattle.verify80.specs.Kept.{IsKept};
 ghost use Rattle.verify80.specs.Looking.{admitted, code_of, halt_follows, is_declared, stores_in_data};
 
 use decode80::{FetchFault, Fetched, Instr, Program, ahead, direct_bytes, fetch};
@@ -15,7 +16,7 @@ use std::marker::Model;
 /// An image, with its memory and its regions by address: a look at an address takes the same time for any number of chunks and
 /// ranges.
 #[derive(Drop)]
-pub(crate) struct ImageCode<'a> {
+pub struct ImageCode<'a> {
     image: &'a Image,
     memory: Vec<u8>,
     map: RegionMap,
@@ -37,12 +38,19 @@ impl<'a> ImageCode<'a> {
     ///
     /// # Errors
     /// `AllocError` where memory runs out.
-    pub(crate) fn new(alloc: Global, image: &'a Image) -> Result<Self, AllocError>
+    pub fn new(alloc: Global, image: &'a Image) -> Result<Self, AllocError>
         ensures { IfOk result (λ code. code ≡ image.now) }
     {
         let memory = image.memory(alloc)?;
         let map = RegionMap::new(alloc, &image.regions)?;
         Ok(ImageCode { image, memory, map })
+    }
+
+    /// The memory and the map.
+    pub(crate) fn into_parts(self) -> (Vec<u8>, RegionMap)
+        ensures { IsKept self.entry result.0.items result.1 }
+    {
+        (self.memory, self.map)
     }
 
     /// Whether an address that an instruction may name is data; it is fine to name none.

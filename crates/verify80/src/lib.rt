@@ -3,8 +3,10 @@
 //! | Item | What it is |
 //! |---|---|
 //! | [`verify`] | a report on an image, or why it is refused |
+//! | [`verify_and_keep`], [`Verified`] | a report with the image's memory and the map of its regions, for a run |
 //! | [`Report`], [`ProcRow`] | what is found of an image that is accepted |
 //! | [`Refusal`] | why an image is refused |
+//! | [`ImageCode`] | an image as the verifier looks at it, address by address |
 //! | [`looks_are_exact`] | what is looked at in an image, as a contract |
 #![tactic(auto)]
 
@@ -13,5 +15,6 @@ mod laws;
 mod verifying;
 
 pub use flow80::{ProcRow, Refusal, Report};
+pub use image_code::ImageCode;
 pub use laws::looks_are_exact;
-pub use verifying::verify;
+pub use verifying::{Verified, verify, verify_and_keep};

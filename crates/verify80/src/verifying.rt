@@ -3,12 +3,23 @@
 ghost use Rattle.std.specs.Prelude.{IfOk, IfErr};
 ghost use Rattle.flow80.specs.Accepted.{IsAccepted};
 ghost use Rattle.flow80.specs.Faults.{Holds};
+ghost use Rattle.verify80.specs.Kept.{IsKept};
 ghost use Rattle.verify80.specs.Looking.{code_of};
 
 use crate::image_code::ImageCode;
 use flow80::{Refusal, Report, analyze};
-use image80::Image;
+use image80::{Image, RegionMap};
 use std::alloc::Global;
+
+/// What is found of an image that is accepted, with its memory and the map of its regions.
+#[derive(Drop)]
+pub struct Verified {
+    pub report: Report,
+    /// The image's memory: 65536 bytes by address.
+    pub memory: Vec<u8>,
+    /// Which region each address is in.
+    pub map: RegionMap,
+}
 
 /// Goes over every walk of every procedure of an image, from its start on, and reports on its procedures and its stack.
 ///
@@ -27,6 +38,25 @@ pub fn verify(alloc: Global, image: &Image) -> Result<Report, Refusal>
     ensures accepted { IfOk result (λ report. IsAccepted (code_of image.now) report.procedures.items report.stack_bytes) }
     ensures refused { IfErr result (Holds (code_of image.now)) }
 {
+    let verified = verify_and_keep(alloc, image)?;
+    Ok(verified.report)
+}
+
+/// Verifies an image, as [`verify`] does, and keeps what was made of it, so that a run needn't make it once more.
+///
+/// # Errors
+/// Those of [`verify`].
+pub fn verify_and_keep(alloc: Global, image: &Image) -> Result<Verified, Refusal>
+    ensures accepted { IfOk result (λ verified. IsAccepted (code_of image.now) verified.report.procedures.items verified.report.stack_bytes) }
+    ensures kept { IfOk result (λ verified. IsKept image.now verified.memory.items verified.map) }
+    ensures refused { IfErr result (Holds (code_of image.now)) }
+{
     let code = ImageCode::new(alloc, image)?;
-    analyze(alloc, &code)
+    let report = analyze(alloc, &code)?;
+    let (memory, map) = code.into_parts();
+    Ok(Verified {
+        report,
+        memory,
+        map,
+    })
 }

@@ -1,10 +1,14 @@
 //! The command line, read by clap.
 
+use crate::commands::absolute::{ABSOLUTE, AbsoluteArguments};
 use crate::commands::checking::{CHECK, CheckArguments};
+use crate::commands::explaining::{EXPLAIN, ExplainArguments};
+use crate::commands::extracting::{EXTRACT, ExtractArguments};
 use crate::commands::library::{LIB, LibraryArguments};
 use crate::commands::linking::{LINK, LinkArguments};
 use crate::commands::listing::{LIST, ListArguments};
 use crate::commands::locating::{LOCATE, LocateArguments};
+use crate::commands::mapping::{MAP, MapArguments};
 use crate::commands::migrating::{REGIONS, RegionsArguments};
 use crate::commands::running::{RUN, RunArguments};
 use crate::commands::syntax::Syntax;
@@ -20,8 +24,12 @@ pub enum Request<'a> {
     Run(RunArguments<'a>),
     List(ListArguments<'a>),
     Check(CheckArguments<'a>),
+    Explain(ExplainArguments<'a>),
     Library(LibraryArguments<'a>),
     Regions(RegionsArguments<'a>),
+    Map(MapArguments<'a>),
+    Extract(ExtractArguments<'a>),
+    Absolute(AbsoluteArguments<'a>),
 }
 
 const ABOUT: &str = "Links, locates, verifies and runs 8080 programs from OMF-80 object files";
@@ -42,15 +50,40 @@ Example: plm80 locate readings.obj readings.img readings.regions
 
 Faults and what to do: docs/FAULTS.md (installed: share/doc/plm80), man plm80.";
 
-/// The commands, in the order of the help text.
-const COMMANDS: [Syntax<'static>; 7] = [LINK, LOCATE, RUN, LIST, CHECK, LIB, REGIONS];
+/// The commands of files and of located programs, in the order of the help text. (Two functions make the commands, since one proof of
+/// all their texts is more than the prover takes.)
+fn main_commands() -> [Syntax<'static>; 6] {
+    [LINK, LOCATE, RUN, LIST, CHECK, EXPLAIN]
+}
+
+/// The other commands, in the order of the help text.
+fn other_commands() -> [Syntax<'static>; 5] {
+    [LIB, REGIONS, MAP, EXTRACT, ABSOLUTE]
+}
+
+/// The command of a name.
+fn command_of(name: &str) -> Option<Syntax<'static>> {
+    for command in main_commands() {
+        if command.name == name {
+            return Some(command);
+        }
+    }
+    for command in other_commands() {
+        if command.name == name {
+            return Some(command);
+        }
+    }
+    None
+}
 
 /// What `--version` prints: the program's version, and the toolchain by which it was proved.
 const VERSION: &str = "1.0 (rattle-kit-13f logic dac8208d650f15bf)";
 
 /// The command of a command line, whose first argument is the program's own name.
 pub fn read_arguments<'a>(alloc: Global, arguments: &'a [String]) -> Result<Request<'a>, Error> {
-    match asked_for(alloc, &matches_of(alloc, arguments)?)? {
+    let matches = matches_of(alloc, arguments)?;
+    refuse_shared_paths(alloc, &matches)?;
+    match asked_for(alloc, &matches)? {
         Some(request) => Ok(request),
         None => Err(refusal(alloc, ErrorKind::MissingSubcommand, "no command")),
     }
@@ -59,6 +92,17 @@ pub fn read_arguments<'a>(alloc: Global, arguments: &'a [String]) -> Result<Requ
 /// The arguments as clap reads them.
 fn matches_of<'a>(alloc: Global, arguments: &'a [String]) -> Result<ArgMatches<'a>, Error> {
     program(alloc)?.try_get_matches_from(arguments)
+}
+
+/// Refuses the arguments of a command by which it would write over a file that it reads, or write a file twice.
+fn refuse_shared_paths(alloc: Global, matches: &ArgMatches<'_>) -> Result<(), Error> {
+    let Some((name, arguments)) = matches.subcommand() else {
+        return Ok(());
+    };
+    match command_of(name) {
+        Some(command) => command.refuse_shared_paths(alloc, arguments),
+        None => Ok(()),
+    }
 }
 
 /// The error of arguments that are no text.
@@ -85,7 +129,10 @@ fn refuse(alloc: Global, kind: ErrorKind, text: &str) -> Result<Error, AllocErro
 /// The program with its commands, for clap.
 fn program<'a>(alloc: Global) -> Result<Command<'a>, AllocError> {
     let mut program = bare_program(alloc)?;
-    for command in &COMMANDS {
+    for command in main_commands() {
+        program = command.add_to(alloc, program)?;
+    }
+    for command in other_commands() {
         program = command.add_to(alloc, program)?;
     }
     Ok(program)
@@ -115,8 +162,12 @@ fn asked_for<'a>(
         "run" => Request::Run(RunArguments::of(arguments)),
         "list" => Request::List(ListArguments::of(arguments)),
         "check" => Request::Check(CheckArguments::of(arguments)),
+        "explain" => Request::Explain(ExplainArguments::of(arguments)),
         "lib" => Request::Library(LibraryArguments::of(alloc, arguments)?),
         "regions" => Request::Regions(RegionsArguments::of(arguments)),
+        "map" => Request::Map(MapArguments::of(arguments)),
+        "extract" => Request::Extract(ExtractArguments::of(arguments)),
+        "absolute" => Request::Absolute(AbsoluteArguments::of(arguments)),
         _ => return Ok(None),
     };
     Ok(Some(request))

@@ -79,7 +79,7 @@ fn verdict(alloc: Global, image: Image) -> Result<(String, u8), AllocError> {
 }
 
 /// The report on a program that is accepted, and status 0.
-fn accepted(alloc: Global, vouched: &Vouched) -> Result<(String, u8), AllocError> {
+pub fn accepted(alloc: Global, vouched: &Vouched) -> Result<(String, u8), AllocError> {
     Ok((report_text(alloc, vouched)?, 0))
 }
 

@@ -20,11 +20,13 @@ pub struct LibraryArguments<'a> {
 const ABOUT: &str = "Writes a library of all modules of object files, in order";
 
 const AFTER_HELP: &str = "\
+OUT comes first, and is replaced: with OUT forgotten, the first object file is.
+
 The library has the modules of the first file, then those of the second, and so
 on, with an index of their names, places and public names. It is written only if
 every file could be read.
 
-Example: plm80 lib plm80.lib input.obj output.obj
+Example: plm80 lib routines.lib routines.obj
 
 Faults and what to do: docs/FAULTS.md (installed: share/doc/plm80), man plm80.";
 
@@ -36,8 +38,8 @@ pub const LIB: Syntax<'static> = Syntax {
     arguments: &[
         Argument {
             name: "OUT",
-            kind: Kind::Path,
-            help: "The file to write the library to",
+            kind: Kind::Written,
+            help: "The file to write the library to; it is replaced",
         },
         Argument {
             name: "FILE",

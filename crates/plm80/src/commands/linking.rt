@@ -4,12 +4,13 @@ use crate::commands::arguments::path_of;
 use crate::commands::fault_line::{Reported, report, report_memory};
 use crate::commands::files::{LateFile, print, replace};
 use crate::commands::link_feed::{LinkFile, read_link_file};
+use crate::commands::name_text::name_of;
 use crate::commands::object_files::append_modules;
 use crate::commands::syntax::{Argument, Kind, Syntax};
 use clap::ArgMatches;
 use link80::{Chosen, Linked, link};
 use loader80::Reading;
-use omf_core::{Name, NameFault};
+use omf_core::Name;
 use omf_library::Library;
 use omf_module::{Module, write_file};
 use std::alloc::{AllocError, Global};
@@ -35,7 +36,7 @@ It prints TAKEN and a name for each module that is taken from a library, and
 UNRESOLVED and a name for each name that no module declares. The object file is
 written only if there is no fault.
 
-Example: plm80 link --name METER --out meter.obj main.obj show.obj plm80.lib
+Example: plm80 link --name CONTROL --out linked.obj main.obj routines.lib
 
 Faults and what to do: docs/FAULTS.md (installed: share/doc/plm80), man plm80.";
 
@@ -52,7 +53,7 @@ pub const LINK: Syntax<'static> = Syntax {
         },
         Argument {
             name: "out",
-            kind: Kind::Required("OUT"),
+            kind: Kind::WrittenOption("OUT"),
             help: "The object file to write",
         },
         Argument {
@@ -122,15 +123,6 @@ fn write_outputs(rt: &HostRuntime, path: &str, object: &[u8], lines: &str) -> Re
     replace(rt, path, object)?;
     print(rt, lines.as_bytes())?;
     Ok(0)
-}
-
-/// The name that the option gives.
-fn name_of(rt: &HostRuntime, text: &str) -> Result<Name, Reported> {
-    match Name::new(rt.alloc(), text.as_bytes()) {
-        Ok(name) => Ok(name),
-        Err(NameFault::BadName) => Err(report(rt, "BadName")),
-        Err(NameFault::Memory) => Err(report_memory(rt)),
-    }
 }
 
 /// What the files of these paths have. Each file is looked at before the next one is opened.

@@ -88,7 +88,7 @@ fn regions_of(rt: &HostRuntime, path: &str, text: &[u8]) -> Result<Regions, Repo
 }
 
 /// The image that the file's bytes spell, with these regions.
-fn image_of(
+pub fn image_of(
     rt: &HostRuntime,
     path: &str,
     bytes: &[u8],

@@ -3,11 +3,15 @@
 use crate::commands::arguments::path_of;
 use crate::commands::fault_line::{Reported, report, report_file, report_memory};
 use crate::commands::files::replace;
-use crate::commands::number_text::word_of_digits;
+use crate::commands::locate_options::{
+    CODE_BASE, COMMON_BASE, DATA_BASE, LocateTexts, MEMORY_BASE, MEMORY_SIZE, STACK_BASE,
+    STACK_SIZE,
+};
 use crate::commands::object_files::read_modules;
 use crate::commands::syntax::{Argument, Kind, Syntax};
 use clap::ArgMatches;
 use image80::{Image, write_regions};
+use omf_module::Module;
 use place80::{Options, locate, write_image};
 use std::alloc::{AllocError, Global};
 
@@ -18,18 +22,6 @@ pub struct LocateArguments<'a> {
     image: &'a str,
     regions: &'a str,
     options: LocateTexts<'a>,
-}
-
-/// The values of the options of `locate`, where they are given.
-#[derive(Clone, Copy)]
-struct LocateTexts<'a> {
-    code: Option<&'a str>,
-    stack: Option<&'a str>,
-    common: Option<&'a str>,
-    data_base: Option<&'a str>,
-    memory: Option<&'a str>,
-    stack_size: Option<&'a str>,
-    memory_size: Option<&'a str>,
 }
 
 const ABOUT: &str = "Places a module in memory: writes its image and its regions";
@@ -60,49 +52,21 @@ pub const LOCATE: Syntax<'static> = Syntax {
         },
         Argument {
             name: "IMAGE",
-            kind: Kind::Path,
+            kind: Kind::Written,
             help: "The file to write the image to, an absolute object file",
         },
         Argument {
             name: "REGIONS",
-            kind: Kind::Path,
+            kind: Kind::Written,
             help: "The file to write the regions to, a text of address ranges",
         },
-        Argument {
-            name: "code",
-            kind: Kind::Number("BASE"),
-            help: "Base of CODE [default: 3000]",
-        },
-        Argument {
-            name: "stack",
-            kind: Kind::Number("BASE"),
-            help: "Base of STACK, its lowest address",
-        },
-        Argument {
-            name: "common",
-            kind: Kind::Number("BASE"),
-            help: "Base of the unnamed common",
-        },
-        Argument {
-            name: "data",
-            kind: Kind::Number("BASE"),
-            help: "Base of DATA",
-        },
-        Argument {
-            name: "memory",
-            kind: Kind::Number("BASE"),
-            help: "Base of MEMORY",
-        },
-        Argument {
-            name: "stack-size",
-            kind: Kind::Number("SIZE"),
-            help: "Length of STACK, in place of the module's",
-        },
-        Argument {
-            name: "memory-size",
-            kind: Kind::Number("SIZE"),
-            help: "Length of MEMORY, in place of the module's",
-        },
+        CODE_BASE,
+        STACK_BASE,
+        COMMON_BASE,
+        DATA_BASE,
+        MEMORY_BASE,
+        STACK_SIZE,
+        MEMORY_SIZE,
     ],
 };
 
@@ -113,39 +77,8 @@ impl<'a> LocateArguments<'a> {
             object: path_of(matches, "IN"),
             image: path_of(matches, "IMAGE"),
             regions: path_of(matches, "REGIONS"),
-            options: LocateTexts {
-                code: matches.get_str("code"),
-                stack: matches.get_str("stack"),
-                common: matches.get_str("common"),
-                data_base: matches.get_str("data"),
-                memory: matches.get_str("memory"),
-                stack_size: matches.get_str("stack-size"),
-                memory_size: matches.get_str("memory-size"),
-            },
+            options: LocateTexts::of(matches),
         }
-    }
-}
-
-impl<'a> LocateTexts<'a> {
-    /// The numbers of the options; `None` where the value of one is no number of its form.
-    fn numbers(self) -> Option<Options> {
-        Some(Options {
-            code: word_given(self.code)?,
-            stack: word_given(self.stack)?,
-            common: word_given(self.common)?,
-            data_base: word_given(self.data_base)?,
-            memory: word_given(self.memory)?,
-            stack_size: word_given(self.stack_size)?,
-            memory_size: word_given(self.memory_size)?,
-        })
-    }
-}
-
-/// A word of one to four hexadecimal digits in either case, where the option is given; `None` where its value is no such word.
-fn word_given(text: Option<&str>) -> Option<Option<u16>> {
-    match text {
-        None => Some(None),
-        Some(digits) => Some(Some(word_of_digits(digits)?)),
     }
 }
 
@@ -163,12 +96,22 @@ pub fn locate_file(rt: &HostRuntime, arguments: LocateArguments<'_>) -> Result<u
 /// The one module of the object file of this path at its places, as an image.
 fn located(rt: &HostRuntime, path: &str, options: &Options) -> Result<Image, Reported> {
     let modules = read_modules(rt, path)?;
-    let [program] = modules.as_slice() else {
-        return Err(report_file(rt, path, "NotOneModule"));
-    };
+    let program = one_module(rt, path, &modules)?;
     match locate(rt.alloc(), program, options) {
         Ok(image) => Ok(image),
         Err(fault) => Err(report(rt, fault)),
+    }
+}
+
+/// The one module of an object file.
+pub fn one_module<'a>(
+    rt: &HostRuntime,
+    path: &str,
+    modules: &'a [Module],
+) -> Result<&'a Module, Reported> {
+    match modules {
+        [module] => Ok(module),
+        _ => Err(report_file(rt, path, "NotOneModule")),
     }
 }
 

@@ -23,10 +23,14 @@ pub struct Argument<'a> {
 /// What an argument is.
 #[derive(Clone, Copy)]
 pub enum Kind<'a> {
-    /// The path of a file, which is required.
+    /// The path of a file to read, which is required.
     Path,
-    /// The paths of one or more files.
+    /// The paths of one or more files to read.
     Paths,
+    /// The path of a file to write, which is required. No other argument of the command may have this path.
+    Written,
+    /// An option that is required, whose value is such a path.
+    WrittenOption(&'a str),
     /// An option that is required, whose value the help text calls by this word. Any argument after the option is its value.
     Required(&'a str),
     /// An option with a number, which the help text calls by this word. Any argument after the option is its value, and
@@ -42,7 +46,8 @@ impl<'a> Syntax<'a> {
         program.subcommand(self.command(alloc)?)
     }
 
-    fn command(&self, alloc: Global) -> Result<Command<'a>, AllocError> {
+    /// The command with its arguments, for clap.
+    pub fn command(&self, alloc: Global) -> Result<Command<'a>, AllocError> {
         let mut command = Command::new(alloc, self.name)
             .about(self.about)
             .after_help(self.after_help);
@@ -57,9 +62,11 @@ impl<'a> Argument<'a> {
     fn arg(&self, alloc: Global) -> Arg<'a> {
         let arg = Arg::new(alloc, self.name).help(self.help);
         match self.kind {
-            Kind::Path => arg.required(true),
+            Kind::Path | Kind::Written => arg.required(true),
             Kind::Paths => arg.required(true).num_args(1..).action(ArgAction::Append),
-            Kind::Required(value) => option(arg, self.name, value).required(true),
+            Kind::Required(value) | Kind::WrittenOption(value) => {
+                option(arg, self.name, value).required(true)
+            }
             Kind::Number(value) => option(arg, self.name, value),
             Kind::Count(default) => option(arg, self.name, "N").default_value(default),
         }

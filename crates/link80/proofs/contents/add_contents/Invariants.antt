@@ -5,5 +5,5 @@ use Rattle.link80.proofs.contents.add_contents.Given as goal
 -- the contents so far, and those of the module that are left
 abbrev pub invariant-loop-content : goal.invariant-loop-content
 invariant-loop-content l =
-    l.contents.items ++ map (linked_content l.tables (l.number, l.of)) (drop l.content-index l.content-items)
-    ≡ l.initial.contents.items ++ map (linked_content l.tables (l.number, l.of)) l.content-items
+    l.contents.items ++ map (linked_content l.tables (l.number, l.source)) (drop l.content-index l.content-items)
+    ≡ l.initial.contents.items ++ map (linked_content l.tables (l.number, l.source)) l.content-items

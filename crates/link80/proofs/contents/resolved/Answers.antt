@@ -22,12 +22,12 @@ abbrev nothing : Fixup
 nothing = record { offset = 0; field = Low; target = Segment 0 }
 
 pub start-start-requires : goal.start-start-requires
-start-start-requires c = omega (arith, slice_get_within c.args.tables.now c.args.number c.args.of.now c.requires.here, ap length c.tables.view_is)
+start-start-requires c = omega (arith, slice_get_within c.args.tables.now c.args.number c.args.source.now c.requires.here, ap length c.tables.view_is)
 
 pub reference-reference-requires-clause-there : goal.reference-reference-requires-clause-there
 reference-reference-requires-clause-there c =
     let items = c.deref-fixup-items.ensures.value ∙ ap (λ (k : ContentValue). k.fixups) c.content.view_is in
-    let has : Fixup → Type 0 = λ f. IsTrue (has_target c.args.of.now.commons (length c.args.of.now.externals) f.target) in
+    let has : Fixup → Type 0 = λ f. IsTrue (has_target c.args.source.now.commons (length c.args.source.now.externals) f.target) in
     item_has has c.deref-fixup-items.result.now c.loop-fixup.fixup-index nothing (subst (AllByRecursion has) (sym items) c.requires.movable.fixups.targets) c.loop-fixup-test.true
 
 pub overflow_sub-fixup : goal.overflow_sub-fixup
@@ -40,15 +40,15 @@ overflow_sub-fixup c =
 
 pub loop-fixup-init : goal.loop-fixup-init
 loop-fixup-init c = (
-  ap (λ l. l ++ map (link_patch c.args.tables.now (c.args.number, c.args.of.now) c.args.content.now) c.args.content.now.fixups) c.new-patches.ensures.items,
-  ap (λ l. l ++ filter_map (linked_fixup c.args.tables.now (c.args.number, c.args.of.now) c.args.content.now) c.args.content.now.fixups) c.new-left.ensures.items,
+  ap (λ l. l ++ map (link_patch c.args.tables.now (c.args.number, c.args.source.now) c.args.content.now) c.args.content.now.fixups) c.new-patches.ensures.items,
+  ap (λ l. l ++ filter_map (linked_fixup c.args.tables.now (c.args.number, c.args.source.now) c.args.content.now) c.args.content.now.fixups) c.new-left.ensures.items,
 )
 
 pub loop-fixup-preserved : goal.loop-fixup-preserved
 loop-fixup-preserved c =
     let tables = c.args.tables.now in
     let number = c.args.number in
-    let of = c.args.of.now in
+    let source = c.args.source.now in
     let content = c.args.content.now in
     let read = c.deref-fixup-items.result.now in
     let i = c.loop-fixup.fixup-index in
@@ -60,15 +60,15 @@ loop-fixup-preserved c =
     let patch : Patch = record { at = c.from.result; field = f.field; word = c.reference-reference.result.word } in
     let at_is = c.from.ensures ∙ ap (λ (n : ℕ). f.offset - n) offset in
     let word_is = ap (λ (r : Reference). r.word) c.reference-reference.ensures in
-    let patch_is : patch ≡ link_patch tables (number, of) content f = λ j. record { at = at_is j; field = f.field; word = word_is j } in
+    let patch_is : patch ≡ link_patch tables (number, source) content f = λ j. record { at = at_is j; field = f.field; word = word_is j } in
     let target_is = ap (λ (r : Reference). r.target) c.reference-reference.ensures in
     let start = part_start tables number content.segment in
     let start_is : c.start-start.result ≡ start = c.start-start.ensures ∙ ap (λ (ms : List ModuleValue). part_start ms number c.content.inside.segment) c.tables.view_is ∙ ap (λ (k : ContentValue). part_start tables number k.segment) c.content.view_is in
-    let to = linked_fixup tables (number, of) content in (
-      ap (λ (l : List Patch). l ++ map (link_patch tables (number, of) content) (drop (i + 1) content.fixups)) c.in_ok-push.ensures.items
-          ∙ ap (λ (l : List Fixup). (patches ++ patch ∷ []) ++ map (link_patch tables (number, of) content) (drop (i + 1) l)) (sym items)
-          ∙ one_item_more (link_patch tables (number, of) content) read i nothing patches patch c.loop-fixup-test.true patch_is
-          ∙ ap (λ (l : List Fixup). patches ++ map (link_patch tables (number, of) content) (drop i l)) items
+    let to = linked_fixup tables (number, source) content in (
+      ap (λ (l : List Patch). l ++ map (link_patch tables (number, source) content) (drop (i + 1) content.fixups)) c.in_ok-push.ensures.items
+          ∙ ap (λ (l : List Fixup). (patches ++ patch ∷ []) ++ map (link_patch tables (number, source) content) (drop (i + 1) l)) (sym items)
+          ∙ one_item_more (link_patch tables (number, source) content) read i nothing patches patch c.loop-fixup-test.true patch_is
+          ∙ ap (λ (l : List Fixup). patches ++ map (link_patch tables (number, source) content) (drop i l)) items
           ∙ c.loop-fixup.invariant.0,
       elim c.match-reference.branch [
         | in-Some+in_ok-push-2 w ↦

@@ -1,12 +1,10 @@
-use Rattle.std.specs.Prelude.{◌≡◌, ◌≢◌, List, Some, None, map, IfOk, IfErr, OnOk}
-use Rattle.std.specs.List.{AllByRecursion}
+use Rattle.std.specs.Prelude.{List, map, IfOk, IfErr}
 use Rattle.std.proofs.Common.{◌∙◌, ap, sym, subst}
 use Rattle.omf_parts.specs.declared.symbols.Public.{Public}
 use Rattle.omf_parts.specs.Modules.{ModuleValue}
-use Rattle.omf_parts.specs.Rules.{IsModule}
-use Rattle.link80.specs.declared.fault.LinkFault.TheVariants.{Memory}
-use Rattle.link80.specs.Linked.{linked, linked_publics, unresolved}
-use Rattle.link80.specs.LinkFault.{duplicate_public, segment_too_long, link_fault}
+use Rattle.link80.specs.Linked.{linked_publics}
+use Rattle.link80.specs.LinkFault.{duplicate_public, segment_too_long}
+use Rattle.link80.specs.Linking.{IsFirstFault, IsLinkOf}
 use Rattle.link80.proofs.linking.link_declared.Goals as goal
 
 pub link_laid-requires-clause-names : goal.link_laid-requires-clause-names
@@ -18,13 +16,10 @@ link_laid-requires-clause-once c = ap duplicate_public c.in_ok-laid.ensures.same
 pub link_laid-requires-clause-segments_fit : goal.link_laid-requires-clause-segments_fit
 link_laid-requires-clause-segments_fit c = ap segment_too_long c.in_ok-laid.ensures.same ∙ c.in_ok-laid.ensures.fit
 
-pub returns : goal.returns
-returns c =
-    let same = c.in_ok-laid.ensures.same in
-    record {
-      made = subst (λ (ms : List ModuleValue). IfOk c.link_laid.result (λ made. made.0 ≡ linked c.args.name.now ms)) same c.link_laid.ensures.made;
-      unresolved = subst (λ (ms : List ModuleValue). IfOk c.link_laid.result (λ made. made.1.items ≡ unresolved ms)) same c.link_laid.ensures.unresolved;
-      no_fault = subst (λ (ms : List ModuleValue). OnOk c.link_laid.result (link_fault ms ≡ None)) same c.link_laid.ensures.no_fault;
-      sound = subst (λ (ms : List ModuleValue). OnOk c.link_laid.result (AllByRecursion IsModule ms)) same c.link_laid.ensures.sound;
-      fault = subst (λ (ms : List ModuleValue). IfErr c.link_laid.result (λ fault. fault ≢ Memory → link_fault ms ≡ Some fault)) same c.link_laid.ensures.fault;
-    }
+pub returns-clause-made : goal.returns-clause-made
+returns-clause-made c =
+    subst (λ (ms : List ModuleValue). IfOk c.link_laid.result (λ made. IsLinkOf c.args.name.now ms made.0 made.1.items)) c.in_ok-laid.ensures.same c.link_laid.ensures.made
+
+pub returns-clause-fault : goal.returns-clause-fault
+returns-clause-fault c =
+    subst (λ (ms : List ModuleValue). IfErr c.link_laid.result (IsFirstFault ms)) c.in_ok-laid.ensures.same c.link_laid.ensures.fault

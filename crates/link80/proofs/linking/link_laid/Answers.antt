@@ -1,12 +1,9 @@
-use Rattle.std.specs.Prelude.{◌≡◌, ◌≢◌, List, true, false, Some, None, IfOk, IfErr, OnOk}
-use Rattle.std.specs.List.{AllByRecursion}
+use Rattle.std.specs.Prelude.{◌≡◌, List, true, false, Some, IfOk, IfErr}
 use Rattle.std.proofs.Common.{◌∙◌, ap, sym, subst}
 use Rattle.std.proofs.lemmas.Result.{err_from_is_err_and}
 use Rattle.omf_parts.specs.Modules.{ModuleValue}
-use Rattle.omf_parts.specs.Rules.{IsModule}
-use Rattle.link80.specs.declared.fault.LinkFault.TheVariants.{Memory}
-use Rattle.link80.specs.Linked.{linked, unresolved}
 use Rattle.link80.specs.LinkFault.{two_mains, too_many_externals, link_fault}
+use Rattle.link80.specs.Linking.{IsFirstFault, IsLinkOf}
 use Rattle.link80.proofs.MainLemmas.{two_mains_are, one_main_is}
 use Rattle.link80.proofs.OrderLemmas.{from_sixth, high_by, mains_first, high_first, commons_first}
 use Rattle.link80.proofs.linking.link_laid.Goals as goal
@@ -35,13 +32,10 @@ link_joined-requires-clause-no_other_fault c =
     (from_sixth c.args.laid.now c.requires.once c.requires.segments_fit (one_main_is c.args.laid.now c.in_ok-main.main c.in_ok-main.ensures.main)
     (high_by c.args.laid.now false c.if-any_high_off_page.ensures) c.in_ok-joined.ensures.fit)
 
-pub returns : goal.returns
-returns c =
-    let same = c.in_ok-joined.ensures.same in
-    record {
-      made = subst (λ (ms : List ModuleValue). IfOk c.link_joined.result (λ made. made.0 ≡ linked c.args.name.now ms)) same c.link_joined.ensures.made;
-      unresolved = subst (λ (ms : List ModuleValue). IfOk c.link_joined.result (λ made. made.1.items ≡ unresolved ms)) same c.link_joined.ensures.unresolved;
-      no_fault = subst (λ (ms : List ModuleValue). OnOk c.link_joined.result (link_fault ms ≡ None)) same c.link_joined.ensures.no_fault;
-      sound = subst (λ (ms : List ModuleValue). OnOk c.link_joined.result (AllByRecursion IsModule ms)) same c.link_joined.ensures.sound;
-      fault = subst (λ (ms : List ModuleValue). IfErr c.link_joined.result (λ fault. fault ≢ Memory → link_fault ms ≡ Some fault)) same c.link_joined.ensures.fault;
-    }
+pub returns-clause-made : goal.returns-clause-made
+returns-clause-made c =
+    subst (λ (ms : List ModuleValue). IfOk c.link_joined.result (λ made. IsLinkOf c.args.name.now ms made.0 made.1.items)) c.in_ok-joined.ensures.same c.link_joined.ensures.made
+
+pub returns-clause-fault : goal.returns-clause-fault
+returns-clause-fault c =
+    subst (λ (ms : List ModuleValue). IfErr c.link_joined.result (IsFirstFault ms)) c.in_ok-joined.ensures.same c.link_joined.ensures.fault

@@ -9,7 +9,8 @@ pub loop-public-preserved : goal.loop-public-preserved
 loop-public-preserved c =
     one_taken (λ l. flat_map (λ p. name_spelling p.name) l) (name_spelling c.public-item.result.name) c.publics-public-items.result.now c.loop-public.public-index c.public-item.result
     c.loop-public.out.items c.push_name.new.out.items (c.args.out.now.items ++ flat_map (λ p. name_spelling p.name) c.publics-public-items.result.now)
-    c.loop-public.invariant c.loop-public-test.true c.public-item.is refl c.in_ok-push_name.ensures
+    c.loop-public.invariant c.loop-public-test.true c.public-item.is refl
+    (c.in_ok-push_name.ensures ∙ ap (λ (n : List ℕ). c.loop-public.out.items ++ name_spelling n) c.bytes.ensures.value)
 
 pub returns : goal.returns
 returns c =

@@ -1,6 +1,6 @@
 use Rattle.std.proofs.Common.{List, refl}
 use Rattle.std.specs.List.{flat_map}
-use Rattle.omf_module.specs.declared.records.PlacedBody.{PlacedBody}
+use Rattle.omf_module.specs.declared.module_file.PlacedBody.{PlacedBody}
 use Rattle.omf_module.specs.Gathered.{externals_in}
 use Rattle.omf_module.proofs.ListLemmas.{one_taken, all_taken}
 use Rattle.omf_module.proofs.gathering.externals_of.Goals as goal

@@ -1,5 +1,5 @@
 use Rattle.std.proofs.Common.{◌+◌, List, drop, subst, sym, ◌∙◌}
-use Rattle.omf_module.specs.declared.records.PlacedBody.{PlacedBody}
+use Rattle.omf_module.specs.declared.module_file.PlacedBody.{PlacedBody}
 use Rattle.omf_module.proofs.UseLemmas.{ContentsSoFar, front, fault_here, one_looked_at, all_looked_at}
 use Rattle.omf_module.proofs.uses.contents_of.Goals as goal
 

@@ -1,4 +1,4 @@
-use Rattle.omf_parts.proofs.OneForm.{segments_kept, absolute_empty}
+use Rattle.omf_parts.proofs.CanonicalLemmas.{segments_kept, absolute_empty}
 use Rattle.omf_parts.proofs.laws.segments_are_kept.Goals as goal
 
 pub returns : goal.returns

@@ -1,13 +1,15 @@
-use Rattle.std.proofs.Common.{ap, sym, ◌∙◌}
-use Rattle.omf_parts.specs.Modules.{made_of}
+use Rattle.std.specs.Prelude.{IfOk}
+use Rattle.std.proofs.Common.{◌≡◌, ap, subst, ◌∙◌}
+use Rattle.omf_parts.specs.Modules.{ModuleValue, made_of}
 use Rattle.omf_parts.specs.Rules.{keeps_rules}
-use Rattle.place80.proofs.ImageFileLemmas.{made_as_it_is, no_rule_broken}
+use Rattle.place80.proofs.ImageFileLemmas.{made_as_it_is, image_keeps_rules}
 use Rattle.place80.proofs.image_file.module_of.Goals as goal
 
-pub returns-in-Ok-clause-made : goal.returns-in-Ok-clause-made
-returns-in-Ok-clause-made c = c.in-Ok.ensures.made ∙ ap made_of c.in_ok-parts_of.ensures.parts ∙ made_as_it_is c.args.image.now
+pub from_sound_parts-requires : goal.from_sound_parts-requires
+from_sound_parts-requires c =
+    ap keeps_rules c.in_ok-parts.ensures.parts ∙ image_keeps_rules c.args.image.now c.in_ok-parts.ensures.rules
 
-pub unreachable-requires : goal.unreachable-requires
-unreachable-requires c =
-    no_rule_broken c.args.image.now c.in_ok-parts_of.ensures.rules
-    (sym (ap keeps_rules c.in_ok-parts_of.ensures.parts) ∙ c.in-Err-default-Rule.ensures.rule c.in-Err-default-Rule.field-0-1-is)
+pub returns-clause-made : goal.returns-clause-made
+returns-clause-made c =
+    subst (λ (m : ModuleValue). IfOk c.from_sound_parts.result (λ made. made ≡ m)) (ap made_of c.in_ok-parts.ensures.parts ∙ made_as_it_is c.args.image.now)
+    c.from_sound_parts.ensures

@@ -1,6 +1,6 @@
 use Rattle.std.proofs.Common.{ap, sym, subst, ◌∙◌, ◌++◌, ◌+◌, ◌<◌, ℕ, List, drop, arith}
 use Rattle.std.specs.List.{AllByRecursion}
-use Rattle.place80.specs.declared.placed.Placed.{Placed}
+use Rattle.place80.specs.declared.placed_segments.Placed.{Placed}
 use Rattle.place80.specs.Layout.{placed_from, order_of}
 use Rattle.place80.proofs.PlacingLemmas.{whole_layout, one_place_more, one_word_more}
 use Rattle.place80.proofs.laying_out.place_all.Goals as goal

@@ -2,7 +2,7 @@ use Rattle.std.specs.Prelude.{◌++◌, ◌+◌, ◌∷◌, ◌==◌, [], Bool, 
 use Rattle.std.specs.Global.{Vec}
 use Rattle.std.proofs.Common.{◌<◌, ◌∙◌, ap}
 use Rattle.std.proofs.lemmas.Bool.{eq-eqb, ne_eqb}
-use Rattle.place80.specs.declared.placed.Placed.{Placed}
+use Rattle.place80.specs.declared.placed_segments.Placed.{Placed}
 use Rattle.image80.specs.declared.range.Range.{Range}
 use Rattle.image80.specs.RegionsText.{filled}
 use Rattle.place80.specs.Locating.{located_code}

@@ -1,7 +1,7 @@
 use Rattle.std.specs.Prelude.{◌++◌, ◌+◌, ◌∷◌, [], Bool, List, drop}
 use Rattle.std.specs.Global.{Vec}
 use Rattle.std.proofs.Common.{◌<◌, ◌∙◌, ap, sym}
-use Rattle.place80.specs.declared.placed.Placed.{Placed}
+use Rattle.place80.specs.declared.placed_segments.Placed.{Placed}
 use Rattle.image80.specs.declared.range.Range.{Range}
 use Rattle.image80.specs.RegionsText.{filled}
 use Rattle.place80.specs.Locating.{is_data, located_data}

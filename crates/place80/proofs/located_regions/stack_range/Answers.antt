@@ -1,5 +1,5 @@
 use Rattle.std.proofs.Common.{subst, sym, ◌<◌}
-use Rattle.place80.specs.declared.placed.Placed.{Placed}
+use Rattle.place80.specs.declared.placed_segments.Placed.{Placed}
 use Rattle.place80.proofs.LocatedLemmas.{placed_in_word}
 use Rattle.place80.proofs.located_regions.stack_range.Goals as goal
 

@@ -1,5 +1,5 @@
 use Rattle.std.proofs.Common.{◌∙◌, sym}
-use Rattle.place80.specs.declared.placed.Placed.{Placed}
+use Rattle.place80.specs.declared.placed_segments.Placed.{Placed}
 use Rattle.place80.proofs.PairLemmas.{pairs_from, found_here, found_later}
 use Rattle.place80.proofs.overlap.first_pair.Goals as goal
 

@@ -11,9 +11,9 @@ use Rattle.link80.proofs.commons.JoinedModules.linked_id.Goals.{After-number_of,
 commons_are : (c : After-number_of) → c.self.inside.commons ≡ common_names c.args.self.now
 commons_are c = c.self.invariant.0 ∙ ap common_names c.self.view_is
 
-number_is : (c : After-number_of) → number_in (common_names c.args.self.now) (common_name c.args.of.now.commons c.args.id) ≡ c.number_of.result
+number_is : (c : After-number_of) → number_in (common_names c.args.self.now) (common_name c.args.source.now.commons c.args.id) ≡ c.number_of.result
 number_is c =
-    ap (λ names. number_in names (common_name c.args.of.now.commons c.args.id)) (sym (commons_are c))
+    ap (λ names. number_in names (common_name c.args.source.now.commons c.args.id)) (sym (commons_are c))
     ∙ ap (number_in c.self.inside.commons) (sym (c.common_name.ensures ∙ ap (λ commons. common_name commons c.args.id) c.commons.ensures.value))
     ∙ sym c.number_of.ensures.number
 
@@ -30,10 +30,10 @@ overflow_add-result c = let small = few c in search rules
 
 pub returns-in-Some : goal.returns-in-Some
 returns-in-Some c =
-    sym (linked_id_is c.args.self.now c.args.of.now c.args.id (sym c.is_fixed_id.ensures ∙ c.if-is_fixed_id.false)
+    sym (linked_id_is c.args.self.now c.args.source.now c.args.id (sym c.is_fixed_id.ensures ∙ c.if-is_fixed_id.false)
     ∙ ap (λ (o : Option ℕ). option_map_or (λ k. 6 + k) o 0) (number_is c.before ∙ c.in-Some.is))
 
 pub returns-in-None : goal.returns-in-None
 returns-in-None c =
-    sym (linked_id_is c.args.self.now c.args.of.now c.args.id (sym c.is_fixed_id.ensures ∙ c.if-is_fixed_id.false)
+    sym (linked_id_is c.args.self.now c.args.source.now c.args.id (sym c.is_fixed_id.ensures ∙ c.if-is_fixed_id.false)
     ∙ ap (λ (o : Option ℕ). option_map_or (λ k. 6 + k) o 0) (number_is c.before ∙ c.in-None.is))

@@ -1,0 +1,55 @@
+-- What the image of a linked and located program is, by the modules that went in.
+-- (ISIS-II User's Guide: LINK, then LOCATE.)
+use Rattle.std.specs.Prelude.{◌≡◌, ℕ, Some, None, option_map, slice_get, List}
+use Rattle.omf_parts.specs.Modules.{ModuleValue}
+use Rattle.omf_relocation.specs.Place.{Bases}
+use Rattle.omf_relocation.specs.ImageByte.{image_byte}
+use Rattle.select80.specs.declared.chosen.Chosen.{Chosen}
+use Rattle.link80.specs.declared.fault.LinkFault.{LinkFault}
+use Rattle.link80.specs.Linked.{linked, starts}
+use Rattle.link80.specs.LinkFault.{link_fault}
+use Rattle.link80.specs.Selection.{IsSelection, modules_with, CannotBeLinked}
+use Rattle.image80.specs.Image.{Located, byte_at}
+use Rattle.image80.specs.Regions.{Arranges}
+use Rattle.place80.specs.declared.options.Options.{Options}
+use Rattle.place80.specs.declared.placed_segments.Placed.{Placed}
+use Rattle.place80.specs.declared.place_fault.PlaceFault.{PlaceFault}
+use Rattle.place80.specs.Layout.{layout_of, program_bases}
+use Rattle.place80.specs.Locating.{located_code, located_stack, located_data}
+use Rattle.place80.specs.PlaceFault.{locate_fault, start_place}
+use Rattle.build80.specs.declared.fault.BuildFault.{BuildFault}
+use Rattle.build80.specs.declared.fault.BuildFault.TheVariants.{Link, Place}
+
+-- the linked segments at their places, and the bases that these give
+abbrev pub linked_layout : Options → List ℕ → List ModuleValue → List Placed
+linked_layout options name modules = layout_of options (linked name modules)
+
+abbrev pub linked_bases : Options → List ℕ → List ModuleValue → Bases
+linked_bases options name modules = program_bases options (linked name modules)
+
+-- The image has the program's name. It holds at every address the byte that the modules define under these bases: no linked
+-- module occurs there. Its regions are those of the linked segments. It starts where the main program among the modules does.
+pub record HoldsModules (options : Options) (name : List ℕ) (modules : List ModuleValue) (image : Located) : Type 0 where
+  pub own_name : image.name ≡ name
+  pub bytes : (address : ℕ) → byte_at image.chunks address ≡ image_byte (linked_bases options name modules) modules address
+  pub regions : let segments = linked_layout options name modules in Arranges (located_code segments) (located_stack segments) (located_data segments) image.regions
+  pub begin : Some image.start ≡ option_map (start_place (linked_bases options name modules) (linked name modules)) (slice_get (starts modules) 0)
+
+-- nothing forbids to link the modules, nor to locate what they are linked into
+pub record HasNoFault (options : Options) (name : List ℕ) (modules : List ModuleValue) : Type 0 where
+  pub in_link : link_fault modules ≡ None
+  pub in_place : locate_fault options (linked name modules) ≡ None
+
+-- what the roots need can't be linked with them, or can, and the linked module can't be located; and this is the first cause
+pub data CannotBeBuilt (options : Options) (name : List ℕ) (roots : List ModuleValue) (libraries : List (List ModuleValue)) : BuildFault → Type 0 where
+  by_link : (fault : LinkFault) → CannotBeLinked roots libraries fault → CannotBeBuilt options name roots libraries (Link fault)
+  by_place : (taken : List Chosen) (fault : PlaceFault)
+      → IsSelection roots libraries taken
+      → link_fault (modules_with roots libraries taken) ≡ None
+      → locate_fault options (linked name (modules_with roots libraries taken)) ≡ Some fault
+      → CannotBeBuilt options name roots libraries (Place fault)
+
+-- the number of a fault
+abbrev pub build_fault_code : BuildFault → ℕ
+build_fault_code (Link fault) = 1
+build_fault_code (Place fault) = 2

@@ -1,0 +1,68 @@
+-- Chains of calls, and the bounds that they come to.
+use Rattle.std.proofs.Common.{◌≡◌, ℕ, ℤ, pos, List, [], ◌∷◌, Some, slice_get, refl, sym, ◌∙◌, ap, subst}
+use Rattle.std.specs.Prelude.{◌+ℤ◌, All}
+use Rattle.std.proofs.lemmas.List.Elements.{All-contains}
+use Rattle.std.proofs.lemmas.Option.{same_Some}
+use Rattle.bounds80.specs.Chains.{bytes_of}
+use Rattle.bounds80.specs.declared.graph.CallSite.{CallSite}
+use Rattle.bounds80.specs.declared.procedure.Procedure.{Procedure}
+use Rattle.bounds80.specs.declared.procedure.Procedure.TheVariants.{Main, Entry}
+use Rattle.frames80.specs.Calls.{depth_of}
+use Rattle.flow80.specs.Code.{Code}
+use Rattle.flow80.specs.Walks.{Calls, role_of}
+use Rattle.flow80.specs.Use.{Use, last, through}
+use Rattle.explain80.specs.declared.chain.Standing.{Standing}
+use Rattle.explain80.specs.declared.point.Point.{Point}
+use Rattle.explain80.specs.declared.origin.CallingPoint.{CallingPoint}
+use Rattle.explain80.specs.declared.search.Search.{Search}
+use Rattle.explain80.specs.Chains.{CallsAt, ChainsAreUses, EndsWith, IsChain, IsNextCall, StandsAt}
+use Rattle.explain80.specs.Search.{IsSound}
+use Rattle.explain80.proofs.WayLemmas.{walked}
+
+uses : (code : Code) (p : Procedure) (calls : List CallSite) (standing : Standing) (sum : ℤ) → IsChain code p calls standing sum → Use code p sum
+uses code p [] standing sum c =
+    subst (λ q. Use code q sum) c.0 (last standing.procedure sum (record { at = standing.at; frame = c.1.frame; walk = c.1.walk; sum = c.2 ∙ c.1.depth }))
+uses code p (call ∷ rest) standing sum c =
+    let at = c.1 in
+    let below = c.2.0 in
+    subst (λ q. Use code q sum) c.0 (through call.caller call.target below sum (uses code (Entry call.target) rest standing below c.2.1)
+    (record { at = call.at; next = at.next; frame = at.frame; walk = at.walk; call = at.calls; sum = c.2.2 ∙ ap (λ d. (d +ℤ pos 2) +ℤ below) at.depth }))
+
+pub chains-are-uses : ChainsAreUses
+chains-are-uses code bytes chain c = uses code Main chain.calls.items chain.last (pos bytes) c
+
+-- a chain goes on by a call
+pub chain-call : (code : Code) (sites : List CallSite) (bounds : List ℕ) (p : Procedure) (call : CallSite) → All (CallsAt code) sites → IsNextCall sites bounds p call → (rest : List CallSite) (standing : Standing) →
+    IsChain code (Entry call.target) rest standing (pos (bytes_of bounds (Entry call.target))) → IsChain code p (call ∷ rest) standing (pos (bytes_of bounds p))
+chain-call code sites bounds p call all next rest standing c = (next.caller, All-contains (CallsAt code) sites call all next.known, (pos (bytes_of bounds (Entry call.target)), c, next.sum))
+
+-- a chain ends
+pub chain-end : (code : Code) (p : Procedure) (bytes : ℕ) (standing : Standing) → EndsWith code p bytes standing → IsChain code p [] standing (pos bytes)
+chain-end code p bytes standing e = (e.procedure, e.stands, e.sum)
+
+-- the call of a point
+pub calls-at : (code : Code) (s : Search) → IsSound code s → (k : ℕ) (calling : CallingPoint) (point : Point) (depth : ℤ) → slice_get s.calls.items k ≡ Some calling → slice_get s.points.keys calling.point ≡ Some point →
+    depth ≡ depth_of (role_of code point.procedure) point.frame → CallsAt code (record { caller = point.procedure; at = point.at; depth = depth; target = calling.target })
+calls-at code s h k calling point depth is there e =
+    let c = h.calls k calling is in
+    let same : c.point ≡ point = same_Some c.point point (sym c.is ∙ there) in
+    record {
+      frame = point.frame;
+      next = calling.next;
+      walk = walked code s h calling.point point there;
+      calls = subst (λ (p : Point). Calls code p.procedure p.at p.frame calling.target calling.next) same c.calls;
+      depth = e;
+    }
+
+-- a point of a procedure
+pub stands-at : (code : Code) (s : Search) → IsSound code s → (n : ℕ) (point : Point) (p : Procedure) (depth : ℤ) (bytes : ℕ) → slice_get s.points.keys n ≡ Some point → point.procedure ≡ p → depth ≡ depth_of (role_of code point.procedure) point.frame → pos bytes ≡ depth →
+    EndsWith code p bytes (record { procedure = p; at = point.at; depth = depth })
+stands-at code s h n point p depth bytes is same e sum = record {
+  procedure = refl;
+  stands = subst (λ q. StandsAt code (record { procedure = q; at = point.at; depth = depth })) same (record { frame = point.frame; walk = walked code s h n point is; depth = e });
+  sum = sum;
+}
+
+-- what is read where there is nothing
+abbrev pub no_calling : CallingPoint
+no_calling = record { point = 0; target = 0; next = 0 }

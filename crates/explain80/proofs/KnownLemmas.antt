@@ -1,0 +1,59 @@
+-- The calls of a search's points, as walks have them.
+use Rattle.std.proofs.Common.{◌≡◌, ◌⊎◌, inl, inr, ◌+◌, ℕ, List, [], ◌∷◌, ◌++◌, Some, Contains, length, slice_get, sym, ◌∙◌, ap, subst}
+use Rattle.std.proofs.lemmas.Option.{same_Some, slice_get-get_or, slice_get_within}
+use Rattle.std.proofs.lemmas.List.{length-append}
+use Rattle.bounds80.specs.declared.procedure.Procedure.{Procedure}
+use Rattle.bounds80.specs.declared.procedure.Procedure.TheVariants.{Main, Entry}
+use Rattle.flow80.specs.Code.{Code}
+use Rattle.flow80.specs.Walks.{Calls}
+use Rattle.explain80.specs.declared.point.Point.{Point}
+use Rattle.explain80.specs.declared.route.Call.{Call}
+use Rattle.explain80.specs.declared.search.Search.{Search}
+use Rattle.explain80.specs.Known.{AreKnown, IsKnown}
+use Rattle.explain80.specs.Ring.{Chained, IsRingOf}
+use Rattle.explain80.specs.Search.{CallersAreThere, IsSound}
+use Rattle.explain80.specs.Shows.{RingOf}
+use Rattle.explain80.specs.Ways.{IsCalled, Lead}
+use Rattle.explain80.proofs.ListLemmas.{slice_get-push}
+use Rattle.explain80.proofs.WayLemmas.{walked}
+
+-- a call more
+pub known-push : (s : Search) (count : ℕ) (calls new : List Call) (call : Call) → AreKnown s count calls → IsKnown s count call → new ≡ calls ++ call ∷ [] → AreKnown s (count + 1) new
+known-push s count calls new call h k e = record {
+  all = ap length e ∙ length-append calls (call ∷ []) ∙ ap (λ n. n + 1) h.all;
+  known = λ n one is. by n one (slice_get-push calls call n one (ap (λ xs. slice_get xs n) (sym e) ∙ is));
+}
+  where
+    by : (n : ℕ) (one : Call) → (slice_get calls n ≡ Some one) ⊎ ((n ≡ length calls) × (one ≡ call)) → IsKnown s n one
+    by n one (inl is) = h.known n one is
+    by n one (inr at) = subst (λ i. IsKnown s i one) (sym (at.0 ∙ h.all)) (subst (IsKnown s count) (sym at.1) k)
+
+pub callers : (code : Code) (s : Search) → IsSound code s → CallersAreThere s
+callers code s h = record { there = λ k call is. let c = h.calls k call is in slice_get_within s.points.keys call.point c.point c.is }
+
+module _ (code : Code) (s : Search) (h : IsSound code s) where
+  known_called : (k : ℕ) (call : Call) → IsKnown s k call → IsCalled code call
+  known_called k call known =
+      let c = h.calls k known.calling known.is in
+      let same : c.point ≡ known.point = same_Some c.point known.point (sym c.is ∙ known.there) in
+      subst (IsCalled code) (sym known.same) (record {
+        frame = known.point.frame;
+        next = known.calling.next;
+        walk = walked code s h known.calling.point known.point known.there;
+        calls = subst (λ (p : Point). Calls code p.procedure p.at p.frame known.calling.target known.calling.next) same c.calls;
+      })
+
+  called : (count : ℕ) (calls : List Call) → AreKnown s count calls → (call : Call) → Contains calls call → IsCalled code call
+  called count calls known call c = known_called c.0 call (known.known c.0 call (slice_get-get_or calls c.0 call c.1 ∙ ap (λ x. Some x) c.2))
+
+  lead : (count : ℕ) (calls : List Call) → AreKnown s count calls → (p : Procedure) (led : List Call) (q : Procedure) → Chained calls p led q → Lead code p led q
+  lead count calls known p [] q c = c
+  lead count calls known p (call ∷ rest) q c = (c.0, called count calls known call c.1, lead count calls known (Entry call.target) rest q c.2)
+
+  -- calls that lead to a procedure, and a ring from there
+  pub rings : (at count : ℕ) (calls : List Call) (first : Call) (ring to : List Call) → AreKnown s count calls → IsRingOf calls first ring → first.at ≡ at → Lead code Main to first.caller → RingOf code at to ring
+  rings at count calls first ring to known r is to_caller = subst (RingOf code at to) (sym r.is) (record {
+    is_at = is;
+    calls_lead = to_caller;
+    back = lead count calls known first.caller (first ∷ r.rest) first.caller r.chained;
+  })

@@ -1,0 +1,229 @@
+use Rattle.std.proofs.Common.{inl, inr, length, refl, sym, subst}
+use Rattle.frames80.specs.StackFrame.{entry_frame}
+use Rattle.frames80.specs.declared.moves.Moves.TheVariants.{On, Jump, Either, Call, MaybeCall, MaybeReturn}
+use Rattle.bounds80.specs.declared.procedure.Procedure.TheVariants.{Entry}
+use Rattle.explain80.specs.declared.origin.Exit.{Exit}
+use Rattle.explain80.specs.declared.origin.CallingPoint.{CallingPoint}
+use Rattle.explain80.specs.Search.{BacksFrom, Has, HasExit, IsCalling, IsExit, IsMovingAt, point_of}
+use Rattle.explain80.proofs.ListLemmas.{slice_get-extends}
+use Rattle.explain80.proofs.SearchLemmas.{grows-on, has-extends}
+use Rattle.explain80.proofs.MoveLemmas.{backs-all, calling-at, covers-at, covers-call, covers-either, covers-maybe_call, covers-maybe_return, exit-at, goes-move, moving-extends}
+use Rattle.explain80.proofs.search.Search.follow.Goals as goal
+
+pub call-requires-in-MaybeCall-clause-sound : goal.call-requires-in-MaybeCall-clause-sound
+call-requires-in-MaybeCall-clause-sound g c =
+    let code = g.C.Code.code c.args.program.now in
+    let old = c.args.self.now in
+    let number = c.args.number in
+    let next = c.args.next in
+    let one = c.index.result.now in
+    let at = c.index.ensures in
+    let mid = c.go_on-in-MaybeCall.new.self in
+    let f = c.in-MaybeCall.frame in
+    let target = c.in-MaybeCall.target in
+    let moving = subst (λ moves. IsMovingAt code old.points.keys number moves next) c.in-MaybeCall.is c.requires.moving in
+    let added = c.in_ok-go_on-in-MaybeCall.ensures in
+    let step = goes-move code old mid c.requires.sound number one (MaybeCall f target) next next f at moving (refl, refl) added in
+    step.sound
+
+pub call-requires-in-MaybeCall-clause-call : goal.call-requires-in-MaybeCall-clause-call
+call-requires-in-MaybeCall-clause-call g c =
+    let code = g.C.Code.code c.args.program.now in
+    let old = c.args.self.now in
+    let number = c.args.number in
+    let next = c.args.next in
+    let one = c.index.result.now in
+    let at = c.index.ensures in
+    let mid = c.go_on-in-MaybeCall.new.self in
+    let f = c.in-MaybeCall.frame in
+    let target = c.in-MaybeCall.target in
+    let moving = subst (λ moves. IsMovingAt code old.points.keys number moves next) c.in-MaybeCall.is c.requires.moving in
+    let added = c.in_ok-go_on-in-MaybeCall.ensures in
+    let step = goes-move code old mid c.requires.sound number one (MaybeCall f target) next next f at moving (refl, refl) added in
+    let extended = moving-extends code old.points.keys mid.points.keys step.points number (MaybeCall f target) next moving in
+    subst (λ (call : CallingPoint). IsCalling code mid.points.keys call) (sym c.new-call-in-MaybeCall.ensures) (calling-at code mid.points.keys number (MaybeCall f target) next extended target refl)
+
+pub leave-requires-in-MaybeReturn-clause-sound : goal.leave-requires-in-MaybeReturn-clause-sound
+leave-requires-in-MaybeReturn-clause-sound g c =
+    let code = g.C.Code.code c.args.program.now in
+    let old = c.args.self.now in
+    let number = c.args.number in
+    let next = c.args.next in
+    let one = c.index.result.now in
+    let at = c.index.ensures in
+    let mid = c.go_on-in-MaybeReturn.new.self in
+    let f = c.in-MaybeReturn.frame in
+    let taken = c.in-MaybeReturn.taken in
+    let moving = subst (λ moves. IsMovingAt code old.points.keys number moves next) c.in-MaybeReturn.is c.requires.moving in
+    let added = c.in_ok-go_on-in-MaybeReturn.ensures in
+    let step = goes-move code old mid c.requires.sound number one (MaybeReturn f taken) next next f at moving (refl, refl) added in
+    step.sound
+
+pub leave-requires-in-MaybeReturn-clause-exit : goal.leave-requires-in-MaybeReturn-clause-exit
+leave-requires-in-MaybeReturn-clause-exit g c =
+    let code = g.C.Code.code c.args.program.now in
+    let old = c.args.self.now in
+    let number = c.args.number in
+    let next = c.args.next in
+    let one = c.index.result.now in
+    let at = c.index.ensures in
+    let mid = c.go_on-in-MaybeReturn.new.self in
+    let f = c.in-MaybeReturn.frame in
+    let taken = c.in-MaybeReturn.taken in
+    let moving = subst (λ moves. IsMovingAt code old.points.keys number moves next) c.in-MaybeReturn.is c.requires.moving in
+    let added = c.in_ok-go_on-in-MaybeReturn.ensures in
+    let step = goes-move code old mid c.requires.sound number one (MaybeReturn f taken) next next f at moving (refl, refl) added in
+    let extended = moving-extends code old.points.keys mid.points.keys step.points number (MaybeReturn f taken) next moving in
+    let is = slice_get-extends old.points.keys mid.points.keys step.points number one at in
+    subst (λ (exit : Exit). IsExit code mid.points.keys exit) (sym c.new-exit-in-MaybeReturn.ensures) (exit-at code mid.points.keys number (MaybeReturn f taken) next extended one taken is refl)
+
+pub returns-in_ok-go_on-in-On-clause-grows : goal.returns-in_ok-go_on-in-On-clause-grows
+returns-in_ok-go_on-in-On-clause-grows g c =
+    let code = g.C.Code.code c.args.program.now in
+    let old = c.args.self.now in
+    let number = c.args.number in
+    let next = c.args.next in
+    let one = c.index.result.now in
+    let at = c.index.ensures in
+    let moving = subst (λ moves. IsMovingAt code old.points.keys number moves next) c.in-On.is c.requires.moving in
+    goes-move code old c.go_on.new.self c.requires.sound number one (On c.in-On.frame) next next c.in-On.frame at moving (refl, refl) c.in_ok-go_on-in-On.ensures
+
+pub returns-in_ok-go_on-in-Jump-clause-grows : goal.returns-in_ok-go_on-in-Jump-clause-grows
+returns-in_ok-go_on-in-Jump-clause-grows g c =
+    let code = g.C.Code.code c.args.program.now in
+    let old = c.args.self.now in
+    let number = c.args.number in
+    let next = c.args.next in
+    let one = c.index.result.now in
+    let at = c.index.ensures in
+    let moving = subst (λ moves. IsMovingAt code old.points.keys number moves next) c.in-Jump.is c.requires.moving in
+    goes-move code old c.go_on-in-Jump.new.self c.requires.sound number one (Jump c.in-Jump.frame c.in-Jump.to) next c.in-Jump.to c.in-Jump.frame at moving (refl, refl) c.in_ok-go_on-in-Jump.ensures
+
+pub returns-in_ok-go_on-in-Either-2-clause-grows : goal.returns-in_ok-go_on-in-Either-2-clause-grows
+returns-in_ok-go_on-in-Either-2-clause-grows g c =
+    let code = g.C.Code.code c.args.program.now in
+    let old = c.args.self.now in
+    let number = c.args.number in
+    let next = c.args.next in
+    let one = c.index.result.now in
+    let at = c.index.ensures in
+    let mid = c.go_on-in-Either.new.self in
+    let new = c.go_on-in-Either-2.new.self in
+    let f = c.in-Either.frame in
+    let other = c.in_ok-other-in-Either.other in
+    let to = c.in-Either.to in
+    let moving = subst (λ moves. IsMovingAt code old.points.keys number moves next) c.in-Either.is c.requires.moving in
+    let added = c.in_ok-go_on-in-Either.ensures in
+    let step = goes-move code old mid c.requires.sound number one (Either f to) next next f at moving (inl refl, refl) added in
+    let extended = moving-extends code old.points.keys mid.points.keys step.points number (Either f to) next moving in
+    let is = slice_get-extends old.points.keys mid.points.keys step.points number one at in
+    let same = c.in_ok-other-in-Either.ensures in
+    let jump = goes-move code mid new step.sound number one (Either f to) next to other is extended (inr refl, same) c.in_ok-go_on-in-Either-2.ensures in
+    grows-on code old mid new step jump
+
+pub returns-in_ok-go_on-in-Either-2-clause-covers : goal.returns-in_ok-go_on-in-Either-2-clause-covers
+returns-in_ok-go_on-in-Either-2-clause-covers g c =
+    let code = g.C.Code.code c.args.program.now in
+    let old = c.args.self.now in
+    let number = c.args.number in
+    let next = c.args.next in
+    let one = c.index.result.now in
+    let at = c.index.ensures in
+    let mid = c.go_on-in-Either.new.self in
+    let new = c.go_on-in-Either-2.new.self in
+    let f = c.in-Either.frame in
+    let other = c.in_ok-other-in-Either.other in
+    let to = c.in-Either.to in
+    let moving = subst (λ moves. IsMovingAt code old.points.keys number moves next) c.in-Either.is c.requires.moving in
+    let added = c.in_ok-go_on-in-Either.ensures in
+    let step = goes-move code old mid c.requires.sound number one (Either f to) next next f at moving (inl refl, refl) added in
+    let extended = moving-extends code old.points.keys mid.points.keys step.points number (Either f to) next moving in
+    let is = slice_get-extends old.points.keys mid.points.keys step.points number one at in
+    let same = c.in_ok-other-in-Either.ensures in
+    let jump = goes-move code mid new step.sound number one (Either f to) next to other is extended (inr refl, same) c.in_ok-go_on-in-Either-2.ensures in
+    covers-at code new.points.keys old.points.keys old.exits.items new.exits.items number one c.args.moves (Either f to) next at c.in-Either.is
+    (covers-either code new.points.keys old.exits.items new.exits.items one next f to
+    (has-extends mid.points.keys new.points.keys jump.points (point_of one.procedure next f) added.there)
+    (subst (λ g. Has new.points.keys (point_of one.procedure to g)) same c.in_ok-go_on-in-Either-2.ensures.there))
+
+pub returns-in_ok-call-in-Call-clause-covers : goal.returns-in_ok-call-in-Call-clause-covers
+returns-in_ok-call-in-Call-clause-covers g c =
+    let code = g.C.Code.code c.args.program.now in
+    let old = c.args.self.now in
+    let number = c.args.number in
+    let next = c.args.next in
+    let one = c.index.result.now in
+    let at = c.index.ensures in
+    let new = c.call.new.self in
+    let f = c.in-Call._frame in
+    let target = c.in-Call.target in
+    let made = c.new-call.ensures in
+    let done = c.in_ok-call-in-Call.ensures in
+    let entered = subst (λ (call : CallingPoint). Has new.points.keys (point_of (Entry call.target) call.target entry_frame)) made done.there in
+    let back = subst (λ (call : CallingPoint). BacksFrom code old.points.keys new.points.keys old.exits.items (length old.exits.items) call) made done.back in
+    covers-at code new.points.keys old.points.keys old.exits.items new.exits.items number one c.args.moves (Call f target) next at c.in-Call.is
+    (covers-call code new.points.keys old.exits.items new.exits.items one next target entered
+    (λ taken h. backs-all code old.points.keys new.points.keys old.exits.items (record { point = number; target = target; next = next }) one back at taken h) f)
+
+pub returns-in_ok-call-in-MaybeCall-clause-covers : goal.returns-in_ok-call-in-MaybeCall-clause-covers
+returns-in_ok-call-in-MaybeCall-clause-covers g c =
+    let code = g.C.Code.code c.args.program.now in
+    let old = c.args.self.now in
+    let number = c.args.number in
+    let next = c.args.next in
+    let one = c.index.result.now in
+    let at = c.index.ensures in
+    let mid = c.go_on-in-MaybeCall.new.self in
+    let f = c.in-MaybeCall.frame in
+    let target = c.in-MaybeCall.target in
+    let moving = subst (λ moves. IsMovingAt code old.points.keys number moves next) c.in-MaybeCall.is c.requires.moving in
+    let added = c.in_ok-go_on-in-MaybeCall.ensures in
+    let step = goes-move code old mid c.requires.sound number one (MaybeCall f target) next next f at moving (refl, refl) added in
+    let new = c.call-in-MaybeCall.new.self in
+    let made = c.new-call-in-MaybeCall.ensures in
+    let done = c.in_ok-call-in-MaybeCall.ensures in
+    let is = slice_get-extends old.points.keys mid.points.keys step.points number one at in
+    let entered = subst (λ (call : CallingPoint). Has new.points.keys (point_of (Entry call.target) call.target entry_frame)) made done.there in
+    let all_back = subst (λ (call : CallingPoint). BacksFrom code mid.points.keys new.points.keys mid.exits.items (length mid.exits.items) call) made done.back in
+    let back = subst (λ exits. BacksFrom code mid.points.keys new.points.keys exits (length exits) (record { point = number; target = target; next = next })) added.exits all_back in
+    covers-at code new.points.keys old.points.keys old.exits.items new.exits.items number one c.args.moves (MaybeCall f target) next at c.in-MaybeCall.is
+    (covers-maybe_call code new.points.keys old.exits.items new.exits.items one next target entered
+    (λ taken h. backs-all code mid.points.keys new.points.keys old.exits.items (record { point = number; target = target; next = next }) one back is taken h) f
+    (has-extends mid.points.keys new.points.keys done.grows.points (point_of one.procedure next f) added.there))
+
+pub returns-in_ok-leave-in-MaybeReturn-clause-grows : goal.returns-in_ok-leave-in-MaybeReturn-clause-grows
+returns-in_ok-leave-in-MaybeReturn-clause-grows g c =
+    let code = g.C.Code.code c.args.program.now in
+    let old = c.args.self.now in
+    let number = c.args.number in
+    let next = c.args.next in
+    let one = c.index.result.now in
+    let at = c.index.ensures in
+    let mid = c.go_on-in-MaybeReturn.new.self in
+    let f = c.in-MaybeReturn.frame in
+    let taken = c.in-MaybeReturn.taken in
+    let moving = subst (λ moves. IsMovingAt code old.points.keys number moves next) c.in-MaybeReturn.is c.requires.moving in
+    let added = c.in_ok-go_on-in-MaybeReturn.ensures in
+    let step = goes-move code old mid c.requires.sound number one (MaybeReturn f taken) next next f at moving (refl, refl) added in
+    grows-on code old mid c.leave-in-MaybeReturn.new.self step c.in_ok-leave-in-MaybeReturn.ensures.grows
+
+pub returns-in_ok-leave-in-MaybeReturn-clause-covers : goal.returns-in_ok-leave-in-MaybeReturn-clause-covers
+returns-in_ok-leave-in-MaybeReturn-clause-covers g c =
+    let code = g.C.Code.code c.args.program.now in
+    let old = c.args.self.now in
+    let number = c.args.number in
+    let next = c.args.next in
+    let one = c.index.result.now in
+    let at = c.index.ensures in
+    let mid = c.go_on-in-MaybeReturn.new.self in
+    let f = c.in-MaybeReturn.frame in
+    let taken = c.in-MaybeReturn.taken in
+    let moving = subst (λ moves. IsMovingAt code old.points.keys number moves next) c.in-MaybeReturn.is c.requires.moving in
+    let added = c.in_ok-go_on-in-MaybeReturn.ensures in
+    let step = goes-move code old mid c.requires.sound number one (MaybeReturn f taken) next next f at moving (refl, refl) added in
+    let new = c.leave-in-MaybeReturn.new.self in
+    let done = c.in_ok-leave-in-MaybeReturn.ensures in
+    let left = subst (λ (exit : Exit). HasExit new.exits.items exit.procedure exit.taken) c.new-exit-in-MaybeReturn.ensures done.there in
+    covers-at code new.points.keys old.points.keys old.exits.items new.exits.items number one c.args.moves (MaybeReturn f taken) next at c.in-MaybeReturn.is
+    (covers-maybe_return code new.points.keys old.exits.items new.exits.items one next taken left f
+    (has-extends mid.points.keys new.points.keys done.grows.points (point_of one.procedure next f) added.there))

@@ -1,0 +1,47 @@
+-- Points of a search that show a refusal, and that none of them does. (This project's own.)
+use Rattle.std.specs.Prelude.{◌≡◌, ℕ, List, slice_get, Some}
+use Rattle.flow80.specs.Code.{Code}
+use Rattle.flow80.specs.Walks.{Calls}
+use Rattle.explain80.specs.declared.point.Point.{Point}
+use Rattle.explain80.specs.declared.evidence.Fault.{Fault}
+use Rattle.explain80.specs.declared.evidence.Fault.TheVariants.{Look, Frame}
+use Rattle.explain80.specs.declared.evidence.Clash.{Clash}
+use Rattle.explain80.specs.declared.evidence.Clash.TheVariants.{Heights, Returns, Shortage}
+use Rattle.explain80.specs.declared.evidence.Pair.{Pair}
+use Rattle.explain80.specs.Shows.{LooksWrongAt, MovesWrongAt, DifferAt, UnevenAt, ShortAt}
+
+-- the instruction at the address may not be executed at this point
+abbrev pub FaultAt : Code → ℕ → Fault → Point → Type 0
+FaultAt code at (Look fault) point = LooksWrongAt code at fault point
+FaultAt code at (Frame fault) point = MovesWrongAt code at fault point
+
+-- two points clash so, the first of them at an address
+abbrev pub ClashAt : Code → ℕ → Clash → (one other : Point) → Type 0
+ClashAt code at Heights one other = DifferAt at one other
+ClashAt code at Returns one other = UnevenAt code at one other
+ClashAt code at Shortage one other = ShortAt code at one other
+
+-- a point calls an address
+pub record CallsTo (code : Code) (point : Point) (target : ℕ) : Type 0 where
+  pub next : ℕ
+  pub call : Calls code point.procedure point.at point.frame target next
+
+-- there is this at the point of this number; there is at none of the points
+pub record IsOne (points : List Point) (There : Point → Type 0) (number : ℕ) : Type 0 where
+  pub point : Point
+  pub is : slice_get points number ≡ Some point
+  pub there : There point
+
+pub record IsNoOne (points : List Point) (There : Point → Type 0) : Type 0 where
+  pub none : (number : ℕ) (point : Point) → slice_get points number ≡ Some point → There point → ⊥
+
+-- the same of two points
+pub record ArePair (points : List Point) (There : Point → Point → Type 0) (pair : Pair) : Type 0 where
+  pub one : Point
+  pub other : Point
+  pub is_one : slice_get points pair.one ≡ Some one
+  pub is_other : slice_get points pair.other ≡ Some other
+  pub there : There one other
+
+pub record AreNoPair (points : List Point) (There : Point → Point → Type 0) : Type 0 where
+  pub none : (i j : ℕ) (one other : Point) → slice_get points i ≡ Some one → slice_get points j ≡ Some other → There one other → ⊥

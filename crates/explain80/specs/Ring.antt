@@ -1,0 +1,51 @@
+-- Calls that lead from a first one back to its procedure. (This project's own.)
+use Rattle.std.specs.Prelude.{◌≡◌, ◌<◌, ◌⊎◌, ℕ, List, [], ◌∷◌, Contains, Some, reverse, slice_get}
+use Rattle.bounds80.specs.declared.procedure.Procedure.{Procedure}
+use Rattle.bounds80.specs.declared.procedure.Procedure.TheVariants.{Entry}
+use Rattle.explain80.specs.declared.route.Call.{Call}
+use Rattle.explain80.specs.declared.ring.Reach.{Reach}
+
+-- calls of a list lead from one procedure to another
+abbrev pub Chained : List Call → Procedure → List Call → Procedure → Type 0
+Chained calls p [] q = p ≡ q
+Chained calls p (call ∷ rest) q = (call.caller ≡ p) × Contains calls call × Chained calls (Entry call.target) rest q
+
+-- calls of a list lead, by a first one, from its procedure to another
+pub record IsLed (calls : List Call) (first : Call) (led : List Call) (q : Procedure) : Type 0 where
+  pub rest : List Call
+  pub is : led ≡ first ∷ rest
+  pub chained : Chained calls first.caller (first ∷ rest) q
+
+-- they lead back to the first one's procedure
+abbrev pub IsRingOf : List Call → Call → List Call → Type 0
+IsRingOf calls first ring = IsLed calls first ring first.caller
+
+-- a call is of the procedure that an earlier one enters
+pub record IsFurther (calls : List Call) (reached : List Reach) (n : ℕ) (reach : Reach) : Type 0 where
+  pub earlier : reach.from < n
+  pub before : Reach
+  pub is : slice_get reached reach.from ≡ Some before
+  pub caller : reach.call.caller ≡ Entry before.call.target
+  pub known : Contains calls reach.call
+
+-- each is the first call, or of the procedure that an earlier one enters
+pub record AreReached (calls : List Call) (first : Call) (reached : List Reach) : Type 0 where
+  pub each : (n : ℕ) (reach : Reach) → slice_get reached n ≡ Some reach → ((n ≡ 0) × (reach.call ≡ first)) ⊎ IsFurther calls reached n reach
+
+-- each but the first one names an earlier one
+pub record AreLinked (reached : List Reach) : Type 0 where
+  pub earlier : (n : ℕ) (reach : Reach) → slice_get reached n ≡ Some reach → 0 < n → reach.from < n
+
+-- the call of this number enters the procedure at an address
+pub record EntersAt (reached : List Reach) (n target : ℕ) : Type 0 where
+  pub reach : Reach
+  pub is : slice_get reached n ≡ Some reach
+  pub enters : reach.call.target ≡ target
+
+-- a list of calls, last first, leads from the call of a number to a procedure
+pub record IsLedBack (calls : List Call) (reached : List Reach) (n : ℕ) (back : List Call) (q : Procedure) : Type 0 where
+  pub reach : Reach
+  pub is : slice_get reached n ≡ Some reach
+  pub rest : List Call
+  pub reversed : reverse back ≡ reach.call ∷ rest
+  pub chained : Chained calls (Entry reach.call.target) rest q

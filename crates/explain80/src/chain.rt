@@ -1,0 +1,265 @@
+//! The chain of calls that a stack bound adds up.
+
+ghost use Rattle.std.specs.Prelude.{◌≡◌, ◌↔◌, ◌++◌, ◌∷◌, [], pos, true, All, IfOk, IfSome, OnOk};
+ghost use Rattle.bounds80.specs.Chains.{IsModest, bytes_of};
+ghost use Rattle.bounds80.specs.declared.procedure.Procedure.TheVariants.{Main};
+ghost use Rattle.frames80.specs.Calls.{depth_of};
+ghost use Rattle.flow80.specs.Walks.{role_of as role_in};
+ghost use Rattle.verify80.specs.Looking.{code_of};
+ghost use Rattle.explain80.specs.Chains.{CallsAt, ChainsTo, EndsWith, IsNextCall};
+ghost use Rattle.explain80.specs.Search.{IsSound};
+
+use crate::fault::{Stop, Unexplained};
+use crate::looked::{MOST_WORDS, role_of};
+use crate::point::Point;
+use crate::search::Search;
+use bounds80::{Bounds, BoundsFault, CallSite, Depth, find_bounds};
+use flow80::{Code, Procedure};
+use frames80::depth;
+use image80::Image;
+use std::alloc::{AllocError, Global};
+use verify80::ImageCode;
+
+/// The most calls that bounds are found of.
+const MOST_CALLS: usize = 262_144;
+
+/// How many procedures there may be: one at each address, and the main program.
+const PROCEDURES: usize = 65_537;
+
+/// A chain of calls, and where the last procedure of it stands.
+#[derive(Debug, Drop)]
+pub struct Chain {
+    /// The calls, from the main program's on, each with the bytes that its caller has on the stack there. Two bytes more are for
+    /// each return address.
+    pub calls: Vec<CallSite>,
+    /// Where the last procedure has the rest.
+    pub last: Standing,
+}
+
+/// What a procedure has on the stack at an address.
+#[derive(Clone, Copy, Debug)]
+pub struct Standing {
+    /// The procedure.
+    pub procedure: Procedure,
+    /// The address.
+    pub at: u16,
+    /// The bytes that it has on the stack there, without its return address; negative where it has taken more words than it has.
+    pub depth: i64,
+}
+
+impl Standing {
+    /// A procedure stands at an address with a depth.
+    fn new(procedure: Procedure, at: u16, depth: i64) -> Standing
+        ensures { result ≡ record { procedure = procedure; at = at; depth = depth } }
+    {
+        Standing {
+            procedure,
+            at,
+            depth,
+        }
+    }
+}
+
+/// The call of a point with a depth.
+fn site_of(caller: &Point, depth: i64, target: u16) -> CallSite
+    ensures { result ≡ record { caller = caller.now.procedure; at = caller.now.at; depth = depth; target = target } }
+{
+    CallSite {
+        caller: caller.procedure,
+        at: caller.at,
+        depth,
+        target,
+    }
+}
+
+/// A chain of calls whose bytes on the stack, with two for each return address, come to a sum: to the bound of the main program,
+/// as `verify` reports it, or as the refusal `StackTooSmall` names it. The limit is that of [`explain`](crate::explain).
+///
+/// # Errors
+/// `NotShown` where the bound is another number, or a procedure calls itself. `Limit` where the limit was met before. `Memory` where
+/// memory runs out.
+pub fn find_chain(
+    alloc: Global,
+    image: &Image,
+    bytes: u64,
+    limit: usize,
+) -> Result<Chain, Unexplained>
+    ensures { IfOk result (ChainsTo (code_of image.now) bytes) }
+{
+    let code = ImageCode::new(alloc, image)?;
+    chain_of(alloc, &code, bytes, limit)
+}
+
+/// A chain of a program's calls that comes to a sum.
+fn chain_of<C: Code>(
+    alloc: Global,
+    program: &C,
+    bytes: u64,
+    limit: usize,
+) -> Result<Chain, Unexplained>
+    ensures { IfOk result (ChainsTo (C.code program.now) bytes) }
+{
+    let mut search = Search::new(alloc, program)?;
+    if !search.grow(alloc, program, limit)? {
+        return Err(Unexplained::Limit);
+    }
+    match search.chain_to(alloc, program, bytes)? {
+        Some(chain) => Ok(chain),
+        None => Err(Unexplained::NotShown),
+    }
+}
+
+impl Search {
+    /// A chain that comes to a sum, where that is the bound by the points that were found.
+    fn chain_to<C: Code>(
+        &self,
+        alloc: Global,
+        program: &C,
+        bytes: u64,
+    ) -> Result<Option<Chain>, Stop>
+        requires { IsSound (C.code program.now) self.now }
+        ensures { IfOk result (λ chain. IfSome chain (ChainsTo (C.code program.now) bytes)) }
+    {
+        let depths = self.depths(alloc, program)?;
+        let sites = self.sites(alloc, program)?;
+        if sites.len() > MOST_CALLS {
+            return Err(Stop::Limit);
+        }
+        let bounds = match find_bounds(alloc, &depths, &sites) {
+            Ok(bounds) => bounds,
+            Err(BoundsFault::Recursion(_)) => return Ok(None),
+            Err(BoundsFault::Memory) => return Err(Stop::Memory),
+        };
+        if bounds.get(Procedure::Main) != bytes {
+            return Ok(None);
+        }
+        self.chain_by(alloc, program, &sites, &bounds)
+    }
+
+    /// The depth of each point.
+    fn depths<C: Code>(&self, alloc: Global, program: &C) -> Result<Vec<Depth>, Stop>
+        ensures { IfOk result (λ depths. All (λ d. IsModest d.depth) depths.items) }
+    {
+        let mut depths = Vec::new(alloc);
+        for point in self.points.as_slice() {
+            let depth = depth_at(program, point)?;
+            let procedure = point.procedure;
+            push(&mut depths, Depth { procedure, depth })?;
+        }
+        Ok(depths)
+    }
+
+    /// The calls, with the depth of each.
+    fn sites<C: Code>(&self, alloc: Global, program: &C) -> Result<Vec<CallSite>, Stop>
+        requires { IsSound (C.code program.now) self.now }
+        ensures calls { IfOk result (λ sites. All (CallsAt (C.code program.now)) sites.items) }
+        ensures modest { IfOk result (λ sites. All (λ s. IsModest s.depth) sites.items) }
+    {
+        let mut sites = Vec::new(alloc);
+        for calling in &self.calls {
+            let caller = &self.points[calling.point];
+            let depth = depth_at(program, caller)?;
+            push(&mut sites, site_of(caller, depth, calling.target))?;
+        }
+        Ok(sites)
+    }
+
+    /// The chain that the bounds add up.
+    fn chain_by<C: Code>(
+        &self,
+        alloc: Global,
+        program: &C,
+        sites: &[CallSite],
+        bounds: &Bounds,
+    ) -> Result<Option<Chain>, Stop>
+        requires sound { IsSound (C.code program.now) self.now }
+        requires calls { All (CallsAt (C.code program.now)) sites.now }
+        ensures { IfOk result (λ chain. IfSome chain (ChainsTo (C.code program.now) (bytes_of bounds.now Main))) }
+    {
+        let mut calls = Vec::new(alloc);
+        let mut procedure = Procedure::Main;
+        for _ in 0..PROCEDURES {
+            if let Some(last) = self.last_of(program, procedure, bounds.get(procedure))? {
+                return Ok(Some(Chain { calls, last }));
+            }
+            let Some(call) = next_call(sites, bounds, procedure) else {
+                return Ok(None);
+            };
+            push(&mut calls, call)?;
+            procedure = Procedure::Entry(call.target);
+        }
+        Ok(None)
+    }
+
+    /// Where a procedure has so many bytes on the stack.
+    fn last_of<C: Code>(
+        &self,
+        program: &C,
+        procedure: Procedure,
+        bytes: u64,
+    ) -> Result<Option<Standing>, Stop>
+        requires { IsSound (C.code program.now) self.now }
+        ensures { IfOk result (λ last. IfSome last (EndsWith (C.code program.now) procedure bytes)) }
+    {
+        for number in 0..self.points.len() {
+            let point = &self.points[number];
+            if is_of(point, procedure) {
+                let depth = depth_at(program, point)?;
+                if comes_to(depth, bytes) {
+                    return Ok(Some(Standing::new(procedure, point.at, depth)));
+                }
+            }
+        }
+        Ok(None)
+    }
+}
+
+/// Appends a value.
+fn push<T: Copy>(values: &mut Vec<T>, value: T) -> Result<(), AllocError>
+    ensures { OnOk result (values.new.items ≡ values.old.items ++ value ∷ []) }
+{
+    values.push(value)?;
+    Ok(())
+}
+
+/// Whether a point is of a procedure.
+fn is_of(point: &Point, procedure: Procedure) -> bool
+    ensures { (result ≡ true) ↔ (point.now.procedure ≡ procedure) }
+{
+    point.procedure == procedure
+}
+
+/// Whether a depth is so many bytes.
+fn comes_to(depth: i64, bytes: u64) -> bool
+    ensures { result ≡ true → pos bytes ≡ depth }
+{
+    i128::from(depth) == i128::from(bytes)
+}
+
+/// The depth of a point.
+///
+/// # Errors
+/// `Limit` where its frame has more than 1,000,000 words, or as many taken.
+fn depth_at<C: Code>(program: &C, point: &Point) -> Result<i64, Stop>
+    ensures depth { IfOk result (λ d. d ≡ depth_of (role_in (C.code program.now) point.now.procedure) point.now.frame) }
+    ensures modest { IfOk result IsModest }
+{
+    if point.frame.taken as usize > MOST_WORDS || point.frame.words.len() > MOST_WORDS {
+        return Err(Stop::Limit);
+    }
+    Ok(depth(&point.frame, role_of(program, point.procedure)))
+}
+
+/// A call of a procedure with which its callee's bytes come to the procedure's.
+fn next_call(sites: &[CallSite], bounds: &Bounds, procedure: Procedure) -> Option<CallSite>
+    ensures { IfSome result (IsNextCall sites.now bounds.now procedure) }
+{
+    for site in sites {
+        let below = i128::from(bounds.get(Procedure::Entry(site.target)));
+        let sum = i128::from(site.depth) + 2 + below;
+        if site.caller == procedure && i128::from(bounds.get(procedure)) == sum {
+            return Some(*site);
+        }
+    }
+    None
+}

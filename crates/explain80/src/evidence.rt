@@ -1,0 +1,275 @@
+//! Points of a search that show a refusal.
+
+ghost use Rattle.std.specs.Prelude.{◌≡◌, ◌↔◌, ℕ, true, IfOk, IfSome, IfNone};
+ghost use Rattle.frames80.specs.Calls.{room};
+ghost use Rattle.flow80.specs.Walks.{Returns, called, returning};
+ghost use Rattle.explain80.specs.Evidence.{ArePair, AreNoPair, CallsTo, ClashAt, FaultAt, IsOne, IsNoOne};
+ghost use Rattle.explain80.specs.Shows.{DifferAt, ShortAt, UnevenAt};
+
+use crate::fault::Stop;
+use crate::looked::{Looked, look_at, role_of};
+use crate::point::Point;
+use flow80::{Code, LookFault, Procedure};
+use frames80::{Frame, FrameFault, Moves, Role};
+use std::alloc::Global;
+
+/// Why an instruction may not be executed.
+#[derive(Clone, Copy)]
+pub(crate) enum Fault {
+    /// With no frame.
+    Look(LookFault),
+    /// With the frame that it is reached with.
+    Frame(FrameFault),
+}
+
+/// How two points clash.
+#[derive(Clone, Copy)]
+pub(crate) enum Clash {
+    /// They are at one address of one procedure, and their counts differ.
+    Heights,
+    /// They are returns of one procedure, with other numbers of words taken.
+    Returns,
+    /// One is a call, and the other, of its callee, has taken more words than the caller has.
+    Shortage,
+}
+
+/// Two points of a search, by their numbers.
+#[derive(Clone, Copy)]
+pub(crate) struct Pair {
+    pub(crate) one: usize,
+    pub(crate) other: usize,
+}
+
+/// The first point where the instruction at an address may not be executed for this reason.
+///
+/// # Errors
+/// `Limit` where a frame has more than 1,000,000 words; `Memory` where memory runs out.
+pub(crate) fn find_fault<C: Code>(
+    alloc: Global,
+    program: &C,
+    points: &[Point],
+    at: u16,
+    fault: Fault,
+) -> Result<Option<usize>, Stop>
+    ensures found { IfOk result (λ found. IfSome found (λ number. IsOne points.now (FaultAt (C.code program.now) at fault) number)) }
+    ensures none { IfOk result (λ found. IfNone found (IsNoOne points.now (FaultAt (C.code program.now) at fault))) }
+{
+    for number in 0..points.len() {
+        if is_fault(alloc, program, &points[number], at, fault)? {
+            return Ok(Some(number));
+        }
+    }
+    Ok(None)
+}
+
+/// Whether the instruction at an address may not be executed at a point for this reason.
+fn is_fault<C: Code>(
+    alloc: Global,
+    program: &C,
+    point: &Point,
+    at: u16,
+    fault: Fault,
+) -> Result<bool, Stop>
+    ensures yes { IfOk result (λ r. r ≡ true → FaultAt (C.code program.now) at fault point.now) }
+    ensures no { IfOk result (λ r. FaultAt (C.code program.now) at fault point.now → r ≡ true) }
+{
+    if point.at != at {
+        return Ok(false);
+    }
+    Ok(match (look_at(alloc, program, point)?, fault) {
+        (Looked::Wrong(found), Fault::Look(sought)) => is_same_look(found, sought),
+        (Looked::Stuck(found), Fault::Frame(sought)) => found == sought,
+        _ => false,
+    })
+}
+
+/// Whether two faults are the same.
+fn is_same_look(one: LookFault, other: LookFault) -> bool
+    ensures { (result ≡ true) ↔ (one ≡ other) }
+{
+    match one {
+        LookFault::Outside => matches!(other, LookFault::Outside),
+        LookFault::Unused => matches!(other, LookFault::Unused),
+        LookFault::EnablesInterrupts => matches!(other, LookFault::EnablesInterrupts),
+        LookFault::Pchl => matches!(other, LookFault::Pchl),
+        LookFault::DirectStore => matches!(other, LookFault::DirectStore),
+    }
+}
+
+/// The first two points that clash so, the first of them at an address.
+///
+/// # Errors
+/// `Limit` where a frame has more than 1,000,000 words; `Memory` where memory runs out.
+pub(crate) fn find_clash<C: Code>(
+    alloc: Global,
+    program: &C,
+    points: &[Point],
+    at: u16,
+    clash: Clash,
+) -> Result<Option<Pair>, Stop>
+    ensures found { IfOk result (λ found. IfSome found (ArePair points.now (ClashAt (C.code program.now) at clash))) }
+    ensures none { IfOk result (λ found. IfNone found (AreNoPair points.now (ClashAt (C.code program.now) at clash))) }
+{
+    for one in 0..points.len() {
+        if let Some(other) = find_other(alloc, program, points, &points[one], at, clash)? {
+            return Ok(Some(Pair { one, other }));
+        }
+    }
+    Ok(None)
+}
+
+/// The first point that clashes so with one at an address.
+fn find_other<C: Code>(
+    alloc: Global,
+    program: &C,
+    points: &[Point],
+    one: &Point,
+    at: u16,
+    clash: Clash,
+) -> Result<Option<usize>, Stop>
+    ensures found { IfOk result (λ found. IfSome found (IsOne points.now (ClashAt (C.code program.now) at clash one.now))) }
+    ensures none { IfOk result (λ found. IfNone found (IsNoOne points.now (ClashAt (C.code program.now) at clash one.now))) }
+{
+    if one.at != at {
+        return Ok(None);
+    }
+    for other in 0..points.len() {
+        if is_clash(alloc, program, one, &points[other], clash)? {
+            return Ok(Some(other));
+        }
+    }
+    Ok(None)
+}
+
+/// Whether two points clash so.
+fn is_clash<C: Code>(
+    alloc: Global,
+    program: &C,
+    one: &Point,
+    other: &Point,
+    clash: Clash,
+) -> Result<bool, Stop>
+    ensures yes { IfOk result (λ r. r ≡ true → ClashAt (C.code program.now) one.now.at clash one.now other.now) }
+    ensures no { IfOk result (λ r. ClashAt (C.code program.now) one.now.at clash one.now other.now → r ≡ true) }
+{
+    match clash {
+        Clash::Heights => Ok(do_heights_differ(one, other)),
+        Clash::Returns => do_returns_differ(alloc, program, one, other),
+        Clash::Shortage => is_shortage(alloc, program, one, other),
+    }
+}
+
+/// Whether two points are at one address of one procedure, and their counts differ.
+fn do_heights_differ(one: &Point, other: &Point) -> bool
+    ensures { (result ≡ true) ↔ DifferAt one.now.at one.now other.now }
+{
+    other.procedure == one.procedure
+        && other.at == one.at
+        && (other.frame.taken != one.frame.taken
+            || other.frame.words.len() != one.frame.words.len())
+}
+
+/// Whether two points return from one procedure with other numbers of words taken.
+fn do_returns_differ<C: Code>(
+    alloc: Global,
+    program: &C,
+    one: &Point,
+    other: &Point,
+) -> Result<bool, Stop>
+    ensures yes { IfOk result (λ r. r ≡ true → UnevenAt (C.code program.now) one.now.at one.now other.now) }
+    ensures no { IfOk result (λ r. UnevenAt (C.code program.now) one.now.at one.now other.now → r ≡ true) }
+{
+    if !are_of_one(one, other) {
+        return Ok(false);
+    }
+    let Some(taken) = words_taken(alloc, program, one)? else {
+        return Ok(false);
+    };
+    let Some(other_taken) = words_taken(alloc, program, other)? else {
+        return Ok(false);
+    };
+    Ok(taken != other_taken)
+}
+
+/// Whether two points are of one procedure.
+fn are_of_one(one: &Point, other: &Point) -> bool
+    ensures { (result ≡ true) ↔ (other.now.procedure ≡ one.now.procedure) }
+{
+    other.procedure == one.procedure
+}
+
+/// Whether one point calls, and the other, of its callee, has taken more words than the caller has.
+fn is_shortage<C: Code>(
+    alloc: Global,
+    program: &C,
+    one: &Point,
+    other: &Point,
+) -> Result<bool, Stop>
+    ensures yes { IfOk result (λ r. r ≡ true → ShortAt (C.code program.now) one.now.at one.now other.now) }
+    ensures no { IfOk result (λ r. ShortAt (C.code program.now) one.now.at one.now other.now → r ≡ true) }
+{
+    if other.frame.taken == 0 {
+        return Ok(false);
+    }
+    let Some(target) = target_called(alloc, program, one)? else {
+        return Ok(false);
+    };
+    let room = room(&one.frame, role_of(program, one.procedure));
+    Ok(other.procedure == Procedure::Entry(target) && room < other.frame.taken as usize)
+}
+
+/// How many words a callee may take: those above the bottom word, and in the main program all.
+fn room(frame: &Frame, role: Role) -> usize
+    ensures { result ≡ room role frame.now.words }
+{
+    match role {
+        Role::Main { .. } => frame.words.len(),
+        Role::Entry => frame.words.len().saturating_sub(1),
+    }
+}
+
+/// How many words a point's procedure has taken where the point returns; `None` where it doesn't.
+fn words_taken<C: Code>(alloc: Global, program: &C, point: &Point) -> Result<Option<u32>, Stop>
+    ensures returns { IfOk result (λ r. IfSome r (Returns (C.code program.now) point.now.procedure point.now.at point.now.frame)) }
+    ensures none { IfOk result (λ r. IfNone r ((taken : ℕ) → Returns (C.code program.now) point.now.procedure point.now.at point.now.frame taken → ⊥)) }
+{
+    match look_at(alloc, program, point)? {
+        Looked::Moved(moves, _next) => Ok(returning(&moves)),
+        Looked::Wrong(_fault) => Ok(None),
+        Looked::Stuck(_fault) => Ok(None),
+    }
+}
+
+/// With how many words taken a move returns; `None` where it doesn't.
+fn returning(moves: &Moves) -> Option<u32>
+    ensures { result ≡ returning moves.now }
+{
+    match moves {
+        Moves::Return(taken) => Some(*taken),
+        Moves::MaybeReturn(_, taken) => Some(*taken),
+        _ => None,
+    }
+}
+
+/// The address that a point calls; `None` where it doesn't call.
+fn target_called<C: Code>(alloc: Global, program: &C, point: &Point) -> Result<Option<u16>, Stop>
+    ensures calls { IfOk result (λ r. IfSome r (CallsTo (C.code program.now) point.now)) }
+    ensures none { IfOk result (λ r. IfNone r ((target : ℕ) → CallsTo (C.code program.now) point.now target → ⊥)) }
+{
+    match look_at(alloc, program, point)? {
+        Looked::Moved(moves, _next) => Ok(called(&moves)),
+        Looked::Wrong(_fault) => Ok(None),
+        Looked::Stuck(_fault) => Ok(None),
+    }
+}
+
+/// The address that a move calls; `None` where it doesn't call.
+fn called(moves: &Moves) -> Option<u16>
+    ensures { result ≡ called moves.now }
+{
+    match moves {
+        Moves::Call(_, target) => Some(*target),
+        Moves::MaybeCall(_, target) => Some(*target),
+        _ => None,
+    }
+}

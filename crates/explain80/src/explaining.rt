@@ -1,0 +1,118 @@
+//! A refusal is explained.
+
+ghost use Rattle.std.specs.Prelude.{◌≡◌, IfOk, Err};
+ghost use Rattle.flow80.specs.Faults.{Holds};
+ghost use Rattle.verify80.specs.Looking.{code_of};
+ghost use Rattle.explain80.specs.declared.fault.Unexplained.TheVariants.{NotShown};
+ghost use Rattle.explain80.specs.Shows.{ByRing, Shows};
+ghost use Rattle.explain80.specs.Sought.{IsEvidence, IsNotShown, NoWalksShow, ShowsSought};
+ghost use Rattle.explain80.specs.Search.{IsSound};
+ghost use Rattle.flow80.specs.Code.{Code as CodeSeen};
+
+use crate::explanation::Explanation;
+use crate::fault::Unexplained;
+use crate::search::Search;
+use crate::sought::{Evidence, Sought};
+use flow80::{Code, Refusal};
+use image80::Image;
+use std::alloc::Global;
+use verify80::ImageCode;
+
+/// At how many points and words a search is looked through first.
+const FIRST_SIZE: usize = 1_024;
+
+/// The ways that show a refusal: the walks of the image's program are followed one by one, breadth first, and no frames are merged.
+///
+/// For `Recursion` it is the calls that lead back to a procedure. `StackTooSmall` has a chain of calls instead of a way:
+/// [`find_chain`](crate::find_chain). The limit is on the points that are followed and the words of their frames together.
+///
+/// # Errors
+/// `NotShown` where every walk was followed to its end and none shows the refusal, which then doesn't hold; for `StackTooSmall`,
+/// `TooManyPoints` and `Memory`, which no ways show; and for `Recursion` where no calls are found that lead back. `Limit` where the
+/// limit was met before. `Memory` where memory runs out.
+pub fn explain(
+    alloc: Global,
+    image: &Image,
+    refusal: Refusal,
+    limit: usize,
+) -> Result<Explanation, Unexplained>
+    ensures shown { IfOk result (Shows (code_of image.now) refusal) }
+    ensures none { result ≡ Err NotShown → Holds (code_of image.now) refusal → IsNotShown refusal }
+{
+    let code = ImageCode::new(alloc, image)?;
+    explain_code(alloc, &code, refusal, limit)
+}
+
+/// The ways that show a refusal of a program.
+fn explain_code<C: Code>(
+    alloc: Global,
+    program: &C,
+    refusal: Refusal,
+    limit: usize,
+) -> Result<Explanation, Unexplained>
+    ensures shown { IfOk result (Shows (C.code program.now) refusal) }
+    ensures none { result ≡ Err NotShown → Holds (C.code program.now) refusal → IsNotShown refusal }
+{
+    if let Refusal::Recursion(at) = refusal {
+        return explain_recursion(alloc, program, at, limit);
+    }
+    match Sought::of(refusal) {
+        Some(sought) => explain_sought(alloc, program, sought, limit),
+        None => Err(Unexplained::NotShown),
+    }
+}
+
+/// The ring of a call at an address that leads back to its own procedure.
+fn explain_recursion<C: Code>(
+    alloc: Global,
+    program: &C,
+    at: u16,
+    limit: usize,
+) -> Result<Explanation, Unexplained>
+    ensures { IfOk result (ByRing (C.code program.now) at) }
+{
+    let mut search = Search::new(alloc, program)?;
+    let mut size = FIRST_SIZE;
+    for _ in 0..u64::BITS {
+        let is_whole = search.grow(alloc, program, size)?;
+        if let Some(shown) = search.ring(alloc, at)? {
+            return Ok(shown);
+        }
+        if is_whole {
+            return Err(Unexplained::NotShown);
+        }
+        if size >= limit {
+            break;
+        }
+        size = size.saturating_mul(2);
+    }
+    Err(Unexplained::Limit)
+}
+
+/// The ways that show what is sought.
+fn explain_sought<C: Code>(
+    alloc: Global,
+    program: &C,
+    sought: Sought,
+    limit: usize,
+) -> Result<Explanation, Unexplained>
+    ensures shown { IfOk result (ShowsSought (C.code program.now) sought) }
+    ensures none { result ≡ Err NotShown → NoWalksShow (C.code program.now) sought.at sought.kind }
+{
+    let mut search = Search::new(alloc, program)?;
+    let mut size = FIRST_SIZE;
+    for _ in 0..u64::BITS {
+        let is_whole = search.grow(alloc, program, size)?;
+        if let Some(evidence) = sought.find(alloc, program, search.points.as_slice())? {
+            return Ok(search.show(alloc, evidence)?);
+        }
+        if is_whole && search.is_closed(alloc, program)? {
+            return Err(Unexplained::NotShown);
+        }
+        if size >= limit {
+            break;
+        }
+        size = size.saturating_mul(2);
+    }
+    Err(Unexplained::Limit)
+}

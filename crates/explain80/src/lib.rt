@@ -1,0 +1,40 @@
+//! Explanations: why a program is refused, shown by ways through its procedures that lead to the fault.
+//!
+//! It is a second, plain program beside the verifier's: it follows the walks one by one, breadth first, and merges no frames. What
+//! it answers is proved to show the refusal that it was asked for.
+//!
+//! | Item | What it is |
+//! |---|---|
+//! | [`explain`] | the ways that show a refusal |
+//! | [`find_chain`], [`Chain`], [`CallSite`], [`Standing`] | the calls whose bytes on the stack come to the bound |
+//! | [`Explanation`], [`Route`], [`Call`], [`Point`] | the ways, the calls that lead to them, and their points |
+//! | [`Unexplained`] | why there is no explanation |
+//! | [`what_is_shown_holds`], [`chains_are_uses`] | what an explanation shows holds of the program, and a chain uses the stack, as contracts |
+#![tactic(auto)]
+
+mod chain;
+mod evidence;
+mod explaining;
+mod explanation;
+mod fault;
+mod laws;
+mod looked;
+mod origin;
+mod point;
+mod recursion;
+mod ring;
+mod route;
+mod search;
+mod sought;
+mod ways;
+
+pub use bounds80::CallSite;
+pub use chain::{Chain, Standing, find_chain};
+pub use explaining::explain;
+pub use explanation::Explanation;
+pub use fault::Unexplained;
+pub use flow80::{Code, Procedure, Refusal};
+pub use frames80::{Frame, Word};
+pub use laws::{chains_are_uses, what_is_shown_holds};
+pub use point::Point;
+pub use route::{Call, Route};

@@ -1,0 +1,57 @@
+//! The ring of calls that shows a recursion, in a search.
+
+ghost use Rattle.std.specs.Prelude.{◌≡◌, ℕ, IfOk, IfSome, length};
+ghost use Rattle.flow80.specs.Code.{Code as CodeSeen};
+ghost use Rattle.explain80.specs.Search.{AreOrdered, CallersAreThere, IsSound};
+ghost use Rattle.explain80.specs.Known.{AreKnown};
+ghost use Rattle.explain80.specs.Shows.{ByRing};
+
+use crate::explanation::Explanation;
+use crate::ring::ring_from;
+use crate::route::Call;
+use crate::search::Search;
+use std::alloc::{AllocError, Global};
+
+impl Search {
+    /// The calls of the points that call, in order of first sight.
+    ///
+    /// # Errors
+    /// `AllocError` where memory runs out.
+    fn known_calls(&self, alloc: Global) -> Result<Vec<Call>, AllocError>
+        requires { CallersAreThere self.now }
+        ensures { IfOk result (λ calls. AreKnown self.now (length self.now.calls.items) calls.items) }
+    {
+        let mut calls = Vec::new(alloc);
+        for calling in &self.calls {
+            let caller = &self.points[calling.point];
+            calls.push(Call {
+                caller: caller.procedure,
+                at: caller.at,
+                target: calling.target,
+            })?;
+        }
+        Ok(calls)
+    }
+
+    /// The ring of a call at an address that leads back to its own procedure; `None` where no call there does.
+    ///
+    /// # Errors
+    /// `AllocError` where memory runs out.
+    pub(crate) fn ring(&self, alloc: Global, at: u16) -> Result<Option<Explanation>, AllocError>
+        requires ordered { AreOrdered self.now }
+        requires callers { CallersAreThere self.now }
+        ensures { IfOk result (λ shown. IfSome shown (λ shown. (code : CodeSeen) → IsSound code self.now → ByRing code at shown)) }
+    {
+        let known = self.known_calls(alloc)?;
+        for number in 0..self.calls.len() {
+            let first = known[number];
+            if first.at == at {
+                if let Some(ring) = ring_from(alloc, &known, first)? {
+                    let calls = self.calls_to(alloc, self.calls[number].point)?;
+                    return Ok(Some(Explanation::Ring { calls, ring }));
+                }
+            }
+        }
+        Ok(None)
+    }
+}

@@ -1,0 +1,17 @@
+//! Tests at the limits, from outside, by public names: of many parts, and where memory runs out.
+//!
+//! | Module | What it tests |
+//! |---|---|
+//! | `many` | `omf_core` to `omf_library`: modules, files and records of many parts |
+//! | `many_lines` | `image80`: regions of many lines |
+//! | `lent` | `omf_core` to `place80`: what was lent, where memory runs out |
+//!
+//! What the program makes of many parts is in the tables of `tests/commands`.
+#![tactic(auto)]
+
+#[cfg(test)]
+mod lent;
+#[cfg(test)]
+mod many;
+#[cfg(test)]
+mod many_lines;

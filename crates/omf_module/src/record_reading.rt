@@ -1,0 +1,111 @@
+//! The records of a module, read by place up to its end.
+
+ghost use Rattle.std.specs.Prelude.{◌≡◌, ◌≢◌, ◌<◌, ◌≤◌, length, IfOk, IfErr};
+ghost use Rattle.omf_module.specs.Records.{SpellsModuleRecords, commons_of};
+ghost use Rattle.omf_module.specs.Spelled.{FaultsHeader, FaultsWithin, FaultsRecords, FaultsModule};
+ghost use Rattle.omf_module.specs.Reading.{Follows, BeginsModule, ReadsWithin, OrNoMemory, records_of};
+
+use crate::commons::take_commons;
+use crate::fault::{Cause, ModuleFault};
+use crate::module_file::{ModuleFile, PlacedBody, Within};
+use omf_body::{Body, HeaderBody, parse};
+use omf_core::{RecordKind, next_record};
+use omf_parts::Common;
+use std::alloc::Global;
+
+/// The module header at a place, and the place after it. It takes no memory.
+pub(crate) fn header_at<'a>(bytes: &'a [u8], at: usize) -> Result<(HeaderBody<'a>, usize), Cause>
+    ensures spelled { IfOk result (λ r. BeginsModule bytes.now at r.1 r.0) }
+    ensures fault { IfErr result (λ why. FaultsHeader bytes.now at why) }
+    ensures memory { IfErr result (λ why. why ≢ Cause.Memory) }
+{
+    if bytes.len() <= at {
+        return Err(Cause::NoHeader);
+    }
+    let (record, after) = next_record(bytes, at)?;
+    if record.kind != RecordKind::ModuleHeader.byte() {
+        return Err(Cause::NoHeader);
+    }
+    match parse(record)? {
+        Body::ModuleHeader(header) => Ok((header, after)),
+        _ => unreachable!(),
+    }
+}
+
+/// The body of the record at a place after a header and records that declare these commons, and the place after it.
+pub(crate) fn next_body<'a>(
+    alloc: Global,
+    bytes: &'a [u8],
+    at: usize,
+    commons: &mut Vec<Common>,
+) -> Result<(Body<'a>, usize), Cause>
+    ensures follows { IfOk result (λ r. Follows bytes.now at r.1 commons.old.items commons.new.items r.0) }
+    ensures fault { IfErr result (λ why. why ≢ Cause.Memory → FaultsWithin bytes.now at commons.old.items why) }
+{
+    if bytes.len() <= at {
+        return Err(Cause::NoEnd);
+    }
+    let (record, after) = next_record(bytes, at)?;
+    let Some(kind) = RecordKind::from_byte(record.kind) else {
+        return Err(Cause::UnknownKind(record.kind));
+    };
+    match kind {
+        RecordKind::ModuleHeader => return Err(Cause::UnknownKind(record.kind)),
+        RecordKind::EndOfFile => return Err(Cause::NoEnd),
+        RecordKind::NamedCommons => take_commons(alloc, record.body, commons)?,
+        _ => {}
+    }
+    Ok((parse(record)?, after))
+}
+
+/// The records that follow a header, from a place on, the commons that they declare, and the place after the end of the
+/// module.
+fn within_at<'a>(
+    alloc: Global,
+    bytes: &'a [u8],
+    first: usize,
+) -> Result<(Within<'a>, Vec<Common>, usize), ModuleFault>
+    requires { first ≤ length bytes.now }
+    ensures read { IfOk result (λ r. ReadsWithin bytes.now first r.2 r.0 r.1.items) }
+    ensures fault { IfErr result (OrNoMemory (FaultsRecords bytes.now first)) }
+{
+    let mut bodies = Vec::new(alloc);
+    let mut commons = Vec::new(alloc);
+    let mut here = first;
+    loop {
+        let (body, next) = match next_body(alloc, bytes, here, &mut commons) {
+            Ok(read) => read,
+            Err(why) => return Err(why.at(here)),
+        };
+        if let Body::ModuleEnd(end) = body {
+            let within = Within {
+                bodies,
+                end_at: here,
+                end,
+            };
+            return Ok((within, commons, next));
+        }
+        bodies.push(PlacedBody { at: here, body })?;
+        here = next;
+    }
+}
+
+/// The records of the module that should begin at a place, the commons that they declare, and the place after them.
+pub(crate) fn records_at<'a>(
+    alloc: Global,
+    bytes: &'a [u8],
+    at: usize,
+) -> Result<(ModuleFile<'a>, Vec<Common>, usize), ModuleFault>
+    ensures read { IfOk result (λ r. SpellsModuleRecords bytes.now r.2 (records_of r.0)) }
+    ensures begins { IfOk result (λ r. r.0.at ≡ at) }
+    ensures commons { IfOk result (λ r. r.1.items ≡ commons_of r.0.within.bodies.items) }
+    ensures fault { IfErr result (OrNoMemory (FaultsModule bytes.now at)) }
+{
+    let (header, first) = match header_at(bytes, at) {
+        Ok(read) => read,
+        Err(why) => return Err(why.at(at)),
+    };
+    let (within, commons, after) = within_at(alloc, bytes, first)?;
+    let module = ModuleFile { at, header, within };
+    Ok((module, commons, after))
+}

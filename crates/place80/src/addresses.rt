@@ -1,0 +1,36 @@
+//! Places by the segments that were laid out.
+
+ghost use Rattle.std.specs.Prelude.{◌≡◌};
+ghost use Rattle.place80.specs.Layout.{top_in, place_among};
+ghost use Rattle.place80.specs.PlaceFault.{is_in_placed};
+
+use crate::placed_segments::{Placed, placed_in};
+use omf_body::segment_id::{ABSOLUTE, STACK};
+
+/// The stack's top, as a word.
+fn top_in(segments: &[Placed]) -> u16
+    ensures { result ≡ top_in segments.now }
+{
+    let stack = placed_in(segments, STACK);
+    ((u64::from(stack.base) + u64::from(stack.length)) % 65536) as u16
+}
+
+/// The place of an offset in a segment: absolute offsets stand as they are, STACK is spoken of from its top, and anything
+/// else from its base.
+pub(crate) fn place_of(segments: &[Placed], id: u8, offset: u16) -> u16
+    ensures { result ≡ place_among segments.now id offset }
+{
+    match id {
+        ABSOLUTE => offset,
+        STACK => top_in(segments).wrapping_add(offset),
+        _ => ((u64::from(placed_in(segments, id).base) + u64::from(offset)) % 65536) as u16,
+    }
+}
+
+/// Whether the address is one of the segment's.
+pub(crate) fn is_in_placed(placed: Placed, address: u16) -> bool
+    ensures { result ≡ is_in_placed placed address }
+{
+    let address = u64::from(address);
+    u64::from(placed.base) <= address && address < u64::from(placed.base) + u64::from(placed.length)
+}

@@ -1,0 +1,136 @@
+//! `plm80 explain`: why the verifier refuses a located program, shown by ways through its procedures.
+
+use crate::commands::arguments::path_of;
+use crate::commands::checking::accepted;
+use crate::commands::explain_text::{chain_text, explanation_text};
+use crate::commands::fault_line::{Reported, report_memory};
+use crate::commands::files::print;
+use crate::commands::listing::read_program;
+use crate::commands::syntax::{Argument, Kind, Syntax};
+use clap::ArgMatches;
+use explain80::{Unexplained, explain, find_chain};
+use image80::Image;
+use loader80::{Refusal, refusal_text, vouch};
+use std::alloc::{AllocError, Global};
+
+/// The arguments of `explain`.
+#[derive(Clone, Copy)]
+pub struct ExplainArguments<'a> {
+    image: &'a str,
+    regions: &'a str,
+}
+
+/// The most points that are followed, and words of their frames, together.
+const LIMIT: usize = 4_000_000;
+
+const ABOUT: &str = "Verifies an image as check does, and shows why it is refused";
+
+const AFTER_HELP: &str = "\
+The first line is check's, and the exit status too. Then come the calls that
+lead to the procedure of the fault, and the way through it: a line for each
+instruction, as list prints it, with the words that the procedure has on the
+stack before it, bottom to top. RET is its own return address, .. any word;
+BC=RET, DE=RET or HL=RET is a pair that holds its return address; TAKEN n counts
+words that it has taken from beneath its return address. Where two ways
+disagree, both are shown, under ONE WAY and ANOTHER. For the stack's size, of a
+program that is accepted too, it is the chain of calls that needs most: the
+bytes that each procedure HAS on the stack; two more are for each call.
+
+Example: plm80 explain readings.img readings.regions
+
+Faults and what to do: docs/FAULTS.md (installed: share/doc/plm80), man plm80.";
+
+/// `explain` and its arguments.
+pub const EXPLAIN: Syntax<'static> = Syntax {
+    name: "explain",
+    about: ABOUT,
+    after_help: AFTER_HELP,
+    arguments: &[
+        Argument {
+            name: "IMAGE",
+            kind: Kind::Path,
+            help: "The image, an absolute object file",
+        },
+        Argument {
+            name: "REGIONS",
+            kind: Kind::Path,
+            help: "The text of its code, data and stack ranges",
+        },
+    ],
+};
+
+impl<'a> ExplainArguments<'a> {
+    /// The arguments as clap has read them.
+    pub fn of(matches: &ArgMatches<'a>) -> ExplainArguments<'a> {
+        ExplainArguments {
+            image: path_of(matches, "IMAGE"),
+            regions: path_of(matches, "REGIONS"),
+        }
+    }
+}
+
+/// Prints the report on the image, or its refusal and what shows it, and gives the exit status.
+pub fn explain_files(rt: &HostRuntime, arguments: ExplainArguments<'_>) -> Result<u8, Reported> {
+    let image = read_program(rt, arguments.image, arguments.regions)?;
+    let Ok((text, status)) = explained(rt.alloc(), image) else {
+        return Err(report_memory(rt));
+    };
+    print(rt, text.as_slice())?;
+    Ok(status)
+}
+
+/// What is printed of an image, and the exit status.
+fn explained(alloc: Global, image: Image) -> Result<(Vec<u8>, u8), AllocError> {
+    match vouch(alloc, image) {
+        Ok(vouched) => {
+            let (report, status) = accepted(alloc, &vouched)?;
+            let mut text = report.into_bytes();
+            append_chain(alloc, &mut text, vouched.image(), vouched.stack_bytes())?;
+            Ok((text, status))
+        }
+        Err((_, Refusal::Memory)) => Err(AllocError),
+        Err((image, refusal)) => Ok((refused(alloc, &image, refusal)?, 1)),
+    }
+}
+
+/// The refusal of an image, and what shows it.
+fn refused(alloc: Global, image: &Image, refusal: Refusal) -> Result<Vec<u8>, AllocError> {
+    let mut text = refusal_text(alloc, refusal)?.into_bytes();
+    if let Refusal::StackTooSmall(need, _) = refusal {
+        append_chain(alloc, &mut text, image, need)?;
+        return Ok(text);
+    }
+    match explain(alloc, image, refusal, LIMIT) {
+        Ok(explanation) => {
+            let shown = explanation_text(alloc, image, &explanation)?;
+            text.extend_from_slice(shown.as_slice())?;
+        }
+        Err(fault) => append_why(&mut text, fault)?,
+    }
+    Ok(text)
+}
+
+/// Appends the chain of calls that comes to so many bytes of stack.
+fn append_chain(
+    alloc: Global,
+    text: &mut Vec<u8>,
+    image: &Image,
+    bytes: u64,
+) -> Result<(), AllocError> {
+    match find_chain(alloc, image, bytes, LIMIT) {
+        Ok(chain) => {
+            let shown = chain_text(alloc, image, &chain)?;
+            text.extend_from_slice(shown.as_slice())
+        }
+        Err(fault) => append_why(text, fault),
+    }
+}
+
+/// Appends why nothing is shown.
+fn append_why(text: &mut Vec<u8>, fault: Unexplained) -> Result<(), AllocError> {
+    match fault {
+        Unexplained::Memory => Err(AllocError),
+        Unexplained::Limit => text.extend_from_slice(b"TOO MANY WAYS TO SHOW\n".as_slice()),
+        Unexplained::NotShown => Ok(()),
+    }
+}

@@ -1,0 +1,85 @@
+//! `plm80 map`: where LOCATE would put a module's segments and public names.
+
+use crate::commands::arguments::path_of;
+use crate::commands::fault_line::{Reported, report};
+use crate::commands::files::print;
+use crate::commands::locate_options::{
+    CODE_BASE, COMMON_BASE, DATA_BASE, LocateTexts, MEMORY_BASE, MEMORY_SIZE, STACK_BASE,
+    STACK_SIZE,
+};
+use crate::commands::locating::one_module;
+use crate::commands::object_files::read_modules;
+use crate::commands::syntax::{Argument, Kind, Syntax};
+use clap::ArgMatches;
+use map80::map_text;
+use place80::Options;
+
+/// The arguments of `map`.
+#[derive(Clone, Copy)]
+pub struct MapArguments<'a> {
+    object: &'a str,
+    options: LocateTexts<'a>,
+}
+
+const ABOUT: &str = "Prints where a module's segments and public names would be placed";
+
+const AFTER_HELP: &str = "\
+The options are those of locate, and so are the faults; no file is written. Each
+segment has a line: its name, its first address and its length, and behind them
+the name of a named common, as in COMMON 3100 0010 TABLE. Then come the public
+names by address, as in 3040 LIMIT. All numbers are hexadecimal.
+
+Example: plm80 map control.obj --data 4000
+
+Faults and what to do: docs/FAULTS.md (installed: share/doc/plm80), man plm80.";
+
+/// `map` and its arguments.
+pub const MAP: Syntax<'static> = Syntax {
+    name: "map",
+    about: ABOUT,
+    after_help: AFTER_HELP,
+    arguments: &[
+        Argument {
+            name: "IN",
+            kind: Kind::Path,
+            help: "The object file to read, of one module with a start",
+        },
+        CODE_BASE,
+        STACK_BASE,
+        COMMON_BASE,
+        DATA_BASE,
+        MEMORY_BASE,
+        STACK_SIZE,
+        MEMORY_SIZE,
+    ],
+};
+
+impl<'a> MapArguments<'a> {
+    /// The arguments as clap has read them.
+    pub fn of(matches: &ArgMatches<'a>) -> MapArguments<'a> {
+        MapArguments {
+            object: path_of(matches, "IN"),
+            options: LocateTexts::of(matches),
+        }
+    }
+}
+
+/// Prints the map of the module of the object file.
+pub fn map_file(rt: &HostRuntime, arguments: MapArguments<'_>) -> Result<u8, Reported> {
+    let Some(options) = arguments.options.numbers() else {
+        return Err(report(rt, "BadNumber"));
+    };
+    let text = map_of(rt, arguments.object, &options)?;
+    print(rt, &text)?;
+    Ok(0)
+}
+
+/// The map of the one module of the object file of this path.
+fn map_of(rt: &HostRuntime, path: &str, options: &Options) -> Result<Vec<u8>, Reported> {
+    let modules = read_modules(rt, path)?;
+    let program = one_module(rt, path, &modules)?;
+    match map_text(rt.alloc(), program, options) {
+        Ok(text) => Ok(text),
+        Err(fault) => Err(report(rt, fault)),
+    }
+}

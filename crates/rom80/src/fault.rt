@@ -1,0 +1,35 @@
+use std::alloc::{AllocError, AllocFailed};
+use thiserror::Error;
+
+/// Why bytes aren't taken out of an image, or put into one.
+#[derive(Clone, Copy, Debug, PartialEq, Eq, Error)]
+pub enum RomFault {
+    /// They go past FFFF, the last address.
+    #[error("PastMemory")]
+    PastMemory,
+    /// Out of memory.
+    #[error("Memory")]
+    Memory,
+}
+
+impl From<AllocError> for RomFault {
+    ghost use Rattle.std.specs.Prelude.{◌≡◌};
+    ghost use Rattle.rom80.specs.declared.fault.RomFault.TheVariants.{Memory};
+
+    ghost from_gives = { λ _ fault. fault ≡ Memory };
+
+    fn from(_error: AllocError) -> RomFault {
+        RomFault::Memory
+    }
+}
+
+impl<T: Drop> From<AllocFailed<T>> for RomFault {
+    ghost use Rattle.std.specs.Prelude.{◌≡◌};
+    ghost use Rattle.rom80.specs.declared.fault.RomFault.TheVariants.{Memory};
+
+    ghost from_gives = { λ _ fault. fault ≡ Memory };
+
+    fn from(_error: AllocFailed<T>) -> RomFault {
+        RomFault::Memory
+    }
+}
