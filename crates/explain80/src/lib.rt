@@ -6,6 +6,7 @@
 //! | Item | What it is |
 //! |---|---|
 //! | [`explain`] | the ways that show a refusal |
+//! | [`measure`], [`ProcRow`] | the procedures of an image whose stack is too small |
 //! | [`find_chain`], [`Chain`], [`CallSite`], [`Standing`] | the calls whose bytes on the stack come to the bound |
 //! | [`Explanation`], [`Route`], [`Call`], [`Point`] | the ways, the calls that lead to them, and their points |
 //! | [`Unexplained`] | why there is no explanation |
@@ -33,8 +34,9 @@ pub use chain::{Chain, Standing, find_chain};
 pub use explaining::explain;
 pub use explanation::Explanation;
 pub use fault::Unexplained;
-pub use flow80::{Code, Procedure, Refusal};
+pub use flow80::{Code, ProcRow, Procedure, Refusal, Report};
 pub use frames80::{Frame, Word};
 pub use laws::{chains_are_uses, what_is_shown_holds};
 pub use point::Point;
 pub use route::{Call, Route};
+pub use verify80::measure;

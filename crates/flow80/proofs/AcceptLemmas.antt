@@ -14,10 +14,10 @@ use Rattle.flow80.specs.declared.refusal.Refusal.TheVariants.{FetchOutside, Unus
 use Rattle.flow80.specs.Code.{Code}
 use Rattle.flow80.specs.Walks.{Walk, begins, goes_on, enters, comes_back, Calls, role_of}
 use Rattle.flow80.specs.Use.{last, through, IsBound}
-use Rattle.flow80.specs.Faults.{Holds, Overruns, Many, most_points}
+use Rattle.flow80.specs.Faults.{Holds, Many, most_points}
 use Rattle.flow80.specs.Fitting.{FrameFits, Fits}
 use Rattle.flow80.specs.Rows.{ReturnsWith, Wants, IsRow, AreRows}
-use Rattle.flow80.specs.Accepted.{IsAccepted}
+use Rattle.flow80.specs.Accepted.{IsMeasured}
 use Rattle.flow80.specs.Points.{Point, is_at}
 use Rattle.bounds80.specs.Chains.{bytes_of}
 use Rattle.flow80.specs.Shown.{FrameLaws}
@@ -146,40 +146,25 @@ module _ (laws : FrameLaws) (code : Code) (known : Known) (wants bytes : List �
           let has = has_walk laws code known is.filled (many.procedure n) (many.at n) (many.frame n) (many.walk n less) in
           placed known.points has.number has.point (many.procedure n) (many.at n) has.there has.procedure has.address
 
-  not_more : (need has : ℕ) → bytes_of bytes Main ≤ code.stack → Overruns code need has → ⊥
-  not_more need has enough over =
-      let least = main_bound.above (pos need) over.bound.reached in
-      absurd (omega (arith, ints, least, enough, over.stack, over.less))
-
-  no_refusal : bytes_of bytes Main ≤ code.stack → (refusal : Refusal) → refusal ≢ Memory → Holds code refusal → ⊥
-  no_refusal enough (FetchOutside at) apart holds = no_look_fault laws code _ known_fits at Outside holds
-  no_refusal enough (UnusedOpcode at) apart holds = no_look_fault laws code _ known_fits at Unused holds
-  no_refusal enough (EnablesInterrupts at) apart holds = no_look_fault laws code _ known_fits at LooksAtEi holds
-  no_refusal enough (DirectStore at) apart holds = no_look_fault laws code _ known_fits at LooksAtStore holds
-  no_refusal enough (Sphl at) apart holds = no_move_fault laws code _ known_fits at FrameSphl holds
-  no_refusal enough (Pchl at) apart holds = no_look_fault laws code _ known_fits at LooksAtPchl holds
-  no_refusal enough (StackByByte at) apart holds = no_move_fault laws code _ known_fits at FrameStackByByte holds
-  no_refusal enough (SetsStack at) apart holds = no_move_fault laws code _ known_fits at FrameSetsStack holds
-  no_refusal enough (PopsBelow at) apart holds = no_move_fault laws code _ known_fits at FramePopsBelow holds
-  no_refusal enough (ReturnNotOwn at) apart holds = no_move_fault laws code _ known_fits at FrameReturnNotOwn holds
-  no_refusal enough (ReturnFromMain at) apart holds = no_move_fault laws code _ known_fits at FrameReturnFromMain holds
-  no_refusal enough (HeightsDiffer at) apart holds = no_differ laws code _ known_fits at holds
-  no_refusal enough (UnevenArguments at) apart holds = no_uneven laws code _ known_fits at holds
-  no_refusal enough (ShortArguments at) apart holds = no_short laws code _ known_fits at holds
-  no_refusal enough (Recursion at) apart holds = is.bounded.ends.none at holds
-  no_refusal enough (StackTooSmall need has) apart holds = not_more need has enough holds
-  no_refusal enough TooManyPoints apart holds = few_points holds
-  no_refusal enough Memory apart holds = apart refl
-
-  -- the program needs more of the stack than there is
-  pub overruns : code.stack < bytes_of bytes Main → Holds code (StackTooSmall (bytes_of bytes Main) code.stack)
-  overruns less = record {
-    agrees = no_differ laws code _ known_fits;
-    ends = is.bounded.ends.none;
-    bound = main_bound;
-    stack = refl;
-    less = less;
-  }
+  no_refusal : (refusal : Refusal) → refusal ≢ Memory → ((need has : ℕ) → refusal ≢ StackTooSmall need has) → Holds code refusal → ⊥
+  no_refusal (FetchOutside at) apart other holds = no_look_fault laws code _ known_fits at Outside holds
+  no_refusal (UnusedOpcode at) apart other holds = no_look_fault laws code _ known_fits at Unused holds
+  no_refusal (EnablesInterrupts at) apart other holds = no_look_fault laws code _ known_fits at LooksAtEi holds
+  no_refusal (DirectStore at) apart other holds = no_look_fault laws code _ known_fits at LooksAtStore holds
+  no_refusal (Sphl at) apart other holds = no_move_fault laws code _ known_fits at FrameSphl holds
+  no_refusal (Pchl at) apart other holds = no_look_fault laws code _ known_fits at LooksAtPchl holds
+  no_refusal (StackByByte at) apart other holds = no_move_fault laws code _ known_fits at FrameStackByByte holds
+  no_refusal (SetsStack at) apart other holds = no_move_fault laws code _ known_fits at FrameSetsStack holds
+  no_refusal (PopsBelow at) apart other holds = no_move_fault laws code _ known_fits at FramePopsBelow holds
+  no_refusal (ReturnNotOwn at) apart other holds = no_move_fault laws code _ known_fits at FrameReturnNotOwn holds
+  no_refusal (ReturnFromMain at) apart other holds = no_move_fault laws code _ known_fits at FrameReturnFromMain holds
+  no_refusal (HeightsDiffer at) apart other holds = no_differ laws code _ known_fits at holds
+  no_refusal (UnevenArguments at) apart other holds = no_uneven laws code _ known_fits at holds
+  no_refusal (ShortArguments at) apart other holds = no_short laws code _ known_fits at holds
+  no_refusal (Recursion at) apart other holds = is.bounded.ends.none at holds
+  no_refusal (StackTooSmall need has) apart other holds = other need has refl
+  no_refusal TooManyPoints apart other holds = few_points holds
+  no_refusal Memory apart other holds = apart refl
 
   -- rows
   enters_first : (entry : ℕ) (p : Procedure) (at : ℕ) (f : StackFrame) → Walk code p at f → p ≡ Entry entry → Walk code (Entry entry) entry entry_frame
@@ -255,12 +240,11 @@ module _ (laws : FrameLaws) (code : Code) (known : Known) (wants bytes : List �
     by_entry = listed.by_entry;
   }
 
-  -- so the program is accepted
-  pub accepted : (rows : List ProcRow) → AreListed known wants bytes 65536 rows → bytes_of bytes Main ≤ code.stack → IsAccepted code rows (bytes_of bytes Main)
-  accepted rows listed enough = record {
+  -- so the program is measured
+  pub measured : (rows : List ProcRow) → AreListed known wants bytes 65536 rows → IsMeasured code rows (bytes_of bytes Main)
+  measured rows listed = record {
     fitted = record { table = known_table known (bytes_of wants) (bytes_of bytes); fits = known_fits; printed = refl };
     bound = main_bound;
-    within = enough;
     rows = rows_are rows listed;
-    none_holds = no_refusal enough;
+    none_else_holds = no_refusal;
   }

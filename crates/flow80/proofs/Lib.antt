@@ -15,3 +15,4 @@ pub mod SurveyLemmas
 pub mod PigeonLemmas
 pub mod GraphLemmas
 pub mod AcceptLemmas
+pub mod MeasureLemmas

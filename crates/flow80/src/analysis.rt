@@ -1,7 +1,7 @@
 //! The whole analysis of a program.
 
 ghost use Rattle.std.specs.Prelude.{◌≡◌, IfOk, IfErr};
-ghost use Rattle.flow80.specs.Accepted.{IsAccepted};
+ghost use Rattle.flow80.specs.Accepted.{IsAccepted, IsMeasured};
 ghost use Rattle.flow80.specs.Faults.{Holds};
 ghost use Rattle.flow80.specs.Known.{IsFilled, nothing_known};
 
@@ -26,6 +26,23 @@ pub fn analyze<C: Code>(alloc: Global, program: &C) -> Result<Report, Refusal>
     ensures accepted { IfOk result (λ r. IsAccepted (C.code program.now) r.procedures.items r.stack_bytes) }
     ensures refused { IfErr result (Holds (C.code program.now)) }
 {
+    let report = measure(alloc, program)?;
+    let stack = program.stack();
+    if report.stack_bytes > u64::from(stack) {
+        return Err(Refusal::StackTooSmall(report.stack_bytes, stack));
+    }
+    Ok(report)
+}
+
+/// Goes over a program as [`analyze`] does, and reports on it however small its stack is: on one too that is refused for nothing but
+/// that.
+///
+/// # Errors
+/// A refusal that holds, or `Memory`.
+pub fn measure<C: Code>(alloc: Global, program: &C) -> Result<Report, Refusal>
+    ensures measured { IfOk result (λ r. IsMeasured (C.code program.now) r.procedures.items r.stack_bytes) }
+    ensures refused { IfErr result (Holds (C.code program.now)) }
+{
     let mut table = Table::new(alloc, program)?;
     fill_and_report(alloc, program, &mut table)
 }
@@ -37,7 +54,7 @@ fn fill_and_report<C: Code>(
     table: &mut Table,
 ) -> Result<Report, Refusal>
     requires { table.old.known ≡ nothing_known }
-    ensures accepted { IfOk result (λ r. IsAccepted (C.code program.now) r.procedures.items r.stack_bytes) }
+    ensures measured { IfOk result (λ r. IsMeasured (C.code program.now) r.procedures.items r.stack_bytes) }
     ensures refused { IfErr result (Holds (C.code program.now)) }
 {
     fill(program, table)?;
@@ -47,19 +64,14 @@ fn fill_and_report<C: Code>(
 /// Reports on a program whose table is filled.
 fn report_on<C: Code>(alloc: Global, program: &C, table: &Table) -> Result<Report, Refusal>
     requires { IsFilled (C.code program.now) table.now.known }
-    ensures accepted { IfOk result (λ r. IsAccepted (C.code program.now) r.procedures.items r.stack_bytes) }
+    ensures measured { IfOk result (λ r. IsMeasured (C.code program.now) r.procedures.items r.stack_bytes) }
     ensures refused { IfErr result (Holds (C.code program.now)) }
 {
     frame_laws();
     let wants = find_wants(alloc, table)?;
     let bounds = bound_stack(alloc, program, table, &wants)?;
-    let stack_bytes = bounds.get(Procedure::Main);
-    let stack = program.stack();
-    if stack_bytes > u64::from(stack) {
-        return Err(Refusal::StackTooSmall(stack_bytes, stack));
-    }
     Ok(Report {
         procedures: list_rows(alloc, table, &wants, &bounds)?,
-        stack_bytes,
+        stack_bytes: bounds.get(Procedure::Main),
     })
 }

@@ -3,6 +3,7 @@
 //! | Item | What it is |
 //! |---|---|
 //! | [`analyze`] | the whole analysis of a program |
+//! | [`measure`] | the same, however small the stack is |
 //! | [`Code`], [`LookFault`] | the program: the instruction at each address, the start and the stack |
 //! | [`Procedure`] | the main program, or one that a call reaches |
 //! | [`Refusal`] | why a program is refused |
@@ -30,7 +31,7 @@ mod survey;
 mod table;
 mod wants;
 
-pub use analysis::analyze;
+pub use analysis::{analyze, measure};
 pub use bounds80::Procedure;
 pub use code::{Code, LookFault};
 pub use fitting::fitting_tables_cover_walks;

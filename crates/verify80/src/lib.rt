@@ -4,6 +4,7 @@
 //! |---|---|
 //! | [`verify`] | a report on an image, or why it is refused |
 //! | [`verify_and_keep`], [`Verified`] | a report with the image's memory and the map of its regions, for a run |
+//! | [`measure`] | a report on an image, however small its stack is |
 //! | [`Report`], [`ProcRow`] | what is found of an image that is accepted |
 //! | [`Refusal`] | why an image is refused |
 //! | [`ImageCode`] | an image as the verifier looks at it, address by address |
@@ -17,4 +18,4 @@ mod verifying;
 pub use flow80::{ProcRow, Refusal, Report};
 pub use image_code::ImageCode;
 pub use laws::looks_are_exact;
-pub use verifying::{Verified, verify, verify_and_keep};
+pub use verifying::{Verified, measure, verify, verify_and_keep};

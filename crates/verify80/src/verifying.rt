@@ -1,7 +1,7 @@
 //! The verifier over an image.
 
 ghost use Rattle.std.specs.Prelude.{IfOk, IfErr};
-ghost use Rattle.flow80.specs.Accepted.{IsAccepted};
+ghost use Rattle.flow80.specs.Accepted.{IsAccepted, IsMeasured};
 ghost use Rattle.flow80.specs.Faults.{Holds};
 ghost use Rattle.verify80.specs.Kept.{IsKept};
 ghost use Rattle.verify80.specs.Looking.{code_of};
@@ -40,6 +40,19 @@ pub fn verify(alloc: Global, image: &Image) -> Result<Report, Refusal>
 {
     let verified = verify_and_keep(alloc, image)?;
     Ok(verified.report)
+}
+
+/// Goes over an image as [`verify`] does, and reports on it however small its stack is: on one too that is refused for nothing but
+/// that.
+///
+/// # Errors
+/// Those of [`verify`].
+pub fn measure(alloc: Global, image: &Image) -> Result<Report, Refusal>
+    ensures measured { IfOk result (λ report. IsMeasured (code_of image.now) report.procedures.items report.stack_bytes) }
+    ensures refused { IfErr result (Holds (code_of image.now)) }
+{
+    let code = ImageCode::new(alloc, image)?;
+    flow80::measure(alloc, &code)
 }
 
 /// Verifies an image, as [`verify`] does, and keeps what was made of it, so that a run needn't make it once more.

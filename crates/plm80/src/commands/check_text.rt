@@ -10,10 +10,16 @@ pub fn report_text(alloc: Global, vouched: &Vouched) -> Result<String, AllocErro
     let stack = vouched.image().regions.stack().length;
     writeln!(text, "ACCEPTED")?;
     writeln!(text, "STACK {} OF {stack}", vouched.stack_bytes())?;
-    for row in vouched.rows() {
-        append_row(&mut text, row)?;
-    }
+    append_rows(&mut text, vouched.rows())?;
     Ok(text)
+}
+
+/// Appends a line for each procedure.
+pub fn append_rows(text: &mut String, rows: &[ProcRow]) -> Result<(), AllocError> {
+    for row in rows {
+        append_row(text, row)?;
+    }
+    Ok(())
 }
 
 /// Appends the line of a procedure.

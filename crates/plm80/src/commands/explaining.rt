@@ -1,6 +1,7 @@
 //! `plm80 explain`: why the verifier refuses a located program, shown by ways through its procedures.
 
 use crate::commands::arguments::path_of;
+use crate::commands::check_text::append_rows;
 use crate::commands::checking::accepted;
 use crate::commands::explain_text::{chain_text, explanation_text};
 use crate::commands::fault_line::{Reported, report_memory};
@@ -8,7 +9,7 @@ use crate::commands::files::print;
 use crate::commands::listing::read_program;
 use crate::commands::syntax::{Argument, Kind, Syntax};
 use clap::ArgMatches;
-use explain80::{Unexplained, explain, find_chain};
+use explain80::{Unexplained, explain, find_chain, measure};
 use image80::Image;
 use loader80::{Refusal, refusal_text, vouch};
 use std::alloc::{AllocError, Global};
@@ -34,7 +35,8 @@ BC=RET, DE=RET or HL=RET is a pair that holds its return address; TAKEN n counts
 words that it has taken from beneath its return address. Where two ways
 disagree, both are shown, under ONE WAY and ANOTHER. For the stack's size, of a
 program that is accepted too, it is the chain of calls that needs most: the
-bytes that each procedure HAS on the stack; two more are for each call.
+bytes that each procedure HAS on the stack; two more are for each call. Where
+the stack is too small, check's line for each procedure comes before it.
 
 Example: plm80 explain readings.img readings.regions
 
@@ -95,11 +97,10 @@ fn explained(alloc: Global, image: Image) -> Result<(Vec<u8>, u8), AllocError> {
 
 /// The refusal of an image, and what shows it.
 fn refused(alloc: Global, image: &Image, refusal: Refusal) -> Result<Vec<u8>, AllocError> {
-    let mut text = refusal_text(alloc, refusal)?.into_bytes();
     if let Refusal::StackTooSmall(need, _) = refusal {
-        append_chain(alloc, &mut text, image, need)?;
-        return Ok(text);
+        return overrun(alloc, image, refusal, need);
     }
+    let mut text = refusal_text(alloc, refusal)?.into_bytes();
     match explain(alloc, image, refusal, LIMIT) {
         Ok(explanation) => {
             let shown = explanation_text(alloc, image, &explanation)?;
@@ -107,6 +108,24 @@ fn refused(alloc: Global, image: &Image, refusal: Refusal) -> Result<Vec<u8>, Al
         }
         Err(fault) => append_why(&mut text, fault)?,
     }
+    Ok(text)
+}
+
+/// The refusal of an image whose stack is too small, its procedures, and the chain of calls that needs most.
+fn overrun(
+    alloc: Global,
+    image: &Image,
+    refusal: Refusal,
+    need: u64,
+) -> Result<Vec<u8>, AllocError> {
+    // Nothing but its stack is wrong: where it can't be measured now, memory has run out.
+    let Ok(report) = measure(alloc, image) else {
+        return Err(AllocError);
+    };
+    let mut text = refusal_text(alloc, refusal)?;
+    append_rows(&mut text, &report.procedures)?;
+    let mut text = text.into_bytes();
+    append_chain(alloc, &mut text, image, need)?;
     Ok(text)
 }
 
