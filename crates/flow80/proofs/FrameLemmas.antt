@@ -1,6 +1,6 @@
 -- Frames by number, while more are added.
 use Rattle.std.specs.Prelude.{◌≡◌, ◌<◌, ℕ, List, Some, length, slice_get}
-use Rattle.std.proofs.Common.{subst, sym, ◌∙◌}
+use Rattle.std.proofs.Common.{subst, ◌∙◌}
 use Rattle.std.proofs.lemmas.Option.{slice_get_within, slice_get-get_or, get_or_from_slice_get}
 use Rattle.frames80.specs.StackFrame.{StackFrame, entry_frame}
 use Rattle.interned80.specs.Frames.{frame_at, IsFrame, StayNumbered}

@@ -1,5 +1,5 @@
 -- What is known stays shown, small and on its way to its end when a point is added, a frame changes or a return is seen.
-use Rattle.std.specs.Prelude.{◌≡◌, ◌≢◌, ◌⊎◌, ◌≤◌, ◌<◌, ◌+◌, ◌*◌, ◌-◌, ℕ, zero, suc, Bool, true, false, List, [], ◌∷◌, ◌++◌, length, sum_by, count_by, Option, Some, None, slice_get, slice_set, is_none, cond, Ok, Err, refl}
+use Rattle.std.specs.Prelude.{◌≡◌, ◌≢◌, ◌⊎◌, ◌≤◌, ◌<◌, ◌+◌, ◌*◌, ◌-◌, ℕ, zero, suc, true, false, List, [], ◌∷◌, ◌++◌, length, sum_by, count_by, Option, Some, None, slice_get, slice_set, is_none, cond, Ok, Err, refl}
 use Rattle.std.proofs.Common.{ap, sym, ◌∙◌, subst, arith, inl, inr, true≢false}
 use Rattle.std.proofs.lemmas.List.Sums.{sum_by-cons, sum_by_push}
 use Rattle.frames80.specs.declared.word.Word.{Word}
@@ -11,7 +11,7 @@ use Rattle.frames80.specs.Places.{word_at, SameCounts, Covers}
 use Rattle.bounds80.specs.declared.procedure.Procedure.{Procedure}
 use Rattle.bounds80.specs.declared.procedure.Procedure.TheVariants.{Entry}
 use Rattle.flow80.specs.Code.{Code}
-use Rattle.flow80.specs.declared.refusal.Refusal.TheVariants.{HeightsDiffer, TooManyPoints, Memory}
+use Rattle.flow80.specs.declared.refusal.Refusal.TheVariants.{HeightsDiffer, TooManyPoints}
 use Rattle.flow80.specs.Faults.{most_points, Many, Differ}
 use Rattle.flow80.specs.Rows.{ReturnsWith}
 use Rattle.flow80.specs.Points.{Point, AreApart, IsPointAt, IsNoPoint, with_frame}

@@ -1,6 +1,6 @@
 -- Many looks, one after another.
 use Rattle.std.specs.Prelude.{◌≡◌, ◌<◌, ◌≤◌, ◌+◌, ◌⊎◌, ◌||◌, ℕ, zero, suc, Bool, true, false, [], length, replicate, Some, None, Ok, Err, slice_get, refl}
-use Rattle.std.proofs.Common.{ap, sym, ◌∙◌, subst, arith, inl, inr, true≢false}
+use Rattle.std.proofs.Common.{ap, sym, subst, arith, inl, inr}
 use Rattle.flow80.specs.declared.refusal.Refusal.{Refusal}
 use Rattle.flow80.specs.Code.{Code}
 use Rattle.frames80.specs.StackFrame.{StackFrame, main_frame}
@@ -8,7 +8,7 @@ use Rattle.bounds80.specs.declared.procedure.Procedure.{Procedure}
 use Rattle.bounds80.specs.declared.procedure.Procedure.TheVariants.{Main}
 use Rattle.flow80.specs.Points.{Point}
 use Rattle.flow80.specs.Shown.{IsShown}
-use Rattle.flow80.specs.Known.{Known, nothing_known, exit_of, IsSmall, IsWithin, Stands, HasPoint, Flows, Goes, IsClosed, Visits, Ongoing, Looks, Sweeps, AreClosed, AllClosed, weight}
+use Rattle.flow80.specs.Known.{Known, nothing_known, exit_of, IsSmall, Stands, HasPoint, Flows, Goes, Ongoing, Looks, Sweeps, AreClosed, AllClosed, weight}
 use Rattle.flow80.proofs.Slices.{within}
 use Rattle.flow80.proofs.StepLemmas.{goes_then, first_false, second_false}
 

@@ -1,9 +1,9 @@
 -- Numbers by procedure and address, in one map.
-use Rattle.std.specs.Prelude.{◌≡◌, ◌≢◌, ◌<◌, ◌+◌, ◌*◌, ℕ, Bool, true, false, ◌&&◌, nat_eq, nat_lt, List, Option, Some, None, refl, if◌then◌else◌}
+use Rattle.std.specs.Prelude.{◌≡◌, ◌≢◌, ◌<◌, ℕ, Bool, true, false, nat_lt, List, Option, Some, None, refl, if◌then◌else◌}
 use Rattle.std.specs.Ordering.{nat_cmp, is_eq}
 use Rattle.std.specs.BTreeMap.{get, is_at, IsEmpty, IsUnchanged, Updates}
 use Rattle.std.specs.Map.{lookup}
-use Rattle.std.proofs.Common.{ap, sym, ◌∙◌, subst, arith, true≢false}
+use Rattle.std.proofs.Common.{ap, sym, ◌∙◌, arith, true≢false}
 use Rattle.std.proofs.lemmas.Bool.Decides.{nat_tests}
 use Rattle.bounds80.specs.declared.procedure.Procedure.{Procedure}
 use Rattle.flow80.specs.declared.numbers.Numbers.{Numbers}

@@ -7,11 +7,11 @@ use borrow.Author.Count.{below_more}
 use Rattle.decode80.specs.declared.fetching.Fetched.{Fetched}
 use Rattle.frames80.specs.declared.role.Role.{Role}
 use Rattle.frames80.specs.declared.moves.Moves.{Moves}
-use Rattle.frames80.specs.declared.moves.Moves.TheVariants.{End, On, Jump, Either, Case, Call, MaybeCall, Return, MaybeReturn}
+use Rattle.frames80.specs.declared.moves.Moves.TheVariants.{On, Jump, Either, Case, MaybeCall, Return, MaybeReturn}
 use Rattle.frames80.specs.StackFrame.{StackFrame, entry_frame}
 use Rattle.frames80.specs.Calls.{room, returned}
 use Rattle.bounds80.specs.declared.procedure.Procedure.{Procedure}
-use Rattle.bounds80.specs.declared.procedure.Procedure.TheVariants.{Main, Entry}
+use Rattle.bounds80.specs.declared.procedure.Procedure.TheVariants.{Entry}
 use Rattle.flow80.specs.declared.refusal.Refusal.{Refusal}
 use Rattle.flow80.specs.declared.refusal.Refusal.TheVariants.{UnevenArguments, ShortArguments, Memory}
 use Rattle.flow80.specs.Code.{Code}

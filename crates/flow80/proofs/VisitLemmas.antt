@@ -3,18 +3,15 @@ use Rattle.std.specs.Prelude.{◌≡◌, ◌≢◌, ◌≤◌, ◌<◌, ◌+◌,
 use Rattle.std.proofs.Common.{ap, sym, ◌∙◌, subst, arith}
 use Rattle.std.proofs.lemmas.List.{length-drop}
 use Rattle.decode80.specs.declared.fetching.Fetched.{Fetched}
-use Rattle.frames80.specs.declared.word.Word.{Word}
 use Rattle.frames80.specs.declared.role.Role.{Role}
 use Rattle.frames80.specs.declared.fault.FrameFault.{FrameFault}
 use Rattle.frames80.specs.declared.fault.FrameFault.TheVariants.{Sphl, StackByByte, SetsStack, PopsBelow, ReturnNotOwn, ReturnFromMain, Memory}
-use Rattle.frames80.specs.declared.effect.Change.{Change}
-use Rattle.frames80.specs.declared.effect.Change.TheVariants.{Keep, Push, PushAny, Pop, Drop, Swap, Exchange, Forget, SetStack}
 use Rattle.frames80.specs.declared.effect.Effect.{Effect}
 use Rattle.frames80.specs.declared.effect.Effect.TheVariants.{Change as Changes, Halt, Jump, JumpIf, Case, Call, CallIf, Return, ReturnIf, Refuse}
 use Rattle.frames80.specs.declared.moves.Moves.{Moves}
-use Rattle.frames80.specs.StackFrame.{StackFrame, taken_after_pop}
+use Rattle.frames80.specs.StackFrame.{StackFrame}
 use Rattle.frames80.specs.Effects.{effect_of}
-use Rattle.frames80.specs.Moves.{moves_of, changed}
+use Rattle.frames80.specs.Moves.{moves_of}
 use Rattle.frames80.specs.Calls.{returned}
 use Rattle.bounds80.specs.declared.procedure.Procedure.{Procedure}
 use Rattle.interned80.specs.Admitted.{move_of}

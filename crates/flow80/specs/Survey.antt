@@ -1,5 +1,5 @@
 -- What a filled table says of each procedure and each call. (This project's own.)
-use Rattle.std.specs.Prelude.{◌≡◌, ◌⊎◌, ◌≤◌, ◌<◌, ◌+◌, ◌++◌, ◌∷◌, [], ℕ, Bool, true, false, List, AllPairs, Contains, length, Option, Some, None, slice_get, slice_index_or}
+use Rattle.std.specs.Prelude.{◌≡◌, ◌⊎◌, ◌≤◌, ◌<◌, ◌++◌, ◌∷◌, [], ℕ, Bool, true, false, List, AllPairs, Contains, length, Option, Some, None, slice_get, slice_index_or}
 use Rattle.decode80.specs.declared.fetching.Fetched.{Fetched}
 use Rattle.frames80.specs.declared.effect.Effect.{Effect}
 use Rattle.frames80.specs.declared.moves.Moves.{Moves}

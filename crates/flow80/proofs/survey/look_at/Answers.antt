@@ -1,4 +1,4 @@
-use Rattle.std.proofs.Common.{◌≡◌, ◌≤◌, ◌<◌, ◌∙◌, ap, sym, subst, inr, refl, arith, length, w64, ℕ, List, None, Some}
+use Rattle.std.proofs.Common.{◌≡◌, ◌≤◌, ◌<◌, ◌∙◌, ap, sym, subst, inr, refl, arith, w64, ℕ, List, None, Some}
 use Rattle.std.specs.Prelude.{slice_index, Option}
 use Rattle.std.proofs.lemmas.Int.{to_z-of_z}
 use Rattle.frames80.specs.StackFrame.{StackFrame}

@@ -1,6 +1,5 @@
 use Rattle.std.proofs.Common.{◌≡◌, ◌<◌, ◌∙◌, ap, sym, length, arith}
 use Rattle.std.proofs.lemmas.List.{get_or_read, length-set}
-use Rattle.frames80.specs.StackFrame.{StackFrame}
 use Rattle.bounds80.specs.Chains.{slot_of}
 use Rattle.flow80.proofs.SurveyLemmas.{wants_kept, wants_raised}
 use Rattle.flow80.proofs.VisitLemmas.{some_at}

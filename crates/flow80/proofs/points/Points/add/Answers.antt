@@ -1,6 +1,5 @@
 use Rattle.std.proofs.Common.{◌≡◌, ◌<◌, ℕ, List, ◌++◌, ◌∷◌, [], length, sym, ◌∙◌, ap, subst, arith}
 use Rattle.std.proofs.lemmas.List.{length-map}
-use Rattle.std.proofs.lemmas.Result.{err_from_is_err_and}
 use Rattle.frames80.specs.StackFrame.{StackFrame}
 use Rattle.interned80.specs.Frames.{frame_at}
 use Rattle.flow80.specs.declared.points.StoredPoint.{StoredPoint}

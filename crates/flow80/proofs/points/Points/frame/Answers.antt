@@ -1,4 +1,4 @@
-use Rattle.std.proofs.Common.{◌<◌, List, length, refl, ap, subst, arith}
+use Rattle.std.proofs.Common.{◌<◌, length, refl, ap, subst, arith}
 use Rattle.std.specs.Prelude.{IfSome, slice_get}
 use Rattle.std.proofs.lemmas.List.{length-map}
 use Rattle.std.proofs.lemmas.Option.{slice_get_read}

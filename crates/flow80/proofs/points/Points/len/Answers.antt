@@ -1,4 +1,4 @@
-use Rattle.std.proofs.Common.{◌∙◌, ap, subst}
+use Rattle.std.proofs.Common.{ap, subst}
 use Rattle.flow80.specs.Points.{AreApart, AreAddresses, StoredPoints}
 use Rattle.flow80.proofs.PointLemmas.{AreApart-stored, AreAddresses-stored}
 use Rattle.flow80.proofs.points.Points.len.Goals as goal

@@ -4,7 +4,7 @@ use Rattle.std.proofs.lemmas.Option.{slice_get_read}
 use Rattle.frames80.specs.StackFrame.{StackFrame}
 use Rattle.interned80.specs.Frames.{frame_at}
 use Rattle.flow80.specs.declared.points.StoredPoint.{StoredPoint}
-use Rattle.flow80.specs.Points.{Point, Reframes, StoredPoints}
+use Rattle.flow80.specs.Points.{Reframes, StoredPoints}
 use Rattle.flow80.specs.PointStore.{point_of, points_of}
 use Rattle.flow80.proofs.PointLemmas.{points_of-reframed, AreStored-reframed}
 use Rattle.flow80.proofs.points.Points.replace.Goals as goal

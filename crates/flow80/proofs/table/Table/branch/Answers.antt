@@ -4,7 +4,7 @@ use Rattle.std.proofs.lemmas.Result.{err_from_is_err_and}
 use Rattle.frames80.specs.StackFrame.{StackFrame}
 use Rattle.frames80.specs.declared.moves.Moves.TheVariants.{Either}
 use Rattle.interned80.specs.Frames.{frame_at}
-use Rattle.flow80.specs.Known.{Flows, IsWithin}
+use Rattle.flow80.specs.Known.{Flows}
 use Rattle.flow80.proofs.FrameLemmas.{stays_there, stays_at}
 use Rattle.flow80.proofs.VisitLemmas.{more_within}
 use Rattle.flow80.proofs.StepLemmas.{steps_first_refused, steps_both}

@@ -3,7 +3,7 @@ use Rattle.std.proofs.lemmas.Result.{err_from_is_err_and}
 use Rattle.frames80.specs.StackFrame.{StackFrame}
 use Rattle.frames80.specs.Calls.{returned, room}
 use Rattle.interned80.specs.Frames.{frame_at}
-use Rattle.flow80.specs.Known.{Known, KnownFrames, Flows, CallsOut, IsShort, IsWithin, exit_of}
+use Rattle.flow80.specs.Known.{Known, KnownFrames, Flows, CallsOut, IsShort, exit_of}
 use Rattle.flow80.proofs.FrameLemmas.{stays_there, stays_at}
 use Rattle.flow80.proofs.VisitLemmas.{returned_within}
 use Rattle.flow80.proofs.StepLemmas.{calls_refused, calls_waiting, calls_back, calls_back_refused, calls_not_back}

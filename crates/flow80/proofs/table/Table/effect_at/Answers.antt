@@ -8,7 +8,6 @@ use Rattle.frames80.specs.Effects.{effect_of}
 use Rattle.frames80.specs.Moves.{moves_of}
 use Rattle.interned80.specs.Admitted.{move_of}
 use Rattle.interned80.specs.Frames.{frame_at, IsFrame}
-use Rattle.flow80.specs.Points.{Point}
 use Rattle.flow80.specs.Known.{KnownFrames}
 use Rattle.flow80.proofs.VisitLemmas.{some_at, AtPoint, look_refused, move_refused, effect_at_point}
 use Rattle.flow80.proofs.table.Table.effect_at.Goals as goal

@@ -2,7 +2,6 @@ use Rattle.std.proofs.Common.{◌≡◌, ◌∙◌, ℕ, List, ap, sym, subst}
 use Rattle.frames80.specs.StackFrame.{StackFrame}
 use Rattle.frames80.specs.Moves.{changed}
 use Rattle.frames80.specs.declared.effect.Effect.{Effect}
-use Rattle.frames80.specs.declared.moves.Moves.{Moves}
 use Rattle.frames80.specs.declared.moves.Moves.TheVariants.{On, Jump, Return, MaybeReturn}
 use Rattle.interned80.specs.Admitted.{move_of}
 use Rattle.interned80.specs.Frames.{frame_at}

@@ -3,7 +3,7 @@ use Rattle.std.specs.Prelude.{slice_get, slice_set}
 use Rattle.std.specs.Cmp.{unsigned_Decides}
 use Rattle.frames80.specs.StackFrame.{StackFrame}
 use Rattle.frames80.specs.Calls.{agree, merged}
-use Rattle.interned80.specs.Frames.{frame_at, IsFrame, StayNumbered}
+use Rattle.interned80.specs.Frames.{frame_at, IsFrame}
 use Rattle.flow80.specs.Points.{Point, with_frame}
 use Rattle.flow80.specs.Known.{Known, KnownFrames, Flows}
 use Rattle.flow80.proofs.FrameLemmas.{is_at}

@@ -1,4 +1,4 @@
-use Rattle.std.proofs.Common.{◌≡◌, ◌||◌, subst, Ok, Err, ℕ}
+use Rattle.std.proofs.Common.{◌||◌, subst, Ok, Err, ℕ}
 use Rattle.std.proofs.lemmas.Result.{err_from_is_err_and}
 use Rattle.frames80.specs.StackFrame.{main_frame}
 use Rattle.bounds80.specs.declared.procedure.Procedure.TheVariants.{Main}
