@@ -61,6 +61,7 @@ test: need-rt need-python3
 	@tests/commands/explained $(PROGRAM)
 	@tests/commands/completion $(PROGRAM)
 	@tests/commands/faults
+	@if command -v cc > /dev/null; then tests/faults/run $(PROGRAM) program; else echo "faults: passed over without a C compiler"; fi
 
 commands: need-python3 build
 	@tests/commands/run $(PROGRAM)
