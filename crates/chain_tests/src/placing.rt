@@ -96,7 +96,8 @@ fn cases_in_any_order(rt: HostRuntime) -> Result<(), Fail> {
 fn a_text_is_migrated(rt: HostRuntime) -> Result<(), Fail> {
     let mut out = Vec::new(rt.alloc());
     let refused = migrate_regions(rt.alloc(), b"REGIONS 2\n", &mut out);
-    assert!(rt; refused == Err(RegionsFault::NoStack) && out.is_empty());
+    assert_eq!(rt; refused, Err(RegionsFault::NoStack));
+    assert!(rt; out.is_empty());
     migrate_regions(rt.alloc(), REGIONS, &mut out)?;
     assert!(rt; out.as_slice() == MIGRATED);
     out.clear();

@@ -25,37 +25,25 @@ fn fault_of<A: Source, B: Source, C: Source>(
     session(alloc, image, regions, inputs, out, 1_000_000, 65_536).err()
 }
 
-/// What is written of the program's transcript, where there is room for so many bytes; `None` where the fault isn't `Write`.
-fn written_of(alloc: Global, room: usize, fails: bool) -> Option<Vec<u8>> {
+/// The fault of a session whose writer has room for so many bytes, and what is written of the transcript.
+fn cut_off(alloc: Global, room: usize, fails: bool) -> (Option<SessionFault>, Vec<u8>) {
     let mut image = ByteSource::new(&IMAGE, usize::MAX);
     let mut regions = ByteSource::new(REGIONS, usize::MAX);
     let mut inputs = ByteSource::new(INPUTS, usize::MAX);
     let mut out = ByteSink::new(alloc, room, fails);
-    match fault_of(alloc, &mut image, &mut regions, &mut inputs, &mut out) {
-        Some(SessionFault::Write) => Some(out.taken),
-        _ => None,
-    }
+    let fault = fault_of(alloc, &mut image, &mut regions, &mut inputs, &mut out);
+    (fault, out.taken)
 }
 
-/// Whether just the bytes of the transcript before this place are written, where the write of the next one fails or takes none.
-fn stops_at(alloc: Global, place: usize, fails: bool) -> bool {
-    match (written_of(alloc, place, fails), TRANSCRIPT.get(..place)) {
-        (Some(written), Some(expected)) => written.as_slice() == expected,
-        _ => false,
-    }
-}
-
+/// A write fails, or takes no byte, after each beginning of the transcript: just that is written.
 #[test]
 fn a_write_fails_after_each_byte(rt: HostRuntime) -> Result<(), Fail> {
     for place in 0..TRANSCRIPT.len() {
-        assert!(rt;
-            stops_at(rt.alloc(), place, true),
-            "a write fails after {place} bytes"
-        );
-        assert!(rt;
-            stops_at(rt.alloc(), place, false),
-            "a write takes no byte after {place} bytes"
-        );
+        for fails in [true, false] {
+            let (fault, written) = cut_off(rt.alloc(), place, fails);
+            assert_eq!(rt; fault, Some(SessionFault::Write));
+            assert_eq!(rt; Some(written.as_slice()), TRANSCRIPT.get(..place));
+        }
     }
     Ok(())
 }
