@@ -1,5 +1,5 @@
 -- The texts of words, targets and cases.
-use Rattle.std.proofs.Common.{◌≡◌, ◌≢◌, ℕ, ◌<◌, ◌≤◌, List, [], ◌∷◌, ◌++◌, length, get_or, take, drop, refl, ap, sym, subst, ◌∙◌, arith}
+use Rattle.std.proofs.Common.{◌≡◌, ◌≢◌, ℕ, ◌<◌, List, [], ◌∷◌, ◌++◌, take, drop, refl, ap, ◌∙◌}
 use Rattle.std.specs.Prelude.{All}
 use Rattle.std.proofs.lemmas.List.Elements.{All-head, All-tail}
 use Rattle.decode80.specs.Text.{word_text}
@@ -56,33 +56,3 @@ none_left rest left none = go left.more left.words left.is
     go : (more : List ℕ) → AreWords more → rest ≡ targets_text more → rest ≡ []
     go [] words is = is
     go (t ∷ ts) words is = absurd (none t (targets_text ts) (All-head (λ target. target < 65536) t ts words) is)
-
--- one more target
-pub one_target_more : (targets : List ℕ) (target : ℕ) (text rest after : List ℕ) → text ≡ targets_text targets ++ rest → rest ≡ 32 ∷ (word_text target ++ after) →
-    text ≡ targets_text (targets ++ target ∷ []) ++ after
-one_target_more targets target text rest after is next = is ∙ ap (λ r. targets_text targets ++ r) next ∙ go targets
-  where
-    go : (ts : List ℕ) → targets_text ts ++ 32 ∷ (word_text target ++ after) ≡ targets_text (ts ++ target ∷ []) ++ after
-    go [] = refl
-    go (t ∷ ts) = ap (λ l. 32 ∷ (word_text t ++ l)) (go ts)
-
--- some text has some targets
-pub some_targets : (targets : List ℕ) → 0 < length targets → targets_text targets ≡ [] → ⊥
-some_targets [] some none = omega arith
-some_targets (t ∷ ts) some none = cc
-
--- a text of at least four bytes that begin with a word's digits
-pub word_first : (text : List ℕ) (word : ℕ) → 4 ≤ length text → get_or text 0 0 ∷ get_or text 1 0 ∷ get_or text 2 0 ∷ get_or text 3 0 ∷ [] ≡ word_text word →
-    text ≡ word_text word ++ drop 4 text
-word_first (a ∷ b ∷ c ∷ d ∷ rest) word four is = ap (λ w. w ++ rest) is
-word_first (a ∷ b ∷ c ∷ []) word four is = absurd (omega arith)
-word_first (a ∷ b ∷ []) word four is = absurd (omega arith)
-word_first (a ∷ []) word four is = absurd (omega arith)
-word_first [] word four is = absurd (omega arith)
-
--- the digits that a text begins with
-pub first_digits : (text rest : List ℕ) (word : ℕ) → text ≡ word_text word ++ rest → get_or text 0 0 ∷ get_or text 1 0 ∷ get_or text 2 0 ∷ get_or text 3 0 ∷ [] ≡ word_text word
-first_digits text rest word is = ap (λ t. get_or t 0 0 ∷ get_or t 1 0 ∷ get_or t 2 0 ∷ get_or t 3 0 ∷ []) is
-
-pub four_bytes : (text rest : List ℕ) (word : ℕ) → text ≡ word_text word ++ rest → 4 ≤ length text
-four_bytes text rest word is = subst (λ t. 4 ≤ length t) (sym is) (omega arith)

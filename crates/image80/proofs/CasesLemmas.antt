@@ -7,7 +7,7 @@ use Rattle.std.specs.Ordering.{nat_cmp}
 use Rattle.std.proofs.lemmas.Bool.{eq-eqb, eqb-true}
 use Rattle.std.proofs.lemmas.Bool.Decides.{nat_tests}
 use Rattle.std.proofs.lemmas.List.{map-append, take_more}
-use Rattle.std.proofs.lemmas.List.Elements.{All-nil, All-push, filter_map-append}
+use Rattle.std.proofs.lemmas.List.Elements.{All-push, filter_map-append}
 use Rattle.std.proofs.lemmas.List.Filters.{All-dedup}
 use Rattle.std.proofs.lemmas.List.Folds.{list_any-append}
 use Rattle.std.proofs.lemmas.List.Kept.{AllPairs-from_increasing, Contains-dedup_nat, Contains-from_dedup}
@@ -86,9 +86,6 @@ pub record AreDrawn (lines cases : List DeclaredCase) : Type 0 where
   pub each : All IsCase cases
   pub addresses : map (λ case. case.at) cases ≡ map (λ case. case.at) lines
   pub pairs : (address target : ℕ) → has_target cases address target ≡ has_target lines address target
-
-pub drawn_none : AreDrawn [] []
-drawn_none = record { each = All-nil IsCase; addresses = refl; pairs = λ a t. refl }
 
 -- one more line
 pub drawn_more : (lines cases : List DeclaredCase) (line case : DeclaredCase) → AreDrawn lines cases → IsCaseOf line case → AreDrawn (lines ++ line ∷ []) (cases ++ case ∷ [])

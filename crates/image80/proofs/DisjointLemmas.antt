@@ -28,9 +28,6 @@ in_range_below range address inside = grind (arith, common_steps)
 in_range_empty : (range : Range) (address : ℕ) → range.length ≡ 0 → in_range range address ≡ false
 in_range_empty range address empty = grind (arith, common_steps)
 
-in_range_past : (range : Range) (address : ℕ) → range.first + range.length ≤ address → in_range range address ≡ false
-in_range_past range address past = grind (arith, common_steps)
-
 -- an address in the range at a place, and in those at two places
 held_at : (address : ℕ) (ranges : List Range) (i : ℕ) (d : Range) → i < length ranges → in_range (get_or ranges i d) address ≡ true → 1 ≤ held address ranges
 held_at address [] i d below inside = absurd (omega arith)

@@ -49,10 +49,6 @@ parts-cons (x ∷ xs) =
     elim (is_line_feed x) as (λ b. IsCons (cond b ([] ∷ parts xs) (onto_first x (parts xs))))
     [ true ↦ record { first = []; others = parts xs; is = refl } | false ↦ onto_first-cons x (parts xs) ]
 
--- no line but the first is read
-pub good_start : (version : Version) (text rest : List ℕ) → parts text ≡ heading version ∷ parts rest → GoodStart version text [] (parts rest)
-good_start version text rest is = record { lines = is; proper = All-nil (IsProper version); once = λ i j d order inside. absurd (omega arith) }
-
 -- one more good line
 pub good_more : (version : Version) (text rest line after' : List ℕ) (entries : List Entry) (entry : Entry) → GoodStart version text entries (parts rest) → parts rest ≡ line ∷ parts after' →
     line ≡ entry_text entry → IsProper version entry → is_repeated entries entry ≡ false → GoodStart version text (entries ++ entry ∷ []) (parts after')
@@ -63,11 +59,6 @@ good_more version text rest line after' entries entry good is spelled proper new
       proper = All-push (IsProper version) entries entry good.proper proper;
       once = once-push entries entry good.once new;
     }
-
--- nothing follows the last line feed
-pub good_end : (version : Version) (text rest : List ℕ) (entries : List Entry) → GoodStart version text entries (parts rest) → parts rest ≡ rest ∷ [] → rest ≡ [] → GoodText version text entries
-good_end version text rest entries good alone empty =
-    subst (λ others. GoodStart version text entries others) (alone ∙ ap (λ r. r ∷ []) empty) good
 
 -- something does
 pub bad_end : (version : Version) (text rest : List ℕ) (entries : List Entry) (number : ℕ) → GoodStart version text entries (parts rest) → parts rest ≡ rest ∷ [] → rest ≢ [] →

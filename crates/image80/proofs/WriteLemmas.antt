@@ -1,6 +1,6 @@
 -- The text of regions spells them.
 use Rattle.std.proofs.Common.{◌≡◌, ℕ, zero, suc, ◌+◌, ◌/◌, ◌%◌, ◌<◌, false, cond, List, [], ◌∷◌, ◌++◌, length, drop, get_or, map, append_assoc, append-nil, refl, ap, sym, subst, ◌∙◌, arith}
-use Rattle.std.specs.Prelude.{All, IsPermutation, slice_index, filter_map, codes, Option, Some, None, Result, Ok, Err, OnOk}
+use Rattle.std.specs.Prelude.{All, IsPermutation, slice_index, filter_map, codes, Option, Some, None}
 use Rattle.std.specs.List.{flat_map, cons_option}
 use Rattle.std.proofs.lemmas.Bool.{lt-ltb}
 use Rattle.std.proofs.lemmas.List.{drop_more, map-append}
@@ -242,11 +242,6 @@ steps_are_text version areas front with_feed with_code with_stack with_data with
     ∙ ap (λ rs. (((heading version ++ 10 ∷ []) ++ range_lines (codes "CODE ") areas.code) ++ ((codes "STACK " ++ range_text areas.stack) ++ 10 ∷ [])) ++ range_lines (codes "DATA ") rs) data_is)
     ∙ ap (λ cs. ((((heading version ++ 10 ∷ []) ++ range_lines (codes "CODE ") areas.code) ++ ((codes "STACK " ++ range_text areas.stack) ++ 10 ∷ [])) ++ range_lines (codes "DATA ") areas.data_ranges) ++ case_text_lines cs) cases_is
     ∙ pieces_are_text version areas
-
--- what holds anyway holds where there is a value
-pub on_ok_always : {T E P : Type 0} (result : Result T E) → P → OnOk result P
-on_ok_always (Ok value) p = p
-on_ok_always (Err fault) p = tt
 
 -- the lines so far and those that are left, with one more
 pub one_line_more : {X : Type 0} (line : X → List ℕ) (ranges : List X) (i : ℕ) (d : X) (text : List ℕ) → i < length ranges →

@@ -90,9 +90,6 @@ pub record ReadSoFar {E : Type 0} (layout : Layout E) (bytes rest : List ℕ) : 
   pub joined : bytes ≡ flat_map layout.bytes front ++ rest
   pub sound : IsTrue (list_all layout.is_sound front)
 
-pub none_so_far : {E : Type 0} (layout : Layout E) (bytes : List ℕ) → ReadSoFar layout bytes bytes
-none_so_far layout bytes = record { front = []; joined = refl; sound = refl }
-
 pub one_more : {E : Type 0} (layout : Layout E) (bytes rest after : List ℕ) (e : E) → ReadSoFar layout bytes rest
     → rest ≡ layout.bytes e ++ after → IsTrue (layout.is_sound e) → ReadSoFar layout bytes after
 one_more layout bytes rest after e a spelled sound =

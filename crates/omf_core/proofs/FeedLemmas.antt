@@ -1,5 +1,5 @@
 -- The first fault of the records that bytes hold, and what stays of it whatever bytes follow.
-use Rattle.std.proofs.Common.{◌≡◌, ◌≢◌, ℕ, ◌+◌, ◌<◌, ◌≤◌, ◌==◌, ◌&&◌, ◌↔◌, not, Bool, true, false, if◌then◌else◌, List, [], ◌∷◌, ◌++◌, length, drop, None, Some, IsTrue, refl, sym, subst, ap, ◌∙◌, arith, append_assoc, true≢false, get_or, Fits, w8}
+use Rattle.std.proofs.Common.{◌≡◌, ◌≢◌, ℕ, ◌+◌, ◌<◌, ◌≤◌, ◌==◌, ◌&&◌, not, Bool, true, false, if◌then◌else◌, List, [], ◌∷◌, ◌++◌, length, drop, None, Some, IsTrue, refl, sym, subst, ap, ◌∙◌, arith, append_assoc, true≢false, get_or, Fits, w8}
 use Rattle.std.specs.List.{All, list_all}
 use Rattle.std.proofs.lemmas.Bool.{and_parts, eqb-true}
 use Rattle.std.proofs.lemmas.List.{append-nil, drop-append-le, get_or_default, length-append}
@@ -222,13 +222,3 @@ all_bytes bytes fits k d within =
     let same = get_or_default bytes k d 0 within in
     let fit = fits k in
     omega arith
-
-truncated_exactly : (t z s : Bool) (at : ℕ)
-    → (IsTrue t) ↔ ((if t then Some (Truncated at) else (if z then Some (ZeroLength at) else (if s then None else Some (BadSum at)))) ≡ Some (Truncated at))
-truncated_exactly true z s at = (λ e. refl, λ e. refl)
-truncated_exactly false true s at = (λ e. absurd cc, λ e. absurd cc)
-truncated_exactly false false true at = (λ e. absurd cc, λ e. absurd cc)
-truncated_exactly false false false at = (λ e. absurd cc, λ e. absurd cc)
-
-pub cut_off_exactly : (rest : List ℕ) (at : ℕ) → IsTrue (is_truncated rest) ↔ (fault_at rest at ≡ Some (Truncated at))
-cut_off_exactly rest at = truncated_exactly (is_truncated rest) (has_zero_length rest) (has_zero_sum rest) at

@@ -20,3 +20,4 @@ pub mod WritingLemmas
 pub mod WrittenModule
 pub mod StayLemmas
 pub mod FileFeedLemmas
+pub mod GatheredLemmas

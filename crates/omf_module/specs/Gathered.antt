@@ -33,9 +33,11 @@ externals_in _ = []
 
 -- the fixups of a record, in a content of segment `own`
 abbrev pub fixups_in : ℕ → Body → List Fixup
-fixups_in own (ExternalReferences b) = map (λ r. record { offset = r.offset; field = b.field; target = target.External r.index }) b.references
+fixups_in own (ExternalReferences b) =
+    map (λ r. record { offset = r.offset; field = b.field; target = target.External r.index }) b.references
 fixups_in own (Relocation b) = map (λ r. record { offset = r.offset; field = b.field; target = target.Segment own }) b.references
-fixups_in own (IntersegmentReferences b) = map (λ r. record { offset = r.offset; field = b.field; target = target.Segment b.segment }) b.references
+fixups_in own (IntersegmentReferences b) =
+    map (λ r. record { offset = r.offset; field = b.field; target = target.Segment b.segment }) b.references
 fixups_in own _ = []
 
 -- a content with more fixups
@@ -55,7 +57,8 @@ begins_content _ = false
 -- the nearest content and those that follow, each with the fixups of the records up to the next one
 abbrev pub contents_from : Option ContentValue → List PlacedBody → List ContentValue
 contents_from nearest [] = option_to_list nearest
-contents_from nearest (p ∷ ps) = (if begins_content p.body then option_to_list nearest else []) ++ contents_from (content_after nearest p.body) ps
+contents_from nearest (p ∷ ps) = (if begins_content p.body then option_to_list nearest else [])
+    ++ contents_from (content_after nearest p.body) ps
 
 -- the start of a main program
 abbrev pub start_in : EndBody → Option (ℕ × ℕ)

@@ -1,6 +1,7 @@
 pub mod Fault
 pub mod Records
 pub mod Gathered
+pub mod GatheredLaws
 pub mod Uses
 pub mod Spelled
 pub mod Reading

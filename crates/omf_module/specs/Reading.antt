@@ -66,7 +66,8 @@ pub record ReadsWithin (bytes : List ℕ) (first after : ℕ) (w : Within) (comm
 
 -- the records of a module, as they were read
 abbrev pub records_of : ModuleFile → ModuleRecords
-records_of m = record { at = m.at; header = m.header; within = m.within.bodies.items; end_at = m.within.end_at; end = m.within.end }
+records_of m =
+    record { at = m.at; header = m.header; within = m.within.bodies.items; end_at = m.within.end_at; end = m.within.end }
 
 -- out of memory, or a fault
 abbrev pub OrNoMemory : (ModuleFault → Type 0) → ModuleFault → Type 0

@@ -11,21 +11,25 @@ use Rattle.omf_module.specs.Records.{SpellsBody}
 use Rattle.omf_module.specs.Spelled.{SpellsModule, FaultsHeader, FaultsModule, SpellsFile, FaultsFile}
 
 abbrev pub OneModule : Type 0
-OneModule = (bytes : List ℕ) (at after after' : ℕ) (m m' : ModuleValue) → SpellsModule bytes at after m → SpellsModule bytes at after' m' → (m ≡ m') × (after ≡ after')
+OneModule = (bytes : List ℕ) (at after after' : ℕ) (m m' : ModuleValue) → SpellsModule bytes at after m
+    → SpellsModule bytes at after' m' → (m ≡ m') × (after ≡ after')
 
 abbrev pub OneFault : Type 0
 OneFault = (bytes : List ℕ) (at : ℕ) (f f' : ModuleFault) → FaultsModule bytes at f → FaultsModule bytes at f' → f ≡ f'
 
 abbrev pub NeverBoth : Type 0
-NeverBoth = (bytes : List ℕ) (at after : ℕ) (m : ModuleValue) (f : ModuleFault) → SpellsModule bytes at after m → FaultsModule bytes at f → ⊥
+NeverBoth = (bytes : List ℕ) (at after : ℕ) (m : ModuleValue) (f : ModuleFault) → SpellsModule bytes at after m
+    → FaultsModule bytes at f → ⊥
 
 -- where a header is to stand, there is one first fault at most
 abbrev pub OneHeaderFault : Type 0
-OneHeaderFault = (bytes : List ℕ) (at : ℕ) (why why' : Cause) → FaultsHeader bytes at why → FaultsHeader bytes at why' → why ≡ why'
+OneHeaderFault = (bytes : List ℕ) (at : ℕ) (why why' : Cause) → FaultsHeader bytes at why → FaultsHeader bytes at why'
+    → why ≡ why'
 
 -- where a header stands, there is none
 abbrev pub SoundHeader : Type 0
-SoundHeader = (bytes : List ℕ) (at next : ℕ) (header : HeaderBody) (why : Cause) → SpellsBody bytes at next (ModuleHeader header) → FaultsHeader bytes at why → ⊥
+SoundHeader = (bytes : List ℕ) (at next : ℕ) (header : HeaderBody) (why : Cause) → SpellsBody bytes at next (ModuleHeader header)
+    → FaultsHeader bytes at why → ⊥
 
 abbrev pub OneFile : Type 0
 OneFile = (bytes : List ℕ) (ms ms' : List ModuleValue) → SpellsFile bytes ms → SpellsFile bytes ms' → ms ≡ ms'

@@ -22,7 +22,8 @@ pub record SpellsBody (bytes : List ℕ) (from to : ℕ) (body : Body) : Type 0 
 -- The bytes from place `from` up to place `to` are records with these bodies, one after another, each at its place.
 abbrev pub SpellsBodies : List ℕ → ℕ → ℕ → List PlacedBody → Type 0
 SpellsBodies bytes from to [] = from ≡ to
-SpellsBodies bytes from to (p ∷ ps) = (p.at ≡ from) × ((next : ℕ) × SpellsBody bytes from next p.body × SpellsBodies bytes next to ps)
+SpellsBodies bytes from to (p ∷ ps) = (p.at ≡ from)
+    × ((next : ℕ) × SpellsBody bytes from next p.body × SpellsBodies bytes next to ps)
 
 -- the commons that a record declares
 abbrev pub commons_in : Body → List Common

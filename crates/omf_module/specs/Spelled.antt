@@ -48,9 +48,12 @@ cause_of of_body.BadName = cause.BadName
 -- no header stands at a place, or it has a fault
 pub data FaultsHeader (bytes : List ℕ) (at : ℕ) : Cause → Type 0 where
   no_header_byte : length bytes ≤ at → FaultsHeader bytes at cause.NoHeader
-  no_header_record : (fault : RecordFault) → at < length bytes → fault_at (drop at bytes) at ≡ Some fault → FaultsHeader bytes at (cause.Record fault)
-  other_kind : (next byte : ℕ) (body : List ℕ) → SpellsRecord bytes at next byte body → byte ≢ kind_byte kind.ModuleHeader → FaultsHeader bytes at cause.NoHeader
-  in_header_body : (next : ℕ) (body : List ℕ) (fault : BodyFault) → SpellsRecord bytes at next (kind_byte kind.ModuleHeader) body → FirstFault (kind_byte kind.ModuleHeader) body fault → FaultsHeader bytes at (cause_of fault)
+  no_header_record : (fault : RecordFault) → at < length bytes → fault_at (drop at bytes) at ≡ Some fault
+      → FaultsHeader bytes at (cause.Record fault)
+  other_kind : (next byte : ℕ) (body : List ℕ) → SpellsRecord bytes at next byte body → byte ≢ kind_byte kind.ModuleHeader
+      → FaultsHeader bytes at cause.NoHeader
+  in_header_body : (next : ℕ) (body : List ℕ) (fault : BodyFault) → SpellsRecord bytes at next (kind_byte kind.ModuleHeader) body
+      → FirstFault (kind_byte kind.ModuleHeader) body fault → FaultsHeader bytes at (cause_of fault)
 
 -- a common, after those that stand before: its id is one for commons and new, and so is its name
 abbrev pub read_new_common : List Common → List ℕ → Result (Common × List ℕ) FieldFault
@@ -62,9 +65,11 @@ read_new_common before bytes = do
 
 -- the first fault of the commons of a record, after those that stand before it
 pub data FaultsCommons : List Common → List ℕ → FieldFault → Type 0 where
-  here : (before : List Common) (bytes : List ℕ) (fault : FieldFault) → 0 < length bytes → read_new_common before bytes ≡ Err fault → FaultsCommons before bytes fault
+  here : (before : List Common) (bytes : List ℕ) (fault : FieldFault) → 0 < length bytes
+      → read_new_common before bytes ≡ Err fault → FaultsCommons before bytes fault
   later : (before : List Common) (common : Common) (bytes rest : List ℕ) (fault : FieldFault)
-      → read_new_common before bytes ≡ Ok (common, rest) → FaultsCommons (before ++ common ∷ []) rest fault → FaultsCommons before bytes fault
+      → read_new_common before bytes ≡ Ok (common, rest) → FaultsCommons (before ++ common ∷ []) rest fault
+      → FaultsCommons before bytes fault
 
 abbrev pub commons_cause : FieldFault → Cause
 commons_cause field.BadBody = cause.BadBody (kind_byte kind.NamedCommons)
@@ -72,17 +77,23 @@ commons_cause field.BadName = cause.BadName
 
 -- the kinds of which no more is asked than a body: not a header, which may not stand here, the end of a file, or commons
 abbrev pub stands_alone : ℕ → Bool
-stands_alone byte = not (byte == kind_byte kind.ModuleHeader) && not (byte == kind_byte kind.EndOfFile) && not (byte == kind_byte kind.NamedCommons)
+stands_alone byte = not (byte == kind_byte kind.ModuleHeader) && not (byte == kind_byte kind.EndOfFile)
+    && not (byte == kind_byte kind.NamedCommons)
 
 -- after a header and records that declare these commons, no record that may stand there stands at a place
 pub data FaultsWithin (bytes : List ℕ) (at : ℕ) (commons : List Common) : Cause → Type 0 where
   no_byte : length bytes ≤ at → FaultsWithin bytes at commons cause.NoEnd
-  no_record : (fault : RecordFault) → at < length bytes → fault_at (drop at bytes) at ≡ Some fault → FaultsWithin bytes at commons (cause.Record fault)
-  file_ends : (next : ℕ) (body : List ℕ) → SpellsRecord bytes at next (kind_byte kind.EndOfFile) body → FaultsWithin bytes at commons cause.NoEnd
-  second_header : (next : ℕ) (body : List ℕ) → SpellsRecord bytes at next (kind_byte kind.ModuleHeader) body → FaultsWithin bytes at commons (cause.UnknownKind (kind_byte kind.ModuleHeader))
-  in_body : (next byte : ℕ) (body : List ℕ) (fault : BodyFault) → SpellsRecord bytes at next byte body → IsTrue (stands_alone byte) → FirstFault byte body fault
+  no_record : (fault : RecordFault) → at < length bytes → fault_at (drop at bytes) at ≡ Some fault
+      → FaultsWithin bytes at commons (cause.Record fault)
+  file_ends : (next : ℕ) (body : List ℕ) → SpellsRecord bytes at next (kind_byte kind.EndOfFile) body
+      → FaultsWithin bytes at commons cause.NoEnd
+  second_header : (next : ℕ) (body : List ℕ) → SpellsRecord bytes at next (kind_byte kind.ModuleHeader) body
+      → FaultsWithin bytes at commons (cause.UnknownKind (kind_byte kind.ModuleHeader))
+  in_body : (next byte : ℕ) (body : List ℕ) (fault : BodyFault) → SpellsRecord bytes at next byte body
+      → IsTrue (stands_alone byte) → FirstFault byte body fault
       → FaultsWithin bytes at commons (cause_of fault)
-  in_commons : (next : ℕ) (body : List ℕ) (fault : FieldFault) → SpellsRecord bytes at next (kind_byte kind.NamedCommons) body → FaultsCommons commons body fault
+  in_commons : (next : ℕ) (body : List ℕ) (fault : FieldFault) → SpellsRecord bytes at next (kind_byte kind.NamedCommons) body
+      → FaultsCommons commons body fault
       → FaultsWithin bytes at commons (commons_cause fault)
 
 -- records stand from a place on, each of which may follow, and then none does
@@ -128,6 +139,7 @@ pub record SpellsFile (bytes : List ℕ) (modules : List ModuleValue) : Type 0 w
 pub data FaultsFile (bytes : List ℕ) : ModuleFault → Type 0 where
   first_module : (fault : ModuleFault) → FaultsModule bytes 0 fault → FaultsFile bytes fault
   later_module : (at : ℕ) (before : List ModuleValue) (fault : ModuleFault)
-      → 0 < length before → SpellsModules bytes 0 at before → at < length bytes → (EndsFile bytes at → ⊥) → FaultsModule bytes at fault → FaultsFile bytes fault
+      → 0 < length before → SpellsModules bytes 0 at before → at < length bytes → (EndsFile bytes at → ⊥)
+      → FaultsModule bytes at fault → FaultsFile bytes fault
   no_end : (at : ℕ) (before : List ModuleValue)
       → 0 < length before → SpellsModules bytes 0 at before → length bytes ≤ at → FaultsFile bytes (fault_by at cause.NoEnd)

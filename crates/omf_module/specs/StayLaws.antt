@@ -6,7 +6,9 @@ use Rattle.omf_module.specs.Spelled.{SpellsModule}
 use Rattle.omf_module.specs.Pieces.{BegunModule}
 
 abbrev pub ModulesStay : Type 0
-ModulesStay = (bytes more : List ℕ) (at after : ℕ) (m : ModuleValue) → SpellsModule bytes at after m → SpellsModule (bytes ++ more) at after m
+ModulesStay = (bytes more : List ℕ) (at after : ℕ) (m : ModuleValue) → SpellsModule bytes at after m
+    → SpellsModule (bytes ++ more) at after m
 
 abbrev pub BegunModulesStay : Type 0
-BegunModulesStay = (bytes more : List ℕ) (begin here : ℕ) (commons : List Common) → BegunModule bytes begin here commons → BegunModule (bytes ++ more) begin here commons
+BegunModulesStay = (bytes more : List ℕ) (begin here : ℕ) (commons : List Common) → BegunModule bytes begin here commons
+    → BegunModule (bytes ++ more) begin here commons

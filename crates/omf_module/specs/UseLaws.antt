@@ -26,4 +26,5 @@ pub record UsesAreThere (r : ModuleRecords) : Type 0 where
 
 -- The records of a module have no fault of use exactly where all that they use is there.
 abbrev pub NoFaultExactlyWhereUsesAreThere : Type 0
-NoFaultExactlyWhereUsesAreThere = (bytes : List ℕ) (after : ℕ) (r : ModuleRecords) → SpellsModuleRecords bytes after r → (use_fault r ≡ None ↔ UsesAreThere r)
+NoFaultExactlyWhereUsesAreThere = (bytes : List ℕ) (after : ℕ) (r : ModuleRecords) → SpellsModuleRecords bytes after r
+    → (use_fault r ≡ None ↔ UsesAreThere r)

@@ -69,7 +69,8 @@ reference_fault m (Some c) body = fixups_fault m c (fixups_in c.segment body)
 
 -- the first fault of a record
 abbrev pub body_fault : ModuleValue → Option ContentValue → Body → Option Cause
-body_fault m nearest body = option_or (unknown_id m (ids_in body)) (option_or (place_fault m body) (reference_fault m nearest body))
+body_fault m nearest body =
+    option_or (unknown_id m (ids_in body)) (option_or (place_fault m body) (reference_fault m nearest body))
 
 abbrev pub fault_by : ℕ → Cause → ModuleFault
 fault_by at cause = record { at = at; cause = cause }
@@ -77,7 +78,8 @@ fault_by at cause = record { at = at; cause = cause }
 -- the first fault of records
 abbrev pub bodies_fault : ModuleValue → Option ContentValue → List PlacedBody → Option ModuleFault
 bodies_fault m nearest [] = None
-bodies_fault m nearest (p ∷ ps) = option_or (option_map (fault_by p.at) (body_fault m nearest p.body)) (bodies_fault m (content_after nearest p.body) ps)
+bodies_fault m nearest (p ∷ ps) =
+    option_or (option_map (fault_by p.at) (body_fault m nearest p.body)) (bodies_fault m (content_after nearest p.body) ps)
 
 -- the first fault of all records of a module: header, those within, end
 abbrev pub header_fault : ModuleValue → ModuleRecords → Option ModuleFault

@@ -35,7 +35,8 @@ abbrev pub common_body : Common → Body
 common_body c = NamedCommons (record { id = c.id; name = c.name } ∷ [])
 
 abbrev pub public_body : Public → Body
-public_body p = PublicDeclarations (record { segment = p.segment; publics = record { offset = p.offset; name = p.name; unread = 0 } ∷ [] })
+public_body p =
+    PublicDeclarations (record { segment = p.segment; publics = record { offset = p.offset; name = p.name; unread = 0 } ∷ [] })
 
 abbrev pub external_body : List ℕ → Body
 external_body name = ExternalNames (record { name = name; unread = 0 } ∷ [])
@@ -45,7 +46,8 @@ abbrev pub fixup_by : ℕ → Field → ℕ → Target → Body
 fixup_by own field offset (target.Segment id) =
     if id == own then Relocation (record { field = field; references = record { offset = offset } ∷ [] })
     else IntersegmentReferences (record { segment = id; field = field; references = record { offset = offset } ∷ [] })
-fixup_by own field offset (target.External index) = ExternalReferences (record { field = field; references = record { index = index; offset = offset } ∷ [] })
+fixup_by own field offset (target.External index) =
+    ExternalReferences (record { field = field; references = record { index = index; offset = offset } ∷ [] })
 
 abbrev pub fixup_body : ℕ → Fixup → Body
 fixup_body own f = fixup_by own f.field f.offset f.target

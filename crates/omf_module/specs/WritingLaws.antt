@@ -18,4 +18,5 @@ WrittenModuleIsSpelled = (m : ModuleValue) → IsModule m → IsReadAgain m
 
 -- A written file spells its modules, of which there is one at least.
 abbrev pub WrittenFileIsSpelled : Type 0
-WrittenFileIsSpelled = (modules : List ModuleValue) → 0 < length modules → AllByRecursion IsModule modules → SpellsFile (file_bytes modules) modules
+WrittenFileIsSpelled = (modules : List ModuleValue) → 0 < length modules → AllByRecursion IsModule modules
+    → SpellsFile (file_bytes modules) modules

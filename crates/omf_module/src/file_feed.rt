@@ -96,7 +96,8 @@ impl FileFeed {
 
         // A fault lasts of all bytes so far, and is kept; out of memory isn't.
         ensures fault { self.old.kept ≡ None → IfErr result (OrNoMemory (λ fault.
-            LastingFileFault (self.old.bytes ++ piece.now) fault × (self.new ≡ record { bytes = self.old.bytes; kept = Some fault }))) }
+            LastingFileFault (self.old.bytes ++ piece.now) fault
+            × (self.new ≡ record { bytes = self.old.bytes; kept = Some fault }))) }
         ensures memory { result ≡ Err no_memory → self.new ≡ self.old }
     {
         records_stay();
@@ -129,9 +130,11 @@ impl FileFeed {
     pub fn finish(self) -> Result<Vec<Module>, ModuleFault>
         ensures kept { (fault : ModuleFaultValue) → self.kept ≡ Some fault → result ≡ Err fault }
         ensures read { self.kept ≡ None → IfOk result (λ modules. SpellsFile self.bytes modules.items) }
-        ensures every_file { self.kept ≡ None → (ms : List ModuleValue) → SpellsFile self.bytes ms → (IsOk result) ⊎ (result ≡ Err no_memory) }
+        ensures every_file { self.kept ≡ None → (ms : List ModuleValue) → SpellsFile self.bytes ms
+            → (IsOk result) ⊎ (result ≡ Err no_memory) }
         ensures fault { self.kept ≡ None → IfErr result (OrNoMemory (FaultsFile self.bytes)) }
-        ensures every_fault { self.kept ≡ None → (fault : ModuleFaultValue) → FaultsFile self.bytes fault → (result ≡ Err fault) ⊎ (result ≡ Err no_memory) }
+        ensures every_fault { self.kept ≡ None → (fault : ModuleFaultValue) → FaultsFile self.bytes fault
+            → (result ≡ Err fault) ⊎ (result ≡ Err no_memory) }
     {
         one_file_reading();
         let FileFeed {

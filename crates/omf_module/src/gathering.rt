@@ -92,7 +92,8 @@ fn by_offset(
     target: Target,
     entries: Row<OffsetEntry>,
 ) -> Result<Vec<Fixup>, AllocError>
-    ensures { IfOk result (λ fixups. fixups.items ≡ map (λ r. record { offset = r.offset; field = field; target = target }) entries.entry) }
+    ensures { IfOk result (λ fixups. fixups.items
+        ≡ map (λ r. record { offset = r.offset; field = field; target = target }) entries.entry) }
 {
     let mut fixups = Vec::new(alloc);
     let mut rest = entries;
@@ -109,7 +110,8 @@ fn by_offset(
 
 /// The fixups of entries that give indices of externals.
 fn by_index(alloc: Global, body: &ExternalReferencesBody) -> Result<Vec<Fixup>, AllocError>
-    ensures { IfOk result (λ fixups. fixups.items ≡ map (λ r. record { offset = r.offset; field = body.now.field; target = target.External r.index }) body.now.references) }
+    ensures { IfOk result (λ fixups. fixups.items
+        ≡ map (λ r. record { offset = r.offset; field = body.now.field; target = target.External r.index }) body.now.references) }
 {
     let mut fixups = Vec::new(alloc);
     let mut rest = body.references.again();

@@ -4,6 +4,7 @@
 ghost use Rattle.omf_module.specs.ReadingLaws.{OneModule, OneFault, NeverBoth, OneHeaderFault, SoundHeader, OneFile, OneFileFault, NeverBothFile};
 ghost use Rattle.omf_module.specs.StayLaws.{ModulesStay, BegunModulesStay};
 ghost use Rattle.omf_module.specs.FileFeedLaws.{OneModuleCount, LastingFileFaultsLast};
+ghost use Rattle.omf_module.specs.GatheredLaws.{ContentsHaveTheFixupsUpToTheNext};
 ghost use Rattle.omf_module.specs.UseLaws.{NoFaultExactlyWhereUsesAreThere};
 ghost use Rattle.omf_module.specs.WritingLaws.{WrittenModuleIsSpelled, WrittenFileIsSpelled};
 
@@ -60,6 +61,12 @@ pub fn one_module_count()
 #[tactic(auto, using(crate::proofs::FileFeedLemmas::lasting_file_faults_last))]
 pub fn lasting_file_faults_last()
     ensures { LastingFileFaultsLast }
+{}
+
+/// The contents of records are those that they begin, each with the fixups of the records after it up to the next content.
+#[tactic(auto, using(crate::proofs::GatheredLemmas::contents_have_the_fixups_up_to_the_next))]
+pub fn contents_have_the_fixups_up_to_the_next()
+    ensures { ContentsHaveTheFixupsUpToTheNext }
 {}
 
 /// The records of a module have no fault of use exactly where what they say keeps the rules, each segment that they speak of is

@@ -67,7 +67,8 @@ impl<'a> OpenContent<'a> {
     fn take(&mut self, parts: &Parts, fixup: Fixup) -> Result<(), Cause>
         ensures taken { OnOk result (self.new ≡ with_fixups self.old (fixup ∷ [])) }
         ensures sound { OnOk result ((cs : List ContentValue) → fixup_fault (with_contents parts.now cs) self.old fixup ≡ None) }
-        ensures fault { IfErr result (λ why. why ≢ Cause.Memory → (cs : List ContentValue) → fixup_fault (with_contents parts.now cs) self.old fixup ≡ Some why) }
+        ensures fault { IfErr result (λ why. why ≢ Cause.Memory → (cs : List ContentValue)
+            → fixup_fault (with_contents parts.now cs) self.old fixup ≡ Some why) }
     {
         if !is_inside(self.offset, self.bytes.len(), fixup) {
             return Err(Cause::FixupOutside);
@@ -88,8 +89,10 @@ impl<'a> OpenContent<'a> {
     /// Takes these fixups, in order.
     fn take_all(&mut self, parts: &Parts, fixups: &[Fixup]) -> Result<(), Cause>
         ensures taken { OnOk result (self.new ≡ with_fixups self.old fixups.now) }
-        ensures sound { OnOk result ((cs : List ContentValue) → fixups_fault (with_contents parts.now cs) self.old fixups.now ≡ None) }
-        ensures fault { IfErr result (λ why. why ≢ Cause.Memory → (cs : List ContentValue) → fixups_fault (with_contents parts.now cs) self.old fixups.now ≡ Some why) }
+        ensures sound { OnOk result ((cs : List ContentValue)
+            → fixups_fault (with_contents parts.now cs) self.old fixups.now ≡ None) }
+        ensures fault { IfErr result (λ why. why ≢ Cause.Memory → (cs : List ContentValue)
+            → fixups_fault (with_contents parts.now cs) self.old fixups.now ≡ Some why) }
     {
         for fixup in fixups {
             self.take(parts, *fixup)?;
@@ -105,8 +108,10 @@ impl<'a> OpenContent<'a> {
         body: &Body,
     ) -> Result<(), Cause>
         ensures taken { OnOk result (self.new ≡ with_fixups self.old (fixups_in self.old.segment body.now)) }
-        ensures sound { OnOk result ((cs : List ContentValue) → fixups_fault (with_contents parts.now cs) self.old (fixups_in self.old.segment body.now) ≡ None) }
-        ensures fault { IfErr result (λ why. why ≢ Cause.Memory → (cs : List ContentValue) → fixups_fault (with_contents parts.now cs) self.old (fixups_in self.old.segment body.now) ≡ Some why) }
+        ensures sound { OnOk result ((cs : List ContentValue)
+            → fixups_fault (with_contents parts.now cs) self.old (fixups_in self.old.segment body.now) ≡ None) }
+        ensures fault { IfErr result (λ why. why ≢ Cause.Memory → (cs : List ContentValue)
+            → fixups_fault (with_contents parts.now cs) self.old (fixups_in self.old.segment body.now) ≡ Some why) }
     {
         let fixups = fixups_in(alloc, self.segment(), body)?;
         self.take_all(parts, &fixups)

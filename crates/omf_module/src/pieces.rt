@@ -1,4 +1,5 @@
-//! A module whose last bytes are still to come, read as far as they go: what the readers of files and libraries in pieces stand on.
+//! A module whose last bytes are still to come, read as far as they go: what the readers of files and libraries in pieces stand
+//! on.
 
 ghost use Rattle.std.specs.Prelude.{◌≡◌, ◌≤◌, [], None, Ok, length, IfOk, IfErr, IfSome};
 ghost use Rattle.omf_module.specs.declared.fault.ModuleFault.{ModuleFault as ModuleFaultValue};
@@ -16,7 +17,8 @@ use omf_core::laws::{other_faults_stay, records_stay, truncated_can_be_spoilt};
 use omf_parts::{Common, Module};
 use std::alloc::Global;
 
-/// How far the module is read that begins at place `begin`: its records are checked up to place `here`, and declare these commons.
+/// How far the module is read that begins at place `begin`: its records are checked up to place `here`, and declare these
+/// commons.
 /// Where that is `begin`, nothing is checked.
 #[derive(Debug, Drop)]
 pub struct UnfinishedModule {
@@ -52,7 +54,8 @@ fn walk_on(
     commons: &mut Vec<Common>,
 ) -> Result<Option<usize>, ModuleFault>
     requires { BegunModule bytes.now begin from commons.old.items }
-    ensures waits { IfOk result (λ rest. IfSome rest (λ here. BegunModule bytes.now begin here commons.new.items × IsCutOff bytes.now here)) }
+    ensures waits { IfOk result (λ rest. IfSome rest (λ here. BegunModule bytes.now begin here commons.new.items
+        × IsCutOff bytes.now here)) }
     ensures ends { result ≡ Ok None → WholeModule bytes.now begin }
     ensures fault { IfErr result (OrNoMemory (LastingModuleFault bytes.now begin)) }
 {
@@ -76,7 +79,8 @@ fn walk_on(
 /// no memory.
 fn unchecked_from(bytes: &[u8], unfinished: &UnfinishedModule) -> Result<Option<usize>, ModuleFault>
     requires { ReadsModule bytes.now unfinished.now.begin unfinished.now.here unfinished.now.commons.items }
-    ensures begun { IfOk result (λ from. IfSome from (λ here. BegunModule bytes.now unfinished.now.begin here unfinished.now.commons.items)) }
+    ensures begun { IfOk result (λ from. IfSome from (λ here.
+        BegunModule bytes.now unfinished.now.begin here unfinished.now.commons.items)) }
     ensures waits { result ≡ Ok None → IsCutOff bytes.now unfinished.now.begin }
     ensures unchecked { result ≡ Ok None → unfinished.now.here ≡ unfinished.now.begin }
     ensures fault { IfErr result (OrNoMemory (LastingModuleFault bytes.now unfinished.now.begin)) }
@@ -98,13 +102,15 @@ pub fn next_module(
     requires inside { unfinished.old.begin ≤ length bytes.now }
     ensures module { IfOk result (λ next. IfSome next (λ r. SpellsModule bytes.now unfinished.old.begin r.1 r.0)) }
     ensures begin { unfinished.new.begin ≡ unfinished.old.begin }
-    ensures reads { result ≡ Ok None → ReadsModule bytes.now unfinished.old.begin unfinished.new.here unfinished.new.commons.items }
+    ensures reads { result ≡ Ok None
+        → ReadsModule bytes.now unfinished.old.begin unfinished.new.here unfinished.new.commons.items }
     ensures waits { result ≡ Ok None → WaitsModule bytes.now unfinished.old.begin }
     ensures cut_off { result ≡ Ok None → IsCutOff bytes.now unfinished.new.here }
 
     // A fault lasts whatever bytes follow; where more bytes are needed, none does.
     ensures fault { IfErr result (OrNoMemory (LastingModuleFault bytes.now unfinished.old.begin)) }
-    ensures none_lasts { result ≡ Ok None → (fault : ModuleFaultValue) → LastingModuleFault bytes.now unfinished.old.begin fault → ⊥ }
+    ensures none_lasts { result ≡ Ok None → (fault : ModuleFaultValue) → LastingModuleFault bytes.now unfinished.old.begin fault
+        → ⊥ }
 {
     records_stay();
     other_faults_stay();

@@ -162,7 +162,8 @@ pub fn read_file(alloc: Global, bytes: &[u8]) -> Result<Vec<Module>, ModuleFault
     ensures read { IfOk result (λ modules. SpellsFile bytes.now modules.items) }
     ensures every_file { (ms : List ModuleValue) → SpellsFile bytes.now ms → (IsOk result) ⊎ (result ≡ Err no_memory) }
     ensures fault { IfErr result (OrNoMemory (FaultsFile bytes.now)) }
-    ensures every_fault { (fault : ModuleFaultValue) → FaultsFile bytes.now fault → (result ≡ Err fault) ⊎ (result ≡ Err no_memory) }
+    ensures every_fault { (fault : ModuleFaultValue) → FaultsFile bytes.now fault
+        → (result ≡ Err fault) ⊎ (result ≡ Err no_memory) }
 {
     one_file_reading();
     let mut feed = FileFeed::new(alloc);

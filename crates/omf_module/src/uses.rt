@@ -29,7 +29,8 @@ fn look_at_id(parts: &Parts, id: u8) -> Result<(), Cause>
 
 /// Whether the module has the segments that its header lists.
 pub(crate) fn look_at_header(parts: &Parts, header: &HeaderBody) -> Result<(), Cause>
-    ensures { (cs : List ContentValue) → result_err result ≡ unknown_id (with_contents parts.now cs) (map (λ e. e.id) header.now.segments) }
+    ensures { (cs : List ContentValue)
+        → result_err result ≡ unknown_id (with_contents parts.now cs) (map (λ e. e.id) header.now.segments) }
 {
     let mut rest = header.segments.again();
     while let Some(entry) = rest.next() {
@@ -40,7 +41,8 @@ pub(crate) fn look_at_header(parts: &Parts, header: &HeaderBody) -> Result<(), C
 
 /// Whether the module has the segment where it starts.
 pub(crate) fn look_at_start(parts: &Parts, start: Option<Place>) -> Result<(), Cause>
-    ensures { (cs : List ContentValue) → result_err result ≡ unknown_id (with_contents parts.now cs) (option_to_list (option_map (λ p. p.segment) start)) }
+    ensures { (cs : List ContentValue)
+        → result_err result ≡ unknown_id (with_contents parts.now cs) (option_to_list (option_map (λ p. p.segment) start)) }
 {
     match start {
         Some(place) => look_at_id(parts, place.segment),
@@ -78,7 +80,9 @@ fn look_at_place(parts: &Parts, body: &Body) -> Result<(), Cause>
 
 /// Whether a record's own segments and place are there.
 fn look_at(parts: &Parts, body: &Body) -> Result<(), Cause>
-    ensures { (cs : List ContentValue) → result_err result ≡ option_or (unknown_id (with_contents parts.now cs) (ids_in body.now)) (place_fault (with_contents parts.now cs) body.now) }
+    ensures { (cs : List ContentValue)
+        → result_err result ≡ option_or (unknown_id (with_contents parts.now cs) (ids_in body.now))
+        (place_fault (with_contents parts.now cs) body.now) }
 {
     look_at_ids(parts, body)?;
     look_at_place(parts, body)
@@ -92,8 +96,10 @@ fn take_fixups<'a>(
     nearest: Option<OpenContent<'a>>,
 ) -> Result<Option<OpenContent<'a>>, Cause>
     ensures taken { IfOk result (λ after. after ≡ option_map (λ c. with_fixups c (fixups_in c.segment body.now)) nearest.entry) }
-    ensures sound { OnOk result ((cs : List ContentValue) → reference_fault (with_contents parts.now cs) nearest.entry body.now ≡ None) }
-    ensures fault { IfErr result (λ why. why ≢ Cause.Memory → (cs : List ContentValue) → reference_fault (with_contents parts.now cs) nearest.entry body.now ≡ Some why) }
+    ensures sound { OnOk result ((cs : List ContentValue)
+        → reference_fault (with_contents parts.now cs) nearest.entry body.now ≡ None) }
+    ensures fault { IfErr result (λ why. why ≢ Cause.Memory → (cs : List ContentValue)
+        → reference_fault (with_contents parts.now cs) nearest.entry body.now ≡ Some why) }
 {
     let Some(mut open) = nearest else {
         return match body {
@@ -130,7 +136,8 @@ fn take_body<'a>(
     whole: &mut Vec<Content>,
 ) -> Result<Option<OpenContent<'a>>, Cause>
     ensures taken { IfOk result (λ after. TakesBody parts.now nearest.entry body.now whole.old.items whole.new.items after) }
-    ensures fault { IfErr result (λ why. why ≢ Cause.Memory → (cs : List ContentValue) → body_fault (with_contents parts.now cs) nearest.entry body.now ≡ Some why) }
+    ensures fault { IfErr result (λ why. why ≢ Cause.Memory → (cs : List ContentValue)
+        → body_fault (with_contents parts.now cs) nearest.entry body.now ≡ Some why) }
 {
     look_at(parts, body)?;
     let Body::Content(b) = body else {
@@ -148,7 +155,8 @@ pub(crate) fn contents_of(
 ) -> Result<Vec<Content>, ModuleFault>
     ensures contents { IfOk result (λ contents. contents.items ≡ contents_from None bodies.now) }
     ensures sound { OnOk result ((cs : List ContentValue) → bodies_fault (with_contents parts.now cs) None bodies.now ≡ None) }
-    ensures fault { IfErr result (OrNoMemory (λ fault. (cs : List ContentValue) → bodies_fault (with_contents parts.now cs) None bodies.now ≡ Some fault)) }
+    ensures fault { IfErr result (OrNoMemory (λ fault. (cs : List ContentValue)
+        → bodies_fault (with_contents parts.now cs) None bodies.now ≡ Some fault)) }
 {
     let mut whole = Vec::new(alloc);
     let mut nearest = None;
