@@ -24,6 +24,7 @@ mod object_files;
 mod pieces;
 mod running;
 mod shared_paths;
+mod suggesting;
 mod syntax;
 
 use arguments::{Request, read_arguments};
@@ -66,6 +67,7 @@ fn perform(rt: &HostRuntime, request: Request<'_>) -> Result<u8, Reported> {
         Request::Explain(arguments) => explaining::explain_files(rt, arguments),
         Request::Library(arguments) => library::write_library_file(rt, &arguments),
         Request::Regions(arguments) => migrating::migrate_file(rt, arguments),
+        Request::Cases(arguments) => suggesting::suggest_for_files(rt, arguments),
         Request::Map(arguments) => mapping::map_file(rt, arguments),
         Request::Extract(arguments) => extracting::extract_file(rt, arguments),
         Request::Absolute(arguments) => absolute::write_absolute(rt, arguments),

@@ -11,6 +11,7 @@ use crate::commands::locating::{LOCATE, LocateArguments};
 use crate::commands::mapping::{MAP, MapArguments};
 use crate::commands::migrating::{REGIONS, RegionsArguments};
 use crate::commands::running::{RUN, RunArguments};
+use crate::commands::suggesting::{CASES, CasesArguments};
 use crate::commands::syntax::Syntax;
 use clap::error::ErrorKind;
 use clap::{ArgMatches, Command, Error};
@@ -27,6 +28,7 @@ pub enum Request<'a> {
     Explain(ExplainArguments<'a>),
     Library(LibraryArguments<'a>),
     Regions(RegionsArguments<'a>),
+    Cases(CasesArguments<'a>),
     Map(MapArguments<'a>),
     Extract(ExtractArguments<'a>),
     Absolute(AbsoluteArguments<'a>),
@@ -40,10 +42,10 @@ hexadecimal, its regions, a line INPUTS, its inputs) and prints the transcript
 of its run. Files have at most 1048576 bytes, a bundle 4194312.
 
 The exit status is 0 if the command is done or the program halted, 1 if the
-verifier refuses the program, 2 at a fault of the arguments or of a file, and
-for help, 3 if the program stops at an empty port, a refused output, a store
-outside data or a jump outside its declared targets, and 4 if its steps are used
-up.
+verifier refuses the program or cases sees no table for a PCHL, 2 at a fault of
+the arguments or of a file, and for help, 3 if the program stops at an empty
+port, a refused output, a store outside data or a jump outside its declared
+targets, and 4 if its steps are used up.
 
 Example: plm80 locate readings.obj readings.img readings.regions
          plm80 run readings.img readings.regions readings.inputs
@@ -57,8 +59,8 @@ fn main_commands() -> [Syntax<'static>; 6] {
 }
 
 /// The other commands, in the order of the help text.
-fn other_commands() -> [Syntax<'static>; 5] {
-    [LIB, REGIONS, MAP, EXTRACT, ABSOLUTE]
+fn other_commands() -> [Syntax<'static>; 6] {
+    [LIB, REGIONS, CASES, MAP, EXTRACT, ABSOLUTE]
 }
 
 /// The command of a name.
@@ -165,6 +167,7 @@ fn asked_for<'a>(
         "explain" => Request::Explain(ExplainArguments::of(arguments)),
         "lib" => Request::Library(LibraryArguments::of(alloc, arguments)?),
         "regions" => Request::Regions(RegionsArguments::of(arguments)),
+        "cases" => Request::Cases(CasesArguments::of(arguments)),
         "map" => Request::Map(MapArguments::of(arguments)),
         "extract" => Request::Extract(ExtractArguments::of(arguments)),
         "absolute" => Request::Absolute(AbsoluteArguments::of(arguments)),

@@ -1,0 +1,2 @@
+mod TableLemmas
+mod SuggestedLemmas
