@@ -36,7 +36,8 @@ pub struct Ended {
 /// let mut bus = FlatBus::new(rt.alloc(), vouched.image())?;
 /// let mut ports = ListPorts::new(rt.alloc(), inputs, 65_536);
 /// let ended = run(&vouched, &mut bus, &mut ports, 1_000_000);
-/// assert!(rt; ended.end == Some(End::Halt) && ended.steps == 11);
+/// assert_eq!(rt; ended.end, Some(End::Halt));
+/// assert_eq!(rt; ended.steps, 11);
 /// ```
 pub fn run<B: Bus, P: Ports>(vouched: &Vouched, bus: &mut B, ports: &mut P, steps: u64) -> Ended
     requires content { B.memory bus.old ≡ memory_of vouched.now.image.chunks }

@@ -6,7 +6,7 @@ use image80::{Image, read_regions};
 use loader80::{ProcRow, Vouched, read_inputs, run, vouch};
 use machine80::{End, FlatBus, ListPorts, PagedBus, Ports};
 use place80::read_image;
-use std::alloc::{AllocError, Global};
+use std::alloc::Global;
 use std::process::Abort;
 use std::test::Fail;
 use verify80::verify;
@@ -48,22 +48,14 @@ fn a_vouched_image_is_run(rt: HostRuntime) -> Result<(), Fail> {
     runs_in_pages(&rt, &vouched)
 }
 
-/// Whether the one output was given. It is far from the limit, so nothing but want of memory refuses it.
-fn was_given(end: Option<End>) -> Result<(), AllocError> {
-    match end {
-        Some(End::OutputRefused(_)) => Err(AllocError),
-        _ => Ok(()),
-    }
-}
-
 /// The run puts out the argument. It takes no input, so both bytes are left.
 fn runs(rt: &(impl Abort + AllocGlobal), vouched: &Vouched) -> Result<(), Fail> {
     let inputs = read_inputs(rt.alloc(), b"02 41FF\n")?;
     let mut bus = FlatBus::new(rt.alloc(), vouched.image())?;
     let mut ports = ListPorts::new(rt.alloc(), inputs, 65_536);
     let ended = run(&vouched, &mut bus, &mut ports, 1_000_000);
-    was_given(ended.end)?;
-    assert!(rt; ended.end == Some(End::Halt) && ended.steps == 11);
+    assert_eq!(rt; ended.end, Some(End::Halt));
+    assert_eq!(rt; ended.steps, 11);
     assert!(rt; ended.cpu.pc() == 0x300A && ports.outputs() == [(0x01, 0x05)].as_slice());
     assert!(rt; ports.take(0x02) == Some(0x41) && ports.take(0x02) == Some(0xFF));
     Ok(())
@@ -75,8 +67,8 @@ fn runs_in_pages(rt: &(impl Abort + AllocGlobal), vouched: &Vouched) -> Result<(
     let mut bus = PagedBus::new(rt.alloc(), vouched.image())?;
     let mut ports = ListPorts::new(rt.alloc(), inputs, 65_536);
     let ended = run(vouched, &mut bus, &mut ports, 1_000_000);
-    was_given(ended.end)?;
-    assert!(rt; ended.end == Some(End::Halt) && ended.steps == 11 && ended.cpu.pc() == 0x300A);
+    assert_eq!(rt; ended.end, Some(End::Halt));
+    assert!(rt; ended.steps == 11 && ended.cpu.pc() == 0x300A);
     assert!(rt; ports.outputs() == [(0x01, 0x05)].as_slice());
     Ok(())
 }
