@@ -4,6 +4,7 @@
 //! |---|---|
 //! | `many` | `omf_core` to `omf_library`: modules, files and records of many parts |
 //! | `many_lines` | `image80`: regions of many lines |
+//! | `many_contents` | `machine80`: memories of images of many contents |
 //! | `lent` | `omf_core` to `place80`: what was lent, where memory runs out |
 //!
 //! What the program makes of many parts is in the tables of `tests/commands`.
@@ -13,5 +14,7 @@
 mod lent;
 #[cfg(test)]
 mod many;
+#[cfg(test)]
+mod many_contents;
 #[cfg(test)]
 mod many_lines;
