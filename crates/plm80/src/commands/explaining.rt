@@ -33,10 +33,10 @@ instruction, as list prints it, with the words that the procedure has on the
 stack before it, bottom to top. RET is its own return address, .. any word;
 BC=RET, DE=RET or HL=RET is a pair that holds its return address; TAKEN n counts
 words that it has taken from beneath its return address. Where two ways
-disagree, both are shown, under ONE WAY and ANOTHER. For the stack's size, of a
-program that is accepted too, it is the chain of calls that needs most: the
-bytes that each procedure HAS on the stack; two more are for each call. Where
-the stack is too small, check's line for each procedure comes before it.
+disagree, both are shown, under ONE WAY and ANOTHER. Of a program that is
+accepted, or whose stack is too small, it shows the chain of calls that needs
+most: the bytes that each procedure HAS on the stack, and two more for each
+call. Where the stack is too small, check's line for each procedure comes first.
 
 Example: plm80 explain readings.img readings.regions
 

@@ -22,10 +22,10 @@ const ABOUT: &str = "Prints the CASE lines that an image's jump tables suggest";
 const AFTER_HELP: &str = "\
 For each PCHL that the program may reach and no CASE line names there is a line
 CASE aaaa tttt ..: its address, and the addresses in the table that its target
-is loaded from, as PL/M compiles DO CASE. The lines are advice: append them to
-REGIONS, which plm80 regions OLD NEW makes a text of version 2, as they need,
-and check the image. A PCHL for which no table is seen has a line on standard
-error, and the status is 1.
+is loaded from, as PL/M compiles DO CASE. The lines are advice: append them to a
+regions text of version 2 (plm80 regions OLD NEW makes one), and check the
+image. A PCHL for which no table is seen has a line on standard error, and the
+status is 1.
 
 Example: plm80 cases adder.img adder.regions
 
