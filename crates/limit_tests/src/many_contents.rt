@@ -15,7 +15,7 @@ fn image_file(alloc: Global, count: u32) -> Result<Vec<u8>, Fail> {
     let mut file = Vec::new(alloc);
     put_record(alloc, 0x02, &[0x01, 0x41, 0x00, 0x00], &mut file)?;
     for number in 0..count {
-        let [low, high] = (number as u16).to_le_bytes();
+        let [low, high, _, _] = number.to_le_bytes();
         put_record(alloc, 0x06, &[0x00, low, high, low], &mut file)?;
     }
     put_record(alloc, 0x04, &[0x01, 0x00, 0x00, 0x30], &mut file)?;
@@ -26,8 +26,10 @@ fn image_file(alloc: Global, count: u32) -> Result<Vec<u8>, Fail> {
 /// Whether a memory has the bytes of so many contents, and 0 at the other addresses.
 fn holds<B: Bus>(bus: &B, count: u32) -> bool {
     for address in 0..65_536_u32 {
-        let expected = if address < count { address as u8 } else { 0 };
-        if bus.load(address as u16) != expected {
+        let at = address as u16;
+        let [low, _] = at.to_le_bytes();
+        let expected = if address < count { low } else { 0 };
+        if bus.load(at) != expected {
             return false;
         }
     }

@@ -6,7 +6,7 @@ use crate::outside::{ByteSink, ByteSource, EndlessSource};
 use crate::pushing::{IMAGE, INPUTS, REGIONS, TRANSCRIPT};
 use bundle80::{BundleFault, bundle};
 use loader80::{SessionFault, Sink, Source, session};
-use std::alloc::Global;
+use std::alloc::{AllocError, Global};
 use std::test::Fail;
 
 /// The fault of a session on these sources, if it has one.
@@ -26,13 +26,20 @@ fn fault_of<A: Source, B: Source, C: Source>(
 }
 
 /// The fault of a session whose writer has room for so many bytes, and what is written of the transcript.
-fn cut_off(alloc: Global, room: usize, fails: bool) -> (Option<SessionFault>, Vec<u8>) {
+fn cut_off(
+    alloc: Global,
+    room: usize,
+    fails: bool,
+) -> Result<(Option<SessionFault>, Vec<u8>), AllocError> {
+    // The writer never wants memory: where it fails there is no room.
+    let mut taken = Vec::new(alloc);
+    taken.reserve(room)?;
     let mut image = ByteSource::new(&IMAGE, usize::MAX);
     let mut regions = ByteSource::new(REGIONS, usize::MAX);
     let mut inputs = ByteSource::new(INPUTS, usize::MAX);
-    let mut out = ByteSink::new(alloc, room, fails);
+    let mut out = ByteSink::new(taken, room, fails);
     let fault = fault_of(alloc, &mut image, &mut regions, &mut inputs, &mut out);
-    (fault, out.taken)
+    Ok((fault, out.taken))
 }
 
 /// A write fails, or takes no byte, after each beginning of the transcript: just that is written.
@@ -40,7 +47,7 @@ fn cut_off(alloc: Global, room: usize, fails: bool) -> (Option<SessionFault>, Ve
 fn a_write_fails_after_each_byte(rt: HostRuntime) -> Result<(), Fail> {
     for place in 0..TRANSCRIPT.len() {
         for fails in [true, false] {
-            let (fault, written) = cut_off(rt.alloc(), place, fails);
+            let (fault, written) = cut_off(rt.alloc(), place, fails)?;
             assert_eq!(rt; fault, Some(SessionFault::Write));
             assert_eq!(rt; Some(written.as_slice()), TRANSCRIPT.get(..place));
         }
@@ -58,7 +65,7 @@ fn fault_after(alloc: Global, number: u8, reads: usize) -> (Option<SessionFault>
     let mut image = ByteSource::new(&IMAGE, reads_of(number == 1, reads));
     let mut regions = ByteSource::new(REGIONS, reads_of(number == 2, reads));
     let mut inputs = ByteSource::new(INPUTS, reads_of(number == 3, reads));
-    let mut out = ByteSink::new(alloc, usize::MAX, true);
+    let mut out = ByteSink::new(Vec::new(alloc), usize::MAX, true);
     let fault = fault_of(alloc, &mut image, &mut regions, &mut inputs, &mut out);
     (fault, out.taken.len())
 }
@@ -81,7 +88,7 @@ fn fault_without_end(alloc: Global, number: u8) -> (Option<SessionFault>, usize)
     let mut regions = ByteSource::new(REGIONS, usize::MAX);
     let mut inputs = ByteSource::new(INPUTS, usize::MAX);
     let mut endless = EndlessSource::new();
-    let mut out = ByteSink::new(alloc, usize::MAX, true);
+    let mut out = ByteSink::new(Vec::new(alloc), usize::MAX, true);
     let fault = match number {
         1 => fault_of(alloc, &mut endless, &mut regions, &mut inputs, &mut out),
         2 => fault_of(alloc, &mut image, &mut endless, &mut inputs, &mut out),
@@ -101,7 +108,7 @@ fn a_text_never_ends(rt: HostRuntime) -> Result<(), Fail> {
 
 #[test]
 fn a_bundle_never_ends(rt: HostRuntime) -> Result<(), Fail> {
-    let mut out = ByteSink::new(rt.alloc(), usize::MAX, true);
+    let mut out = ByteSink::new(Vec::new(rt.alloc()), usize::MAX, true);
     let answer = bundle(
         rt.alloc(),
         &mut EndlessSource::new(),
@@ -122,7 +129,7 @@ fn a_bundle_never_ends(rt: HostRuntime) -> Result<(), Fail> {
 fn a_read_of_a_bundle_fails(rt: HostRuntime) -> Result<(), Fail> {
     for reads in [0, 1] {
         let mut source = ByteSource::new(REGIONS, reads);
-        let mut out = ByteSink::new(rt.alloc(), usize::MAX, true);
+        let mut out = ByteSink::new(Vec::new(rt.alloc()), usize::MAX, true);
         let answer = bundle(rt.alloc(), &mut source, &mut out, 1_000_000, 65_536);
         assert_eq!(rt;
             answer.err(),

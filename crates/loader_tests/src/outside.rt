@@ -3,7 +3,6 @@
 ghost use Rattle.std.specs.Prelude.{◌≡◌};
 
 use loader80::{Failed, Sink, Source};
-use std::alloc::Global;
 
 /// Bytes that are given one a read, until a read fails.
 #[derive(Drop)]
@@ -93,12 +92,12 @@ pub struct ByteSink {
 }
 
 impl ByteSink {
-    /// A sink with room for so many bytes.
-    pub fn new(alloc: Global, room: usize, fails: bool) -> Self
+    /// A sink with room for so many bytes, which it keeps in this vector.
+    pub fn new(taken: Vec<u8>, room: usize, fails: bool) -> Self
         ensures { ⟦<ByteSink as Sink>⟧.failed result ≡ 0 }
     {
         ByteSink {
-            taken: Vec::new(alloc),
+            taken,
             room,
             fails,
             failures: 0,
