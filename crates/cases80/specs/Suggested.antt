@@ -1,12 +1,11 @@
 -- The CASE line that the table of a DO CASE suggests for a PCHL. (PL/M-80 compiles DO CASE to a jump through a table of words, low
 -- byte first; 8080 Assembly Language Programming Manual, PCHL. That a table ends at a word that is no address in CODE is this
 -- project's own.)
-use Rattle.std.specs.Prelude.{◌≡◌, ℕ, ◌+◌, ◌*◌, ◌<◌, ◌≤◌, ◌==◌, ◌↔◌, Bool, true, ◌&&◌, List, [], ◌∷◌, ◌++◌, All, AllPairs, Contains, codes, length, map, slice_index, is_none}
+use Rattle.std.specs.Prelude.{◌≡◌, ℕ, ◌+◌, ◌*◌, ◌<◌, ◌≤◌, ◌==◌, ◌↔◌, Bool, true, ◌&&◌, List, All, AllPairs, Contains, length, map, slice_index, is_none}
 use Rattle.std.specs.List.{range_with_len}
 use Rattle.image80.specs.Case.{DeclaredCase, IsCase, AreByAddress}
 use Rattle.image80.specs.Image.{Located, memory_of}
 use Rattle.image80.specs.Regions.{in_code, targets_at}
-use Rattle.image80.specs.RegionsText.{case_text}
 
 -- whether an address holds a PCHL, in the code, for which no targets are declared
 abbrev pub is_undeclared : Located → ℕ → Bool
@@ -58,7 +57,3 @@ pub record AreSuggestedBelow (image : Located) (limit : ℕ) (cases : List Decla
   pub suggested : AreSuggested image cases tableless
   pub below : All (λ case. case.at < limit) cases
   pub others_below : All (λ at. at < limit) tableless
-
--- the line of a case in a regions text of version 2
-abbrev pub line_of : DeclaredCase → List ℕ
-line_of case = (codes "CASE " ++ case_text case) ++ 10 ∷ []

@@ -4,14 +4,11 @@
 //! |---|---|
 //! | [`suggest_cases`] | the cases that the tables of an image suggest |
 //! | [`Suggestions`] | these cases, and the PCHLs for which no table is seen |
-//! | [`case_lines`] | cases as the lines of a regions text |
 #![tactic(auto)]
 
-mod lines;
 mod suggesting;
 mod table;
 mod trail;
 mod walk;
 
-pub use lines::case_lines;
 pub use suggesting::{Suggestions, suggest_cases};

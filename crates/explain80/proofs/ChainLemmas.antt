@@ -15,7 +15,7 @@ use Rattle.explain80.specs.declared.chain.Standing.{Standing}
 use Rattle.explain80.specs.declared.point.Point.{Point}
 use Rattle.explain80.specs.declared.origin.CallingPoint.{CallingPoint}
 use Rattle.explain80.specs.declared.search.Search.{Search}
-use Rattle.explain80.specs.Chains.{CallsAt, ChainsAreUses, EndsWith, IsChain, IsNextCall, StandsAt}
+use Rattle.explain80.specs.Chains.{CallsAt, ChainsAreUses, EndsWith, IsChain, IsNextCall, IsSiteOf, StandsAt}
 use Rattle.explain80.specs.Search.{IsSound}
 use Rattle.explain80.proofs.WayLemmas.{walked}
 
@@ -34,7 +34,7 @@ chains-are-uses code bytes chain c = uses code Main chain.calls.items chain.last
 -- a chain goes on by a call
 pub chain-call : (code : Code) (sites : List CallSite) (bounds : List ℕ) (p : Procedure) (call : CallSite) → All (CallsAt code) sites → IsNextCall sites bounds p call → (rest : List CallSite) (standing : Standing) →
     IsChain code (Entry call.target) rest standing (pos (bytes_of bounds (Entry call.target))) → IsChain code p (call ∷ rest) standing (pos (bytes_of bounds p))
-chain-call code sites bounds p call all next rest standing c = (next.caller, All-contains (CallsAt code) sites call all next.known, (pos (bytes_of bounds (Entry call.target)), c, next.sum))
+chain-call code sites bounds p call all next rest standing c = (next.adds_up.caller, All-contains (CallsAt code) sites call all next.known, (pos (bytes_of bounds (Entry call.target)), c, next.adds_up.sum))
 
 -- a chain ends
 pub chain-end : (code : Code) (p : Procedure) (bytes : ℕ) (standing : Standing) → EndsWith code p bytes standing → IsChain code p [] standing (pos bytes)
@@ -53,6 +53,13 @@ calls-at code s h k calling point depth is there e =
       calls = subst (λ (p : Point). Calls code p.procedure p.at p.frame calling.target calling.next) same c.calls;
       depth = e;
     }
+
+-- the call of a point, as it is noted
+pub site-of : (code : Code) (s : Search) (calling one : CallingPoint) (point : Point) (depth : ℤ) → Some calling ≡ Some one → slice_get s.points.keys calling.point ≡ Some point → depth ≡ depth_of (role_of code point.procedure) point.frame →
+    IsSiteOf code s.points.keys one (record { caller = point.procedure; at = point.at; depth = depth; target = calling.target })
+site-of code s calling one point depth same there e =
+    subst (λ (c : CallingPoint). IsSiteOf code s.points.keys c (record { caller = point.procedure; at = point.at; depth = depth; target = calling.target })) (same_Some calling one same)
+    (record { point = point; there = there; caller = refl; target = refl; depth = e })
 
 -- a point of a procedure
 pub stands-at : (code : Code) (s : Search) → IsSound code s → (n : ℕ) (point : Point) (p : Procedure) (depth : ℤ) (bytes : ℕ) → slice_get s.points.keys n ≡ Some point → point.procedure ≡ p → depth ≡ depth_of (role_of code point.procedure) point.frame → pos bytes ≡ depth →

@@ -1,5 +1,5 @@
 -- A search that is closed has every walk.
-use Rattle.std.proofs.Common.{◌≡◌, ◌<◌, ℕ, List, length, slice_get, Some, sym, subst}
+use Rattle.std.proofs.Common.{◌≡◌, ◌<◌, ℕ, List, length, slice_get, Some, sym, ◌∙◌, ap, subst}
 use Rattle.std.proofs.lemmas.Option.{slice_get_within}
 use Rattle.frames80.specs.StackFrame.{StackFrame, entry_frame, main_frame}
 use Rattle.bounds80.specs.declared.procedure.Procedure.{Procedure}
@@ -8,11 +8,12 @@ use Rattle.flow80.specs.Code.{Code}
 use Rattle.flow80.specs.Walks.{Walk, begins, goes_on, enters, comes_back}
 use Rattle.explain80.specs.declared.point.Point.{Point}
 use Rattle.explain80.specs.declared.origin.Exit.{Exit}
+use Rattle.explain80.specs.declared.origin.CallingPoint.{CallingPoint}
 use Rattle.explain80.specs.declared.search.Search.{Search}
 use Rattle.explain80.specs.declared.sought.Kind.{Kind}
 use Rattle.explain80.specs.declared.sought.Kind.TheVariants.{Fault, Clash}
 use Rattle.explain80.specs.Ways.{IsWalked}
-use Rattle.explain80.specs.Search.{Covers, Extends, Grows, Has, HasExit, IsClosed, point_of}
+use Rattle.explain80.specs.Search.{Covers, Extends, Grows, Has, HasExit, IsClosed, NotesCalls, point_of}
 use Rattle.explain80.specs.Sought.{NoEvidenceOf, NoWalksShow}
 use Rattle.explain80.proofs.ListLemmas.{extends-none, slice_get-extends}
 use Rattle.explain80.proofs.SearchLemmas.{has-extends}
@@ -30,26 +31,32 @@ covers-on code points more known less new later point e k n c = record {
 }
 
 -- a search that has not gone on where each point was followed once more is closed
-pub closes : (code : Code) (old new : Search) → Grows code old new → length new.points.keys ≡ length old.points.keys → length new.exits.items ≡ length old.exits.items →
-    Has old.points.keys (point_of Main code.start main_frame) →
-    ((n : ℕ) (point : Point) → n < length old.points.keys → slice_get old.points.keys n ≡ Some point → Covers code new.points.keys old.exits.items new.exits.items point) →
-    IsClosed code old.points.keys old.exits.items
-closes code old new g points exits begun covers = record {
-  begin = λ p at f b. subst (λ q. Has old.points.keys (point_of q at f)) (sym b.procedure) (subst (λ a. Has old.points.keys (point_of Main a f)) (sym b.start) (subst (λ h. Has old.points.keys (point_of Main code.start h)) (sym b.frame) begun));
-  covers = λ n point is. subst (λ xs. Covers code xs old.exits.items old.exits.items point) same_points (subst (λ xs. Covers code new.points.keys old.exits.items xs point) same_exits (covers n point (slice_get_within old.points.keys n point is) is));
-}
-  where
-    same_points : new.points.keys ≡ old.points.keys
-    same_points = extends-none old.points.keys new.points.keys g.points points
+module _ (code : Code) (old new : Search) (g : Grows code old new) (points : length new.points.keys ≡ length old.points.keys) (exits : length new.exits.items ≡ length old.exits.items) where
+  pub same_points : new.points.keys ≡ old.points.keys
+  same_points = extends-none old.points.keys new.points.keys g.points points
 
-    same_exits : new.exits.items ≡ old.exits.items
-    same_exits = extends-none old.exits.items new.exits.items g.exits exits
+  same_exits : new.exits.items ≡ old.exits.items
+  same_exits = extends-none old.exits.items new.exits.items g.exits exits
 
-module _ (code : Code) (points : List Point) (exits : List Exit) (closed : IsClosed code points exits) where
+  pub closes : Has old.points.keys (point_of Main code.start main_frame) →
+      ((n : ℕ) (point : Point) → n < length old.points.keys → slice_get old.points.keys n ≡ Some point → Covers code new.points.keys old.exits.items new.exits.items point) →
+      ((n : ℕ) (point : Point) → n < length old.points.keys → slice_get old.points.keys n ≡ Some point → NotesCalls code new.calls.items n point) →
+      IsClosed code new.points.keys new.exits.items new.calls.items
+  closes begun covers calls = record {
+    begin = λ p at f b. subst (λ q. Has new.points.keys (point_of q at f)) (sym b.procedure) (subst (λ a. Has new.points.keys (point_of Main a f)) (sym b.start) (subst (λ h. Has new.points.keys (point_of Main code.start h)) (sym b.frame)
+        (has-extends old.points.keys new.points.keys g.points (point_of Main code.start main_frame) begun)));
+    covers = λ n point is. let was = before n point is in subst (λ xs. Covers code new.points.keys xs new.exits.items point) (sym same_exits) (covers n point (slice_get_within old.points.keys n point was) was);
+    calls_there = λ n point is. let was = before n point is in calls n point (slice_get_within old.points.keys n point was) was;
+  }
+    where
+      before : (n : ℕ) (point : Point) → slice_get new.points.keys n ≡ Some point → slice_get old.points.keys n ≡ Some point
+      before n point is = ap (λ xs. slice_get xs n) (sym same_points) ∙ is
+
+module _ (code : Code) (points : List Point) (exits : List Exit) (calls : List CallingPoint) (closed : IsClosed code points exits calls) where
   covered : (point : Point) → (h : Has points point) → Covers code points exits exits point
   covered point h = closed.covers h.number point h.is
 
-  has_walk : (p : Procedure) (at : ℕ) (f : StackFrame) → Walk code p at f → Has points (point_of p at f)
+  pub has_walk : (p : Procedure) (at : ℕ) (f : StackFrame) → Walk code p at f → Has points (point_of p at f)
   has_walk _ _ _ (begins p at f b) = closed.begin p at f b
   has_walk _ _ _ (goes_on p at f to g walk on) = (covered (point_of p at f) (has_walk p at f walk)).on to g on
   has_walk _ _ _ (enters p at f target next q start g walk call enter) =

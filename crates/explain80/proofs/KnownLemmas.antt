@@ -1,5 +1,5 @@
 -- The calls of a search's points, as walks have them.
-use Rattle.std.proofs.Common.{◌≡◌, ◌⊎◌, inl, inr, ◌+◌, ℕ, List, [], ◌∷◌, ◌++◌, Some, Contains, length, slice_get, sym, ◌∙◌, ap, subst}
+use Rattle.std.proofs.Common.{◌≡◌, ◌<◌, ◌⊎◌, inl, inr, ◌+◌, ℕ, List, [], ◌∷◌, ◌++◌, Some, Contains, length, slice_get, sym, ◌∙◌, ap, subst}
 use Rattle.std.proofs.lemmas.Option.{same_Some, slice_get-get_or, slice_get_within}
 use Rattle.std.proofs.lemmas.List.{length-append}
 use Rattle.bounds80.specs.declared.procedure.Procedure.{Procedure}
@@ -7,14 +7,15 @@ use Rattle.bounds80.specs.declared.procedure.Procedure.TheVariants.{Main, Entry}
 use Rattle.flow80.specs.Code.{Code}
 use Rattle.flow80.specs.Walks.{Calls}
 use Rattle.explain80.specs.declared.point.Point.{Point}
+use Rattle.explain80.specs.declared.origin.CallingPoint.{CallingPoint}
 use Rattle.explain80.specs.declared.route.Call.{Call}
 use Rattle.explain80.specs.declared.search.Search.{Search}
 use Rattle.explain80.specs.Known.{AreKnown, IsKnown}
 use Rattle.explain80.specs.Ring.{Chained, IsRingOf}
-use Rattle.explain80.specs.Search.{CallersAreThere, IsSound}
+use Rattle.explain80.specs.Search.{CallersAreThere, HasCall, IsSound}
 use Rattle.explain80.specs.Shows.{RingOf}
 use Rattle.explain80.specs.Ways.{IsCalled, Lead}
-use Rattle.explain80.proofs.ListLemmas.{slice_get-push}
+use Rattle.explain80.proofs.ListLemmas.{slice_get-push, there_is}
 use Rattle.explain80.proofs.WayLemmas.{walked}
 
 -- a call more
@@ -27,6 +28,20 @@ known-push s count calls new call h k e = record {
     by : (n : ℕ) (one : Call) → (slice_get calls n ≡ Some one) ⊎ ((n ≡ length calls) × (one ≡ call)) → IsKnown s n one
     by n one (inl is) = h.known n one is
     by n one (inr at) = subst (λ i. IsKnown s i one) (sym (at.0 ∙ h.all)) (subst (IsKnown s count) (sym at.1) k)
+
+-- a call that is noted is known
+pub known-at : (s : Search) (calls : List Call) → AreKnown s (length s.calls.items) calls → (n target : ℕ) (point : Point) → HasCall s.calls.items n target → slice_get s.points.keys n ≡ Some point →
+    (k : ℕ) × (slice_get calls k ≡ Some (record { caller = point.procedure; at = point.at; target = target }))
+known-at s calls known n target point h is =
+    let one = there_is calls h.place (subst (λ m. h.place < m) (sym known.all) (slice_get_within s.calls.items h.place h.call h.is)) in
+    let of = known.known h.place one.0 one.1 in
+    let same : of.calling ≡ h.call = same_Some of.calling h.call (sym of.is ∙ h.is) in
+    let at : of.calling.point ≡ n = ap (λ (c : CallingPoint). c.point) same ∙ h.point in
+    let there : of.point ≡ point = same_Some of.point point (sym of.there ∙ ap (slice_get s.points.keys) at ∙ is) in (
+      h.place,
+      one.1 ∙ ap (λ c. Some c) (of.same ∙ ap (λ (p : Point). record { caller = p.procedure; at = p.at; target = of.calling.target }) there
+          ∙ ap (λ t. record { caller = point.procedure; at = point.at; target = t }) (ap (λ (c : CallingPoint). c.target) same ∙ h.same)),
+    )
 
 pub callers : (code : Code) (s : Search) → IsSound code s → CallersAreThere s
 callers code s h = record { there = λ k call is. let c = h.calls k call is in slice_get_within s.points.keys call.point c.point c.is }

@@ -5,6 +5,8 @@ pub mod WayLemmas
 pub mod ShownLemmas
 pub mod ClosedLemmas
 pub mod EvidenceLemmas
+pub mod RecursionLemmas
 pub mod RingLemmas
 pub mod KnownLemmas
 pub mod ChainLemmas
+pub mod BoundLemmas

@@ -1,8 +1,8 @@
 -- Elements of a list by index after it has been added to, and what a set has after an insert.
-use Rattle.std.proofs.Common.{◌≡◌, ◌<◌, ◌+◌, ℕ, zero, suc, Bool, true, false, not, ◌⊎◌, inl, inr, List, [], ◌∷◌, ◌++◌, Some, length, get_or, slice_get, refl, sym, ◌∙◌, ap, subst, append_assoc, true≢false, arith}
-use Rattle.std.specs.Prelude.{if◌then◌else◌, Result, Ok, Err, OnOk}
+use Rattle.std.proofs.Common.{◌≡◌, ◌<◌, ◌+◌, ℕ, zero, suc, Bool, true, false, not, ◌⊎◌, inl, inr, List, [], ◌∷◌, ◌++◌, Contains, Some, length, get_or, slice_get, refl, sym, ◌∙◌, ap, subst, append_assoc, true≢false, arith}
+use Rattle.std.specs.Prelude.{if◌then◌else◌, Result, Option, None, Ok, Err, IfNone, IfOk, OnOk}
 use Rattle.std.specs.List.{list_any}
-use Rattle.std.proofs.lemmas.Option.{same_Some, none-some, slice_get_read}
+use Rattle.std.proofs.lemmas.Option.{same_Some, none-some, slice_get-get_or, slice_get_read, slice_get_within}
 use Rattle.indexmap.specs.IndexSet.{insert_key}
 use Rattle.explain80.specs.Search.{Extends}
 
@@ -74,11 +74,22 @@ pub on_ok : {X E : Type 0} (r : Result X E) (A B : Type 0) → (A → B) → OnO
 on_ok (Ok x) A B f h = f h
 on_ok (Err e) A B f h = h
 
+pub on_none : {X E : Type 0} (r : Result (Option X) E) (A B : Type 0) → (A → B) → IfOk r (λ o. IfNone o A) → IfOk r (λ o. IfNone o B)
+on_none (Ok None) A B f h = f h
+on_none (Ok (Some x)) A B f h = h
+on_none (Err e) A B f h = h
+
 module _ {X : Type 0} where
   pub there_is : (xs : List X) (i : ℕ) → i < length xs → (x : X) × (slice_get xs i ≡ Some x)
   there_is [] i h = absurd (omega (arith, h))
   there_is (x ∷ xs) zero h = (x, refl)
   there_is (x ∷ xs) (suc i) h = there_is xs i (omega (arith, h))
+
+  pub contains-at : (xs : List X) (i : ℕ) (x : X) → slice_get xs i ≡ Some x → Contains xs x
+  contains-at xs i x is = let below = slice_get_within xs i x is in (i, below, same_Some (get_or xs i x) x (sym (slice_get-get_or xs i x below) ∙ is))
+
+  pub at-contained : (xs : List X) (x : X) → Contains xs x → (i : ℕ) × (slice_get xs i ≡ Some x)
+  at-contained xs x c = (c.0, slice_get-get_or xs c.0 x c.1 ∙ ap (λ y. Some y) c.2)
 
   -- an element that is read by its index
   pub read_at : (xs : List X) (i : ℕ) (x : X) → i < length xs → x ≡ get_or xs i x → slice_get xs i ≡ Some x
@@ -94,3 +105,14 @@ one_more P i below at k h = by (lt_or_eq k i h)
     by : (k < i) ⊎ (k ≡ i) → P k
     by (inl less) = below k less
     by (inr same) = subst P (sym same) at
+
+-- what holds of the elements of two lists at each place holds with one element more
+pub each-push : {X Y : Type 0} (R : Y → X → Type 0) (xs new : List X) (ys : List Y) (x : X) → new ≡ xs ++ x ∷ [] →
+    ((j : ℕ) (one : X) (y : Y) → slice_get xs j ≡ Some one → slice_get ys j ≡ Some y → R y one) →
+    ((y : Y) → slice_get ys (length xs) ≡ Some y → R y x) →
+    (j : ℕ) (one : X) (y : Y) → slice_get new j ≡ Some one → slice_get ys j ≡ Some y → R y one
+each-push R xs new ys x e before last j one y at there = by (slice_get-push xs x j one (ap (λ zs. slice_get zs j) (sym e) ∙ at))
+  where
+    by : (slice_get xs j ≡ Some one) ⊎ ((j ≡ length xs) × (one ≡ x)) → R y one
+    by (inl is) = before j one y is there
+    by (inr is) = subst (R y) (sym is.1) (last y (ap (λ i. slice_get ys i) (sym is.0) ∙ there))

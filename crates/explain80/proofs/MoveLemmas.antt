@@ -1,5 +1,5 @@
 -- Where moves lead, move by move, and that what a look finds is all that there is.
-use Rattle.std.proofs.Common.{◌≡◌, ◌≤◌, ◌<◌, ◌+◌, ℕ, ◌⊎◌, inl, inr, List, Contains, None, Some, get_or, length, slice_get, refl, sym, ◌∙◌, ap, subst, arith}
+use Rattle.std.proofs.Common.{◌≡◌, ◌≤◌, ◌<◌, ◌+◌, ℕ, ◌⊎◌, inl, inr, List, [], ◌∷◌, ◌++◌, Contains, None, Some, get_or, length, slice_get, refl, sym, ◌∙◌, ap, subst, arith}
 use Rattle.std.proofs.lemmas.Option.{same_Some, none-some, slice_get_within}
 use Rattle.std.proofs.lemmas.List.Elements.{All-contains, All-from_get_or, Contains-get_or}
 use Rattle.decode80.specs.declared.fetching.Fetched.{Fetched}
@@ -17,10 +17,10 @@ use Rattle.flow80.specs.Walks.{Calls, GoesOn, LeadsTo, Moving, called, returning
 use Rattle.explain80.specs.declared.point.Point.{Point}
 use Rattle.explain80.specs.declared.origin.Exit.{Exit}
 use Rattle.explain80.specs.declared.origin.CallingPoint.{CallingPoint}
-use Rattle.explain80.specs.Search.{Has, HasExit, HasBack, BacksFrom, Comes, CoversMove, Covers, Extends, IsBack, IsCalling, IsExit, IsMoving, IsMovingAt, IsSound, Grows, IsAdded, point_of}
+use Rattle.explain80.specs.Search.{Has, HasExit, HasBack, BacksFrom, Comes, CoversMove, Covers, Extends, IsBack, IsCalling, IsExit, IsMoving, IsMovingAt, IsSound, Grows, IsAdded, NotesCalls, NotesMove, point_of}
 use Rattle.explain80.specs.declared.origin.Origin.TheVariants.{GoesOn as GoesOnFrom, Enters as EntersBy, ComesBack}
 use Rattle.explain80.specs.declared.search.Search.{Search}
-use Rattle.explain80.proofs.ListLemmas.{slice_get-extends}
+use Rattle.explain80.proofs.ListLemmas.{extends-push, extends-same, slice_get-extends, slice_get-last}
 use Rattle.explain80.proofs.SearchLemmas.{has-extends, grows-added}
 
 module _ (code : Code) (points : List Point) (known new : List Exit) (point : Point) (next : ℕ) where
@@ -137,13 +137,31 @@ module _ (code : Code) (points : List Point) (known new : List Exit) (point : Po
       return = λ taken e. c.return taken (ap returning (one_move e.found e.moves e.moving) ∙ e.return);
     }
 
--- what may not be executed leads nowhere
-pub covers-wrong : (code : Code) (points : List Point) (known new : List Exit) (point : Point) → ((found : Fetched) (moves : Moves) → Moving code point.procedure point.at point.frame found moves → ⊥) → Covers code points known new point
-covers-wrong code points known new point none = record {
-  on = λ to g e. absurd (none e.found e.moves e.moving);
-  enter = λ target after e. absurd (none e.found e.moves e.moving);
-  back = λ target after taken e h. absurd (none e.found e.moves e.moving);
-  return = λ taken e. absurd (none e.found e.moves e.moving);
+-- what a move calls is noted
+pub notes-same : (old new : List CallingPoint) (number : ℕ) (moves : Moves) → called moves ≡ None → new ≡ old → NotesMove old new number moves
+notes-same old new number moves none e = record { more = extends-same old new e; noted = λ target is. absurd (none-some target (sym none ∙ is)) }
+
+pub notes-call : (old new : List CallingPoint) (call : CallingPoint) (moves : Moves) → called moves ≡ Some call.target → new ≡ old ++ call ∷ [] → NotesMove old new call.point moves
+notes-call old new call moves calls e = record {
+  more = extends-push old new call e;
+  noted = λ target is. record {
+    place = length old;
+    call = call;
+    is = ap (λ xs. slice_get xs (length old)) e ∙ slice_get-last old call;
+    point = refl;
+    same = same_Some call.target target (sym calls ∙ is);
+  };
+}
+
+pub notes-moved : (code : Code) (old new : List CallingPoint) (number : ℕ) (point : Point) (moves : Moves) (next : ℕ) → IsMoving code point moves next → NotesMove old new number moves → NotesCalls code new number point
+notes-moved code old new number point moves next is n = record {
+  noted = λ target after e. n.noted target (ap called (one_move code [] [] [] point next moves is e.found e.moves e.moving) ∙ e.call);
+}
+
+-- a call that is noted stays so
+pub notes-extends : (code : Code) (old new : List CallingPoint) → Extends old new → (number : ℕ) (point : Point) → NotesCalls code old number point → NotesCalls code new number point
+notes-extends code old new e number point n = record {
+  noted = λ target next call. let has = n.noted target next call in record { place = has.place; call = has.call; is = slice_get-extends old new e has.place has.call has.is; point = has.point; same = has.same };
 }
 
 -- the backs from each of the exits are those from all of them

@@ -1,13 +1,16 @@
 -- Calls by which a procedure is reached, and the way back by them.
-use Rattle.std.proofs.Common.{◌≡◌, ◌<◌, ◌⊎◌, inl, inr, ℕ, List, [], ◌∷◌, ◌++◌, Some, Contains, length, reverse, slice_get, refl, sym, ◌∙◌, ap, subst, arith}
+use Rattle.std.proofs.Common.{◌≡◌, ◌≢◌, ◌<◌, ◌≤◌, ◌⊎◌, inl, inr, ℕ, Bool, true, false, List, [], ◌∷◌, ◌++◌, Some, Contains, length, get_or, set, reverse, slice_get, refl, sym, ◌∙◌, ap, subst, true≢false, arith}
+use Rattle.std.specs.Prelude.{All}
 use Rattle.std.proofs.lemmas.Option.{same_Some, slice_get_within}
-use Rattle.std.proofs.lemmas.List.{reverse-append}
+use Rattle.std.proofs.lemmas.Bool.{cases_eq}
+use Rattle.std.proofs.lemmas.List.{get_or-set_other, get_or_past, reverse-append}
 use Rattle.bounds80.specs.declared.procedure.Procedure.{Procedure}
 use Rattle.bounds80.specs.declared.procedure.Procedure.TheVariants.{Main, Entry}
 use Rattle.explain80.specs.declared.route.Call.{Call}
 use Rattle.explain80.specs.declared.ring.Reach.{Reach}
-use Rattle.explain80.specs.Ring.{AreLinked, AreReached, Chained, EntersAt, IsFurther, IsLed, IsLedBack}
-use Rattle.explain80.proofs.ListLemmas.{slice_get-append, slice_get-push}
+use Rattle.explain80.specs.Ring.{AreLinked, AreMarked, AreReached, Chained, EntersAt, IsEntered, IsFollowed, IsFurther, IsLed, IsLedBack, NoneLeadBack}
+use Rattle.explain80.specs.Search.{Extends}
+use Rattle.explain80.proofs.ListLemmas.{extends-push, slice_get-append, slice_get-extends, slice_get-last, slice_get-push, there_is}
 
 module _ (calls : List Call) (first : Call) where
   pub linked : (reached : List Reach) → AreReached calls first reached → AreLinked reached
@@ -82,8 +85,8 @@ back-begin calls reached at one last back is was e = record {
 }
 
 -- what is read where there is nothing
-abbrev pub none : Reach
-none = record { call = record { caller = Main; at = 0; target = 0 }; from = 0 }
+abbrev pub no_reach : Reach
+no_reach = record { call = record { caller = Main; at = 0; target = 0 }; from = 0 }
 
 abbrev pub no_call : Call
 no_call = record { caller = Main; at = 0; target = 0 }
@@ -96,3 +99,61 @@ pub reached-further : (calls : List Call) (first : Call) (old new : List Reach) 
     AreReached calls first new
 reached-further calls first old new call n target h at is known e = reached-push calls first old new (record { call = call; from = n }) h
     (record { earlier = slice_get_within old n at.reach at.is; before = at.reach; is = at.is; caller = is ∙ ap Entry (sym at.enters); known = known }) e
+
+-- a call more that leads on
+pub chained-push : (calls : List Call) (p : Procedure) (led : List Call) (q : Procedure) (call : Call) → Chained calls p led q → call.caller ≡ q → Contains calls call → Chained calls p (led ++ call ∷ []) (Entry call.target)
+chained-push calls p [] q call e of known = (of ∙ sym e, known, refl)
+chained-push calls p (one ∷ led) q call c of known = (c.0, c.1, chained-push calls (Entry one.target) led q call c.2 of known)
+
+pub entered-extends : (old new : List Reach) → Extends old new → (target : ℕ) → IsEntered old target → IsEntered new target
+entered-extends old new e target h = record {
+  number = h.number;
+  at = record { reach = h.at.reach; is = slice_get-extends old new e h.number h.at.reach h.at.is; enters = h.at.enters };
+}
+
+-- the call that is added enters its callee
+pub entered-push : (old new : List Reach) (reach : Reach) → new ≡ old ++ reach ∷ [] → IsEntered new reach.call.target
+entered-push old new reach e = record { number = length old; at = record { reach = reach; is = ap (λ xs. slice_get xs (length old)) e ∙ slice_get-last old reach; enters = refl } }
+
+pub marked-extends : (entered : List Bool) (old new : List Reach) → Extends old new → AreMarked entered old → AreMarked entered new
+marked-extends entered old new e h = record { marked = λ target is. entered-extends old new e target (h.marked target is) }
+
+-- a procedure that is entered is marked
+pub marked-set : (entered : List Bool) (old new : List Reach) (reach : Reach) (place : ℕ) → place ≡ reach.call.target → place < length entered → AreMarked entered old → new ≡ old ++ reach ∷ [] → AreMarked (set entered place true) new
+marked-set entered old new reach place same below h e = record { marked = λ target is. by target is (cases_eq target place) }
+  where
+    by : (target : ℕ) → get_or (set entered place true) target false ≡ true → (target ≡ place) ⊎ (target ≢ place) → IsEntered new target
+    by target is (inl at) = subst (IsEntered new) (sym (at ∙ same)) (entered-push old new reach e)
+    by target is (inr other) = entered-extends old new (extends-push old new reach e) target (h.marked target (sym (get_or-set_other entered place target true false other) ∙ is))
+
+pub marked-none : (entered : List Bool) (reached : List Reach) → All (λ x. x ≡ false) entered → AreMarked entered reached
+marked-none entered reached clear = record { marked = λ target is. absurd (true≢false (sym is ∙ by target (which target (length entered)))) }
+  where
+    which : (i n : ℕ) → (i < n) ⊎ (n ≤ i)
+    which i n = grind arith
+
+    by : (i : ℕ) → (i < length entered) ⊎ (length entered ≤ i) → get_or entered i false ≡ false
+    by i (inl inside) = clear i false inside
+    by i (inr past) = get_or_past entered i false past
+
+pub followed-extends : (calls : List Call) (first : Call) (old new : List Reach) → Extends old new → (n : ℕ) → n < length old → IsFollowed calls first old n → IsFollowed calls first new n
+followed-extends calls first old new e n below h = record {
+  away = λ reach is. h.away reach (was reach is);
+  callees = λ reach call is known of. entered-extends old new e call.target (h.callees reach call (was reach is) known of);
+}
+  where
+    was : (reach : Reach) → slice_get new n ≡ Some reach → slice_get old n ≡ Some reach
+    was reach is = let one = there_is old n below in one.1 ∙ ap (λ r. Some r) (same_Some one.0 reach (sym (slice_get-extends old new e n one.0 one.1) ∙ is))
+
+-- where the callees of all are followed, and none enters the first one's procedure, no calls lead back to it
+module _ (calls : List Call) (first : Call) (reached : List Reach) (followed : (n : ℕ) → n < length reached → IsFollowed calls first reached n) where
+  leads_back : (target : ℕ) → IsEntered reached target → (rest : List Call) → Chained calls (Entry target) rest first.caller → ⊥
+  leads_back target entered [] c =
+      let at = entered.at in
+      (followed entered.number (slice_get_within reached entered.number at.reach at.is)).away at.reach at.is (sym c ∙ ap Entry (sym at.enters))
+  leads_back target entered (call ∷ rest) c =
+      let at = entered.at in
+      leads_back call.target ((followed entered.number (slice_get_within reached entered.number at.reach at.is)).callees at.reach call at.is c.1 (c.0 ∙ ap Entry (sym at.enters))) rest c.2
+
+  pub none-lead-back : IsEntered reached first.target → NoneLeadBack calls first
+  none-lead-back begun = record { none = λ rest c. leads_back first.target begun rest c }

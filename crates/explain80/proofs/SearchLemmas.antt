@@ -1,6 +1,6 @@
 -- What goes on holding while a search goes on.
 use Rattle.std.proofs.Common.{◌≡◌, ◌+◌, ℕ, ◌⊎◌, inl, inr, List, [], ◌∷◌, ◌++◌, Some, length, slice_get, refl, sym, ◌∙◌, ap, subst, arith}
-use Rattle.std.proofs.lemmas.Option.{slice_get_within}
+use Rattle.std.proofs.lemmas.Option.{none-some, slice_get_within}
 use Rattle.std.proofs.lemmas.List.{length-append}
 use Rattle.flow80.specs.Code.{Code}
 use Rattle.explain80.specs.declared.point.Point.{Point}
@@ -112,6 +112,18 @@ module _ (code : Code) (old new : Search) (h : IsSound code old) where
         by : (k : ℕ) (one : CallingPoint) → (slice_get old.calls.items k ≡ Some one) ⊎ ((k ≡ length old.calls.items) × (one ≡ call)) → IsCalling code new.points.keys one
         by k one (inl e) = calling-extends code old.points.keys new.points.keys same_points one (h.calls k one e)
         by k one (inr e) = calling-extends code old.points.keys new.points.keys same_points one (subst (IsCalling code old.points.keys) (sym e.1) is)
+
+    pub grows-cleared : new.exits.items ≡ old.exits.items → new.calls.items ≡ [] → Grows code old new
+    grows-cleared exits calls = record {
+      points = same_points;
+      exits = extends-same old.exits.items new.exits.items exits;
+      sound = record {
+        paired = paired-noted;
+        comes = comes-noted;
+        exits = λ k exit e. exit-extends code old.points.keys new.points.keys same_points exit (h.exits k exit (ap (λ xs. slice_get xs k) (sym exits) ∙ e));
+        calls = λ k one e. absurd (none-some one (ap (λ xs. slice_get xs k) (sym calls) ∙ e));
+      };
+    }
 
     pub grows-left : (exit : Exit) → IsExit code old.points.keys exit → new.exits.items ≡ old.exits.items ++ exit ∷ [] → new.calls.items ≡ old.calls.items → Grows code old new
     grows-left exit is exits calls = record {

@@ -4,6 +4,7 @@ use Rattle.explain80.specs.declared.point.Point.{Point}
 use Rattle.explain80.specs.declared.origin.CallingPoint.{CallingPoint}
 use Rattle.explain80.specs.declared.route.Call.{Call}
 use Rattle.explain80.specs.declared.search.Search.{Search}
+use Rattle.explain80.specs.Ring.{NoneLeadBack}
 
 -- the call of the point that is noted under a number
 pub record IsKnown (s : Search) (k : ℕ) (call : Call) : Type 0 where
@@ -17,3 +18,9 @@ pub record IsKnown (s : Search) (k : ℕ) (call : Call) : Type 0 where
 pub record AreKnown (s : Search) (count : ℕ) (calls : List Call) : Type 0 where
   pub all : length calls ≡ count
   pub known : (k : ℕ) (call : Call) → slice_get calls k ≡ Some call → IsKnown s k call
+
+-- the calls, none of which at an address leads back to its procedure
+pub record HasNoRing (s : Search) (at : ℕ) : Type 0 where
+  pub calls : List Call
+  pub known : AreKnown s (length s.calls.items) calls
+  pub none : (k : ℕ) (first : Call) → slice_get calls k ≡ Some first → first.at ≡ at → NoneLeadBack calls first

@@ -1,5 +1,5 @@
 -- Calls that lead from a first one back to its procedure. (This project's own.)
-use Rattle.std.specs.Prelude.{◌≡◌, ◌<◌, ◌⊎◌, ℕ, List, [], ◌∷◌, Contains, Some, reverse, slice_get}
+use Rattle.std.specs.Prelude.{◌≡◌, ◌<◌, ◌⊎◌, ℕ, Bool, true, false, List, [], ◌∷◌, Contains, Some, get_or, reverse, slice_get}
 use Rattle.bounds80.specs.declared.procedure.Procedure.{Procedure}
 use Rattle.bounds80.specs.declared.procedure.Procedure.TheVariants.{Entry}
 use Rattle.explain80.specs.declared.route.Call.{Call}
@@ -41,6 +41,24 @@ pub record EntersAt (reached : List Reach) (n target : ℕ) : Type 0 where
   pub reach : Reach
   pub is : slice_get reached n ≡ Some reach
   pub enters : reach.call.target ≡ target
+
+-- no calls lead from a call's callee back to its procedure
+pub record NoneLeadBack (calls : List Call) (first : Call) : Type 0 where
+  pub none : (rest : List Call) → Chained calls (Entry first.target) rest first.caller → ⊥
+
+-- some call enters the procedure at an address
+pub record IsEntered (reached : List Reach) (target : ℕ) : Type 0 where
+  pub number : ℕ
+  pub at : EntersAt reached number target
+
+-- the procedures that are marked are entered
+pub record AreMarked (entered : List Bool) (reached : List Reach) : Type 0 where
+  pub marked : (target : ℕ) → get_or entered target false ≡ true → IsEntered reached target
+
+-- the call of this number doesn't enter the first one's procedure, and the callees of the procedure that it enters are entered
+pub record IsFollowed (calls : List Call) (first : Call) (reached : List Reach) (n : ℕ) : Type 0 where
+  pub away : (reach : Reach) → slice_get reached n ≡ Some reach → first.caller ≡ Entry reach.call.target → ⊥
+  pub callees : (reach : Reach) (call : Call) → slice_get reached n ≡ Some reach → Contains calls call → call.caller ≡ Entry reach.call.target → IsEntered reached call.target
 
 -- a list of calls, last first, leads from the call of a number to a procedure
 pub record IsLedBack (calls : List Call) (reached : List Reach) (n : ℕ) (back : List Call) (q : Procedure) : Type 0 where

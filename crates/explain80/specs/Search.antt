@@ -172,10 +172,28 @@ pub record Covers (code : Code) (points : List Point) (known new : List Exit) (p
   pub back : (target next taken : ℕ) → Calls code point.procedure point.at point.frame target next → HasExit known (Entry target) taken → HasBack code points point.procedure point.frame next taken
   pub return : (taken : ℕ) → Returns code point.procedure point.at point.frame taken → HasExit new point.procedure taken
 
--- the main program begins there, and where each point leads is there
-pub record IsClosed (code : Code) (points : List Point) (exits : List Exit) : Type 0 where
+-- a call of the point of this number is noted
+pub record HasCall (calls : List CallingPoint) (number target : ℕ) : Type 0 where
+  pub place : ℕ
+  pub call : CallingPoint
+  pub is : slice_get calls place ≡ Some call
+  pub point : call.point ≡ number
+  pub same : call.target ≡ target
+
+-- calls have only been added, and that of the move of the point of this number is there
+pub record NotesMove (old new : List CallingPoint) (number : ℕ) (moves : Moves) : Type 0 where
+  pub more : Extends old new
+  pub noted : (target : ℕ) → called moves ≡ Some target → HasCall new number target
+
+-- the call of the point of this number is there
+pub record NotesCalls (code : Code) (calls : List CallingPoint) (number : ℕ) (point : Point) : Type 0 where
+  pub noted : (target next : ℕ) → Calls code point.procedure point.at point.frame target next → HasCall calls number target
+
+-- the main program begins there, and where each point leads is there, and its call
+pub record IsClosed (code : Code) (points : List Point) (exits : List Exit) (calls : List CallingPoint) : Type 0 where
   pub begin : (p : Procedure) (at : ℕ) (f : StackFrame) → BeginsAt code p at f → Has points (point_of p at f)
   pub covers : (n : ℕ) (point : Point) → slice_get points n ≡ Some point → Covers code points exits exits point
+  pub calls_there : (n : ℕ) (point : Point) → slice_get points n ≡ Some point → NotesCalls code calls n point
 
 -- the point before in the same procedure, or none at its start
 abbrev pub before_of : Origin → Option ℕ

@@ -51,9 +51,16 @@ pub record IsSoughtFor (refusal : Refusal) (sought : Sought) : Type 0 where
   pub shows : (code : Code) (shown : Explanation) → ShowsSought code sought shown → Shows code refusal shown
   pub holds : (code : Code) → NoWalksShow code sought.at sought.kind → Holds code refusal → ⊥
 
--- a refusal of which it isn't promised that ways show it: of calls, of the stack, of the number of points, and of memory
+-- a refusal that no way shows: of calls, of the stack, of the number of points, and of memory
+abbrev pub IsOfNoWay : Refusal → Type 0
+IsOfNoWay (Recursion at) = Unit {0}
+IsOfNoWay (StackTooSmall need has) = Unit {0}
+IsOfNoWay TooManyPoints = Unit {0}
+IsOfNoWay Memory = Unit {0}
+IsOfNoWay _ = ⊥
+
+-- a refusal that no explanation shows: of the stack, of the number of points, and of memory
 abbrev pub IsNotShown : Refusal → Type 0
-IsNotShown (Recursion at) = Unit {0}
 IsNotShown (StackTooSmall need has) = Unit {0}
 IsNotShown TooManyPoints = Unit {0}
 IsNotShown Memory = Unit {0}

@@ -1,13 +1,15 @@
 //! The chain of calls that a stack bound adds up.
 
-ghost use Rattle.std.specs.Prelude.{◌≡◌, ◌↔◌, ◌++◌, ◌∷◌, [], pos, true, All, IfOk, IfSome, OnOk};
+ghost use Rattle.std.specs.Prelude.{◌≡◌, ◌↔◌, ◌++◌, ◌∷◌, [], List, Err, pos, true, All, IfNone, IfOk, IfSome, OnOk};
 ghost use Rattle.bounds80.specs.Chains.{IsModest, bytes_of};
 ghost use Rattle.bounds80.specs.declared.procedure.Procedure.TheVariants.{Main};
 ghost use Rattle.frames80.specs.Calls.{depth_of};
 ghost use Rattle.flow80.specs.Walks.{role_of as role_in};
 ghost use Rattle.verify80.specs.Looking.{code_of};
-ghost use Rattle.explain80.specs.Chains.{CallsAt, ChainsTo, EndsWith, IsNextCall};
-ghost use Rattle.explain80.specs.Search.{IsSound};
+ghost use Rattle.bounds80.specs.declared.graph.Depth.{Depth as DepthSeen};
+ghost use Rattle.explain80.specs.declared.fault.Unexplained.TheVariants.{NotShown};
+ghost use Rattle.explain80.specs.Chains.{AddsUp, AreDepthsOf, AreGreatestOf, AreSitesOf, CallsAt, ChainsTo, EndsWith, IsNextCall, IsNotTheBound, NoneStands, NoNextCall};
+ghost use Rattle.explain80.specs.Search.{IsClosed, IsSound};
 
 use crate::fault::{Stop, Unexplained};
 use crate::looked::{MOST_WORDS, role_of};
@@ -22,9 +24,6 @@ use verify80::ImageCode;
 
 /// The most calls that bounds are found of.
 const MOST_CALLS: usize = 262_144;
-
-/// How many procedures there may be: one at each address, and the main program.
-const PROCEDURES: usize = 65_537;
 
 /// A chain of calls, and where the last procedure of it stands.
 #[derive(Debug, Drop)]
@@ -76,15 +75,16 @@ fn site_of(caller: &Point, depth: i64, target: u16) -> CallSite
 /// as `verify` reports it, or as the refusal `StackTooSmall` names it. The limit is that of [`explain`](crate::explain).
 ///
 /// # Errors
-/// `NotShown` where the bound is another number, or a procedure calls itself. `Limit` where the limit was met before. `Memory` where
-/// memory runs out.
+/// `NotShown` where the bound is another number, or a procedure calls itself. `Limit` where the limit was met before, a frame has more
+/// than 1,000,000 words, or there are more than 262,144 calls. `Memory` where memory runs out.
 pub fn find_chain(
     alloc: Global,
     image: &Image,
     bytes: u64,
     limit: usize,
 ) -> Result<Chain, Unexplained>
-    ensures { IfOk result (ChainsTo (code_of image.now) bytes) }
+    ensures chain { IfOk result (ChainsTo (code_of image.now) bytes) }
+    ensures none { result ≡ Err NotShown → IsNotTheBound (code_of image.now) bytes }
 {
     let code = ImageCode::new(alloc, image)?;
     chain_of(alloc, &code, bytes, limit)
@@ -97,10 +97,11 @@ fn chain_of<C: Code>(
     bytes: u64,
     limit: usize,
 ) -> Result<Chain, Unexplained>
-    ensures { IfOk result (ChainsTo (C.code program.now) bytes) }
+    ensures chain { IfOk result (ChainsTo (C.code program.now) bytes) }
+    ensures none { result ≡ Err NotShown → IsNotTheBound (C.code program.now) bytes }
 {
     let mut search = Search::new(alloc, program)?;
-    if !search.grow(alloc, program, limit)? {
+    if !search.grow(alloc, program, limit)? || !search.is_closed(alloc, program)? {
         return Err(Unexplained::Limit);
     }
     match search.chain_to(alloc, program, bytes)? {
@@ -117,8 +118,10 @@ impl Search {
         program: &C,
         bytes: u64,
     ) -> Result<Option<Chain>, Stop>
-        requires { IsSound (C.code program.now) self.now }
-        ensures { IfOk result (λ chain. IfSome chain (ChainsTo (C.code program.now) bytes)) }
+        requires sound { IsSound (C.code program.now) self.now }
+        requires closed { IsClosed (C.code program.now) self.now.points.keys self.now.exits.items self.now.calls.items }
+        ensures chain { IfOk result (λ chain. IfSome chain (ChainsTo (C.code program.now) bytes)) }
+        ensures none { IfOk result (λ chain. IfNone chain (IsNotTheBound (C.code program.now) bytes)) }
     {
         let depths = self.depths(alloc, program)?;
         let sites = self.sites(alloc, program)?;
@@ -138,7 +141,8 @@ impl Search {
 
     /// The depth of each point.
     fn depths<C: Code>(&self, alloc: Global, program: &C) -> Result<Vec<Depth>, Stop>
-        ensures { IfOk result (λ depths. All (λ d. IsModest d.depth) depths.items) }
+        ensures all { IfOk result (λ depths. AreDepthsOf (C.code program.now) self.now.points.keys depths.items) }
+        ensures modest { IfOk result (λ depths. All (λ d. IsModest d.depth) depths.items) }
     {
         let mut depths = Vec::new(alloc);
         for point in self.points.as_slice() {
@@ -152,6 +156,7 @@ impl Search {
     /// The calls, with the depth of each.
     fn sites<C: Code>(&self, alloc: Global, program: &C) -> Result<Vec<CallSite>, Stop>
         requires { IsSound (C.code program.now) self.now }
+        ensures all { IfOk result (λ sites. AreSitesOf (C.code program.now) self.now sites.items) }
         ensures calls { IfOk result (λ sites. All (CallsAt (C.code program.now)) sites.items) }
         ensures modest { IfOk result (λ sites. All (λ s. IsModest s.depth) sites.items) }
     {
@@ -174,11 +179,12 @@ impl Search {
     ) -> Result<Option<Chain>, Stop>
         requires sound { IsSound (C.code program.now) self.now }
         requires calls { All (CallsAt (C.code program.now)) sites.now }
-        ensures { IfOk result (λ chain. IfSome chain (ChainsTo (C.code program.now) (bytes_of bounds.now Main))) }
+        ensures chain { IfOk result (λ chain. IfSome chain (ChainsTo (C.code program.now) (bytes_of bounds.now Main))) }
+        ensures none { IfOk result (λ chain. IfNone chain ((depths : List DepthSeen) → AreGreatestOf (C.code program.now) self.now depths sites.now bounds.now → ⊥)) }
     {
         let mut calls = Vec::new(alloc);
         let mut procedure = Procedure::Main;
-        for _ in 0..PROCEDURES {
+        loop {
             if let Some(last) = self.last_of(program, procedure, bounds.get(procedure))? {
                 return Ok(Some(Chain { calls, last }));
             }
@@ -188,7 +194,6 @@ impl Search {
             push(&mut calls, call)?;
             procedure = Procedure::Entry(call.target);
         }
-        Ok(None)
     }
 
     /// Where a procedure has so many bytes on the stack.
@@ -199,7 +204,8 @@ impl Search {
         bytes: u64,
     ) -> Result<Option<Standing>, Stop>
         requires { IsSound (C.code program.now) self.now }
-        ensures { IfOk result (λ last. IfSome last (EndsWith (C.code program.now) procedure bytes)) }
+        ensures last { IfOk result (λ last. IfSome last (EndsWith (C.code program.now) procedure bytes)) }
+        ensures none { IfOk result (λ last. IfNone last (NoneStands (C.code program.now) self.now.points.keys procedure bytes)) }
     {
         for number in 0..self.points.len() {
             let point = &self.points[number];
@@ -231,7 +237,7 @@ fn is_of(point: &Point, procedure: Procedure) -> bool
 
 /// Whether a depth is so many bytes.
 fn comes_to(depth: i64, bytes: u64) -> bool
-    ensures { result ≡ true → pos bytes ≡ depth }
+    ensures { (result ≡ true) ↔ (pos bytes ≡ depth) }
 {
     i128::from(depth) == i128::from(bytes)
 }
@@ -252,14 +258,22 @@ fn depth_at<C: Code>(program: &C, point: &Point) -> Result<i64, Stop>
 
 /// A call of a procedure with which its callee's bytes come to the procedure's.
 fn next_call(sites: &[CallSite], bounds: &Bounds, procedure: Procedure) -> Option<CallSite>
-    ensures { IfSome result (IsNextCall sites.now bounds.now procedure) }
+    ensures call { IfSome result (IsNextCall sites.now bounds.now procedure) }
+    ensures none { IfNone result (NoNextCall sites.now bounds.now procedure) }
 {
     for site in sites {
-        let below = i128::from(bounds.get(Procedure::Entry(site.target)));
-        let sum = i128::from(site.depth) + 2 + below;
-        if site.caller == procedure && i128::from(bounds.get(procedure)) == sum {
+        if adds_up(*site, bounds, procedure) {
             return Some(*site);
         }
     }
     None
+}
+
+/// Whether a call is the procedure's, and its callee's bytes come to the procedure's with it.
+fn adds_up(site: CallSite, bounds: &Bounds, procedure: Procedure) -> bool
+    ensures { (result ≡ true) ↔ AddsUp bounds.now procedure site }
+{
+    let below = i128::from(bounds.get(Procedure::Entry(site.target)));
+    let sum = i128::from(site.depth) + 2 + below;
+    site.caller == procedure && i128::from(bounds.get(procedure)) == sum
 }

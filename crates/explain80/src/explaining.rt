@@ -1,11 +1,11 @@
 //! A refusal is explained.
 
 ghost use Rattle.std.specs.Prelude.{◌≡◌, IfOk, Err};
-ghost use Rattle.flow80.specs.Faults.{Holds};
+ghost use Rattle.flow80.specs.Faults.{Holds, Recurs};
 ghost use Rattle.verify80.specs.Looking.{code_of};
 ghost use Rattle.explain80.specs.declared.fault.Unexplained.TheVariants.{NotShown};
 ghost use Rattle.explain80.specs.Shows.{ByRing, Shows};
-ghost use Rattle.explain80.specs.Sought.{IsEvidence, IsNotShown, NoWalksShow, ShowsSought};
+ghost use Rattle.explain80.specs.Sought.{IsEvidence, IsNotShown, IsOfNoWay, NoWalksShow, ShowsSought};
 ghost use Rattle.explain80.specs.Search.{IsSound};
 ghost use Rattle.flow80.specs.Code.{Code as CodeSeen};
 
@@ -27,9 +27,8 @@ const FIRST_SIZE: usize = 1_024;
 /// [`find_chain`](crate::find_chain). The limit is on the points that are followed and the words of their frames together.
 ///
 /// # Errors
-/// `NotShown` where every walk was followed to its end and none shows the refusal, which then doesn't hold; for `StackTooSmall`,
-/// `TooManyPoints` and `Memory`, which no ways show; and for `Recursion` where no calls are found that lead back. `Limit` where the
-/// limit was met before. `Memory` where memory runs out.
+/// `NotShown` where every walk was followed to its end and none shows the refusal, which then doesn't hold; and for `StackTooSmall`,
+/// `TooManyPoints` and `Memory`, which no ways show. `Limit` where the limit was met before. `Memory` where memory runs out.
 pub fn explain(
     alloc: Global,
     image: &Image,
@@ -53,12 +52,26 @@ fn explain_code<C: Code>(
     ensures shown { IfOk result (Shows (C.code program.now) refusal) }
     ensures none { result ≡ Err NotShown → Holds (C.code program.now) refusal → IsNotShown refusal }
 {
-    if let Refusal::Recursion(at) = refusal {
-        return explain_recursion(alloc, program, at, limit);
-    }
     match Sought::of(refusal) {
         Some(sought) => explain_sought(alloc, program, sought, limit),
-        None => Err(Unexplained::NotShown),
+        None => explain_wayless(alloc, program, refusal, limit),
+    }
+}
+
+/// What shows a refusal that no way shows.
+fn explain_wayless<C: Code>(
+    alloc: Global,
+    program: &C,
+    refusal: Refusal,
+    limit: usize,
+) -> Result<Explanation, Unexplained>
+    requires { IsOfNoWay refusal }
+    ensures shown { IfOk result (Shows (C.code program.now) refusal) }
+    ensures none { result ≡ Err NotShown → Holds (C.code program.now) refusal → IsNotShown refusal }
+{
+    match refusal {
+        Refusal::Recursion(at) => explain_recursion(alloc, program, at, limit),
+        _ => Err(Unexplained::NotShown),
     }
 }
 
@@ -69,16 +82,18 @@ fn explain_recursion<C: Code>(
     at: u16,
     limit: usize,
 ) -> Result<Explanation, Unexplained>
-    ensures { IfOk result (ByRing (C.code program.now) at) }
+    ensures shown { IfOk result (ByRing (C.code program.now) at) }
+    ensures none { result ≡ Err NotShown → Recurs (C.code program.now) at → ⊥ }
 {
     let mut search = Search::new(alloc, program)?;
     let mut size = FIRST_SIZE;
     for _ in 0..u64::BITS {
         let is_whole = search.grow(alloc, program, size)?;
+        let is_closed = is_whole && search.is_closed(alloc, program)?;
         if let Some(shown) = search.ring(alloc, at)? {
             return Ok(shown);
         }
-        if is_whole {
+        if is_closed {
             return Err(Unexplained::NotShown);
         }
         if size >= limit {

@@ -1,9 +1,9 @@
 //! The ring of calls that shows a recursion, in a search.
 
-ghost use Rattle.std.specs.Prelude.{◌≡◌, ℕ, IfOk, IfSome, length};
+ghost use Rattle.std.specs.Prelude.{◌≡◌, ℕ, IfNone, IfOk, IfSome, length};
 ghost use Rattle.flow80.specs.Code.{Code as CodeSeen};
 ghost use Rattle.explain80.specs.Search.{AreOrdered, CallersAreThere, IsSound};
-ghost use Rattle.explain80.specs.Known.{AreKnown};
+ghost use Rattle.explain80.specs.Known.{AreKnown, HasNoRing};
 ghost use Rattle.explain80.specs.Shows.{ByRing};
 
 use crate::explanation::Explanation;
@@ -40,7 +40,8 @@ impl Search {
     pub(crate) fn ring(&self, alloc: Global, at: u16) -> Result<Option<Explanation>, AllocError>
         requires ordered { AreOrdered self.now }
         requires callers { CallersAreThere self.now }
-        ensures { IfOk result (λ shown. IfSome shown (λ shown. (code : CodeSeen) → IsSound code self.now → ByRing code at shown)) }
+        ensures none { IfOk result (λ shown. IfNone shown (HasNoRing self.now at)) }
+        ensures shown { IfOk result (λ shown. IfSome shown (λ shown. (code : CodeSeen) → IsSound code self.now → ByRing code at shown)) }
     {
         let known = self.known_calls(alloc)?;
         for number in 0..self.calls.len() {

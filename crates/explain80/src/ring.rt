@@ -1,10 +1,11 @@
 //! The ring of calls by which a procedure calls itself.
 
-ghost use Rattle.std.specs.Prelude.{◌≡◌, ◌↔◌, ◌<◌, true, List, length, slice_get, Some, Contains, IfOk, IfSome, OnOk};
+ghost use Rattle.std.specs.Prelude.{◌≡◌, ◌↔◌, ◌<◌, true, List, length, slice_get, Some, Contains, IfOk, IfNone, IfSome, OnOk};
 ghost use Rattle.bounds80.specs.declared.procedure.Procedure.TheVariants.{Entry};
 ghost use Rattle.explain80.specs.declared.route.Call.{Call as CallSeen};
 ghost use Rattle.explain80.specs.declared.ring.Reach.{Reach as ReachSeen};
-ghost use Rattle.explain80.specs.Ring.{AreLinked, AreReached, EntersAt, IsLed, IsRingOf};
+ghost use Rattle.explain80.specs.Ring.{AreLinked, AreMarked, AreReached, EntersAt, IsEntered, IsLed, IsRingOf, NoneLeadBack};
+ghost use Rattle.explain80.specs.Search.{Extends};
 
 use crate::route::Call;
 use bounds80::table;
@@ -32,26 +33,27 @@ pub(crate) fn ring_from(
     first: Call,
 ) -> Result<Option<Vec<Call>>, AllocError>
     requires { Contains calls.now first }
-    ensures { IfOk result (λ ring. IfSome ring (λ ring. IsRingOf calls.now first ring.items)) }
+    ensures ring { IfOk result (λ ring. IfSome ring (λ ring. IsRingOf calls.now first ring.items)) }
+    ensures none { IfOk result (λ ring. IfNone ring (NoneLeadBack calls.now first)) }
 {
     let mut entered = table(alloc, false, ADDRESSES)?;
     let mut reached = start(alloc, first)?;
-    for number in 0..ADDRESSES {
-        if number >= reached.len() {
-            break;
-        }
+    let mut number = 0;
+    while number < reached.len() {
         let target = reached[number].call.target;
         if is_of(first, target) {
             return Ok(Some(calls_back(alloc, &reached, number)?));
         }
         enter_callees(calls, number, target, &mut entered, &mut reached)?;
+        number += 1;
     }
     Ok(None)
 }
 
 /// The first call alone.
 fn start(alloc: Global, first: Call) -> Result<Vec<Reach>, AllocError>
-    ensures { IfOk result (λ reached. (calls : List CallSeen) → Contains calls first → AreReached calls first reached.items) }
+    ensures reached { IfOk result (λ reached. (calls : List CallSeen) → Contains calls first → AreReached calls first reached.items) }
+    ensures entered { IfOk result (λ reached. IsEntered reached.items first.target) }
 {
     let mut reached = Vec::new(alloc);
     reached.push(Reach {
@@ -71,8 +73,12 @@ fn enter_callees(
 ) -> Result<(), AllocError>
     requires table { length entered.old.items ≡ 65536 }
     requires target { EntersAt reached.old.items number target }
+    requires marked { AreMarked entered.old.items reached.old.items }
     ensures table { length entered.new.items ≡ 65536 }
     ensures reached { OnOk result ((first : CallSeen) → AreReached calls.now first reached.old.items → AreReached calls.now first reached.new.items) }
+    ensures more { OnOk result (Extends reached.old.items reached.new.items) }
+    ensures marked { OnOk result (AreMarked entered.new.items reached.new.items) }
+    ensures callees { OnOk result ((call : CallSeen) → Contains calls.now call → call.caller ≡ Entry target → IsEntered reached.new.items call.target) }
 {
     for call in calls {
         let place = usize::from(call.target);

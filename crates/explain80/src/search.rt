@@ -6,7 +6,7 @@ ghost use Rattle.frames80.specs.StackFrame.{entry_frame, main_frame};
 ghost use Rattle.frames80.specs.declared.moves.Moves.TheVariants.{Case};
 ghost use Rattle.explain80.specs.declared.point.Point.{Point};
 ghost use Rattle.explain80.specs.declared.origin.Origin.TheVariants.{GoesOn, Enters};
-ghost use Rattle.explain80.specs.Search.{BacksFrom, Covers, CoversMove, Grows, Has, HasBack, HasExit, IsAdded, IsCalling, IsClosed, IsExit, IsMovingAt, IsSound, SamePoints, point_of};
+ghost use Rattle.explain80.specs.Search.{BacksFrom, Covers, CoversMove, Extends, Grows, Has, HasBack, HasExit, IsAdded, IsCalling, IsClosed, IsExit, IsMovingAt, IsSound, NotesCalls, NotesMove, SamePoints, point_of};
 
 use crate::fault::Stop;
 use crate::looked::{Looked, back, look_at, role_of};
@@ -22,7 +22,7 @@ use std::alloc::{AllocError, Global};
 pub(crate) struct Search {
     pub(crate) points: IndexSet<Point>,
     pub(crate) origins: Vec<Origin>,
-    exits: Vec<Exit>,
+    pub(crate) exits: Vec<Exit>,
     pub(crate) calls: Vec<CallingPoint>,
     /// How many points have been followed.
     followed: usize,
@@ -155,6 +155,7 @@ impl Search {
         requires call { IsCalling (C.code program.now) self.old.points.keys call }
         ensures grows { OnOk result (Grows (C.code program.now) self.old self.new) }
         ensures exits { OnOk result (self.new.exits.items ≡ self.old.exits.items) }
+        ensures calls { OnOk result (self.new.calls.items ≡ self.old.calls.items) }
         ensures back { OnOk result (BacksFrom (C.code program.now) self.old.points.keys self.new.points.keys self.old.exits.items (length self.old.exits.items) call) }
     {
         for k in 0..self.exits.len() {
@@ -176,6 +177,7 @@ impl Search {
         requires sound { IsSound (C.code program.now) self.old }
         requires exit { IsExit (C.code program.now) self.old.points.keys exit }
         ensures grows { OnOk result (Grows (C.code program.now) self.old self.new) }
+        ensures calls { OnOk result (self.new.calls.items ≡ self.old.calls.items) }
     {
         for k in 0..self.calls.len() {
             let call = self.calls[k];
@@ -234,7 +236,7 @@ impl Search {
         Ok(false)
     }
 
-    /// Whether each point leads to points that are there: every point is followed once more.
+    /// Whether each point leads to points that are there: every point is followed once more, and the calls are noted anew.
     ///
     /// # Errors
     /// `Limit` where a frame has more than 1,000,000 words; `Memory` where memory runs out.
@@ -242,10 +244,12 @@ impl Search {
         requires sound { IsSound (C.code program.now) self.old }
         requires begun { Has self.old.points.keys (point_of Main (C.code program.now).start main_frame) }
         ensures grows { OnOk result (Grows (C.code program.now) self.old self.new) }
-        ensures closed { IfOk result (λ closed. closed ≡ true → IsClosed (C.code program.now) self.old.points.keys self.old.exits.items) }
+        ensures same { IfOk result (λ closed. closed ≡ true → self.new.points.keys ≡ self.old.points.keys) }
+        ensures closed { IfOk result (λ closed. closed ≡ true → IsClosed (C.code program.now) self.new.points.keys self.new.exits.items self.new.calls.items) }
     {
         let points = self.points.len();
         let exits = self.exits.len();
+        self.calls.clear();
         for number in 0..points {
             self.visit(alloc, program, number)?;
         }
@@ -259,6 +263,7 @@ impl Search {
         ensures grows { OnOk result (Grows (C.code program.now) self.old self.new) }
         ensures there { OnOk result (Has self.new.points.keys (point_of (Entry call.target) call.target entry_frame)) }
         ensures exits { OnOk result (self.new.exits.items ≡ self.old.exits.items) }
+        ensures calls { OnOk result (self.new.calls.items ≡ self.old.calls.items ++ call ∷ []) }
         ensures back { OnOk result (BacksFrom (C.code program.now) self.old.points.keys self.new.points.keys self.old.exits.items (length self.old.exits.items) call) }
     {
         self.enter(alloc, call)?;
@@ -284,6 +289,7 @@ impl Search {
         requires exit { IsExit (C.code program.now) self.old.points.keys exit }
         ensures grows { OnOk result (Grows (C.code program.now) self.old self.new) }
         ensures there { OnOk result (HasExit self.new.exits.items exit.procedure exit.taken) }
+        ensures calls { OnOk result (self.new.calls.items ≡ self.old.calls.items) }
     {
         if self.has_exit(exit) {
             return Ok(());
@@ -305,6 +311,7 @@ impl Search {
         requires moving { IsMovingAt (C.code program.now) self.old.points.keys number (Case frame.now) next }
         ensures grows { OnOk result (Grows (C.code program.now) self.old self.new) }
         ensures exits { OnOk result (self.new.exits.items ≡ self.old.exits.items) }
+        ensures calls { OnOk result (self.new.calls.items ≡ self.old.calls.items) }
         ensures there { OnOk result ((one : Point) (to : ℕ) → slice_get self.old.points.keys number ≡ Some one → Contains ((C.code program.now).targets one.at) to → Has self.new.points.keys (point_of one.procedure to frame.now)) }
     {
         let at = self.points[number].at;
@@ -324,6 +331,8 @@ impl Search {
         requires there { number < length self.old.points.keys }
         ensures grows { OnOk result (Grows (C.code program.now) self.old self.new) }
         ensures covers { OnOk result ((point : Point) → slice_get self.old.points.keys number ≡ Some point → Covers (C.code program.now) self.new.points.keys self.old.exits.items self.new.exits.items point) }
+        ensures more { OnOk result (Extends self.old.calls.items self.new.calls.items) }
+        ensures noted { OnOk result ((point : Point) → slice_get self.old.points.keys number ≡ Some point → NotesCalls (C.code program.now) self.new.calls.items number point) }
     {
         match look_at(alloc, program, &self.points[number])? {
             Looked::Wrong(_) | Looked::Stuck(_) => Ok(()),
@@ -344,6 +353,7 @@ impl Search {
         requires moving { IsMovingAt (C.code program.now) self.old.points.keys number moves next }
         ensures grows { OnOk result (Grows (C.code program.now) self.old self.new) }
         ensures covers { OnOk result ((point : Point) → slice_get self.old.points.keys number ≡ Some point → CoversMove (C.code program.now) self.new.points.keys self.old.exits.items self.new.exits.items point moves next) }
+        ensures noted { OnOk result (NotesMove self.old.calls.items self.new.calls.items number moves) }
     {
         let procedure = self.points[number].procedure;
         match moves {

@@ -2,7 +2,7 @@
 
 ghost use Rattle.std.specs.Prelude.{◌≡◌, IfOk, IfSome, IfNone};
 ghost use Rattle.explain80.specs.declared.sought.Kind.TheVariants.{Fault as KindOfFault, Clash as KindOfClash};
-ghost use Rattle.explain80.specs.Sought.{IsEvidence, IsNoEvidence, IsSoughtFor, IsNotShown};
+ghost use Rattle.explain80.specs.Sought.{IsEvidence, IsNoEvidence, IsSoughtFor, IsOfNoWay};
 
 use crate::evidence::{Clash, Fault, Pair, find_clash, find_fault};
 use crate::fault::Stop;
@@ -60,7 +60,7 @@ impl Sought {
     /// What shows a refusal; `None` where no walks do.
     pub(crate) fn of(refusal: Refusal) -> Option<Sought>
         ensures sought { IfSome result (IsSoughtFor refusal) }
-        ensures none { IfNone result (IsNotShown refusal) }
+        ensures none { IfNone result (IsOfNoWay refusal) }
     {
         Some(match refusal {
             Refusal::FetchOutside(at) => Sought::fault(at, Fault::Look(LookFault::Outside)),

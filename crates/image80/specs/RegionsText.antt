@@ -44,6 +44,10 @@ entry_text (Stack range) = codes "STACK " ++ range_text range
 entry_text (Data range) = codes "DATA " ++ range_text range
 entry_text (Case case) = codes "CASE " ++ case_text case
 
+-- the lines of cases
+abbrev pub cases_text : List DeclaredCase → List ℕ
+cases_text cases = flat_map (λ case. (codes "CASE " ++ case_text case) ++ 10 ∷ []) cases
+
 -- the rule of a line: a range lies in memory; a case stands in version 2 alone
 abbrev pub IsProper : Version → Entry → Type 0
 IsProper version (Code range) = IsInMemory range

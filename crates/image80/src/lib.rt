@@ -9,7 +9,7 @@
 //! | [`RegionMap`] | whether an address is in the code or in the data, at the same cost for any number of ranges |
 //! | [`Chunk`], [`Image`] | bytes at an address; a located program, and its memory |
 //! | [`write_regions`], [`read_regions`], [`RegionsFault`] | regions as a text, and why bytes are no regions text |
-//! | [`write_regions2`], [`migrate_regions`] | regions as a text of version 2 |
+//! | [`write_regions2`], [`migrate_regions`], [`case_lines`] | regions as a text of version 2, and the lines of cases alone |
 //! | [`lines`] | texts over whole lines |
 //! | [`laws`] | what holds of the definitions alone |
 #![tactic(auto)]
@@ -42,4 +42,4 @@ pub use range::Range;
 pub use read::read_regions;
 pub use region_map::RegionMap;
 pub use regions::Regions;
-pub use write::{write_regions, write_regions2};
+pub use write::{case_lines, write_regions, write_regions2};

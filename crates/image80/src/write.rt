@@ -3,7 +3,7 @@
 ghost use Rattle.std.specs.Prelude.{◌≡◌, codes, ◌∷◌, ◌++◌, [], IfOk, OnOk, OnErr};
 ghost use Rattle.std.specs.List.{flat_map};
 ghost use Rattle.image80.specs.Regions.{AreRegions};
-ghost use Rattle.image80.specs.RegionsText.{Spells, case_text, range_text, regions_text, targets_text, text_in};
+ghost use Rattle.image80.specs.RegionsText.{Spells, case_text, cases_text, range_text, regions_text, targets_text, text_in};
 ghost use Rattle.image80.specs.declared.version.Version.TheVariants.{Two};
 
 use crate::case::Case;
@@ -39,6 +39,18 @@ pub fn write_regions2(alloc: Global, regions: &Regions, out: &mut Vec<u8>) -> Re
 {
     text_of_regions_is_read_as_itself();
     append_text(alloc, Version::Two, regions, out)
+}
+
+/// The lines of cases, each as a regions text of version 2 has it.
+///
+/// # Errors
+/// `AllocError` only where memory runs out.
+pub fn case_lines(alloc: Global, cases: &[Case]) -> Result<Vec<u8>, AllocError>
+    ensures { IfOk result (λ text. text.items ≡ cases_text cases.now) }
+{
+    let mut text = Vec::new(alloc);
+    put_cases(&mut text, cases)?;
+    Ok(text)
 }
 
 /// Appends the text of the regions in the version.
@@ -96,8 +108,7 @@ fn put_line(text: &mut Vec<u8>, keyword: &[u8], range: Range) -> Result<(), Allo
 
 /// Appends a line for each case.
 fn put_cases(text: &mut Vec<u8>, cases: &[Case]) -> Result<(), AllocError>
-    ensures { OnOk result (text.new.items ≡ text.old.items
-        ++ flat_map (λ case. (codes "CASE " ++ case_text case) ++ 10 ∷ []) cases.now) }
+    ensures { OnOk result (text.new.items ≡ text.old.items ++ cases_text cases.now) }
 {
     for case in cases {
         put_case(text, case)?;

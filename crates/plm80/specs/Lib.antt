@@ -1,4 +1,3 @@
-pub mod LinkedImage
 pub mod Pieces
 -- what the crate's own functions promise one another: no public contract cites these
 pub mod NumberText

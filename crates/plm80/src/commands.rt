@@ -22,6 +22,7 @@ mod name_text;
 pub mod number_text;
 mod object_files;
 mod pieces;
+mod program_files;
 mod running;
 mod shared_paths;
 mod suggesting;
@@ -62,12 +63,12 @@ fn perform(rt: &HostRuntime, request: Request<'_>) -> Result<u8, Reported> {
         Request::Link(arguments) => linking::link_files(rt, &arguments),
         Request::Locate(arguments) => locating::locate_file(rt, arguments),
         Request::Run(arguments) => running::run_files(rt, arguments),
-        Request::List(arguments) => listing::list_files(rt, arguments),
-        Request::Check(arguments) => checking::check_files(rt, arguments),
-        Request::Explain(arguments) => explaining::explain_files(rt, arguments),
+        Request::List(files) => listing::list_files(rt, files),
+        Request::Check(files) => checking::check_files(rt, files),
+        Request::Explain(files) => explaining::explain_files(rt, files),
         Request::Library(arguments) => library::write_library_file(rt, &arguments),
         Request::Regions(arguments) => migrating::migrate_file(rt, arguments),
-        Request::Cases(arguments) => suggesting::suggest_for_files(rt, arguments),
+        Request::Cases(files) => suggesting::suggest_for_files(rt, files),
         Request::Map(arguments) => mapping::map_file(rt, arguments),
         Request::Extract(arguments) => extracting::extract_file(rt, arguments),
         Request::Absolute(arguments) => absolute::write_absolute(rt, arguments),

@@ -7,7 +7,6 @@
 #![tactic(auto)]
 
 mod commands;
-pub mod laws;
 
 pub use bundle80::{BUNDLE_LIMIT, BundleFault, bundle};
 use commands::{fail, refuse_arguments, run_command};

@@ -1,17 +1,18 @@
 //! The command line, read by clap.
 
 use crate::commands::absolute::{ABSOLUTE, AbsoluteArguments};
-use crate::commands::checking::{CHECK, CheckArguments};
-use crate::commands::explaining::{EXPLAIN, ExplainArguments};
+use crate::commands::checking::CHECK;
+use crate::commands::explaining::EXPLAIN;
 use crate::commands::extracting::{EXTRACT, ExtractArguments};
 use crate::commands::library::{LIB, LibraryArguments};
 use crate::commands::linking::{LINK, LinkArguments};
-use crate::commands::listing::{LIST, ListArguments};
+use crate::commands::listing::LIST;
 use crate::commands::locating::{LOCATE, LocateArguments};
 use crate::commands::mapping::{MAP, MapArguments};
 use crate::commands::migrating::{REGIONS, RegionsArguments};
+use crate::commands::program_files::ProgramFiles;
 use crate::commands::running::{RUN, RunArguments};
-use crate::commands::suggesting::{CASES, CasesArguments};
+use crate::commands::suggesting::CASES;
 use crate::commands::syntax::Syntax;
 use clap::error::ErrorKind;
 use clap::{ArgMatches, Command, Error};
@@ -23,12 +24,12 @@ pub enum Request<'a> {
     Link(LinkArguments<'a>),
     Locate(LocateArguments<'a>),
     Run(RunArguments<'a>),
-    List(ListArguments<'a>),
-    Check(CheckArguments<'a>),
-    Explain(ExplainArguments<'a>),
+    List(ProgramFiles<'a>),
+    Check(ProgramFiles<'a>),
+    Explain(ProgramFiles<'a>),
     Library(LibraryArguments<'a>),
     Regions(RegionsArguments<'a>),
-    Cases(CasesArguments<'a>),
+    Cases(ProgramFiles<'a>),
     Map(MapArguments<'a>),
     Extract(ExtractArguments<'a>),
     Absolute(AbsoluteArguments<'a>),
@@ -162,12 +163,12 @@ fn asked_for<'a>(
         "link" => Request::Link(LinkArguments::of(alloc, arguments)?),
         "locate" => Request::Locate(LocateArguments::of(arguments)),
         "run" => Request::Run(RunArguments::of(arguments)),
-        "list" => Request::List(ListArguments::of(arguments)),
-        "check" => Request::Check(CheckArguments::of(arguments)),
-        "explain" => Request::Explain(ExplainArguments::of(arguments)),
+        "list" => Request::List(ProgramFiles::of(arguments)),
+        "check" => Request::Check(ProgramFiles::of(arguments)),
+        "explain" => Request::Explain(ProgramFiles::of(arguments)),
         "lib" => Request::Library(LibraryArguments::of(alloc, arguments)?),
         "regions" => Request::Regions(RegionsArguments::of(arguments)),
-        "cases" => Request::Cases(CasesArguments::of(arguments)),
+        "cases" => Request::Cases(ProgramFiles::of(arguments)),
         "map" => Request::Map(MapArguments::of(arguments)),
         "extract" => Request::Extract(ExtractArguments::of(arguments)),
         "absolute" => Request::Absolute(AbsoluteArguments::of(arguments)),

@@ -1,22 +1,13 @@
 //! `plm80 check`: the verifier's report on a located program, or its refusal.
 
-use crate::commands::arguments::path_of;
 use crate::commands::check_text::report_text;
 use crate::commands::fault_line::{Reported, report_memory};
 use crate::commands::files::print;
-use crate::commands::listing::read_program;
-use crate::commands::syntax::{Argument, Kind, Syntax};
-use clap::ArgMatches;
+use crate::commands::program_files::{PROGRAM_FILES, ProgramFiles};
+use crate::commands::syntax::Syntax;
 use image80::Image;
 use loader80::{Refusal, Vouched, refusal_text, vouch};
 use std::alloc::{AllocError, Global};
-
-/// The arguments of `check`.
-#[derive(Clone, Copy)]
-pub struct CheckArguments<'a> {
-    image: &'a str,
-    regions: &'a str,
-}
 
 const ABOUT: &str = "Verifies an image: prints a report, or the refusal";
 
@@ -36,33 +27,12 @@ pub const CHECK: Syntax<'static> = Syntax {
     name: "check",
     about: ABOUT,
     after_help: AFTER_HELP,
-    arguments: &[
-        Argument {
-            name: "IMAGE",
-            kind: Kind::Path,
-            help: "The image, an absolute object file",
-        },
-        Argument {
-            name: "REGIONS",
-            kind: Kind::Path,
-            help: "The text of its code, data and stack ranges",
-        },
-    ],
+    arguments: PROGRAM_FILES,
 };
 
-impl<'a> CheckArguments<'a> {
-    /// The arguments as clap has read them.
-    pub fn of(matches: &ArgMatches<'a>) -> CheckArguments<'a> {
-        CheckArguments {
-            image: path_of(matches, "IMAGE"),
-            regions: path_of(matches, "REGIONS"),
-        }
-    }
-}
-
 /// Prints the report on the image, or its refusal, and gives the exit status.
-pub fn check_files(rt: &HostRuntime, arguments: CheckArguments<'_>) -> Result<u8, Reported> {
-    let image = read_program(rt, arguments.image, arguments.regions)?;
+pub fn check_files(rt: &HostRuntime, files: ProgramFiles<'_>) -> Result<u8, Reported> {
+    let image = files.read(rt)?;
     let Ok((text, status)) = verdict(rt.alloc(), image) else {
         return Err(report_memory(rt));
     };

@@ -1,25 +1,16 @@
 //! `plm80 explain`: why the verifier refuses a located program, shown by ways through its procedures.
 
-use crate::commands::arguments::path_of;
 use crate::commands::check_text::append_rows;
 use crate::commands::checking::accepted;
 use crate::commands::explain_text::{chain_text, explanation_text};
 use crate::commands::fault_line::{Reported, report_memory};
 use crate::commands::files::print;
-use crate::commands::listing::read_program;
-use crate::commands::syntax::{Argument, Kind, Syntax};
-use clap::ArgMatches;
+use crate::commands::program_files::{PROGRAM_FILES, ProgramFiles};
+use crate::commands::syntax::Syntax;
 use explain80::{Unexplained, explain, find_chain, measure};
 use image80::Image;
 use loader80::{Refusal, refusal_text, vouch};
 use std::alloc::{AllocError, Global};
-
-/// The arguments of `explain`.
-#[derive(Clone, Copy)]
-pub struct ExplainArguments<'a> {
-    image: &'a str,
-    regions: &'a str,
-}
 
 /// The most points that are followed, and words of their frames, together.
 const LIMIT: usize = 4_000_000;
@@ -47,33 +38,12 @@ pub const EXPLAIN: Syntax<'static> = Syntax {
     name: "explain",
     about: ABOUT,
     after_help: AFTER_HELP,
-    arguments: &[
-        Argument {
-            name: "IMAGE",
-            kind: Kind::Path,
-            help: "The image, an absolute object file",
-        },
-        Argument {
-            name: "REGIONS",
-            kind: Kind::Path,
-            help: "The text of its code, data and stack ranges",
-        },
-    ],
+    arguments: PROGRAM_FILES,
 };
 
-impl<'a> ExplainArguments<'a> {
-    /// The arguments as clap has read them.
-    pub fn of(matches: &ArgMatches<'a>) -> ExplainArguments<'a> {
-        ExplainArguments {
-            image: path_of(matches, "IMAGE"),
-            regions: path_of(matches, "REGIONS"),
-        }
-    }
-}
-
 /// Prints the report on the image, or its refusal and what shows it, and gives the exit status.
-pub fn explain_files(rt: &HostRuntime, arguments: ExplainArguments<'_>) -> Result<u8, Reported> {
-    let image = read_program(rt, arguments.image, arguments.regions)?;
+pub fn explain_files(rt: &HostRuntime, files: ProgramFiles<'_>) -> Result<u8, Reported> {
+    let image = files.read(rt)?;
     let Ok((text, status)) = explained(rt.alloc(), image) else {
         return Err(report_memory(rt));
     };

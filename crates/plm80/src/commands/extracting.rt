@@ -3,8 +3,8 @@
 use crate::commands::arguments::path_of;
 use crate::commands::fault_line::{Reported, report};
 use crate::commands::files::{read_whole, replace};
-use crate::commands::listing::image_of;
 use crate::commands::number_text::word_of_digits;
+use crate::commands::program_files::{IMAGE, image_of};
 use crate::commands::syntax::{Argument, Kind, Syntax};
 use clap::ArgMatches;
 use rom80::{bytes_over, no_regions};
@@ -36,11 +36,7 @@ pub const EXTRACT: Syntax<'static> = Syntax {
     about: ABOUT,
     after_help: AFTER_HELP,
     arguments: &[
-        Argument {
-            name: "IMAGE",
-            kind: Kind::Path,
-            help: "The image, an absolute object file",
-        },
+        IMAGE,
         Argument {
             name: "OUT",
             kind: Kind::Written,
@@ -63,7 +59,7 @@ impl<'a> ExtractArguments<'a> {
     /// The arguments as clap has read them.
     pub fn of(matches: &ArgMatches<'a>) -> ExtractArguments<'a> {
         ExtractArguments {
-            image: path_of(matches, "IMAGE"),
+            image: path_of(matches, IMAGE.name),
             out: path_of(matches, "OUT"),
             first: path_of(matches, "first"),
             length: path_of(matches, "length"),

@@ -4,6 +4,7 @@ use crate::commands::arguments::path_of;
 use crate::commands::fault_line::{Reported, report, report_file};
 use crate::commands::files::LateFile;
 use crate::commands::number_text::count_of_digits;
+use crate::commands::program_files::{IMAGE, REGIONS};
 use crate::commands::syntax::{Argument, Kind, Syntax};
 use crate::status_of;
 use clap::ArgMatches;
@@ -40,16 +41,8 @@ pub const RUN: Syntax<'static> = Syntax {
     about: ABOUT,
     after_help: AFTER_HELP,
     arguments: &[
-        Argument {
-            name: "IMAGE",
-            kind: Kind::Path,
-            help: "The image, an absolute object file",
-        },
-        Argument {
-            name: "REGIONS",
-            kind: Kind::Path,
-            help: "The text of its code, data and stack ranges",
-        },
+        IMAGE,
+        REGIONS,
         Argument {
             name: "INPUTS",
             kind: Kind::Path,
@@ -72,8 +65,8 @@ impl<'a> RunArguments<'a> {
     /// The arguments as clap has read them.
     pub fn of(matches: &ArgMatches<'a>) -> RunArguments<'a> {
         RunArguments {
-            image: path_of(matches, "IMAGE"),
-            regions: path_of(matches, "REGIONS"),
+            image: path_of(matches, IMAGE.name),
+            regions: path_of(matches, REGIONS.name),
             inputs: path_of(matches, "INPUTS"),
             steps: matches.get_str("steps").unwrap_or(""),
             outputs: matches.get_str("outputs").unwrap_or(""),

@@ -1,21 +1,12 @@
 //! `plm80 cases`: the CASE lines that the tables of an image suggest.
 
-use crate::commands::arguments::path_of;
 use crate::commands::fault_line::{Reported, report_memory};
 use crate::commands::files::print;
-use crate::commands::listing::read_program;
-use crate::commands::syntax::{Argument, Kind, Syntax};
-use cases80::{Suggestions, case_lines, suggest_cases};
-use clap::ArgMatches;
-use image80::Image;
+use crate::commands::program_files::{PROGRAM_FILES, ProgramFiles};
+use crate::commands::syntax::Syntax;
+use cases80::{Suggestions, suggest_cases};
+use image80::{Image, case_lines};
 use std::alloc::{AllocError, Global};
-
-/// The arguments of `cases`.
-#[derive(Clone, Copy)]
-pub struct CasesArguments<'a> {
-    image: &'a str,
-    regions: &'a str,
-}
 
 const ABOUT: &str = "Prints the CASE lines that an image's jump tables suggest";
 
@@ -36,33 +27,12 @@ pub const CASES: Syntax<'static> = Syntax {
     name: "cases",
     about: ABOUT,
     after_help: AFTER_HELP,
-    arguments: &[
-        Argument {
-            name: "IMAGE",
-            kind: Kind::Path,
-            help: "The image, an absolute object file",
-        },
-        Argument {
-            name: "REGIONS",
-            kind: Kind::Path,
-            help: "The text of its code, data and stack ranges",
-        },
-    ],
+    arguments: PROGRAM_FILES,
 };
 
-impl<'a> CasesArguments<'a> {
-    /// The arguments as clap has read them.
-    pub fn of(matches: &ArgMatches<'a>) -> CasesArguments<'a> {
-        CasesArguments {
-            image: path_of(matches, "IMAGE"),
-            regions: path_of(matches, "REGIONS"),
-        }
-    }
-}
-
 /// Prints the CASE lines, and reports each PCHL for which no table is seen; gives status 1 where there is one.
-pub fn suggest_for_files(rt: &HostRuntime, arguments: CasesArguments<'_>) -> Result<u8, Reported> {
-    let image = read_program(rt, arguments.image, arguments.regions)?;
+pub fn suggest_for_files(rt: &HostRuntime, files: ProgramFiles<'_>) -> Result<u8, Reported> {
+    let image = files.read(rt)?;
     let Ok((suggestions, text)) = suggested(rt.alloc(), &image) else {
         return Err(report_memory(rt));
     };

@@ -1,4 +1,4 @@
-use Rattle.std.proofs.Common.{subst}
+use Rattle.std.proofs.Common.{sym, subst, ◌∙◌}
 use Rattle.std.specs.Prelude.{IfNone, IfSome}
 use Rattle.explain80.specs.Sought.{IsEvidence, IsNoEvidence}
 use Rattle.explain80.proofs.SearchLemmas.{has-extends}
@@ -26,9 +26,10 @@ pub returns-then-branch-clause-none : goal.returns-then-branch-clause-none
 returns-then-branch-clause-none g c = λ e.
     let code = g.C.Code.code c.args.program.now in
     let sought = c.args.sought in
+    let new = c.is_closed.new.self in
     let none = subst (λ r. IfNone r (IsNoEvidence code c.as_slice.result.now sought)) c.in_default.is c.in_ok-evidence.ensures.none in
-    no-walks code c.grow.new.self.points.keys c.grow.new.self.exits.items (c.in_ok-is_closed.ensures.closed c.if-branch.true) sought.at sought.kind
-    (subst (λ points. IsNoEvidence code points sought) c.as_slice.ensures.keys none)
+    no-walks code new.points.keys new.exits.items new.calls.items (c.in_ok-is_closed.ensures.closed c.if-branch.true) sought.at sought.kind
+    (subst (λ points. IsNoEvidence code points sought) (c.as_slice.ensures.keys ∙ sym (c.in_ok-is_closed.ensures.same c.if-branch.true)) none)
 
 pub loop-preserved : goal.loop-preserved
 loop-preserved g c =

@@ -1,4 +1,4 @@
-use Rattle.std.proofs.Common.{◌∙◌}
+use Rattle.std.proofs.Common.{[], ◌∷◌, ◌++◌, ◌∙◌, ap}
 use Rattle.explain80.proofs.ListLemmas.{on_ok, extends-on, extends-same}
 use Rattle.explain80.proofs.SearchLemmas.{grows-on, grows-called, calling-extends, has-extends}
 use Rattle.explain80.proofs.MoveLemmas.{backs-before, enters-on}
@@ -54,3 +54,7 @@ returns-clause-back g c =
     on_ok c.come_back_from_each.result _ _
     (λ back. backs-before code old.points.keys noted.points.keys c.come_back_from_each.new.self.points.keys old.exits.items noted.exits.items c.args.call points (n.exits ∙ c.in_ok-enter.ensures.exits) back)
     c.come_back_from_each.ensures.back
+
+pub returns-clause-calls : goal.returns-clause-calls
+returns-clause-calls g c =
+    on_ok c.come_back_from_each.result _ _ (λ same. same ∙ c.in_ok-note_call.ensures.calls ∙ ap (λ calls. calls ++ c.args.call ∷ []) c.in_ok-enter.ensures.calls) c.come_back_from_each.ensures.calls

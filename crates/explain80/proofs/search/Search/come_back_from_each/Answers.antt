@@ -23,6 +23,7 @@ loop-k-preserved g c =
           rw w.self-is (record {
             grows = grows-on code old cur w.come_back.new.self inv.grows back.grows;
             exits = back.exits ∙ inv.exits;
+            calls = back.calls ∙ inv.calls;
             back = backs-step code old.points.keys cur.points.keys w.come_back.new.self.points.keys old.exits.items c.loop-k.k c.args.call inv.grows.points back.grows.points inv.back
                 (λ exit one there inside is. subst (λ (x : Exit). HasBack code w.come_back.new.self.points.keys one.procedure one.frame c.args.call.next x.taken) (same_Some known exit (sym was_k ∙ there)) (back.back one is));
           })
@@ -30,6 +31,7 @@ loop-k-preserved g c =
           rw w.self-is (record {
             grows = inv.grows;
             exits = inv.exits;
+            calls = inv.calls;
             back = backs-step code old.points.keys cur.points.keys cur.points.keys old.exits.items c.loop-k.k c.args.call inv.grows.points (extends-same cur.points.keys cur.points.keys refl) inv.back
                 (λ exit one there inside is. absurd (true≢false (sym (c.is_of.ensures.1 (ap (λ (x : Exit). x.procedure) (same_Some known exit (sym was_k ∙ there)) ∙ inside)) ∙ w.if-is_of.false)));
           })

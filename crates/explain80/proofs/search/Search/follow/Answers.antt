@@ -1,13 +1,14 @@
-use Rattle.std.proofs.Common.{inl, inr, length, refl, sym, subst}
+use Rattle.std.proofs.Common.{inl, inr, [], ◌∷◌, ◌++◌, Some, length, refl, sym, ◌∙◌, ap, subst}
 use Rattle.frames80.specs.StackFrame.{entry_frame}
 use Rattle.frames80.specs.declared.moves.Moves.TheVariants.{On, Jump, Either, Call, MaybeCall, MaybeReturn}
 use Rattle.bounds80.specs.declared.procedure.Procedure.TheVariants.{Entry}
+use Rattle.flow80.specs.Walks.{called}
 use Rattle.explain80.specs.declared.origin.Exit.{Exit}
 use Rattle.explain80.specs.declared.origin.CallingPoint.{CallingPoint}
-use Rattle.explain80.specs.Search.{BacksFrom, Has, HasExit, IsCalling, IsExit, IsMovingAt, point_of}
+use Rattle.explain80.specs.Search.{BacksFrom, Has, HasExit, IsCalling, IsExit, IsMovingAt, NotesMove, point_of}
 use Rattle.explain80.proofs.ListLemmas.{slice_get-extends}
 use Rattle.explain80.proofs.SearchLemmas.{grows-on, has-extends}
-use Rattle.explain80.proofs.MoveLemmas.{backs-all, calling-at, covers-at, covers-call, covers-either, covers-maybe_call, covers-maybe_return, exit-at, goes-move, moving-extends}
+use Rattle.explain80.proofs.MoveLemmas.{backs-all, calling-at, covers-at, covers-call, covers-either, covers-maybe_call, covers-maybe_return, exit-at, goes-move, moving-extends, notes-call, notes-same}
 use Rattle.explain80.proofs.search.Search.follow.Goals as goal
 
 pub call-requires-in-MaybeCall-clause-sound : goal.call-requires-in-MaybeCall-clause-sound
@@ -227,3 +228,40 @@ returns-in_ok-leave-in-MaybeReturn-clause-covers g c =
     covers-at code new.points.keys old.points.keys old.exits.items new.exits.items number one c.args.moves (MaybeReturn f taken) next at c.in-MaybeReturn.is
     (covers-maybe_return code new.points.keys old.exits.items new.exits.items one next taken left f
     (has-extends mid.points.keys new.points.keys done.grows.points (point_of one.procedure next f) added.there))
+
+pub returns-in-End-clause-noted : goal.returns-in-End-clause-noted
+returns-in-End-clause-noted g c = notes-same c.args.self.now.calls.items c.args.self.now.calls.items c.args.number c.args.moves (ap called c.in-End.is) refl
+
+pub returns-in_ok-go_on-in-On-clause-noted : goal.returns-in_ok-go_on-in-On-clause-noted
+returns-in_ok-go_on-in-On-clause-noted g c = notes-same c.args.self.now.calls.items c.go_on.new.self.calls.items c.args.number c.args.moves (ap called c.in-On.is) c.in_ok-go_on-in-On.ensures.calls
+
+pub returns-in_ok-go_on-in-Jump-clause-noted : goal.returns-in_ok-go_on-in-Jump-clause-noted
+returns-in_ok-go_on-in-Jump-clause-noted g c = notes-same c.args.self.now.calls.items c.go_on-in-Jump.new.self.calls.items c.args.number c.args.moves (ap called c.in-Jump.is) c.in_ok-go_on-in-Jump.ensures.calls
+
+pub returns-in_ok-go_on-in-Either-2-clause-noted : goal.returns-in_ok-go_on-in-Either-2-clause-noted
+returns-in_ok-go_on-in-Either-2-clause-noted g c = notes-same c.args.self.now.calls.items c.go_on-in-Either-2.new.self.calls.items c.args.number c.args.moves (ap called c.in-Either.is)
+    (c.in_ok-go_on-in-Either-2.ensures.calls ∙ c.in_ok-go_on-in-Either.ensures.calls)
+
+pub returns-in_ok-call-in-Call-clause-noted : goal.returns-in_ok-call-in-Call-clause-noted
+returns-in_ok-call-in-Call-clause-noted g c =
+    let old = c.args.self.now.calls.items in
+    let new = c.call.new.self.calls.items in
+    let made = c.new-call.ensures in
+    subst (λ (call : CallingPoint). NotesMove old new call.point c.args.moves) made
+    (notes-call old new c.new-call.result c.args.moves (ap called c.in-Call.is ∙ ap (λ (call : CallingPoint). Some call.target) (sym made)) c.in_ok-call-in-Call.ensures.calls)
+
+pub returns-in_ok-call-in-MaybeCall-clause-noted : goal.returns-in_ok-call-in-MaybeCall-clause-noted
+returns-in_ok-call-in-MaybeCall-clause-noted g c =
+    let old = c.args.self.now.calls.items in
+    let new = c.call-in-MaybeCall.new.self.calls.items in
+    let made = c.new-call-in-MaybeCall.ensures in
+    subst (λ (call : CallingPoint). NotesMove old new call.point c.args.moves) made
+    (notes-call old new c.new-call-in-MaybeCall.result c.args.moves (ap called c.in-MaybeCall.is ∙ ap (λ (call : CallingPoint). Some call.target) (sym made))
+    (c.in_ok-call-in-MaybeCall.ensures.calls ∙ ap (λ calls. calls ++ c.new-call-in-MaybeCall.result ∷ []) c.in_ok-go_on-in-MaybeCall.ensures.calls))
+
+pub returns-in_ok-leave-in-Return-clause-noted : goal.returns-in_ok-leave-in-Return-clause-noted
+returns-in_ok-leave-in-Return-clause-noted g c = notes-same c.args.self.now.calls.items c.leave.new.self.calls.items c.args.number c.args.moves (ap called c.in-Return.is) c.in_ok-leave-in-Return.ensures.calls
+
+pub returns-in_ok-leave-in-MaybeReturn-clause-noted : goal.returns-in_ok-leave-in-MaybeReturn-clause-noted
+returns-in_ok-leave-in-MaybeReturn-clause-noted g c = notes-same c.args.self.now.calls.items c.leave-in-MaybeReturn.new.self.calls.items c.args.number c.args.moves (ap called c.in-MaybeReturn.is)
+    (c.in_ok-leave-in-MaybeReturn.ensures.calls ∙ c.in_ok-go_on-in-MaybeReturn.ensures.calls)

@@ -28,6 +28,7 @@ loop-to-preserved g c =
     record {
       grows = grows-on code old cur new inv.grows step;
       exits = added.exits ∙ inv.exits;
+      calls = added.calls ∙ inv.calls;
       there = λ k h. one_more (λ j. Has new.points.keys (point_of one.procedure (get_or (code.targets c.index.result.now.at) j 0) c.args.frame.now)) c.loop-to.to-index
           (λ j less. has-extends cur.points.keys new.points.keys step.points (point_of one.procedure (get_or (code.targets c.index.result.now.at) j 0) c.args.frame.now) (inv.there j less))
           (subst (λ f. Has new.points.keys (point_of one.procedure (get_or (code.targets c.index.result.now.at) c.loop-to.to-index 0) f)) c.in_ok-copy.ensures

@@ -1,4 +1,5 @@
-use Rattle.std.proofs.Common.{rules, w64, slice_get, get_or, sym, ◌∙◌, ap, subst}
+use Rattle.std.proofs.Common.{rules, w64, [], ◌∷◌, ◌+◌, length, slice_get, get_or, sym, ◌∙◌, ap, subst}
+use Rattle.std.proofs.lemmas.List.{length-append}
 use Rattle.std.specs.Prelude.{All}
 use Rattle.std.proofs.lemmas.Option.{slice_get-get_or, slice_get_within}
 use mir.Val.{SFits}
@@ -6,8 +7,9 @@ use Rattle.std.proofs.lemmas.Int.{to_z-of_z}
 use Rattle.std.proofs.lemmas.List.Elements.{All-push}
 use Rattle.bounds80.specs.Chains.{IsModest}
 use Rattle.bounds80.specs.declared.graph.CallSite.{CallSite}
-use Rattle.explain80.specs.Chains.{CallsAt}
-use Rattle.explain80.proofs.ChainLemmas.{calls-at, no_calling}
+use Rattle.explain80.specs.Chains.{CallsAt, IsSiteOf}
+use Rattle.explain80.proofs.ListLemmas.{each-push}
+use Rattle.explain80.proofs.ChainLemmas.{calls-at, no_calling, site-of}
 use Rattle.explain80.proofs.search.Search.sites.Goals as goal
 
 pub index-caller-requires : goal.index-caller-requires
@@ -39,4 +41,8 @@ loop-calling-preserved g c =
       calls = subst (λ sites. All (CallsAt code) sites) (sym c.in_ok-push.ensures) (All-push (CallsAt code) c.loop-calling.sites.items c.site_of.result inv.calls (subst (λ (s : CallSite). CallsAt code s) (sym made) site));
       modest = subst (λ sites. All (λ (s : CallSite). IsModest s.depth) sites) (sym c.in_ok-push.ensures)
           (All-push (λ (s : CallSite). IsModest s.depth) c.loop-calling.sites.items c.site_of.result inv.modest (subst (λ (s : CallSite). IsModest s.depth) (sym made) c.in_ok-depth.ensures.modest));
+      count = ap length c.in_ok-push.ensures ∙ length-append c.loop-calling.sites.items (c.site_of.result ∷ []) ∙ ap (λ n. n + 1) inv.count;
+      each = each-push (IsSiteOf code s.points.keys) c.loop-calling.sites.items c.push.new.values.items s.calls.items c.site_of.result c.in_ok-push.ensures inv.each
+          (λ one there. subst (IsSiteOf code s.points.keys one) (sym made)
+          (site-of code s calling one c.index-caller.result.now depth (sym is ∙ ap (slice_get s.calls.items) (sym inv.count) ∙ there) c.index-caller.ensures c.in_ok-depth.ensures.depth));
     }

@@ -1,11 +1,14 @@
-use Rattle.std.specs.Prelude.{All}
+use Rattle.std.specs.Prelude.{◌≡◌, ℕ, All, Some, length, slice_get}
 use Rattle.bounds80.specs.Chains.{IsModest}
 use Rattle.bounds80.specs.declared.graph.CallSite.{CallSite}
-use Rattle.explain80.specs.Chains.{CallsAt}
+use Rattle.explain80.specs.declared.origin.CallingPoint.{CallingPoint}
+use Rattle.explain80.specs.Chains.{CallsAt, IsSiteOf}
 use Rattle.explain80.proofs.search.Search.sites.Given as goal
 
 abbrev pub invariant-loop-calling : goal.invariant-loop-calling
 invariant-loop-calling g l = record {
   calls : All (CallsAt (g.C.Code.code l.program)) l.sites.items;
   modest : All (λ (s : CallSite). IsModest s.depth) l.sites.items;
+  count : length l.sites.items ≡ l.calling-index;
+  each : (k : ℕ) (site : CallSite) (calling : CallingPoint) → slice_get l.sites.items k ≡ Some site → slice_get l.self.calls.items k ≡ Some calling → IsSiteOf (g.C.Code.code l.program) l.self.points.keys calling site;
 }
