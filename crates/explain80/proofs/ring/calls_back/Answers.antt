@@ -2,14 +2,14 @@ use Rattle.std.proofs.Common.{◌<◌, ◌∷◌, ◌++◌, [], length, get_or, 
 use Rattle.std.proofs.lemmas.Option.{slice_get-get_or}
 use Rattle.bounds80.specs.declared.procedure.Procedure.TheVariants.{Entry}
 use Rattle.explain80.specs.Ring.{IsLedBack}
-use Rattle.explain80.proofs.RingLemmas.{back-begin, back-step, led, none}
+use Rattle.explain80.proofs.RingLemmas.{back-begin, back-step, led, no_reach}
 use Rattle.explain80.proofs.ring.calls_back.Goals as goal
 
 pub loop-at-init : goal.loop-at-init
 loop-at-init c =
     let reached = c.args.reached.now in
-    let one = get_or reached c.args.number none in
-    let is = slice_get-get_or reached c.args.number none c.requires.there in
+    let one = get_or reached c.args.number no_reach in
+    let is = slice_get-get_or reached c.args.number no_reach c.requires.there in
     record {
       there = c.requires.there;
       led = λ calls first last h at. back-begin calls reached c.args.number one last c.push.new.self.items is at (c.in_ok-push.ensures.items ∙ ap (λ back. back ++ one.call ∷ []) c.new-back.ensures.items);
@@ -20,12 +20,12 @@ loop-at-preserved c =
     let reached = c.args.reached.now in
     let at = c.loop-at.at in
     let inv = c.loop-at.invariant in
-    let one = get_or reached at none in
-    let is = slice_get-get_or reached at none inv.there in
+    let one = get_or reached at no_reach in
+    let is = slice_get-get_or reached at no_reach inv.there in
     let less = c.requires.linked.earlier at one is c.loop-at-test.true in
     let there : one.from < length reached = omega (arith, less, inv.there) in
-    let before = get_or reached one.from none in
-    let was = slice_get-get_or reached one.from none there in
+    let before = get_or reached one.from no_reach in
+    let was = slice_get-get_or reached one.from no_reach there in
     record {
       there = there;
       led = λ calls first last h is_last. subst (λ back. IsLedBack calls reached one.from back (Entry last.call.target)) (sym c.in_ok-push-2.ensures.items)
