@@ -40,9 +40,6 @@ high_by modules off is = ap (λ b. if◌then◌else◌ {A = Option LinkFault} b 
 or_first : (first : Option LinkFault) (rest : Option LinkFault) (fault : LinkFault) → first ≡ Some fault → option_or first rest ≡ Some fault
 or_first first rest fault is = ap (λ o. option_or o rest) is
 
-pub too_long_first : (modules : List ModuleValue) (fault : LinkFault) → duplicate_public modules ≡ None → segment_too_long modules ≡ Some fault → link_fault modules ≡ Some fault
-too_long_first modules fault once is = from_second modules once ∙ or_first (segment_too_long modules) _ fault is
-
 pub mains_first : (modules : List ModuleValue) (fault : LinkFault) → duplicate_public modules ≡ None → segment_too_long modules ≡ None → two_mains modules ≡ Some fault → link_fault modules ≡ Some fault
 mains_first modules fault once fit is = from_third modules once fit ∙ or_first (two_mains modules) _ fault is
 

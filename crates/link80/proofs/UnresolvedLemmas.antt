@@ -1,18 +1,14 @@
 -- Names that no module declares, and the publics that bear names.
-use Rattle.std.specs.Prelude.{◌≡◌, ◌<◌, ◌≤◌, ℕ, zero, suc, nat_eq, nat_lt, Bool, true, false, ◌||◌, if◌then◌else◌, Option, Some, None, is_none, is_some, List, [], ◌∷◌, ◌++◌, filter, length, map, slice_get, refl}
+use Rattle.std.specs.Prelude.{◌≡◌, ◌<◌, ℕ, zero, suc, nat_eq, Bool, true, false, ◌||◌, Option, Some, None, is_none, is_some, List, [], ◌∷◌, ◌++◌, filter, length, map, slice_get, refl}
 use Rattle.std.specs.List.{flat_map}
 use Rattle.std.specs.Cmp.Lexicographic.{pointwise}
 use Rattle.std.proofs.Common.{◌∙◌, ap, sym, arith, cond}
-use Rattle.std.proofs.lemmas.Bool.Decides.{nat_tests}
 use Rattle.omf_parts.specs.declared.symbols.Public.{Public}
 use Rattle.omf_parts.specs.declared.fixup.Target.TheVariants as target
 use Rattle.omf_parts.specs.Modules.{ModuleValue}
 use Rattle.link80.specs.declared.reference.Reference.{Reference}
-use Rattle.link80.specs.declared.fault.LinkFault.{LinkFault}
-use Rattle.link80.specs.declared.fault.LinkFault.TheVariants.{TooManyExternals}
 use Rattle.link80.specs.FirstSight.{is_among, number_in, with_names}
 use Rattle.link80.specs.Linked.{distinct, linked_publics, public_of, unresolved, to_place, to_public}
-use Rattle.link80.specs.LinkFault.{too_many_externals}
 use Rattle.link80.proofs.FirstSightLemmas.{filter_same, first_sights, distinct_passed, same_both_ways}
 use Rattle.link80.proofs.ListLemmas.{any_front, any_back}
 use Rattle.link80.proofs.NameLemmas.{has_name, name_itself, distinct_has, passed_has}
@@ -72,13 +68,6 @@ unresolved_is modules declared are =
     ∙ ap distinct (flat_filter (λ name. is_none (number_in declared name)) (λ m. m.externals) modules)
     ∙ distinct_passed (λ name. is_none (number_in declared name)) (flat_map (λ m. m.externals) modules)
     ∙ filter_same (λ name. is_none (number_in declared name)) (λ name. is_none (public_of modules name)) (undeclared_test modules declared are) (distinct (flat_map (λ m. m.externals) modules))
-
-pub few_externals : (modules : List ModuleValue) → too_many_externals modules ≡ None → length (unresolved modules) ≤ 65536
-few_externals modules few = by (nat_lt 65536 (length (unresolved modules))) refl few
-  where
-    by : (b : Bool) → nat_lt 65536 (length (unresolved modules)) ≡ b → (if◌then◌else◌ {A = Option LinkFault} b (Some TooManyExternals) None) ≡ None → length (unresolved modules) ≤ 65536
-    by true more e = absurd cc
-    by false few e = grind (arith, nat_tests, few)
 
 -- an external that no module declares is one of them
 pub is_unresolved : (modules : List ModuleValue) (name : List ℕ) → is_among (flat_map (λ m. m.externals) modules) name ≡ true → is_none (public_of modules name) ≡ true → is_some (number_in (unresolved modules) name) ≡ true

@@ -177,6 +177,3 @@ pub program_of_first : (ms : List ModuleValue) (m : ModuleValue) → 1 ≤ lengt
 program_of_first [] m one few is = absurd (omega (arith, one))
 program_of_first (x ∷ []) m one few is = ap program_of (sym is)
 program_of_first (x ∷ y ∷ ys) m one few is = absurd (omega (arith, few))
-
-pub only_one : (ms : List ModuleValue) (m : ModuleValue) → ms ≡ m ∷ [] → program_of_one ms ≡ program_of m
-only_one ms m e = ap program_of_one e

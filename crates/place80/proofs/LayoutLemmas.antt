@@ -5,7 +5,7 @@ use Rattle.std.specs.List.{list_any, range_with_len}
 use Rattle.std.specs.Option.{option_or}
 use Rattle.std.proofs.lemmas.Bool.{cases_Bool, eqb-false}
 use Rattle.std.proofs.lemmas.Bool.Decides.{nat_tests}
-use Rattle.std.proofs.lemmas.List.Elements.{All-nil, All-cons, All-weaker}
+use Rattle.std.proofs.lemmas.List.Elements.{All-nil, All-cons}
 use Rattle.std.proofs.lemmas.List.Folds.{find-append}
 use Rattle.omf_parts.specs.Segments.{has_segment, has_common_id, is_fixed_id}
 use Rattle.omf_parts.specs.Modules.{ModuleValue}
@@ -14,7 +14,6 @@ use Rattle.place80.specs.declared.placed_segments.Placed.{Placed}
 use Rattle.place80.specs.Layout.{default_base, common_ids, order_of, given_length, own_segment, common_numbers, placed_after, placed_from, layout_of}
 use Rattle.place80.specs.PlaceFault.{ids_of, overlap_of, first_shared, with_each, is_outside, overlaps, pairs, all_pairs, absolute_places, outside_memory, overlap, layout_fault}
 use Rattle.place80.specs.declared.place_fault.PlaceFault.TheVariants.{OutsideMemory}
-use Rattle.place80.proofs.LocatedDisjoint.{HasWord}
 
 neither : {A : Type 0} (a b : Option A) → option_or a b ≡ None → (a ≡ None) × (b ≡ None)
 neither None b none = (refl, none)
@@ -52,12 +51,6 @@ placed_lengths options m before (id ∷ ids) =
 pub layout_lengths : (options : Options) (m : ModuleValue) → All (λ p. p.length ≡ length_of_id options m p.id) (layout_of options m)
 unfolding layout_of
 layout_lengths options m = placed_lengths options m default_base (order_of m.commons)
-
--- words where the lengths that are given and the module's own are
-pub layout_has_words : (options : Options) (m : ModuleValue) → ((id : ℕ) → length_of_id options m id < 65536) → All HasWord (layout_of options m)
-layout_has_words options m words =
-    All-weaker (λ p. p.length ≡ length_of_id options m p.id) HasWord
-    (λ p is. let word : length_of_id options m p.id < 65536 = words p.id in omega arith) (layout_of options m) (layout_lengths options m)
 
 -- the ids of the placed segments
 placed_ids : (options : Options) (m : ModuleValue) (before : ℕ) (ids : List ℕ) (id : ℕ) → list_any (λ p. p.id == id) (placed_from options m before ids) ≡ list_any (λ i. i == id) ids

@@ -1,12 +1,11 @@
 -- Marks on a row of modules, their queue, and the search along what is needed.
 use Rattle.std.specs.Prelude.{◌≡◌, ℕ, zero, suc, ◌+◌, ◌<◌, ◌≤◌, ◌⊎◌, Bool, true, false, not, Option, Some, List, [], ◌∷◌, ◌++◌, slice_get, length, Contains, count_by, filter_map, refl}
 use Rattle.std.specs.List.{cons_option}
-use Rattle.std.proofs.Common.{◌∙◌, ap, sym, subst, arith, inl, inr, cond, get_or, set, take, replicate}
+use Rattle.std.proofs.Common.{◌∙◌, ap, sym, subst, arith, inl, inr, cond, get_or, set, take}
 use Rattle.std.proofs.lemmas.Bool.{cases_eq, cases_lt, false≢true}
-use Rattle.std.proofs.lemmas.List.{get_or-set_same, get_or-set_other, length-set, length_push, length-replicate, take_more}
+use Rattle.std.proofs.lemmas.List.{get_or-set_same, get_or-set_other, length-set, length_push, take_more}
 use Rattle.std.proofs.lemmas.List.Elements.{Contains-push_cases, Contains-append_left, Contains-append_right, Contains-append_cases, filter_map-append}
 use Rattle.std.proofs.lemmas.List.Sums.{sum_by-set}
-use Rattle.std.proofs.lemmas.List.Folds.{sum_by-replicate}
 use Rattle.std.proofs.lemmas.Option.{none-some, same_Some, slice_get_within, slice_get-get_or, get_or_from_slice_get}
 use Rattle.omf_parts.specs.Modules.{ModuleValue}
 use Rattle.select80.specs.Selecting.{needed, IsReached, root, needed_by, is_marked, AreReached, IsQueue, Marks, IsSearched}
@@ -46,16 +45,6 @@ marks_none marked queue = record {
   all = λ k has. absurd (has_none k has);
   only = λ k is. inl is;
   stays = λ i n at. at;
-  places = refl;
-  queues = λ q. q;
-}
-
-pub marks_again : (marked : List Bool) (queue : List ℕ) (n : ℕ) → is_marked marked n ≡ true → Marks (n ∷ []) marked queue marked queue
-marks_again marked queue n here = record {
-  kept = λ k is. is;
-  all = λ k has. ap (is_marked marked) (sym (has_one n k has)) ∙ here;
-  only = λ k is. inl is;
-  stays = λ i m at. at;
   places = refl;
   queues = λ q. q;
 }
@@ -120,27 +109,6 @@ marks_more ns ms marked marked1 marked2 queue queue1 queue2 first next = record 
 }
 
 -- ---- the search
-
-no_mark : (n k : ℕ) → is_marked (replicate n false) k ≡ true → ⊥
-no_mark zero k is = absurd (false≢true is)
-no_mark (suc n) zero is = absurd (false≢true is)
-no_mark (suc n) (suc k) is = no_mark n k is
-
-all_unmarked : (n : ℕ) → count_by not (replicate n false) ≡ n
-all_unmarked n = sum_by-replicate without n false ∙ omega arith
-
-pub search_none : (row : List ModuleValue) (marked : List Bool) → marked ≡ replicate (length row) false → IsSearched row 0 0 marked []
-search_none row marked is = subst (λ (m : List Bool). IsSearched row 0 0 m []) (sym is) (record {
-  reached = λ k has. absurd (no_mark (length row) k has);
-  started = λ k none. absurd (omega (arith, none));
-  closed = λ i n k m none. absurd (omega (arith, none));
-  is_queue = record {
-    queued = λ k has. absurd (no_mark (length row) k has);
-    has_mark = λ k has. absurd (has_none k has);
-    room = omega (arith, all_unmarked (length row), length-replicate (length row) false);
-  };
-  places = length-replicate (length row) false;
-})
 
 more_roots : (row : List ModuleValue) (roots k : ℕ) → IsReached row roots k → IsReached row (roots + 1) k
 more_roots row roots k (root _ below) = root k (omega arith)
@@ -208,9 +176,6 @@ search_inside row roots looked_at n marked queue so_far inside is =
     let at = slice_get-get_or queue looked_at n inside ∙ ap (λ x. Some x) (sym is) in
     let less = mark_inside marked n (so_far.is_queue.has_mark n (has_at queue looked_at n at)) in
     (at, omega (arith, less, so_far.places))
-
-pub search_room : (row : List ModuleValue) (roots looked_at : ℕ) (marked : List Bool) (queue : List ℕ) → IsSearched row roots looked_at marked queue → length queue ≤ length row
-search_room row roots looked_at marked queue so_far = omega (arith, so_far.is_queue.room, so_far.places)
 
 pub marks_next : (h : List ℕ → Option ℕ) (names : List (List ℕ)) (i : ℕ) (name : List ℕ) (number : Option ℕ) (marked marked1 marked2 : List Bool) (queue queue1 queue2 : List ℕ) →
     i < length names → name ≡ get_or names i name → number ≡ h name → Marks (filter_map h (take i names)) marked queue marked1 queue1 →
