@@ -12,10 +12,10 @@ use Rattle.omf_module.specs.declared.module_file.PlacedBody.{PlacedBody}
 use Rattle.omf_module.specs.Gathered.{fixups_in, with_fixups, begins_content, contents_from}
 use Rattle.omf_module.specs.GatheredLaws.{fixups_up_to_content, contents_begun, ContentsHaveTheFixupsUpToTheNext}
 
-no_fixups_more : (c : ContentValue) → with_fixups c [] ≡ c
+pub no_fixups_more : (c : ContentValue) → with_fixups c [] ≡ c
 no_fixups_more c = ap (λ (fixups : List Fixup). record c { fixups = fixups }) (append-nil c.fixups)
 
-fixups_twice : (c : ContentValue) (xs ys : List Fixup) → with_fixups (with_fixups c xs) ys ≡ with_fixups c (xs ++ ys)
+pub fixups_twice : (c : ContentValue) (xs ys : List Fixup) → with_fixups (with_fixups c xs) ys ≡ with_fixups c (xs ++ ys)
 fixups_twice c xs ys = ap (λ (fixups : List Fixup). record c { fixups = fixups }) (append_assoc c.fixups xs ys)
 
 -- the fixups of one record and of those after it
