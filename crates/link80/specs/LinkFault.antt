@@ -26,10 +26,14 @@ link_fault_code TooManyCommons = 5
 link_fault_code Memory = 6
 link_fault_code TooManyExternals = 7
 
--- the first public, by module and then by record, whose name stands before
+-- one of these publics has the name
+abbrev pub is_declared : List Public → List ℕ → Bool
+is_declared publics name = list_any (λ q. pointwise nat_eq q.name name) publics
+
+-- the first public, by module and then by record, whose name stands before (specs/DuplicateLaws.antt says it without the walk)
 abbrev pub first_again : List Public → List Public → Option (List ℕ)
 first_again before [] = None
-first_again before (p ∷ ps) = if list_any (λ q. pointwise nat_eq q.name p.name) before then Some p.name else first_again (before ++ p ∷ []) ps
+first_again before (p ∷ ps) = if is_declared before p.name then Some p.name else first_again (before ++ p ∷ []) ps
 
 abbrev pub duplicate_public : List ModuleValue → Option LinkFault
 duplicate_public modules = option_map DuplicatePublic (first_again [] (linked_publics modules))
