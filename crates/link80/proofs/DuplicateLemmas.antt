@@ -1,15 +1,13 @@
 -- The first public whose name some earlier one has.
-use Rattle.std.specs.Prelude.{◌≡◌, ◌↔◌, ℕ, Bool, true, false, not, if◌then◌else◌, Option, Some, None, option_map, List, [], ◌∷◌, ◌++◌, IsTrue, refl}
-use Rattle.std.proofs.Common.{◌∙◌, ap, sym, subst, append_assoc}
+use Rattle.std.specs.Prelude.{◌≡◌, ℕ, Bool, true, false, not, if◌then◌else◌, Option, Some, None, option_map, List, [], ◌∷◌, ◌++◌, refl}
+use Rattle.std.proofs.Common.{◌∙◌, ap, sym, append_assoc}
 use Rattle.std.proofs.lemmas.Bool.{and_parts, and_from}
 use Rattle.std.proofs.lemmas.List.{append-nil}
 use Rattle.omf_parts.specs.declared.symbols.Public.{Public}
-use Rattle.omf_parts.specs.Modules.{ModuleValue}
 use Rattle.omf_parts.specs.Rules.{each_after}
-use Rattle.link80.specs.declared.fault.LinkFault.{LinkFault}
 use Rattle.link80.specs.declared.fault.LinkFault.TheVariants.{DuplicatePublic}
 use Rattle.link80.specs.Linked.{linked_publics}
-use Rattle.link80.specs.LinkFault.{is_declared, first_again, duplicate_public}
+use Rattle.link80.specs.LinkFault.{is_declared, first_again}
 use Rattle.link80.specs.DuplicateLaws.{has_new_name, IsFirstAgain, FirstAgainIsTheFirst, NoneAgainWhereAllAreNew, DuplicateIsTheFirst}
 
 -- the first public whose name these or some earlier one have

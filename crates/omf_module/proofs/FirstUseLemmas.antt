@@ -1,6 +1,6 @@
 -- The fault of use is the first of all.
-use Rattle.std.proofs.Common.{◌≡◌, ℕ, Bool, true, false, Option, Some, None, option_map, List, [], ◌∷◌, ◌++◌, map, refl, sym, ap, ◌∙◌, cond}
-use Rattle.std.specs.Prelude.{not, if◌then◌else◌, filter, filter_map, slice_get}
+use Rattle.std.proofs.Common.{◌≡◌, ℕ, true, false, Option, Some, None, option_map, List, [], ◌∷◌, ◌++◌, map, refl, sym, ap, ◌∙◌, cond}
+use Rattle.std.specs.Prelude.{not, filter, filter_map, slice_get}
 use Rattle.std.specs.List.{flat_map, last_or, cons_option}
 use Rattle.std.specs.Option.{option_or, option_to_list}
 use Rattle.omf_body.specs.declared.body.Body.{Body}
@@ -13,10 +13,9 @@ use Rattle.omf_parts.specs.declared.fixup.Fixup.{Fixup}
 use Rattle.omf_parts.specs.Contents.{ContentValue}
 use Rattle.omf_parts.specs.Modules.{ModuleValue}
 use Rattle.omf_parts.specs.Segments.{has_segment}
-use Rattle.omf_module.specs.Records.{ModuleRecords}
 use Rattle.omf_module.specs.Gathered.{fixups_in, with_fixups, content_after, contents_from, parts_of}
-use Rattle.omf_module.specs.Uses.{unknown_id, ids_in, place_fault, fixup_fault, fixups_fault, is_reference, reference_fault, body_fault, bodies_fault, fault_by, header_fault, end_fault, use_fault}
-use Rattle.omf_module.specs.FirstUseLaws.{with_earlier, unknown_segments, nearest_content, cause_of_fixup, causes_of_fixups, causes_in, faults_at, faults_in, bodies_faults, use_faults, BodiesFaultIsTheFirst, UseFaultIsTheFirst}
+use Rattle.omf_module.specs.Uses.{unknown_id, ids_in, place_fault, fixup_fault, fixups_fault, is_reference, reference_fault, body_fault, bodies_fault, fault_by, header_fault}
+use Rattle.omf_module.specs.FirstUseLaws.{with_earlier, unknown_segments, nearest_content, cause_of_fixup, causes_of_fixups, causes_in, faults_at, faults_in, bodies_faults, BodiesFaultIsTheFirst, UseFaultIsTheFirst}
 use Rattle.omf_module.proofs.GatheredLemmas.{no_fixups_more, fixups_twice, contents_have_the_fixups_up_to_the_next}
 
 -- ---- the first of a list

@@ -79,7 +79,8 @@ with_contents p contents = record p { contents = contents }
 
 -- A record was looked at, and what it says of contents was taken: it has no fault, `nearest` is the nearest content after it,
 -- and the one before stands among those that are whole where a new one begins.
-pub record TakesBody (p : ModuleValue) (before : Option ContentValue) (body : Body) (old new : List ContentValue) (after : Option ContentValue) : Type 0 where
+pub record TakesBody (p : ModuleValue) (before : Option ContentValue) (body : Body) (old new : List ContentValue)
+    (after : Option ContentValue) : Type 0 where
   pub sound : (cs : List ContentValue) → body_fault (with_contents p cs) before body ≡ None
   pub nearest : after ≡ content_after before body
   pub whole : new ≡ old ++ (if begins_content body then option_to_list before else [])
