@@ -52,7 +52,8 @@ again_step before p ps name false is later e =
 
 again_found : (ps before : List Public) (name : List ℕ) → first_again before ps ≡ Some name → AgainAfter before ps name
 again_found [] before name e = absurd cc
-again_found (p ∷ ps) before name e = again_step before p ps name (is_declared before p.name) refl (again_found ps (before ++ p ∷ []) name) e
+again_found (p ∷ ps) before name e =
+    again_step before p ps name (is_declared before p.name) refl (again_found ps (before ++ p ∷ []) name) e
 
 -- ---- the first is answered
 
@@ -60,16 +61,20 @@ chosen : (before : List Public) (p : Public) (ps : List Public) (b : Bool) → i
     → first_again before (p ∷ ps) ≡ (if b then Some p.name else first_again (before ++ p ∷ []) ps)
 chosen before p ps b is = ap (λ (t : Bool). if t then Some p.name else first_again (before ++ p ∷ []) ps) is
 
-past_new : (before : List Public) (p : Public) (ps : List Public) → has_new_name before p ≡ true → first_again before (p ∷ ps) ≡ first_again (before ++ p ∷ []) ps
+past_new : (before : List Public) (p : Public) (ps : List Public) → has_new_name before p ≡ true
+    → first_again before (p ∷ ps) ≡ first_again (before ++ p ∷ []) ps
 past_new before p ps new = chosen before p ps false (not_declared (is_declared before p.name) new)
 
-answered : (front before : List Public) (p : Public) (later : List Public) → is_declared (before ++ front) p.name ≡ true → each_after has_new_name before front ≡ true
+answered : (front before : List Public) (p : Public) (later : List Public) → is_declared (before ++ front) p.name ≡ true
+    → each_after has_new_name before front ≡ true
     → first_again before (front ++ p ∷ later) ≡ Some p.name
-answered [] before p later here new = chosen before p later true (ap (λ (l : List Public). is_declared l p.name) (sym (append-nil before)) ∙ here)
+answered [] before p later here new =
+    chosen before p later true (ap (λ (l : List Public). is_declared l p.name) (sym (append-nil before)) ∙ here)
 answered (q ∷ front) before p later here new =
     let parts = and_parts (has_new_name before q) (each_after has_new_name (before ++ q ∷ []) front) new in
     past_new before q (front ++ p ∷ later) parts.0
-    ∙ answered front (before ++ q ∷ []) p later (ap (λ (l : List Public). is_declared l p.name) (append_assoc before (q ∷ []) front) ∙ here) parts.1
+    ∙ answered front (before ++ q ∷ []) p later
+        (ap (λ (l : List Public). is_declared l p.name) (append_assoc before (q ∷ []) front) ∙ here) parts.1
 
 first_answered : (publics : List Public) (name : List ℕ) → IsFirstAgain publics name → first_again [] publics ≡ Some name
 first_answered publics name r =
@@ -78,7 +83,8 @@ first_answered publics name r =
 first_found : (publics : List Public) (name : List ℕ) → first_again [] publics ≡ Some name → IsFirstAgain publics name
 first_found publics name e =
     let r : AgainAfter [] publics name = again_found publics [] name e in
-    record { earlier = r.front; again = r.again; later = r.later; whole = r.whole; named = r.named; declared = r.declared; others = r.others }
+    record { earlier = r.front; again = r.again; later = r.later; whole = r.whole; named = r.named; declared = r.declared;
+        others = r.others }
 
 pub first_again_is_the_first : FirstAgainIsTheFirst
 first_again_is_the_first publics name = (first_found publics name, first_answered publics name)
@@ -89,7 +95,8 @@ new_step : (before : List Public) (p : Public) (ps : List Public) (b : Bool) →
     → (first_again (before ++ p ∷ []) ps ≡ None → each_after has_new_name (before ++ p ∷ []) ps ≡ true)
     → (if b then Some p.name else first_again (before ++ p ∷ []) ps) ≡ None → each_after has_new_name before (p ∷ ps) ≡ true
 new_step before p ps true is later e = absurd cc
-new_step before p ps false is later e = and_from (has_new_name before p) (each_after has_new_name (before ++ p ∷ []) ps) (ap not is) (later e)
+new_step before p ps false is later e =
+    and_from (has_new_name before p) (each_after has_new_name (before ++ p ∷ []) ps) (ap not is) (later e)
 
 all_new : (ps before : List Public) → first_again before ps ≡ None → each_after has_new_name before ps ≡ true
 all_new [] before e = refl

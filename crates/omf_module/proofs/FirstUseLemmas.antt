@@ -46,7 +46,9 @@ first_unknown m [] = refl
 first_unknown m (id ∷ ids) =
     elim (has_segment m.commons id) as (λ b.
     cond b (unknown_id m ids) (Some (SegmentUnknown id))
-    ≡ first (map SegmentUnknown (cond (not b) (id ∷ filter (λ i. not (has_segment m.commons i)) ids) (filter (λ i. not (has_segment m.commons i)) ids)))) [
+    ≡ first (map SegmentUnknown
+        (cond (not b) (id ∷ filter (λ i. not (has_segment m.commons i)) ids)
+        (filter (λ i. not (has_segment m.commons i)) ids)))) [
       | true ↦ first_unknown m ids
       | false ↦ refl
     ]
@@ -60,14 +62,17 @@ first_fixup m c before (f ∷ fs) =
     ∙ ap (λ (o : Option Cause). option_or one o) (first_fixup m c (before ++ f ∷ []) fs)
     ∙ sym (first_of_cons one (filter_map (cause_of_fixup m c) (with_earlier (before ++ f ∷ []) fs)))
 
-first_reference : (m : ModuleValue) (nearest : Option ContentValue) (body : Body) → reference_fault m nearest body ≡ first (causes_of_fixups m nearest body)
+first_reference : (m : ModuleValue) (nearest : Option ContentValue) (body : Body)
+    → reference_fault m nearest body ≡ first (causes_of_fixups m nearest body)
 first_reference m None body =
-    elim (is_reference body) as (λ b. cond b (Some FixupBeforeContent) None ≡ first (cond b (FixupBeforeContent ∷ []) [])) [ true ↦ refl | false ↦ refl ]
+    elim (is_reference body) as
+        (λ b. cond b (Some FixupBeforeContent) None ≡ first (cond b (FixupBeforeContent ∷ []) [])) [ true ↦ refl | false ↦ refl ]
 first_reference m (Some c) body =
     ap (λ (d : ContentValue). fixups_fault m d (fixups_in c.segment body)) (sym (no_fixups_more c))
     ∙ first_fixup m c [] (fixups_in c.segment body)
 
-first_in : (m : ModuleValue) (nearest : Option ContentValue) (body : Body) → body_fault m nearest body ≡ first (causes_in m nearest body)
+first_in : (m : ModuleValue) (nearest : Option ContentValue) (body : Body)
+    → body_fault m nearest body ≡ first (causes_in m nearest body)
 first_in m nearest body =
     let ids : List Cause = unknown_segments m (ids_in body) in
     let place : List Cause = option_to_list (place_fault m body) in
@@ -75,10 +80,13 @@ first_in m nearest body =
     sym (first_of_both ids (place ++ fixups)
     ∙ ap (λ (o : Option Cause). option_or (first ids) o) (first_of_both place fixups)
     ∙ ap (λ (o : Option Cause). option_or o (option_or (first place) (first fixups))) (sym (first_unknown m (ids_in body)))
-    ∙ ap (λ (o : Option Cause). option_or (unknown_id m (ids_in body)) (option_or o (first fixups))) (first_of_option (place_fault m body))
-    ∙ ap (λ (o : Option Cause). option_or (unknown_id m (ids_in body)) (option_or (place_fault m body) o)) (sym (first_reference m nearest body)))
+    ∙ ap (λ (o : Option Cause). option_or (unknown_id m (ids_in body)) (option_or o (first fixups)))
+        (first_of_option (place_fault m body))
+    ∙ ap (λ (o : Option Cause). option_or (unknown_id m (ids_in body)) (option_or (place_fault m body) o))
+        (sym (first_reference m nearest body)))
 
-first_at : (at : ℕ) (o : Option Cause) (causes : List Cause) → o ≡ first causes → option_map (fault_by at) o ≡ first (faults_at at causes)
+first_at : (at : ℕ) (o : Option Cause) (causes : List Cause) → o ≡ first causes
+    → option_map (fault_by at) o ≡ first (faults_at at causes)
 first_at at o causes is = ap (option_map (fault_by at)) is ∙ sym (first_of_map (fault_by at) causes)
 
 -- ---- the nearest content
@@ -88,7 +96,8 @@ abbrev after_all : Option ContentValue → List PlacedBody → Option ContentVal
 after_all nearest [] = nearest
 after_all nearest (p ∷ ps) = after_all (content_after nearest p.body) ps
 
-after_push : (nearest : Option ContentValue) (ps : List PlacedBody) (p : PlacedBody) → after_all nearest (ps ++ p ∷ []) ≡ content_after (after_all nearest ps) p.body
+after_push : (nearest : Option ContentValue) (ps : List PlacedBody) (p : PlacedBody)
+    → after_all nearest (ps ++ p ∷ []) ≡ content_after (after_all nearest ps) p.body
 after_push nearest [] p = refl
 after_push nearest (q ∷ ps) p = after_push (content_after nearest q.body) ps p
 
@@ -96,8 +105,10 @@ after_push nearest (q ∷ ps) p = after_push (content_after nearest q.body) ps p
 abbrev IsLast : ContentValue → List PlacedBody → Type 0
 IsLast c ps = (o : Option ContentValue) → last_or o (contents_from (Some c) ps) ≡ after_all (Some c) ps
 
-last_first : (c : ContentValue) (at : ℕ) (body : Body) (ps : List PlacedBody) → ((d : ContentValue) → IsLast d ps) → IsLast c (record { at = at; body = body } ∷ ps)
-last_first c at (Content b) ps later = λ o. later (record { segment = b.segment; offset = b.offset; bytes = b.bytes; fixups = [] }) (Some c)
+last_first : (c : ContentValue) (at : ℕ) (body : Body) (ps : List PlacedBody) → ((d : ContentValue) → IsLast d ps)
+    → IsLast c (record { at = at; body = body } ∷ ps)
+last_first c at (Content b) ps later =
+    λ o. later (record { segment = b.segment; offset = b.offset; bytes = b.bytes; fixups = [] }) (Some c)
 last_first c at body ps later = λ o. later (with_fixups c (fixups_in c.segment body)) o
 
 last_content : (ps : List PlacedBody) (c : ContentValue) → IsLast c ps
@@ -105,8 +116,10 @@ last_content [] c = λ o. refl
 last_content (p ∷ ps) c = last_first c p.at p.body ps (last_content ps)
 
 begun_last : (at : ℕ) (body : Body) (ps : List PlacedBody) → last_or None (contents_from None ps) ≡ after_all None ps
-    → last_or None (contents_from None (record { at = at; body = body } ∷ ps)) ≡ after_all None (record { at = at; body = body } ∷ ps)
-begun_last at (Content b) ps later = last_content ps (record { segment = b.segment; offset = b.offset; bytes = b.bytes; fixups = [] }) None
+    → last_or None (contents_from None (record { at = at; body = body } ∷ ps))
+        ≡ after_all None (record { at = at; body = body } ∷ ps)
+begun_last at (Content b) ps later =
+    last_content ps (record { segment = b.segment; offset = b.offset; bytes = b.bytes; fixups = [] }) None
 begun_last at body ps later = later
 
 last_of_all : (ps : List PlacedBody) → last_or None (contents_from None ps) ≡ after_all None ps
@@ -118,14 +131,17 @@ nearest_is ps = ap (last_or None) (sym (contents_have_the_fixups_up_to_the_next 
 
 -- ---- all records
 
-first_from : (m : ModuleValue) (before ps : List PlacedBody) → bodies_fault m (after_all None before) ps ≡ first (flat_map (faults_in m) (with_earlier before ps))
+first_from : (m : ModuleValue) (before ps : List PlacedBody)
+    → bodies_fault m (after_all None before) ps ≡ first (flat_map (faults_in m) (with_earlier before ps))
 first_from m before [] = refl
 first_from m before (p ∷ ps) =
     let own : List ModuleFault = faults_in m (before, p) in
     let later : List ModuleFault = flat_map (faults_in m) (with_earlier (before ++ p ∷ []) ps) in
     let near : body_fault m (after_all None before) p.body ≡ first (causes_in m (nearest_content before) p.body) =
-        ap (λ (n : Option ContentValue). body_fault m n p.body) (sym (nearest_is before)) ∙ first_in m (nearest_content before) p.body in
-    ap (λ (o : Option ModuleFault). option_or o (bodies_fault m (content_after (after_all None before) p.body) ps)) (first_at p.at _ _ near)
+        ap (λ (n : Option ContentValue). body_fault m n p.body) (sym (nearest_is before))
+            ∙ first_in m (nearest_content before) p.body in
+    ap (λ (o : Option ModuleFault). option_or o (bodies_fault m (content_after (after_all None before) p.body) ps))
+        (first_at p.at _ _ near)
     ∙ ap (λ (n : Option ContentValue). option_or (first own) (bodies_fault m n ps)) (sym (after_push None before p))
     ∙ ap (λ (o : Option ModuleFault). option_or (first own) o) (first_from m (before ++ p ∷ []) ps)
     ∙ sym (first_of_both own later)
@@ -142,6 +158,9 @@ use_fault_is_the_first r =
     let back : List ModuleFault = faults_at r.end_at (unknown_segments m start) in
     sym (first_of_both front (bodies_faults m r.within ++ back)
     ∙ ap (λ (o : Option ModuleFault). option_or (first front) o) (first_of_both (bodies_faults m r.within) back)
-    ∙ ap (λ (o : Option ModuleFault). option_or o (option_or (first (bodies_faults m r.within)) (first back))) (sym (first_at r.at _ _ (first_unknown m ids)))
-    ∙ ap (λ (o : Option ModuleFault). option_or (header_fault m r) (option_or o (first back))) (sym (bodies_fault_is_the_first m r.within))
-    ∙ ap (λ (o : Option ModuleFault). option_or (header_fault m r) (option_or (bodies_fault m None r.within) o)) (sym (first_at r.end_at _ _ (first_unknown m start))))
+    ∙ ap (λ (o : Option ModuleFault). option_or o (option_or (first (bodies_faults m r.within)) (first back)))
+        (sym (first_at r.at _ _ (first_unknown m ids)))
+    ∙ ap (λ (o : Option ModuleFault). option_or (header_fault m r) (option_or o (first back)))
+        (sym (bodies_fault_is_the_first m r.within))
+    ∙ ap (λ (o : Option ModuleFault). option_or (header_fault m r) (option_or (bodies_fault m None r.within) o))
+        (sym (first_at r.end_at _ _ (first_unknown m start))))

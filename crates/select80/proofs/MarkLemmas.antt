@@ -49,13 +49,15 @@ marks_none marked queue = record {
   queues = λ q. q;
 }
 
-same_mark : (marked : List Bool) (n k : ℕ) → n < length marked → is_marked marked k ≡ true → is_marked (set marked n true) k ≡ true
+same_mark : (marked : List Bool) (n k : ℕ) → n < length marked → is_marked marked k ≡ true
+    → is_marked (set marked n true) k ≡ true
 same_mark marked n k inside is = elim (cases_eq k n) [
   | inl same ↦ ap (is_marked (set marked n true)) same ∙ get_or-set_same marked n true false inside
   | inr ne ↦ get_or-set_other marked n k true false ne ∙ is
 ]
 
-new_mark : (marked : List Bool) (n k : ℕ) → is_marked (set marked n true) k ≡ true → (is_marked marked k ≡ true) ⊎ Contains (n ∷ []) k
+new_mark : (marked : List Bool) (n k : ℕ) → is_marked (set marked n true) k ≡ true
+    → (is_marked marked k ≡ true) ⊎ Contains (n ∷ []) k
 new_mark marked n k is = elim (cases_eq k n) [
   | inl same ↦ inr (is_one n k (sym same))
   | inr ne ↦ inl (sym (get_or-set_other marked n k true false ne) ∙ is)
@@ -64,13 +66,15 @@ new_mark marked n k is = elim (cases_eq k n) [
 abbrev without : Bool → ℕ
 without b = cond (not b) 1 0
 
-one_less : (marked : List Bool) (n : ℕ) → n < length marked → is_marked marked n ≡ false → count_by not (set marked n true) + 1 ≡ count_by not marked
+one_less : (marked : List Bool) (n : ℕ) → n < length marked → is_marked marked n ≡ false
+    → count_by not (set marked n true) + 1 ≡ count_by not marked
 one_less marked n inside unmarked =
     let sums = sum_by-set without marked n true false inside in
     let one : without (is_marked marked n) ≡ 1 = ap without unmarked in
     omega (arith, sums, one)
 
-queue_more : (marked : List Bool) (queue : List ℕ) (n : ℕ) → n < length marked → is_marked marked n ≡ false → IsQueue marked queue → IsQueue (set marked n true) (queue ++ n ∷ [])
+queue_more : (marked : List Bool) (queue : List ℕ) (n : ℕ) → n < length marked → is_marked marked n ≡ false → IsQueue marked queue
+    → IsQueue (set marked n true) (queue ++ n ∷ [])
 queue_more marked queue n inside unmarked q = record {
   queued = λ k is. elim (new_mark marked n k is) [
     | inl before ↦ Contains-append_left queue (n ∷ []) k (q.queued k before)
@@ -98,7 +102,8 @@ pub marks_more : (ns ms : List ℕ) (marked marked1 marked2 : List Bool) (queue 
     Marks ns marked queue marked1 queue1 → Marks ms marked1 queue1 marked2 queue2 → Marks (ns ++ ms) marked queue marked2 queue2
 marks_more ns ms marked marked1 marked2 queue queue1 queue2 first next = record {
   kept = λ k is. next.kept k (first.kept k is);
-  all = λ k has. elim (Contains-append_cases ns ms k has) [ inl early ↦ next.kept k (first.all k early) | inr late ↦ next.all k late ];
+  all = λ k has. elim (Contains-append_cases ns ms k has) [ inl early ↦ next.kept k (first.all k early) | inr late ↦
+      next.all k late ];
   only = λ k is. elim (next.only k is) [
     | inl before ↦ elim (first.only k before) [ inl was ↦ inl was | inr early ↦ inr (Contains-append_left ns ms k early) ]
     | inr late ↦ inr (Contains-append_right ns ms k late)
@@ -130,7 +135,8 @@ search_root row n marked after queue queue_after so_far marks = record {
   places = marks.places ∙ so_far.places;
 }
 
-pub search_next : (row : List ModuleValue) (roots looked_at n : ℕ) (m : ModuleValue) (marked after : List Bool) (queue queue_after : List ℕ) →
+pub search_next : (row : List ModuleValue) (roots looked_at n : ℕ) (m : ModuleValue) (marked after : List Bool)
+    (queue queue_after : List ℕ) →
     IsSearched row roots looked_at marked queue → slice_get queue looked_at ≡ Some n → slice_get row n ≡ Some m →
     Marks (needed row m) marked queue after queue_after → IsSearched row roots (looked_at + 1) after queue_after
 search_next row roots looked_at n m marked after queue queue_after so_far at there marks = record {
@@ -154,14 +160,16 @@ search_next row roots looked_at n m marked after queue queue_after so_far at the
   places = marks.places ∙ so_far.places;
 }
 
-search_back : (row : List ModuleValue) (roots looked_at : ℕ) (marked : List Bool) (queue : List ℕ) → IsSearched row roots looked_at marked queue →
+search_back : (row : List ModuleValue) (roots looked_at : ℕ) (marked : List Bool) (queue : List ℕ)
+    → IsSearched row roots looked_at marked queue →
     length queue ≤ looked_at → (k : ℕ) → IsReached row roots k → is_marked marked k ≡ true
 search_back row roots looked_at marked queue so_far all k (root _ below) = so_far.started k below
 search_back row roots looked_at marked queue so_far all k (needed_by n _ m from there needs) =
     let at = at_has queue n (so_far.is_queue.queued n (search_back row roots looked_at marked queue so_far all n from)) in
     so_far.closed at.0 n k m (let inside = slice_get_within queue at.0 n at.1 in omega arith) at.1 there needs
 
-pub search_end : (row : List ModuleValue) (roots looked_at : ℕ) (marked : List Bool) (queue : List ℕ) → IsSearched row roots looked_at marked queue →
+pub search_end : (row : List ModuleValue) (roots looked_at : ℕ) (marked : List Bool) (queue : List ℕ)
+    → IsSearched row roots looked_at marked queue →
     length queue ≤ looked_at → AreReached row roots marked
 search_end row roots looked_at marked queue so_far all = record {
   reached = λ k. (λ is. so_far.reached k is, λ from. search_back row roots looked_at marked queue so_far all k from);
@@ -170,17 +178,24 @@ search_end row roots looked_at marked queue so_far all = record {
 
 -- ---- steps of the loops
 
-pub search_inside : (row : List ModuleValue) (roots looked_at n : ℕ) (marked : List Bool) (queue : List ℕ) → IsSearched row roots looked_at marked queue →
+pub search_inside : (row : List ModuleValue) (roots looked_at n : ℕ) (marked : List Bool) (queue : List ℕ)
+    → IsSearched row roots looked_at marked queue →
     looked_at < length queue → n ≡ get_or queue looked_at n → (slice_get queue looked_at ≡ Some n) × (n < length row)
 search_inside row roots looked_at n marked queue so_far inside is =
     let at = slice_get-get_or queue looked_at n inside ∙ ap (λ x. Some x) (sym is) in
     let less = mark_inside marked n (so_far.is_queue.has_mark n (has_at queue looked_at n at)) in
     (at, omega (arith, less, so_far.places))
 
-pub marks_next : (h : List ℕ → Option ℕ) (names : List (List ℕ)) (i : ℕ) (name : List ℕ) (number : Option ℕ) (marked marked1 marked2 : List Bool) (queue queue1 queue2 : List ℕ) →
-    i < length names → name ≡ get_or names i name → number ≡ h name → Marks (filter_map h (take i names)) marked queue marked1 queue1 →
-    Marks (cons_option number []) marked1 queue1 marked2 queue2 → Marks (filter_map h (take (i + 1) names)) marked queue marked2 queue2
+pub marks_next : (h : List ℕ
+    → Option ℕ) (names : List (List ℕ)) (i : ℕ) (name : List ℕ) (number : Option ℕ) (marked marked1 marked2 : List Bool)
+    (queue queue1 queue2 : List ℕ) →
+    i < length names → name ≡ get_or names i name → number ≡ h name
+        → Marks (filter_map h (take i names)) marked queue marked1 queue1 →
+    Marks (cons_option number []) marked1 queue1 marked2 queue2
+        → Marks (filter_map h (take (i + 1) names)) marked queue marked2 queue2
 marks_next h names i name number marked marked1 marked2 queue queue1 queue2 inside is gives before next =
     let more = take_more names i name inside ∙ ap (λ x. take i names ++ x ∷ []) (sym is) in
-    let all = ap (filter_map h) more ∙ filter_map-append h (take i names) (name ∷ []) ∙ ap (λ (o : Option ℕ). filter_map h (take i names) ++ cons_option o []) (sym gives) in
-    subst (λ (ns : List ℕ). Marks ns marked queue marked2 queue2) (sym all) (marks_more (filter_map h (take i names)) (cons_option number []) marked marked1 marked2 queue queue1 queue2 before next)
+    let all = ap (filter_map h) more ∙ filter_map-append h (take i names) (name ∷ [])
+        ∙ ap (λ (o : Option ℕ). filter_map h (take i names) ++ cons_option o []) (sym gives) in
+    subst (λ (ns : List ℕ). Marks ns marked queue marked2 queue2) (sym all)
+        (marks_more (filter_map h (take i names)) (cons_option number []) marked marked1 marked2 queue queue1 queue2 before next)
