@@ -29,7 +29,7 @@ pub record IsLocated (options : Options) (image : Located) (program : ModuleValu
 pub holds_modules : LinkedBytesAreTheModules
     → (options : Options) (name : List ℕ) (modules : List ModuleValue) (program : ModuleValue) (image : Located)
     → AllByRecursion IsModule modules → link_fault modules ≡ None → program ≡ linked name modules
-        → IsLocated options image program
+    → IsLocated options image program
     → HoldsModules options name modules image
 holds_modules keeps options name modules program image sound none is told =
     let located : IsLocated options image (linked name modules) = subst (IsLocated options image) is told in

@@ -74,7 +74,7 @@ answered (q ∷ front) before p later here new =
     let parts = and_parts (has_new_name before q) (each_after has_new_name (before ++ q ∷ []) front) new in
     past_new before q (front ++ p ∷ later) parts.0
     ∙ answered front (before ++ q ∷ []) p later
-        (ap (λ (l : List Public). is_declared l p.name) (append_assoc before (q ∷ []) front) ∙ here) parts.1
+    (ap (λ (l : List Public). is_declared l p.name) (append_assoc before (q ∷ []) front) ∙ here) parts.1
 
 first_answered : (publics : List Public) (name : List ℕ) → IsFirstAgain publics name → first_again [] publics ≡ Some name
 first_answered publics name r =
@@ -83,8 +83,15 @@ first_answered publics name r =
 first_found : (publics : List Public) (name : List ℕ) → first_again [] publics ≡ Some name → IsFirstAgain publics name
 first_found publics name e =
     let r : AgainAfter [] publics name = again_found publics [] name e in
-    record { earlier = r.front; again = r.again; later = r.later; whole = r.whole; named = r.named; declared = r.declared;
-        others = r.others }
+    record {
+      earlier = r.front;
+      again = r.again;
+      later = r.later;
+      whole = r.whole;
+      named = r.named;
+      declared = r.declared;
+      others = r.others;
+    }
 
 pub first_again_is_the_first : FirstAgainIsTheFirst
 first_again_is_the_first publics name = (first_found publics name, first_answered publics name)
@@ -119,6 +126,6 @@ same_name (Some n) name e = cc
 
 pub duplicate_is_the_first : DuplicateIsTheFirst
 duplicate_is_the_first modules name = (
-      λ e. first_found (linked_publics modules) name (same_name (first_again [] (linked_publics modules)) name e),
-      λ r. ap (λ (o : Option (List ℕ)). option_map DuplicatePublic o) (first_answered (linked_publics modules) name r),
-    )
+  λ e. first_found (linked_publics modules) name (same_name (first_again [] (linked_publics modules)) name e),
+  λ r. ap (λ (o : Option (List ℕ)). option_map DuplicatePublic o) (first_answered (linked_publics modules) name r),
+)

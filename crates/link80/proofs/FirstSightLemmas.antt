@@ -16,13 +16,13 @@ filter_twice p q [] = refl
 filter_twice p q (x ∷ xs) =
     elim (q x) as (λ b. filter p (cond b (x ∷ filter q xs) (filter q xs))
     ≡ cond (b && p x) (x ∷ filter (λ y. q y && p y) xs) (filter (λ y. q y && p y) xs)) [
-  | true ↦ elim (p x) as (λ b. cond b (x ∷ filter p (filter q xs)) (filter p (filter q xs))
-      ≡ cond b (x ∷ filter (λ y. q y && p y) xs) (filter (λ y. q y && p y) xs)) [
-    | true ↦ ap (λ l. x ∷ l) (filter_twice p q xs)
-    | false ↦ filter_twice p q xs
-  ]
-  | false ↦ filter_twice p q xs
-]
+      | true ↦ elim (p x) as (λ b. cond b (x ∷ filter p (filter q xs)) (filter p (filter q xs))
+          ≡ cond b (x ∷ filter (λ y. q y && p y) xs) (filter (λ y. q y && p y) xs)) [
+            | true ↦ ap (λ l. x ∷ l) (filter_twice p q xs)
+            | false ↦ filter_twice p q xs
+          ]
+      | false ↦ filter_twice p q xs
+    ]
 
 pub filter_same : {A : Type 0} (p q : A → Bool) → ((x : A) → p x ≡ q x) → (xs : List A) → filter p xs ≡ filter q xs
 filter_same p q same [] = refl
@@ -86,17 +86,17 @@ with_names_is keys (n ∷ ns) = elim (cases_Bool (is_among keys n)) [
       ap (λ b. with_names (cond b keys (keys ++ n ∷ [])) ns) there
       ∙ with_names_is keys ns
       ∙ ap (λ l. keys ++ l) (sym (filter_twice (is_new keys) (λ o. not (pointwise nat_eq n o)) (distinct ns)
-          ∙ filter_same _ (is_new keys) (λ x. new_differs keys n x there) (distinct ns)))
+      ∙ filter_same _ (is_new keys) (λ x. new_differs keys n x there) (distinct ns)))
       ∙ ap (λ b. keys ++ cond (not b) (n ∷ filter (is_new keys) (filter (λ o. not (pointwise nat_eq n o)) (distinct ns)))
-          (filter (is_new keys) (filter (λ o. not (pointwise nat_eq n o)) (distinct ns)))) (sym there)
+      (filter (is_new keys) (filter (λ o. not (pointwise nat_eq n o)) (distinct ns)))) (sym there)
   | inr new ↦
       ap (λ b. with_names (cond b keys (keys ++ n ∷ [])) ns) new
       ∙ with_names_is (keys ++ n ∷ []) ns
       ∙ append_assoc keys (n ∷ []) (filter (is_new (keys ++ n ∷ [])) (distinct ns))
       ∙ ap (λ l. keys ++ n ∷ l) (filter_same (is_new (keys ++ n ∷ [])) _ (newer keys n) (distinct ns)
-          ∙ sym (filter_twice (is_new keys) (λ o. not (pointwise nat_eq n o)) (distinct ns)))
+      ∙ sym (filter_twice (is_new keys) (λ o. not (pointwise nat_eq n o)) (distinct ns)))
       ∙ ap (λ b. keys ++ cond (not b) (n ∷ filter (is_new keys) (filter (λ o. not (pointwise nat_eq n o)) (distinct ns)))
-          (filter (is_new keys) (filter (λ o. not (pointwise nat_eq n o)) (distinct ns)))) (sym new)
+      (filter (is_new keys) (filter (λ o. not (pointwise nat_eq n o)) (distinct ns)))) (sym new)
 ]
 
 -- of no names: the distinct ones in order of first sight
@@ -115,17 +115,17 @@ distinct_passed test (n ∷ ns) = elim (cases_Bool (test n)) [
       ap (λ b. distinct (cond b (n ∷ filter test ns) (filter test ns))) passes
       ∙ ap (λ l. n ∷ filter (λ o. not (pointwise nat_eq n o)) l) (distinct_passed test ns)
       ∙ ap (λ l. n ∷ l) (filter_twice (λ o. not (pointwise nat_eq n o)) test (distinct ns)
-          ∙ filter_same _ _ (λ x. both_ways (test x) (not (pointwise nat_eq n x))) (distinct ns)
+      ∙ filter_same _ _ (λ x. both_ways (test x) (not (pointwise nat_eq n x))) (distinct ns)
       ∙ sym (filter_twice test (λ o. not (pointwise nat_eq n o)) (distinct ns)))
       ∙ ap (λ b. cond b (n ∷ filter test (filter (λ o. not (pointwise nat_eq n o)) (distinct ns)))
-          (filter test (filter (λ o. not (pointwise nat_eq n o)) (distinct ns)))) (sym passes)
+      (filter test (filter (λ o. not (pointwise nat_eq n o)) (distinct ns)))) (sym passes)
   | inr fails ↦
       ap (λ b. distinct (cond b (n ∷ filter test ns) (filter test ns))) fails
       ∙ distinct_passed test ns
       ∙ sym (filter_twice test (λ o. not (pointwise nat_eq n o)) (distinct ns)
-          ∙ filter_same _ test (passed_differs fails) (distinct ns))
+      ∙ filter_same _ test (passed_differs fails) (distinct ns))
       ∙ ap (λ b. cond b (n ∷ filter test (filter (λ o. not (pointwise nat_eq n o)) (distinct ns)))
-          (filter test (filter (λ o. not (pointwise nat_eq n o)) (distinct ns)))) (sym fails)
+      (filter test (filter (λ o. not (pointwise nat_eq n o)) (distinct ns)))) (sym fails)
 ]
   where
     both_ways : (a b : Bool) → (a && b) ≡ (b && a)

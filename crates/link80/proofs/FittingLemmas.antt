@@ -92,8 +92,8 @@ more start to (b ∷ bs) f =
     let rest : List Fixup = filter_map (moved_fixup start to) bs in
     ap (cons_option (moved_fixup start to b)) (more start to bs f)
     ∙ elim (moved_fixup start to b) as
-        (λ o. cons_option o (rest ++ cons_option (moved_fixup start to f) []) ≡ cons_option o rest
-        ++ cons_option (moved_fixup start to f) []) [ None ↦ refl | Some g ↦ refl ]
+    (λ o. cons_option o (rest ++ cons_option (moved_fixup start to f) []) ≡ cons_option o rest
+    ++ cons_option (moved_fixup start to f) []) [ None ↦ refl | Some g ↦ refl ]
 
 append_none : (xs : List Fixup) → xs ++ [] ≡ xs
 append_none [] = refl
@@ -106,32 +106,32 @@ pub fitting_moved : (commons linked : List Common) (externals left first size st
     → Option Target) (before fixups : List Fixup) →
     each_after (is_fitting commons externals first size) before fixups ≡ true → AllByRecursion (Resolved linked left to) fixups →
     each_after (is_fitting linked left (first + start) size) (filter_map (moved_fixup start to) before)
-        (filter_map (moved_fixup start to) fixups) ≡ true
+    (filter_map (moved_fixup start to) fixups) ≡ true
 fitting_moved commons linked externals left first size start to before [] fits resolved = refl
 fitting_moved commons linked externals left first size start to before (f ∷ fs) fits resolved =
     let parts = and_parts (is_fitting commons externals first size before f)
-        (each_after (is_fitting commons externals first size) (before ++ f ∷ []) fs) fits in
+    (each_after (is_fitting commons externals first size) (before ++ f ∷ []) fs) fits in
     let two = and_parts (is_inside first size f && not (shares_a_byte before f))
-        (has_target commons externals f.target) parts.0 in
+    (has_target commons externals f.target) parts.0 in
     let one = and_parts (is_inside first size f) (not (shares_a_byte before f)) two.0 in
     let after : List Fixup = filter_map (moved_fixup start to) before in
     let rest : List Fixup = filter_map (moved_fixup start to) fs in
     let test : List Fixup → Fixup → Bool = is_fitting linked left (first + start) size in
     let others : each_after test (filter_map (moved_fixup start to) (before ++ f ∷ [])) rest ≡ true =
-        fitting_moved commons linked externals left first size start to (before ++ f ∷ []) fs parts.1 resolved.1 in
+    fitting_moved commons linked externals left first size start to (before ++ f ∷ []) fs parts.1 resolved.1 in
     let then : each_after test (after ++ cons_option (moved_fixup start to f) []) rest ≡ true =
-        ap (λ l. each_after test l rest) (sym (more start to before f)) ∙ others in
+    ap (λ l. each_after test l rest) (sym (more start to before f)) ∙ others in
     (elim (to f) as (λ o. to f ≡ o → each_after test (after ++ cons_option (option_map (fixup_to start f) o) []) rest ≡ true
-        → each_after test after (cons_option (option_map (fixup_to start f) o) rest) ≡ true) [
+    → each_after test after (cons_option (option_map (fixup_to start f) o) rest) ≡ true) [
       | None ↦ λ _ h. ap (λ l. each_after test l rest) (sym (append_none after)) ∙ h
       | Some t ↦ λ is h.
           let g : Fixup = fixup_to start f t in
           and_from (test after g) (each_after test (after ++ g ∷ []) rest)
           (and_from (is_inside (first + start) size g && not (shares_a_byte after g)) (has_target linked left t)
           (and_from (is_inside (first + start) size g) (not (shares_a_byte after g))
-              (inside_moved f.field first size f.offset start one.0)
+          (inside_moved f.field first size f.offset start one.0)
           (not_from_false (shares_a_byte after g)
-              (apart_moved f.field start to before f.offset (not-true (shares_a_byte before f) one.1))))
+          (apart_moved f.field start to before f.offset (not-true (shares_a_byte before f) one.1))))
           (resolved.0.there t is))
           h
     ]) refl then

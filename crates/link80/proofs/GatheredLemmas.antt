@@ -27,7 +27,7 @@ again_by_names before [] = refl
 again_by_names before (p ∷ ps) =
     ap (λ b. if b then Some p.name else first_again (before ++ p ∷ []) ps) (stands_before before p.name)
     ∙ ap (λ o. if is_among (map (λ q. q.name) before) p.name then Some p.name else o) (again_by_names (before ++ p ∷ []) ps
-        ∙ ap (λ l. again_in l (map (λ q. q.name) ps)) (map_append (λ (q : Public). q.name) before (p ∷ [])))
+    ∙ ap (λ l. again_in l (map (λ q. q.name) ps)) (map_append (λ (q : Public). q.name) before (p ∷ [])))
 
 names_from : (all : List ModuleValue) (n : ℕ) (ms : List ModuleValue)
     → map (λ p. p.name) (flat_map (λ m. map (linked_public all m) m.1.publics) (enumerate_from n ms))
@@ -35,9 +35,9 @@ names_from : (all : List ModuleValue) (n : ℕ) (ms : List ModuleValue)
 names_from all n [] = refl
 names_from all n (m ∷ ms) =
     map_append (λ (p : Public). p.name) (map (linked_public all (n, m)) m.publics)
-        (flat_map (λ k. map (linked_public all k) k.1.publics) (enumerate_from (n + 1) ms))
+    (flat_map (λ k. map (linked_public all k) k.1.publics) (enumerate_from (n + 1) ms))
     ∙ ap (λ l. l ++ map (λ p. p.name) (flat_map (λ k. map (linked_public all k) k.1.publics) (enumerate_from (n + 1) ms)))
-        (kept m.publics)
+    (kept m.publics)
     ∙ ap (λ l. names_of_publics m ++ l) (names_from all (n + 1) ms)
   where
     kept : (ps : List Public) → map (λ p. p.name) (map (linked_public all (n, m)) ps) ≡ map (λ p. p.name) ps
@@ -90,4 +90,4 @@ pub no_main_here : (ms : List ModuleValue) (n : ℕ) (m : ModuleValue) (main : O
     cons_option main (mains_from (n + 1) (drop (n + 1) ms)) ≡ cons_option main (mains_from n (drop n ms))
 no_main_here ms n m main at is =
     ap (cons_option main) (ap (λ o. cons_option o (mains_from (n + 1) (drop (n + 1) ms))) (sym (no_main m.start n is))
-        ∙ sym (mains_at ms n m at))
+    ∙ sym (mains_at ms n m at))

@@ -44,8 +44,10 @@ abbrev pub with_length : ℕ → Segment → Segment
 with_length end s = record { length = end; paged = s.paged }
 
 abbrev pub all_parts : (ModuleValue → Segment) → Segment → List ModuleValue → Segment
-all_parts part s ms = record { length = max s.length (greatest (map (λ m. (part m).length) ms));
-    paged = s.paged || list_any (λ m. (part m).paged) ms }
+all_parts part s ms = record {
+  length = max s.length (greatest (map (λ m. (part m).length) ms));
+  paged = s.paged || list_any (λ m. (part m).paged) ms;
+}
 
 joined_none : (s : Segment) → s ≡ joined_parts s empty_segment
 joined_none s = λ j. record { length = sym (max_zero s.length) j; paged = sym (or_false s.paged) j }
@@ -83,7 +85,7 @@ later_part s segments (Some k) part = refl
 
 part_at : (n : List ℕ) (part : Segment) (f : List ℕ → Segment) (names : List (List ℕ)) → NoTwice names →
     with_part_at (map f names) (number_in names n) part
-        ≡ map (λ name. cond (pointwise nat_eq n name) (joined_parts (f name) part) (f name)) names
+    ≡ map (λ name. cond (pointwise nat_eq n name) (joined_parts (f name) part) (f name)) names
 part_at n part f [] once = refl
 part_at n part f (o ∷ os) once = elim (cases_Bool (pointwise nat_eq o n)) [
   | inl same ↦
@@ -92,13 +94,13 @@ part_at n part f (o ∷ os) once = elim (cases_Bool (pointwise nat_eq o n)) [
       ap (λ b. with_part_at (f o ∷ map f os) (cond b (Some 0) (option_map suc (number_in os n))) part) same
       ∙ ap (λ l. joined_parts (f o) part ∷ l) (same_elsewhere n part f os (ap (has_name os) (sym is) ∙ once.0))
       ∙ ap (λ b. cond b (joined_parts (f o) part) (f o) ∷ map
-          (λ name. cond (pointwise nat_eq n name) (joined_parts (f name) part) (f name)) os) (sym itself)
+      (λ name. cond (pointwise nat_eq n name) (joined_parts (f name) part) (f name)) os) (sym itself)
   | inr differs ↦
       ap (λ b. with_part_at (f o ∷ map f os) (cond b (Some 0) (option_map suc (number_in os n))) part) differs
       ∙ later_part (f o) (map f os) (number_in os n) part
       ∙ ap (λ l. f o ∷ l) (part_at n part f os once.1)
       ∙ ap (λ b. cond b (joined_parts (f o) part) (f o) ∷ map
-          (λ name. cond (pointwise nat_eq n name) (joined_parts (f name) part) (f name)) os) (sym (same_both_ways n o ∙ differs))
+      (λ name. cond (pointwise nat_eq n name) (joined_parts (f name) part) (f name)) os) (sym (same_both_ways n o ∙ differs))
 ]
 
 pub named_parts : (names : List (List ℕ)) (f : List ℕ → Segment) (parts : List (List ℕ × Segment)) → NoTwice names →
@@ -140,7 +142,7 @@ none_named_so segment name s [] none = refl
 none_named_so segment name s (c ∷ cs) none =
     let parts = or_parts (pointwise nat_eq c.name name) (has_name (map (λ (c : Common). c.name) cs) name) none in
     ap (λ b. parts_named name (cond b (joined_parts s (segment c.id)) s) (map (λ (c : Common). (c.name, segment c.id)) cs))
-        parts.0
+    parts.0
     ∙ none_named_so segment name s cs parts.1
 
 abbrev found_part : (ℕ → Segment) → Option Common → Segment
@@ -149,7 +151,7 @@ found_part segment o = option_map_or (λ (c : Common). segment c.id) o empty_seg
 one_part : (segment : ℕ → Segment) (name : List ℕ) (s : Segment) (before cs : List Common)
     → each_after is_new_common before cs ≡ true →
     parts_named name s (map (λ (c : Common). (c.name, segment c.id)) cs)
-        ≡ joined_parts s (found_part segment (find (λ (c : Common). pointwise nat_eq c.name name) cs))
+    ≡ joined_parts s (found_part segment (find (λ (c : Common). pointwise nat_eq c.name name) cs))
 one_part segment name s before [] new = joined_none s
 one_part segment name s before (c ∷ cs) new =
     let parts = and_parts (is_new_common before c) (each_after is_new_common (before ++ c ∷ []) cs) new in
@@ -159,8 +161,8 @@ one_part segment name s before (c ∷ cs) new =
       | inl same ↦
           ap (λ b. parts_named name (cond b (joined_parts s (segment c.id)) s) rest) same
           ∙ none_named_so segment name (joined_parts s (segment c.id)) cs
-              (none_later (before ++ c ∷ []) cs name
-              (any_back (λ (d : Common). pointwise nat_eq d.name name) before (c ∷ []) (ap (λ b. b || false) same)) parts.1)
+          (none_later (before ++ c ∷ []) cs name
+          (any_back (λ (d : Common). pointwise nat_eq d.name name) before (c ∷ []) (ap (λ b. b || false) same)) parts.1)
           ∙ ap (λ b. joined_parts s (found_part segment (cond b (Some c) found))) (sym same)
       | inr differs ↦
           ap (λ b. parts_named name (cond b (joined_parts s (segment c.id)) s) rest) differs
@@ -208,8 +210,8 @@ name_of_number start (n ∷ ns) zero name at =
     some_is a b e = cc
 name_of_number start (n ∷ ns) (suc k) name at =
     ap (λ b. option_map_or (λ (c : Common). c.name)
-        (cond b (Some (numbered_common (start, n))) (find (λ (c : Common). c.id == start + suc k) (numbered (start + 1) ns))) [])
-        (ne_eqb start (start + suc k) (λ e. omega (arith, e)))
+    (cond b (Some (numbered_common (start, n))) (find (λ (c : Common). c.id == start + suc k) (numbered (start + 1) ns))) [])
+    (ne_eqb start (start + suc k) (λ e. omega (arith, e)))
     ∙ ap (common_name (numbered (start + 1) ns)) (next start k)
     ∙ name_of_number (start + 1) ns k name at
   where
@@ -237,12 +239,12 @@ common_segment_is modules id name low high called all =
     one m s once =
         one_part (segment_in m.segments) name s [] m.commons once
         ∙ ap (λ n. joined_parts s
-            (found_part (segment_in m.segments) (find (λ (c : Common). pointwise nat_eq c.name n) m.commons))) (sym called)
+        (found_part (segment_in m.segments) (find (λ (c : Common). pointwise nat_eq c.name n) m.commons))) (sym called)
         ∙ ap (λ b. joined_parts s
-            (cond b (segment_in m.segments id)
-            (found_part (segment_in m.segments)
-            (find (λ (c : Common). pointwise nat_eq c.name (common_name (linked_commons modules) id)) m.commons))))
-            (sym (common_not_fixed id low high))
+        (cond b (segment_in m.segments id)
+        (found_part (segment_in m.segments)
+        (find (λ (c : Common). pointwise nat_eq c.name (common_name (linked_commons modules) id)) m.commons))))
+        (sym (common_not_fixed id low high))
 
 entries_by : (segment : ℕ → Segment) (f : List ℕ → Segment) (start : ℕ) (names : List (List ℕ))
     → ((k : ℕ) (name : List ℕ) → k < length names → slice_get names k ≡ Some name → f name ≡ segment (start + k)) →
@@ -251,8 +253,8 @@ entries_by segment f start [] is = refl
 entries_by segment f start (n ∷ ns) is =
     ap (λ s. (start, s) ∷ enumerate_from (start + 1) (map f ns)) (is 0 n (omega arith) refl ∙ ap segment (plus_none start))
     ∙ ap (λ l. (start, segment start) ∷ l)
-        (entries_by segment f (start + 1) ns (λ k name within at. is (suc k) name (omega (arith, within)) at
-        ∙ ap segment (next start k)))
+    (entries_by segment f (start + 1) ns (λ k name within at. is (suc k) name (omega (arith, within)) at
+    ∙ ap segment (next start k)))
   where
     plus_none : (s : ℕ) → s + 0 ≡ s
     plus_none s = omega arith
@@ -264,7 +266,7 @@ entries_by segment f start (n ∷ ns) is =
 pub common_entries : (modules : List ModuleValue) (segments : List Segment) → length (common_names modules) ≤ 249
     → AllByRecursion OncePart modules →
     segments ≡ with_named_parts (common_names modules) (map (λ _. empty_segment) (common_names modules))
-        (flat_map parts_of_commons modules) →
+    (flat_map parts_of_commons modules) →
     enumerate_from 6 segments ≡ map (λ id. (id, linked_segment modules id)) (map (λ c. c.id) (linked_commons modules))
 common_entries modules segments few all are =
     let names : List (List ℕ) = common_names modules in
@@ -277,11 +279,11 @@ common_entries modules segments few all are =
 
 pub fixed_part : (modules : List ModuleValue) (id : ℕ) → is_fixed_id id ≡ true →
     with_parts (λ m. segment_in m.segments id) empty_segment modules
-        ≡ all_parts (λ m. part_of (linked_commons modules) m id) empty_segment modules
+    ≡ all_parts (λ m. part_of (linked_commons modules) m id) empty_segment modules
 fixed_part modules id fixed =
     let named : ModuleValue → Segment =
-        λ m. found_part (segment_in m.segments)
-        (find (λ (c : Common). pointwise nat_eq c.name (common_name (linked_commons modules) id)) m.commons) in
+    λ m. found_part (segment_in m.segments)
+    (find (λ (c : Common). pointwise nat_eq c.name (common_name (linked_commons modules) id)) m.commons) in
     parts_joined (λ m. segment_in m.segments id) empty_segment modules
     ∙ ap (λ b. all_parts (λ m. cond b (segment_in m.segments id) (named m)) empty_segment modules) (sym fixed)
 
@@ -291,9 +293,9 @@ pub over_one_another : (modules : List ModuleValue) (id : ℕ) → is_fixed_id i
 over_one_another modules id fixed over =
     let longest : ℕ = greatest (map (λ m. (part_of (linked_commons modules) m id).length) modules) in
     let size : max 0 longest ≡ linked_length modules id = none_longer longest
-        ∙ ap (λ b. cond b (parts_end id 0 modules) longest) (sym over) in
+    ∙ ap (λ b. cond b (parts_end id 0 modules) longest) (sym over) in
     fixed_part modules id fixed
-        ∙ (λ j. record { length = size j; paged = list_any (λ m. (part_of (linked_commons modules) m id).paged) modules })
+    ∙ (λ j. record { length = size j; paged = list_any (λ m. (part_of (linked_commons modules) m id).paged) modules })
 
 -- or one after another
 pub one_after_another : (modules : List ModuleValue) (id end : ℕ) → is_fixed_id id ≡ true → is_laid_out id ≡ true
@@ -303,7 +305,7 @@ one_after_another modules id end fixed laid ends s is =
     let longest : ℕ = greatest (map (λ m. (part_of (linked_commons modules) m id).length) modules) in
     let size : end ≡ linked_length modules id = ends ∙ ap (λ b. cond b (parts_end id 0 modules) longest) (sym laid) in
     ap (with_length end) (is ∙ fixed_part modules id fixed)
-        ∙ (λ j. record { length = size j; paged = list_any (λ m. (part_of (linked_commons modules) m id).paged) modules })
+    ∙ (λ j. record { length = size j; paged = list_any (λ m. (part_of (linked_commons modules) m id).paged) modules })
 
 -- ---- steps of the loops
 

@@ -39,8 +39,11 @@ map_same P f g same (x ∷ xs) all = ap (λ y. y ∷ map f xs) (same x all.0) �
 any_append : {A : Type 0} (test : A → Bool) (xs ys : List A) → list_any test (xs ++ ys) ≡ (list_any test xs || list_any test ys)
 any_append test [] ys = refl
 any_append test (x ∷ xs) ys =
-    elim (test x) as (λ b. (b || list_any test (xs ++ ys)) ≡ ((b || list_any test xs) || list_any test ys)) [ true ↦
-    refl | false ↦ any_append test xs ys ]
+    elim (test x) as (λ b. (b || list_any test (xs ++ ys)) ≡ ((b || list_any test xs) || list_any test ys)) [
+      | true ↦
+          refl
+      | false ↦ any_append test xs ys
+    ]
 
 pub any_front : {A : Type 0} (test : A → Bool) (xs ys : List A) → list_any test xs ≡ true → list_any test (xs ++ ys) ≡ true
 any_front test xs ys here = any_append test xs ys ∙ ap (λ b. b || list_any test ys) here

@@ -48,7 +48,7 @@ pub one_left_more : {A B : Type 0} (f : A → Option B) (xs : List A) (i : ℕ) 
 one_left_more {A} {B} f xs i d made next inside is =
     let rest : List B = filter_map f (drop (i + 1) xs) in
     append_assoc made (next ∷ []) rest ∙ ap (λ o. made ++ cons_option o rest) (sym is)
-        ∙ ap (λ l. made ++ filter_map f l) (sym (drop_more xs i d inside))
+    ∙ ap (λ l. made ++ filter_map f l) (sym (drop_more xs i d inside))
 
 pub none_left_more : {A B : Type 0} (f : A → Option B) (xs : List A) (i : ℕ) (d : A) (made : List B) → i < length xs
     → f (get_or xs i d) ≡ None →
@@ -60,10 +60,10 @@ none_left_more {A} {B} f xs i d made inside is =
 -- and what is made of one more with its number
 pub more_numbered : {A B : Type 0} (f : ℕ × A → List B) (xs : List A) (n : ℕ) (x : A) (made : List B) → slice_get xs n ≡ Some x →
     (made ++ f (n, x)) ++ flat_map f (enumerate_from (n + 1) (drop (n + 1) xs)) ≡ made
-        ++ flat_map f (enumerate_from n (drop n xs))
+    ++ flat_map f (enumerate_from n (drop n xs))
 more_numbered f xs n x made at =
     append_assoc made (f (n, x)) (flat_map f (enumerate_from (n + 1) (drop (n + 1) xs)))
-        ∙ ap (λ l. made ++ l) (sym (numbered_at f xs n x at))
+    ∙ ap (λ l. made ++ l) (sym (numbered_at f xs n x at))
 
 -- where no more is left
 pub all_made : {A B : Type 0} (f : ℕ × A → List B) (xs : List A) (n : ℕ) (made : List B) → length xs ≤ n
@@ -132,4 +132,4 @@ pub one_numbered_more : {A : Type 0} (xs : List A) (i n : ℕ) (d : A) (made : L
     (made ++ (n, get_or xs i d) ∷ []) ++ enumerate_from (n + 1) (drop (i + 1) xs) ≡ made ++ enumerate_from n (drop i xs)
 one_numbered_more xs i n d made inside =
     append_assoc made ((n, get_or xs i d) ∷ []) (enumerate_from (n + 1) (drop (i + 1) xs))
-        ∙ ap (λ l. made ++ enumerate_from n l) (sym (drop_more xs i d inside))
+    ∙ ap (λ l. made ++ enumerate_from n l) (sym (drop_more xs i d inside))

@@ -18,7 +18,7 @@ starts_of all k ms = filter_map (λ m. option_map (moved_start all m) m.1.start)
 count_one : (all : List ModuleValue) (k : ℕ) (m : ModuleValue) (start : Option (ℕ × ℕ)) (mains : List ℕ) (places : List (ℕ × ℕ))
     → length mains ≡ length places →
     length (cons_option (option_map (λ s. k) start) mains)
-        ≡ length (cons_option (option_map (moved_start all (k, m)) start) places)
+    ≡ length (cons_option (option_map (moved_start all (k, m)) start) places)
 count_one all k m None mains places same = same
 count_one all k m (Some s) mains places same = ap suc same
 
@@ -36,7 +36,7 @@ pub one_main_is : (modules : List ModuleValue) (main : Option ℕ) → cons_opti
     → two_mains modules ≡ None
 one_main_is modules main is =
     let few : nat_lt 1 (length (starts modules)) ≡ false =
-        grind (arith, nat_tests, at_most main, ap length is, mains_count modules 0 modules) in
+    grind (arith, nat_tests, at_most main, ap length is, mains_count modules 0 modules) in
     ap (λ b. if◌then◌else◌ {A = Option LinkFault} b (Some TwoMains) None) few
   where
     at_most : (o : Option ℕ) → length (cons_option o []) < 2
@@ -70,7 +70,7 @@ first_is x y xs e = (cc, cc)
 one_of : (all : List ModuleValue) (k : ℕ) (m : ModuleValue) (ms : List ModuleValue) (n : ℕ) (start : Option (ℕ × ℕ))
     → m.start ≡ start →
     (mains_from (k + 1) ms ≡ n ∷ [] → OneStart all (k + 1) ms n)
-        → cons_option (option_map (λ s. k) start) (mains_from (k + 1) ms) ≡ n ∷ [] → OneStart all k (m ∷ ms) n
+    → cons_option (option_map (λ s. k) start) (mains_from (k + 1) ms) ≡ n ∷ [] → OneStart all k (m ∷ ms) n
 one_of all k m ms n None from later is =
     let rest = later is in
     record {
@@ -122,7 +122,7 @@ pub main_has_start : (joined modules : List ModuleValue) (number : ℕ) (m : Mod
 main_has_start joined modules number m same is at none =
     let one = one_start modules 0 modules number is in
     let here : one.main ≡ m =
-        some_is one.main m (sym (main_at modules number one) ∙ ap (λ ms. slice_get ms number) (sym same) ∙ at) in
+    some_is one.main m (sym (main_at modules number one) ∙ ap (λ ms. slice_get ms number) (sym same) ∙ at) in
     absurd (some_none (sym one.start_is ∙ ap (λ k. k.start) here ∙ none))
   where
     some_none : {A : Type 0} {a : A} → Some a ≡ None → ⊥
@@ -134,7 +134,7 @@ pub start_from : (joined modules : List ModuleValue) (number : ℕ) (m : ModuleV
 start_from joined modules number m id offset same is at start =
     let one = one_start modules 0 modules number is in
     let here : one.main ≡ m =
-        some_is one.main m (sym (main_at modules number one) ∙ ap (λ ms. slice_get ms number) (sym same) ∙ at) in
+    some_is one.main m (sym (main_at modules number one) ∙ ap (λ ms. slice_get ms number) (sym same) ∙ at) in
     let place : one.start ≡ (id, offset) = some_is one.start (id, offset) (sym one.start_is ∙ ap (λ k. k.start) here ∙ start) in
     ap (λ l. slice_get l 0) one.starts_are
     ∙ ap (λ k. Some (moved_start modules (number, k) one.start)) here

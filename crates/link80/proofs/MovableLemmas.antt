@@ -40,14 +40,14 @@ part_fits modules number m id at fit = elim (cases_Bool (is_laid_out id)) [
   | inl laid ↦
       let from_zero : 0 + number ≡ number = omega arith in
       let here : PartsFit modules (number, m) =
-          subst (λ i. PartsFit modules (i, m)) from_zero (all_at (PartsFit modules) 0 modules number m (all_fit modules) at) in
+      subst (λ i. PartsFit modules (i, m)) from_zero (all_at (PartsFit modules) 0 modules number m (all_fit modules) at) in
       let here_is : slice_index (starts_from id 0 modules) number + (segment_in m.segments id).length ≤ parts_end id 0 modules =
-          here.laid id in
+      here.laid id in
       let start : part_start modules number id ≡ slice_index (starts_from id 0 modules) number =
-          ap (λ b. cond b (slice_index (starts_from id 0 modules) number) 0) laid in
+      ap (λ b. cond b (slice_index (starts_from id 0 modules) number) 0) laid in
       let long : linked_length modules id ≡ parts_end id 0 modules =
-          ap (λ b. cond b (parts_end id 0 modules) (greatest (map (λ k. (part_of (linked_commons modules) k id).length) modules)))
-          laid in
+      ap (λ b. cond b (parts_end id 0 modules) (greatest (map (λ k. (part_of (linked_commons modules) k id).length) modules)))
+      laid in
       inr (omega (arith, here_is, start, long, laid_out_word modules id fit laid))
 ]
 
@@ -63,7 +63,7 @@ fixups_end : (first size : ℕ) (fixups : List Fixup)
 fixups_end first size [] inside begin = tt
 fixups_end first size (f ∷ fs) inside begin =
     let parts = and_parts (list_all (λ o. nat_lt o size) (offsets_by f.field (f.offset - first)))
-        (list_all (is_inside_bytes size) (map (as_patch first (λ _. 0)) fs)) inside in
+    (list_all (is_inside_bytes size) (map (as_patch first (λ _. 0)) fs)) inside in
     let one : f.offset - first < size = begins_inside f.field (f.offset - first) size parts.0 in
     (omega (arith, one, begin.0), fixups_end first size fs parts.1 begin.1)
 
@@ -74,7 +74,7 @@ content_fits modules number m c at fit lies = elim (cases_Bool (c.segment == 0))
   | inl absolute ↦ inl (ap (part_start modules number) (eqb-true c.segment 0 absolute))
   | inr relocatable ↦
       let end_is : end_of m.segments c.segment ≡ (segment_in m.segments c.segment).length =
-          ap (λ b. cond b 65536 (segment_in m.segments c.segment).length) relocatable in
+      ap (λ b. cond b 65536 (segment_in m.segments c.segment).length) relocatable in
       elim (part_fits modules number m c.segment at fit) [
         | inl none ↦ inl none
         | inr ends ↦ inr (omega (arith, ends, end_is, lies.within))
@@ -86,8 +86,11 @@ each_can : (modules : List ModuleValue) (number : ℕ) (m : ModuleValue) (cs : L
     AllByRecursion (LiesIn m) cs → AllByRecursion (HasItsFixups m) cs → AllByRecursion (CanBeMoved modules number m) cs
 each_can modules number m [] at fit lie have = tt
 each_can modules number m (c ∷ cs) at fit lie have = (
-  record { fits = content_fits modules number m c at fit lie.0; fixups = have.0;
-      ends = fixups_end c.offset (length c.bytes) c.fixups (have.0.inside (λ _. 0)) have.0.begin },
+  record {
+    fits = content_fits modules number m c at fit lie.0;
+    fixups = have.0;
+    ends = fixups_end c.offset (length c.bytes) c.fixups (have.0.inside (λ _. 0)) have.0.begin;
+  },
   each_can modules number m cs at fit lie.1 have.1,
 )
 

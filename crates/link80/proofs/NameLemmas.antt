@@ -38,16 +38,16 @@ kept_by n name (o ∷ os) other here =
       | inl same ↦
           let is : o ≡ name = name_is o name same in
           let keep : not (pointwise nat_eq n o) ≡ true =
-              not_from_false (pointwise nat_eq n o) (ap (pointwise nat_eq n) is ∙ other) in
+          not_from_false (pointwise nat_eq n o) (ap (pointwise nat_eq n) is ∙ other) in
           ap (λ b. has_name (cond b (o ∷ filter (λ o. not (pointwise nat_eq n o)) os)
-              (filter (λ o. not (pointwise nat_eq n o)) os)) name) keep
+          (filter (λ o. not (pointwise nat_eq n o)) os)) name) keep
           ∙ ap (λ b. b || has_name (filter (λ o. not (pointwise nat_eq n o)) os) name) same
       | inr differs ↦
           let later : has_name (filter (λ o. not (pointwise nat_eq n o)) os) name ≡ true =
           kept_by n name os other (sym (ap (λ b. b || has_name os name) differs) ∙ here) in
           elim (not (pointwise nat_eq n o)) as
-              (λ b. has_name (cond b (o ∷ filter (λ o. not (pointwise nat_eq n o)) os)
-              (filter (λ o. not (pointwise nat_eq n o)) os)) name ≡ true) [
+          (λ b. has_name (cond b (o ∷ filter (λ o. not (pointwise nat_eq n o)) os)
+          (filter (λ o. not (pointwise nat_eq n o)) os)) name ≡ true) [
             | true ↦ ap (λ b. b || has_name (filter (λ o. not (pointwise nat_eq n o)) os) name) differs ∙ later
             | false ↦ later
           ]
@@ -72,7 +72,7 @@ passed_has test (n ∷ ns) name passes here = elim (cases_Bool (pointwise nat_eq
       ∙ ap (λ b. b || has_name (filter test ns) name) same
   | inr differs ↦
       let later : has_name (filter test ns) name ≡ true =
-          passed_has test ns name passes (sym (ap (λ b. b || has_name ns name) differs) ∙ here) in
+      passed_has test ns name passes (sym (ap (λ b. b || has_name ns name) differs) ∙ here) in
       elim (test n) as (λ b. has_name (cond b (n ∷ filter test ns) (filter test ns)) name ≡ true) [
         | true ↦ ap (λ b. b || has_name (filter test ns) name) differs ∙ later
         | false ↦ later
@@ -121,7 +121,7 @@ is_numbered start (n ∷ ns) name here = elim (cases_Bool (pointwise nat_eq n na
   | inl same ↦
       let is : id_of (numbered start (n ∷ ns)) name ≡ start = ap (id_if start n ns name) same in
       let first : (start == id_of (numbered start (n ∷ ns)) name) ≡ true =
-          eq-eqb start (id_of (numbered start (n ∷ ns)) name) (sym is) in
+      eq-eqb start (id_of (numbered start (n ∷ ns)) name) (sym is) in
       record {
         least = omega (arith, is);
         most = omega (arith, is);
@@ -130,7 +130,7 @@ is_numbered start (n ∷ ns) name here = elim (cases_Bool (pointwise nat_eq n na
       }
   | inr differs ↦
       let later : IsNumbered (start + 1) ns name =
-          is_numbered (start + 1) ns name (sym (ap (λ b. b || has_name ns name) differs) ∙ here) in
+      is_numbered (start + 1) ns name (sym (ap (λ b. b || has_name ns name) differs) ∙ here) in
       let id : ℕ = id_of (numbered (start + 1) ns) name in
       let is : id_of (numbered start (n ∷ ns)) name ≡ id = ap (id_if start n ns name) differs in
       let low : start + 1 ≤ id = later.least in

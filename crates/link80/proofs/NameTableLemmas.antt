@@ -34,13 +34,13 @@ pub position_of_key : (keys : List (Bor (List ℕ))) (name : List ℕ)
 position_of_key keys name =
     ap (λ n. if nat_lt n (length keys) then Some n else None) (prefix_of_keys keys name)
     ∙ ap (λ size. if nat_lt (prefix_len (λ other. not (pointwise nat_eq name other)) (names_of keys)) size
-        then Some (prefix_len (λ other. not (pointwise nat_eq name other)) (names_of keys)) else None) (length_of_keys keys)
+    then Some (prefix_len (λ other. not (pointwise nat_eq name other)) (names_of keys)) else None) (length_of_keys keys)
 
 pub keys_with : (keys : List (Bor (List ℕ))) (key : Bor (List ℕ))
     → names_of (insert_key same_name keys key) ≡ with_name (names_of keys) key.now
 keys_with keys key =
     elim (list_any (same_name key) keys) as
-        (λ b. names_of (if b then keys else keys ++ key ∷ []) ≡ (if b then names_of keys else names_of keys ++ key.now ∷ [])) [
+    (λ b. names_of (if b then keys else keys ++ key ∷ []) ≡ (if b then names_of keys else names_of keys ++ key.now ∷ [])) [
       | true ↦ refl
       | false ↦ map_append (λ k. k.now) keys (key ∷ [])
     ]

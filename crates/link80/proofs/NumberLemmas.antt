@@ -26,8 +26,8 @@ numbers_from start [] name = refl
 numbers_from start (n ∷ ns) name =
     ap (λ b. cond b (Some start) (position_from (pointwise nat_eq name) (start + 1) ns)) (same_both_ways name n)
     ∙ elim (pointwise nat_eq n name) as
-        (λ b. cond b (Some start) (position_from (pointwise nat_eq name) (start + 1) ns)
-        ≡ option_map (λ k. start + k) (cond b (Some 0) (option_map suc (number_in ns name)))) [
+    (λ b. cond b (Some start) (position_from (pointwise nat_eq name) (start + 1) ns)
+    ≡ option_map (λ k. start + k) (cond b (Some 0) (option_map suc (number_in ns name)))) [
       | true ↦ ap Some (omega arith)
       | false ↦ numbers_from (start + 1) ns name ∙ next start (number_in ns name)
     ]
@@ -51,9 +51,9 @@ pub id_is : (start : ℕ) (names : List (List ℕ)) (name : List ℕ)
 id_is start [] name = refl
 id_is start (n ∷ ns) name =
     elim (pointwise nat_eq n name) as
-        (λ b. option_map_or (λ c. c.id)
-        (cond b (Some (record { id = start; name = n })) (find (λ c. pointwise nat_eq c.name name) (numbered (start + 1) ns))) 0
-        ≡ option_map_or (λ k. start + k) (cond b (Some 0) (option_map suc (number_in ns name))) 0) [
+    (λ b. option_map_or (λ c. c.id)
+    (cond b (Some (record { id = start; name = n })) (find (λ c. pointwise nat_eq c.name name) (numbered (start + 1) ns))) 0
+    ≡ option_map_or (λ k. start + k) (cond b (Some 0) (option_map suc (number_in ns name))) 0) [
       | true ↦ omega arith
       | false ↦ id_is (start + 1) ns name ∙ next start (number_in ns name)
     ]
@@ -75,9 +75,9 @@ index_by [] name k is = absurd cc
 index_by (n ∷ ns) name k is =
     (elim (pointwise nat_eq n name) as (λ b. cond b (Some 0) (option_map suc (number_in ns name)) ≡ Some k
     → cond b 0 (suc (index_of ns name)) ≡ k) [
-  | true ↦ λ e. zero_is k e
-  | false ↦ λ e. index_next n name ns (number_in ns name) k (λ j at. index_by ns name j at) e
-]) is
+      | true ↦ λ e. zero_is k e
+      | false ↦ λ e. index_next n name ns (number_in ns name) k (λ j at. index_by ns name j at) e
+    ]) is
   where
     zero_is : (k : ℕ) → Some 0 ≡ Some k → 0 ≡ k
     zero_is k e = cc
@@ -87,9 +87,9 @@ numbered_has [] name = refl
 numbered_has (n ∷ ns) name =
     elim (pointwise nat_eq n name) as
     (λ b. is_some (cond b (Some 0) (option_map suc (number_in ns name))) ≡ (b || has_name ns name)) [
-  | true ↦ refl
-  | false ↦ still (number_in ns name) ∙ numbered_has ns name
-]
+      | true ↦ refl
+      | false ↦ still (number_in ns name) ∙ numbered_has ns name
+    ]
   where
     still : (o : Option ℕ) → is_some (option_map suc o) ≡ is_some o
     still None = refl
@@ -105,8 +105,8 @@ pub public_at : (publics : List Public) (name : List ℕ)
 public_at [] name = refl
 public_at (p ∷ ps) name =
     elim (pointwise nat_eq p.name name) as
-        (λ b. cond b (Some p) (find (λ q. pointwise nat_eq q.name name) ps)
-        ≡ by_number (p ∷ ps) (cond b (Some 0) (option_map suc (number_in (map (λ q. q.name) ps) name)))) [
+    (λ b. cond b (Some p) (find (λ q. pointwise nat_eq q.name name) ps)
+    ≡ by_number (p ∷ ps) (cond b (Some 0) (option_map suc (number_in (map (λ q. q.name) ps) name)))) [
       | true ↦ refl
       | false ↦ public_at ps name ∙ next (number_in (map (λ q. q.name) ps) name)
     ]
@@ -121,7 +121,7 @@ pub linked_id_is : (modules : List ModuleValue) (m : ModuleValue) (id : ℕ) →
     linked_id modules m id ≡ option_map_or (λ k. 6 + k) (number_in (common_names modules) (common_name m.commons id)) 0
 linked_id_is modules m id named =
     ap (λ b. cond b id (id_of (linked_commons modules) (common_name m.commons id))) named
-        ∙ id_is 6 (common_names modules) (common_name m.commons id)
+    ∙ id_is 6 (common_names modules) (common_name m.commons id)
 
 -- commons that aren't too many
 pub few_commons : (modules : List ModuleValue) → too_many_commons modules ≡ None → length (common_names modules) ≤ 249
@@ -138,9 +138,9 @@ number_within [] name k is = absurd cc
 number_within (n ∷ ns) name k is =
     (elim (pointwise nat_eq n name) as (λ b. cond b (Some 0) (option_map suc (number_in ns name)) ≡ Some k
     → k < suc (length ns)) [
-  | true ↦ λ e. omega (arith, zero_is k e)
-  | false ↦ λ e. next (number_in ns name) k (λ j at. number_within ns name j at) e
-]) is
+      | true ↦ λ e. omega (arith, zero_is k e)
+      | false ↦ λ e. next (number_in ns name) k (λ j at. number_within ns name j at) e
+    ]) is
   where
     zero_is : (k : ℕ) → Some 0 ≡ Some k → 0 ≡ k
     zero_is k e = cc

@@ -11,8 +11,8 @@ use Rattle.link80.specs.LinkFault.{duplicate_public, segment_too_long, two_mains
 -- what comes after causes that don't hold
 pub from_second : (modules : List ModuleValue) → duplicate_public modules ≡ None →
     link_fault modules ≡ option_or (segment_too_long modules)
-        (option_or (two_mains modules)
-        (option_or (high_not_paged modules) (option_or (too_many_commons modules) (too_many_externals modules))))
+    (option_or (two_mains modules)
+    (option_or (high_not_paged modules) (option_or (too_many_commons modules) (too_many_externals modules))))
 from_second modules once =
     ap (λ o. option_or o (option_or (segment_too_long modules)
     (option_or (two_mains modules)
@@ -20,11 +20,11 @@ from_second modules once =
 
 pub from_third : (modules : List ModuleValue) → duplicate_public modules ≡ None → segment_too_long modules ≡ None →
     link_fault modules ≡ option_or (two_mains modules)
-        (option_or (high_not_paged modules) (option_or (too_many_commons modules) (too_many_externals modules)))
+    (option_or (high_not_paged modules) (option_or (too_many_commons modules) (too_many_externals modules)))
 from_third modules once fit =
     from_second modules once
-        ∙ ap (λ o. option_or o (option_or (two_mains modules)
-        (option_or (high_not_paged modules) (option_or (too_many_commons modules) (too_many_externals modules))))) fit
+    ∙ ap (λ o. option_or o (option_or (two_mains modules)
+    (option_or (high_not_paged modules) (option_or (too_many_commons modules) (too_many_externals modules))))) fit
 
 pub from_fourth : (modules : List ModuleValue) → duplicate_public modules ≡ None → segment_too_long modules ≡ None
     → two_mains modules ≡ None →

@@ -53,10 +53,10 @@ fixed_base bases m n id fixed not_absolute not_stack =
           | inr not_memory ↦
               let e : (id == 255) ≡ true = last_fixed id fixed not_absolute not_code not_data not_stack not_memory in
               ap (λ b. cond b bases.memory (by_common m)) not_memory
-                  ∙ ap (λ b. cond b bases.common (word_of bases.commons (common_name m.commons id))) e
+              ∙ ap (λ b. cond b bases.common (word_of bases.commons (common_name m.commons id))) e
               ∙ sym (ap (λ b. cond b bases.code (by_data n)) not_code ∙ ap (λ b. cond b bases.data_base (by_memory n)) not_data
-                  ∙ ap (λ b. cond b bases.memory (by_common n)) not_memory
-                  ∙ ap (λ b. cond b bases.common (word_of bases.commons (common_name n.commons id))) e)
+              ∙ ap (λ b. cond b bases.memory (by_common n)) not_memory
+              ∙ ap (λ b. cond b bases.common (word_of bases.commons (common_name n.commons id))) e)
         ]
       ]
     ]
@@ -80,7 +80,7 @@ named_base : (bases : Bases) (m : ModuleValue) (id : ℕ) → (id == 1) ≡ fals
 named_base bases m id not_code not_data not_memory not_common =
     let named : ℕ = word_of bases.commons (common_name m.commons id) in
     ap (λ b. cond b bases.code
-        (cond (id == 2) bases.data_base (cond (id == 4) bases.memory (cond (id == 255) bases.common named)))) not_code
+    (cond (id == 2) bases.data_base (cond (id == 4) bases.memory (cond (id == 255) bases.common named)))) not_code
     ∙ ap (λ b. cond b bases.data_base (cond (id == 4) bases.memory (cond (id == 255) bases.common named))) not_data
     ∙ ap (λ b. cond b bases.memory (cond (id == 255) bases.common named)) not_memory
     ∙ ap (λ b. cond b bases.common named) not_common
@@ -97,7 +97,7 @@ pub same_segment : (name : List ℕ) (modules : List ModuleValue) (m : ModuleVal
 same_segment name modules m bases id few listed has not_absolute not_stack = elim (cases_Bool (is_fixed_id id)) [
   | inl fixed ↦
       let same : linked_id modules m id ≡ id =
-          ap (λ b. cond b id (id_of (linked_commons modules) (common_name m.commons id))) fixed in
+      ap (λ b. cond b id (id_of (linked_commons modules) (common_name m.commons id))) fixed in
       record {
         not_absolute = ap (λ i. i == 0) same ∙ not_absolute;
         not_stack = ap (λ i. i == 3) same ∙ not_stack;
@@ -122,11 +122,11 @@ same_segment name modules m bases id few listed has not_absolute not_stack = eli
         base =
             ap (λ i. base_of bases (linked name modules) i) same
             ∙ named_base bases (linked name modules) new (other_than new 1 (λ e. omega (arith, e, low)))
-                (other_than new 2 (λ e. omega (arith, e, low))) (other_than new 4 (λ e. omega (arith, e, low)))
-                (other_than new 255 (λ e. omega (arith, e, high)))
+            (other_than new 2 (λ e. omega (arith, e, low))) (other_than new 4 (λ e. omega (arith, e, low)))
+            (other_than new 255 (λ e. omega (arith, e, high)))
             ∙ ap (word_of bases.commons) found.called
             ∙ sym (named_base bases m id (not_fixed id 1 named refl) (not_fixed id 2 named refl) (not_fixed id 4 named refl)
-                (not_fixed id 255 named refl));
+            (not_fixed id 255 named refl));
       }
 ]
   where
@@ -141,14 +141,14 @@ pub by_base : (bases : Bases) (modules : List ModuleValue) (number : ℕ) (m : M
 by_base bases modules number m id offset not_absolute not_stack =
     let at : ℕ = (base_of bases m id + part_start modules number id + offset) % 65536 in
     ap (λ b. cond b offset (cond (id == 3) ((bases.top + offset) % 65536) at)) not_absolute
-        ∙ ap (λ b. cond b ((bases.top + offset) % 65536) at) not_stack
+    ∙ ap (λ b. cond b ((bases.top + offset) % 65536) at) not_stack
 
 -- the place of a public, a start or a target
 pub place_same : PartsOfOneStartAtZero
     → (name : List ℕ) (modules : List ModuleValue) (number : ℕ) (m : ModuleValue) (bases : Bases) (id offset : ℕ)
     → few_commons modules → Listed modules m → has_segment m.commons id ≡ true →
     place_in bases (linked name modules ∷ []) 0 (linked name modules) (linked_id modules m id) (moved modules number id offset)
-        ≡ place_in bases modules number m id offset
+    ≡ place_in bases modules number m id offset
 place_same zero_start name modules number m bases id offset few listed has =
     let l : ModuleValue = linked name modules in
     elim (cases_Bool (id == 0)) [
@@ -159,16 +159,16 @@ place_same zero_start name modules number m bases id offset few listed has =
             ≡ place_in bases modules number m i offset) (sym (eqb-true id 3 e)) refl
         | inr not_stack ↦
             let same : SameSegment name modules m bases id =
-                same_segment name modules m bases id few listed has not_absolute not_stack in
+            same_segment name modules m bases id few listed has not_absolute not_stack in
             let new : ℕ = linked_id modules m id in
             let start : ℕ = part_start modules number id in
             let there : moved modules number id offset ≡ (offset + start) % 65536 =
-                ap (λ b. cond (b || id == 3) offset ((offset + start) % 65536)) not_absolute
-                ∙ ap (λ b. cond b offset ((offset + start) % 65536)) not_stack in
+            ap (λ b. cond (b || id == 3) offset ((offset + start) % 65536)) not_absolute
+            ∙ ap (λ b. cond b offset ((offset + start) % 65536)) not_stack in
             ap (λ o. place_in bases (l ∷ []) 0 l new o) there
             ∙ by_base bases (l ∷ []) 0 l new ((offset + start) % 65536) same.not_absolute same.not_stack
             ∙ moved_sum (base_of bases l new) (base_of bases m id) (part_start (l ∷ []) 0 new) start offset same.base
-                (zero_start l new)
+            (zero_start l new)
             ∙ sym (by_base bases modules number m id offset not_absolute not_stack)
       ]
     ]
@@ -182,7 +182,7 @@ pub content_place : PartsOfOneStartAtZero
     → few_commons modules → Listed modules m → has_segment m.commons id ≡ true →
     (id == 3) ≡ false →
     place_in bases (linked name modules ∷ []) 0 (linked name modules) (linked_id modules m id)
-        (offset + part_start modules number id) ≡ place_in bases modules number m id offset
+    (offset + part_start modules number id) ≡ place_in bases modules number m id offset
 content_place zero_start name modules number m bases id offset few listed has not_stack =
     let l : ModuleValue = linked name modules in
     elim (cases_Bool (id == 0)) [
@@ -190,12 +190,12 @@ content_place zero_start name modules number m bases id offset few listed has no
           ≡ place_in bases modules number m i offset) (sym (eqb-true id 0 e)) (plus_zero offset)
       | inr not_absolute ↦
           let same : SameSegment name modules m bases id =
-              same_segment name modules m bases id few listed has not_absolute not_stack in
+          same_segment name modules m bases id few listed has not_absolute not_stack in
           let new : ℕ = linked_id modules m id in
           let start : ℕ = part_start modules number id in
           by_base bases (l ∷ []) 0 l new (offset + start) same.not_absolute same.not_stack
           ∙ plain_sum (base_of bases l new) (base_of bases m id) (part_start (l ∷ []) 0 new) start offset same.base
-              (zero_start l new)
+          (zero_start l new)
           ∙ sym (by_base bases modules number m id offset not_absolute not_stack)
     ]
   where

@@ -80,16 +80,16 @@ linked_there modules m id listed has = elim (cases_Bool (is_fixed_id id)) [
       let found = common_found modules m id listed is_named in
       let new : ℕ = id_of (linked_commons modules) (common_name m.commons id) in
       ap (λ b. has_segment (linked_commons modules) (cond b id new)) named
-          ∙ later (is_fixed_id new) (has_common_id (linked_commons modules) new) found.there
+      ∙ later (is_fixed_id new) (has_common_id (linked_commons modules) new) found.there
 ]
 
 public_there : (modules : List ModuleValue) → all_listed modules (enumerate_from 0 modules)
     → list_all (λ (p : Public). has_segment (linked_commons modules) p.segment) (linked_publics modules) ≡ true
 public_there modules all =
     all_flat (λ (m : ℕ × ModuleValue). Listed modules m.1) (λ (p : Public). has_segment (linked_commons modules) p.segment)
-        (λ (m : ℕ × ModuleValue). map (linked_public modules m) m.1.publics)
+    (λ (m : ℕ × ModuleValue). map (linked_public modules m) m.1.publics)
     (λ m listed. all_mapped (λ (p : Public). has_segment m.1.commons p.segment ≡ true)
-        (λ (p : Public). has_segment (linked_commons modules) p.segment) (linked_public modules m)
+    (λ (p : Public). has_segment (linked_commons modules) p.segment) (linked_public modules m)
     (λ p has. linked_there modules m.1 p.segment listed has) m.1.publics listed.rules.publics) (enumerate_from 0 modules) all
 
 -- ---- starts
@@ -102,8 +102,8 @@ all_starts modules (m ∷ ms) all =
     let rest : List (ℕ × ℕ) = filter_map (λ m. option_map (moved_start modules m) m.1.start) ms in
     let others : list_all (λ (s : ℕ × ℕ). has_segment (linked_commons modules) s.0) rest ≡ true = all_starts modules ms all.1 in
     (elim m.1.start as (λ o. is_start m.1.commons o ≡ true
-        → list_all (λ (s : ℕ × ℕ). has_segment (linked_commons modules) s.0)
-        (cons_option (option_map (moved_start modules m) o) rest) ≡ true) [
+    → list_all (λ (s : ℕ × ℕ). has_segment (linked_commons modules) s.0)
+    (cons_option (option_map (moved_start modules m) o) rest) ≡ true) [
       | None ↦ λ _. others
       | Some s ↦ λ has. and_from (has_segment (linked_commons modules) (linked_id modules m.1 s.0))
           (list_all (λ (s : ℕ × ℕ). has_segment (linked_commons modules) s.0) rest)
@@ -139,14 +139,14 @@ external_there : (modules : List ModuleValue) (name : List ℕ) (o : Option Publ
 external_there modules name (Some p) t all found here is =
     place_there (linked_commons modules) (length (unresolved modules)) p.segment p.offset t
     (found_passes (λ (p : Public). has_segment (linked_commons modules) p.segment) (λ (p : Public). pointwise nat_eq p.name name)
-        (linked_publics modules) p (public_there modules all) found) is
+    (linked_publics modules) p (public_there modules all) found) is
 external_there modules name None t all found here is =
     let there : has_name (unresolved modules) name ≡ true =
     passed_has (λ n. is_none (public_of modules n)) (distinct (flat_map (λ (m : ModuleValue). m.externals) modules)) name
-        (ap (λ (o : Option Public). is_none o) found)
+    (ap (λ (o : Option Public). is_none o) found)
     (distinct_has (flat_map (λ (m : ModuleValue). m.externals) modules) name here) in
     subst (λ u. has_target (linked_commons modules) (length (unresolved modules)) u ≡ true)
-        (some_is (target.External (index_of (unresolved modules) name)) t is)
+    (some_is (target.External (index_of (unresolved modules) name)) t is)
     (lt-ltb (index_of (unresolved modules) name) (length (unresolved modules)) (index_is (unresolved modules) name there).0)
   where
     some_is : (a b : Target) → Some a ≡ Some b → a ≡ b
@@ -160,17 +160,19 @@ target_there modules m (target.Segment id) u all listed has is =
     (linked_there modules m.1 id listed has) is
 target_there modules m (target.External index) u all listed has is =
     external_there modules (name_at m.1.externals index) (public_of modules (name_at m.1.externals index)) u all refl
-        (listed.externals index (ltb-true index (length m.1.externals) has)) is
+    (listed.externals index (ltb-true index (length m.1.externals) has)) is
 
 targets_there : (modules : List ModuleValue) (m : ℕ × ModuleValue) → all_listed modules (enumerate_from 0 modules)
     → Listed modules m.1 → (fs : List Fixup)
     → AllByRecursion (λ f. IsTrue (has_target m.1.commons (length m.1.externals) f.target)) fs →
     AllByRecursion (Resolved (linked_commons modules) (length (unresolved modules))
-        (λ f. (linked_reference modules m f.target).target)) fs
+    (λ f. (linked_reference modules m f.target).target)) fs
 targets_there modules m all listed [] has = tt
-targets_there modules m all listed (f ∷ fs) has =
-    (record { there = λ u is. target_there modules m f.target u all listed has.0 is }, targets_there modules m all listed fs
-        has.1)
+targets_there modules m all listed (f ∷ fs) has = (
+  record { there = λ u is. target_there modules m f.target u all listed has.0 is },
+  targets_there modules m all listed fs
+      has.1,
+)
 
 -- ---- where a content lies
 
@@ -182,11 +184,11 @@ pub record PartsFit (modules : List ModuleValue) (m : ℕ × ModuleValue) : Type
 
 each_fits : (modules : List ModuleValue) (ms : List (ℕ × ModuleValue)) →
     ((id : ℕ) → AllByRecursion
-        (λ (m : ℕ × ModuleValue). slice_index (starts_from id 0 modules) m.0 +
-        (segment_in m.1.segments id).length ≤ parts_end id 0 modules) ms) →
+    (λ (m : ℕ × ModuleValue). slice_index (starts_from id 0 modules) m.0 +
+    (segment_in m.1.segments id).length ≤ parts_end id 0 modules) ms) →
     ((id : ℕ) → AllByRecursion
-        (λ (m : ℕ × ModuleValue). (part_of (linked_commons modules) m.1 id).length ≤ greatest
-        (map (λ m. (part_of (linked_commons modules) m id).length) modules)) ms) →
+    (λ (m : ℕ × ModuleValue). (part_of (linked_commons modules) m.1 id).length ≤ greatest
+    (map (λ m. (part_of (linked_commons modules) m id).length) modules)) ms) →
     AllByRecursion (PartsFit modules) ms
 each_fits modules [] laid over = tt
 each_fits modules (m ∷ ms) laid over =
@@ -196,10 +198,10 @@ pub all_fit : (modules : List ModuleValue) → AllByRecursion (PartsFit modules)
 all_fit modules =
     each_fits modules (enumerate_from 0 modules)
     (λ id. parts_fit id 0 modules (λ k. slice_index (starts_from id 0 modules) k) 0 (parts_end id 0 modules)
-        (λ k below. ap (λ n. slice_index (starts_from id 0 modules) n) (from_zero k)) refl)
+    (λ k below. ap (λ n. slice_index (starts_from id 0 modules) n) (from_zero k)) refl)
     (λ id. all_numbered (λ m.
-        (part_of (linked_commons modules) m id).length ≤ greatest
-        (map (λ m. (part_of (linked_commons modules) m id).length) modules)) 0 modules
+    (part_of (linked_commons modules) m id).length ≤ greatest
+    (map (λ m. (part_of (linked_commons modules) m id).length) modules)) 0 modules
     (greatest_above (λ m. (part_of (linked_commons modules) m id).length) modules))
   where
     from_zero : (k : ℕ) → 0 + k ≡ k
@@ -210,7 +212,7 @@ common_listed : (commons : List Common) (id : ℕ) → has_common_id commons id 
 common_listed [] id named = absurd cc
 common_listed (c ∷ cs) id named =
     (elim (c.id == id) as (λ b. (b || has_common_id cs id) ≡ true
-        → (b || list_any (λ i. i == id) (map (λ (d : Common). d.id) cs)) ≡ true) [
+    → (b || list_any (λ i. i == id) (map (λ (d : Common). d.id) cs)) ≡ true) [
       | true ↦ λ _. refl
       | false ↦ λ there. common_listed cs id there
     ]) named
@@ -243,7 +245,7 @@ holds by_name name modules m id reach few listed fits has not_stack within = eli
   | inl e ↦
       let zero_in : reach ≤ 65536 = subst (λ i. reach ≤ end_of m.1.segments i) (eqb-true id 0 e) within in
       subst (λ i. reach + part_start modules m.0 i ≤ end_of (linked_parts name modules).segments (linked_id modules m.1 i))
-          (sym (eqb-true id 0 e)) (plain reach 65536 zero_in)
+      (sym (eqb-true id 0 e)) (plain reach 65536 zero_in)
   | inr other ↦
       let size : ℕ = (segment_in m.1.segments id).length in
       let limit : end_of m.1.segments id ≡ size = ap (λ b. cond b 65536 size) other in
@@ -257,26 +259,26 @@ holds by_name name modules m id reach few listed fits has not_stack within = eli
             let same : new ≡ id = ap (λ b. cond b id (id_of (linked_commons modules) (common_name m.1.commons id))) fixed in
             let ends : end_of (linked_parts name modules).segments new ≡ linked_length modules id =
             ap (end_of (linked_parts name modules).segments) same
-                ∙ linked_end name modules id other
-                (fixed_listed id (list_any (λ i. i == id) (map (λ (c : Common). c.id) (linked_commons modules))) fixed other) in
+            ∙ linked_end name modules id other
+            (fixed_listed id (list_any (λ i. i == id) (map (λ (c : Common). c.id) (linked_commons modules))) fixed other) in
             elim (cases_Bool (is_laid_out id)) [
               | inl laid ↦
                   let at : start ≡ laid_start = ap (λ b. cond b laid_start 0) laid in
                   let long : linked_length modules id ≡ parts_end id 0 modules =
-                      ap (λ b. cond b (parts_end id 0 modules)
-                      (greatest (map (λ k. (part_of (linked_commons modules) k id).length) modules))) laid in
+                  ap (λ b. cond b (parts_end id 0 modules)
+                  (greatest (map (λ k. (part_of (linked_commons modules) k id).length) modules))) laid in
                   let fit : laid_start + size ≤ parts_end id 0 modules = fits.laid id in
                   omega (arith, ends, at, long, fit, inside)
               | inr not_laid ↦
                   let at : start ≡ 0 = ap (λ b. cond b laid_start 0) not_laid in
                   let long : linked_length modules id
-                      ≡ greatest (map (λ k. (part_of (linked_commons modules) k id).length) modules) =
-                      ap (λ b. cond b (parts_end id 0 modules)
-                      (greatest (map (λ k. (part_of (linked_commons modules) k id).length) modules))) not_laid in
+                  ≡ greatest (map (λ k. (part_of (linked_commons modules) k id).length) modules) =
+                  ap (λ b. cond b (parts_end id 0 modules)
+                  (greatest (map (λ k. (part_of (linked_commons modules) k id).length) modules))) not_laid in
                   let part : (part_of (linked_commons modules) m.1 id).length ≡ size =
-                      part_fixed (linked_commons modules) m.1 id fixed in
+                  part_fixed (linked_commons modules) m.1 id fixed in
                   let fit : (part_of (linked_commons modules) m.1 id).length ≤ greatest
-                      (map (λ k. (part_of (linked_commons modules) k id).length) modules) = fits.over id in
+                  (map (λ k. (part_of (linked_commons modules) k id).length) modules) = fits.over id in
                   omega (arith, ends, at, long, part, fit, inside)
             ]
         | inr named ↦
@@ -290,14 +292,14 @@ holds by_name name modules m id reach few listed fits has not_stack within = eli
             let ends : end_of (linked_parts name modules).segments new ≡ linked_length modules new =
             linked_end name modules new (ne_eqb new 0 (λ z. omega (arith, z, low)))
             (five_later (1 == new) (2 == new) (3 == new) (4 == new) (255 == new)
-                (list_any (λ i. i == new) (map (λ (c : Common). c.id) (linked_commons modules)))
+            (list_any (λ i. i == new) (map (λ (c : Common). c.id) (linked_commons modules)))
             (common_listed (linked_commons modules) new (ap (has_common_id (linked_commons modules)) same ∙ found.there))) in
             let long : linked_length modules new ≡ longest =
-                ap (λ b. cond b (parts_end new 0 modules) longest) (high_not_laid new low) in
+            ap (λ b. cond b (parts_end new 0 modules) longest) (high_not_laid new low) in
             let at : start ≡ 0 = ap (λ b. cond b laid_start 0) (not_fixed_not_laid id named) in
             let part : (part_of (linked_commons modules) m.1 new).length ≡ size =
             named_part by_name (linked_commons modules) m.1 id new listed.rules.commons is_named (common_not_fixed new low high)
-                (ap (common_name (linked_commons modules)) same ∙ found.called) in
+            (ap (common_name (linked_commons modules)) same ∙ found.called) in
             let fit : (part_of (linked_commons modules) m.1 new).length ≤ longest = fits.over new in
             omega (arith, ends, at, long, part, fit, inside)
       ]
@@ -333,31 +335,31 @@ content_kept : CommonsByName → (name : List ℕ) (modules : List ModuleValue) 
     → few_commons modules → all_listed modules (enumerate_from 0 modules) → Listed modules m.1 → PartsFit modules m → LiesIn m.1 c
     → HasItsFixups m.1 c →
     is_content (linked_parts name modules).segments (linked_commons modules) (length (unresolved modules))
-        (linked_content modules m c) ≡ true
+    (linked_content modules m c) ≡ true
 content_kept by_name name modules m c few all listed fits lies fixups =
     let d : ContentValue = linked_content modules m c in
     let segments : List (ℕ × Segment) = (linked_parts name modules).segments in
     let commons : List Common = linked_commons modules in
     let start : ℕ = part_start modules m.0 c.segment in
     let long : length d.bytes ≡ length c.bytes =
-        length-map-range_with_len (byte_with (map (link_patch modules m c) c.fixups) c.bytes) 0 (length c.bytes) in
+    length-map-range_with_len (byte_with (map (link_patch modules m c) c.fixups) c.bytes) 0 (length c.bytes) in
     let reach : c.offset + length c.bytes + start ≤ end_of segments d.segment =
-        holds by_name name modules m c.segment (c.offset + length c.bytes) few listed fits lies.has lies.not_stack lies.within in
+    holds by_name name modules m c.segment (c.offset + length c.bytes) few listed fits lies.has lies.not_stack lies.within in
     let short : length c.bytes ≤ 65531 = lies.in_record in
     let has : has_segment commons d.segment ≡ true = linked_there modules m.1 c.segment listed lies.has in
     let other : not (d.segment == 3) ≡ true =
-        not_from_false (d.segment == 3) (not_stack_linked modules m.1 c.segment listed lies.has lies.not_stack) in
+    not_from_false (d.segment == 3) (not_stack_linked modules m.1 c.segment listed lies.has lies.not_stack) in
     let inside : nat_le (d.offset + length d.bytes) (end_of segments d.segment) ≡ true =
-        le-leb (d.offset + length d.bytes) (end_of segments d.segment) (omega (arith, long, reach)) in
+    le-leb (d.offset + length d.bytes) (end_of segments d.segment) (omega (arith, long, reach)) in
     let fitting : has_fitting commons (length (unresolved modules)) d ≡ true =
     ap (λ n. each_after (is_fitting commons (length (unresolved modules)) (c.offset + start) n) [] d.fixups) long
     ∙ fitting_moved m.1.commons commons (length m.1.externals) (length (unresolved modules)) c.offset (length c.bytes) start
-        (λ f. (linked_reference modules m f.target).target) [] c.fixups fixups.fitting
-        (targets_there modules m all listed c.fixups fixups.targets) in
+    (λ f. (linked_reference modules m f.target).target) [] c.fixups fixups.fitting
+    (targets_there modules m all listed c.fixups fixups.targets) in
     and_from (is_in_bounds segments commons d) (has_fitting commons (length (unresolved modules)) d)
     (and_from (lies_within segments commons d) (nat_le (length d.bytes) 65531)
     (and_from (has_segment commons d.segment && not (d.segment == 3))
-        (nat_le (d.offset + length d.bytes) (end_of segments d.segment))
+    (nat_le (d.offset + length d.bytes) (end_of segments d.segment))
     (and_from (has_segment commons d.segment) (not (d.segment == 3)) has other) inside)
     (le-leb (length d.bytes) 65531 (omega (arith, long, short))))
     fitting
@@ -365,12 +367,12 @@ content_kept by_name name modules m c few all listed fits lies fixups =
 contents_kept : CommonsByName → (name : List ℕ) (modules : List ModuleValue) → few_commons modules
     → all_listed modules (enumerate_from 0 modules) →
     list_all (is_content (linked_parts name modules).segments (linked_commons modules) (length (unresolved modules)))
-        (linked_contents modules) ≡ true
+    (linked_contents modules) ≡ true
 contents_kept by_name name modules few all =
     let test : ContentValue → Bool =
-        is_content (linked_parts name modules).segments (linked_commons modules) (length (unresolved modules)) in
+    is_content (linked_parts name modules).segments (linked_commons modules) (length (unresolved modules)) in
     all_flat (λ (m : ℕ × ModuleValue). Listed modules m.1 × PartsFit modules m) test
-        (λ (m : ℕ × ModuleValue). map (linked_content modules m) m.1.contents)
+    (λ (m : ℕ × ModuleValue). map (linked_content modules m) m.1.contents)
     (λ m here. all_mapped (λ c. LiesIn m.1 c × HasItsFixups m.1 c) test (linked_content modules m)
     (λ c good. content_kept by_name name modules m c few all here.0 here.1 good.0 good.1) m.1.contents
     (all_both (LiesIn m.1) (HasItsFixups m.1) m.1.contents here.0.rules.contents here.0.rules.fixups)) (enumerate_from 0 modules)
@@ -388,17 +390,17 @@ linked_keeps_rules rules by_name name modules are_modules no_fault =
     let five : List (ℕ × Segment) = map (λ id. (id, linked_segment modules id)) (1 ∷ 2 ∷ 3 ∷ 4 ∷ 255 ∷ []) in
     let room : 6 + length names ≤ 255 = omega (arith, number) in
     let entries : each_after (is_new_entry commons) [] segments ≡ true =
-        new_entries (linked_segment modules) commons 6 names five room (λ i low high. numbered_has 6 names i low high) refl in
+    new_entries (linked_segment modules) commons 6 names five room (λ i low high. numbered_has 6 names i low high) refl in
     let own : each_after is_new_common [] commons ≡ true =
-        new_commons 6 names [] (omega arith) room refl (none_named names) (distinct_no_twice _) in
+    new_commons 6 names [] (omega arith) room refl (none_named names) (distinct_no_twice _) in
     let publics : list_all (λ (p : Public). has_segment commons p.segment) (linked_publics modules) ≡ true =
-        public_there modules all in
+    public_there modules all in
     let contents : list_all (is_content segments commons (length (unresolved modules))) (linked_contents modules) ≡ true =
-        contents_kept by_name name modules number all in
+    contents_kept by_name name modules number all in
     let start : is_start commons (slice_get (starts modules) 0) ≡ true =
-        first_start commons (starts modules) (all_starts modules (enumerate_from 0 modules) all) in
+    first_start commons (starts modules) (all_starts modules (enumerate_from 0 modules) all) in
     and_from (each_after (is_new_entry commons) [] segments) _ entries
     (and_from _ (is_start commons (slice_get (starts modules) 0))
     (and_from _ (list_all (is_content segments commons (length (unresolved modules))) (linked_contents modules))
     (and_from (each_after is_new_common [] commons)
-        (list_all (λ (p : Public). has_segment commons p.segment) (linked_publics modules)) own publics) contents) start)
+    (list_all (λ (p : Public). has_segment commons p.segment) (linked_publics modules)) own publics) contents) start)

@@ -75,23 +75,23 @@ pub new_entries : (segment : ℕ
     → start + length names ≤ 255 →
     ((i : ℕ) → start ≤ i → i < start + length names → has_common_id commons i ≡ true) → list_all (is_before start) before ≡ true →
     each_after (is_new_entry commons) before (map (λ id. (id, segment id)) (map (λ (c : Common). c.id) (numbered start names)))
-        ≡ true
+    ≡ true
 new_entries segment commons start [] before few has told = refl
 new_entries segment commons start (n ∷ ns) before few has told =
     let first : has_segment commons start ≡ true =
-        later (is_fixed_id start) (has_common_id commons start) (has start (omega arith) (omega arith)) in
+    later (is_fixed_id start) (has_common_id commons start) (has start (omega arith) (omega arith)) in
     let new : list_any (λ (d : ℕ × Segment). d.0 == start) before ≡ false =
-        none_by (is_before start) (λ d. d.0 == start) (λ d is. before_other d.0 start (omega (arith, few)) is) before told in
+    none_by (is_before start) (λ d. d.0 == start) (λ d is. before_other d.0 start (omega (arith, few)) is) before told in
     and_from (is_new_entry commons before (start, segment start))
     (each_after (is_new_entry commons) (before ++ (start, segment start) ∷ [])
-        (map (λ id. (id, segment id)) (map (λ (c : Common). c.id) (numbered (start + 1) ns))))
+    (map (λ id. (id, segment id)) (map (λ (c : Common). c.id) (numbered (start + 1) ns))))
     (and_from (has_segment commons start) (not (list_any (λ (d : ℕ × Segment). d.0 == start) before)) first
-        (not_from_false (list_any (λ (d : ℕ × Segment). d.0 == start) before) new))
+    (not_from_false (list_any (λ (d : ℕ × Segment). d.0 == start) before) new))
     (new_entries segment commons (start + 1) ns (before ++ (start, segment start) ∷ []) (omega (arith, few))
-        (λ i low high. has i (omega (arith, low)) (omega (arith, high)))
+    (λ i low high. has i (omega (arith, low)) (omega (arith, high)))
     (all_back (is_before (start + 1)) before (start, segment start)
-        (all_weaker (is_before start) (is_before (start + 1)) (λ d is. before_next d.0 start is) before told)
-        (before_itself start)))
+    (all_weaker (is_before start) (is_before (start + 1)) (λ d is. before_next d.0 start is) before told)
+    (before_itself start)))
 
 -- the entry of an id that is among them
 pub segment_listed : (segment : ℕ → Segment) (ids : List ℕ) (id : ℕ) → list_any (λ i. i == id) ids ≡ true
@@ -99,9 +99,9 @@ pub segment_listed : (segment : ℕ → Segment) (ids : List ℕ) (id : ℕ) →
 segment_listed segment [] id here = absurd cc
 segment_listed segment (i ∷ is) id here =
     (elim (i == id) as (λ b. (i == id) ≡ b → (b || list_any (λ j. j == id) is) ≡ true
-        → option_map_or (λ (e : ℕ × Segment). e.1)
-        (cond b (Some (i, segment i)) (find (λ (e : ℕ × Segment). e.0 == id) (map (λ i. (i, segment i)) is))) empty_segment
-        ≡ segment id) [
+    → option_map_or (λ (e : ℕ × Segment). e.1)
+    (cond b (Some (i, segment i)) (find (λ (e : ℕ × Segment). e.0 == id) (map (λ i. (i, segment i)) is))) empty_segment
+    ≡ segment id) [
       | true ↦ λ e _. ap segment (eqb-true i id e)
       | false ↦ λ _ there. segment_listed segment is id there
     ]) refl here
@@ -138,9 +138,9 @@ without n (o ∷ os) = elim (cases_Bool (pointwise nat_eq n o)) [
       ∙ without n os
   | inr differs ↦
       ap (λ b. has_name (cond (not b) (o ∷ filter (λ o. not (pointwise nat_eq n o)) os)
-          (filter (λ o. not (pointwise nat_eq n o)) os)) n) differs
+      (filter (λ o. not (pointwise nat_eq n o)) os)) n) differs
       ∙ or_from (pointwise nat_eq o n) (has_name (filter (λ o. not (pointwise nat_eq n o)) os) n) (other_way n o differs)
-          (without n os)
+      (without n os)
 ]
   where
     other_way : (a b : List ℕ) → pointwise nat_eq a b ≡ false → pointwise nat_eq b a ≡ false
@@ -169,7 +169,7 @@ not_named_back [] c n none differs = or_from (pointwise nat_eq c.name n) false d
 not_named_back (d ∷ ds) c n none differs =
     let parts = or_parts (pointwise nat_eq d.name n) (list_any (λ (d : Common). pointwise nat_eq d.name n) ds) none in
     or_from (pointwise nat_eq d.name n) (list_any (λ (d : Common). pointwise nat_eq d.name n) (ds ++ c ∷ [])) parts.0
-        (not_named_back ds c n parts.1 differs)
+    (not_named_back ds c n parts.1 differs)
 
 rest_not_named : (before : List Common) (c : Common) (ns : List (List ℕ)) → has_name ns c.name ≡ false
     → AllByRecursion (NotNamed before) ns → AllByRecursion (NotNamed (before ++ c ∷ [])) ns
@@ -188,17 +188,17 @@ new_commons start [] before low few ids named once = refl
 new_commons start (n ∷ ns) before low few ids named once =
     let c : Common = numbered_common (start, n) in
     let other : list_any (λ (d : Common). d.id == start) before ≡ false =
-        none_by (λ (d : Common). nat_lt d.id start) (λ d. d.id == start) (λ d is. less_differs d.id start is) before ids in
+    none_by (λ (d : Common). nat_lt d.id start) (λ d. d.id == start) (λ d is. less_differs d.id start is) before ids in
     and_from (is_new_common before c) (each_after is_new_common (before ++ c ∷ []) (numbered (start + 1) ns))
     (and_from (is_common_id start && not (list_any (λ (d : Common). d.id == start) before))
-        (not (list_any (λ (d : Common). pointwise nat_eq d.name n) before))
+    (not (list_any (λ (d : Common). pointwise nat_eq d.name n) before))
     (and_from (is_common_id start) (not (list_any (λ (d : Common). d.id == start) before))
-        (id_in_range start low (omega (arith, few))) (not_from_false (list_any (λ (d : Common). d.id == start) before) other))
+    (id_in_range start low (omega (arith, few))) (not_from_false (list_any (λ (d : Common). d.id == start) before) other))
     (not_from_false (list_any (λ (d : Common). pointwise nat_eq d.name n) before) named.0))
     (new_commons (start + 1) ns (before ++ c ∷ []) (omega (arith, low)) (omega (arith, few))
     (all_back (λ (d : Common). nat_lt d.id (start + 1)) before c
-        (all_weaker (λ (d : Common). nat_lt d.id start) (λ d. nat_lt d.id (start + 1))
-        (λ d is. less_next d.id start is) before ids) (lt-ltb start (start + 1) (omega arith)))
+    (all_weaker (λ (d : Common). nat_lt d.id start) (λ d. nat_lt d.id (start + 1))
+    (λ d is. less_next d.id start is) before ids) (lt-ltb start (start + 1) (omega arith)))
     (rest_not_named before c ns once.0 named.1) once.1)
   where
     less_differs : (i s : ℕ) → nat_lt i s ≡ true → (i == s) ≡ false
@@ -277,13 +277,13 @@ named_part by_name commons m id new rules named not_fixed called =
     let size : Common → List ℕ × ℕ = λ c. (c.name, (segment_in m.segments c.id).length) in
     let found : Option Common = find (λ (c : Common). pointwise nat_eq c.name name) m.commons in
     ap (λ b. (cond b (segment_in m.segments new)
-        (option_map_or (λ (c : Common). segment_in m.segments c.id)
-        (find (λ (c : Common). pointwise nat_eq c.name (common_name commons new)) m.commons) empty_segment)).length) not_fixed
+    (option_map_or (λ (c : Common). segment_in m.segments c.id)
+    (find (λ (c : Common). pointwise nat_eq c.name (common_name commons new)) m.commons) empty_segment)).length) not_fixed
     ∙ ap (λ n. (option_map_or (λ (c : Common). segment_in m.segments c.id)
-        (find (λ (c : Common). pointwise nat_eq c.name n) m.commons) empty_segment).length) called
+    (find (λ (c : Common). pointwise nat_eq c.name n) m.commons) empty_segment).length) called
     ∙ by_option found
     ∙ ap (λ (o : Option (List ℕ × ℕ)). option_map_or (λ (w : List ℕ × ℕ). w.1) o 0)
-        (sym (find_map size (λ (w : List ℕ × ℕ). pointwise nat_eq w.0 name) m.commons))
+    (sym (find_map size (λ (w : List ℕ × ℕ). pointwise nat_eq w.0 name) m.commons))
     ∙ by_name m.commons (λ i. (segment_in m.segments i).length) id rules named
   where
     by_option : (o : Option Common)

@@ -33,8 +33,11 @@ is_next_part before s start end is = by (nat_le first_end 65535) refl is
     by : (b : Bool) → nat_le first_end 65535 ≡ b
         → (if◌then◌else◌ {A = Option (ℕ × ℕ)} b (Some (first, first_end)) None) ≡ Some (start, end)
         → IsNextPart before s start end
-    by true fits some = record { start_is = sym (ap (λ (p : ℕ × ℕ). p.0) (pair_is _ _ some));
-        end_is = sym (ap (λ (p : ℕ × ℕ). p.1) (pair_is _ _ some)); fits = grind (arith, nat_tests, fits, pair_is _ _ some) }
+    by true fits some = record {
+      start_is = sym (ap (λ (p : ℕ × ℕ). p.0) (pair_is _ _ some));
+      end_is = sym (ap (λ (p : ℕ × ℕ). p.1) (pair_is _ _ some));
+      fits = grind (arith, nat_tests, fits, pair_is _ _ some);
+    }
     by false long none = absurd cc
 
 pub no_next_part : (before : ℕ) (s : Segment) → next_part before s ≡ None → 65535 < rounded s.paged before + s.length
@@ -75,7 +78,7 @@ too_long_at id before ms n m at none =
     let over = no_next_part before s none in
     let later = ends_later id (rounded s.paged before + s.length) (drop (n + 1) ms) in
     let all : parts_end id before (drop n ms) ≡ parts_end id (rounded s.paged before + s.length) (drop (n + 1) ms) =
-        ap (parts_end id before) (left_at ms n m at) in
+    ap (parts_end id before) (left_at ms n m at) in
     omega (arith, over, later, all)
 
 -- a start for each module

@@ -21,9 +21,9 @@ filter_append test [] ys = refl
 filter_append test (x ∷ xs) ys =
     elim (test x) as (λ b. cond b (x ∷ filter test (xs ++ ys)) (filter test (xs ++ ys))
     ≡ cond b (x ∷ filter test xs) (filter test xs) ++ filter test ys) [
-  | true ↦ ap (λ l. x ∷ l) (filter_append test xs ys)
-  | false ↦ filter_append test xs ys
-]
+      | true ↦ ap (λ l. x ∷ l) (filter_append test xs ys)
+      | false ↦ filter_append test xs ys
+    ]
 
 pub flat_filter : {A B : Type 0} (test : B → Bool) (f : A → List B) (xs : List A)
     → flat_map (λ x. filter test (f x)) xs ≡ filter test (flat_map f xs)
@@ -64,8 +64,12 @@ pub undeclared_test : (modules : List ModuleValue) (declared : List (List ℕ))
 undeclared_test modules declared are name =
     ap (λ names. is_none (number_in names name)) are
     ∙ none_at (linked_publics modules) (number_in (map (λ p. p.name) (linked_publics modules)) name)
-    (λ k is. omega (arith, number_within (map (λ p. p.name) (linked_publics modules)) name k is, map_length
-        (linked_publics modules)))
+    (λ k is. omega (
+      arith,
+      number_within (map (λ p. p.name) (linked_publics modules)) name k is,
+      map_length
+          (linked_publics modules),
+    ))
     ∙ ap is_none (sym (declared_number modules name))
 
 -- ---- the names that no module declares
@@ -78,7 +82,7 @@ unresolved_is modules declared are =
     ∙ ap distinct (flat_filter (λ name. is_none (number_in declared name)) (λ m. m.externals) modules)
     ∙ distinct_passed (λ name. is_none (number_in declared name)) (flat_map (λ m. m.externals) modules)
     ∙ filter_same (λ name. is_none (number_in declared name)) (λ name. is_none (public_of modules name))
-        (undeclared_test modules declared are) (distinct (flat_map (λ m. m.externals) modules))
+    (undeclared_test modules declared are) (distinct (flat_map (λ m. m.externals) modules))
 
 -- an external that no module declares is one of them
 pub is_unresolved : (modules : List ModuleValue) (name : List ℕ) → is_among (flat_map (λ m. m.externals) modules) name ≡ true
@@ -129,7 +133,7 @@ pub among_all : (ms : List ModuleValue) (n : ℕ) (m : ModuleValue) (name : List
 among_all [] n m name at here = absurd cc
 among_all (k ∷ ks) zero m name at here =
     any_front (pointwise nat_eq name) k.externals (flat_map (λ j. j.externals) ks)
-        (ap (λ j. is_among j.externals name) (some_is k m at) ∙ here)
+    (ap (λ j. is_among j.externals name) (some_is k m at) ∙ here)
   where
     some_is : (a b : ModuleValue) → Some a ≡ Some b → a ≡ b
     some_is a b e = cc

@@ -23,16 +23,16 @@ or_none (Some x) b none = absurd cc
 none_too_long : (modules : List ModuleValue) → link_fault modules ≡ None → segment_too_long modules ≡ None
 none_too_long modules none =
     let rest : Option LinkFault =
-        option_or (two_mains modules)
-        (option_or (high_not_paged modules) (option_or (too_many_commons modules) (too_many_externals modules))) in
+    option_or (two_mains modules)
+    (option_or (high_not_paged modules) (option_or (too_many_commons modules) (too_many_externals modules))) in
     (or_none (segment_too_long modules) rest
-        (or_none (duplicate_public modules) (option_or (segment_too_long modules) rest) none).1).0
+    (or_none (duplicate_public modules) (option_or (segment_too_long modules) rest) none).1).0
 
 none_found : (test : ℕ → Bool) (i : ℕ) (is : List ℕ) → option_map SegmentTooLong (find test (i ∷ is)) ≡ None
     → (test i ≡ false) × (option_map SegmentTooLong (find test is) ≡ None)
 none_found test i is none =
     (elim (test i) as (λ b. option_map SegmentTooLong (cond b (Some i) (find test is)) ≡ None
-        → (b ≡ false) × (option_map SegmentTooLong (find test is) ≡ None)) [
+    → (b ≡ false) × (option_map SegmentTooLong (find test is) ≡ None)) [
       | true ↦ λ some. absurd (some_none (SegmentTooLong i) some)
       | false ↦ λ later. (refl, later)
     ]) none
@@ -70,9 +70,9 @@ laid_out_word modules id none laid =
 part_word : (commons : List Common) (m : ModuleValue) (id : ℕ) → HasWordLengths m → (part_of commons m id).length ≤ 65535
 part_word commons m id words =
     elim (is_fixed_id id) as
-        (λ b. (cond b (segment_in m.segments id)
-        (option_map_or (λ (c : Common). segment_in m.segments c.id)
-        (find (λ (c : Common). pointwise nat_eq c.name (common_name commons id)) m.commons) empty_segment)).length ≤ 65535) [
+    (λ b. (cond b (segment_in m.segments id)
+    (option_map_or (λ (c : Common). segment_in m.segments c.id)
+    (find (λ (c : Common). pointwise nat_eq c.name (common_name commons id)) m.commons) empty_segment)).length ≤ 65535) [
       | true ↦ words id
       | false ↦ by_name (find (λ (c : Common). pointwise nat_eq c.name (common_name commons id)) m.commons)
     ]

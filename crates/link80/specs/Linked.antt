@@ -116,7 +116,7 @@ abbrev pub part_of : List Common → ModuleValue → ℕ → Segment
 part_of commons m id =
     if is_fixed_id id then segment_in m.segments id
     else option_map_or (λ c. segment_in m.segments c.id)
-        (find (λ c. pointwise nat_eq c.name (common_name commons id)) m.commons) empty_segment
+    (find (λ c. pointwise nat_eq c.name (common_name commons id)) m.commons) empty_segment
 
 -- the end of the last part
 abbrev pub parts_end : ℕ → ℕ → List ModuleValue → ℕ

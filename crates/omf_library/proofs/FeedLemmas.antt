@@ -50,8 +50,13 @@ of_stay r l m b = record { records = r; lists = l; modules = m; begun = b }
 begins_stays : Stay → (bytes more : List ℕ) (first said : ℕ) → BeginsLibrary bytes first said
     → BeginsLibrary (bytes ++ more) first said
 begins_stays s bytes more first said b =
-    record { kind = b.kind; body = b.body; framed = s.records bytes more 0 first b.kind b.body b.framed; header = b.header;
-    count = b.count }
+    record {
+      kind = b.kind;
+      body = b.body;
+      framed = s.records bytes more 0 first b.kind b.body b.framed;
+      header = b.header;
+      count = b.count;
+    }
 
 modules_stay : Stay → (bytes more : List ℕ) (from to : ℕ) (ms : List ModuleValue) → SpellsModules bytes from to ms
     → SpellsModules (bytes ++ more) from to ms
@@ -76,8 +81,11 @@ library_stays s bytes more ms l = record {
   begins = begins_stays s bytes more l.first (length ms) l.begins;
   spelled = modules_stay s bytes more l.first l.index ms l.spelled;
   indexed = record { spelled = s.lists bytes more l.index l.end l.records l.indexed.spelled; kinds = l.indexed.kinds };
-  ends = record { next = l.ends.next; body = l.ends.body;
-      spelled = s.records bytes more l.end l.ends.next 0x0E l.ends.body l.ends.spelled };
+  ends = record {
+    next = l.ends.next;
+    body = l.ends.body;
+    spelled = s.records bytes more l.end l.ends.next 0x0E l.ends.body l.ends.spelled;
+  };
 }
 
 reads_module_stays : Stay → (bytes more : List ℕ) (begin here : ℕ) (commons : List Common) → ReadsModule bytes begin here commons
@@ -93,8 +101,12 @@ reads_stay s bytes more ms next (Modules said) r = record {
   next_module = reads_module_stays s bytes more next.begin next.here next.commons.items r.next_module;
 }
 reads_stay s bytes more ms next (Index said at) r =
-    record { index = r.index; records = r.records; so_far = open_stays s bytes more said r.index at ms r.records r.so_far;
-        some = r.some }
+    record {
+      index = r.index;
+      records = r.records;
+      so_far = open_stays s bytes more said r.index at ms r.records r.so_far;
+      some = r.some;
+    }
 reads_stay s bytes more ms next Ended r = library_stays s bytes more ms r
 
 -- ---- faults of records
@@ -126,7 +138,7 @@ record_fault_stays law bytes more at f other x =
 
 truncated_here : (t z s : Bool) (at place : ℕ)
     → (if t then Some (Truncated at) else (if z then Some (ZeroLength at) else (if s then None else Some (BadSum at))))
-        ≡ Some (Truncated place) → place ≡ at
+    ≡ Some (Truncated place) → place ≡ at
 truncated_here true z s at place e = cc
 truncated_here false true s at place e = cc
 truncated_here false false true at place e = cc
@@ -221,7 +233,7 @@ begun_faults_at : (bytes : List ℕ) (begin here said found : ℕ) (commons : Li
     → FaultsAt bytes begin said found false (of_module (fault_by here why))
 begun_faults_at bytes begin here said found commons why b x =
     in_module b.first (body_bytes (ModuleHeader b.header)) (fault_by here why) refl b.begins.framed
-        (begun_faults bytes begin here commons why b x)
+    (begun_faults bytes begin here commons why b x)
 
 pub within_cut : (bytes : List ℕ) (begin here said found : ℕ) (commons : List Common) (f : LibraryFault)
     → BegunModule bytes begin here commons → IsCutOff bytes here
@@ -231,7 +243,7 @@ within_cut bytes begin here said found commons f b cut w =
       | inl within ↦
           subst (λ (g : LibraryFault). FaultsAt bytes begin said found false g) (sym (w.no_record within))
           (begun_faults_at bytes begin here said found commons (cause.Record (Truncated here)) b
-              (no_record_within (Truncated here) within cut))
+          (no_record_within (Truncated here) within cut))
       | inr past ↦
           subst (λ (g : LibraryFault). FaultsAt bytes begin said found false g) (sym (w.no_byte past))
           (begun_faults_at bytes begin here said found commons cause.NoEnd b (no_byte_within past))
@@ -274,15 +286,17 @@ pub first_piece_fault : (feed : LibraryFeedValue) (bytes : List ℕ) (f : Librar
 first_piece_fault feed bytes f is x =
     piece_fault bytes f
     (λ real. subst (λ (b : List ℕ). LastingLibraryFault (b ++ bytes) f) (ap (λ (v : LibraryFeedValue). v.bytes) is)
-        (x (ap (λ (v : LibraryFeedValue). v.kept) is) real))
+    (x (ap (λ (v : LibraryFeedValue). v.kept) is) real))
 
 -- what a feed has of one piece
 pub one_piece : (feed after : LibraryFeedValue) (bytes : List ℕ) → feed ≡ record { bytes = []; kept = None }
     → after ≡ record { bytes = feed.bytes ++ bytes; kept = None }
     → (after.kept ≡ None) × (after.bytes ≡ bytes)
-one_piece feed after bytes is taken =
-    (ap (λ (v : LibraryFeedValue). v.kept) taken, ap (λ (v : LibraryFeedValue). v.bytes) taken
-        ∙ ap (λ (v : LibraryFeedValue). v.bytes ++ bytes) is)
+one_piece feed after bytes is taken = (
+  ap (λ (v : LibraryFeedValue). v.kept) taken,
+  ap (λ (v : LibraryFeedValue). v.bytes) taken
+      ∙ ap (λ (v : LibraryFeedValue). v.bytes ++ bytes) is,
+)
 
 changes : OneLibraryFault → (bytes more : List ℕ) (f now later : LibraryFault) → LastingLibraryFault bytes f
     → All (λ byte. byte < 256) more
@@ -301,7 +315,7 @@ spoil : TruncatedCanBeSpoilt → (bytes : List ℕ) (at : ℕ) → at ≤ length
 spoil law bytes at inside cut =
     let more = law (drop at bytes) at cut in
     let there : fault_at (drop at (bytes ++ more.0)) at ≡ Some (BadSum at) =
-        ap (λ (r : List ℕ). fault_at r at) (drop-append-le at bytes more.0 inside) ∙ more.2 in
+    ap (λ (r : List ℕ). fault_at r at) (drop-append-le at bytes more.0 inside) ∙ more.2 in
     record { more = more.0; small = more.1; fault = there; within = whole_is_inside (bytes ++ more.0) at (BadSum at) refl there }
 
 abbrev pub spoilt_at : ℕ → LibraryFault
@@ -325,11 +339,17 @@ pub record Cut (bytes : List ℕ) (at : ℕ) (none : LibraryFault) : Type 0 wher
 pub cut_at : (bytes : List ℕ) (at : ℕ) (none : LibraryFault) → (none ≡ spoilt_at at → ⊥) → Cut bytes at none
 cut_at bytes at none other =
     elim (cases_lt at (length bytes)) [
-      | inl within ↦ record { fault = truncated_at at;
-          is = record { no_byte = λ past. absurd (omega (arith, within, past)); no_record = λ _. refl }; other =
-          truncated_not_spoilt at }
-      | inr past ↦ record { fault = none;
-          is = record { no_byte = λ _. refl; no_record = λ within. absurd (omega (arith, within, past)) }; other = other }
+      | inl within ↦ record {
+        fault = truncated_at at;
+        is = record { no_byte = λ past. absurd (omega (arith, within, past)); no_record = λ _. refl };
+        other =
+            truncated_not_spoilt at;
+      }
+      | inr past ↦ record {
+        fault = none;
+        is = record { no_byte = λ _. refl; no_record = λ within. absurd (omega (arith, within, past)) };
+        other = other;
+      }
     ]
 
 -- the laws by which a fault changes
@@ -352,17 +372,17 @@ counted_have_none l bytes count f (counted_at_record said index at ms rs o cut c
     let now = cut_at bytes at (NoEnd at) (λ e. cc) in
     let later = spoil l.spoilt bytes at (open_inside bytes said index at ms rs o) cut in
     changes l.one_fault bytes later.more f now.fault (spoilt_at at) lasts later.small
-        (record_cut bytes said index at ms rs now.fault o cut now.is)
+    (record_cut bytes said index at ms rs now.fault o cut now.is)
     (faults_so_far (bytes ++ later.more) said index at ms rs (spoilt_at at)
-        (open_stays l.stay bytes later.more said index at ms rs o) (no_record (BadSum at) later.within later.fault)) now.other
+    (open_stays l.stay bytes later.more said index at ms rs o) (no_record (BadSum at) later.within later.fault)) now.other
 counted_have_none l bytes count f (counted_in_module said at ms o w counted) lasts =
     let now = cut_at bytes w.here (no_end_in_module w.here) (no_end_not_spoilt w.here) in
     let later = spoil l.spoilt bytes w.here (begun_inside bytes at w.here w.commons w.begun) w.cut_off in
     changes l.one_fault bytes later.more f now.fault (spoilt_at w.here) lasts later.small
-        (module_cut bytes said at w.here ms w.commons now.fault o w.begun w.cut_off now.is)
+    (module_cut bytes said at w.here ms w.commons now.fault o w.begun w.cut_off now.is)
     (faults_so_far (bytes ++ later.more) said at at ms [] (spoilt_at w.here)
-        (open_stays l.stay bytes later.more said at at ms [] o)
+    (open_stays l.stay bytes later.more said at at ms [] o)
     (begun_faults_at (bytes ++ later.more) at w.here said (length ms) w.commons (cause.Record (BadSum w.here))
-        (l.stay.begun bytes later.more at w.here w.commons w.begun)
+    (l.stay.begun bytes later.more at w.here w.commons w.begun)
     (no_record_within (BadSum w.here) later.within later.fault))) now.other
 counted_have_none l bytes count f (ended ms s counted) lasts = l.never_both bytes ms f s (without_more bytes f lasts)

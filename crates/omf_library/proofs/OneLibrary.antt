@@ -36,8 +36,13 @@ pub record Below : Type 0 where
 
 pub of_laws : OneRecordAtEachPlace → NoFaultExactlyAtRecords → OneModule → OneFault → NeverBoth → Below
 of_laws one_record no_fault one_module one_fault never_both =
-    record { one_record = one_record; no_fault = no_fault; one_module = one_module; one_fault = one_fault;
-    never_both = never_both }
+    record {
+      one_record = one_record;
+      no_fault = no_fault;
+      one_module = one_module;
+      one_fault = one_fault;
+      never_both = never_both;
+    }
 
 past_spelled : (bytes : List ℕ) (at next kind : ℕ) (body : List ℕ) → length bytes ≤ at → SpellsRecord bytes at next kind body → ⊥
 past_spelled bytes at next kind body past s = omega (arith, past, s.all_counted, s.within)
@@ -95,7 +100,7 @@ header_stops : Below → (bytes : List ℕ) (at next next' kind : ℕ) (body bod
     → SpellsRecord bytes at next' kind body' → goes_on indexed kind ≡ false → ⊥
 header_stops b bytes at next next' kind body body' indexed not s t stops =
     true≢false (sym (header_goes_on indexed not) ∙ ap (goes_on indexed) (same_kind b bytes at next next' 0x02 kind body body' s t)
-        ∙ stops)
+    ∙ stops)
 
 one_stop : Below → (bytes : List ℕ) (at said found : ℕ) (i : Bool) (o p : Option LibraryFault) → Stop bytes at said found i o
     → Stop bytes at said found i p → o ≡ p
@@ -135,7 +140,7 @@ abbrev IndexRun : List ℕ → ℕ → ℕ → Bool → ℕ → List RecordValue
 IndexRun bytes said found i at [] o = Stop bytes at said found i o
 IndexRun bytes said found i at (r ∷ rs) o =
     SpellsRecord bytes at (at + 4 + length r.body) r.kind r.body × (is_index_kind r.kind ≡ true)
-        × IndexRun bytes said found true (at + 4 + length r.body) rs o
+    × IndexRun bytes said found true (at + 4 + length r.body) rs o
 
 abbrev indexed_after : Bool → List RecordValue → Bool
 indexed_after i [] = i
@@ -148,7 +153,7 @@ all_indexed i (r ∷ rs) = refl
 to_index_run : (bytes : List ℕ) (said found : ℕ) (i : Bool) (from to : ℕ) (rs : List RecordValue) (o : Option LibraryFault)
     → SpellsRecords bytes from to rs
     → list_all (λ r. is_index_kind r.kind) rs ≡ true → Stop bytes to said found (indexed_after i rs) o
-        → IndexRun bytes said found i from rs o
+    → IndexRun bytes said found i from rs o
 to_index_run bytes said found i from to [] o s all stop = subst (λ (a : ℕ). Stop bytes a said found i o) (sym s) stop
 to_index_run bytes said found i from to (r ∷ rs) o s all stop =
     let parts = and_parts (is_index_kind r.kind) (list_all (λ r. is_index_kind r.kind) rs) all in (
@@ -182,7 +187,7 @@ one_index b bytes said found i at (r ∷ rs) [] o p x y =
 one_index b bytes said found i at (r ∷ rs) (s ∷ ss) o p x y =
     let same = b.one_record bytes at (at + 4 + length r.body) (at + 4 + length s.body) r.kind s.kind r.body s.body x.0 y.0 in
     one_index b bytes said found true (at + 4 + length s.body) rs ss o p
-        (subst (λ (a : ℕ). IndexRun bytes said found true a rs o) same.2 x.2) y.2
+    (subst (λ (a : ℕ). IndexRun bytes said found true a rs o) same.2 x.2) y.2
 
 -- ---- modules before them
 
@@ -195,21 +200,24 @@ to_run : (bytes : List ℕ) (said found from to : ℕ) (ms : List ModuleValue) (
     → IndexRun bytes said (found + length ms) false to rs o → Run bytes said found from ms rs o
 to_run bytes said found from to [] rs o s r =
     subst (λ (n : ℕ). IndexRun bytes said n false from rs o) (omega arith)
-        (subst (λ (a : ℕ). IndexRun bytes said (found + length (the_none)) false a rs o) (sym s) r)
+    (subst (λ (a : ℕ). IndexRun bytes said (found + length (the_none)) false a rs o) (sym s) r)
   where
     the_none : List ModuleValue
     the_none = []
-to_run bytes said found from to (m ∷ ms) rs o s r =
-    (s.0, s.1, to_run bytes said (found + 1) s.0 to ms rs o s.2
-        (subst (λ (n : ℕ). IndexRun bytes said n false to rs o) (omega arith) r))
+to_run bytes said found from to (m ∷ ms) rs o s r = (
+  s.0,
+  s.1,
+  to_run bytes said (found + 1) s.0 to ms rs o s.2
+      (subst (λ (n : ℕ). IndexRun bytes said n false to rs o) (omega arith) r),
+)
 
 index_module : Below → (bytes : List ℕ) (said found at after : ℕ) (m : ModuleValue) (rs : List RecordValue)
     (o : Option LibraryFault) → IndexRun bytes said found false at rs o
     → SpellsModule bytes at after m → ⊥
 index_module b bytes said found at after m (r ∷ rs) o x s =
     true≢false (sym x.1 ∙ ap is_index_kind
-        (same_kind b bytes at (at + 4 + length r.body) s.spelled.first r.kind 0x02 r.body
-        (body_bytes (ModuleHeader s.records.header)) x.0 (header_of bytes at after m s)))
+    (same_kind b bytes at (at + 4 + length r.body) s.spelled.first r.kind 0x02 r.body
+    (body_bytes (ModuleHeader s.records.header)) x.0 (header_of bytes at after m s)))
 index_module b bytes said found at after m [] _ (past x) s =
     past_spelled bytes at s.spelled.first 0x02 (body_bytes (ModuleHeader s.records.header)) x (header_of bytes at after m s)
 index_module b bytes said found at after m [] _ (unframed f w x) s =
@@ -218,7 +226,7 @@ index_module b bytes said found at after m [] _ (unframed f w x) s =
 index_module b bytes said found at after m [] _ (inside n body f not t x) s = b.never_both bytes at after m f s x
 index_module b bytes said found at after m [] _ (framed n k body o t stops x) s =
     header_stops b bytes at s.spelled.first n k (body_bytes (ModuleHeader s.records.header)) body false refl
-        (header_of bytes at after m s) t stops
+    (header_of bytes at after m s) t stops
 
 record Same (ms ns : List ModuleValue) (o p : Option LibraryFault) : Type 0 where
   modules : ms ≡ ns
@@ -234,9 +242,12 @@ one_run b bytes said found at (m ∷ ms) [] rs ss o p x y = absurd (index_module
 one_run b bytes said found at (m ∷ ms) (n ∷ ns) rs ss o p x y =
     let same = b.one_module bytes at x.0 y.0 m n x.1 y.1 in
     let rest = one_run b bytes said (found + 1) y.0 ms ns rs ss o p
-        (subst (λ (a : ℕ). Run bytes said (found + 1) a ms rs o) same.1 x.2) y.2 in
-    record { modules = ap (λ (z : ModuleValue). z ∷ ms) same.0
-        ∙ ap (λ (zs : List ModuleValue). n ∷ zs) rest.modules; out = rest.out }
+    (subst (λ (a : ℕ). Run bytes said (found + 1) a ms rs o) same.1 x.2) y.2 in
+    record {
+      modules = ap (λ (z : ModuleValue). z ∷ ms) same.0
+          ∙ ap (λ (zs : List ModuleValue). n ∷ zs) rest.modules;
+      out = rest.out;
+    }
 
 -- ---- the header before them
 
@@ -250,7 +261,7 @@ record Whole (bytes : List ℕ) (ms : List ModuleValue) (o : Option LibraryFault
 whole : (bytes : List ℕ) (first said index end : ℕ) (ms : List ModuleValue) (rs : List RecordValue) (o : Option LibraryFault)
     → BeginsLibrary bytes first said → SpellsModules bytes first index ms
     → SpellsRecords bytes index end rs → list_all (λ r. is_index_kind r.kind) rs ≡ true
-        → Stop bytes end said (length ms) (is_indexed rs) o → Whole bytes ms o
+    → Stop bytes end said (length ms) (is_indexed rs) o → Whole bytes ms o
 whole bytes first said index end ms rs o begins s t all stop = record {
   first = first;
   said = said;
@@ -259,7 +270,7 @@ whole bytes first said index end ms rs o begins s t all stop = record {
   run = to_run bytes said 0 first index ms rs o s
       (to_index_run bytes said (0 + length ms) false index end rs o t all
       (subst (λ (j : Bool). Stop bytes end said (0 + length ms) j o) (first_index rs)
-          (subst (λ (n : ℕ). Stop bytes end said n (is_indexed rs) o) (omega arith) stop)));
+      (subst (λ (n : ℕ). Stop bytes end said n (is_indexed rs) o) (omega arith) stop)));
 }
   where
     first_index : (rs : List RecordValue) → is_indexed rs ≡ indexed_after false rs
@@ -270,16 +281,16 @@ one_whole : Below → (bytes : List ℕ) (ms ns : List ModuleValue) (o p : Optio
     → Same ms ns o p
 one_whole b bytes ms ns o p x y =
     let same = b.one_record bytes 0 x.first y.first x.begins.kind y.begins.kind x.begins.body y.begins.body x.begins.framed
-        y.begins.framed in
+    y.begins.framed in
     let said : x.said ≡ y.said = x.begins.count ∙ ap (λ (body : List ℕ). word_at body 0) same.1 ∙ sym y.begins.count in
     one_run b bytes y.said 0 y.first ms ns x.records y.records o p
     (subst (λ (n : ℕ). Run bytes n 0 y.first ms x.records o) said
-        (subst (λ (a : ℕ). Run bytes x.said 0 a ms x.records o) same.2 x.run)) y.run
+    (subst (λ (a : ℕ). Run bytes x.said 0 a ms x.records o) same.2 x.run)) y.run
 
 whole_library : (bytes : List ℕ) (ms : List ModuleValue) → SpellsLibrary bytes ms → Whole bytes ms None
 whole_library bytes ms s =
     whole bytes s.first (length ms) s.index s.end ms s.records None s.begins s.spelled s.indexed.spelled s.indexed.kinds
-        (stop_of_end bytes s.end (length ms) (is_indexed s.records) s.ends)
+    (stop_of_end bytes s.end (length ms) (is_indexed s.records) s.ends)
 
 -- a header that has a fault begins no library
 header_fault_begins : Below → (bytes : List ℕ) (first said : ℕ) (f : LibraryFault) → FaultsLibraryHeader bytes f
@@ -291,7 +302,7 @@ header_fault_begins b bytes first said _ (no_header_record f w e) begins =
 header_fault_begins b bytes first said _ (no_header next kind body s not) begins =
     let same = b.one_record bytes 0 first next begins.kind kind begins.body body begins.framed s in
     true≢false (sym begins.header ∙ ap (λ (k : ℕ). is_library_header k begins.body) same.0 ∙ ap (is_library_header kind) same.1
-        ∙ not)
+    ∙ not)
 
 one_header_fault : Below → (bytes : List ℕ) (f g : LibraryFault) → FaultsLibraryHeader bytes f → FaultsLibraryHeader bytes g
     → f ≡ g
@@ -324,11 +335,14 @@ record FaultWhole (bytes : List ℕ) (f : LibraryFault) : Type 0 where
 fault_whole : (bytes : List ℕ) (first said index at : ℕ) (ms : List ModuleValue) (rs : List RecordValue) (f : LibraryFault)
     → BeginsLibrary bytes first said → SpellsModules bytes first index ms
     → SpellsRecords bytes index at rs → list_all (λ r. is_index_kind r.kind) rs ≡ true
-        → FaultsAt bytes at said (length ms) (is_indexed rs) f → FaultWhole bytes f
+    → FaultsAt bytes at said (length ms) (is_indexed rs) f → FaultWhole bytes f
 fault_whole bytes first said index at ms rs f begins s t all x =
-    record { modules = ms; run =
-        whole bytes first said index at ms rs (Some f) begins s t all
-        (stop_of_fault bytes at said (length ms) (is_indexed rs) f x) }
+    record {
+      modules = ms;
+      run =
+          whole bytes first said index at ms rs (Some f) begins s t all
+          (stop_of_fault bytes at said (length ms) (is_indexed rs) f x);
+    }
 
 some_same : (f g : LibraryFault) (o p : Option LibraryFault) → o ≡ p → o ≡ Some f → p ≡ Some g → f ≡ g
 some_same f g o p e x y = ap (value f) (sym x ∙ e ∙ y)
@@ -367,7 +381,7 @@ fault_counted : (bytes : List ℕ) (said index at count : ℕ) (ms : List Module
     → FaultsAt bytes at said (length ms) (is_indexed rs) f → count ≡ length ms → Counted bytes count
 fault_counted bytes said index at count ms rs f o x n =
     some ms (Some f) (whole bytes o.first said index at ms rs (Some f) o.begins o.spelled o.indexed.spelled o.indexed.kinds
-        (stop_of_fault bytes at said (length ms) (is_indexed rs) f x)) n
+    (stop_of_fault bytes at said (length ms) (is_indexed rs) f x)) n
 
 counted : (bytes : List ℕ) (count : ℕ) → CountsModules bytes count → Counted bytes count
 counted bytes count (counted_in_header cut zero) =
@@ -376,11 +390,11 @@ counted bytes count (counted_in_header cut zero) =
 counted bytes count (counted_at_record said index at ms rs o cut n) =
     let now = cut_at bytes at (NoEnd at) (λ e. cc) in
     fault_counted bytes said index at count ms rs now.fault o
-        (at_cut bytes at said (length ms) (is_indexed rs) now.fault cut now.is) n
+    (at_cut bytes at said (length ms) (is_indexed rs) now.fault cut now.is) n
 counted bytes count (counted_in_module said at ms o w n) =
     let now = cut_at bytes w.here (no_end_in_module w.here) (no_end_not_spoilt w.here) in
     fault_counted bytes said at at count ms [] now.fault o
-        (within_cut bytes at w.here said (length ms) w.commons now.fault w.begun w.cut_off now.is) n
+    (within_cut bytes at w.here said (length ms) w.commons now.fault w.begun w.cut_off now.is) n
 counted bytes count (ended ms s n) = some ms None (whole_library bytes ms s) n
 
 same_count : Below → (bytes : List ℕ) (m n : ℕ) → Counted bytes m → Counted bytes n → m ≡ n

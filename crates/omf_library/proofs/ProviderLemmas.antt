@@ -43,7 +43,7 @@ none_exactly name ms place is =
 -- the table after the module before took its names
 pub one_more : (place : ℕ) (m : ModuleValue) (ms : List ModuleValue) (old new : List (List ℕ × ℕ))
     → AreProvidersFrom (place + 1) ms old → TakesNames (λ name. declares name m) place old new
-        → AreProvidersFrom place (m ∷ ms) new
+    → AreProvidersFrom place (m ∷ ms) new
 one_more place m ms old new are taken =
     record { first = λ name. taken.taken name ∙ ap (λ (o : Option ℕ). cond (declares name m) (Some place) o) (are.first name) }
 
@@ -52,7 +52,7 @@ one_before : {A : Type 0} (f : A → ModuleValue) (xs : List A) (place : ℕ) (x
     → drop place (map f xs) ≡ f x ∷ drop (place + 1) (map f xs)
 one_before {A} f xs place x within is =
     drop-map f place xs ∙ ap (map f) (drop_more xs place x within) ∙ ap (λ (y : A). f y ∷ map f (drop (place + 1) xs)) (sym is)
-        ∙ ap (λ (l : List ModuleValue). f x ∷ l) (sym (drop-map f (place + 1) xs))
+    ∙ ap (λ (l : List ModuleValue). f x ∷ l) (sym (drop-map f (place + 1) xs))
 
 pub table_grows : {A : Type 0} (f : A → ModuleValue) (xs : List A) (place after : ℕ) (x : A) (old new : List (List ℕ × ℕ))
     → place + 1 ≡ after → after ≤ length xs → x ≡ get_or xs place x
@@ -60,6 +60,6 @@ pub table_grows : {A : Type 0} (f : A → ModuleValue) (xs : List A) (place afte
     → AreProvidersFrom place (drop place (map f xs)) new
 table_grows f xs place after x old new next within is are taken =
     subst (λ (l : List ModuleValue). AreProvidersFrom place l new)
-        (sym (one_before f xs place x (omega (arith, next, within)) is))
+    (sym (one_before f xs place x (omega (arith, next, within)) is))
     (one_more place (f x) (drop (place + 1) (map f xs)) old new
-        (subst (λ (p : ℕ). AreProvidersFrom p (drop p (map f xs)) old) (sym next) are) taken)
+    (subst (λ (p : ℕ). AreProvidersFrom p (drop p (map f xs)) old) (sym next) are) taken)

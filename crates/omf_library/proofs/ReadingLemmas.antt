@@ -31,8 +31,14 @@ pub record Further (bytes : List ℕ) (at after : ℕ) : Type 0 where
 
 pub module_further : (bytes : List ℕ) (at after : ℕ) (m : ModuleValue) → SpellsModule bytes at after m → Further bytes at after
 module_further bytes at after m s = record {
-  further = omega (arith, s.begins, s.spelled.header.framed.all_counted, bodies_further bytes s.spelled.first s.records.end_at
-      s.records.within s.spelled.within, s.spelled.end.framed.all_counted);
+  further = omega (
+    arith,
+    s.begins,
+    s.spelled.header.framed.all_counted,
+    bodies_further bytes s.spelled.first s.records.end_at
+        s.records.within s.spelled.within,
+    s.spelled.end.framed.all_counted,
+  );
   inside = s.spelled.end.framed.within;
 }
 

@@ -16,7 +16,7 @@ item_taken {A} {B} all_of part xs i d before after all so_far within step taken 
     ap (λ (w : List B). w ++ all_of (drop (i + 1) xs)) taken
     ∙ (append_assoc before part (all_of (drop (i + 1) xs))
     ∙ (ap (λ (w : List B). before ++ w) (sym step)
-        ∙ (ap (λ (l : List A). before ++ all_of l) (sym (drop_more xs i d within)) ∙ so_far)))
+    ∙ (ap (λ (l : List A). before ++ all_of l) (sym (drop_more xs i d within)) ∙ so_far)))
 
 -- the same of an item that is known by another name
 pub one_taken : {A B : Type 0} (all_of : List A

@@ -40,7 +40,7 @@ pub header_record_lasts : OtherFaultsStay → (bytes : List ℕ) (f : RecordFaul
     → fault_at (drop 0 bytes) 0 ≡ Some f → LastingHeaderFault bytes (Module (fault_by 0 (cause.Record f)))
 header_record_lasts law bytes f other x = λ more small.
     no_header_record f (more_inside bytes more 0 (whole_is_inside bytes 0 f other x))
-        (record_fault_stays law bytes more 0 f other x)
+    (record_fault_stays law bytes more 0 f other x)
 
 pub record_lasts : OtherFaultsStay → (bytes : List ℕ) (at : ℕ) (f : RecordFault) → is_truncation f ≡ false
     → fault_at (drop at bytes) at ≡ Some f → LastingFaultAt bytes at (Module (fault_by at (cause.Record f)))
@@ -53,7 +53,7 @@ header_lasts bytes f x = λ more small. in_header f (x more small)
 pub at_lasts : Stay → (bytes : List ℕ) (said index at : ℕ) (ms : List ModuleValue) (rs : List RecordValue) (f : LibraryFault)
     → OpenLibrary bytes said index at ms rs
     → ((more : List ℕ) → All (λ byte. byte < 256) more → FaultsAt (bytes ++ more) at said (length ms) (is_indexed rs) f)
-        → LastingLibraryFault bytes f
+    → LastingLibraryFault bytes f
 at_lasts s bytes said index at ms rs f o x = λ more small.
     let m = open_stays s bytes more said index at ms rs o in
     after_header m.first said index at ms rs f m.begins m.spelled m.indexed (x more small)
@@ -75,7 +75,7 @@ module_lasts s bytes said ms next f r h (inl none) = inl (ap of_module none)
 module_lasts s bytes said ms next f r h (inr lasts) =
     inr (at_lasts s bytes said next.begin next.begin ms [] (of_module f) r.so_far
     (λ more small. in_module h.next h.body f refl (s.records bytes more next.begin h.next 0x02 h.body h.spelled)
-        (lasts more small)))
+    (lasts more small)))
 
 goes_nowhere : (kind : ℕ) → kind ≢ 0x02 → is_index_kind kind ≡ false → goes_on false kind ≡ false
 goes_nowhere kind other index = rw (index, other_is kind 0x02 other) refl
@@ -83,12 +83,12 @@ goes_nowhere kind other index = rw (index, other_is kind 0x02 other) refl
 pub other_lasts : Stay → (bytes : List ℕ) (said after kind found : ℕ) (ms : List ModuleValue) (next : UnfinishedModule)
     (f : LibraryFault) → ReadsModules bytes said ms next
     → OtherRecord bytes next.begin after kind → found ≡ length ms → LeadsNowhere next.begin said found kind f
-        → LastingLibraryFault bytes f
+    → LastingLibraryFault bytes f
 other_lasts s bytes said after kind found ms next f r o all n =
     at_lasts s bytes said next.begin next.begin ms [] f r.so_far
     (λ more small. subst (λ (k : ℕ). FaultsAt (bytes ++ more) next.begin said k false f) all
     (at_record after kind o.body f (s.records bytes more next.begin after kind o.body o.spelled)
-        (goes_nowhere kind o.other n.other) n.faults))
+    (goes_nowhere kind o.other n.other) n.faults))
 
 pub indexed_lasts : Stay
     → (bytes : List ℕ) (said at after kind found : ℕ) (body : List ℕ) (ms : List ModuleValue) (f : LibraryFault)
@@ -124,14 +124,18 @@ header_leads bytes said first ms next begin here none empty b = record {
 pub one_module_more : (bytes : List ℕ) (said after : ℕ) (ms : List ModuleValue) (m : ModuleValue) (old next : UnfinishedModule)
     → next.begin ≡ after → next.here ≡ after → next.commons.items ≡ []
     → ReadsModules bytes said ms old → SpellsModule bytes old.begin after m
-        → ReadsFurther bytes (left_after bytes old (Modules said)) (ms ++ m ∷ []) next (Modules said)
+    → ReadsFurther bytes (left_after bytes old (Modules said)) (ms ++ m ∷ []) next (Modules said)
 one_module_more bytes said after ms m old next begin here none r s =
     let o = r.so_far in
     let f = module_further bytes old.begin after m s in
     record {
       reads = next_begins bytes said after (ms ++ m ∷ []) next begin here none
-          (record { first = o.first; begins = o.begins; spelled = modules_push bytes o.first old.begin after ms m o.spelled s;
-              indexed = record { spelled = refl; kinds = refl } });
+          (record {
+            first = o.first;
+            begins = o.begins;
+            spelled = modules_push bytes o.first old.begin after ms m o.spelled s;
+            indexed = record { spelled = refl; kinds = refl };
+          });
       further = omega (arith, begin, f.further, f.inside);
     }
 
@@ -142,7 +146,7 @@ some_indexed (x ∷ rs) r = refl
 leads_to : ListGrows → (bytes : List ℕ) (said index at after kind found : ℕ) (body : List ℕ) (ms : List ModuleValue)
     (rs : List RecordValue) (next : UnfinishedModule) (p : Progress)
     → OpenLibrary bytes said index at ms rs → SpellsRecord bytes at after kind body → found ≡ length ms
-        → LeadsTo said after found kind p → ReadsFurther bytes (length bytes - at + 1) ms next p
+    → LeadsTo said after found kind p → ReadsFurther bytes (length bytes - at + 1) ms next p
 leads_to law bytes said index at after kind found body ms rs next Header o s all x = absurd x
 leads_to law bytes said index at after kind found body ms rs next (Modules n) o s all x = absurd x
 leads_to law bytes said index at after kind found body ms rs next (Index n a) o s all x =
@@ -155,9 +159,11 @@ leads_to law bytes said index at after kind found body ms rs next (Index n a) o 
           first = o.first;
           begins = subst (λ (m : ℕ). BeginsLibrary bytes o.first m) (sym x.1) o.begins;
           spelled = o.spelled;
-          indexed = record { spelled =
-              law bytes index at a rs r o.indexed.spelled (subst (λ (b : ℕ). SpellsRecord bytes at b kind body) (sym x.2) s);
-              kinds = all_with rs r o.indexed.kinds x.0 };
+          indexed = record {
+            spelled =
+                law bytes index at a rs r o.indexed.spelled (subst (λ (b : ℕ). SpellsRecord bytes at b kind body) (sym x.2) s);
+            kinds = all_with rs r o.indexed.kinds x.0;
+          };
         };
         some = some_indexed rs r;
       };
@@ -181,7 +187,7 @@ pub other_leads : ListGrows
     → (bytes : List ℕ) (said after kind found : ℕ) (ms : List ModuleValue) (old next : UnfinishedModule) (p : Progress)
     → ReadsModules bytes said ms old
     → OtherRecord bytes old.begin after kind → found ≡ length ms → LeadsTo said after found kind p
-        → ReadsFurther bytes (left_after bytes old (Modules said)) ms next p
+    → ReadsFurther bytes (left_after bytes old (Modules said)) ms next p
 other_leads law bytes said after kind found ms old next p r o all x =
     leads_to law bytes said old.begin old.begin after kind found o.body ms [] next p r.so_far o.spelled all x
 
@@ -189,7 +195,7 @@ pub indexed_leads : ListGrows
     → (bytes : List ℕ) (said at after kind found : ℕ) (body : List ℕ) (ms : List ModuleValue) (next : UnfinishedModule)
     (p : Progress) → ReadsIndexed bytes said at ms
     → SpellsRecord bytes at after kind body → found ≡ length ms → LeadsTo said after found kind p
-        → ReadsFurther bytes (length bytes - at + 1) ms next p
+    → ReadsFurther bytes (length bytes - at + 1) ms next p
 indexed_leads law bytes said at after kind found body ms next p r s all x =
     leads_to law bytes said r.index at after kind found body ms r.records next p r.so_far s all x
 
@@ -228,8 +234,11 @@ pub extends_by : (old new : List ModuleValue) (m : ModuleValue) → new ≡ old 
 extends_by old new m e = record { added = m ∷ []; is = e }
 
 pub extends_on : (a b c : List ModuleValue) → Extends a b → Extends b c → Extends a c
-extends_on a b c x y = record { added = x.added ++ y.added; is = y.is ∙ ap (λ (l : List ModuleValue). l ++ y.added) x.is
-    ∙ append_assoc a x.added y.added }
+extends_on a b c x y = record {
+  added = x.added ++ y.added;
+  is = y.is ∙ ap (λ (l : List ModuleValue). l ++ y.added) x.is
+      ∙ append_assoc a x.added y.added;
+}
 
 pub taken_back : (old new : List ModuleValue) (n : ℕ) → Extends old new → n ≡ length old → take n new ≡ old
 taken_back old new n x size = ap (take n) x.is ∙ (ap (λ (k : ℕ). take k (old ++ x.added)) size ∙ take-append_seam old x.added)
@@ -241,7 +250,7 @@ pub forgotten : (bytes : List ℕ) (old new : List ModuleValue) (before after : 
 forgotten bytes old new before after Header same begin here none r = same ∙ r
 forgotten bytes old new before after (Modules said) same begin here none r =
     subst (λ (ms : List ModuleValue). ReadsModules bytes said ms after) (sym same)
-        (next_begins bytes said before.begin old after begin here none r.so_far)
+    (next_begins bytes said before.begin old after begin here none r.so_far)
 forgotten bytes old new before after (Index said at) same begin here none r =
     subst (λ (ms : List ModuleValue). ReadsIndexed bytes said at ms) (sym same) r
 forgotten bytes old new before after Ended same begin here none r =
@@ -275,19 +284,19 @@ faults_between : (bytes : List ℕ) (said : ℕ) (ms : List ModuleValue) (next :
     → next.here ≡ next.begin → FaultsWhereCut bytes next.here (NoEnd next.here) f → FaultsLibrary bytes f
 faults_between bytes said ms next f r cut same w =
     record_cut bytes said next.begin next.begin ms [] f r.so_far (subst (λ (a : ℕ). IsCutOff bytes a) same cut)
-        (subst (λ (a : ℕ). FaultsWhereCut bytes a (NoEnd a) f) same w)
+    (subst (λ (a : ℕ). FaultsWhereCut bytes a (NoEnd a) f) same w)
 
 faults_inside : (bytes : List ℕ) (said : ℕ) (ms : List ModuleValue) (next : UnfinishedModule) (f : LibraryFault)
     → ReadsModules bytes said ms next → IsCutOff bytes next.here
     → next.here ≢ next.begin → FaultsWhereCut bytes next.here (no_end_in_module next.here) f → FaultsLibrary bytes f
 faults_inside bytes said ms next f r cut other w =
     module_cut bytes said next.begin next.here ms next.commons.items f r.so_far
-        (is_begun bytes next.begin next.here next.commons.items r.next_module other) cut w
+    (is_begun bytes next.begin next.here next.commons.items r.next_module other) cut w
 
 pub faults_in_modules : (bytes : List ℕ) (said : ℕ) (ms : List ModuleValue) (next : UnfinishedModule) (f : LibraryFault)
     → ReadsModules bytes said ms next → IsCutOff bytes next.here
     → (next.here ≡ next.begin → FaultsWhereCut bytes next.here (NoEnd next.here) f)
-        → (next.here ≢ next.begin → FaultsWhereCut bytes next.here (no_end_in_module next.here) f) → FaultsLibrary bytes f
+    → (next.here ≢ next.begin → FaultsWhereCut bytes next.here (no_end_in_module next.here) f) → FaultsLibrary bytes f
 faults_in_modules bytes said ms next f r cut between inside =
     elim (eqb_tells next.here next.begin) [
       | inl is ↦ faults_between bytes said ms next f r cut is.1 (between is.1)

@@ -20,7 +20,7 @@ next_module ms i m within is = drop_more ms i m within ∙ ap (λ (x : ModuleVal
 pub bytes_step : (ms : List ModuleValue) (i : ℕ) (m : ModuleValue) (bytes new : List ℕ) → i < length ms → m ≡ get_or ms i m
     → new ≡ bytes ++ module_bytes m
     → bytes ++ flat_map module_bytes (drop i ms) ≡ flat_map module_bytes ms
-        → new ++ flat_map module_bytes (drop (i + 1) ms) ≡ flat_map module_bytes ms
+    → new ++ flat_map module_bytes (drop (i + 1) ms) ≡ flat_map module_bytes ms
 bytes_step ms i m bytes new within is written inv =
     ap (λ (x : List ℕ). x ++ flat_map module_bytes (drop (i + 1) ms)) written
     ∙ append_assoc bytes (module_bytes m) (flat_map module_bytes (drop (i + 1) ms))
@@ -30,11 +30,11 @@ bytes_step ms i m bytes new within is written inv =
 pub places_step : (ms : List ModuleValue) (i : ℕ) (m : ModuleValue) (bytes new places after : List ℕ) → i < length ms
     → m ≡ get_or ms i m → new ≡ bytes ++ module_bytes m
     → after ≡ places ++ (10 + length bytes) ∷ [] → places ++ places_from (10 + length bytes) (drop i ms) ≡ places_from 10 ms
-        → after ++ places_from (10 + length new) (drop (i + 1) ms) ≡ places_from 10 ms
+    → after ++ places_from (10 + length new) (drop (i + 1) ms) ≡ places_from 10 ms
 places_step ms i m bytes new places after within is written pushed inv =
     let at = 10 + length bytes in
     let size : 10 + length new ≡ at + length (module_bytes m) =
-        omega (arith, ap (λ (x : List ℕ). length x) written, length-append bytes (module_bytes m)) in
+    omega (arith, ap (λ (x : List ℕ). length x) written, length-append bytes (module_bytes m)) in
     ap (λ (x : List ℕ). x ++ places_from (10 + length new) (drop (i + 1) ms)) pushed
     ∙ ap (λ (n : ℕ). places ++ at ∷ [] ++ places_from n (drop (i + 1) ms)) size
     ∙ append_assoc places (at ∷ []) (places_from (at + length (module_bytes m)) (drop (i + 1) ms))
@@ -104,11 +104,11 @@ quarter n = by_cases (nat_lt 16383 n) (nat_lt 65534 (4 * n)) refl refl
 pub too_large_is : (ms : List ModuleValue) (names places dictionary bytes : List ℕ) → names ≡ names_body ms
     → places ≡ places_from 10 ms → dictionary ≡ dictionary_body ms → bytes ≡ flat_map module_bytes ms
     → (nat_lt 65535 (length ms) || nat_lt 65534 (length names) || nat_lt 16383 (length places) || nat_lt 65534 (length dictionary)
-        || nat_lt 65535 ((10 + length bytes) / 128)) ≡ is_too_large ms
+    || nat_lt 65535 ((10 + length bytes) / 128)) ≡ is_too_large ms
 too_large_is ms names places dictionary bytes a b c d =
     let count : nat_lt 16383 (length places) ≡ nat_lt 65534 (length (locations_body ms)) =
     quarter (length places) ∙ ap (λ (n : ℕ). nat_lt 65534 (4 * n)) (ap (λ (l : List ℕ). length l) b)
-        ∙ ap (λ (n : ℕ). nat_lt 65534 n) (sym (locations_length (places_from 10 ms))) in
+    ∙ ap (λ (n : ℕ). nat_lt 65534 n) (sym (locations_length (places_from 10 ms))) in
     rw (count, a, c, d) refl
 
 -- ---- the file
@@ -120,19 +120,19 @@ pub file_is : (ms : List ModuleValue) (header modules names locations dictionary
     → modules ≡ flat_map module_bytes ms → names ≡ names_body ms
     → locations ≡ locations_body ms → dictionary ≡ dictionary_body ms
     → spelling 0x2C header ++ modules ++ spelling 0x28 names ++ spelling 0x26 locations ++ spelling 0x2A dictionary
-        ++ spelling 0x0E [] ≡ library_bytes ms
+    ++ spelling 0x0E [] ≡ library_bytes ms
 unfolding library_bytes
 file_is ms header modules names locations dictionary a b c d e =
     joined (spelling 0x2C header) modules (spelling 0x28 names) (spelling 0x26 locations) (spelling 0x2A dictionary)
-        (spelling 0x0E [])
+    (spelling 0x0E [])
     ∙ ap (λ (x : List ℕ). spelling 0x2C x ++ modules
-        ++ (spelling 0x28 names ++ (spelling 0x26 locations ++ (spelling 0x2A dictionary ++ []))) ++ spelling 0x0E []) a
+    ++ (spelling 0x28 names ++ (spelling 0x26 locations ++ (spelling 0x2A dictionary ++ []))) ++ spelling 0x0E []) a
     ∙ ap (λ (x : List ℕ). spelling 0x2C (header_body ms) ++ x
-        ++ (spelling 0x28 names ++ (spelling 0x26 locations ++ (spelling 0x2A dictionary ++ []))) ++ spelling 0x0E []) b
+    ++ (spelling 0x28 names ++ (spelling 0x26 locations ++ (spelling 0x2A dictionary ++ []))) ++ spelling 0x0E []) b
     ∙ ap (λ (x : List ℕ). spelling 0x2C (header_body ms) ++ flat_map module_bytes ms
-        ++ (spelling 0x28 x ++ (spelling 0x26 locations ++ (spelling 0x2A dictionary ++ []))) ++ spelling 0x0E []) c
+    ++ (spelling 0x28 x ++ (spelling 0x26 locations ++ (spelling 0x2A dictionary ++ []))) ++ spelling 0x0E []) c
     ∙ ap (λ (x : List ℕ). spelling 0x2C (header_body ms) ++ flat_map module_bytes ms
-        ++ (spelling 0x28 (names_body ms) ++ (spelling 0x26 x ++ (spelling 0x2A dictionary ++ []))) ++ spelling 0x0E []) d
+    ++ (spelling 0x28 (names_body ms) ++ (spelling 0x26 x ++ (spelling 0x2A dictionary ++ []))) ++ spelling 0x0E []) d
     ∙ ap (λ (x : List ℕ). spelling 0x2C (header_body ms) ++ flat_map module_bytes ms
-        ++ (spelling 0x28 (names_body ms) ++ (spelling 0x26 (locations_body ms) ++ (spelling 0x2A x ++ [])))
-        ++ spelling 0x0E []) e
+    ++ (spelling 0x28 (names_body ms) ++ (spelling 0x26 (locations_body ms) ++ (spelling 0x2A x ++ [])))
+    ++ spelling 0x0E []) e

@@ -72,7 +72,7 @@ impl LibraryFeed {
         // A fault lasts of all bytes so far, and is kept; out of memory is never kept.
         ensures fault { (fault : LibraryFaultValue) → self.old.kept ≡ None → fault ≢ LibraryFault.Memory → result ≡ Err fault
             → LastingLibraryFault (self.old.bytes ++ piece.now) fault
-                × (self.new ≡ record { bytes = self.old.bytes; kept = Some fault }) }
+            × (self.new ≡ record { bytes = self.old.bytes; kept = Some fault }) }
         ensures memory { result ≡ Err LibraryFault.Memory → self.new ≡ self.old }
     {
         counted_have_none();

@@ -39,10 +39,10 @@ pub one_taken : (before : List Common) (bytes : List ℕ) (now : List Common) (r
     → CommonsSoFar before bytes (now ++ common_of e ∷ []) after
 one_taken before bytes now rest after e s read spelled named new =
     let flat : flat_map common_bytes (s.front ++ e ∷ []) ≡ flat_map common_bytes s.front ++ common_bytes e =
-        flat_map-append common_bytes s.front (e ∷ [])
-        ∙ ap (λ (b : List ℕ). flat_map common_bytes s.front ++ b) (append-nil (common_bytes e)) in
+    flat_map-append common_bytes s.front (e ∷ [])
+    ∙ ap (λ (b : List ℕ). flat_map common_bytes s.front ++ b) (append-nil (common_bytes e)) in
     let mapped : map common_of (s.front ++ e ∷ []) ≡ map common_of s.front ++ common_of e ∷ [] =
-        map-append common_of s.front (e ∷ []) in
+    map-append common_of s.front (e ∷ []) in
     record {
       front = s.front ++ e ∷ [];
       joined = s.joined ∙ (ap (λ (b : List ℕ). flat_map common_bytes s.front ++ b) spelled
@@ -56,7 +56,7 @@ one_taken before bytes now rest after e s read spelled named new =
           ∙ (append_assoc before (map common_of s.front) (common_of e ∷ []) ∙ ap (λ (b : List Common). before ++ b) (sym mapped));
       new = subst (λ (b : List Common). each_after is_new_common before b ≡ true) (sym mapped)
           (each_after_push is_new_common before (map common_of s.front) (common_of e) s.new
-              (subst (λ (b : List Common). is_new_common b (common_of e) ≡ true) s.all new));
+          (subst (λ (b : List Common). is_new_common b (common_of e) ≡ true) s.all new));
       later_fault = λ fault f. s.later_fault fault (later now (common_of e) rest after fault read f);
     }
 
@@ -64,16 +64,19 @@ pub all_taken : (before : List Common) (bytes : List ℕ) (now : List Common) (r
     → rest ≡ [] → TakesCommons before bytes now
 all_taken before bytes now rest s end = record {
   entries = s.front;
-  spelled = record { joined = s.joined
-      ∙ (ap (λ (b : List ℕ). flat_map common_bytes s.front ++ b) end ∙ append-nil (flat_map common_bytes s.front)); sound =
-      s.sound };
+  spelled = record {
+    joined = s.joined
+        ∙ (ap (λ (b : List ℕ). flat_map common_bytes s.front ++ b) end ∙ append-nil (flat_map common_bytes s.front));
+    sound =
+        s.sound;
+  };
   all = s.all;
   new = s.new;
 }
 
 pub refused : (before : List Common) (bytes : List ℕ) (now : List Common) (rest : List ℕ) (fault : FieldFault) (why : Cause)
     → CommonsSoFar before bytes now rest → 0 < length rest → read_new_common now rest ≡ Err fault → why ≡ commons_cause fault
-        → RefusesCommons before bytes why
+    → RefusesCommons before bytes why
 refused before bytes now rest fault why s some faulted is =
     record { fault = fault; is = is; faults = s.later_fault fault (here now rest fault some faulted) }
 

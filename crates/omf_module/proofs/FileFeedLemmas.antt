@@ -77,7 +77,7 @@ end_came s one none bytes more at within whole e = by_fault (fault_at (drop at b
         record { next = r.0; body = r.2; spelled = subst (λ (k : ℕ). SpellsRecord bytes at r.0 k r.2) (sym same.0) r.3 }
     by_fault (Some f) fault =
         absurd (some_none (fault_at (drop at (bytes ++ more)) at) f (record_fault_stays s bytes more at f within whole fault)
-            ((none (bytes ++ more) at).1 (e.next, 14, e.body, e.spelled)))
+        ((none (bytes ++ more) at).1 (e.next, 14, e.body, e.spelled)))
 
 -- ---- a module's fault as its file's
 
@@ -121,20 +121,20 @@ waits_unended : Stay → TruncatedCanBeSpoilt → OneFault → (bytes : List ℕ
 waits_unended s law one bytes at inside waits e =
     let u = undone s law bytes at inside waits in
     (goes_on one (bytes ++ u.more) at (fault_by u.at (Record (BadSum u.at))) u.later (λ x. cc)).unended
-        (end_stays s bytes u.more at e)
+    (end_stays s bytes u.more at e)
 
 -- the fault of a file that waits for bytes
 waiting_fault : Stay → TruncatedCanBeSpoilt → OneFault → (bytes : List ℕ) (at : ℕ) (ms : List ModuleValue) (f : ModuleFault)
     → SpellsModules bytes 0 at ms → at ≤ length bytes → WaitsModule bytes at → (0 < length ms → at < length bytes)
-        → FaultsModule bytes at f → FaultsFile bytes f
+    → FaultsModule bytes at f → FaultsFile bytes f
 waiting_fault s law one bytes at ms f spelled inside waits within x =
     next_fault bytes at ms f spelled
-        (λ some. record { within = within some; unended = waits_unended s law one bytes at inside waits }) x
+    (λ some. record { within = within some; unended = waits_unended s law one bytes at inside waits }) x
 
 pub waiting_answer : Stay → TruncatedCanBeSpoilt → OneFault → (bytes : List ℕ) (read : Progress) (f : ModuleFault)
     → ReadsFile bytes read → WaitsModule bytes read.unfinished.begin
     → (0 < length read.modules.items → read.unfinished.begin < length bytes)
-        → OrNoMemory (FaultsModule bytes read.unfinished.begin) f → OrNoMemory (FaultsFile bytes) f
+    → OrNoMemory (FaultsModule bytes read.unfinished.begin) f → OrNoMemory (FaultsFile bytes) f
 waiting_answer s law one bytes read f r waits within (inl none) = inl none
 waiting_answer s law one bytes read f r waits within (inr x) =
     inr (waiting_fault s law one bytes read.unfinished.begin read.modules.items f r.spelled r.inside waits within x)
@@ -170,11 +170,14 @@ record NowFaults (bytes : List ℕ) (place : ℕ) : Type 0 where
 
 waits_now : Stay → TruncatedCanBeSpoilt → OneFault → (bytes : List ℕ) (at : ℕ) (ms : List ModuleValue) (u : Undone bytes at)
     → SpellsModules bytes 0 at ms → at ≤ length bytes → WaitsModule bytes at → (at < length bytes) ⊎ (length bytes ≤ at)
-        → (ms ≡ []) ⊎ (0 < length ms) → NowFaults bytes u.at
+    → (ms ≡ []) ⊎ (0 < length ms) → NowFaults bytes u.at
 waits_now s law one bytes at ms u spelled inside waits (inl within) any =
-    record { fault = fault_by u.at u.why;
-        faults = waiting_fault s law one bytes at ms (fault_by u.at u.why) spelled inside waits (λ _. within) u.now; other =
-        u.other }
+    record {
+      fault = fault_by u.at u.why;
+      faults = waiting_fault s law one bytes at ms (fault_by u.at u.why) spelled inside waits (λ _. within) u.now;
+      other =
+          u.other;
+    }
 waits_now s law one bytes at ms u spelled inside waits (inr past) (inl none) = record {
   fault = fault_by u.at u.why;
   faults = waiting_fault s law one bytes at ms (fault_by u.at u.why) spelled inside waits
@@ -189,7 +192,7 @@ changes : OneFileFault → (bytes more : List ℕ) (f g h : ModuleFault) → Las
     → FaultsFile bytes g → FaultsFile (bytes ++ more) h → (g.cause ≡ h.cause → ⊥) → ⊥
 changes one bytes more f g h lasts small x y other =
     other (ap (λ (k : ModuleFault). k.cause) (sym (one bytes f g (no_file_more bytes f lasts) x)
-        ∙ one (bytes ++ more) f h (lasts more small) y))
+    ∙ one (bytes ++ more) f h (lasts more small) y))
 
 waits_have_none : Stay → TruncatedCanBeSpoilt → OneFault → OneFileFault
     → (bytes : List ℕ) (at : ℕ) (ms : List ModuleValue) (f : ModuleFault)
@@ -199,7 +202,7 @@ waits_have_none s law one one_file bytes at ms f spelled inside waits lasts =
     let n = waits_now s law one bytes at ms u spelled inside waits (cases_lt at (length bytes)) (some_cases ms) in
     let spoilt : ModuleFault = fault_by u.at (Record (BadSum u.at)) in
     let later = next_fault (bytes ++ u.more) at ms spoilt (modules_stay s bytes u.more 0 at ms spelled)
-        (λ _. goes_on one (bytes ++ u.more) at spoilt u.later (λ x. cc)) u.later in
+    (λ _. goes_on one (bytes ++ u.more) at spoilt u.later (λ x. cc)) u.later in
     changes one_file bytes u.more f n.fault spoilt lasts u.small n.faults later n.other
 
 -- ---- where reading stops
@@ -213,13 +216,13 @@ pub stops_none : Stay → TruncatedCanBeSpoilt → OneFault → OneFileFault →
     → ReadsFile bytes read → Stops bytes read ended → (f : ModuleFault) → LastingFileFault bytes f → ⊥
 stops_none s law one one_file never bytes read true r e f lasts =
     never bytes read.modules.items f (file_read bytes read.unfinished.begin read.modules.items r.spelled e)
-        (no_file_more bytes f lasts)
+    (no_file_more bytes f lasts)
 stops_none s law one one_file never bytes read false r waits f lasts =
     waits_have_none s law one one_file bytes read.unfinished.begin read.modules.items f r.spelled r.inside waits lasts
 
 stops_last : Stay → TruncatedCanBeSpoilt → NeverBoth → (bytes : List ℕ) (read : Progress) (ended : Bool)
     → ReadsFile bytes read → Stops bytes read ended → (after : ℕ) (m : ModuleValue)
-        → SpellsModule bytes read.unfinished.begin after m → ⊥
+    → SpellsModule bytes read.unfinished.begin after m → ⊥
 stops_last s law never bytes read true r e after m x =
     never bytes read.unfinished.begin after m (fault_by read.unfinished.begin NoHeader) x
     (ended_module bytes read.unfinished.begin e.ends)
@@ -241,12 +244,14 @@ stops_counted s law never bytes read ended r stops = record {
 pub module_fault_lasts : Stay → TruncatedCanBeSpoilt → OneFault → OneRecordAtEachPlace → NoFaultExactlyAtRecords
     → (bytes : List ℕ) (at : ℕ) (ms : List ModuleValue) (f : ModuleFault)
     → SpellsModules bytes 0 at ms → at ≤ length bytes → (0 < length ms → EndsFile bytes at → ⊥)
-        → OrNoMemory (LastingModuleFault bytes at) f → OrNoMemory (LastingFileFault bytes) f
+    → OrNoMemory (LastingModuleFault bytes at) f → OrNoMemory (LastingFileFault bytes) f
 module_fault_lasts s law one one_record none bytes at ms f spelled inside goes (inl memory) = inl memory
 module_fault_lasts s law one one_record none bytes at ms f spelled inside goes (inr lasts) =
     inr (λ more small. next_fault (bytes ++ more) at ms f (modules_stay s bytes more 0 at ms spelled)
-    (λ some. record { within = omega (arith, within, length-append bytes more);
-        unended = λ e. goes some (end_came s one_record none bytes more at within whole e) }) (lasts more small))
+    (λ some. record {
+      within = omega (arith, within, length-append bytes more);
+      unended = λ e. goes some (end_came s one_record none bytes more at within whole e);
+    }) (lasts more small))
   where
     whole : IsCutOff bytes at → ⊥
     whole cut = waits_none s law one bytes at f inside (inl cut) lasts
@@ -299,7 +304,7 @@ grows_none before after same = record { more = []; joined = same ∙ sym (append
 count_from : OneModule → (bytes : List ℕ) (from to to' : ℕ) (ms ns : List ModuleValue) → SpellsModules bytes from to ms
     → SpellsModules bytes from to' ns
     → ((after : ℕ) (m : ModuleValue) → SpellsModule bytes to after m → ⊥)
-        → ((after : ℕ) (m : ModuleValue) → SpellsModule bytes to' after m → ⊥) → length ms ≡ length ns
+    → ((after : ℕ) (m : ModuleValue) → SpellsModule bytes to' after m → ⊥) → length ms ≡ length ns
 count_from one bytes from to to' [] [] s t last last' = refl
 count_from one bytes from to to' [] (n ∷ ns) s t last last' =
     absurd (last t.0 n (subst (λ (a : ℕ). SpellsModule bytes a t.0 n) s t.1))

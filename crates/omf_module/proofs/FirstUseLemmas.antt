@@ -47,8 +47,8 @@ first_unknown m (id ∷ ids) =
     elim (has_segment m.commons id) as (λ b.
     cond b (unknown_id m ids) (Some (SegmentUnknown id))
     ≡ first (map SegmentUnknown
-        (cond (not b) (id ∷ filter (λ i. not (has_segment m.commons i)) ids)
-        (filter (λ i. not (has_segment m.commons i)) ids)))) [
+    (cond (not b) (id ∷ filter (λ i. not (has_segment m.commons i)) ids)
+    (filter (λ i. not (has_segment m.commons i)) ids)))) [
       | true ↦ first_unknown m ids
       | false ↦ refl
     ]
@@ -66,7 +66,7 @@ first_reference : (m : ModuleValue) (nearest : Option ContentValue) (body : Body
     → reference_fault m nearest body ≡ first (causes_of_fixups m nearest body)
 first_reference m None body =
     elim (is_reference body) as
-        (λ b. cond b (Some FixupBeforeContent) None ≡ first (cond b (FixupBeforeContent ∷ []) [])) [ true ↦ refl | false ↦ refl ]
+    (λ b. cond b (Some FixupBeforeContent) None ≡ first (cond b (FixupBeforeContent ∷ []) [])) [ true ↦ refl | false ↦ refl ]
 first_reference m (Some c) body =
     ap (λ (d : ContentValue). fixups_fault m d (fixups_in c.segment body)) (sym (no_fixups_more c))
     ∙ first_fixup m c [] (fixups_in c.segment body)
@@ -81,9 +81,9 @@ first_in m nearest body =
     ∙ ap (λ (o : Option Cause). option_or (first ids) o) (first_of_both place fixups)
     ∙ ap (λ (o : Option Cause). option_or o (option_or (first place) (first fixups))) (sym (first_unknown m (ids_in body)))
     ∙ ap (λ (o : Option Cause). option_or (unknown_id m (ids_in body)) (option_or o (first fixups)))
-        (first_of_option (place_fault m body))
+    (first_of_option (place_fault m body))
     ∙ ap (λ (o : Option Cause). option_or (unknown_id m (ids_in body)) (option_or (place_fault m body) o))
-        (sym (first_reference m nearest body)))
+    (sym (first_reference m nearest body)))
 
 first_at : (at : ℕ) (o : Option Cause) (causes : List Cause) → o ≡ first causes
     → option_map (fault_by at) o ≡ first (faults_at at causes)
@@ -117,7 +117,7 @@ last_content (p ∷ ps) c = last_first c p.at p.body ps (last_content ps)
 
 begun_last : (at : ℕ) (body : Body) (ps : List PlacedBody) → last_or None (contents_from None ps) ≡ after_all None ps
     → last_or None (contents_from None (record { at = at; body = body } ∷ ps))
-        ≡ after_all None (record { at = at; body = body } ∷ ps)
+    ≡ after_all None (record { at = at; body = body } ∷ ps)
 begun_last at (Content b) ps later =
     last_content ps (record { segment = b.segment; offset = b.offset; bytes = b.bytes; fixups = [] }) None
 begun_last at body ps later = later
@@ -138,10 +138,10 @@ first_from m before (p ∷ ps) =
     let own : List ModuleFault = faults_in m (before, p) in
     let later : List ModuleFault = flat_map (faults_in m) (with_earlier (before ++ p ∷ []) ps) in
     let near : body_fault m (after_all None before) p.body ≡ first (causes_in m (nearest_content before) p.body) =
-        ap (λ (n : Option ContentValue). body_fault m n p.body) (sym (nearest_is before))
-            ∙ first_in m (nearest_content before) p.body in
+    ap (λ (n : Option ContentValue). body_fault m n p.body) (sym (nearest_is before))
+    ∙ first_in m (nearest_content before) p.body in
     ap (λ (o : Option ModuleFault). option_or o (bodies_fault m (content_after (after_all None before) p.body) ps))
-        (first_at p.at _ _ near)
+    (first_at p.at _ _ near)
     ∙ ap (λ (n : Option ContentValue). option_or (first own) (bodies_fault m n ps)) (sym (after_push None before p))
     ∙ ap (λ (o : Option ModuleFault). option_or (first own) o) (first_from m (before ++ p ∷ []) ps)
     ∙ sym (first_of_both own later)
@@ -159,8 +159,8 @@ use_fault_is_the_first r =
     sym (first_of_both front (bodies_faults m r.within ++ back)
     ∙ ap (λ (o : Option ModuleFault). option_or (first front) o) (first_of_both (bodies_faults m r.within) back)
     ∙ ap (λ (o : Option ModuleFault). option_or o (option_or (first (bodies_faults m r.within)) (first back)))
-        (sym (first_at r.at _ _ (first_unknown m ids)))
+    (sym (first_at r.at _ _ (first_unknown m ids)))
     ∙ ap (λ (o : Option ModuleFault). option_or (header_fault m r) (option_or o (first back)))
-        (sym (bodies_fault_is_the_first m r.within))
+    (sym (bodies_fault_is_the_first m r.within))
     ∙ ap (λ (o : Option ModuleFault). option_or (header_fault m r) (option_or (bodies_fault m None r.within) o))
-        (sym (first_at r.end_at _ _ (first_unknown m start))))
+    (sym (first_at r.end_at _ _ (first_unknown m start))))

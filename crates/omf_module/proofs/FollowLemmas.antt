@@ -31,7 +31,7 @@ goes_further bytes at next kind body r = omega (arith, r.all_counted)
 
 pub begun : (bytes : List ℕ) (at next kind : ℕ) (body : List ℕ) (b : Body) (header : HeaderBody)
     → SpellsRecord bytes at next kind body → length body ≤ 65534 → Spells kind body b → b ≡ ModuleHeader header
-        → BeginsModule bytes at next header
+    → BeginsModule bytes at next header
 begun bytes at next kind body b header r fits s is = record {
   spelled = subst (λ (x : Body). SpellsBody bytes at next x) is (body_spelled bytes at next kind body b r fits s);
   further = goes_further bytes at next kind body r;
@@ -49,7 +49,7 @@ may_stand kind before _ is alone = (inr refl, refl)
 
 pub followed : (bytes : List ℕ) (at next kind : ℕ) (body : List ℕ) (before : List Common) (b : Body)
     → SpellsRecord bytes at next kind body → length body ≤ 65534 → Spells kind body b → IsTrue (stands_alone kind)
-        → Follows bytes at next before before b
+    → Follows bytes at next before before b
 followed bytes at next kind body before b r fits s alone =
     let may = may_stand kind before b s.of_kind alone in
     record {
@@ -73,7 +73,7 @@ commons_spelled_by kind before after body is t =
 pub followed_commons : (bytes : List ℕ) (at next kind : ℕ) (body : List ℕ) (before after : List Common) (b : Body)
     (t : TakesCommons before body after)
     → kind ≡ 0x2E → SpellsRecord bytes at next kind body → length body ≤ 65534 → b ≡ NamedCommons t.entries
-        → Follows bytes at next before after b
+    → Follows bytes at next before after b
 followed_commons bytes at next kind body before after b t of_kind r fits is =
     subst (λ (x : Body). Follows bytes at next before after x) (sym is) (record {
       spelled = body_spelled bytes at next 0x2E body (NamedCommons t.entries)

@@ -21,14 +21,14 @@ fixups_twice c xs ys = ap (λ (fixups : List Fixup). record c { fixups = fixups 
 -- the fixups of one record and of those after it
 fixups_of_first : (own : ℕ) (p : PlacedBody) (ps : List PlacedBody)
     → fixups_up_to_content own (p ∷ ps)
-        ≡ cond (not (begins_content p.body)) (fixups_in own p.body ++ fixups_up_to_content own ps) []
+    ≡ cond (not (begins_content p.body)) (fixups_in own p.body ++ fixups_up_to_content own ps) []
 fixups_of_first own p ps =
     let all : List PlacedBody → List Fixup = flat_map (λ q. fixups_in own q.body) in
     let front : List PlacedBody = take_while (λ q. not (begins_content q.body)) ps in
     ap all (take_while-cons (λ q. not (begins_content q.body)) p ps)
     ∙ elim (not (begins_content p.body)) as
-        (λ b. flat_map (λ q. fixups_in own q.body) (cond b (p ∷ front) [])
-        ≡ cond b (fixups_in own p.body ++ flat_map (λ q. fixups_in own q.body) front) []) [
+    (λ b. flat_map (λ q. fixups_in own q.body) (cond b (p ∷ front) [])
+    ≡ cond b (fixups_in own p.body ++ flat_map (λ q. fixups_in own q.body) front) []) [
       | true ↦ refl
       | false ↦ refl
     ]
@@ -44,7 +44,7 @@ gathers_first c at (Content b) ps later =
     let new : ContentValue = record { segment = b.segment; offset = b.offset; bytes = b.bytes; fixups = [] } in
     ap (λ (l : List ContentValue). c ∷ l) (later new)
     ∙ ap (λ (d : ContentValue). d ∷ contents_begun (p ∷ ps))
-        (sym (ap (with_fixups c) (fixups_of_first c.segment p ps) ∙ no_fixups_more c))
+    (sym (ap (with_fixups c) (fixups_of_first c.segment p ps) ∙ no_fixups_more c))
 gathers_first c at body ps later =
     later (with_fixups c (fixups_in c.segment body))
     ∙ ap (λ (d : ContentValue). d ∷ contents_begun ps)

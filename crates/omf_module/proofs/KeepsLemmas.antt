@@ -110,7 +110,7 @@ entries_new commons before (e ∷ es) known distinct apart =
     let d = and_parts (not (list_any (λ d. d.id == e.id) es)) (are_distinct es) distinct in
     let a = and_parts (not (list_any (has_id e.id) before)) (are_apart before es) apart in
     rw (k.0, a.0) (entries_new commons (before ++ entry_of e ∷ []) es k.1 d.1
-        (apart_push before e es a.1 (not-true (list_any (λ d. d.id == e.id) es) d.0)))
+    (apart_push before e es a.1 (not-true (list_any (λ d. d.id == e.id) es) d.0)))
 
 none_before : (es : List SegmentEntry) → are_apart [] es ≡ true
 none_before [] = refl
@@ -125,7 +125,7 @@ commons_new commons (p ∷ ps) e =
     let parts = and_parts (may_follow commons p.body) (each_follows (commons ++ commons_in p.body) ps) e in
     let here = and_parts (stands_within p.body) (each_after is_new_common commons (commons_in p.body)) parts.0 in
     each_after_both is_new_common commons (commons_in p.body) (commons_of ps) here.1
-        (commons_new (commons ++ commons_in p.body) ps parts.1)
+    (commons_new (commons ++ commons_in p.body) ps parts.1)
 
 -- ---- publics
 
@@ -147,7 +147,7 @@ pub first_sound : (m : ModuleValue) (nearest : Option ContentValue) (p : PlacedB
     → Sound m nearest p.body × (bodies_fault m (content_after nearest p.body) ps ≡ None)
 first_sound m nearest p ps e =
     let a = neither (option_map (fault_by p.at) (body_fault m nearest p.body))
-        (bodies_fault m (content_after nearest p.body) ps) e in
+    (bodies_fault m (content_after nearest p.body) ps) e in
     (body_sound m nearest p.body (none_mapped (fault_by p.at) (body_fault m nearest p.body) a.0), a.1)
 
 abbrev is_public : List Common → Public → Bool
@@ -166,7 +166,7 @@ publics_keep m nearest [] e = refl
 publics_keep m nearest (p ∷ ps) e =
     let s = first_sound m nearest p ps e in
     all_both (is_public m.commons) (publics_in p.body) (flat_map (λ p. publics_in p.body) ps) (publics_there m p.body s.0.known)
-        (publics_keep m (content_after nearest p.body) ps s.1)
+    (publics_keep m (content_after nearest p.body) ps s.1)
 
 -- ---- fixups
 
@@ -201,9 +201,9 @@ one_fitting : (m : ModuleValue) (c : ContentValue) (f : Fixup) → is_reaching m
     → is_fitting m.commons (length m.externals) c.offset (length c.bytes) c.fixups f ≡ true
 one_fitting m c f reaches e =
     let inside = passed (not (is_inside c.offset (length c.bytes) f)) FixupOutside (if shares_a_byte c.fixups f
-        then Some FixupTwice else (if lacks_external m f.target then Some IndexUnknown else None)) e in
+    then Some FixupTwice else (if lacks_external m f.target then Some IndexUnknown else None)) e in
     let apart = passed (shares_a_byte c.fixups f) FixupTwice (if lacks_external m f.target then Some IndexUnknown
-        else None) inside.1 in
+    else None) inside.1 in
     let there = passed (lacks_external m f.target) IndexUnknown None apart.1 in
     rw (not-false (is_inside c.offset (length c.bytes) f) inside.0, apart.0) (target_there m f.target reaches there.0)
 
@@ -239,12 +239,17 @@ content_fits : (m : ModuleValue) (b : ContentBody) → length (body_bytes (Conte
     → unknown_id m (b.segment ∷ []) ≡ None → place_fault m (Content b) ≡ None → fits m (content_of b) ≡ true
 content_fits m b size known e =
     let stack = passed (b.segment == 3) (SegmentUnknown 3) (if nat_lt (end_of m.segments b.segment) (b.offset + length b.bytes)
-        then Some OffsetOutside else None) e in
+    then Some OffsetOutside else None) e in
     let outside = passed (nat_lt (end_of m.segments b.segment) (b.offset + length b.bytes)) OffsetOutside None stack.1 in
     let within : b.offset + length b.bytes ≤ end_of m.segments b.segment =
-        ltb-false (end_of m.segments b.segment) (b.offset + length b.bytes) outside.0 in
-    rw (one_known m b.segment known, stack.0, le-leb (b.offset + length b.bytes)
-        (end_of m.segments b.segment) within, content_short b size)
+    ltb-false (end_of m.segments b.segment) (b.offset + length b.bytes) outside.0 in
+    rw (
+      one_known m b.segment known,
+      stack.0,
+      le-leb (b.offset + length b.bytes)
+          (end_of m.segments b.segment) within,
+      content_short b size,
+    )
 
 abbrev pub all_fit : ModuleValue → Option ContentValue → Type 0
 all_fit m nearest = list_all (fits m) (option_to_list nearest) ≡ true
@@ -259,7 +264,7 @@ references_fit m (Some c) b s fit =
     let one = and_parts (fits m c) true fit in
     let placed = and_parts (is_in_bounds m.segments m.commons c) (has_fitting m.commons (length m.externals) c) one.0 in
     rw (fits_with m c (fixups_in c.segment b) one.0
-        (references_reach m c.segment b (in_bounds_parts m.segments m.commons c placed.0).has s.known) s.references)
+    (references_reach m c.segment b (in_bounds_parts m.segments m.commons c placed.0).has s.known) s.references)
 
 after_fits : (m : ModuleValue) (nearest : Option ContentValue) (b : Body) → length (body_bytes b) ≤ 65534 → Sound m nearest b
     → all_fit m nearest → all_fit m (content_after nearest b)
@@ -272,15 +277,15 @@ all_if p false xs e = refl
 
 contents_keep : (bytes : List ℕ) (from to : ℕ) (m : ModuleValue) (nearest : Option ContentValue) (ps : List PlacedBody)
     → SpellsBodies bytes from to ps → bodies_fault m nearest ps ≡ None → all_fit m nearest
-        → list_all (fits m) (contents_from nearest ps) ≡ true
+    → list_all (fits m) (contents_from nearest ps) ≡ true
 contents_keep bytes from to m nearest [] s e fit = fit
 contents_keep bytes from to m nearest (p ∷ ps) s e fit =
     let here = first_sound m nearest p ps e in
     all_both (fits m) (if begins_content p.body then option_to_list nearest else [])
-        (contents_from (content_after nearest p.body) ps)
+    (contents_from (content_after nearest p.body) ps)
     (all_if (fits m) (begins_content p.body) (option_to_list nearest) fit)
     (contents_keep bytes s.1.0 to m (content_after nearest p.body) ps s.1.2 here.1
-        (after_fits m nearest p.body s.1.1.fits here.0 fit))
+    (after_fits m nearest p.body s.1.1.fits here.0 fit))
 
 -- ---- the start
 
@@ -306,10 +311,14 @@ keeps bytes after r s e =
     let m : ModuleValue = parts_of r in
     let none = each_without r e in
     let listed = all_known m (map (λ e. e.id) r.header.segments)
-        (none_mapped (fault_by r.at) (unknown_id m (map (λ e. e.id) r.header.segments)) none.0) in
+    (none_mapped (fault_by r.at) (unknown_id m (map (λ e. e.id) r.header.segments)) none.0) in
     let distinct = and_parts (is_name r.header.name) (are_distinct r.header.segments) s.header.sound in
     let ids = option_to_list (option_map (λ place. place.segment) r.end.start) in
-    rw (entries_new m.commons [] r.header.segments listed distinct.1
-        (none_before r.header.segments), commons_new [] r.within s.follow, publics_keep m None r.within none.1.0)
+    rw (
+      entries_new m.commons [] r.header.segments listed distinct.1
+          (none_before r.header.segments),
+      commons_new [] r.within s.follow,
+      publics_keep m None r.within none.1.0,
+    )
     (rw (contents_keep bytes s.first r.end_at m None r.within s.within none.1.0 refl)
-        (start_there m r.end.start (none_mapped (fault_by r.end_at) (unknown_id m ids) none.1.1)))
+    (start_there m r.end.start (none_mapped (fault_by r.end_at) (unknown_id m ids) none.1.1)))

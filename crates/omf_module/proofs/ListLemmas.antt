@@ -11,7 +11,7 @@ each_after_both {A} test before (x ∷ xs) ys a b =
     let parts = and_parts (test before x) (each_after test (before ++ x ∷ []) xs) a in
     and_from (test before x) (each_after test (before ++ x ∷ []) (xs ++ ys)) parts.0
     (each_after_both test (before ++ x ∷ []) xs ys parts.1
-        (subst (λ (z : List A). each_after test z ys ≡ true) (sym (append_assoc before (x ∷ []) xs)) b))
+    (subst (λ (z : List A). each_after test z ys ≡ true) (sym (append_assoc before (x ∷ []) xs)) b))
 
 pub each_after_parts : {A : Type 0} (test : List A → A → Bool) (before xs ys : List A) → each_after test before (xs ++ ys) ≡ true
     → (each_after test before xs ≡ true) × (each_after test (before ++ xs) ys ≡ true)

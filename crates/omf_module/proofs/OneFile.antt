@@ -39,8 +39,8 @@ module_ends : Below → (bytes : List ℕ) (at after : ℕ) (m : ModuleValue) �
 module_ends b bytes at after m s e =
     let h = header_at bytes at after s.records s.spelled s.begins in
     other_kinds 0x02 0x0E refl refl
-        (b.one_record bytes at s.spelled.first e.next 0x02 0x0E
-        (body_bytes (ModuleHeader s.records.header)) e.body h.framed e.spelled).0
+    (b.one_record bytes at s.spelled.first e.next 0x02 0x0E
+    (body_bytes (ModuleHeader s.records.header)) e.body h.framed e.spelled).0
   where
     other_kinds : (x y : ℕ) → x ≡ 2 → y ≡ 14 → x ≡ y → ⊥
     other_kinds x y p q e = omega (arith, p, q, e)
@@ -51,7 +51,7 @@ tail_module b bytes first at after m o (ended n e) s = module_ends b bytes at af
 tail_module b bytes first at after m o (faulted f x y) s = never_both b bytes at after m f s x
 tail_module b bytes first at after m o (unended n past) s =
     let h = header_at bytes at after s.records s.spelled s.begins in
-        past_spelled bytes at s.spelled.first 0x02 (body_bytes (ModuleHeader s.records.header)) past h.framed
+    past_spelled bytes at s.spelled.first 0x02 (body_bytes (ModuleHeader s.records.header)) past h.framed
 
 goes_on : (bytes : List ℕ) (first : Bool) (at : ℕ) → first ≡ false
     → ((first ≡ true) ⊎ ((at < length bytes) × (EndsFile bytes at → ⊥))) → (at < length bytes) × (EndsFile bytes at → ⊥)
@@ -81,8 +81,11 @@ one_run b bytes first at (m ∷ ms) [] o p r s = absurd (tail_module b bytes fir
 one_run b bytes first at (m ∷ ms) (n ∷ ns) o p r s =
     let same = one_module b bytes at r.0 s.0 m n r.1 s.1 in
     let rest = one_run b bytes false s.0 ms ns o p (subst (λ (a : ℕ). Run bytes false a ms o) same.1 r.2) s.2 in
-    record { modules = ap (λ (x : ModuleValue). x ∷ ms) same.0
-        ∙ ap (λ (xs : List ModuleValue). n ∷ xs) rest.modules; out = rest.out }
+    record {
+      modules = ap (λ (x : ModuleValue). x ∷ ms) same.0
+          ∙ ap (λ (xs : List ModuleValue). n ∷ xs) rest.modules;
+      out = rest.out;
+    }
 
 file_run : (bytes : List ℕ) (ms : List ModuleValue) → SpellsFile bytes ms → Run bytes true 0 ms (inr tt)
 file_run bytes ms s = from_start bytes s.end ms (inr tt) s.some s.spelled (ended refl s.ends)

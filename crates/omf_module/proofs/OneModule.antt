@@ -34,14 +34,14 @@ Run bytes commons at (p ∷ ps) out = (p.at ≡ at)
 
 to_run : (bytes : List ℕ) (commons : List Common) (from to : ℕ) (ps : List PlacedBody) (out : ModuleFault ⊎ (ℕ × EndBody × ℕ))
     → SpellsBodies bytes from to ps → IsTrue (each_follows commons ps) → Tail bytes (commons ++ commons_of ps) to out
-        → Run bytes commons from ps out
+    → Run bytes commons from ps out
 to_run bytes commons from to [] out s f t =
     subst (λ (c : List Common). Tail bytes c from out) (append-nil commons)
     (subst (λ (a : ℕ). Tail bytes (commons ++ []) a out) (sym s) t)
 to_run bytes commons from to (p ∷ ps) out s f t =
     let parts = and_parts (may_follow commons p.body) (each_follows (commons ++ commons_in p.body) ps) f in
     let tail = subst (λ (c : List Common). Tail bytes c to out)
-        (sym (append_assoc commons (commons_in p.body) (commons_of ps))) t in
+    (sym (append_assoc commons (commons_in p.body) (commons_of ps))) t in
     (s.0, (s.1.0, s.1.1, parts.0, to_run bytes (commons ++ commons_in p.body) s.1.0 to ps out s.1.2 parts.1 tail))
 
 end_same : (x y : EndBody) → ModuleEnd x ≡ ModuleEnd y → x ≡ y
@@ -90,7 +90,7 @@ one_run b bytes commons at (x ∷ xs) (y ∷ ys) o p r s =
     let same = same_body b bytes at r.1.0 s.1.0 x.body y.body r.1.1 s.1.1 in
     let rest = one_run b bytes (commons ++ commons_in y.body) s.1.0 xs ys o p
     (subst (λ (n : ℕ). Run bytes (commons ++ commons_in y.body) n xs o) same.1
-        (subst (λ (z : Body). Run bytes (commons ++ commons_in z) r.1.0 xs o) same.0 r.1.3)) s.1.3 in
+    (subst (λ (z : Body). Run bytes (commons ++ commons_in z) r.1.0 xs o) same.0 r.1.3)) s.1.3 in
     record {
       records = ap (λ (n : ℕ). placed n x.body ∷ xs) (r.0 ∙ sym s.0)
           ∙ (ap (λ (z : Body). placed y.at z ∷ xs) same.0 ∙ ap (λ (zs : List PlacedBody). y ∷ zs) rest.records);
@@ -122,10 +122,10 @@ same_records : Below → (bytes : List ℕ) (after after' : ℕ) (r s : ModuleRe
     → SpellsModuleRecords bytes after' s → SameRecords after after' r s
 same_records b bytes after after' r s at x y =
     let head = same_body b bytes s.at x.first y.first (ModuleHeader r.header) (ModuleHeader s.header)
-        (subst (λ (a : ℕ). SpellsBody bytes a x.first (ModuleHeader r.header)) at x.header) y.header in
+    (subst (λ (a : ℕ). SpellsBody bytes a x.first (ModuleHeader r.header)) at x.header) y.header in
     let run = one_run b bytes [] y.first r.within s.within (inr (r.end_at, r.end, after)) (inr (s.end_at, s.end, after'))
     (subst (λ (f : ℕ). Run bytes [] f r.within (inr (r.end_at, r.end, after))) head.1 (module_run bytes after r x))
-        (module_run bytes after' s y) in
+    (module_run bytes after' s y) in
     let ends = right_same (inr (r.end_at, r.end, after)) (r.end_at, r.end, after) (s.end_at, s.end, after') refl run.out in
     record {
       records =
@@ -151,16 +151,16 @@ ends_once b bytes after first r h f x head y =
     let same = same_body b bytes r.at x.first first (ModuleHeader r.header) (ModuleHeader h) x.header head in
     let run = one_run b bytes [] first r.within y.before (inr (r.end_at, r.end, after)) (inl f)
     (subst (λ (n : ℕ). Run bytes [] n r.within (inr (r.end_at, r.end, after))) same.1 (module_run bytes after r x))
-        (fault_run bytes first f y) in
+    (fault_run bytes first f y) in
     left_right (inl f) f (r.end_at, r.end, after) refl (sym run.out)
 
 faults_once : Below → (bytes : List ℕ) (at first first' : ℕ) (h h' : HeaderBody) (f g : ModuleFault)
     → SpellsBody bytes at first (ModuleHeader h) → FaultsRecords bytes first f → SpellsBody bytes at first' (ModuleHeader h')
-        → FaultsRecords bytes first' g → f ≡ g
+    → FaultsRecords bytes first' g → f ≡ g
 faults_once b bytes at first first' h h' f g hx x hy y =
     let same = same_body b bytes at first first' (ModuleHeader h) (ModuleHeader h') hx hy in
     let run = one_run b bytes [] first' x.before y.before (inl f) (inl g)
-        (subst (λ (n : ℕ). Run bytes [] n x.before (inl f)) same.1 (fault_run bytes first f x)) (fault_run bytes first' g y) in
+    (subst (λ (n : ℕ). Run bytes [] n x.before (inl f)) same.1 (fault_run bytes first f x)) (fault_run bytes first' g y) in
     left_same (inl f) f g refl run.out
 
 pub header_at : (bytes : List ℕ) (at : ℕ) (after : ℕ) (r : ModuleRecords) (s : SpellsModuleRecords bytes after r) → r.at ≡ at

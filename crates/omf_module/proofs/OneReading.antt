@@ -60,9 +60,11 @@ pub same_body : Below → (bytes : List ℕ) (at n m : ℕ) (x y : Body) → Spe
     → (x ≡ y) × (n ≡ m)
 same_body b bytes at n m x y s t =
     let same = b.one_record bytes at n m (kind_byte (body_kind x)) (kind_byte (body_kind y)) (body_bytes x)
-        (body_bytes y) s.framed t.framed in
-    (b.one_body (kind_byte (body_kind x)) (body_bytes x) x y (record { of_kind = refl; joined = refl; sound = s.sound })
-        (record { of_kind = same.0; joined = same.1; sound = t.sound }), same.2)
+    (body_bytes y) s.framed t.framed in (
+      b.one_body (kind_byte (body_kind x)) (body_bytes x) x y (record { of_kind = refl; joined = refl; sound = s.sound })
+          (record { of_kind = same.0; joined = same.1; sound = t.sound }),
+      same.2,
+    )
 
 -- ---- headers
 
@@ -141,35 +143,35 @@ read_new before e rest sound new =
     let n = new_common before (common_of e) new in
     cond-true (is_common_id e.id && not (has_common_id before e.id))
     (read_name (name_spelling e.name ++ rest) >>= λ name. if has_common_name before name.0 then Err BadField
-        else Ok (record { id = e.id; name = name.0 }, name.1))
+    else Ok (record { id = e.id; name = name.0 }, name.1))
     (Err BadField) (and_from (is_common_id e.id) (not (has_common_id before e.id)) n.id n.new_id)
     ∙ (ap (λ (r : Result (List ℕ × List ℕ) FieldFault). r >>= λ name. if has_common_name before name.0 then Err BadField
-        else Ok (record { id = e.id; name = name.0 }, name.1)) (name_again e.name rest s.1)
+    else Ok (record { id = e.id; name = name.0 }, name.1)) (name_again e.name rest s.1)
     ∙ cond-false (has_common_name before e.name) (Err BadField) (Ok (common_of e, rest))
-        (not-true (has_common_name before e.name) n.new_name))
+    (not-true (has_common_name before e.name) n.new_name))
 
 pub commons_sound : (before : List Common) (bytes : List ℕ) (f : FieldFault) → FaultsCommons before bytes f
     → (es : List CommonEntry)
     → bytes ≡ flat_map common_bytes es → IsTrue (list_all common_layout.is_sound es)
-        → IsTrue (each_after is_new_common before (map common_of es)) → ⊥
+    → IsTrue (each_after is_new_common before (map common_of es)) → ⊥
 commons_sound before bytes f (here _ _ _ some e) [] is sound new = omega (arith, some, ap (λ (x : List ℕ). length x) is)
 commons_sound before bytes f (here _ _ _ some e) (x ∷ xs) is sound new =
     let s = and_parts (is_common_id x.id && is_name x.name) (list_all common_layout.is_sound xs) sound in
     let n = and_parts (is_new_common before (common_of x))
-        (each_after is_new_common (before ++ common_of x ∷ []) (map common_of xs)) new in
+    (each_after is_new_common (before ++ common_of x ∷ []) (map common_of xs)) new in
     ok_err (read_new_common before bytes) (common_of x, flat_map common_bytes xs) f (ap (read_new_common before) is
-        ∙ read_new before x (flat_map common_bytes xs) s.0 n.0) e
+    ∙ read_new before x (flat_map common_bytes xs) s.0 n.0) e
 commons_sound before bytes f (later _ c _ rest _ d more) [] is sound new =
     ok_err (read_new_common before bytes) (c, rest) BadField d (ap (read_new_common before) is)
 commons_sound before bytes f (later _ c _ rest _ d more) (x ∷ xs) is sound new =
     let s = and_parts (is_common_id x.id && is_name x.name) (list_all common_layout.is_sound xs) sound in
     let n = and_parts (is_new_common before (common_of x))
-        (each_after is_new_common (before ++ common_of x ∷ []) (map common_of xs)) new in
+    (each_after is_new_common (before ++ common_of x ∷ []) (map common_of xs)) new in
     let same = ok_same (read_new_common before bytes) (c, rest) (common_of x, flat_map common_bytes xs) d
-        (ap (read_new_common before) is ∙ read_new before x (flat_map common_bytes xs) s.0 n.0) in
+    (ap (read_new_common before) is ∙ read_new before x (flat_map common_bytes xs) s.0 n.0) in
     commons_sound (before ++ c ∷ []) rest f more xs (ap (λ (p : Common × List ℕ). p.1) same) s.1
     (subst (λ (y : Common). IsTrue (each_after is_new_common (before ++ y ∷ []) (map common_of xs)))
-        (sym (ap (λ (p : Common × List ℕ). p.0) same)) n.1)
+    (sym (ap (λ (p : Common × List ℕ). p.0) same)) n.1)
 
 -- ---- records within a module
 
@@ -217,7 +219,7 @@ view bytes at commons why (second_header n body r) = stands n 0x02 body (Unknown
 view bytes at commons why (in_body n kind body f r alone e) =
     stands n kind body (cause_of f) r
     (alone_is (kind == 0x02) (kind == 0x0E) (kind == 0x2E) (cause_of f ≡ UnknownKind 0x02) (cause_of f ≡ NoEnd)
-        (CommonsFaulted commons body (cause_of f)) (BodyFaulted kind body (cause_of f)) alone
+    (CommonsFaulted commons body (cause_of f)) (BodyFaulted kind body (cause_of f)) alone
     (record { fault = f; is = refl; faults = e }))
 view bytes at commons why (in_commons n body f r e) =
     stands n 0x2E body (commons_cause f) r (record { fault = f; is = refl; faults = e })
@@ -234,11 +236,11 @@ one_record_fault b commons kind body why why' =
     (Chosen (kind == 0x0E) (why' ≡ NoEnd) (Chosen (kind == 0x2E) (CommonsFaulted commons body why') (BodyFaulted kind body why')))
     (why ≡ why') (λ e d. e ∙ sym d)
     (chosen_one (kind == 0x0E) (why ≡ NoEnd) (why' ≡ NoEnd)
-        (Chosen (kind == 0x2E) (CommonsFaulted commons body why) (BodyFaulted kind body why))
-        (Chosen (kind == 0x2E) (CommonsFaulted commons body why') (BodyFaulted kind body why'))
+    (Chosen (kind == 0x2E) (CommonsFaulted commons body why) (BodyFaulted kind body why))
+    (Chosen (kind == 0x2E) (CommonsFaulted commons body why') (BodyFaulted kind body why'))
     (why ≡ why') (λ e d. e ∙ sym d)
     (chosen_one (kind == 0x2E) (CommonsFaulted commons body why) (CommonsFaulted commons body why') (BodyFaulted kind body why)
-        (BodyFaulted kind body why') (why ≡ why')
+    (BodyFaulted kind body why') (why ≡ why')
     (λ e d. e.is ∙ (ap commons_cause (one_commons commons body e.fault d.fault e.faults d.faults) ∙ sym d.is))
     (λ e d. e.is ∙ (ap cause_of (b.one_fault kind body e.fault d.fault e.faults d.faults) ∙ sym d.is))))
 
@@ -256,7 +258,7 @@ one_view b bytes at commons why why' (stands n k body _ r e) (stands n' k' body'
     let same = b.one_record bytes at n n' k k' body body' r r' in
     one_record_fault b commons k' body' why why'
     (subst (λ (x : List ℕ). RecordFaulted commons k' x why) same.1 (subst (λ (x : ℕ). RecordFaulted commons x body why) same.0 e))
-        e'
+    e'
 
 pub one_within : Below → (bytes : List ℕ) (at : ℕ) (commons : List Common) (why why' : Cause) → FaultsWithin bytes at commons why
     → FaultsWithin bytes at commons why' → why ≡ why'
@@ -288,7 +290,7 @@ view_sound b bytes at next commons x why s may (stands n k body _ r e) =
     let same = b.one_record bytes at n next k (kind_byte (body_kind x)) body (body_bytes x) r s.framed in
     stands_sound b commons x why s.sound may
     (subst (λ (y : List ℕ). RecordFaulted commons (kind_byte (body_kind x)) y why) same.1
-        (subst (λ (y : ℕ). RecordFaulted commons y body why) same.0 e))
+    (subst (λ (y : ℕ). RecordFaulted commons y body why) same.0 e))
 
 pub within_sound : Below → (bytes : List ℕ) (at next : ℕ) (commons : List Common) (x : Body) (why : Cause)
     → SpellsBody bytes at next x → (IsTrue (is_end x) ⊎ IsTrue (may_follow commons x)) → FaultsWithin bytes at commons why → ⊥

@@ -14,9 +14,11 @@ pub contents_short : (s : List (ℕ × Segment)) (c : List Common) (externals : 
     → list_all (is_content s c externals) xs ≡ true → AllByRecursion (λ (x : ContentValue). length x.bytes ≤ 65531) xs
 contents_short s c externals [] all = tt
 contents_short s c externals (x ∷ xs) all =
-    let parts = and_parts (is_content s c externals x) (list_all (is_content s c externals) xs) all in
-    ((in_bounds_parts s c x (and_parts (is_in_bounds s c x) (has_fitting c externals x) parts.0).0).short, contents_short s c
-        externals xs parts.1)
+    let parts = and_parts (is_content s c externals x) (list_all (is_content s c externals) xs) all in (
+      (in_bounds_parts s c x (and_parts (is_in_bounds s c x) (has_fitting c externals x) parts.0).0).short,
+      contents_short s c
+          externals xs parts.1,
+    )
 
 pub module_contents_short : (m : ModuleValue) → IsModule m
     → AllByRecursion (λ (x : ContentValue). length x.bytes ≤ 65531) m.contents

@@ -72,7 +72,7 @@ begun_stays s bytes more begin here commons b = record {
 
 truncated_here : (t z s : Bool) (at place : ℕ)
     → (if t then Some (Truncated at) else (if z then Some (ZeroLength at) else (if s then None else Some (BadSum at))))
-        ≡ Some (Truncated place) → place ≡ at
+    ≡ Some (Truncated place) → place ≡ at
 truncated_here true z s at place e = cc
 truncated_here false true s at place e = cc
 truncated_here false false true at place e = cc
@@ -83,7 +83,7 @@ other_fault : (rest : List ℕ) (at : ℕ) (f : RecordFault) → fault_at rest a
     → (fault_at rest at ≡ Some (Truncated at) → ⊥) → is_truncation f ≡ false
 other_fault rest at (Truncated p) x other =
     absurd (other (x ∙ ap (λ (n : ℕ). Some (Truncated n))
-        (truncated_here (is_truncated rest) (has_zero_length rest) (has_zero_sum rest) at p x)))
+    (truncated_here (is_truncated rest) (has_zero_length rest) (has_zero_sum rest) at p x)))
 other_fault rest at (BadSum p) x other = refl
 other_fault rest at (ZeroLength p) x other = refl
 
@@ -95,7 +95,7 @@ pub record_fault_stays : Stay → (bytes more : List ℕ) (at : ℕ) (f : Record
     → fault_at (drop at bytes) at ≡ Some f → fault_at (drop at (bytes ++ more)) at ≡ Some f
 record_fault_stays s bytes more at f within whole x =
     ap (λ (r : List ℕ). fault_at r at) (drop-append-le at bytes more (omega arith))
-        ∙ s.faults (drop at bytes) more at f (other_fault (drop at bytes) at f x whole) x
+    ∙ s.faults (drop at bytes) more at f (other_fault (drop at bytes) at f x whole) x
 
 more_bytes : (bytes more : List ℕ) (at : ℕ) → at < length bytes → at < length (bytes ++ more)
 more_bytes bytes more at within = omega (arith, length-append bytes more)
@@ -160,13 +160,20 @@ ends_module bytes begin here after commons end b x = record {
 -- one record more
 pub goes_further : (bytes : List ℕ) (begin here next : ℕ) (before after : List Common) (body : Body)
     → BegunModule bytes begin here before → Follows bytes here next before after body → is_end body ≢ true
-        → BegunModule bytes begin next after
+    → BegunModule bytes begin next after
 goes_further bytes begin here next before after body b f other =
     let so_far : WithinSoFar bytes b.first here b.bodies before =
-        record { spelled = b.spelled; follow = b.follow; declared = b.declared } in
+    record { spelled = b.spelled; follow = b.follow; declared = b.declared } in
     let w = one_within bytes b.first here next b.bodies before after body so_far f other in
-    record { first = b.first; header = b.header; bodies = b.bodies ++ record { at = here; body = body } ∷ []; begins = b.begins;
-        spelled = w.spelled; follow = w.follow; declared = w.declared }
+    record {
+      first = b.first;
+      header = b.header;
+      bodies = b.bodies ++ record { at = here; body = body } ∷ [];
+      begins = b.begins;
+      spelled = w.spelled;
+      follow = w.follow;
+      declared = w.declared;
+    }
 
 pub begun_at : (bytes : List ℕ) (begin first : ℕ) (header : HeaderBody) → SpellsBody bytes begin first (ModuleHeader header)
     → BegunModule bytes begin first []
@@ -224,7 +231,7 @@ spoil : TruncatedCanBeSpoilt → (bytes : List ℕ) (at : ℕ) → at ≤ length
 spoil law bytes at inside cut =
     let more = law (drop at bytes) at cut in
     let there : fault_at (drop at (bytes ++ more.0)) at ≡ Some (BadSum at) =
-        ap (λ (r : List ℕ). fault_at r at) (drop-append-le at bytes more.0 inside) ∙ more.2 in
+    ap (λ (r : List ℕ). fault_at r at) (drop-append-le at bytes more.0 inside) ∙ more.2 in
     (more.0, more.1, inside_where_spoilt (bytes ++ more.0) at there (cases_lt at (length (bytes ++ more.0))), there)
 
 header_waits : (bytes : List ℕ) (begin : ℕ) → IsCutOff bytes begin → (begin < length bytes) ⊎ (length bytes ≤ begin)
@@ -289,7 +296,7 @@ undone s law bytes begin inside (inl cut) =
 undone s law bytes begin inside (inr w) =
     let x = within_waits bytes w.here w.commons w.cut_off (cases_lt w.here (length bytes)) in
     let y = spoil law bytes w.here
-        (bodies_inside bytes w.begun.first w.here w.begun.bodies w.begun.begins.framed.within w.begun.spelled) w.cut_off in
+    (bodies_inside bytes w.begun.first w.here w.begun.bodies w.begun.begins.framed.within w.begun.spelled) w.cut_off in
     let more_of = begun_stays s bytes y.0 begin w.here w.commons w.begun in
     record {
       more = y.0;

@@ -61,7 +61,7 @@ none_looked_at parts all = record { sound = λ cs. refl; contents = refl }
 pub one_looked_at : (parts : ModuleValue) (all : List PlacedBody) (p : PlacedBody) (ps : List PlacedBody)
     (nearest after : Option ContentValue) (old new : List ContentValue)
     → ContentsSoFar parts all (p ∷ ps) nearest old → TakesBody parts nearest p.body old new after
-        → ContentsSoFar parts all ps after new
+    → ContentsSoFar parts all ps after new
 one_looked_at parts all p ps nearest after old new s t = record {
   sound = λ cs. ap (λ (n : Option ContentValue). bodies_fault (with_contents parts cs) n ps) t.nearest
       ∙ (sym (fault_later (with_contents parts cs) nearest p ps (t.sound cs)) ∙ s.sound cs);
@@ -83,7 +83,7 @@ pub fault_here : (parts : ModuleValue) (all : List PlacedBody) (p : PlacedBody) 
     → ContentsSoFar parts all (p ∷ ps) nearest old
     → (why ≢ Memory → (cs : List ContentValue) → body_fault (with_contents parts cs) nearest p.body ≡ Some why)
     → OrNoMemory (λ fault. (cs : List ContentValue)
-        → bodies_fault (with_contents parts cs) None all ≡ Some fault) (fault_of p.at why)
+    → bodies_fault (with_contents parts cs) None all ≡ Some fault) (fault_of p.at why)
 fault_here parts all p ps nearest old why s f =
     by_cause (λ fault. (cs : List ContentValue) → bodies_fault (with_contents parts cs) None all ≡ Some fault) p.at why
     (λ real cs. sym (s.sound cs) ∙ fault_first (with_contents parts cs) nearest p ps why (f real cs))
@@ -115,7 +115,7 @@ past_own (Some f) place reference e = absurd cc
 pub references_refused : (parts : ModuleValue) (nearest : Option ContentValue) (body : Body)
     (r : Result (Option ContentValue) Cause)
     → ((cs : List ContentValue)
-        → None ≡ option_or (unknown_id (with_contents parts cs) (ids_in body)) (place_fault (with_contents parts cs) body))
+    → None ≡ option_or (unknown_id (with_contents parts cs) (ids_in body)) (place_fault (with_contents parts cs) body))
     → IfErr r (λ why. why ≢ Memory → (cs : List ContentValue) → reference_fault (with_contents parts cs) nearest body ≡ Some why)
     → IfErr r (λ why. why ≢ Memory → (cs : List ContentValue) → body_fault (with_contents parts cs) nearest body ≡ Some why)
 references_refused parts nearest body (Ok after) own f = tt
@@ -136,7 +136,7 @@ pub references_taken : (parts : ModuleValue) (nearest : Option ContentValue) (bo
     (r : Result (Option ContentValue) Cause)
     → ((b : ContentBody) → body ≡ Content b → ⊥)
     → ((cs : List ContentValue)
-        → None ≡ option_or (unknown_id (with_contents parts cs) (ids_in body)) (place_fault (with_contents parts cs) body))
+    → None ≡ option_or (unknown_id (with_contents parts cs) (ids_in body)) (place_fault (with_contents parts cs) body))
     → OnOk r ((cs : List ContentValue) → reference_fault (with_contents parts cs) nearest body ≡ None)
     → IfOk r (λ after. after ≡ option_map (λ c. with_fixups c (fixups_in c.segment body)) nearest)
     → IfOk r (λ after. TakesBody parts nearest body whole whole after)

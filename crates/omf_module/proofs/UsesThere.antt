@@ -66,7 +66,7 @@ all_come_after m nearest before [] same e = refl
 all_come_after m nearest before (p ∷ ps) same e =
     let s = first_sound m nearest p ps e in
     rw (sym same, comes_after m nearest p.body s.0.references)
-        (all_come_after m (content_after nearest p.body) (before ++ p ∷ []) ps (more nearest before p same) s.1)
+    (all_come_after m (content_after nearest p.body) (before ++ p ∷ []) ps (more nearest before p same) s.1)
 
 -- ---- where all is there
 
@@ -83,7 +83,7 @@ lacks_none m (target.External index) has = ap not has
 fixup_fits : (m : ModuleValue) (c : ContentValue) (f : Fixup) → fitting m c c.fixups f ≡ true → fixup_fault m c f ≡ None
 fixup_fits m c f fit =
     let p = and_parts (is_inside c.offset (length c.bytes) f && not (shares_a_byte c.fixups f))
-        (has_target m.commons (length m.externals) f.target) fit in
+    (has_target m.commons (length m.externals) f.target) fit in
     let q = and_parts (is_inside c.offset (length c.bytes) f) (not (shares_a_byte c.fixups f)) p.0 in
     rw (q.0, not-true (shares_a_byte c.fixups f) q.1, lacks_none m f.target p.1)
 
@@ -142,16 +142,16 @@ body_fits m nearest b known after fit =
 bodies_fit : (m : ModuleValue) (nearest : Option ContentValue) (before ps : List PlacedBody)
     → is_some nearest ≡ begin_content before → list_all (has_its_segments m.commons) ps ≡ true
     → each_after is_after_content before ps ≡ true → list_all (fits m) (contents_from nearest ps) ≡ true
-        → bodies_fault m nearest ps ≡ None
+    → bodies_fault m nearest ps ≡ None
 bodies_fit m nearest before [] same known after fit = refl
 bodies_fit m nearest before (p ∷ ps) same known after fit =
     let k = and_parts (has_its_segments m.commons p) (list_all (has_its_segments m.commons) ps) known in
     let a = and_parts (is_after_content before p) (each_after is_after_content (before ++ p ∷ []) ps) after in
     let rest = (and_parts _ _ (rw list_all-append at fit)).1 in
     let one = body_fits m nearest p.body k.0 (subst (λ (b : Bool). (b || not (is_reference p.body)) ≡ true) (sym same) a.0)
-        (nearest_fits m (content_after nearest p.body) ps rest) in
+    (nearest_fits m (content_after nearest p.body) ps rest) in
     fault_later m nearest p ps one
-        ∙ bodies_fit m (content_after nearest p.body) (before ++ p ∷ []) ps (more nearest before p same) k.1 a.1 rest
+    ∙ bodies_fit m (content_after nearest p.body) (before ++ p ∷ []) ps (more nearest before p same) k.1 a.1 rest
 
 entries_known : (commons : List Common) (before : List (ℕ × Segment)) (es : List SegmentEntry)
     → each_after (is_new_entry commons) before (map entry_of es) ≡ true
@@ -159,9 +159,9 @@ entries_known : (commons : List Common) (before : List (ℕ × Segment)) (es : L
 entries_known commons before [] all = refl
 entries_known commons before (e ∷ es) all =
     let p = and_parts (is_new_entry commons before (entry_of e))
-        (each_after (is_new_entry commons) (before ++ entry_of e ∷ []) (map entry_of es)) all in
+    (each_after (is_new_entry commons) (before ++ entry_of e ∷ []) (map entry_of es)) all in
     rw ((and_parts (has_segment commons e.id) (not (list_any (λ d. d.0 == e.id) before)) p.0).0)
-        (entries_known commons (before ++ entry_of e ∷ []) es p.1)
+    (entries_known commons (before ++ entry_of e ∷ []) es p.1)
 
 pub start_known : (m : ModuleValue) (start : Option Place)
     → is_start m.commons (option_map (λ place. (place.segment, place.offset)) start) ≡ true
@@ -174,15 +174,21 @@ no_fault r u =
     let m = parts_of r in
     let p = and_parts (each_after (is_new_entry m.commons) [] m.segments) (is_sound m) u.rules in
     let s = sound_parts m p.1 in
-    rw (none_unknown m (map (λ e. e.id) r.header.segments)
-        (entries_known m.commons [] r.header.segments p.0), bodies_fit m None [] r.within refl u.segments u.contents s.contents,
-        start_known m r.end.start s.start)
+    rw (
+      none_unknown m (map (λ e. e.id) r.header.segments)
+          (entries_known m.commons [] r.header.segments p.0),
+      bodies_fit m None [] r.within refl u.segments u.contents s.contents,
+      start_known m r.end.start s.start,
+    )
 
 pub no_fault_where_uses_are_there : NoFaultExactlyWhereUsesAreThere
 no_fault_where_uses_are_there bytes after r s = (
   λ e.
       let bodies = (each_without r e).1.0 in
-      record { rules = keeps bytes after r s e; segments = segments_known (parts_of r) None r.within bodies;
-          contents = all_come_after (parts_of r) None [] r.within refl bodies },
+      record {
+        rules = keeps bytes after r s e;
+        segments = segments_known (parts_of r) None r.within bodies;
+        contents = all_come_after (parts_of r) None [] r.within refl bodies;
+      },
   no_fault r,
 )

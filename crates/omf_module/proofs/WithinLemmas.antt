@@ -34,7 +34,7 @@ follows_push commons (p ∷ ps) at b all one =
     let parts = and_parts (may_follow commons p.body) (each_follows (commons ++ commons_in p.body) ps) all in
     and_from (may_follow commons p.body) (each_follows (commons ++ commons_in p.body) (ps ++ placed at b ∷ [])) parts.0
     (follows_push (commons ++ commons_in p.body) ps at b parts.1
-        (subst (λ (c : List Common). may_follow c b ≡ true) (sym (append_assoc commons (commons_in p.body) (commons_of ps))) one))
+    (subst (λ (c : List Common). may_follow c b ≡ true) (sym (append_assoc commons (commons_in p.body) (commons_of ps))) one))
 
 pub commons_push : (ps : List PlacedBody) (at : ℕ) (b : Body)
     → commons_of (ps ++ placed at b ∷ []) ≡ commons_of ps ++ commons_in b
@@ -57,7 +57,7 @@ not_ended before b other (inr e) = e
 
 pub one_within : (bytes : List ℕ) (first here next : ℕ) (bodies : List PlacedBody) (commons after : List Common) (b : Body)
     → WithinSoFar bytes first here bodies commons → Follows bytes here next commons after b → is_end b ≢ true
-        → WithinSoFar bytes first next (bodies ++ placed here b ∷ []) after
+    → WithinSoFar bytes first next (bodies ++ placed here b ∷ []) after
 one_within bytes first here next bodies commons after b s f other = record {
   spelled = spells_push bytes first here next bodies b s.spelled f.spelled;
   follow = follows_push [] bodies here b s.follow
@@ -73,7 +73,7 @@ by_cause P here _ is = inr (is (λ e. absurd cc))
 
 pub records_fault : (bytes : List ℕ) (first here : ℕ) (bodies : List PlacedBody) (commons : List Common) (why : Cause)
     → WithinSoFar bytes first here bodies commons → (why ≢ Memory → FaultsWithin bytes here commons why)
-        → OrNoMemory (FaultsRecords bytes first) (fault_of here why)
+    → OrNoMemory (FaultsRecords bytes first) (fault_of here why)
 records_fault bytes first here bodies commons why s f =
     by_cause (FaultsRecords bytes first) here why (λ real.
     let faults = subst (λ (c : List Common). FaultsWithin bytes here c why) s.declared (f real) in
@@ -86,6 +86,6 @@ other_than_end _ other = λ e. absurd cc
 -- what goes wrong after a header goes wrong in its module
 pub header_then : (bytes : List ℕ) (at first : ℕ) (header : HeaderBody) (fault : ModuleFault)
     → SpellsBody bytes at first (ModuleHeader header) → OrNoMemory (FaultsRecords bytes first) fault
-        → OrNoMemory (FaultsModule bytes at) fault
+    → OrNoMemory (FaultsModule bytes at) fault
 header_then bytes at first header fault s (inl none) = inl none
 header_then bytes at first header fault s (inr f) = inr (in_records first header fault s f)

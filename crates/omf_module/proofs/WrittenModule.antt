@@ -24,13 +24,13 @@ three_joined before header within end = simp (append_assoc, append-nil)
 
 module_is : (m : ModuleValue) (before : List ℕ)
     → before ++ record_bytes (ModuleHeader (header_body m)) ++ flat_map record_bytes (bodies_within m)
-        ++ record_bytes (ModuleEnd (end_body m.start)) ≡ before ++ module_bytes m
+    ++ record_bytes (ModuleEnd (end_body m.start)) ≡ before ++ module_bytes m
 unfolding module_bytes
 module_is m before =
     three_joined before (record_bytes (ModuleHeader (header_body m))) (flat_map record_bytes (bodies_within m))
-        (record_bytes (ModuleEnd (end_body m.start)))
+    (record_bytes (ModuleEnd (end_body m.start)))
     ∙ ap (λ (bytes : List ℕ). before ++ (record_bytes (ModuleHeader (header_body m)) ++ bytes))
-        (sym (flat_map-append record_bytes (bodies_within m) (ModuleEnd (end_body m.start) ∷ [])))
+    (sym (flat_map-append record_bytes (bodies_within m) (ModuleEnd (end_body m.start) ∷ [])))
 
 -- the bytes of the three, seen from each
 from_within : (before header within end after : List ℕ)
@@ -47,26 +47,26 @@ same_form m is = ap (λ (segments : List (ℕ × Segment)). record m { segments 
 
 spelled_in : WrittenIsSpelled → (m : ModuleValue) → IsModule m → (before after header within end : List ℕ)
     → header ≡ record_bytes (ModuleHeader (header_body m)) → within ≡ flat_map record_bytes (bodies_within m)
-        → end ≡ record_bytes (ModuleEnd (end_body m.start))
+    → end ≡ record_bytes (ModuleEnd (end_body m.start))
     → SpellsModule (before ++ header ++ within ++ end ++ after) (length before) (length (before ++ header ++ within ++ end)) m
 spelled_in law m is before after header within end eh ew ee =
     let bytes = before ++ header ++ within ++ end ++ after in
     let front = before ++ header in
     let h : SpellsBody (before ++ header ++ (within ++ (end ++ after))) (length before) (length front)
-        (ModuleHeader (header_body m)) =
+    (ModuleHeader (header_body m)) =
     subst (λ (bs : List ℕ). SpellsBody (before ++ bs ++ (within ++ (end ++ after))) (length before) (length (before ++ bs))
-        (ModuleHeader (header_body m))) (sym eh)
+    (ModuleHeader (header_body m))) (sym eh)
     (one_spelled law before (within ++ (end ++ after)) (ModuleHeader (header_body m))
-        (header_fits m is.canonical (name_of m is.names))) in
+    (header_fits m is.canonical (name_of m is.names))) in
     let w : SpellsBodies (front ++ within ++ (end ++ after)) (length front) (length (front ++ within))
-        (placed_after front (bodies_within m)) =
+    (placed_after front (bodies_within m)) =
     subst (λ (bs : List ℕ). SpellsBodies (front ++ bs ++ (end ++ after)) (length front) (length (front ++ bs))
-        (placed_after front (bodies_within m))) (sym ew)
+    (placed_after front (bodies_within m))) (sym ew)
     (bodies_spelled law front (end ++ after) (bodies_within m) (within_passes m is).fit) in
     let e : SpellsBody (front ++ within ++ end ++ after) (length (front ++ within)) (length (front ++ within ++ end))
-        (ModuleEnd (end_body m.start)) =
+    (ModuleEnd (end_body m.start)) =
     subst (λ (bs : List ℕ). SpellsBody (front ++ within ++ bs ++ after) (length (front ++ within))
-        (length (front ++ within ++ bs)) (ModuleEnd (end_body m.start))) (sym ee)
+    (length (front ++ within ++ bs)) (ModuleEnd (end_body m.start))) (sym ee)
     (one_spelled law (front ++ within) after (ModuleEnd (end_body m.start)) (end_fits m.start)) in
     record {
       records = records_after m front (length before) (length (front ++ within));
@@ -87,10 +87,10 @@ spelled_in law m is before after header within end eh ew ee =
 pub module_spelled : WrittenIsSpelled → WrittenModuleIsSpelled
 module_spelled law m is before after =
     subst (λ (to : ℕ). SpellsModule (before ++ module_bytes m ++ after) (length before) to m)
-        (length-append before (module_bytes m))
+    (length-append before (module_bytes m))
     (subst (λ (bytes : List ℕ). SpellsModule (bytes ++ after) (length before) (length bytes) m) (module_is m before)
     (spelled_in law m is before after (record_bytes (ModuleHeader (header_body m))) (flat_map record_bytes (bodies_within m))
-        (record_bytes (ModuleEnd (end_body m.start))) refl refl refl))
+    (record_bytes (ModuleEnd (end_body m.start))) refl refl refl))
 
 -- ---- files
 
@@ -100,12 +100,12 @@ modules_spelled law before after [] all = ap length (sym (append-nil before))
 modules_spelled law before after (m ∷ ms) all =
     let rest = flat_map module_bytes ms in
     let front : before ++ module_bytes m ++ rest ≡ before ++ (module_bytes m ++ rest) =
-        append_assoc before (module_bytes m) rest in
+    append_assoc before (module_bytes m) rest in
     let whole : before ++ module_bytes m ++ (rest ++ after) ≡ before ++ (module_bytes m ++ rest) ++ after =
     sym (append_assoc (before ++ module_bytes m) rest after) ∙ ap (λ (bytes : List ℕ). bytes ++ after) front in
     let one : SpellsModule (before ++ module_bytes m ++ (rest ++ after)) (length before) (length (before ++ module_bytes m)) m =
     subst (λ (to : ℕ). SpellsModule (before ++ module_bytes m ++ (rest ++ after)) (length before) to m)
-        (sym (length-append before (module_bytes m))) (law m all.0 before (rest ++ after)) in (
+    (sym (length-append before (module_bytes m))) (law m all.0 before (rest ++ after)) in (
       length (before ++ module_bytes m),
       subst (λ (bytes : List ℕ). SpellsModule bytes (length before) (length (before ++ module_bytes m)) m) whole one,
       subst (λ (bytes : List ℕ). SpellsModules (bytes ++ after) (length (before ++ module_bytes m)) (length bytes) ms) front

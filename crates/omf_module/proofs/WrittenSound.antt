@@ -52,7 +52,7 @@ unfolding entries_for
 none_below e c id a zero below = refl
 none_below e c id a (suc n) below =
     none_with (has_common_id c a || is_used (segment_in e a)) id a (segment_in e a)
-        (entries_for e c (range_with_len (a + 1) n)) below (none_below e c id (a + 1) n (omega arith))
+    (entries_for e c (range_with_len (a + 1) n)) below (none_below e c id (a + 1) n (omega arith))
 
 distinct_from : (e : List (ℕ × Segment)) (c : List Common) (a n : ℕ)
     → are_distinct (map segment_entry (entries_for e c (range_with_len a n))) ≡ true
@@ -60,7 +60,7 @@ unfolding entries_for
 distinct_from e c a zero = refl
 distinct_from e c a (suc n) =
     distinct_with (has_common_id c a || is_used (segment_in e a)) a (segment_in e a) (entries_for e c (range_with_len (a + 1) n))
-        (none_below e c a (a + 1) n (omega arith)) (distinct_from e c (a + 1) n)
+    (none_below e c a (a + 1) n (omega arith)) (distinct_from e c (a + 1) n)
 
 one_form_distinct : (e : List (ℕ × Segment)) (c : List Common) → are_distinct (map segment_entry (canonical_segments e c)) ≡ true
 unfolding listed_ids
@@ -79,18 +79,24 @@ name_short name is =
 pub header_short : (name : List ℕ) (segments : List (ℕ × Segment)) → is_name name ≡ true → length segments ≤ 255
     → length (name_spelling name ++ 0 ∷ 0 ∷ flat_map segment_bytes (map segment_entry segments)) ≤ 65534
 header_short name segments is few =
-    omega (arith, few, name_short name is, segments_length segments, length-append (name_spelling name)
-        (0 ∷ 0 ∷ flat_map segment_bytes (map segment_entry segments)))
+    omega (
+      arith,
+      few,
+      name_short name is,
+      segments_length segments,
+      length-append (name_spelling name)
+          (0 ∷ 0 ∷ flat_map segment_bytes (map segment_entry segments)),
+    )
 
 pub header_fits : (m : ModuleValue) → m.segments ≡ canonical_segments m.segments m.commons → is_name m.name ≡ true
     → Fits (ModuleHeader (header_body m))
 header_fits m form name =
     let few : length m.segments ≤ 255 =
-        subst (λ (ss : List (ℕ × Segment)). length ss ≤ 255) (sym form) (canonical_few m.segments m.commons) in
+    subst (λ (ss : List (ℕ × Segment)). length ss ≤ 255) (sym form) (canonical_few m.segments m.commons) in
     record {
       sound = and_from (is_name m.name) (are_distinct (map segment_entry m.segments)) name
           (subst (λ (ss : List (ℕ × Segment)). are_distinct (map segment_entry ss) ≡ true) (sym form)
-              (one_form_distinct m.segments m.commons));
+          (one_form_distinct m.segments m.commons));
       short = header_short m.name m.segments name few;
     }
 

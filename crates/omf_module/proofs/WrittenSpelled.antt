@@ -23,8 +23,12 @@ pub record Fits (b : Body) : Type 0 where
 spelling_length : (before : List ℕ) (kind : ℕ) (body : List ℕ)
     → length before + 4 + length body ≡ length (before ++ spelling kind body)
 spelling_length before kind body =
-    omega (arith, length-append before (spelling kind body), length-append (unsummed kind body)
-        (checksum (unsummed kind body) ∷ []))
+    omega (
+      arith,
+      length-append before (spelling kind body),
+      length-append (unsummed kind body)
+          (checksum (unsummed kind body) ∷ []),
+    )
 
 pub one_spelled : WrittenIsSpelled → (before after : List ℕ) (b : Body) → Fits b
     → SpellsBody (before ++ record_bytes b ++ after) (length before) (length (before ++ record_bytes b)) b
@@ -32,19 +36,19 @@ one_spelled law before after b fit = record {
   framed = subst (λ (to : ℕ). SpellsRecord (before ++ record_bytes b ++ after) (length before) to (kind_byte (body_kind b))
       (body_bytes b))
       (spelling_length before (kind_byte (body_kind b)) (body_bytes b))
-          (law before after (kind_byte (body_kind b)) (body_bytes b));
+      (law before after (kind_byte (body_kind b)) (body_bytes b));
   sound = fit.sound;
   fits = fit.short;
 }
 
 pub bodies_spelled : WrittenIsSpelled → (before after : List ℕ) (bs : List Body) → AllByRecursion Fits bs
     → SpellsBodies (before ++ flat_map record_bytes bs ++ after) (length before) (length (before ++ flat_map record_bytes bs))
-        (placed_after before bs)
+    (placed_after before bs)
 bodies_spelled law before after [] fit = ap length (sym (append-nil before))
 bodies_spelled law before after (b ∷ bs) fit =
     let rest = flat_map record_bytes bs in
     let front : before ++ record_bytes b ++ rest ≡ before ++ (record_bytes b ++ rest) =
-        append_assoc before (record_bytes b) rest in
+    append_assoc before (record_bytes b) rest in
     let whole : before ++ record_bytes b ++ (rest ++ after) ≡ before ++ (record_bytes b ++ rest) ++ after =
     sym (append_assoc (before ++ record_bytes b) rest after) ∙ ap (λ (bytes : List ℕ). bytes ++ after) front in (
       refl,

@@ -33,7 +33,7 @@ found_placed P id [] there all = absurd cc
 found_placed P id (p ∷ ps) there all =
     (elim (p.id == id) as (λ b. (p.id == id) ≡ b → (b || list_any (λ q. q.id == id) ps) ≡ true →
     P (unwrap_or (cond b (Some p) (find (λ q. q.id == id) ps)) (nowhere id))
-        × ((unwrap_or (cond b (Some p) (find (λ q. q.id == id) ps)) (nowhere id)).id ≡ id)) [
+    × ((unwrap_or (cond b (Some p) (find (λ q. q.id == id) ps)) (nowhere id)).id ≡ id)) [
       | true ↦ λ e _. (All-head P p ps all, eqb-true p.id id e)
       | false ↦ λ _ later. found_placed P id ps later (All-tail P p ps all)
     ]) refl there
@@ -60,12 +60,12 @@ memory_holds : (contents : List ContentValue) (p : Placed) (i : ℕ) (d : Conten
 memory_holds contents p i d inside is_memory below in_memory =
     let c : ContentValue = get_or contents i d in
     let any : (p.id == 4 && list_any (passes_memory p.length) contents) ≡ false =
-        (or_parts (nat_lt 65536 (p.base + p.length)) (p.id == 4 && list_any (passes_memory p.length) contents) inside).1 in
+    (or_parts (nat_lt 65536 (p.base + p.length)) (p.id == 4 && list_any (passes_memory p.length) contents) inside).1 in
     let none : list_any (passes_memory p.length) contents ≡ false =
-        sym (ap (λ b. b && list_any (passes_memory p.length) contents) (eq-eqb p.id 4 is_memory)) ∙ any in
+    sym (ap (λ b. b && list_any (passes_memory p.length) contents) (eq-eqb p.id 4 is_memory)) ∙ any in
     let past : nat_lt p.length (c.offset + length c.bytes) ≡ false =
     sym (ap (λ b. b && nat_lt p.length (c.offset + length c.bytes)) (eq-eqb c.segment 4 in_memory))
-        ∙ none_passes (passes_memory p.length) contents i d none below in
+    ∙ none_passes (passes_memory p.length) contents i d none below in
     grind (arith, nat_tests, past)
 
 -- a segment that no option gives a length has its own
@@ -87,16 +87,16 @@ content_within : ModuleLaws → (options : Options) (m : ModuleValue) (i : ℕ) 
     → find (is_outside m.contents) (layout_of options m) ≡ None →
     i < length m.contents → LiesIn m (get_or m.contents i d) → ((get_or m.contents i d).segment == 0) ≡ false →
     base_in (layout_of options m) (get_or m.contents i d).segment + (get_or m.contents i d).offset + length
-        (get_or m.contents i d).bytes ≤ 65536
+    (get_or m.contents i d).bytes ≤ 65536
 content_within laws options m i d sound none below lies not_absolute =
     let c : ContentValue = get_or m.contents i d in
     let segments : List Placed = layout_of options m in
     let p : Placed = placed_in segments c.segment in
     let there : list_any (λ q. q.id == c.segment) segments ≡ true =
-        layout_has options m c.segment (laws.rules m sound).ids lies.has not_absolute in
+    layout_has options m c.segment (laws.rules m sound).ids lies.has not_absolute in
     let ends = found_placed EndsInMemory c.segment segments there (ends_in_memory m.contents segments none) in
     let inside = found_placed (λ q. is_outside m.contents q ≡ false) c.segment segments there
-        (none_outside m.contents segments none) in
+    (none_outside m.contents segments none) in
     let long = found_placed (λ q. q.length ≡ length_of_id options m q.id) c.segment segments there (layout_lengths options m) in
     let within : c.offset + length c.bytes ≤ p.length =
     elim (cases_Bool (c.segment == 4)) [
@@ -105,9 +105,9 @@ content_within laws options m i d sound none below lies not_absolute =
           memory_holds m.contents p i d inside.0 (inside.1 ∙ is_four) below is_four
       | inr e ↦
           let own : p.length ≡ (segment_in m.segments c.segment).length = long.0 ∙ ap (length_of_id options m) long.1
-              ∙ own_length options m c.segment lies.has lies.not_stack e in
+          ∙ own_length options m c.segment lies.has lies.not_stack e in
           let limit : end_of m.segments c.segment ≡ (segment_in m.segments c.segment).length =
-              ap (λ b. cond b 65536 (segment_in m.segments c.segment).length) not_absolute in
+          ap (λ b. cond b 65536 (segment_in m.segments c.segment).length) not_absolute in
           let held : c.offset + length c.bytes ≤ end_of m.segments c.segment = lies.within in
           omega (arith, own, limit, held)
     ] in
@@ -121,7 +121,7 @@ ends_at_word n long ends = omega arith
 pub content_in_memory : ModuleLaws → (options : Options) (m : ModuleValue) (i : ℕ) (d : ContentValue) → IsTrue (is_sound m)
     → find (is_outside m.contents) (layout_of options m) ≡ None → i < length m.contents →
     place_in (program_bases options m) (m ∷ []) 0 m (get_or m.contents i d).segment (get_or m.contents i d).offset + length
-        (get_or m.contents i d).bytes ≤ 65536
+    (get_or m.contents i d).bytes ≤ 65536
 content_in_memory laws options m i d sound none below =
     let c : ContentValue = get_or m.contents i d in
     let segments : List Placed = layout_of options m in
@@ -129,17 +129,17 @@ content_in_memory laws options m i d sound none below =
     let place = place_of_id laws segments m c.segment c.offset (laws.rules m sound).commons lies.has in
     subst (λ n. n + length c.bytes ≤ 65536) (sym place)
     ((elim (c.segment == 0) as (λ b. (c.segment == 0) ≡ b
-        → cond b c.offset (cond (c.segment == 3) ((top_in segments + c.offset) % 65536)
-        ((base_in segments c.segment + c.offset) % 65536)) + length c.bytes ≤ 65536) [
+    → cond b c.offset (cond (c.segment == 3) ((top_in segments + c.offset) % 65536)
+    ((base_in segments c.segment + c.offset) % 65536)) + length c.bytes ≤ 65536) [
       | true ↦ λ e.
           let limit : end_of m.segments c.segment ≡ 65536 = ap (λ b. cond b 65536 (segment_in m.segments c.segment).length) e in
           let held : c.offset + length c.bytes ≤ end_of m.segments c.segment = lies.within in
           omega (arith, limit, held)
       | false ↦ λ e.
           subst (λ b. cond b ((top_in segments + c.offset) % 65536)
-              ((base_in segments c.segment + c.offset) % 65536) + length c.bytes ≤ 65536) (sym lies.not_stack)
+          ((base_in segments c.segment + c.offset) % 65536) + length c.bytes ≤ 65536) (sym lies.not_stack)
           (ends_at_word (base_in segments c.segment + c.offset) (length c.bytes)
-              (content_within laws options m i d sound none below lies e))
+          (content_within laws options m i d sound none below lies e))
     ]) refl)
 
 length-with_patches : (patches : List Patch) (bytes : List ℕ) → length (with_patches patches bytes) ≡ length bytes
@@ -174,4 +174,4 @@ chunks_in_memory laws options m sound none =
     let d : ContentValue = record { segment = 0; offset = 0; bytes = []; fixups = [] } in
     from_contents make m.contents (recursion_from_All (λ c. IsChunk (placed_bytes (make c))) m.contents
     (All-from_get_or (λ c. IsChunk (placed_bytes (make c))) m.contents d
-        (λ i below. content_is_chunk laws options m i d sound none below)))
+    (λ i below. content_is_chunk laws options m i d sound none below)))

@@ -30,13 +30,13 @@ finds_none : {A : Type 0} (test : A → Bool) (xs : List A) → All (λ x. test 
 finds_none test [] all = refl
 finds_none test (x ∷ xs) all =
     ap (λ b. cond b (Some x) (find test xs)) (All-head (λ x. test x ≡ false) x xs all)
-        ∙ finds_none test xs (All-tail (λ x. test x ≡ false) x xs all)
+    ∙ finds_none test xs (All-tail (λ x. test x ≡ false) x xs all)
 
 any_fails_all : {A : Type 0} (test : A → Bool) (xs : List A) → list_any test xs ≡ false → All (λ x. test x ≡ false) xs
 any_fails_all test [] none = All-nil (λ x. test x ≡ false)
 any_fails_all test (x ∷ xs) none =
     let parts = or_parts (test x) (list_any test xs) none in
-        All-cons (λ x. test x ≡ false) x xs parts.0 (any_fails_all test xs parts.1)
+    All-cons (λ x. test x ≡ false) x xs parts.0 (any_fails_all test xs parts.1)
 
 both_none : {A : Type 0} (a b : Option A) → a ≡ None → b ≡ None → option_or a b ≡ None
 both_none a b a_none b_none = ap (λ o. option_or o b) a_none ∙ b_none
@@ -77,14 +77,14 @@ none_with_each : (p : Placed) (ps : List Placed) → All (AreApart p) ps → fin
 none_with_each p [] all = refl
 none_with_each p (q ∷ qs) all =
     ap (λ b. cond b (Some (pair_with p q)) (find overlap_pair (map (pair_with p) qs)))
-        (no_overlap p q (All-head (AreApart p) q qs all))
+    (no_overlap p q (All-head (AreApart p) q qs all))
     ∙ none_with_each p qs (All-tail (AreApart p) q qs all)
 
 each_apart : (ps : List Placed) → find overlap_pair (pairs ps) ≡ None → AllPairs AreApart ps
 each_apart [] none = λ i j d before inside. absurd (omega arith)
 each_apart (p ∷ ps) none =
     let both = none_of_both (find overlap_pair (map (pair_with p) ps)) (find overlap_pair (pairs ps))
-        (sym (find-append overlap_pair (map (pair_with p) ps) (pairs ps)) ∙ none) in
+    (sym (find-append overlap_pair (map (pair_with p) ps) (pairs ps)) ∙ none) in
     AllPairs-cons AreApart p ps (apart_from_each p ps both.0) (each_apart ps both.1)
 
 none_of_pairs : (ps : List Placed) → AllPairs AreApart ps → find overlap_pair (pairs ps) ≡ None
@@ -94,7 +94,7 @@ none_of_pairs (p ∷ ps) all =
     let rest : AllPairs AreApart ps = λ i j d before inside. all (suc i) (suc j) d (omega arith) (omega arith) in
     find-append overlap_pair (map (pair_with p) ps) (pairs ps)
     ∙ both_none (find overlap_pair (map (pair_with p) ps)) (find overlap_pair (pairs ps)) (none_with_each p ps first)
-        (none_of_pairs ps rest)
+    (none_of_pairs ps rest)
 
 -- ---- absolute contents
 
@@ -114,7 +114,7 @@ contents_apart ps (c ∷ cs) none = elim (cases_Bool (c.segment == 0)) [
       let own = map (pair_with (absolute_place c)) ps in
       let split : option_or (find overlap_pair own) (find overlap_pair (with_each ps (absolute_places cs))) ≡ None =
       sym (find-append overlap_pair own (with_each ps (absolute_places cs)))
-          ∙ ap (λ b. find overlap_pair (pairs_of ps c cs b)) (sym e) ∙ none in
+      ∙ ap (λ b. find overlap_pair (pairs_of ps c cs b)) (sym e) ∙ none in
       let both = none_of_both (find overlap_pair own) (find overlap_pair (with_each ps (absolute_places cs))) split in
       All-cons (ApartFrom ps) c cs (λ _. apart_from_each (absolute_place c) ps both.0) (contents_apart ps cs both.1)
   | inr e ↦
@@ -167,7 +167,7 @@ lies contents p none =
       content = λ is.
           All-weaker (λ c. passes_memory p.length c ≡ false) (HoldsContent p.length) (not_passed p.length) contents
           (any_fails_all (passes_memory p.length) contents
-              (ap (λ b. b && list_any (passes_memory p.length) contents) (sym (ap (λ n. n == 4) is)) ∙ parts.1));
+          (ap (λ b. b && list_any (passes_memory p.length) contents) (sym (ap (λ n. n == 4) is)) ∙ parts.1));
     }
 
 not_outside : (contents : List ContentValue) (p : Placed) → LiesInMemory contents p → is_outside contents p ≡ false
@@ -183,7 +183,7 @@ not_outside contents p lies_in =
           ap (λ b. b && any) e
           ∙ list_any_none (passes_memory p.length) contents
           (All-weaker (HoldsContent p.length) (λ c. passes_memory p.length c ≡ false) (held_passes_none p.length) contents
-              (lies_in.content (eqb-true p.id 4 e)))
+          (lies_in.content (eqb-true p.id 4 e)))
       | inr e ↦ ap (λ b. b && any) e
     ] in
     ap (λ b. b || (p.id == 4 && any)) ends ∙ held
@@ -194,11 +194,11 @@ told_none : (m : ModuleValue) (ps : List Placed) → option_or (outside_memory m
 told_none m ps none =
     let both = none_of_both (outside_memory m ps) (overlap m ps) none in
     let outside : find (is_outside m.contents) ps ≡ None =
-        map_none (λ (p : Placed). OutsideMemory p.id) (find (is_outside m.contents) ps) both.0 in
+    map_none (λ (p : Placed). OutsideMemory p.id) (find (is_outside m.contents) ps) both.0 in
     let shared : first_shared (all_pairs m ps) ≡ None = map_none overlap_of (first_shared (all_pairs m ps)) both.1 in
     let found : find overlap_pair (all_pairs m ps) ≡ None = map_none ids_of (find overlap_pair (all_pairs m ps)) shared in
     let parts = none_of_both (find overlap_pair (pairs ps)) (find overlap_pair (with_each ps (absolute_places m.contents)))
-        (sym (find-append overlap_pair (pairs ps) (with_each ps (absolute_places m.contents))) ∙ found) in
+    (sym (find-append overlap_pair (pairs ps) (with_each ps (absolute_places m.contents))) ∙ found) in
     record {
       in_memory = All-weaker (λ p. is_outside m.contents p ≡ false) (LiesInMemory m.contents) (lies m.contents) ps
           (fails_all (is_outside m.contents) ps outside);
@@ -213,9 +213,9 @@ fit_none m ps fit =
     let found : find overlap_pair (all_pairs m ps) ≡ None =
     find-append overlap_pair (pairs ps) (with_each ps (absolute_places m.contents))
     ∙ both_none (find overlap_pair (pairs ps)) (find overlap_pair (with_each ps (absolute_places m.contents)))
-        (none_of_pairs ps fit.apart) (none_of_contents ps m.contents fit.absolute_apart) in
+    (none_of_pairs ps fit.apart) (none_of_contents ps m.contents fit.absolute_apart) in
     both_none (outside_memory m ps) (overlap m ps) (ap (λ o. option_map (λ (p : Placed). OutsideMemory p.id) o) outside)
-        (ap (λ o. option_map overlap_of (option_map ids_of o)) found)
+    (ap (λ o. option_map overlap_of (option_map ids_of o)) found)
 
 pub nothing_told_fit : (options : Options) (m : ModuleValue) → layout_fault options m ≡ None ↔ Fit m (layout_of options m)
 nothing_told_fit options m = (told_none m (layout_of options m), fit_none m (layout_of options m))

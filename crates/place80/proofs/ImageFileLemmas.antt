@@ -80,9 +80,9 @@ image_module_absolute image =
 image_module_read : (image : Located) → program_of (image_module image) ≡ Ok (without_regions image)
 image_module_read image =
     ap (λ (b : Bool). if b then program_from (image_module image) (Some (0, image.start)) else Err NotAbsolute)
-        (image_module_absolute image)
+    (image_module_absolute image)
     ∙ ap (λ (chunks : List PlacedBytes). Ok (record { name = image.name; chunks = chunks; start = image.start }))
-        (chunks_again image.chunks)
+    (chunks_again image.chunks)
 
 pub written_image : WrittenFileIsSpelled → WrittenImageIsSpelled
 written_image written image name w = record {
@@ -113,7 +113,7 @@ ok_err {A} {E} r x e p q = absurd cc
 pub one_image : OneFile → OneImage
 one_image one bytes p q s t =
     ok_same (program_of_one t.modules) p q
-        (subst (λ (ms : List ModuleValue). program_of_one ms ≡ Ok p) (one bytes s.modules t.modules s.file t.file) s.is) t.is
+    (subst (λ (ms : List ModuleValue). program_of_one ms ≡ Ok p) (one bytes s.modules t.modules s.file t.file) s.is) t.is
 
 pub one_image_fault : OneFile → OneFileFault → NeverBothFile → OneImageFault
 one_image_fault one fault never bytes f g (of_file a x) (of_file b y) = ap Module (fault bytes a b x y)
@@ -126,7 +126,7 @@ pub never_both_image : OneFile → NeverBothFile → NeverBothImage
 never_both_image one never bytes p f s (of_file a x) = never bytes s.modules a s.file x
 never_both_image one never bytes p f s (of_modules ms _ t e) =
     ok_err (program_of_one ms) p f
-        (subst (λ (xs : List ModuleValue). program_of_one xs ≡ Ok p) (one bytes s.modules ms s.file t) s.is) e
+    (subst (λ (xs : List ModuleValue). program_of_one xs ≡ Ok p) (one bytes s.modules ms s.file t) s.is) e
 
 -- ---- the fault of a file
 
@@ -158,13 +158,15 @@ content_is_chunk : (m : ModuleValue) (content : ContentValue) → is_absolute_co
     → is_content m.segments m.commons (length m.externals) content ≡ true → IsChunk (content_chunk content)
 content_is_chunk m content absolute kept =
     let own : content.segment ≡ 0 =
-        eqb-true content.segment 0 (and_parts (content.segment == 0) (length content.fixups == 0) absolute).0 in
+    eqb-true content.segment 0 (and_parts (content.segment == 0) (length content.fixups == 0) absolute).0 in
     let placed = (and_parts (is_in_bounds m.segments m.commons content)
-        (each_after (is_fitting m.commons (length m.externals) content.offset (length content.bytes)) [] content.fixups)
-        kept).0 in
+    (each_after (is_fitting m.commons (length m.externals) content.offset (length content.bytes)) [] content.fixups)
+    kept).0 in
     let p = in_bounds_parts m.segments m.commons content placed in
-    record { in_record = p.short;
-        in_memory = subst (λ (id : ℕ). content.offset + length content.bytes ≤ end_of m.segments id) own p.within }
+    record {
+      in_record = p.short;
+      in_memory = subst (λ (id : ℕ). content.offset + length content.bytes ≤ end_of m.segments id) own p.within;
+    }
 
 contents_are_chunks : (m : ModuleValue) (contents : List ContentValue) → list_all is_absolute_content contents ≡ true
     → list_all (is_content m.segments m.commons (length m.externals)) contents ≡ true
@@ -173,7 +175,7 @@ contents_are_chunks m [] absolute kept = tt
 contents_are_chunks m (content ∷ contents) absolute kept =
     let a = and_parts (is_absolute_content content) (list_all is_absolute_content contents) absolute in
     let k = and_parts (is_content m.segments m.commons (length m.externals) content)
-        (list_all (is_content m.segments m.commons (length m.externals)) contents) kept in
+    (list_all (is_content m.segments m.commons (length m.externals)) contents) kept in
     (content_is_chunk m content a.0 k.0, contents_are_chunks m contents a.1 k.1)
 
 pub absolute_contents : (m : ModuleValue) → IsModule m → is_absolute m ≡ true
@@ -186,13 +188,13 @@ absolute_contents m w absolute =
 pub refused_by_module : {A : Type 0} (bytes : List ℕ) (m : ModuleValue) (ms : List ModuleValue) (r : Result A ImageFault)
     → SpellsFile bytes ms → program_of_one ms ≡ program_of m
     → IfErr r (λ fault. fault ≢ OutOfMemory → program_of m ≡ Err fault)
-        → IfErr r (λ fault. fault ≢ OutOfMemory → FaultsImage bytes fault)
+    → IfErr r (λ fault. fault ≢ OutOfMemory → FaultsImage bytes fault)
 refused_by_module {A} bytes m ms (Ok x) s same e = e
 refused_by_module {A} bytes m ms (Err f) s same e = λ real. of_modules ms f s (same ∙ e real)
 
 pub read_by_module : (bytes : List ℕ) (m : ModuleValue) (ms : List ModuleValue) (r : Result AbsoluteProgram ImageFault)
     → SpellsFile bytes ms → program_of_one ms ≡ program_of m → IfOk r (λ program. program_of m ≡ Ok program)
-        → IfOk r (λ program. SpellsImage bytes program)
+    → IfOk r (λ program. SpellsImage bytes program)
 read_by_module bytes m ms (Ok program) s same e = record { modules = ms; file = s; is = same ∙ e }
 read_by_module bytes m ms (Err f) s same e = e
 

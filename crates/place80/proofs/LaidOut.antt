@@ -87,10 +87,10 @@ laid_out_in_one_way options m segments laid =
     let others = laid.others in
     let order : code.id ∷ map (λ p. p.id) others ≡ 1 ∷ later_ids m = sym (ap (map (λ p. p.id)) laid.whole) ∙ laid.order in
     let lengths : AllByRecursion (HasItsLength options m) (code ∷ others) =
-        subst (AllByRecursion (HasItsLength options m)) laid.whole laid.lengths in
+    subst (AllByRecursion (HasItsLength options m)) laid.whole laid.lengths in
     let is_code : code.id ≡ 1 = ap (λ (l : List ℕ). head_or l 0) order in
     let long = lengths.0 ∙ ap (λ (n : ℕ). unwrap_or (given_length options n) (own_segment m n).length) is_code in
     let here = same_placed code (placed_after options m default_base 1) is_code (laid.first ∙ sym (first_base options m)) long in
     let later = followers options m code others (later_ids m) (ap (λ (l : List ℕ). tail_of l) order) lengths.1 laid.follow in
     laid.whole ∙ ap (λ (l : List Placed). code ∷ l) later
-        ∙ ap (λ (q : Placed). q ∷ placed_from options m (q.base + q.length) (later_ids m)) here
+    ∙ ap (λ (q : Placed). q ∷ placed_from options m (q.base + q.length) (later_ids m)) here

@@ -29,7 +29,7 @@ over_absolute m segments = with_each segments (absolute_places m.contents)
 -- where segments can be laid out, they are in memory and no two of them overlap
 pub in_memory_and_apart : (options : Options) (m : ModuleValue) → layout_fault options m ≡ None →
     (find (is_outside m.contents) (layout_of options m) ≡ None)
-        × (find (λ pq. overlaps pq.0 pq.1) (pairs (layout_of options m)) ≡ None)
+    × (find (λ pq. overlaps pq.0 pq.1) (pairs (layout_of options m)) ≡ None)
 in_memory_and_apart options m none =
     let parts = neither (outside_memory m (layout_of options m)) (overlap m (layout_of options m)) none in
     let segments : List Placed = layout_of options m in (
@@ -38,7 +38,7 @@ in_memory_and_apart options m none =
           (find (λ (pq : Placed × Placed). overlaps pq.0 pq.1) (over_absolute m segments))
           (sym (find-append (λ (pq : Placed × Placed). overlaps pq.0 pq.1) (pairs segments) (over_absolute m segments))
           ∙ unmapped ids_of (find (λ (pq : Placed × Placed). overlaps pq.0 pq.1) (all_pairs m segments))
-              (unmapped overlap_of (first_shared (all_pairs m segments)) parts.1))).0,
+          (unmapped overlap_of (first_shared (all_pairs m segments)) parts.1))).0,
     )
 
 -- the length of each segment is the one that is given, or else its own
@@ -51,7 +51,7 @@ placed_lengths options m before [] = All-nil (λ p. p.length ≡ length_of_id op
 placed_lengths options m before (id ∷ ids) =
     let p : Placed = placed_after options m before id in
     All-cons (λ q. q.length ≡ length_of_id options m q.id) p (placed_from options m (p.base + p.length) ids) refl
-        (placed_lengths options m (p.base + p.length) ids)
+    (placed_lengths options m (p.base + p.length) ids)
 
 pub layout_lengths : (options : Options) (m : ModuleValue)
     → All (λ p. p.length ≡ length_of_id options m p.id) (layout_of options m)
@@ -143,5 +143,5 @@ layout_has options m id ids has not_absolute = elim (cases_Bool (is_fixed_id id)
       layout_ids options m id
       ∙ from_later (common_ids m.commons) id
       (any_front (λ i. i == id) (common_ids m.commons) (255 ∷ 2 ∷ 4 ∷ [])
-          (any_of_range (has_common_id m.commons) 249 6 id bounds.0 (omega (arith, bounds.1)) named))
+      (any_of_range (has_common_id m.commons) 249 6 id bounds.0 (omega (arith, bounds.1)) named))
 ]

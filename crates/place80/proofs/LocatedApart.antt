@@ -66,7 +66,7 @@ one_of_three id n = elim (cases_Bool (id == 1)) [
 -- code, stacks and data are all segments
 held_in_three : (address : ℕ) (segments : List Placed) →
     held_where address (λ p. p.id == 1) segments + held_where address (λ p. p.id == 3) segments + held_where address
-        (λ p. not (p.id == 1 || p.id == 3)) segments
+    (λ p. not (p.id == 1 || p.id == 3)) segments
     ≡ held address (map range_at segments)
 held_in_three address [] = refl
 held_in_three address (p ∷ ps) =
@@ -83,21 +83,21 @@ held_stack : (address : ℕ) (segments : List Placed)
     → holds address (located_stack segments) ≤ held_where address (λ p. p.id == 3) segments
 held_stack address [] =
     let none : holds address (range_at (nowhere 3)) ≡ 0 =
-        ap (λ b. cond b 1 0) (empty_holds address (range_at (nowhere 3)) refl) in
+    ap (λ b. cond b 1 0) (empty_holds address (range_at (nowhere 3)) refl) in
     omega arith
 held_stack address (p ∷ ps) = elim (cases_Bool (p.id == 3)) [
   | inl e ↦
       let here : located_stack (p ∷ ps) ≡ range_at p =
-          ap (λ b. range_at (unwrap_or (cond b (Some p) (find (λ q. q.id == 3) ps)) (nowhere 3))) e in
+      ap (λ b. range_at (unwrap_or (cond b (Some p) (find (λ q. q.id == 3) ps)) (nowhere 3))) e in
       let one : holds address (located_stack (p ∷ ps)) ≡ holds address (range_at p) = ap (holds address) here in
       let more : held_where address (λ q. q.id == 3) (p ∷ ps)
-          ≡ holds address (range_at p) + held_where address (λ q. q.id == 3) ps =
+      ≡ holds address (range_at p) + held_where address (λ q. q.id == 3) ps =
       ap (λ b. held address (map range_at (cond b (p ∷ filter (λ q. q.id == 3) ps) (filter (λ q. q.id == 3) ps)))) e
       ∙ held_more address (range_at p) (map range_at (filter (λ q. q.id == 3) ps)) in
       omega (arith, one, more)
   | inr e ↦
       let there : located_stack (p ∷ ps) ≡ located_stack ps =
-          ap (λ b. range_at (unwrap_or (cond b (Some p) (find (λ q. q.id == 3) ps)) (nowhere 3))) e in
+      ap (λ b. range_at (unwrap_or (cond b (Some p) (find (λ q. q.id == 3) ps)) (nowhere 3))) e in
       let one : holds address (located_stack (p ∷ ps)) ≡ holds address (located_stack ps) = ap (holds address) there in
       let same : held_where address (λ q. q.id == 3) (p ∷ ps) ≡ held_where address (λ q. q.id == 3) ps =
       ap (λ b. held address (map range_at (cond b (p ∷ filter (λ q. q.id == 3) ps) (filter (λ q. q.id == 3) ps)))) e in
@@ -147,9 +147,9 @@ none_holds p [] address ends all none inside = refl
 none_holds p (q ∷ qs) address ends all none inside =
     let parts = find_none (λ (pq : Placed × Placed). overlaps pq.0 pq.1) (p, q) (map (λ q. (p, q)) qs) none in
     let out : holds address (range_at q) ≡ 0 =
-        ap (λ b. cond b 1 0) (not_in p q address ends (All-head EndsInMemory q qs all) parts.0 inside) in
+    ap (λ b. cond b 1 0) (not_in p q address ends (All-head EndsInMemory q qs all) parts.0 inside) in
     let rest : held address (map range_at qs) ≡ 0 =
-        none_holds p qs address ends (All-tail EndsInMemory q qs all) parts.1 inside in
+    none_holds p qs address ends (All-tail EndsInMemory q qs all) parts.1 inside in
     held_more address (range_at q) (map range_at qs) ∙ omega arith
 
 pub none_of_both : {A : Type 0} (a b : Option A) → option_or a b ≡ None → (a ≡ None) × (b ≡ None)
@@ -162,16 +162,16 @@ held_once : (address : ℕ) (segments : List Placed) → All EndsInMemory segmen
 held_once address [] ends none = omega arith
 held_once address (p ∷ ps) ends none =
     let parts = none_of_both (find (λ (pq : Placed × Placed). overlaps pq.0 pq.1) (map (λ q. (p, q)) ps))
-        (find (λ (pq : Placed × Placed). overlaps pq.0 pq.1) (pairs ps))
+    (find (λ (pq : Placed × Placed). overlaps pq.0 pq.1) (pairs ps))
     (sym (find-append (λ (pq : Placed × Placed). overlaps pq.0 pq.1) (map (λ q. (p, q)) ps) (pairs ps)) ∙ none) in
     let rest : held address (map range_at ps) ≤ 1 = held_once address ps (All-tail EndsInMemory p ps ends) parts.1 in
     let whole : held address (map range_at (p ∷ ps)) ≡ holds address (range_at p) + held address (map range_at ps) =
-        held_more address (range_at p) (map range_at ps) in
+    held_more address (range_at p) (map range_at ps) in
     elim (cases_Bool (in_range (range_at p) address)) [
       | inl e ↦
           let one : holds address (range_at p) ≡ 1 = ap (λ b. cond b 1 0) e in
           let others : held address (map range_at ps) ≡ 0 =
-              none_holds p ps address (All-head EndsInMemory p ps ends) (All-tail EndsInMemory p ps ends) parts.0 e in
+          none_holds p ps address (All-head EndsInMemory p ps ends) (All-tail EndsInMemory p ps ends) parts.0 e in
           omega (arith, whole, one, others)
       | inr e ↦
           let none_here : holds address (range_at p) ≡ 0 = ap (λ b. cond b 1 0) e in

@@ -60,7 +60,7 @@ all_both : {A : Type 0} (P Q R : A → Type 0) (xs : List A) → ((x : A) → P 
 all_both P Q R [] gives ps qs = All-nil R
 all_both P Q R (x ∷ xs) gives ps qs =
     All-cons R x xs (gives x (All-head P x xs ps) (All-head Q x xs qs))
-        (all_both P Q R xs gives (All-tail P x xs ps) (All-tail Q x xs qs))
+    (all_both P Q R xs gives (All-tail P x xs ps) (All-tail Q x xs qs))
 
 ranges_in_memory : (segments : List Placed) → All EndsInMemory segments → All HasWord segments
     → All (λ p. IsInMemory (range_at p)) segments
@@ -72,7 +72,7 @@ chosen_in_memory : (test : Placed → Bool) (segments : List Placed) → All End
 chosen_in_memory test segments ends words =
     All-filter (λ range. nat_lt 0 range.length) IsInMemory (map range_at (filter test segments))
     (All-map IsInMemory range_at (filter test segments)
-        (All-filter test (λ p. IsInMemory (range_at p)) segments (ranges_in_memory segments ends words)))
+    (All-filter test (λ p. IsInMemory (range_at p)) segments (ranges_in_memory segments ends words)))
 
 pub code_in_memory : (segments : List Placed) → All EndsInMemory segments → All HasWord segments
     → All IsInMemory (located_code segments)
@@ -96,4 +96,4 @@ pub stack_in_memory : (segments : List Placed) → All EndsInMemory segments →
     → IsInMemory (located_stack segments)
 stack_in_memory segments ends words =
     found_all (λ p. IsInMemory (range_at p)) 3 segments (range_in_memory (nowhere 3) (omega arith) (omega arith))
-        (ranges_in_memory segments ends words)
+    (ranges_in_memory segments ends words)

@@ -33,7 +33,7 @@ all_item P xs i x all inside is = subst P (sym is) (item_has P xs i x all inside
 pub chunk_step : (segments : List Placed) (contents : List ContentValue) (i : ℕ) (c : ContentValue) (front : List PlacedBytes)
     (made : PlacedBytes) → i < length contents → c ≡ get_or contents i c → made ≡ chunk_among segments c →
     (front ++ made ∷ []) ++ map (chunk_among segments) (drop (i + 1) contents) ≡ front
-        ++ map (chunk_among segments) (drop i contents)
+    ++ map (chunk_among segments) (drop i contents)
 chunk_step segments contents i c front made inside is same =
     let next : suc i ≡ i + 1 = omega arith in
     append_assoc front (made ∷ []) (map (chunk_among segments) (drop (i + 1) contents))
@@ -55,7 +55,7 @@ ranges_of test segments = filled (map range_at (filter test segments))
 pub one_range_more : (test : Placed → Bool) (segments : List Placed) (i : ℕ) (d : Placed) (front : List Range)
     → i < length segments → test (get_or segments i d) ≡ true →
     (front ++ filled (range_at (get_or segments i d) ∷ [])) ++ ranges_of test (drop (i + 1) segments) ≡ front
-        ++ ranges_of test (drop i segments)
+    ++ ranges_of test (drop i segments)
 one_range_more test segments i d front inside passes =
     let p : Placed = get_or segments i d in
     let rest : List Placed = drop (i + 1) segments in

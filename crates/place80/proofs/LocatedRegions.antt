@@ -49,7 +49,7 @@ any_filled address [] = refl
 any_filled address (r ∷ rs) = elim (cases_Bool (nat_lt 0 r.length)) [
   | inl e ↦
       ap (λ b. list_any (holds address) (cond b (r ∷ filled rs) (filled rs))) e
-          ∙ ap (λ b. holds address r || b) (any_filled address rs)
+      ∙ ap (λ b. holds address r || b) (any_filled address rs)
   | inr e ↦
       ap (λ b. list_any (holds address) (cond b (r ∷ filled rs) (filled rs))) e
       ∙ any_filled address rs
@@ -63,8 +63,8 @@ any_chosen chosen address (p ∷ ps) ends =
     let rest = any_chosen chosen address ps (All-tail EndsInMemory p ps ends) in
     let here = same_addresses p address (All-head EndsInMemory p ps ends) in
     elim (chosen p.id) as (λ b.
-        list_any (holds address) (map range_at (cond b (p ∷ filter (λ p. chosen p.id) ps) (filter (λ p. chosen p.id) ps)))
-        ≡ (b && is_in_placed p address || is_in_any chosen ps address)) [
+    list_any (holds address) (map range_at (cond b (p ∷ filter (λ p. chosen p.id) ps) (filter (λ p. chosen p.id) ps)))
+    ≡ (b && is_in_placed p address || is_in_any chosen ps address)) [
       | true ↦ ap (λ b. b || list_any (holds address) (map range_at (filter (λ p. chosen p.id) ps))) here
           ∙ ap (λ b. is_in_placed p address || b) rest
       | false ↦ rest
@@ -88,6 +88,6 @@ located_regions_hold segments areas ends arranged =
           ∙ any_chosen is_data address segments ends;
       stack = λ address.
           ap (λ (r : Range). in_range r address) arranged.same_stack
-              ∙ same_addresses stack address (found_all EndsInMemory 3 segments (omega arith) ends);
+          ∙ same_addresses stack address (found_all EndsInMemory 3 segments (omega arith) ends);
       top = ap (λ (r : Range). (r.first + r.length) % 65536) arranged.same_stack ∙ top_of_both stack.base stack.length;
     }

@@ -72,12 +72,12 @@ loses_same laws segments m f sound has =
 
 pub any_loses_same : ModuleLaws → (segments : List Placed) (m : ModuleValue) → IsTrue (is_sound m) → m.externals ≡ [] →
     list_any (λ c. list_any (loses_with (word_among segments)) c.fixups) m.contents
-        ≡ any_loses_low_byte (bases_of m.commons segments) (m ∷ [])
+    ≡ any_loses_low_byte (bases_of m.commons segments) (m ∷ [])
 any_loses_same laws segments m sound none =
     let loses : Fixup → Bool = loses_low_byte (bases_of m.commons segments) (m ∷ []) (0, m) in
     any_same (HasItsFixups m) (λ c. list_any (loses_with (word_among segments)) c.fixups) (λ c. list_any loses c.fixups)
     (λ c good. any_same (HasTarget m) (loses_with (word_among segments)) loses
-        (λ f has. loses_same laws segments m f sound has) c.fixups (targets_there m c none good))
+    (λ f has. loses_same laws segments m f sound has) c.fixups (targets_there m c none good))
     m.contents (laws.rules m sound).fixups
     ∙ sym (or-false (list_any (λ c. list_any loses c.fixups) m.contents))
 
@@ -108,13 +108,17 @@ chunk_same : ModuleLaws → (segments : List Placed) (m : ModuleValue) (c : Cont
     → IsGood m c → chunk_among segments c ≡ one_chunk segments m c
 chunk_same laws segments m c sound none good =
     let patches = map_same (HasTarget m) (patch_with (word_among segments) c.offset)
-        (patch_of (bases_of m.commons segments) (m ∷ []) (0, m) c)
+    (patch_of (bases_of m.commons segments) (m ∷ []) (0, m) c)
     (λ f has. patch_same laws segments m c f sound has) c.fixups (targets_there m c none good.fixups) in
     let place = place_of_id laws segments m c.segment c.offset (laws.rules m sound).commons good.lies.has in
-    ap (λ (n : ℕ). record { address = n;
-        bytes = with_patches (map (patch_with (word_among segments) c.offset) c.fixups) c.bytes }) (sym place)
-    ∙ ap (λ (l : List Patch). record { address = place_in (bases_of m.commons segments) (m ∷ []) 0 m c.segment c.offset;
-        bytes = with_patches l c.bytes }) patches
+    ap (λ (n : ℕ). record {
+      address = n;
+      bytes = with_patches (map (patch_with (word_among segments) c.offset) c.fixups) c.bytes;
+    }) (sym place)
+    ∙ ap (λ (l : List Patch). record {
+      address = place_in (bases_of m.commons segments) (m ∷ []) 0 m c.segment c.offset;
+      bytes = with_patches l c.bytes;
+    }) patches
 
 map_both : {A B C : Type 0} (f : B → C) (g : A → B) (xs : List A) → map f (map g xs) ≡ map (λ x. f (g x)) xs
 map_both f g [] = refl
@@ -125,7 +129,7 @@ pub chunks_same : ModuleLaws → (options : Options) (m : ModuleValue) → IsTru
 chunks_same laws options m sound none =
     let segments : List Placed = layout_of options m in
     map_same (IsGood m) (chunk_among segments) (one_chunk segments m)
-        (λ c good. chunk_same laws segments m c sound none good) m.contents (good_contents laws m sound)
+    (λ c good. chunk_same laws segments m c sound none good) m.contents (good_contents laws m sound)
     ∙ sym (map_both placed_bytes (chunk_of (bases_of m.commons segments) (m ∷ []) (0, m)) m.contents)
     ∙ ap (map placed_bytes) (sym (append-nil (map (chunk_of (bases_of m.commons segments) (m ∷ []) (0, m)) m.contents)))
 
@@ -134,7 +138,7 @@ pub start_same : ModuleLaws → (segments : List Placed) (m : ModuleValue) (id o
     → m.start ≡ Some (id, offset) → place_among segments id offset ≡ start_place (bases_of m.commons segments) m (id, offset)
 start_same laws segments m id offset sound is =
     let has : has_segment m.commons id ≡ true =
-        subst (λ (s : Option (ℕ × ℕ)). IsTrue (is_start m.commons s)) is (laws.rules m sound).start in
+    subst (λ (s : Option (ℕ × ℕ)). IsTrue (is_start m.commons s)) is (laws.rules m sound).start in
     sym (place_of_id laws segments m id offset (laws.rules m sound).commons has)
 
 pub start_found : ModuleLaws → (segments : List Placed) (m : ModuleValue) (id offset : ℕ) → IsTrue (is_sound m)
@@ -142,7 +146,7 @@ pub start_found : ModuleLaws → (segments : List Placed) (m : ModuleValue) (id 
     → Some (place_among segments id offset) ≡ option_map (start_place (bases_of m.commons segments) m) m.start
 start_found laws segments m id offset sound is =
     ap (λ (n : ℕ). Some n) (start_same laws segments m id offset sound is)
-        ∙ ap (λ (s : Option (ℕ × ℕ)). option_map (start_place (bases_of m.commons segments) m) s) (sym is)
+    ∙ ap (λ (s : Option (ℕ × ℕ)). option_map (start_place (bases_of m.commons segments) m) s) (sym is)
 
 -- ---- the causes, in order
 
@@ -161,7 +165,7 @@ pub past_three : (options : Options) (m : ModuleValue) (start : ℕ × ℕ) → 
     → layout_fault options m ≡ None → locate_fault options m ≡ last_two options m
 past_three options m start closed is laid =
     ap (λ o. option_or o (option_or (no_start m) (option_or (layout_fault options m) (last_two options m))))
-        (none_unresolved m closed)
+    (none_unresolved m closed)
     ∙ ap (λ o. option_or o (option_or (layout_fault options m) (last_two options m))) (has_start m start is)
     ∙ ap (λ o. option_or o (last_two options m)) laid
 
@@ -174,7 +178,7 @@ pub start_is : (bases : Bases) (m : ModuleValue) (segments : List Placed) (start
     start_not_code bases m segments ≡ (if b then None else Some StartNotCode)
 start_is bases m segments start b is here =
     ap (λ (s : Option (ℕ × ℕ)). option_and_then (λ start. if is_in_placed (placed_in segments 1) (start_place bases m start)
-        then None else Some StartNotCode) s) is
+    then None else Some StartNotCode) s) is
     ∙ ap (λ (x : Bool). if x then None else Some StartNotCode) (sym here)
 
 pub by_last_two : (options : Options) (m : ModuleValue) (start : ℕ × ℕ) (high inside : Bool) → m.externals ≡ []
@@ -185,9 +189,9 @@ pub by_last_two : (options : Options) (m : ModuleValue) (start : ℕ × ℕ) (hi
 by_last_two options m start high inside closed is laid loses here =
     past_three options m start closed is laid
     ∙ ap (λ o. option_or o (start_not_code (program_bases options m) m (layout_of options m)))
-        (high_is (program_bases options m) m high loses)
+    (high_is (program_bases options m) m high loses)
     ∙ ap (λ o. option_or (if high then Some HighNotPaged else None) o)
-        (start_is (program_bases options m) m (layout_of options m) start inside is here)
+    (start_is (program_bases options m) m (layout_of options m) start inside is here)
 
 -- ---- contents fit their places
 
@@ -214,7 +218,7 @@ all_can_be_placed laws options m sound laid =
     let d : ContentValue = record { segment = 0; offset = 0; bytes = []; fixups = [] } in
     recursion_from_All (CanBePlaced (layout_of options m)) m.contents
     (All-from_get_or (CanBePlaced (layout_of options m)) m.contents d
-        (λ i below. can_be_placed laws options m i d sound (in_memory_and_apart options m laid).0 below))
+    (λ i below. can_be_placed laws options m i d sound (in_memory_and_apart options m laid).0 below))
 
 -- ---- as the calls answer it
 
@@ -226,7 +230,7 @@ pub high_told : ModuleLaws
     → (options : Options) (m : ModuleValue) (segments : List Placed) (contents : List ContentValue) (b : Bool)
     → IsTrue (is_sound m) → m.externals ≡ [] →
     segments ≡ layout_of options m → contents ≡ m.contents
-        → b ≡ list_any (λ c. list_any (loses_with (word_among segments)) c.fixups) contents →
+    → b ≡ list_any (λ c. list_any (loses_with (word_among segments)) c.fixups) contents →
     b ≡ any_loses_low_byte (program_bases options m) (m ∷ [])
 high_told laws options m segments contents b sound closed places same told =
     told
@@ -243,19 +247,19 @@ pub inside_told : ModuleLaws
     → (options : Options) (m : ModuleValue) (segments : List Placed) (id offset place : ℕ) (p : Placed) (b : Bool)
     → IsTrue (is_sound m) → m.start ≡ Some (id, offset) →
     segments ≡ layout_of options m → place ≡ place_among (layout_of options m) id offset → p ≡ placed_in segments 1
-        → b ≡ is_in_placed p place →
+    → b ≡ is_in_placed p place →
     b ≡ is_in_placed (placed_in (layout_of options m) 1) (start_place (program_bases options m) m (id, offset))
 inside_told laws options m segments id offset place p b sound is places placed code told =
     told
     ∙ ap (λ (q : Placed). is_in_placed q place) (code ∙ ap (λ (s : List Placed). placed_in s 1) places)
     ∙ ap (λ (n : ℕ). is_in_placed (placed_in (layout_of options m) 1) n) (placed
-        ∙ start_same laws (layout_of options m) m id offset sound is)
+    ∙ start_same laws (layout_of options m) m id offset sound is)
 
 pub chunks_told : ModuleLaws
     → (options : Options) (m : ModuleValue) (segments : List Placed) (contents : List ContentValue) (chunks : List PlacedBytes)
     → IsTrue (is_sound m) → m.externals ≡ [] →
     segments ≡ layout_of options m → contents ≡ m.contents → chunks ≡ map (chunk_among segments) contents
-        → chunks ≡ located_chunks options m
+    → chunks ≡ located_chunks options m
 chunks_told laws options m segments contents chunks sound closed places same told =
     told
     ∙ ap (λ (s : List Placed). map (chunk_among s) contents) places

@@ -24,7 +24,7 @@ common_address : (p q : Placed) → overlaps p q ≡ true
     → (address : ℕ) × (is_in_placed p address ≡ true) × (is_in_placed q address ≡ true)
 common_address p q both =
     let outer = and_parts (nat_lt 0 p.length && nat_lt 0 q.length && nat_lt p.base (q.base + q.length))
-        (nat_lt q.base (p.base + p.length)) both in
+    (nat_lt q.base (p.base + p.length)) both in
     let inner = and_parts (nat_lt 0 p.length && nat_lt 0 q.length) (nat_lt p.base (q.base + q.length)) outer.0 in
     let some = and_parts (nat_lt 0 p.length) (nat_lt 0 q.length) inner.0 in
     let first_some : 0 < p.length = ltb-true 0 p.length some.0 in

@@ -15,9 +15,9 @@ pub first_with : (a : Placed) (ps : List Placed) (rest : List (Placed × Placed)
 first_with a [] rest = refl
 first_with a (q ∷ qs) rest =
     elim (overlaps a q) as (λ b.
-        option_map ids_of (cond b (Some (a, q)) (find (λ pq. overlaps pq.0 pq.1) (map (λ q. (a, q)) qs ++ rest)))
+    option_map ids_of (cond b (Some (a, q)) (find (λ pq. overlaps pq.0 pq.1) (map (λ q. (a, q)) qs ++ rest)))
     ≡ option_or (option_map (beside a.id) (option_map (λ (p : Placed). p.id) (cond b (Some q) (find (overlaps a) qs))))
-        (first_shared rest))
+    (first_shared rest))
     [ true ↦ refl | false ↦ first_with a qs rest ]
 
 -- the items after one, as a slice of them
@@ -30,8 +30,8 @@ later_items xs i =
 pub pairs_from : (segments : List Placed) (i : ℕ) (d : Placed) → i < length segments →
     first_shared (pairs (drop i segments))
     ≡ option_or (option_map (beside (get_or segments i d).id)
-        (first_over (get_or segments i d) (take (length segments - (i + 1)) (drop (i + 1) segments))))
-        (first_shared (pairs (drop (i + 1) segments)))
+    (first_over (get_or segments i d) (take (length segments - (i + 1)) (drop (i + 1) segments))))
+    (first_shared (pairs (drop (i + 1) segments)))
 pairs_from segments i d inside =
     let next : suc i ≡ i + 1 = omega arith in
     let p = get_or segments i d in
@@ -39,26 +39,26 @@ pairs_from segments i d inside =
     ∙ ap (λ n. first_shared (pairs (p ∷ drop n segments))) next
     ∙ first_with p (drop (i + 1) segments) (pairs (drop (i + 1) segments))
     ∙ ap (λ l. option_or (option_map (beside p.id) (first_over p l)) (first_shared (pairs (drop (i + 1) segments))))
-        (sym (later_items segments i))
+    (sym (later_items segments i))
 
 -- a content and the segments
 content_first : (segments : List Placed) (c : ContentValue) (cs : List ContentValue) →
     first_shared (with_each segments (absolute_places (c ∷ cs)))
     ≡ option_or (option_map (beside 0) (if c.segment == 0 then first_over (absolute_place c) segments else None))
-        (first_shared (with_each segments (absolute_places cs)))
+    (first_shared (with_each segments (absolute_places cs)))
 content_first segments c cs =
     elim (c.segment == 0) as
-        (λ b. first_shared (with_each segments
-        (map absolute_place (cond b (c ∷ filter (λ c. c.segment == 0) cs) (filter (λ c. c.segment == 0) cs))))
+    (λ b. first_shared (with_each segments
+    (map absolute_place (cond b (c ∷ filter (λ c. c.segment == 0) cs) (filter (λ c. c.segment == 0) cs))))
     ≡ option_or (option_map (beside 0) (cond b (first_over (absolute_place c) segments) None))
-        (first_shared (with_each segments (absolute_places cs))))
+    (first_shared (with_each segments (absolute_places cs))))
     [ true ↦ first_with (absolute_place c) segments (with_each segments (absolute_places cs)) | false ↦ refl ]
 
 pub contents_from : (segments : List Placed) (contents : List ContentValue) (i : ℕ) (c : ContentValue) → i < length contents
     → c ≡ get_or contents i c →
     first_shared (with_each segments (absolute_places (drop i contents)))
     ≡ option_or (option_map (beside 0) (if c.segment == 0 then first_over (absolute_place c) segments else None))
-        (first_shared (with_each segments (absolute_places (drop (i + 1) contents))))
+    (first_shared (with_each segments (absolute_places (drop (i + 1) contents))))
 contents_from segments contents i c inside is =
     let next : suc i ≡ i + 1 = omega arith in
     ap (λ l. first_shared (with_each segments (absolute_places l))) (drop-cons contents i c inside)

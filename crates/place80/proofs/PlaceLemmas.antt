@@ -42,9 +42,9 @@ base_of_id laws segments m id new has not_absolute not_stack =
     let or_memory : ℕ = cond (id == 4) (base_in segments 4) or_common in
     let or_data : ℕ = cond (id == 2) (base_in segments 2) or_memory in
     base_or segments id 1 or_data
-        (λ b. base_or segments id 2 or_memory (λ c. base_or segments id 4 or_common (λ e. base_or segments id 255 named (λ f.
+    (λ b. base_or segments id 2 or_memory (λ c. base_or segments id 4 or_common (λ e. base_or segments id 255 named (λ f.
     laws.by_name m.commons (base_in segments) id new
-        (sym (ap (λ fixed. fixed || has_common_id m.commons id) (no_fixed_id id not_absolute b c not_stack e f)) ∙ has)))))
+    (sym (ap (λ fixed. fixed || has_common_id m.commons id) (no_fixed_id id not_absolute b c not_stack e f)) ∙ has)))))
 
 -- the place of an offset in a segment of the program
 pub place_of_id : ModuleLaws → (segments : List Placed) (m : ModuleValue) (id offset : ℕ)
@@ -56,15 +56,15 @@ place_of_id laws segments m id offset new has =
     let by_base : ℕ → ℕ = λ base. (base + offset) % 65536 in
     let base : ℕ = base_of (bases_of m.commons segments) m id + part_start (m ∷ []) 0 id in
     (elim (id == 0) as (λ b. (id == 0) ≡ b
-        → cond b offset (cond (id == 3) at_top (by_base base))
-        ≡ cond b offset (cond (id == 3) at_top (by_base (base_in segments id)))) [
+    → cond b offset (cond (id == 3) at_top (by_base base))
+    ≡ cond b offset (cond (id == 3) at_top (by_base (base_in segments id)))) [
       | true ↦ λ _. refl
       | false ↦ λ not_absolute.
           (elim (id == 3) as (λ b. (id == 3) ≡ b → cond b at_top (by_base base) ≡ cond b at_top (by_base (base_in segments id))) [
             | true ↦ λ _. refl
             | false ↦ λ not_stack.
                 let same : base ≡ base_in segments id =
-                    ap (λ n. n + part_start (m ∷ []) 0 id) (base_of_id laws segments m id new has not_absolute not_stack)
+                ap (λ n. n + part_start (m ∷ []) 0 id) (base_of_id laws segments m id new has not_absolute not_stack)
                 ∙ ap (λ n. base_in segments id + n) (laws.zero_start m id) ∙ omega arith in
                 ap by_base same
           ]) refl

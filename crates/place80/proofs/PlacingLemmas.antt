@@ -21,7 +21,7 @@ from_first_id commons = ap (filter (has_common_id commons)) all_numbers
 pub ids_step : (commons : List Common) (id : ℕ) → id < 255 →
     filter (has_common_id commons) (range_with_len id (255 - id))
     ≡ cond (has_common_id commons id) (id ∷ filter (has_common_id commons) (range_with_len (id + 1) (255 - (id + 1))))
-        (filter (has_common_id commons) (range_with_len (id + 1) (255 - (id + 1))))
+    (filter (has_common_id commons) (range_with_len (id + 1) (255 - (id + 1))))
 ids_step commons id below =
     let left : 255 - id ≡ suc (255 - (id + 1)) = omega arith in
     rw left refl
@@ -46,7 +46,7 @@ whole_layout options m = refl
 pub one_place_more : (options : Options) (m : ModuleValue) (before : ℕ) (ids : List ℕ) (i : ℕ) (segments : List Placed)
     (placed : Placed) → i < length ids → placed ≡ placed_after options m before (get_or ids i 0) →
     (segments ++ placed ∷ []) ++ placed_from options m (placed.base + placed.length) (drop (i + 1) ids) ≡ segments
-        ++ placed_from options m before (drop i ids)
+    ++ placed_from options m before (drop i ids)
 one_place_more options m before ids i segments placed inside is =
     append_assoc segments (placed ∷ []) (placed_from options m (placed.base + placed.length) (drop (i + 1) ids))
     ∙ ap (λ (p : Placed). segments ++ p ∷ placed_from options m (p.base + p.length) (drop (i + 1) ids)) is

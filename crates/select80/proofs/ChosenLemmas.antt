@@ -78,7 +78,7 @@ first_is : {A : Type 0} (test : A → Bool) (from i : ℕ) (xs : List A) (x : A)
 first_is test from i [] x at passes none = absurd (none-some x at)
 first_is test from zero (y ∷ xs) x at passes none =
     ap (λ b. cond b (Some from) (position_from test (from + 1) xs)) (ap test (same_Some y x at) ∙ passes)
-        ∙ ap (λ n. Some n) (let e : from ≡ from + 0 = omega arith in e)
+    ∙ ap (λ n. Some n) (let e : from ≡ from + 0 = omega arith in e)
 first_is test from (suc i) (y ∷ xs) x at passes none =
     ap (λ b. cond b (Some from) (position_from test (from + 1) xs)) (none 0 y (omega arith) refl)
     ∙ first_is test (from + 1) i xs x at passes (λ j z less there. none (suc j) z (omega arith) there)
@@ -94,14 +94,28 @@ is_first : {A : Type 0} (test : A → Bool) (from n : ℕ) (xs : List A) → pos
 is_first test from n [] found = absurd (none-some n found)
 is_first test from n (x ∷ xs) found = elim (cases_Bool (test x)) [
   | inl passes ↦
-      let same = same_Some from n (sym (ap (λ b. cond b (Some from) (position_from test (from + 1) xs)) passes) ∙ found) in
-      (0, omega (arith, same), record { one = x; there = refl; passes = passes;
-          none = λ j y less at. absurd (omega (arith, less)) })
+      let same = same_Some from n (sym (ap (λ b. cond b (Some from) (position_from test (from + 1) xs)) passes) ∙ found) in (
+        0,
+        omega (arith, same),
+        record {
+          one = x;
+          there = refl;
+          passes = passes;
+          none = λ j y less at. absurd (omega (arith, less));
+        },
+      )
   | inr fails ↦
       let later = is_first test (from + 1) n xs (sym (ap (λ b. cond b (Some from) (position_from test (from + 1) xs)) fails)
-          ∙ found) in
-      (suc later.0, omega (arith, later.1), record { one = later.2.one; there = later.2.there; passes = later.2.passes;
-          none = none_more test x xs later.0 fails later.2.none })
+      ∙ found) in (
+        suc later.0,
+        omega (arith, later.1),
+        record {
+          one = later.2.one;
+          there = later.2.there;
+          passes = later.2.passes;
+          none = none_more test x xs later.0 fails later.2.none;
+        },
+      )
 ]
 
 -- ---- what is needed
@@ -113,8 +127,11 @@ kept_option (Some z) ys y has = Contains-append_right (z ∷ []) ys y has
 split_option : {A : Type 0} (o : Option A) (ys : List A) (y : A) → Contains (cons_option o ys) y → (o ≡ Some y) ⊎ Contains ys y
 split_option None ys y has = inr has
 split_option (Some z) ys y has =
-    elim (Contains-append_cases (z ∷ []) ys y has) [ inl first ↦ inl (ap (λ x. Some x) (has_one z y first)) | inr later ↦
-    inr later ]
+    elim (Contains-append_cases (z ∷ []) ys y has) [
+      | inl first ↦ inl (ap (λ x. Some x) (has_one z y first))
+      | inr later ↦
+          inr later
+    ]
 
 needed_has : {A B : Type 0} (h : A → Option B) (xs : List A) (x : A) (y : B) → Contains xs x → h x ≡ Some y
     → Contains (filter_map h xs) y
@@ -160,14 +177,14 @@ below libraries j k q p at_j at_k before = elim (cases_order j k) [
 needs_of : (roots : List ModuleValue) (libraries : List (List ModuleValue)) (m : ModuleValue) (name : List ℕ) (k : ℕ) (p : Chosen)
     → Contains m.externals name →
     first_provider (roots ++ members libraries) name ≡ Some (length roots + k) → slice_get (places_from 0 libraries) k ≡ Some p
-        → Needs roots libraries m p
+    → Needs roots libraries m p
 needs_of roots libraries m name k p external gives at_p =
     let found = is_first (declares name) 0 (length roots + k) (roots ++ members libraries) gives in
     let is : found.0 ≡ length roots + k = omega (arith, found.1) in
     let there = sym (at_right roots (members libraries) k) ∙ ap (slice_get (roots ++ members libraries)) (sym is)
-        ∙ found.2.there in
+    ∙ found.2.there in
     let stands = beside (Stands libraries) (places_from 0 libraries) (members libraries) k found.2.one
-        (places_stand libraries) there in
+    (places_stand libraries) there in
     let same = same_Some stands.0 p (sym stands.1 ∙ at_p) in
     record {
       name = name;
@@ -182,14 +199,14 @@ needs_of roots libraries m name k p external gives at_p =
             let number = number_at libraries q y at_q in
             let less = below libraries number.0 k q p number.1 at_p before in
             found.2.none (length roots + number.0) y (omega (arith, less, is)) (at_right roots (members libraries) number.0
-                ∙ number.2);
+            ∙ number.2);
       };
     }
 
 number_of : (roots : List ModuleValue) (libraries : List (List ModuleValue)) (name : List ℕ) (p : Chosen)
     → list_any (declares name) roots ≡ false → IsFirstProvider libraries name p →
     (k : ℕ) × (slice_get (places_from 0 libraries) k ≡ Some p)
-        × (first_provider (roots ++ members libraries) name ≡ Some (length roots + k))
+    × (first_provider (roots ++ members libraries) name ≡ Some (length roots + k))
 number_of roots libraries name p none first =
     let at = number_at libraries p first.provider first.there in (
       at.0,
@@ -201,10 +218,10 @@ number_of roots libraries name p none first =
             | inr back ↦
                 let there = at_back roots (members libraries) j back in
                 let stands = beside (Stands libraries) (places_from 0 libraries) (members libraries) there.0 y
-                    (places_stand libraries) (sym there.2 ∙ at_j) in
+                (places_stand libraries) (sym there.2 ∙ at_j) in
                 first.none_before stands.0 y
                 (in_order (places_from 0 libraries) there.0 at.0 stands.0 p (places_ascend 0 libraries)
-                    (omega (arith, less, there.1)) stands.1 at.1) stands.2
+                (omega (arith, less, there.1)) stands.1 at.1) stands.2
           ])
           ∙ ap (λ n. Some n) (let e : 0 + (length roots + at.0) ≡ length roots + at.0 = omega arith in e),
     )
@@ -223,13 +240,13 @@ chosen_from roots libraries n (needed_by user _ m from at needs) k p same at_p =
       | inr back ↦
           let there = at_back roots (members libraries) user back in
           let stands = beside (Stands libraries) (places_from 0 libraries) (members libraries) there.0 m (places_stand libraries)
-              (sym there.2 ∙ at) in
+          (sym there.2 ∙ at) in
           by_member stands.0 p m (chosen_from roots libraries user from there.0 stands.0 there.1 stands.1) stands.2 by
     ]
 
 reached_from : (roots : List ModuleValue) (libraries : List (List ModuleValue)) (p : Chosen) → IsChosen roots libraries p →
     (k : ℕ) × (slice_get (places_from 0 libraries) k ≡ Some p)
-        × IsReached (roots ++ members libraries) (length roots) (length roots + k)
+    × IsReached (roots ++ members libraries) (length roots) (length roots + k)
 reached_from roots libraries p (by_root r _ has needs) =
     let number = number_of roots libraries needs.name p needs.in_no_root needs.first in
     let at = at_has roots r has in (
@@ -238,20 +255,20 @@ reached_from roots libraries p (by_root r _ has needs) =
       needed_by at.0 (length roots + number.0) r (root at.0 (slice_get_within roots at.0 r at.1))
           (at_left roots (members libraries) at.0 r at.1)
           (needed_has (first_provider (roots ++ members libraries)) r.externals needs.name
-              (length roots + number.0) needs.external number.2),
+          (length roots + number.0) needs.external number.2),
     )
 reached_from roots libraries p (by_member q _ m from at needs) =
     let number = number_of roots libraries needs.name p needs.in_no_root needs.first in
     let user = reached_from roots libraries q from in
     let stands = agrees (Stands libraries) (places_from 0 libraries) (members libraries) user.0 q
-        (places_stand libraries) user.1 in
+    (places_stand libraries) user.1 in
     let same = same_Some stands.0 m (sym stands.2 ∙ at) in (
       number.0,
       number.1,
       needed_by (length roots + user.0) (length roots + number.0) m user.2 (at_right roots (members libraries) user.0 ∙ stands.1
           ∙ ap (λ x. Some x) same)
           (needed_has (first_provider (roots ++ members libraries)) m.externals needs.name
-              (length roots + number.0) needs.external number.2),
+          (length roots + number.0) needs.external number.2),
     )
 
 marked_are_chosen : (roots : List ModuleValue) (libraries : List (List ModuleValue)) (marked : List Bool)
@@ -261,7 +278,7 @@ marked_are_chosen roots libraries marked are p = (
   λ has.
       let at = mark_of (places_from 0 libraries) (drop (length roots) marked) p has in
       chosen_from roots libraries (length roots + at.0)
-          ((are.reached (length roots + at.0)).0 (sym (get_or-drop (length roots) marked at.0 false) ∙ at.2)) at.0 p refl at.1,
+      ((are.reached (length roots + at.0)).0 (sym (get_or-drop (length roots) marked at.0 false) ∙ at.2)) at.0 p refl at.1,
   λ chosen.
       let from = reached_from roots libraries p chosen in
       marked_has (places_from 0 libraries) (drop (length roots) marked) p from.0 from.1
@@ -271,7 +288,7 @@ marked_are_chosen roots libraries marked are p = (
 pub selected : (roots : List ModuleValue) (libraries : List (List ModuleValue)) (row : List ModuleValue) (marked : List Bool)
     (taken : List Chosen) →
     row ≡ roots ++ members libraries → AreReached row (length roots) marked
-        → taken ≡ marked_places (places_from 0 libraries) (drop (length roots) marked) →
+    → taken ≡ marked_places (places_from 0 libraries) (drop (length roots) marked) →
     (p : Chosen) → Contains taken p ↔ IsChosen roots libraries p
 selected roots libraries row marked taken is are gives p =
     subst (λ (ps : List Chosen). Contains ps p ↔ IsChosen roots libraries p) (sym gives)

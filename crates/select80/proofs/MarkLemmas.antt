@@ -102,8 +102,11 @@ pub marks_more : (ns ms : List ℕ) (marked marked1 marked2 : List Bool) (queue 
     Marks ns marked queue marked1 queue1 → Marks ms marked1 queue1 marked2 queue2 → Marks (ns ++ ms) marked queue marked2 queue2
 marks_more ns ms marked marked1 marked2 queue queue1 queue2 first next = record {
   kept = λ k is. next.kept k (first.kept k is);
-  all = λ k has. elim (Contains-append_cases ns ms k has) [ inl early ↦ next.kept k (first.all k early) | inr late ↦
-      next.all k late ];
+  all = λ k has. elim (Contains-append_cases ns ms k has) [
+    | inl early ↦ next.kept k (first.all k early)
+    | inr late ↦
+        next.all k late
+  ];
   only = λ k is. elim (next.only k is) [
     | inl before ↦ elim (first.only k before) [ inl was ↦ inl was | inr early ↦ inr (Contains-append_left ns ms k early) ]
     | inr late ↦ inr (Contains-append_right ns ms k late)
@@ -190,12 +193,12 @@ pub marks_next : (h : List ℕ
     → Option ℕ) (names : List (List ℕ)) (i : ℕ) (name : List ℕ) (number : Option ℕ) (marked marked1 marked2 : List Bool)
     (queue queue1 queue2 : List ℕ) →
     i < length names → name ≡ get_or names i name → number ≡ h name
-        → Marks (filter_map h (take i names)) marked queue marked1 queue1 →
+    → Marks (filter_map h (take i names)) marked queue marked1 queue1 →
     Marks (cons_option number []) marked1 queue1 marked2 queue2
-        → Marks (filter_map h (take (i + 1) names)) marked queue marked2 queue2
+    → Marks (filter_map h (take (i + 1) names)) marked queue marked2 queue2
 marks_next h names i name number marked marked1 marked2 queue queue1 queue2 inside is gives before next =
     let more = take_more names i name inside ∙ ap (λ x. take i names ++ x ∷ []) (sym is) in
     let all = ap (filter_map h) more ∙ filter_map-append h (take i names) (name ∷ [])
-        ∙ ap (λ (o : Option ℕ). filter_map h (take i names) ++ cons_option o []) (sym gives) in
+    ∙ ap (λ (o : Option ℕ). filter_map h (take i names) ++ cons_option o []) (sym gives) in
     subst (λ (ns : List ℕ). Marks ns marked queue marked2 queue2) (sym all)
-        (marks_more (filter_map h (take i names)) (cons_option number []) marked marked1 marked2 queue queue1 queue2 before next)
+    (marks_more (filter_map h (take i names)) (cons_option number []) marked marked1 marked2 queue queue1 queue2 before next)

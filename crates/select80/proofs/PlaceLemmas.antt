@@ -85,7 +85,7 @@ Stands libraries p m = module_at libraries p ≡ Some m
 stand_in : (libraries : List (List ModuleValue)) (library at : ℕ) (l ms : List ModuleValue)
     → slice_get libraries library ≡ Some l →
     ((j : ℕ) (m : ModuleValue) → slice_get ms j ≡ Some m → slice_get l (at + j) ≡ Some m)
-        → AllZip (Stands libraries) (places_in library at ms) ms
+    → AllZip (Stands libraries) (places_in library at ms) ms
 stand_in libraries library at l [] is same = tt
 stand_in libraries library at l (m ∷ ms) is same = (
   ap (option_and_then (λ modules. slice_get modules at)) is ∙ ap (slice_get l) (omega arith) ∙ same 0 m refl,
@@ -94,11 +94,11 @@ stand_in libraries library at l (m ∷ ms) is same = (
 
 stand_from : (whole libraries : List (List ModuleValue)) (at : ℕ) →
     ((i : ℕ) (l : List ModuleValue) → slice_get libraries i ≡ Some l → slice_get whole (at + i) ≡ Some l)
-        → AllZip (Stands whole) (places_from at libraries) (members libraries)
+    → AllZip (Stands whole) (places_from at libraries) (members libraries)
 stand_from whole [] at same = tt
 stand_from whole (l ∷ ls) at same = zip_append (Stands whole) (places_in at 0 l) (places_from (at + 1) ls) l (members ls)
     (stand_in whole at 0 l l (ap (slice_get whole) (omega arith) ∙ same 0 l refl) (λ j m there. ap (slice_get l) (omega arith)
-        ∙ there))
+    ∙ there))
     (stand_from whole ls (at + 1) (λ i m there. ap (slice_get whole) (omega arith) ∙ same (suc i) m there))
 
 pub places_stand : (libraries : List (List ModuleValue)) → AllZip (Stands libraries) (places_from 0 libraries) (members libraries)
@@ -109,11 +109,11 @@ has_in : (library at j : ℕ) (ms : List ModuleValue) (m : ModuleValue) → slic
 has_in library at j [] m there = absurd (none-some m there)
 has_in library at zero (n ∷ ms) m there =
     Contains-append_left (place library at ∷ []) (places_in library (at + 1) ms) (place library (at + 0))
-        (is_one (place library at) _ (ap (place library) (omega arith)))
+    (is_one (place library at) _ (ap (place library) (omega arith)))
 has_in library at (suc j) (n ∷ ms) m there =
     Contains-append_right (place library at ∷ []) (places_in library (at + 1) ms) (place library (at + suc j))
     (subst (λ (x : ℕ). Contains (places_in library (at + 1) ms) (place library x)) (omega arith)
-        (has_in library (at + 1) j ms m there))
+    (has_in library (at + 1) j ms m there))
 
 has_from : (at i j : ℕ) (libraries : List (List ModuleValue)) (l : List ModuleValue) (m : ModuleValue)
     → slice_get libraries i ≡ Some l → slice_get l j ≡ Some m →
@@ -132,7 +132,7 @@ pub has_place : (libraries : List (List ModuleValue)) (p : Chosen) (m : ModuleVa
 has_place libraries p m there =
     option_and_then_some (λ modules. slice_get modules p.module) (slice_get libraries p.library) m there (λ l library inside.
     subst (λ (x : ℕ). Contains (places_from 0 libraries) (place x p.module)) (omega arith)
-        (has_from 0 p.library p.module libraries l m library inside))
+    (has_from 0 p.library p.module libraries l m library inside))
 
 -- ---- marked places
 

@@ -47,10 +47,10 @@ same_list (p ∷ ps) (q ∷ qs) up_ps up_qs same =
     let before_qs = subst (λ (x : Chosen). AllByRecursion (IsBefore x) qs) (sym is) up_qs.0 in
     let with_p = subst (λ (y : Chosen). (x : Chosen) → Contains (p ∷ ps) x ↔ Contains (y ∷ qs) x) (sym is) same in
     let rest = same_list ps qs up_ps.1 up_qs.1
-        (λ x. (stays_later p x ps qs up_ps.0 (with_p x).0, stays_later p x qs ps before_qs (with_p x).1)) in
+    (λ x. (stays_later p x ps qs up_ps.0 (with_p x).0, stays_later p x qs ps before_qs (with_p x).1)) in
     ap (λ x. x ∷ ps) is ∙ ap (λ xs. q ∷ xs) rest
 
 pub selections_are_unique : SelectionsAreUnique
 selections_are_unique roots libraries one other one_is one_up other_is other_up =
     same_list one other one_up other_up
-        (λ x. (λ has. (other_is x).1 ((one_is x).0 has), λ has. (one_is x).1 ((other_is x).0 has)))
+    (λ x. (λ has. (other_is x).1 ((one_is x).0 has), λ has. (one_is x).1 ((other_is x).0 has)))

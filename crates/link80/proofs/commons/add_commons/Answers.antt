@@ -11,7 +11,7 @@ loop-common-preserved c = (
       (map (λ (k : Common). k.name) (drop (c.loop-common.common-index + 1) c.commons-common-items.result.now)))
       c.in_ok-add_name.ensures.names
       ∙ one_name_more (λ (k : Common). k.name) c.commons-common-items.result.now c.loop-common.common-index c.common-item.result
-          c.loop-common.names c.loop-common-test.true c.common-item.is
+      c.loop-common.names c.loop-common-test.true c.common-item.is
       ∙ c.loop-common.invariant.0,
   λ same. c.in_ok-add_name.ensures.copies (c.loop-common.invariant.1 same),
 )

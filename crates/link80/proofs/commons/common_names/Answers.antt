@@ -14,7 +14,7 @@ loop-number-preserved c =
       ap (λ names. with_names names left) c.in_ok-add_commons.ensures.names
           ∙ with_both c.loop-number.names (names_of_commons c.get.result.now) left
           ∙ ap (λ ms. with_names c.loop-number.names (flat_map names_of_commons ms))
-              (sym (left_at c.args.modules.now c.loop-number.number c.get.result.now c.get.ensures))
+          (sym (left_at c.args.modules.now c.loop-number.number c.get.result.now c.get.ensures))
           ∙ c.loop-number.invariant.0,
       c.in_ok-add_commons.ensures.copies c.loop-number.invariant.1,
     )
@@ -22,9 +22,9 @@ loop-number-preserved c =
 pub returns-clause-names : goal.returns-clause-names
 returns-clause-names c =
     let past : length c.args.modules.now ≤ c.loop-number.number =
-        omega (arith, c.loop-number-test.false, c.len-number-end.ensures) in
+    omega (arith, c.loop-number-test.false, c.len-number-end.ensures) in
     sym (at_drop_all (λ ms. with_names c.loop-number.names (flat_map names_of_commons ms)) c.args.modules.now c.loop-number.number
-        past)
+    past)
     ∙ c.loop-number.invariant.0
     ∙ first_sights (flat_map names_of_commons c.args.modules.now)
 

@@ -8,5 +8,5 @@ use Rattle.link80.proofs.commons.common_names.Given as goal
 abbrev pub invariant-loop-number : goal.invariant-loop-number
 invariant-loop-number l =
     (with_names l.names (flat_map names_of_commons (drop l.number l.modules))
-        ≡ with_names [] (flat_map names_of_commons l.modules))
+    ≡ with_names [] (flat_map names_of_commons l.modules))
     × (l.copies.items ≡ l.names)

@@ -32,15 +32,15 @@ loop-number-preserved c =
 none_left : (c : After-loop-number) → drop c.loop-number.number c.args.modules.now ≡ []
 none_left c =
     let past : length c.args.modules.now ≤ c.loop-number.number =
-        omega (arith, c.loop-number-test.false, c.len-number-end.ensures) in
+    omega (arith, c.loop-number-test.false, c.len-number-end.ensures) in
     drop_all c.loop-number.number c.args.modules.now past
 
 pub returns-clause-names : goal.returns-clause-names
 returns-clause-names c =
     sym (append-nil c.loop-number.names) ∙ ap (λ ms. c.loop-number.names ++ flat_map names_of_publics ms) (sym (none_left c))
-        ∙ c.loop-number.invariant.0 ∙ sym (names_linked c.args.modules.now)
+    ∙ c.loop-number.invariant.0 ∙ sym (names_linked c.args.modules.now)
 
 pub returns-clause-once : goal.returns-clause-once
 returns-clause-once c =
     ap (option_map DuplicatePublic) (again_linked c.args.modules.now ∙ c.loop-number.invariant.1
-        ∙ ap (λ ms. again_in c.loop-number.names (flat_map names_of_publics ms)) (none_left c))
+    ∙ ap (λ ms. again_in c.loop-number.names (flat_map names_of_publics ms)) (none_left c))

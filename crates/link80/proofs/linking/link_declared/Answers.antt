@@ -20,9 +20,9 @@ link_laid-requires-clause-segments_fit c = ap segment_too_long c.in_ok-laid.ensu
 pub returns-clause-made : goal.returns-clause-made
 returns-clause-made c =
     subst (λ (ms : List ModuleValue). IfOk c.link_laid.result (λ made. IsLinkOf c.args.name.now ms made.0 made.1.items))
-        c.in_ok-laid.ensures.same c.link_laid.ensures.made
+    c.in_ok-laid.ensures.same c.link_laid.ensures.made
 
 pub returns-clause-fault : goal.returns-clause-fault
 returns-clause-fault c =
     subst (λ (ms : List ModuleValue). IfErr c.link_laid.result (IsFirstFault ms)) c.in_ok-laid.ensures.same
-        c.link_laid.ensures.fault
+    c.link_laid.ensures.fault

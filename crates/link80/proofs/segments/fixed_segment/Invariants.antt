@@ -7,4 +7,4 @@ use Rattle.link80.proofs.segments.fixed_segment.Given as goal
 abbrev pub invariant-loop-number : goal.invariant-loop-number
 invariant-loop-number l =
     with_parts (λ m. segment_in m.segments l.id) l.segment (drop l.number l.joined)
-        ≡ with_parts (λ m. segment_in m.segments l.id) empty_segment l.joined
+    ≡ with_parts (λ m. segment_in m.segments l.id) empty_segment l.joined

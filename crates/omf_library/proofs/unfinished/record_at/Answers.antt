@@ -13,4 +13,4 @@ returns-in-Err-clause-cut_off c =
 pub returns-in-Err-2-clause-fault : goal.returns-in-Err-2-clause-fault
 returns-in-Err-2-clause-fault c =
     rw c.of_record.ensures (record_lasts c.other_faults_stay.ensures c.args.bytes.now c.args.at c.in-Err.fault
-        (sym c.if-is_truncated.ensures) (sym c.in-Err.ensures.fault))
+    (sym c.if-is_truncated.ensures) (sym c.in-Err.ensures.fault))

@@ -6,4 +6,4 @@ pub returns : goal.returns
 returns c =
     c.exceeds.ensures
     ∙ too_large_is c.args.modules.now c.args.names.now c.args.places.now c.args.dictionary.now c.args.bytes.now c.requires.names
-        c.requires.places c.requires.dictionary c.requires.bytes
+    c.requires.places c.requires.dictionary c.requires.bytes

@@ -23,5 +23,5 @@ returns c =
     let header : c.in_ok-header.header.items ≡ header_body ms = search rules in
     subst (λ (x : List ℕ). IfOk c.file_of.result (λ file. file.items ≡ x))
     (file_is ms c.deref.result.now c.args.bytes.now index.names.items index.locations.items index.dictionary.items
-        (c.deref.ensures.value ∙ header) c.requires.bytes c.requires.names c.requires.locations c.requires.dictionary)
+    (c.deref.ensures.value ∙ header) c.requires.bytes c.requires.names c.requires.locations c.requires.dictionary)
     c.file_of.ensures

@@ -14,7 +14,7 @@ loop-place-preserved c = record {
   made = item_taken (λ (l : List ℕ). flat_map location_bytes l) _ c.args.places.now c.loop-place.place-index _
       c.loop-place.body.items c.push_location.new.out.items
       (flat_map location_bytes c.args.places.now) c.loop-place.invariant.made c.loop-place-test.true refl
-          c.in_ok-push_location.ensures;
+      c.in_ok-push_location.ensures;
   few = rest_have (λ (place : ℕ). place / 128 ≤ 65535) c.args.places.now c.loop-place.place-index 0 c.loop-place.invariant.few
       c.loop-place-test.true;
 }

@@ -25,13 +25,13 @@ loop-source-preserved c = record {
 pub returns-clause-bytes : goal.returns-clause-bytes
 returns-clause-bytes c =
     all_taken (λ (l : List ModuleValue). flat_map module_bytes l) c.args.modules.now c.loop-source.source-index
-        c.loop-source.bytes.items (flat_map module_bytes c.args.modules.now)
+    c.loop-source.bytes.items (flat_map module_bytes c.args.modules.now)
     c.loop-source.invariant.bytes c.loop-source-test.false refl
 
 pub returns-clause-places : goal.returns-clause-places
 returns-clause-places c =
     all_taken (places_from (10 + length c.loop-source.bytes.items)) c.args.modules.now c.loop-source.source-index
-        c.loop-source.places.items (places_from 10 c.args.modules.now)
+    c.loop-source.places.items (places_from 10 c.args.modules.now)
     c.loop-source.invariant.places c.loop-source-test.false refl
 
 pub returns-clause-read : goal.returns-clause-read

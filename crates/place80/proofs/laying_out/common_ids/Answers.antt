@@ -21,14 +21,14 @@ loop-id-preserved c =
     let id = c.loop-id.id in
     let rest = filter (has_common_id commons) (range_with_len (id + 1) (255 - (id + 1))) in
     let before = ap (λ (x : List ℕ). c.loop-id.ids.items ++ x) (sym (ids_step commons id c.loop-id-test.true))
-        ∙ c.loop-id.invariant.ids in
+    ∙ c.loop-id.invariant.ids in
     let few : length c.loop-id.ids.items + 6 ≤ id = c.loop-id.invariant.few in
     elim c.if-has_common_id.branch [
       | then-has_common_id+in_ok-push w ↦
           let items : c.if-has_common_id.ids.items ≡ c.loop-id.ids.items ++ id ∷ [] = ap (λ (v : Vec ℕ). v.items) w.ids-is
-              ∙ w.in_ok-push.ensures.items in
+          ∙ w.in_ok-push.ensures.items in
           let longer : length c.if-has_common_id.ids.items ≡ length c.loop-id.ids.items + 1 = ap (λ (l : List ℕ). length l) items
-              ∙ length-append c.loop-id.ids.items (id ∷ []) in
+          ∙ length-append c.loop-id.ids.items (id ∷ []) in
           record {
             ids = ap (λ (x : List ℕ). x ++ rest) items
                 ∙ sym (with_id c.loop-id.ids.items rest (has_common_id commons id) id (sym c.has_common_id.ensures
@@ -50,4 +50,4 @@ pub returns-clause-ids : goal.returns-clause-ids
 returns-clause-ids c =
     sym (append-nil c.loop-id.ids.items)
     ∙ (ap (λ (x : List ℕ). c.loop-id.ids.items ++ x) (sym (ids_end c.args.commons.now c.loop-id.id c.loop-id-test.false))
-        ∙ c.loop-id.invariant.ids)
+    ∙ c.loop-id.invariant.ids)

@@ -23,13 +23,13 @@ loop-placed-preserved c =
       | then-placed-eq-CODE+in_ok-push_filled w ↦
           ap (λ (v : Vec Range). v.items ++ rest) w.ranges-is
           ∙ ap (λ l. l ++ rest) (w.in_ok-push_filled.ensures
-              ∙ ap (λ r. c.loop-placed.ranges.items ++ filled (r ∷ [])) w.range_at.ensures)
+          ∙ ap (λ r. c.loop-placed.ranges.items ++ filled (r ∷ [])) w.range_at.ensures)
           ∙ one_range_more test c.args.segments.now c.loop-placed.placed-index first c.loop-placed.ranges.items
-              c.loop-placed-test.true (eq-eqb _ 1 w.if-placed-eq-CODE.true)
+          c.loop-placed-test.true (eq-eqb _ 1 w.if-placed-eq-CODE.true)
           ∙ c.loop-placed.invariant
       | else-placed-eq-CODE w ↦
           ap (λ (v : Vec Range). v.items ++ rest) w.ranges-is
           ∙ no_range_more test c.args.segments.now c.loop-placed.placed-index first c.loop-placed.ranges.items
-              c.loop-placed-test.true (ne_eqb _ 1 w.if-placed-eq-CODE.false)
+          c.loop-placed-test.true (ne_eqb _ 1 w.if-placed-eq-CODE.false)
           ∙ c.loop-placed.invariant
     ]

@@ -22,13 +22,13 @@ loop-placed-preserved c =
       | then-is_data+in_ok-push_filled w ↦
           ap (λ (v : Vec Range). v.items ++ rest) w.ranges-is
           ∙ ap (λ l. l ++ rest) (w.in_ok-push_filled.ensures
-              ∙ ap (λ r. c.loop-placed.ranges.items ++ filled (r ∷ [])) w.range_at.ensures)
+          ∙ ap (λ r. c.loop-placed.ranges.items ++ filled (r ∷ [])) w.range_at.ensures)
           ∙ one_range_more test c.args.segments.now c.loop-placed.placed-index first c.loop-placed.ranges.items
-              c.loop-placed-test.true (sym c.is_data.ensures ∙ w.if-is_data.true)
+          c.loop-placed-test.true (sym c.is_data.ensures ∙ w.if-is_data.true)
           ∙ c.loop-placed.invariant
       | else-is_data w ↦
           ap (λ (v : Vec Range). v.items ++ rest) w.ranges-is
           ∙ no_range_more test c.args.segments.now c.loop-placed.placed-index first c.loop-placed.ranges.items
-              c.loop-placed-test.true (sym c.is_data.ensures ∙ w.if-is_data.false)
+          c.loop-placed-test.true (sym c.is_data.ensures ∙ w.if-is_data.false)
           ∙ c.loop-placed.invariant
     ]

@@ -30,17 +30,17 @@ from_disjoint-requires-clause-data_filled c =
 pub from_disjoint-requires-clause-code_in_memory : goal.from_disjoint-requires-clause-code_in_memory
 from_disjoint-requires-clause-code_in_memory c =
     subst (λ (l : List Range). All IsInMemory l) (sym c.in_ok-code.ensures)
-        (code_in_memory c.args.segments.now c.requires.ends (All-from_recursion HasWord c.args.segments.now c.requires.words))
+    (code_in_memory c.args.segments.now c.requires.ends (All-from_recursion HasWord c.args.segments.now c.requires.words))
 
 pub from_disjoint-requires-clause-stack_in_memory : goal.from_disjoint-requires-clause-stack_in_memory
 from_disjoint-requires-clause-stack_in_memory c =
     subst (λ (r : Range). IsInMemory r) (sym c.stack_range-stack.ensures)
-        (stack_in_memory c.args.segments.now c.requires.ends (All-from_recursion HasWord c.args.segments.now c.requires.words))
+    (stack_in_memory c.args.segments.now c.requires.ends (All-from_recursion HasWord c.args.segments.now c.requires.words))
 
 pub from_disjoint-requires-clause-data_in_memory : goal.from_disjoint-requires-clause-data_in_memory
 from_disjoint-requires-clause-data_in_memory c =
     subst (λ (l : List Range). All IsInMemory l) (sym c.in_ok-data_ranges.ensures)
-        (data_in_memory c.args.segments.now c.requires.ends (All-from_recursion HasWord c.args.segments.now c.requires.words))
+    (data_in_memory c.args.segments.now c.requires.ends (All-from_recursion HasWord c.args.segments.now c.requires.words))
 
 pub from_disjoint-requires-clause-disjoint : goal.from_disjoint-requires-clause-disjoint
 from_disjoint-requires-clause-disjoint c =

@@ -10,10 +10,10 @@ get-requires c = (search_inside c.args.row.now c.args.roots c.loop-looked_at.loo
 pub loop-looked_at-preserved : goal.loop-looked_at-preserved
 loop-looked_at-preserved c =
     let at = (search_inside c.args.row.now c.args.roots c.loop-looked_at.looked_at c.index-number.result.now
-        c.loop-looked_at.search.marked.items c.loop-looked_at.search.queue.items
+    c.loop-looked_at.search.marked.items c.loop-looked_at.search.queue.items
     c.loop-looked_at.invariant (omega (arith, c.loop-looked_at-test.true, c.len.ensures)) c.index-number.ensures).0 in
     search_next c.args.row.now c.args.roots c.loop-looked_at.looked_at c.index-number.result.now c.get.result.now
-        c.loop-looked_at.search.marked.items _
+    c.loop-looked_at.search.marked.items _
     c.loop-looked_at.search.queue.items _ c.loop-looked_at.invariant at c.get.ensures c.in_ok-mark_needed.ensures
 
 pub returns : goal.returns

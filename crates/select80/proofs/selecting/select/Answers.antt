@@ -11,7 +11,7 @@ returns c =
     let roots = length c.args.roots.now in
     let marked = drop roots c.in_ok-marked.marked.items in
     let gives = ap (marked_places c.as_slice.result.now) (take_rest c.deref.result.now roots
-        ∙ ap (drop roots) c.deref.ensures.value)
+    ∙ ap (drop roots) c.deref.ensures.value)
     ∙ ap (λ ps. marked_places ps marked) (c.as_slice.ensures.value ∙ c.in_ok-places.ensures) in
     record {
       chosen = IfOk-weaker c.with_mark.result _ _

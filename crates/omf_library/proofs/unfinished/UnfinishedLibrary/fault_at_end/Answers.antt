@@ -9,11 +9,11 @@ returns-in-Header-clause-fault c =
 pub returns-in-Modules-clause-fault : goal.returns-in-Modules-clause-fault
 returns-in-Modules-clause-fault c =
     faults_in_modules c.args.bytes.now _ c.args.self.now.modules.items c.args.self.now.next c.fault_in_modules.result
-        (rw c.in-Modules.is at c.requires.reads) (rw c.in-Modules.is at c.requires.waits)
+    (rw c.in-Modules.is at c.requires.reads) (rw c.in-Modules.is at c.requires.waits)
     c.fault_in_modules.ensures.between c.fault_in_modules.ensures.inside
 
 pub returns-in-Index-clause-fault : goal.returns-in-Index-clause-fault
 returns-in-Index-clause-fault c =
     faults_in_index c.args.bytes.now _ c.in-Index.at c.args.self.now.modules.items c.fault_where_cut-in-Index.result
-        (rw c.in-Index.is at c.requires.reads) (rw c.in-Index.is at c.requires.waits)
+    (rw c.in-Index.is at c.requires.reads) (rw c.in-Index.is at c.requires.waits)
     c.fault_where_cut-in-Index.ensures
