@@ -22,17 +22,21 @@ pub record IsLocated (options : Options) (image : Located) (program : ModuleValu
   pub own_name : image.name ≡ program.name
   pub memory : (address : ℕ) → byte_at image.chunks address ≡ image_byte (program_bases options program) (program ∷ []) address
   pub high : any_loses_low_byte (program_bases options program) (program ∷ []) ≡ false
-  pub regions : let segments = layout_of options program in Arranges (located_code segments) (located_stack segments) (located_data segments) image.regions
+  pub regions : let segments = layout_of options program in
+      Arranges (located_code segments) (located_stack segments) (located_data segments) image.regions
   pub begin : Some image.start ≡ option_map (start_place (program_bases options program) program) program.start
 
-pub holds_modules : LinkedBytesAreTheModules → (options : Options) (name : List ℕ) (modules : List ModuleValue) (program : ModuleValue) (image : Located)
-    → AllByRecursion IsModule modules → link_fault modules ≡ None → program ≡ linked name modules → IsLocated options image program
+pub holds_modules : LinkedBytesAreTheModules
+    → (options : Options) (name : List ℕ) (modules : List ModuleValue) (program : ModuleValue) (image : Located)
+    → AllByRecursion IsModule modules → link_fault modules ≡ None → program ≡ linked name modules
+    → IsLocated options image program
     → HoldsModules options name modules image
 holds_modules keeps options name modules program image sound none is told =
     let located : IsLocated options image (linked name modules) = subst (IsLocated options image) is told in
     record {
       own_name = located.own_name;
-      bytes = λ address. located.memory address ∙ keeps name modules (linked_bases options name modules) sound none located.high address;
+      bytes = λ address. located.memory address
+          ∙ keeps name modules (linked_bases options name modules) sound none located.high address;
       regions = located.regions;
       begin = located.begin;
     }

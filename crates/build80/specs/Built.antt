@@ -10,12 +10,11 @@ use Rattle.link80.specs.Linked.{linked, starts}
 use Rattle.link80.specs.LinkFault.{link_fault}
 use Rattle.link80.specs.Selection.{IsSelection, modules_with, CannotBeLinked}
 use Rattle.image80.specs.Image.{Located, byte_at}
-use Rattle.image80.specs.Regions.{Arranges}
 use Rattle.place80.specs.declared.options.Options.{Options}
 use Rattle.place80.specs.declared.placed_segments.Placed.{Placed}
 use Rattle.place80.specs.declared.place_fault.PlaceFault.{PlaceFault}
 use Rattle.place80.specs.Layout.{layout_of, program_bases}
-use Rattle.place80.specs.Locating.{located_code, located_stack, located_data}
+use Rattle.place80.specs.Locating.{ArrangesSegments}
 use Rattle.place80.specs.PlaceFault.{locate_fault, start_place}
 use Rattle.build80.specs.declared.fault.BuildFault.{BuildFault}
 use Rattle.build80.specs.declared.fault.BuildFault.TheVariants.{Link, Place}
@@ -32,8 +31,9 @@ linked_bases options name modules = program_bases options (linked name modules)
 pub record HoldsModules (options : Options) (name : List ℕ) (modules : List ModuleValue) (image : Located) : Type 0 where
   pub own_name : image.name ≡ name
   pub bytes : (address : ℕ) → byte_at image.chunks address ≡ image_byte (linked_bases options name modules) modules address
-  pub regions : let segments = linked_layout options name modules in Arranges (located_code segments) (located_stack segments) (located_data segments) image.regions
-  pub begin : Some image.start ≡ option_map (start_place (linked_bases options name modules) (linked name modules)) (slice_get (starts modules) 0)
+  pub regions : ArrangesSegments (linked_layout options name modules) image.regions
+  pub begin : Some image.start
+      ≡ option_map (start_place (linked_bases options name modules) (linked name modules)) (slice_get (starts modules) 0)
 
 -- nothing forbids to link the modules, nor to locate what they are linked into
 pub record HasNoFault (options : Options) (name : List ℕ) (modules : List ModuleValue) : Type 0 where
@@ -41,7 +41,8 @@ pub record HasNoFault (options : Options) (name : List ℕ) (modules : List Modu
   pub in_place : locate_fault options (linked name modules) ≡ None
 
 -- what the roots need can't be linked with them, or can, and the linked module can't be located; and this is the first cause
-pub data CannotBeBuilt (options : Options) (name : List ℕ) (roots : List ModuleValue) (libraries : List (List ModuleValue)) : BuildFault → Type 0 where
+pub data CannotBeBuilt (options : Options) (name : List ℕ) (roots : List ModuleValue)
+    (libraries : List (List ModuleValue)) : BuildFault → Type 0 where
   by_link : (fault : LinkFault) → CannotBeLinked roots libraries fault → CannotBeBuilt options name roots libraries (Link fault)
   by_place : (taken : List Chosen) (fault : PlaceFault)
       → IsSelection roots libraries taken

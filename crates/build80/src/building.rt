@@ -48,8 +48,10 @@ pub fn build(
     options: &Options,
 ) -> Result<Built, BuildFault>
     ensures taken { IfOk result (λ built. IsSelection roots.now libraries.now built.taken.items) }
-    ensures image { IfOk result (λ built. HoldsModules options.now name.now (modules_with roots.now libraries.now built.taken.items) built.image) }
-    ensures no_fault { IfOk result (λ built. HasNoFault options.now name.now (modules_with roots.now libraries.now built.taken.items)) }
+    ensures image { IfOk result (λ built. HoldsModules options.now name.now
+        (modules_with roots.now libraries.now built.taken.items) built.image) }
+    ensures no_fault { IfOk result (λ built. HasNoFault options.now name.now
+        (modules_with roots.now libraries.now built.taken.items)) }
     ensures fault { IfErr result (λ fault. fault ≢ BuildFault.Link link_fault.Memory
         → fault ≢ BuildFault.Place place_fault.Memory
         → CannotBeBuilt options.now name.now roots.now libraries.now fault) }

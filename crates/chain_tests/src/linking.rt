@@ -34,13 +34,13 @@ const FIVE: Segment = Segment {
 };
 
 /// Whether the call is resolved.
-fn is_resolved(module: &Module) -> bool {
-    let Some(first) = module.contents().first() else {
+fn is_resolved(source: &Module) -> bool {
+    let Some(first) = source.contents().first() else {
         return false;
     };
     first.bytes.as_slice() == CODE.as_slice()
         && first.fixups.as_slice() == FIXUPS.as_slice()
-        && module.segment(1) == Some(FIVE)
+        && source.segment(1) == Some(FIVE)
 }
 
 #[test]

@@ -90,9 +90,9 @@ fn copied(alloc: Global, source: &Module) -> Result<Vec<u8>, AllocError> {
 }
 
 /// Whether a module has the program's segment, and its copy is written as the program.
-fn is_the_program(alloc: Global, module: &Module) -> Result<bool, AllocError> {
-    let has_segment = module.segment(1) == Some(ONE.1);
-    Ok(has_segment && copied(alloc, module)?.as_slice() == &HALT[..28])
+fn is_the_program(alloc: Global, source: &Module) -> Result<bool, AllocError> {
+    let has_segment = source.segment(1) == Some(ONE.1);
+    Ok(has_segment && copied(alloc, source)?.as_slice() == &HALT[..28])
 }
 
 #[test]

@@ -13,13 +13,16 @@ use Rattle.link80.proofs.NameLemmas.{name_is}
 
 pub filter_twice : {A : Type 0} (p q : A → Bool) (xs : List A) → filter p (filter q xs) ≡ filter (λ x. q x && p x) xs
 filter_twice p q [] = refl
-filter_twice p q (x ∷ xs) = elim (q x) as (λ b. filter p (cond b (x ∷ filter q xs) (filter q xs)) ≡ cond (b && p x) (x ∷ filter (λ y. q y && p y) xs) (filter (λ y. q y && p y) xs)) [
-  | true ↦ elim (p x) as (λ b. cond b (x ∷ filter p (filter q xs)) (filter p (filter q xs)) ≡ cond b (x ∷ filter (λ y. q y && p y) xs) (filter (λ y. q y && p y) xs)) [
-    | true ↦ ap (λ l. x ∷ l) (filter_twice p q xs)
-    | false ↦ filter_twice p q xs
-  ]
-  | false ↦ filter_twice p q xs
-]
+filter_twice p q (x ∷ xs) =
+    elim (q x) as (λ b. filter p (cond b (x ∷ filter q xs) (filter q xs))
+    ≡ cond (b && p x) (x ∷ filter (λ y. q y && p y) xs) (filter (λ y. q y && p y) xs)) [
+      | true ↦ elim (p x) as (λ b. cond b (x ∷ filter p (filter q xs)) (filter p (filter q xs))
+          ≡ cond b (x ∷ filter (λ y. q y && p y) xs) (filter (λ y. q y && p y) xs)) [
+            | true ↦ ap (λ l. x ∷ l) (filter_twice p q xs)
+            | false ↦ filter_twice p q xs
+          ]
+      | false ↦ filter_twice p q xs
+    ]
 
 pub filter_same : {A : Type 0} (p q : A → Bool) → ((x : A) → p x ≡ q x) → (xs : List A) → filter p xs ≡ filter q xs
 filter_same p q same [] = refl
@@ -32,13 +35,16 @@ pub same_both_ways : (a b : List ℕ) → pointwise nat_eq a b ≡ pointwise nat
 same_both_ways [] [] = refl
 same_both_ways [] (y ∷ ys) = refl
 same_both_ways (x ∷ xs) [] = refl
-same_both_ways (x ∷ xs) (y ∷ ys) = ap (λ b. b && pointwise nat_eq xs ys) (swapped x y) ∙ ap (λ b. nat_eq y x && b) (same_both_ways xs ys)
+same_both_ways (x ∷ xs) (y ∷ ys) = ap (λ b. b && pointwise nat_eq xs ys) (swapped x y)
+    ∙ ap (λ b. nat_eq y x && b) (same_both_ways xs ys)
   where
     swapped : (m n : ℕ) → nat_eq m n ≡ nat_eq n m
     swapped m n = grind (arith, nat_tests)
 
-among_more : (names : List (List ℕ)) (n name : List ℕ) → is_among (names ++ n ∷ []) name ≡ (is_among names name || pointwise nat_eq name n)
-among_more names n name = list_any-append (pointwise nat_eq name) names (n ∷ []) ∙ ap (λ b. is_among names name || b) (or_false (pointwise nat_eq name n))
+among_more : (names : List (List ℕ)) (n name : List ℕ)
+    → is_among (names ++ n ∷ []) name ≡ (is_among names name || pointwise nat_eq name n)
+among_more names n name = list_any-append (pointwise nat_eq name) names (n ∷ [])
+    ∙ ap (λ b. is_among names name || b) (or_false (pointwise nat_eq name n))
   where
     or_false : (b : Bool) → (b || false) ≡ b
     or_false true = refl
@@ -52,7 +58,8 @@ abbrev is_new : List (List ℕ) → List ℕ → Bool
 is_new keys name = not (is_among keys name)
 
 -- a name that is new isn't one that is there
-new_differs : (keys : List (List ℕ)) (n x : List ℕ) → is_among keys n ≡ true → (not (pointwise nat_eq n x) && is_new keys x) ≡ is_new keys x
+new_differs : (keys : List (List ℕ)) (n x : List ℕ) → is_among keys n ≡ true
+    → (not (pointwise nat_eq n x) && is_new keys x) ≡ is_new keys x
 new_differs keys n x there = elim (cases_Bool (pointwise nat_eq n x)) [
   | inl same ↦
       ap (λ b. not b && is_new keys x) same
@@ -78,14 +85,18 @@ with_names_is keys (n ∷ ns) = elim (cases_Bool (is_among keys n)) [
   | inl there ↦
       ap (λ b. with_names (cond b keys (keys ++ n ∷ [])) ns) there
       ∙ with_names_is keys ns
-      ∙ ap (λ l. keys ++ l) (sym (filter_twice (is_new keys) (λ o. not (pointwise nat_eq n o)) (distinct ns) ∙ filter_same _ (is_new keys) (λ x. new_differs keys n x there) (distinct ns)))
-      ∙ ap (λ b. keys ++ cond (not b) (n ∷ filter (is_new keys) (filter (λ o. not (pointwise nat_eq n o)) (distinct ns))) (filter (is_new keys) (filter (λ o. not (pointwise nat_eq n o)) (distinct ns)))) (sym there)
+      ∙ ap (λ l. keys ++ l) (sym (filter_twice (is_new keys) (λ o. not (pointwise nat_eq n o)) (distinct ns)
+      ∙ filter_same _ (is_new keys) (λ x. new_differs keys n x there) (distinct ns)))
+      ∙ ap (λ b. keys ++ cond (not b) (n ∷ filter (is_new keys) (filter (λ o. not (pointwise nat_eq n o)) (distinct ns)))
+      (filter (is_new keys) (filter (λ o. not (pointwise nat_eq n o)) (distinct ns)))) (sym there)
   | inr new ↦
       ap (λ b. with_names (cond b keys (keys ++ n ∷ [])) ns) new
       ∙ with_names_is (keys ++ n ∷ []) ns
       ∙ append_assoc keys (n ∷ []) (filter (is_new (keys ++ n ∷ [])) (distinct ns))
-      ∙ ap (λ l. keys ++ n ∷ l) (filter_same (is_new (keys ++ n ∷ [])) _ (newer keys n) (distinct ns) ∙ sym (filter_twice (is_new keys) (λ o. not (pointwise nat_eq n o)) (distinct ns)))
-      ∙ ap (λ b. keys ++ cond (not b) (n ∷ filter (is_new keys) (filter (λ o. not (pointwise nat_eq n o)) (distinct ns))) (filter (is_new keys) (filter (λ o. not (pointwise nat_eq n o)) (distinct ns)))) (sym new)
+      ∙ ap (λ l. keys ++ n ∷ l) (filter_same (is_new (keys ++ n ∷ [])) _ (newer keys n) (distinct ns)
+      ∙ sym (filter_twice (is_new keys) (λ o. not (pointwise nat_eq n o)) (distinct ns)))
+      ∙ ap (λ b. keys ++ cond (not b) (n ∷ filter (is_new keys) (filter (λ o. not (pointwise nat_eq n o)) (distinct ns)))
+      (filter (is_new keys) (filter (λ o. not (pointwise nat_eq n o)) (distinct ns)))) (sym new)
 ]
 
 -- of no names: the distinct ones in order of first sight
@@ -103,14 +114,18 @@ distinct_passed test (n ∷ ns) = elim (cases_Bool (test n)) [
   | inl passes ↦
       ap (λ b. distinct (cond b (n ∷ filter test ns) (filter test ns))) passes
       ∙ ap (λ l. n ∷ filter (λ o. not (pointwise nat_eq n o)) l) (distinct_passed test ns)
-      ∙ ap (λ l. n ∷ l) (filter_twice (λ o. not (pointwise nat_eq n o)) test (distinct ns) ∙ filter_same _ _ (λ x. both_ways (test x) (not (pointwise nat_eq n x))) (distinct ns)
+      ∙ ap (λ l. n ∷ l) (filter_twice (λ o. not (pointwise nat_eq n o)) test (distinct ns)
+      ∙ filter_same _ _ (λ x. both_ways (test x) (not (pointwise nat_eq n x))) (distinct ns)
       ∙ sym (filter_twice test (λ o. not (pointwise nat_eq n o)) (distinct ns)))
-      ∙ ap (λ b. cond b (n ∷ filter test (filter (λ o. not (pointwise nat_eq n o)) (distinct ns))) (filter test (filter (λ o. not (pointwise nat_eq n o)) (distinct ns)))) (sym passes)
+      ∙ ap (λ b. cond b (n ∷ filter test (filter (λ o. not (pointwise nat_eq n o)) (distinct ns)))
+      (filter test (filter (λ o. not (pointwise nat_eq n o)) (distinct ns)))) (sym passes)
   | inr fails ↦
       ap (λ b. distinct (cond b (n ∷ filter test ns) (filter test ns))) fails
       ∙ distinct_passed test ns
-      ∙ sym (filter_twice test (λ o. not (pointwise nat_eq n o)) (distinct ns) ∙ filter_same _ test (passed_differs fails) (distinct ns))
-      ∙ ap (λ b. cond b (n ∷ filter test (filter (λ o. not (pointwise nat_eq n o)) (distinct ns))) (filter test (filter (λ o. not (pointwise nat_eq n o)) (distinct ns)))) (sym fails)
+      ∙ sym (filter_twice test (λ o. not (pointwise nat_eq n o)) (distinct ns)
+      ∙ filter_same _ test (passed_differs fails) (distinct ns))
+      ∙ ap (λ b. cond b (n ∷ filter test (filter (λ o. not (pointwise nat_eq n o)) (distinct ns)))
+      (filter test (filter (λ o. not (pointwise nat_eq n o)) (distinct ns)))) (sym fails)
 ]
   where
     both_ways : (a b : Bool) → (a && b) ≡ (b && a)

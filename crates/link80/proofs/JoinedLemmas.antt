@@ -44,12 +44,16 @@ abbrev pub with_length : ℕ → Segment → Segment
 with_length end s = record { length = end; paged = s.paged }
 
 abbrev pub all_parts : (ModuleValue → Segment) → Segment → List ModuleValue → Segment
-all_parts part s ms = record { length = max s.length (greatest (map (λ m. (part m).length) ms)); paged = s.paged || list_any (λ m. (part m).paged) ms }
+all_parts part s ms = record {
+  length = max s.length (greatest (map (λ m. (part m).length) ms));
+  paged = s.paged || list_any (λ m. (part m).paged) ms;
+}
 
 joined_none : (s : Segment) → s ≡ joined_parts s empty_segment
 joined_none s = λ j. record { length = sym (max_zero s.length) j; paged = sym (or_false s.paged) j }
 
-pub parts_joined : (part : ModuleValue → Segment) (s : Segment) (ms : List ModuleValue) → with_parts part s ms ≡ all_parts part s ms
+pub parts_joined : (part : ModuleValue → Segment) (s : Segment) (ms : List ModuleValue)
+    → with_parts part s ms ≡ all_parts part s ms
 parts_joined part s [] = joined_none s
 parts_joined part s (m ∷ ms) =
     parts_joined part (joined_parts s (part m)) ms
@@ -74,12 +78,14 @@ same_elsewhere n part f (o ∷ os) none =
     ap (λ b. cond b (joined_parts (f o) part) (f o) ∷ map f os) (sym differs)
     ∙ ap (λ l. cond (pointwise nat_eq n o) (joined_parts (f o) part) (f o) ∷ l) (same_elsewhere n part f os parts.1)
 
-later_part : (s : Segment) (segments : List Segment) (o : Option ℕ) (part : Segment) → with_part_at (s ∷ segments) (option_map suc o) part ≡ s ∷ with_part_at segments o part
+later_part : (s : Segment) (segments : List Segment) (o : Option ℕ) (part : Segment)
+    → with_part_at (s ∷ segments) (option_map suc o) part ≡ s ∷ with_part_at segments o part
 later_part s segments None part = refl
 later_part s segments (Some k) part = refl
 
 part_at : (n : List ℕ) (part : Segment) (f : List ℕ → Segment) (names : List (List ℕ)) → NoTwice names →
-    with_part_at (map f names) (number_in names n) part ≡ map (λ name. cond (pointwise nat_eq n name) (joined_parts (f name) part) (f name)) names
+    with_part_at (map f names) (number_in names n) part
+    ≡ map (λ name. cond (pointwise nat_eq n name) (joined_parts (f name) part) (f name)) names
 part_at n part f [] once = refl
 part_at n part f (o ∷ os) once = elim (cases_Bool (pointwise nat_eq o n)) [
   | inl same ↦
@@ -87,12 +93,14 @@ part_at n part f (o ∷ os) once = elim (cases_Bool (pointwise nat_eq o n)) [
       let itself : pointwise nat_eq n o ≡ true = ap (pointwise nat_eq n) is ∙ name_itself n in
       ap (λ b. with_part_at (f o ∷ map f os) (cond b (Some 0) (option_map suc (number_in os n))) part) same
       ∙ ap (λ l. joined_parts (f o) part ∷ l) (same_elsewhere n part f os (ap (has_name os) (sym is) ∙ once.0))
-      ∙ ap (λ b. cond b (joined_parts (f o) part) (f o) ∷ map (λ name. cond (pointwise nat_eq n name) (joined_parts (f name) part) (f name)) os) (sym itself)
+      ∙ ap (λ b. cond b (joined_parts (f o) part) (f o) ∷ map
+      (λ name. cond (pointwise nat_eq n name) (joined_parts (f name) part) (f name)) os) (sym itself)
   | inr differs ↦
       ap (λ b. with_part_at (f o ∷ map f os) (cond b (Some 0) (option_map suc (number_in os n))) part) differs
       ∙ later_part (f o) (map f os) (number_in os n) part
       ∙ ap (λ l. f o ∷ l) (part_at n part f os once.1)
-      ∙ ap (λ b. cond b (joined_parts (f o) part) (f o) ∷ map (λ name. cond (pointwise nat_eq n name) (joined_parts (f name) part) (f name)) os) (sym (same_both_ways n o ∙ differs))
+      ∙ ap (λ b. cond b (joined_parts (f o) part) (f o) ∷ map
+      (λ name. cond (pointwise nat_eq n name) (joined_parts (f name) part) (f name)) os) (sym (same_both_ways n o ∙ differs))
 ]
 
 pub named_parts : (names : List (List ℕ)) (f : List ℕ → Segment) (parts : List (List ℕ × Segment)) → NoTwice names →
@@ -107,7 +115,8 @@ named_parts names f (p ∷ ps) once =
 abbrev pub OncePart : ModuleValue → Type 0
 OncePart m = IsTrue (each_after is_new_common [] m.commons)
 
-none_later : (before cs : List Common) (n : List ℕ) → list_any (λ (d : Common). pointwise nat_eq d.name n) before ≡ true → each_after is_new_common before cs ≡ true →
+none_later : (before cs : List Common) (n : List ℕ) → list_any (λ (d : Common). pointwise nat_eq d.name n) before ≡ true
+    → each_after is_new_common before cs ≡ true →
     has_name (map (λ (c : Common). c.name) cs) n ≡ false
 none_later before [] n there new = refl
 none_later before (c ∷ cs) n there new =
@@ -115,7 +124,9 @@ none_later before (c ∷ cs) n there new =
     let tests = and_parts _ (not (list_any (λ (d : Common). pointwise nat_eq d.name c.name) before)) parts.0 in
     or_from (pointwise nat_eq c.name n) (has_name (map (λ (c : Common). c.name) cs) n)
     (elim (cases_Bool (pointwise nat_eq c.name n)) [
-      | inl same ↦ absurd (true≢false (sym there ∙ ap (λ m. list_any (λ (d : Common). pointwise nat_eq d.name m) before) (sym (name_is c.name n same)) ∙ was_not (list_any (λ (d : Common). pointwise nat_eq d.name c.name) before) tests.1))
+      | inl same ↦ absurd (true≢false (sym there
+          ∙ ap (λ m. list_any (λ (d : Common). pointwise nat_eq d.name m) before) (sym (name_is c.name n same))
+          ∙ was_not (list_any (λ (d : Common). pointwise nat_eq d.name c.name) before) tests.1))
       | inr differs ↦ differs
     ])
     (none_later (before ++ c ∷ []) cs n (any_front (λ (d : Common). pointwise nat_eq d.name n) before (c ∷ []) there) parts.1)
@@ -124,19 +135,23 @@ none_later before (c ∷ cs) n there new =
     was_not true e = absurd cc
     was_not false e = refl
 
-none_named_so : (segment : ℕ → Segment) (name : List ℕ) (s : Segment) (cs : List Common) → has_name (map (λ (c : Common). c.name) cs) name ≡ false →
+none_named_so : (segment : ℕ → Segment) (name : List ℕ) (s : Segment) (cs : List Common)
+    → has_name (map (λ (c : Common). c.name) cs) name ≡ false →
     parts_named name s (map (λ (c : Common). (c.name, segment c.id)) cs) ≡ s
 none_named_so segment name s [] none = refl
 none_named_so segment name s (c ∷ cs) none =
     let parts = or_parts (pointwise nat_eq c.name name) (has_name (map (λ (c : Common). c.name) cs) name) none in
-    ap (λ b. parts_named name (cond b (joined_parts s (segment c.id)) s) (map (λ (c : Common). (c.name, segment c.id)) cs)) parts.0
+    ap (λ b. parts_named name (cond b (joined_parts s (segment c.id)) s) (map (λ (c : Common). (c.name, segment c.id)) cs))
+    parts.0
     ∙ none_named_so segment name s cs parts.1
 
 abbrev found_part : (ℕ → Segment) → Option Common → Segment
 found_part segment o = option_map_or (λ (c : Common). segment c.id) o empty_segment
 
-one_part : (segment : ℕ → Segment) (name : List ℕ) (s : Segment) (before cs : List Common) → each_after is_new_common before cs ≡ true →
-    parts_named name s (map (λ (c : Common). (c.name, segment c.id)) cs) ≡ joined_parts s (found_part segment (find (λ (c : Common). pointwise nat_eq c.name name) cs))
+one_part : (segment : ℕ → Segment) (name : List ℕ) (s : Segment) (before cs : List Common)
+    → each_after is_new_common before cs ≡ true →
+    parts_named name s (map (λ (c : Common). (c.name, segment c.id)) cs)
+    ≡ joined_parts s (found_part segment (find (λ (c : Common). pointwise nat_eq c.name name) cs))
 one_part segment name s before [] new = joined_none s
 one_part segment name s before (c ∷ cs) new =
     let parts = and_parts (is_new_common before c) (each_after is_new_common (before ++ c ∷ []) cs) new in
@@ -145,7 +160,9 @@ one_part segment name s before (c ∷ cs) new =
     elim (cases_Bool (pointwise nat_eq c.name name)) [
       | inl same ↦
           ap (λ b. parts_named name (cond b (joined_parts s (segment c.id)) s) rest) same
-          ∙ none_named_so segment name (joined_parts s (segment c.id)) cs (none_later (before ++ c ∷ []) cs name (any_back (λ (d : Common). pointwise nat_eq d.name name) before (c ∷ []) (ap (λ b. b || false) same)) parts.1)
+          ∙ none_named_so segment name (joined_parts s (segment c.id)) cs
+          (none_later (before ++ c ∷ []) cs name
+          (any_back (λ (d : Common). pointwise nat_eq d.name name) before (c ∷ []) (ap (λ b. b || false) same)) parts.1)
           ∙ ap (λ b. joined_parts s (found_part segment (cond b (Some c) found))) (sym same)
       | inr differs ↦
           ap (λ b. parts_named name (cond b (joined_parts s (segment c.id)) s) rest) differs
@@ -155,11 +172,14 @@ one_part segment name s before (c ∷ cs) new =
 
 -- ---- the parts of one name in all modules
 
-named_append : (name : List ℕ) (s : Segment) (ps qs : List (List ℕ × Segment)) → parts_named name s (ps ++ qs) ≡ parts_named name (parts_named name s ps) qs
+named_append : (name : List ℕ) (s : Segment) (ps qs : List (List ℕ × Segment))
+    → parts_named name s (ps ++ qs) ≡ parts_named name (parts_named name s ps) qs
 named_append name s [] qs = refl
 named_append name s (p ∷ ps) qs = named_append name (cond (pointwise nat_eq p.0 name) (joined_parts s p.1) s) ps qs
 
-all_named : (name : List ℕ) (part : ModuleValue → Segment) → ((m : ModuleValue) (s : Segment) → OncePart m → parts_named name s (parts_of_commons m) ≡ joined_parts s (part m)) → (s : Segment) (ms : List ModuleValue) → AllByRecursion OncePart ms →
+all_named : (name : List ℕ) (part : ModuleValue → Segment)
+    → ((m : ModuleValue) (s : Segment) → OncePart m → parts_named name s (parts_of_commons m) ≡ joined_parts s (part m))
+    → (s : Segment) (ms : List ModuleValue) → AllByRecursion OncePart ms →
     parts_named name s (flat_map parts_of_commons ms) ≡ with_parts part s ms
 all_named name part one s [] all = refl
 all_named name part one s (m ∷ ms) all =
@@ -175,9 +195,13 @@ common_not_fixed id low high = grind (arith, nat_tests, low, high)
 common_not_laid : (id : ℕ) → 6 ≤ id → is_laid_out id ≡ false
 common_not_laid id low = grind (arith, nat_tests, low)
 
-name_of_number : (start : ℕ) (names : List (List ℕ)) (k : ℕ) (name : List ℕ) → slice_get names k ≡ Some name → common_name (numbered start names) (start + k) ≡ name
+name_of_number : (start : ℕ) (names : List (List ℕ)) (k : ℕ) (name : List ℕ) → slice_get names k ≡ Some name
+    → common_name (numbered start names) (start + k) ≡ name
 name_of_number start [] k name at = absurd cc
-name_of_number start (n ∷ ns) zero name at = ap (λ b. option_map_or (λ (c : Common). c.name) (cond b (Some (numbered_common (start, n))) (find (λ (c : Common). c.id == start + 0) (numbered (start + 1) ns))) []) (itself start) ∙ some_is n name at
+name_of_number start (n ∷ ns) zero name at =
+    ap (λ b. option_map_or (λ (c : Common). c.name)
+    (cond b (Some (numbered_common (start, n))) (find (λ (c : Common). c.id == start + 0) (numbered (start + 1) ns))) [])
+    (itself start) ∙ some_is n name at
   where
     itself : (s : ℕ) → (s == s + 0) ≡ true
     itself s = grind (arith, nat_tests)
@@ -185,7 +209,9 @@ name_of_number start (n ∷ ns) zero name at = ap (λ b. option_map_or (λ (c : 
     some_is : (a b : List ℕ) → Some a ≡ Some b → a ≡ b
     some_is a b e = cc
 name_of_number start (n ∷ ns) (suc k) name at =
-    ap (λ b. option_map_or (λ (c : Common). c.name) (cond b (Some (numbered_common (start, n))) (find (λ (c : Common). c.id == start + suc k) (numbered (start + 1) ns))) []) (ne_eqb start (start + suc k) (λ e. omega (arith, e)))
+    ap (λ b. option_map_or (λ (c : Common). c.name)
+    (cond b (Some (numbered_common (start, n))) (find (λ (c : Common). c.id == start + suc k) (numbered (start + 1) ns))) [])
+    (ne_eqb start (start + suc k) (λ e. omega (arith, e)))
     ∙ ap (common_name (numbered (start + 1) ns)) (next start k)
     ∙ name_of_number (start + 1) ns k name at
   where
@@ -193,7 +219,8 @@ name_of_number start (n ∷ ns) (suc k) name at =
     next s j = omega arith
 
 -- the segment of an id that goes by a name
-pub common_segment_is : (modules : List ModuleValue) (id : ℕ) (name : List ℕ) → 6 ≤ id → id < 255 → common_name (linked_commons modules) id ≡ name → AllByRecursion OncePart modules →
+pub common_segment_is : (modules : List ModuleValue) (id : ℕ) (name : List ℕ) → 6 ≤ id → id < 255
+    → common_name (linked_commons modules) id ≡ name → AllByRecursion OncePart modules →
     parts_named name empty_segment (flat_map parts_of_commons modules) ≡ linked_segment modules id
 common_segment_is modules id name low high called all =
     let part : ModuleValue → Segment = λ m. part_of (linked_commons modules) m id in
@@ -207,18 +234,27 @@ common_segment_is modules id name low high called all =
     size : max 0 longest ≡ linked_length modules id
     size = none_longer longest ∙ ap (λ b. cond b (parts_end id 0 modules) longest) (sym (common_not_laid id low))
 
-    one : (m : ModuleValue) (s : Segment) → OncePart m → parts_named name s (parts_of_commons m) ≡ joined_parts s (part_of (linked_commons modules) m id)
+    one : (m : ModuleValue) (s : Segment) → OncePart m
+        → parts_named name s (parts_of_commons m) ≡ joined_parts s (part_of (linked_commons modules) m id)
     one m s once =
         one_part (segment_in m.segments) name s [] m.commons once
-        ∙ ap (λ n. joined_parts s (found_part (segment_in m.segments) (find (λ (c : Common). pointwise nat_eq c.name n) m.commons))) (sym called)
-        ∙ ap (λ b. joined_parts s (cond b (segment_in m.segments id) (found_part (segment_in m.segments) (find (λ (c : Common). pointwise nat_eq c.name (common_name (linked_commons modules) id)) m.commons)))) (sym (common_not_fixed id low high))
+        ∙ ap (λ n. joined_parts s
+        (found_part (segment_in m.segments) (find (λ (c : Common). pointwise nat_eq c.name n) m.commons))) (sym called)
+        ∙ ap (λ b. joined_parts s
+        (cond b (segment_in m.segments id)
+        (found_part (segment_in m.segments)
+        (find (λ (c : Common). pointwise nat_eq c.name (common_name (linked_commons modules) id)) m.commons))))
+        (sym (common_not_fixed id low high))
 
-entries_by : (segment : ℕ → Segment) (f : List ℕ → Segment) (start : ℕ) (names : List (List ℕ)) → ((k : ℕ) (name : List ℕ) → k < length names → slice_get names k ≡ Some name → f name ≡ segment (start + k)) →
+entries_by : (segment : ℕ → Segment) (f : List ℕ → Segment) (start : ℕ) (names : List (List ℕ))
+    → ((k : ℕ) (name : List ℕ) → k < length names → slice_get names k ≡ Some name → f name ≡ segment (start + k)) →
     enumerate_from start (map f names) ≡ map (λ id. (id, segment id)) (map (λ (c : Common). c.id) (numbered start names))
 entries_by segment f start [] is = refl
 entries_by segment f start (n ∷ ns) is =
     ap (λ s. (start, s) ∷ enumerate_from (start + 1) (map f ns)) (is 0 n (omega arith) refl ∙ ap segment (plus_none start))
-    ∙ ap (λ l. (start, segment start) ∷ l) (entries_by segment f (start + 1) ns (λ k name within at. is (suc k) name (omega (arith, within)) at ∙ ap segment (next start k)))
+    ∙ ap (λ l. (start, segment start) ∷ l)
+    (entries_by segment f (start + 1) ns (λ k name within at. is (suc k) name (omega (arith, within)) at
+    ∙ ap segment (next start k)))
   where
     plus_none : (s : ℕ) → s + 0 ≡ s
     plus_none s = omega arith
@@ -227,8 +263,10 @@ entries_by segment f start (n ∷ ns) is =
     next s j = omega arith
 
 -- the segments of named commons, with their ids
-pub common_entries : (modules : List ModuleValue) (segments : List Segment) → length (common_names modules) ≤ 249 → AllByRecursion OncePart modules →
-    segments ≡ with_named_parts (common_names modules) (map (λ _. empty_segment) (common_names modules)) (flat_map parts_of_commons modules) →
+pub common_entries : (modules : List ModuleValue) (segments : List Segment) → length (common_names modules) ≤ 249
+    → AllByRecursion OncePart modules →
+    segments ≡ with_named_parts (common_names modules) (map (λ _. empty_segment) (common_names modules))
+    (flat_map parts_of_commons modules) →
     enumerate_from 6 segments ≡ map (λ id. (id, linked_segment modules id)) (map (λ c. c.id) (linked_commons modules))
 common_entries modules segments few all are =
     let names : List (List ℕ) = common_names modules in
@@ -240,26 +278,34 @@ common_entries modules segments few all are =
 -- ---- a segment that every module has
 
 pub fixed_part : (modules : List ModuleValue) (id : ℕ) → is_fixed_id id ≡ true →
-    with_parts (λ m. segment_in m.segments id) empty_segment modules ≡ all_parts (λ m. part_of (linked_commons modules) m id) empty_segment modules
+    with_parts (λ m. segment_in m.segments id) empty_segment modules
+    ≡ all_parts (λ m. part_of (linked_commons modules) m id) empty_segment modules
 fixed_part modules id fixed =
-    let named : ModuleValue → Segment = λ m. found_part (segment_in m.segments) (find (λ (c : Common). pointwise nat_eq c.name (common_name (linked_commons modules) id)) m.commons) in
+    let named : ModuleValue → Segment =
+    λ m. found_part (segment_in m.segments)
+    (find (λ (c : Common). pointwise nat_eq c.name (common_name (linked_commons modules) id)) m.commons) in
     parts_joined (λ m. segment_in m.segments id) empty_segment modules
     ∙ ap (λ b. all_parts (λ m. cond b (segment_in m.segments id) (named m)) empty_segment modules) (sym fixed)
 
 -- whose parts lie over one another
-pub over_one_another : (modules : List ModuleValue) (id : ℕ) → is_fixed_id id ≡ true → is_laid_out id ≡ false → with_parts (λ m. segment_in m.segments id) empty_segment modules ≡ linked_segment modules id
+pub over_one_another : (modules : List ModuleValue) (id : ℕ) → is_fixed_id id ≡ true → is_laid_out id ≡ false
+    → with_parts (λ m. segment_in m.segments id) empty_segment modules ≡ linked_segment modules id
 over_one_another modules id fixed over =
     let longest : ℕ = greatest (map (λ m. (part_of (linked_commons modules) m id).length) modules) in
-    let size : max 0 longest ≡ linked_length modules id = none_longer longest ∙ ap (λ b. cond b (parts_end id 0 modules) longest) (sym over) in
-    fixed_part modules id fixed ∙ (λ j. record { length = size j; paged = list_any (λ m. (part_of (linked_commons modules) m id).paged) modules })
+    let size : max 0 longest ≡ linked_length modules id = none_longer longest
+    ∙ ap (λ b. cond b (parts_end id 0 modules) longest) (sym over) in
+    fixed_part modules id fixed
+    ∙ (λ j. record { length = size j; paged = list_any (λ m. (part_of (linked_commons modules) m id).paged) modules })
 
 -- or one after another
-pub one_after_another : (modules : List ModuleValue) (id end : ℕ) → is_fixed_id id ≡ true → is_laid_out id ≡ true → end ≡ parts_end id 0 modules → (s : Segment) →
+pub one_after_another : (modules : List ModuleValue) (id end : ℕ) → is_fixed_id id ≡ true → is_laid_out id ≡ true
+    → end ≡ parts_end id 0 modules → (s : Segment) →
     s ≡ with_parts (λ m. segment_in m.segments id) empty_segment modules → with_length end s ≡ linked_segment modules id
 one_after_another modules id end fixed laid ends s is =
     let longest : ℕ = greatest (map (λ m. (part_of (linked_commons modules) m id).length) modules) in
     let size : end ≡ linked_length modules id = ends ∙ ap (λ b. cond b (parts_end id 0 modules) longest) (sym laid) in
-    ap (with_length end) (is ∙ fixed_part modules id fixed) ∙ (λ j. record { length = size j; paged = list_any (λ m. (part_of (linked_commons modules) m id).paged) modules })
+    ap (with_length end) (is ∙ fixed_part modules id fixed)
+    ∙ (λ j. record { length = size j; paged = list_any (λ m. (part_of (linked_commons modules) m id).paged) modules })
 
 -- ---- steps of the loops
 

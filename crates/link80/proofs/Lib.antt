@@ -6,6 +6,7 @@ pub mod LoopLemmas
 pub mod NumberLemmas
 pub mod StartsLemmas
 pub mod GatheredLemmas
+pub mod DuplicateLemmas
 pub mod MainLemmas
 pub mod OrderLemmas
 pub mod MovableLemmas

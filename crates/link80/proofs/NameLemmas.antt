@@ -30,19 +30,24 @@ name_itself (x ∷ xs) = ap (λ t. t && pointwise nat_eq xs xs) (eq-eqb x x refl
 abbrev pub has_name : List (List ℕ) → List ℕ → Bool
 has_name names name = list_any (λ n. pointwise nat_eq n name) names
 
-kept_by : (n name : List ℕ) (names : List (List ℕ)) → pointwise nat_eq n name ≡ false → has_name names name ≡ true → has_name (filter (λ o. not (pointwise nat_eq n o)) names) name ≡ true
+kept_by : (n name : List ℕ) (names : List (List ℕ)) → pointwise nat_eq n name ≡ false → has_name names name ≡ true
+    → has_name (filter (λ o. not (pointwise nat_eq n o)) names) name ≡ true
 kept_by n name [] other here = absurd cc
 kept_by n name (o ∷ os) other here =
     (elim (cases_Bool (pointwise nat_eq o name)) [
       | inl same ↦
           let is : o ≡ name = name_is o name same in
-          let keep : not (pointwise nat_eq n o) ≡ true = not_from_false (pointwise nat_eq n o) (ap (pointwise nat_eq n) is ∙ other) in
-          ap (λ b. has_name (cond b (o ∷ filter (λ o. not (pointwise nat_eq n o)) os) (filter (λ o. not (pointwise nat_eq n o)) os)) name) keep
+          let keep : not (pointwise nat_eq n o) ≡ true =
+          not_from_false (pointwise nat_eq n o) (ap (pointwise nat_eq n) is ∙ other) in
+          ap (λ b. has_name (cond b (o ∷ filter (λ o. not (pointwise nat_eq n o)) os)
+          (filter (λ o. not (pointwise nat_eq n o)) os)) name) keep
           ∙ ap (λ b. b || has_name (filter (λ o. not (pointwise nat_eq n o)) os) name) same
       | inr differs ↦
           let later : has_name (filter (λ o. not (pointwise nat_eq n o)) os) name ≡ true =
           kept_by n name os other (sym (ap (λ b. b || has_name os name) differs) ∙ here) in
-          elim (not (pointwise nat_eq n o)) as (λ b. has_name (cond b (o ∷ filter (λ o. not (pointwise nat_eq n o)) os) (filter (λ o. not (pointwise nat_eq n o)) os)) name ≡ true) [
+          elim (not (pointwise nat_eq n o)) as
+          (λ b. has_name (cond b (o ∷ filter (λ o. not (pointwise nat_eq n o)) os)
+          (filter (λ o. not (pointwise nat_eq n o)) os)) name ≡ true) [
             | true ↦ ap (λ b. b || has_name (filter (λ o. not (pointwise nat_eq n o)) os) name) differs ∙ later
             | false ↦ later
           ]
@@ -58,14 +63,16 @@ distinct_has (n ∷ ns) name here = elim (cases_Bool (pointwise nat_eq n name)) 
 ]
 
 -- names that pass a test
-pub passed_has : (test : List ℕ → Bool) (names : List (List ℕ)) (name : List ℕ) → test name ≡ true → has_name names name ≡ true → has_name (filter test names) name ≡ true
+pub passed_has : (test : List ℕ → Bool) (names : List (List ℕ)) (name : List ℕ) → test name ≡ true → has_name names name ≡ true
+    → has_name (filter test names) name ≡ true
 passed_has test [] name passes here = absurd cc
 passed_has test (n ∷ ns) name passes here = elim (cases_Bool (pointwise nat_eq n name)) [
   | inl same ↦
       ap (λ b. has_name (cond b (n ∷ filter test ns) (filter test ns)) name) (ap test (name_is n name same) ∙ passes)
       ∙ ap (λ b. b || has_name (filter test ns) name) same
   | inr differs ↦
-      let later : has_name (filter test ns) name ≡ true = passed_has test ns name passes (sym (ap (λ b. b || has_name ns name) differs) ∙ here) in
+      let later : has_name (filter test ns) name ≡ true =
+      passed_has test ns name passes (sym (ap (λ b. b || has_name ns name) differs) ∙ here) in
       elim (test n) as (λ b. has_name (cond b (n ∷ filter test ns) (filter test ns)) name ≡ true) [
         | true ↦ ap (λ b. b || has_name (filter test ns) name) differs ∙ later
         | false ↦ later
@@ -74,7 +81,8 @@ passed_has test (n ∷ ns) name passes here = elim (cases_Bool (pointwise nat_eq
 
 -- ---- the index of a name among names
 
-pub index_is : (names : List (List ℕ)) (name : List ℕ) → has_name names name ≡ true → (index_of names name < length names) × (name_at names (index_of names name) ≡ name)
+pub index_is : (names : List (List ℕ)) (name : List ℕ) → has_name names name ≡ true
+    → (index_of names name < length names) × (name_at names (index_of names name) ≡ name)
 index_is [] name here = absurd cc
 index_is (n ∷ ns) name here = elim (cases_Bool (pointwise nat_eq n name)) [
   | inl same ↦
@@ -98,17 +106,22 @@ pub record IsNumbered (start : ℕ) (names : List (List ℕ)) (name : List ℕ) 
   pub called : common_name (numbered start names) (id_of (numbered start names) name) ≡ name
 
 abbrev id_if : ℕ → List ℕ → List (List ℕ) → List ℕ → Bool → ℕ
-id_if start n ns name same = option_map_or (λ (c : Common). c.id) (cond same (Some (numbered_common (start, n))) (find (λ c. pointwise nat_eq c.name name) (numbered (start + 1) ns))) 0
+id_if start n ns name same =
+    option_map_or (λ (c : Common). c.id)
+    (cond same (Some (numbered_common (start, n))) (find (λ c. pointwise nat_eq c.name name) (numbered (start + 1) ns))) 0
 
 abbrev name_if : ℕ → List ℕ → List (List ℕ) → ℕ → Bool → List ℕ
-name_if start n ns id same = option_map_or (λ (c : Common). c.name) (cond same (Some (numbered_common (start, n))) (find (λ c. c.id == id) (numbered (start + 1) ns))) []
+name_if start n ns id same =
+    option_map_or (λ (c : Common). c.name)
+    (cond same (Some (numbered_common (start, n))) (find (λ c. c.id == id) (numbered (start + 1) ns))) []
 
 pub is_numbered : (start : ℕ) (names : List (List ℕ)) (name : List ℕ) → has_name names name ≡ true → IsNumbered start names name
 is_numbered start [] name here = absurd cc
 is_numbered start (n ∷ ns) name here = elim (cases_Bool (pointwise nat_eq n name)) [
   | inl same ↦
       let is : id_of (numbered start (n ∷ ns)) name ≡ start = ap (id_if start n ns name) same in
-      let first : (start == id_of (numbered start (n ∷ ns)) name) ≡ true = eq-eqb start (id_of (numbered start (n ∷ ns)) name) (sym is) in
+      let first : (start == id_of (numbered start (n ∷ ns)) name) ≡ true =
+      eq-eqb start (id_of (numbered start (n ∷ ns)) name) (sym is) in
       record {
         least = omega (arith, is);
         most = omega (arith, is);
@@ -116,7 +129,8 @@ is_numbered start (n ∷ ns) name here = elim (cases_Bool (pointwise nat_eq n na
         called = ap (name_if start n ns (id_of (numbered start (n ∷ ns)) name)) first ∙ name_is n name same;
       }
   | inr differs ↦
-      let later : IsNumbered (start + 1) ns name = is_numbered (start + 1) ns name (sym (ap (λ b. b || has_name ns name) differs) ∙ here) in
+      let later : IsNumbered (start + 1) ns name =
+      is_numbered (start + 1) ns name (sym (ap (λ b. b || has_name ns name) differs) ∙ here) in
       let id : ℕ = id_of (numbered (start + 1) ns) name in
       let is : id_of (numbered start (n ∷ ns)) name ≡ id = ap (id_if start n ns name) differs in
       let low : start + 1 ≤ id = later.least in
@@ -125,7 +139,8 @@ is_numbered start (n ∷ ns) name here = elim (cases_Bool (pointwise nat_eq n na
       record {
         least = omega (arith, is, low);
         most = omega (arith, is, high);
-        there = ap (λ i. has_common_id (numbered start (n ∷ ns)) i) is ∙ ap (λ b. b || has_common_id (numbered (start + 1) ns) id) not_first ∙ later.there;
+        there = ap (λ i. has_common_id (numbered start (n ∷ ns)) i) is
+            ∙ ap (λ b. b || has_common_id (numbered (start + 1) ns) id) not_first ∙ later.there;
         called = ap (λ i. common_name (numbered start (n ∷ ns)) i) is ∙ ap (name_if start n ns id) not_first ∙ later.called;
       }
 ]

@@ -19,19 +19,22 @@ use Rattle.link80.proofs.NameLemmas.{has_name, name_is, name_itself, numbered}
 
 -- ---- tests of each item
 
-all_back : {A : Type 0} (test : A → Bool) (xs : List A) (y : A) → list_all test xs ≡ true → test y ≡ true → list_all test (xs ++ y ∷ []) ≡ true
+all_back : {A : Type 0} (test : A → Bool) (xs : List A) (y : A) → list_all test xs ≡ true → test y ≡ true
+    → list_all test (xs ++ y ∷ []) ≡ true
 all_back test [] y all one = and_from (test y) true one refl
 all_back test (x ∷ xs) y all one =
     let parts = and_parts (test x) (list_all test xs) all in
     and_from (test x) (list_all test (xs ++ y ∷ [])) parts.0 (all_back test xs y parts.1 one)
 
-all_weaker : {A : Type 0} (p q : A → Bool) → ((x : A) → p x ≡ true → q x ≡ true) → (xs : List A) → list_all p xs ≡ true → list_all q xs ≡ true
+all_weaker : {A : Type 0} (p q : A → Bool) → ((x : A) → p x ≡ true → q x ≡ true) → (xs : List A) → list_all p xs ≡ true
+    → list_all q xs ≡ true
 all_weaker p q gives [] all = refl
 all_weaker p q gives (x ∷ xs) all =
     let parts = and_parts (p x) (list_all p xs) all in
     and_from (q x) (list_all q xs) (gives x parts.0) (all_weaker p q gives xs parts.1)
 
-none_by : {A : Type 0} (p q : A → Bool) → ((x : A) → p x ≡ true → q x ≡ false) → (xs : List A) → list_all p xs ≡ true → list_any q xs ≡ false
+none_by : {A : Type 0} (p q : A → Bool) → ((x : A) → p x ≡ true → q x ≡ false) → (xs : List A) → list_all p xs ≡ true
+    → list_any q xs ≡ false
 none_by p q gives [] all = refl
 none_by p q gives (x ∷ xs) all =
     let parts = and_parts (p x) (list_all p xs) all in
@@ -43,7 +46,8 @@ later false b e = e
 
 -- ---- the ids of numbered commons
 
-pub numbered_has : (start : ℕ) (names : List (List ℕ)) (i : ℕ) → start ≤ i → i < start + length names → has_common_id (numbered start names) i ≡ true
+pub numbered_has : (start : ℕ) (names : List (List ℕ)) (i : ℕ) → start ≤ i → i < start + length names
+    → has_common_id (numbered start names) i ≡ true
 numbered_has start [] i low high = absurd (omega (arith, low, high))
 numbered_has start (n ∷ ns) i low high = elim (cases_Bool (start == i)) [
   | inl e ↦ ap (λ b. b || has_common_id (numbered (start + 1) ns) i) e
@@ -66,24 +70,38 @@ before_other i start below h = grind (arith, nat_tests, below, h)
 before_itself : (start : ℕ) → (nat_lt start (start + 1) || start == 255) ≡ true
 before_itself start = grind (arith, nat_tests)
 
-pub new_entries : (segment : ℕ → Segment) (commons : List Common) (start : ℕ) (names : List (List ℕ)) (before : List (ℕ × Segment)) → start + length names ≤ 255 →
+pub new_entries : (segment : ℕ
+    → Segment) (commons : List Common) (start : ℕ) (names : List (List ℕ)) (before : List (ℕ × Segment))
+    → start + length names ≤ 255 →
     ((i : ℕ) → start ≤ i → i < start + length names → has_common_id commons i ≡ true) → list_all (is_before start) before ≡ true →
-    each_after (is_new_entry commons) before (map (λ id. (id, segment id)) (map (λ (c : Common). c.id) (numbered start names))) ≡ true
+    each_after (is_new_entry commons) before (map (λ id. (id, segment id)) (map (λ (c : Common). c.id) (numbered start names)))
+    ≡ true
 new_entries segment commons start [] before few has told = refl
 new_entries segment commons start (n ∷ ns) before few has told =
-    let first : has_segment commons start ≡ true = later (is_fixed_id start) (has_common_id commons start) (has start (omega arith) (omega arith)) in
-    let new : list_any (λ (d : ℕ × Segment). d.0 == start) before ≡ false = none_by (is_before start) (λ d. d.0 == start) (λ d is. before_other d.0 start (omega (arith, few)) is) before told in
+    let first : has_segment commons start ≡ true =
+    later (is_fixed_id start) (has_common_id commons start) (has start (omega arith) (omega arith)) in
+    let new : list_any (λ (d : ℕ × Segment). d.0 == start) before ≡ false =
+    none_by (is_before start) (λ d. d.0 == start) (λ d is. before_other d.0 start (omega (arith, few)) is) before told in
     and_from (is_new_entry commons before (start, segment start))
-    (each_after (is_new_entry commons) (before ++ (start, segment start) ∷ []) (map (λ id. (id, segment id)) (map (λ (c : Common). c.id) (numbered (start + 1) ns))))
-    (and_from (has_segment commons start) (not (list_any (λ (d : ℕ × Segment). d.0 == start) before)) first (not_from_false (list_any (λ (d : ℕ × Segment). d.0 == start) before) new))
-    (new_entries segment commons (start + 1) ns (before ++ (start, segment start) ∷ []) (omega (arith, few)) (λ i low high. has i (omega (arith, low)) (omega (arith, high)))
-    (all_back (is_before (start + 1)) before (start, segment start) (all_weaker (is_before start) (is_before (start + 1)) (λ d is. before_next d.0 start is) before told) (before_itself start)))
+    (each_after (is_new_entry commons) (before ++ (start, segment start) ∷ [])
+    (map (λ id. (id, segment id)) (map (λ (c : Common). c.id) (numbered (start + 1) ns))))
+    (and_from (has_segment commons start) (not (list_any (λ (d : ℕ × Segment). d.0 == start) before)) first
+    (not_from_false (list_any (λ (d : ℕ × Segment). d.0 == start) before) new))
+    (new_entries segment commons (start + 1) ns (before ++ (start, segment start) ∷ []) (omega (arith, few))
+    (λ i low high. has i (omega (arith, low)) (omega (arith, high)))
+    (all_back (is_before (start + 1)) before (start, segment start)
+    (all_weaker (is_before start) (is_before (start + 1)) (λ d is. before_next d.0 start is) before told)
+    (before_itself start)))
 
 -- the entry of an id that is among them
-pub segment_listed : (segment : ℕ → Segment) (ids : List ℕ) (id : ℕ) → list_any (λ i. i == id) ids ≡ true → segment_in (map (λ i. (i, segment i)) ids) id ≡ segment id
+pub segment_listed : (segment : ℕ → Segment) (ids : List ℕ) (id : ℕ) → list_any (λ i. i == id) ids ≡ true
+    → segment_in (map (λ i. (i, segment i)) ids) id ≡ segment id
 segment_listed segment [] id here = absurd cc
 segment_listed segment (i ∷ is) id here =
-    (elim (i == id) as (λ b. (i == id) ≡ b → (b || list_any (λ j. j == id) is) ≡ true → option_map_or (λ (e : ℕ × Segment). e.1) (cond b (Some (i, segment i)) (find (λ (e : ℕ × Segment). e.0 == id) (map (λ i. (i, segment i)) is))) empty_segment ≡ segment id) [
+    (elim (i == id) as (λ b. (i == id) ≡ b → (b || list_any (λ j. j == id) is) ≡ true
+    → option_map_or (λ (e : ℕ × Segment). e.1)
+    (cond b (Some (i, segment i)) (find (λ (e : ℕ × Segment). e.0 == id) (map (λ i. (i, segment i)) is))) empty_segment
+    ≡ segment id) [
       | true ↦ λ e _. ap segment (eqb-true i id e)
       | false ↦ λ _ there. segment_listed segment is id there
     ]) refl here
@@ -94,7 +112,8 @@ abbrev pub NoTwice : List (List ℕ) → Type 0
 NoTwice [] = Unit {0}
 NoTwice (n ∷ ns) = (has_name ns n ≡ false) × NoTwice ns
 
-filtered_none : (keep : List ℕ → Bool) (names : List (List ℕ)) (name : List ℕ) → has_name names name ≡ false → has_name (filter keep names) name ≡ false
+filtered_none : (keep : List ℕ → Bool) (names : List (List ℕ)) (name : List ℕ) → has_name names name ≡ false
+    → has_name (filter keep names) name ≡ false
 filtered_none keep [] name none = refl
 filtered_none keep (n ∷ ns) name none =
     let parts = or_parts (pointwise nat_eq n name) (has_name ns name) none in
@@ -114,10 +133,14 @@ filtered_no_twice keep (n ∷ ns) once =
 without : (n : List ℕ) (names : List (List ℕ)) → has_name (filter (λ o. not (pointwise nat_eq n o)) names) n ≡ false
 without n [] = refl
 without n (o ∷ os) = elim (cases_Bool (pointwise nat_eq n o)) [
-  | inl same ↦ ap (λ b. has_name (cond (not b) (o ∷ filter (λ o. not (pointwise nat_eq n o)) os) (filter (λ o. not (pointwise nat_eq n o)) os)) n) same ∙ without n os
+  | inl same ↦ ap (λ b. has_name
+      (cond (not b) (o ∷ filter (λ o. not (pointwise nat_eq n o)) os) (filter (λ o. not (pointwise nat_eq n o)) os)) n) same
+      ∙ without n os
   | inr differs ↦
-      ap (λ b. has_name (cond (not b) (o ∷ filter (λ o. not (pointwise nat_eq n o)) os) (filter (λ o. not (pointwise nat_eq n o)) os)) n) differs
-      ∙ or_from (pointwise nat_eq o n) (has_name (filter (λ o. not (pointwise nat_eq n o)) os) n) (other_way n o differs) (without n os)
+      ap (λ b. has_name (cond (not b) (o ∷ filter (λ o. not (pointwise nat_eq n o)) os)
+      (filter (λ o. not (pointwise nat_eq n o)) os)) n) differs
+      ∙ or_from (pointwise nat_eq o n) (has_name (filter (λ o. not (pointwise nat_eq n o)) os) n) (other_way n o differs)
+      (without n os)
 ]
   where
     other_way : (a b : List ℕ) → pointwise nat_eq a b ≡ false → pointwise nat_eq b a ≡ false
@@ -128,7 +151,8 @@ without n (o ∷ os) = elim (cases_Bool (pointwise nat_eq n o)) [
 
 pub distinct_no_twice : (names : List (List ℕ)) → NoTwice (distinct names)
 distinct_no_twice [] = tt
-distinct_no_twice (n ∷ ns) = (without n (distinct ns), filtered_no_twice (λ o. not (pointwise nat_eq n o)) (distinct ns) (distinct_no_twice ns))
+distinct_no_twice (n ∷ ns) =
+    (without n (distinct ns), filtered_no_twice (λ o. not (pointwise nat_eq n o)) (distinct ns) (distinct_no_twice ns))
 
 abbrev NotNamed : List Common → List ℕ → Type 0
 NotNamed before n = list_any (λ (d : Common). pointwise nat_eq d.name n) before ≡ false
@@ -139,13 +163,16 @@ name_differs n o differs = elim (cases_Bool (pointwise nat_eq n o)) [
   | inr e ↦ e
 ]
 
-not_named_back : (before : List Common) (c : Common) (n : List ℕ) → NotNamed before n → pointwise nat_eq c.name n ≡ false → NotNamed (before ++ c ∷ []) n
+not_named_back : (before : List Common) (c : Common) (n : List ℕ) → NotNamed before n → pointwise nat_eq c.name n ≡ false
+    → NotNamed (before ++ c ∷ []) n
 not_named_back [] c n none differs = or_from (pointwise nat_eq c.name n) false differs refl
 not_named_back (d ∷ ds) c n none differs =
     let parts = or_parts (pointwise nat_eq d.name n) (list_any (λ (d : Common). pointwise nat_eq d.name n) ds) none in
-    or_from (pointwise nat_eq d.name n) (list_any (λ (d : Common). pointwise nat_eq d.name n) (ds ++ c ∷ [])) parts.0 (not_named_back ds c n parts.1 differs)
+    or_from (pointwise nat_eq d.name n) (list_any (λ (d : Common). pointwise nat_eq d.name n) (ds ++ c ∷ [])) parts.0
+    (not_named_back ds c n parts.1 differs)
 
-rest_not_named : (before : List Common) (c : Common) (ns : List (List ℕ)) → has_name ns c.name ≡ false → AllByRecursion (NotNamed before) ns → AllByRecursion (NotNamed (before ++ c ∷ [])) ns
+rest_not_named : (before : List Common) (c : Common) (ns : List (List ℕ)) → has_name ns c.name ≡ false
+    → AllByRecursion (NotNamed before) ns → AllByRecursion (NotNamed (before ++ c ∷ [])) ns
 rest_not_named before c [] none all = tt
 rest_not_named before c (n ∷ ns) none all =
     let parts = or_parts (pointwise nat_eq n c.name) (has_name ns c.name) none in
@@ -154,18 +181,24 @@ rest_not_named before c (n ∷ ns) none all =
 id_in_range : (start : ℕ) → 6 ≤ start → start < 255 → is_common_id start ≡ true
 id_in_range start low high = grind (arith, nat_tests, low, high)
 
-pub new_commons : (start : ℕ) (names : List (List ℕ)) (before : List Common) → 6 ≤ start → start + length names ≤ 255 → list_all (λ (d : Common). nat_lt d.id start) before ≡ true →
+pub new_commons : (start : ℕ) (names : List (List ℕ)) (before : List Common) → 6 ≤ start → start + length names ≤ 255
+    → list_all (λ (d : Common). nat_lt d.id start) before ≡ true →
     AllByRecursion (NotNamed before) names → NoTwice names → each_after is_new_common before (numbered start names) ≡ true
 new_commons start [] before low few ids named once = refl
 new_commons start (n ∷ ns) before low few ids named once =
     let c : Common = numbered_common (start, n) in
-    let other : list_any (λ (d : Common). d.id == start) before ≡ false = none_by (λ (d : Common). nat_lt d.id start) (λ d. d.id == start) (λ d is. less_differs d.id start is) before ids in
+    let other : list_any (λ (d : Common). d.id == start) before ≡ false =
+    none_by (λ (d : Common). nat_lt d.id start) (λ d. d.id == start) (λ d is. less_differs d.id start is) before ids in
     and_from (is_new_common before c) (each_after is_new_common (before ++ c ∷ []) (numbered (start + 1) ns))
-    (and_from (is_common_id start && not (list_any (λ (d : Common). d.id == start) before)) (not (list_any (λ (d : Common). pointwise nat_eq d.name n) before))
-    (and_from (is_common_id start) (not (list_any (λ (d : Common). d.id == start) before)) (id_in_range start low (omega (arith, few))) (not_from_false (list_any (λ (d : Common). d.id == start) before) other))
+    (and_from (is_common_id start && not (list_any (λ (d : Common). d.id == start) before))
+    (not (list_any (λ (d : Common). pointwise nat_eq d.name n) before))
+    (and_from (is_common_id start) (not (list_any (λ (d : Common). d.id == start) before))
+    (id_in_range start low (omega (arith, few))) (not_from_false (list_any (λ (d : Common). d.id == start) before) other))
     (not_from_false (list_any (λ (d : Common). pointwise nat_eq d.name n) before) named.0))
     (new_commons (start + 1) ns (before ++ c ∷ []) (omega (arith, low)) (omega (arith, few))
-    (all_back (λ (d : Common). nat_lt d.id (start + 1)) before c (all_weaker (λ (d : Common). nat_lt d.id start) (λ d. nat_lt d.id (start + 1)) (λ d is. less_next d.id start is) before ids) (lt-ltb start (start + 1) (omega arith)))
+    (all_back (λ (d : Common). nat_lt d.id (start + 1)) before c
+    (all_weaker (λ (d : Common). nat_lt d.id start) (λ d. nat_lt d.id (start + 1))
+    (λ d is. less_next d.id start is) before ids) (lt-ltb start (start + 1) (omega arith)))
     (rest_not_named before c ns once.0 named.1) once.1)
   where
     less_differs : (i s : ℕ) → nat_lt i s ≡ true → (i == s) ≡ false
@@ -196,7 +229,8 @@ ends_later id before (m ∷ ms) =
 abbrev pub FitsPart : ℕ → (ℕ → ℕ) → ℕ → ℕ × ModuleValue → Type 0
 FitsPart id start limit m = start m.0 + (segment_in m.1.segments id).length ≤ limit
 
-pub parts_fit : (id before : ℕ) (ms : List ModuleValue) (start : ℕ → ℕ) (number limit : ℕ) → ((k : ℕ) → k < length ms → start (number + k) ≡ slice_index (starts_from id before ms) k) → limit ≡ parts_end id before ms →
+pub parts_fit : (id before : ℕ) (ms : List ModuleValue) (start : ℕ → ℕ) (number limit : ℕ)
+    → ((k : ℕ) → k < length ms → start (number + k) ≡ slice_index (starts_from id before ms) k) → limit ≡ parts_end id before ms →
     AllByRecursion (FitsPart id start limit) (enumerate_from number ms)
 parts_fit id before [] start number limit starts ends = tt
 parts_fit id before (m ∷ ms) start number limit starts ends =
@@ -223,27 +257,37 @@ greatest_above {A} size (x ∷ xs) = (above_first (size x) (greatest (map size x
     above_second : (n a b : ℕ) → n ≤ b → n ≤ max a b
     above_second n a b h = omega (arith, h)
 
-    raised : (ys : List A) → AllByRecursion (λ y. size y ≤ greatest (map size xs)) ys → AllByRecursion (λ y. size y ≤ max (size x) (greatest (map size xs))) ys
+    raised : (ys : List A) → AllByRecursion (λ y. size y ≤ greatest (map size xs)) ys
+        → AllByRecursion (λ y. size y ≤ max (size x) (greatest (map size xs))) ys
     raised [] all = tt
     raised (y ∷ ys) all = (above_second (size y) (size x) (greatest (map size xs)) all.0, raised ys all.1)
 
-pub all_numbered : {A : Type 0} (P : A → Type 0) (number : ℕ) (xs : List A) → AllByRecursion P xs → AllByRecursion (λ (x : ℕ × A). P x.1) (enumerate_from number xs)
+pub all_numbered : {A : Type 0} (P : A → Type 0) (number : ℕ) (xs : List A) → AllByRecursion P xs
+    → AllByRecursion (λ (x : ℕ × A). P x.1) (enumerate_from number xs)
 all_numbered P number [] all = tt
 all_numbered P number (x ∷ xs) all = (all.0, all_numbered P (number + 1) xs all.1)
 
 -- the part that a module has of a common, found by the common's name
-pub named_part : CommonsByName → (commons : List Common) (m : ModuleValue) (id new : ℕ) → IsTrue (each_after is_new_common [] m.commons) → has_common_id m.commons id ≡ true → is_fixed_id new ≡ false → common_name commons new ≡ common_name m.commons id →
+pub named_part : CommonsByName → (commons : List Common) (m : ModuleValue) (id new : ℕ)
+    → IsTrue (each_after is_new_common [] m.commons) → has_common_id m.commons id ≡ true → is_fixed_id new ≡ false
+    → common_name commons new ≡ common_name m.commons id →
     (part_of commons m new).length ≡ (segment_in m.segments id).length
 named_part by_name commons m id new rules named not_fixed called =
     let name : List ℕ = common_name m.commons id in
     let size : Common → List ℕ × ℕ = λ c. (c.name, (segment_in m.segments c.id).length) in
     let found : Option Common = find (λ (c : Common). pointwise nat_eq c.name name) m.commons in
-    ap (λ b. (cond b (segment_in m.segments new) (option_map_or (λ (c : Common). segment_in m.segments c.id) (find (λ (c : Common). pointwise nat_eq c.name (common_name commons new)) m.commons) empty_segment)).length) not_fixed
-    ∙ ap (λ n. (option_map_or (λ (c : Common). segment_in m.segments c.id) (find (λ (c : Common). pointwise nat_eq c.name n) m.commons) empty_segment).length) called
+    ap (λ b. (cond b (segment_in m.segments new)
+    (option_map_or (λ (c : Common). segment_in m.segments c.id)
+    (find (λ (c : Common). pointwise nat_eq c.name (common_name commons new)) m.commons) empty_segment)).length) not_fixed
+    ∙ ap (λ n. (option_map_or (λ (c : Common). segment_in m.segments c.id)
+    (find (λ (c : Common). pointwise nat_eq c.name n) m.commons) empty_segment).length) called
     ∙ by_option found
-    ∙ ap (λ (o : Option (List ℕ × ℕ)). option_map_or (λ (w : List ℕ × ℕ). w.1) o 0) (sym (find_map size (λ (w : List ℕ × ℕ). pointwise nat_eq w.0 name) m.commons))
+    ∙ ap (λ (o : Option (List ℕ × ℕ)). option_map_or (λ (w : List ℕ × ℕ). w.1) o 0)
+    (sym (find_map size (λ (w : List ℕ × ℕ). pointwise nat_eq w.0 name) m.commons))
     ∙ by_name m.commons (λ i. (segment_in m.segments i).length) id rules named
   where
-    by_option : (o : Option Common) → (option_map_or (λ (c : Common). segment_in m.segments c.id) o empty_segment).length ≡ option_map_or (λ (w : List ℕ × ℕ). w.1) (option_map (λ (c : Common). (c.name, (segment_in m.segments c.id).length)) o) 0
+    by_option : (o : Option Common)
+        → (option_map_or (λ (c : Common). segment_in m.segments c.id) o empty_segment).length
+        ≡ option_map_or (λ (w : List ℕ × ℕ). w.1) (option_map (λ (c : Common). (c.name, (segment_in m.segments c.id).length)) o) 0
     by_option None = refl
     by_option (Some c) = refl

@@ -22,12 +22,17 @@ or_none (Some x) b none = absurd cc
 
 none_too_long : (modules : List ModuleValue) → link_fault modules ≡ None → segment_too_long modules ≡ None
 none_too_long modules none =
-    let rest : Option LinkFault = option_or (two_mains modules) (option_or (high_not_paged modules) (option_or (too_many_commons modules) (too_many_externals modules))) in
-    (or_none (segment_too_long modules) rest (or_none (duplicate_public modules) (option_or (segment_too_long modules) rest) none).1).0
+    let rest : Option LinkFault =
+    option_or (two_mains modules)
+    (option_or (high_not_paged modules) (option_or (too_many_commons modules) (too_many_externals modules))) in
+    (or_none (segment_too_long modules) rest
+    (or_none (duplicate_public modules) (option_or (segment_too_long modules) rest) none).1).0
 
-none_found : (test : ℕ → Bool) (i : ℕ) (is : List ℕ) → option_map SegmentTooLong (find test (i ∷ is)) ≡ None → (test i ≡ false) × (option_map SegmentTooLong (find test is) ≡ None)
+none_found : (test : ℕ → Bool) (i : ℕ) (is : List ℕ) → option_map SegmentTooLong (find test (i ∷ is)) ≡ None
+    → (test i ≡ false) × (option_map SegmentTooLong (find test is) ≡ None)
 none_found test i is none =
-    (elim (test i) as (λ b. option_map SegmentTooLong (cond b (Some i) (find test is)) ≡ None → (b ≡ false) × (option_map SegmentTooLong (find test is) ≡ None)) [
+    (elim (test i) as (λ b. option_map SegmentTooLong (cond b (Some i) (find test is)) ≡ None
+    → (b ≡ false) × (option_map SegmentTooLong (find test is) ≡ None)) [
       | true ↦ λ some. absurd (some_none (SegmentTooLong i) some)
       | false ↦ λ later. (refl, later)
     ]) none
@@ -47,7 +52,8 @@ laid_out_cases id laid = elim (cases_Bool (id == 1)) [
     third : (id : ℕ) → is_laid_out id ≡ true → (id == 1) ≡ false → (id == 2) ≡ false → id ≡ 3
     third id laid a b = grind (arith, nat_tests, laid, a, b)
 
-pub laid_out_word : (modules : List ModuleValue) (id : ℕ) → segment_too_long modules ≡ None → is_laid_out id ≡ true → linked_length modules id ≤ 65535
+pub laid_out_word : (modules : List ModuleValue) (id : ℕ) → segment_too_long modules ≡ None → is_laid_out id ≡ true
+    → linked_length modules id ≤ 65535
 laid_out_word modules id none laid =
     let test : ℕ → Bool = λ i. nat_lt 65535 (linked_length modules i) in
     let first = none_found test 1 (2 ∷ 3 ∷ []) none in
@@ -63,7 +69,10 @@ laid_out_word modules id none laid =
 
 part_word : (commons : List Common) (m : ModuleValue) (id : ℕ) → HasWordLengths m → (part_of commons m id).length ≤ 65535
 part_word commons m id words =
-    elim (is_fixed_id id) as (λ b. (cond b (segment_in m.segments id) (option_map_or (λ (c : Common). segment_in m.segments c.id) (find (λ (c : Common). pointwise nat_eq c.name (common_name commons id)) m.commons) empty_segment)).length ≤ 65535) [
+    elim (is_fixed_id id) as
+    (λ b. (cond b (segment_in m.segments id)
+    (option_map_or (λ (c : Common). segment_in m.segments c.id)
+    (find (λ (c : Common). pointwise nat_eq c.name (common_name commons id)) m.commons) empty_segment)).length ≤ 65535) [
       | true ↦ words id
       | false ↦ by_name (find (λ (c : Common). pointwise nat_eq c.name (common_name commons id)) m.commons)
     ]
@@ -72,9 +81,12 @@ part_word commons m id words =
     by_name None = omega arith
     by_name (Some c) = words c.id
 
-longest_word : (commons : List Common) (ms : List ModuleValue) (id : ℕ) → AllByRecursion HasWordLengths ms → greatest (map (λ m. (part_of commons m id).length) ms) ≤ 65535
+longest_word : (commons : List Common) (ms : List ModuleValue) (id : ℕ) → AllByRecursion HasWordLengths ms
+    → greatest (map (λ m. (part_of commons m id).length) ms) ≤ 65535
 longest_word commons [] id words = omega arith
-longest_word commons (m ∷ ms) id words = both ((part_of commons m id).length) (greatest (map (λ m. (part_of commons m id).length) ms)) (part_word commons m id words.0) (longest_word commons ms id words.1)
+longest_word commons (m ∷ ms) id words =
+    both ((part_of commons m id).length) (greatest (map (λ m. (part_of commons m id).length) ms)) (part_word commons m id words.0)
+    (longest_word commons ms id words.1)
   where
     both : (a b : ℕ) → a ≤ 65535 → b ≤ 65535 → max a b ≤ 65535
     both a b p q = omega (arith, p, q)
@@ -84,5 +96,6 @@ lengths_are_words modules id words no_fault =
     let longest : ℕ = greatest (map (λ m. (part_of (linked_commons modules) m id).length) modules) in
     elim (cases_Bool (is_laid_out id)) [
       | inl laid ↦ laid_out_word modules id (none_too_long modules no_fault) laid
-      | inr over ↦ subst (λ b. cond b (parts_end id 0 modules) longest ≤ 65535) (sym over) (longest_word (linked_commons modules) modules id words)
+      | inr over ↦ subst (λ b. cond b (parts_end id 0 modules) longest ≤ 65535) (sym over)
+          (longest_word (linked_commons modules) modules id words)
     ]

@@ -42,12 +42,22 @@ contents_of modules = (linked_parts [] modules).contents
 
 -- a call of a public in the next module: a reference to CODE is left
 called : contents_of (calls ∷ is_called ∷ []) ≡
-    record { segment = 1; offset = 0; bytes = 0xCD ∷ 0x04 ∷ 0x00 ∷ 0x76 ∷ []; fixups = record { offset = 1; field = Both; target = target.Segment 1 } ∷ [] }
+    record {
+      segment = 1;
+      offset = 0;
+      bytes = 0xCD ∷ 0x04 ∷ 0x00 ∷ 0x76 ∷ [];
+      fixups = record { offset = 1; field = Both; target = target.Segment 1 } ∷ [];
+    }
     ∷ record { segment = 1; offset = 4; bytes = 0xC9 ∷ []; fixups = [] } ∷ []
 called = refl
 
 called_paged : contents_of (calls ∷ paged_call ∷ []) ≡
-    record { segment = 1; offset = 0; bytes = 0xCD ∷ 0x00 ∷ 0x01 ∷ 0x76 ∷ []; fixups = record { offset = 1; field = Both; target = target.Segment 1 } ∷ [] }
+    record {
+      segment = 1;
+      offset = 0;
+      bytes = 0xCD ∷ 0x00 ∷ 0x01 ∷ 0x76 ∷ [];
+      fixups = record { offset = 1; field = Both; target = target.Segment 1 } ∷ [];
+    }
     ∷ record { segment = 1; offset = 256; bytes = 0xC9 ∷ []; fixups = [] } ∷ []
 called_paged = refl
 
@@ -73,7 +83,8 @@ too_long = refl
 mains : link_fault (calls ∷ calls ∷ []) ≡ Some TwoMains
 mains = refl
 
-high : link_fault (calls ∷ of_code 2 (0x3E ∷ 0x01 ∷ []) (record { offset = 1; field = High; target = target.Segment 1 } ∷ []) ∷ []) ≡ Some HighNotPaged
+high : link_fault (calls ∷ of_code 2 (0x3E ∷ 0x01 ∷ [])
+    (record { offset = 1; field = High; target = target.Segment 1 } ∷ []) ∷ []) ≡ Some HighNotPaged
 high = refl
 
 -- references to STACK are not moved
@@ -86,12 +97,21 @@ abbrev has_stack : ModuleValue
 has_stack = record loads_stack { contents = [] }
 
 stack_kept : contents_of (has_stack ∷ loads_stack ∷ []) ≡
-    record { segment = 1; offset = 3; bytes = 0x31 ∷ 0x00 ∷ 0x00 ∷ []; fixups = record { offset = 4; field = Both; target = target.Segment 3 } ∷ [] } ∷ []
+    record {
+      segment = 1;
+      offset = 3;
+      bytes = 0x31 ∷ 0x00 ∷ 0x00 ∷ [];
+      fixups = record { offset = 4; field = Both; target = target.Segment 3 } ∷ [];
+    } ∷ []
 stack_kept = refl
 
 -- one common of a name, as long as its longest part
 abbrev has_buf : ℕ → ℕ → ModuleValue
-has_buf id size = record (of_code 0 [] []) { segments = (id, record { length = size; paged = false }) ∷ []; commons = record { id = id; name = 66 ∷ [] } ∷ []; contents = [] }
+has_buf id size = record (of_code 0 [] []) {
+  segments = (id, record { length = size; paged = false }) ∷ [];
+  commons = record { id = id; name = 66 ∷ [] } ∷ [];
+  contents = [];
+}
 
 one_common : linked_commons (has_buf 9 4 ∷ has_buf 7 16 ∷ []) ≡ record { id = 6; name = 66 ∷ [] } ∷ []
 one_common = refl

@@ -21,7 +21,8 @@ pub record TakesNames (before names after : List (List ℕ)) : Type 0 where
 
 -- one of the names stood before
 abbrev pub RepeatsName : List (List ℕ) → List (List ℕ) → LinkFault → Type 0
-RepeatsName before names fault = (rest : List (List ℕ)) → option_map DuplicatePublic (again_in before (names ++ rest)) ≡ Some fault
+RepeatsName before names fault = (rest : List (List ℕ))
+    → option_map DuplicatePublic (again_in before (names ++ rest)) ≡ Some fault
 
 -- the numbers of the main programs
 abbrev pub mains_from : ℕ → List ModuleValue → List ℕ

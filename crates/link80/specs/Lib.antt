@@ -1,5 +1,6 @@
 pub mod Linked
 pub mod LinkFault
+pub mod DuplicateLaws
 pub mod Linking
 pub mod LinkLaws
 pub mod Selection

@@ -9,6 +9,7 @@ use Rattle.omf_parts.specs.declared.fixup.Fixup.{Fixup}
 use Rattle.omf_parts.specs.declared.fixup.Target.{Target}
 use Rattle.omf_parts.specs.declared.fixup.Target.TheVariants as target
 use Rattle.omf_parts.specs.declared.symbols.Public.{Public}
+use Rattle.omf_parts.specs.Contents.{ContentValue}
 use Rattle.omf_parts.specs.Segments.{code_id, data_id, stack_id}
 use Rattle.omf_parts.specs.Modules.{ModuleValue}
 use Rattle.omf_relocation.specs.HighReferences.{is_high}
@@ -26,17 +27,22 @@ link_fault_code TooManyCommons = 5
 link_fault_code Memory = 6
 link_fault_code TooManyExternals = 7
 
--- the first public, by module and then by record, whose name stands before
+-- one of these publics has the name
+abbrev pub is_declared : List Public → List ℕ → Bool
+is_declared publics name = list_any (λ q. pointwise nat_eq q.name name) publics
+
+-- the first public, by module and then by record, whose name stands before (specs/DuplicateLaws.antt says it without the walk)
 abbrev pub first_again : List Public → List Public → Option (List ℕ)
 first_again before [] = None
-first_again before (p ∷ ps) = if list_any (λ q. pointwise nat_eq q.name p.name) before then Some p.name else first_again (before ++ p ∷ []) ps
+first_again before (p ∷ ps) = if is_declared before p.name then Some p.name else first_again (before ++ p ∷ []) ps
 
 abbrev pub duplicate_public : List ModuleValue → Option LinkFault
 duplicate_public modules = option_map DuplicatePublic (first_again [] (linked_publics modules))
 
 -- the parts of CODE, DATA or STACK come to more than 65535 bytes: the least id
 abbrev pub segment_too_long : List ModuleValue → Option LinkFault
-segment_too_long modules = option_map SegmentTooLong (find (λ id. nat_lt 65535 (linked_length modules id)) (code_id ∷ data_id ∷ stack_id ∷ []))
+segment_too_long modules =
+    option_map SegmentTooLong (find (λ id. nat_lt 65535 (linked_length modules id)) (code_id ∷ data_id ∷ stack_id ∷ []))
 
 abbrev pub two_mains : List ModuleValue → Option LinkFault
 two_mains modules = if nat_lt 1 (length (starts modules)) then Some TwoMains else None
@@ -49,9 +55,14 @@ is_off_page modules number (target.External index) = false
 abbrev pub is_high_off_page : List ModuleValue → ℕ → Fixup → Bool
 is_high_off_page modules number f = is_high f.field && is_off_page modules number f.target
 
+abbrev pub has_high_off_page : List ModuleValue → ℕ → List ContentValue → Bool
+has_high_off_page modules number contents = list_any (λ c. list_any (is_high_off_page modules number) c.fixups) contents
+
+abbrev pub any_high_off_page : List ModuleValue → Bool
+any_high_off_page modules = list_any (λ m. has_high_off_page modules m.0 m.1.contents) (enumerate_from 0 modules)
+
 abbrev pub high_not_paged : List ModuleValue → Option LinkFault
-high_not_paged modules =
-    if list_any (λ m. list_any (λ c. list_any (is_high_off_page modules m.0) c.fixups) m.1.contents) (enumerate_from 0 modules) then Some HighNotPaged else None
+high_not_paged modules = if any_high_off_page modules then Some HighNotPaged else None
 
 -- ids from 6 to 254 are 249
 abbrev pub too_many_commons : List ModuleValue → Option LinkFault

@@ -49,10 +49,12 @@ linked_id modules m id = if is_fixed_id id then id else id_of (linked_commons mo
 -- ---- publics move with their parts; absolute offsets stand as they are, and STACK is spoken of from its top
 
 abbrev pub moved : List ModuleValue → (number id offset : ℕ) → ℕ
-moved modules number id offset = if id == absolute_id || id == stack_id then offset else (offset + part_start modules number id) % 65536
+moved modules number id offset =
+    if id == absolute_id || id == stack_id then offset else (offset + part_start modules number id) % 65536
 
 abbrev pub linked_public : List ModuleValue → ℕ × ModuleValue → Public → Public
-linked_public modules m p = record { name = p.name; segment = linked_id modules m.1 p.segment; offset = moved modules m.0 p.segment p.offset }
+linked_public modules m p =
+    record { name = p.name; segment = linked_id modules m.1 p.segment; offset = moved modules m.0 p.segment p.offset }
 
 abbrev pub linked_publics : List ModuleValue → List Public
 linked_publics modules = flat_map (λ m. map (linked_public modules m) m.1.publics) (enumerate_from 0 modules)
@@ -81,7 +83,8 @@ to_public modules name (Some p) = to_place p.segment p.offset
 
 abbrev pub linked_reference : List ModuleValue → ℕ × ModuleValue → Target → Reference
 linked_reference modules m (target.Segment id) = to_place (linked_id modules m.1 id) (moved modules m.0 id 0)
-linked_reference modules m (target.External index) = to_public modules (name_at m.1.externals index) (public_of modules (name_at m.1.externals index))
+linked_reference modules m (target.External index) =
+    to_public modules (name_at m.1.externals index) (public_of modules (name_at m.1.externals index))
 
 -- ---- contents move with their parts, with the words added
 
@@ -92,7 +95,8 @@ abbrev pub fixup_to : ℕ → Fixup → Target → Fixup
 fixup_to start f t = record { offset = f.offset + start; field = f.field; target = t }
 
 abbrev pub linked_fixup : List ModuleValue → ℕ × ModuleValue → ContentValue → Fixup → Option Fixup
-linked_fixup modules m c f = option_map (fixup_to (part_start modules m.0 c.segment) f) (linked_reference modules m f.target).target
+linked_fixup modules m c f =
+    option_map (fixup_to (part_start modules m.0 c.segment) f) (linked_reference modules m f.target).target
 
 abbrev pub linked_content : List ModuleValue → ℕ × ModuleValue → ContentValue → ContentValue
 linked_content modules m c = record {
@@ -111,7 +115,8 @@ linked_contents modules = flat_map (λ m. map (linked_content modules m) m.1.con
 abbrev pub part_of : List Common → ModuleValue → ℕ → Segment
 part_of commons m id =
     if is_fixed_id id then segment_in m.segments id
-    else option_map_or (λ c. segment_in m.segments c.id) (find (λ c. pointwise nat_eq c.name (common_name commons id)) m.commons) empty_segment
+    else option_map_or (λ c. segment_in m.segments c.id)
+    (find (λ c. pointwise nat_eq c.name (common_name commons id)) m.commons) empty_segment
 
 -- the end of the last part
 abbrev pub parts_end : ℕ → ℕ → List ModuleValue → ℕ
@@ -124,13 +129,17 @@ greatest (n ∷ ns) = max n (greatest ns)
 
 abbrev pub linked_length : List ModuleValue → ℕ → ℕ
 linked_length modules id =
-    if is_laid_out id then parts_end id 0 modules else greatest (map (λ m. (part_of (linked_commons modules) m id).length) modules)
+    if is_laid_out id then parts_end id 0 modules
+    else greatest (map (λ m. (part_of (linked_commons modules) m id).length) modules)
 
 abbrev pub linked_segment : List ModuleValue → ℕ → Segment
 linked_segment modules id = record {
   length = linked_length modules id;
   paged = list_any (λ m. (part_of (linked_commons modules) m id).paged) modules;
 }
+
+abbrev pub numbered_segments : List ModuleValue → List ℕ → List (ℕ × Segment)
+numbered_segments modules ids = map (λ id. (id, linked_segment modules id)) ids
 
 abbrev pub linked_ids : List ModuleValue → List ℕ
 linked_ids modules = code_id ∷ data_id ∷ stack_id ∷ memory_id ∷ unnamed_common_id ∷ map (λ c. c.id) (linked_commons modules)
@@ -148,7 +157,7 @@ starts modules = filter_map (λ m. option_map (moved_start modules m) m.1.start)
 abbrev pub linked_parts : List ℕ → List ModuleValue → ModuleValue
 linked_parts name modules = record {
   name = name;
-  segments = map (λ id. (id, linked_segment modules id)) (linked_ids modules);
+  segments = numbered_segments modules (linked_ids modules);
   commons = linked_commons modules;
   publics = linked_publics modules;
   externals = unresolved modules;

@@ -93,7 +93,8 @@ impl<'a> Model for JoinedModules<'a> {
 
     ghost view = { λ j. j.laid.now };
 
-    ghost invariant = { λ j. (j.commons ≡ common_names j.laid.now) × (j.names.items ≡ common_names j.laid.now) × (too_many_commons j.laid.now ≡ None) };
+    ghost invariant = { λ j. (j.commons ≡ common_names j.laid.now) × (j.names.items ≡ common_names j.laid.now)
+        × (too_many_commons j.laid.now ≡ None) };
 }
 
 impl<'a> JoinedModules<'a> {

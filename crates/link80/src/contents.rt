@@ -25,8 +25,10 @@ fn resolved(
 ) -> Result<(Vec<Patch>, Vec<Fixup>), AllocError>
     requires here { slice_get tables.now number ≡ Some source.now }
     requires movable { CanBeMoved tables.now number source.now content.now }
-    ensures patches { IfOk result (λ made. made.0.items ≡ map (link_patch tables.now (number, source.now) content.now) content.now.fixups) }
-    ensures left { IfOk result (λ made. made.1.items ≡ filter_map (linked_fixup tables.now (number, source.now) content.now) content.now.fixups) }
+    ensures patches { IfOk result (λ made. made.0.items
+        ≡ map (link_patch tables.now (number, source.now) content.now) content.now.fixups) }
+    ensures left { IfOk result (λ made. made.1.items
+        ≡ filter_map (linked_fixup tables.now (number, source.now) content.now) content.now.fixups) }
 {
     let start = tables.joined.start(number, content.segment);
     let mut patches = Vec::new(alloc);
@@ -92,7 +94,8 @@ fn add_contents(
 ) -> Result<(), AllocError>
     requires here { slice_get tables.now number ≡ Some source.now }
     requires segments_fit { segment_too_long tables.now ≡ None }
-    ensures contents { OnOk result (contents.new.items ≡ contents.old.items ++ map (linked_content tables.now (number, source.now)) source.now.contents) }
+    ensures contents { OnOk result (contents.new.items ≡ contents.old.items
+        ++ map (linked_content tables.now (number, source.now)) source.now.contents) }
     ensures sound { OnOk result (IsModule source.now) }
 {
     sound_modules_keep_rules();

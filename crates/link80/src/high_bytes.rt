@@ -1,15 +1,15 @@
 //! High bytes of references to parts that don't start at a multiple of 256.
 
 ghost use Rattle.std.specs.Prelude.{◌≡◌, ◌<◌, length};
-ghost use Rattle.std.specs.List.{list_any, enumerate_from};
-ghost use Rattle.link80.specs.LinkFault.{is_high_off_page};
+ghost use Rattle.std.specs.List.{list_any};
+ghost use Rattle.link80.specs.LinkFault.{is_high_off_page, has_high_off_page, any_high_off_page};
 
 use crate::starts::LaidModules;
 use omf_parts::{Content, Field, Fixup, Target};
 
 /// Whether a fixup takes the high byte of the place of a part that doesn't start at a multiple of 256.
 pub(crate) fn any_high_off_page(modules: &LaidModules) -> bool
-    ensures { result ≡ list_any (λ m. list_any (λ c. list_any (is_high_off_page modules.now m.0) c.fixups) m.1.contents) (enumerate_from 0 modules.now) }
+    ensures { result ≡ any_high_off_page modules.now }
 {
     for number in 0..modules.len() {
         if has_high_off_page(modules, number, modules.get(number).contents()) {
@@ -21,7 +21,7 @@ pub(crate) fn any_high_off_page(modules: &LaidModules) -> bool
 
 fn has_high_off_page(modules: &LaidModules, number: usize, contents: &[Content]) -> bool
     requires { number < length modules.now }
-    ensures { result ≡ list_any (λ c. list_any (is_high_off_page modules.now number) c.fixups) contents.now }
+    ensures { result ≡ has_high_off_page modules.now number contents.now }
 {
     for content in contents {
         if takes_high_off_page(modules, number, &content.fixups) {

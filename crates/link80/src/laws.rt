@@ -2,6 +2,7 @@
 //! it has the law in its proof.
 
 ghost use Rattle.link80.specs.LinkLaws.{LinkedChunksAreTheModules, LinkedBytesAreTheModules, LinkedLengthsAreWords, LinkedModuleKeepsRules};
+ghost use Rattle.link80.specs.DuplicateLaws.{FirstAgainIsTheFirst, NoneAgainWhereAllAreNew, DuplicateIsTheFirst};
 
 use omf_relocation::laws::{
     adding_twice_is_adding_once, commons_are_found_by_name, parts_of_one_start_at_zero,
@@ -28,3 +29,11 @@ pub fn linked_module_keeps_rules()
     sound_modules_keep_rules();
     commons_are_found_by_name();
 }
+
+/// The duplicate that LINK reports is the first public, by module and then by record, whose name some earlier one has; and there
+/// is none exactly where each public has a new name.
+pub fn duplicate_is_the_first()
+    ensures name { FirstAgainIsTheFirst }
+    ensures none { NoneAgainWhereAllAreNew }
+    ensures fault { DuplicateIsTheFirst }
+{}

@@ -231,7 +231,8 @@ pub fn link(
 ) -> Result<Linked, LinkFault>
     ensures taken { IfOk result (λ made. IsSelection roots.now libraries.now made.taken.items) }
     ensures linked { IfOk result (λ made. made.module ≡ linked name.now (modules_with roots.now libraries.now made.taken.items)) }
-    ensures unresolved { IfOk result (λ made. made.unresolved.items ≡ unresolved (modules_with roots.now libraries.now made.taken.items)) }
+    ensures unresolved { IfOk result (λ made. made.unresolved.items
+        ≡ unresolved (modules_with roots.now libraries.now made.taken.items)) }
     ensures no_fault { IfOk result (λ made. link_fault (modules_with roots.now libraries.now made.taken.items) ≡ None) }
     ensures sound { IfOk result (λ made. AllByRecursion IsModule (modules_with roots.now libraries.now made.taken.items)) }
     ensures fault { IfErr result (λ fault. fault ≢ LinkFault.Memory → CannotBeLinked roots.now libraries.now fault) }

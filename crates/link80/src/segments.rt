@@ -6,7 +6,7 @@ ghost use Rattle.std.specs.List.{enumerate_from};
 ghost use Rattle.omf_parts.specs.Rules.{IsModule};
 ghost use Rattle.omf_parts.specs.Segments.{is_fixed_id};
 ghost use Rattle.link80.specs.Joined.{joined_parts, parts_of_commons, with_named_parts};
-ghost use Rattle.link80.specs.Linked.{common_names, linked_commons, linked_ids, linked_segment};
+ghost use Rattle.link80.specs.Linked.{common_names, linked_commons, linked_ids, linked_segment, numbered_segments};
 
 use crate::commons::JoinedModules;
 use crate::starts::segment_of;
@@ -51,7 +51,8 @@ fn fixed_segment(joined: &JoinedModules, id: u8) -> Segment
 /// Joins a module's parts of named commons to the segments of their names.
 fn join_commons(segments: &mut Vec<Segment>, joined: &JoinedModules, source: &Module)
     requires { length segments.old.items ≡ length (common_names joined.now) }
-    ensures joined { segments.new.items ≡ with_named_parts (common_names joined.now) segments.old.items (parts_of_commons source.now) }
+    ensures joined { segments.new.items
+        ≡ with_named_parts (common_names joined.now) segments.old.items (parts_of_commons source.now) }
     ensures len { length segments.new.items ≡ length segments.old.items }
     ensures rules { IsModule source.now }
 {
@@ -64,7 +65,8 @@ fn join_commons(segments: &mut Vec<Segment>, joined: &JoinedModules, source: &Mo
 
 /// The segments of the named commons, in order of first sight.
 fn common_segments(alloc: Global, joined: &JoinedModules) -> Result<Vec<Segment>, AllocError>
-    ensures segments { IfOk result (λ segments. enumerate_from 6 segments.items ≡ map (λ id. (id, linked_segment joined.now id)) (map (λ c. c.id) (linked_commons joined.now))) }
+    ensures segments { IfOk result (λ segments. enumerate_from 6 segments.items
+        ≡ numbered_segments joined.now (map (λ c. c.id) (linked_commons joined.now))) }
     ensures few { IfOk result (λ segments. length segments.items ≤ 249) }
 {
     let mut segments = Vec::from_elem(alloc, EMPTY, joined.common_count())?;
@@ -76,7 +78,7 @@ fn common_segments(alloc: Global, joined: &JoinedModules) -> Result<Vec<Segment>
 
 /// The segments that every module has, with their ids.
 fn fixed_segments(alloc: Global, joined: &JoinedModules) -> Result<Vec<(u8, Segment)>, AllocError>
-    ensures { IfOk result (λ segments. segments.items ≡ map (λ id. (id, linked_segment joined.now id)) (1 ∷ 2 ∷ 3 ∷ 4 ∷ 255 ∷ [])) }
+    ensures { IfOk result (λ segments. segments.items ≡ numbered_segments joined.now (1 ∷ 2 ∷ 3 ∷ 4 ∷ 255 ∷ [])) }
 {
     let mut segments = Vec::new(alloc);
     segments.push((CODE, fixed_segment(joined, CODE)))?;
@@ -95,7 +97,7 @@ pub(crate) fn linked_segments(
     alloc: Global,
     joined: &JoinedModules,
 ) -> Result<Vec<(u8, Segment)>, AllocError>
-    ensures { IfOk result (λ segments. segments.items ≡ map (λ id. (id, linked_segment joined.now id)) (linked_ids joined.now)) }
+    ensures { IfOk result (λ segments. segments.items ≡ numbered_segments joined.now (linked_ids joined.now)) }
 {
     let mut segments = fixed_segments(alloc, joined)?;
     let mut id = FIRST_COMMON;

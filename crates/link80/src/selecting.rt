@@ -20,7 +20,8 @@ pub fn select(
     roots: &[Module],
     libraries: &[Library],
 ) -> Result<Vec<Chosen>, LinkFault>
-    ensures chosen { IfOk result (λ taken. (place : Chosen) → Contains taken.items place ↔ IsChosen roots.now libraries.now place) }
+    ensures chosen { IfOk result (λ taken.
+        (place : Chosen) → Contains taken.items place ↔ IsChosen roots.now libraries.now place) }
     ensures ascending { IfOk result (λ taken. AreAscending taken.items) }
     ensures fault { IfErr result (λ fault. fault ≡ LinkFault.Memory) }
 {

@@ -69,7 +69,8 @@ impl LaidOut {
         requires { IsTrue (is_fixed_id id) }
         ensures laid { IfOk result (λ l. l ≡ laid_out modules.now id) }
         ensures fits { OnOk result (parts_end id 0 modules.now ≤ 65535) }
-        ensures fault { IfErr result (λ fault. fault ≢ LinkFault.Memory → (fault ≡ LinkFault.SegmentTooLong id) × (65535 < parts_end id 0 modules.now)) }
+        ensures fault { IfErr result (λ fault. fault ≢ LinkFault.Memory
+            → (fault ≡ LinkFault.SegmentTooLong id) × (65535 < parts_end id 0 modules.now)) }
     {
         let mut starts = Vec::new(alloc);
         let mut end = 0;

@@ -29,7 +29,8 @@ fn add_moved_publics(
     publics: &mut Vec<Public>,
 ) -> Result<(), AllocError>
     requires { slice_get joined.now number ≡ Some source.now }
-    ensures { OnOk result (publics.new.items ≡ publics.old.items ++ map (linked_public joined.now (number, source.now)) source.now.publics) }
+    ensures { OnOk result (publics.new.items ≡ publics.old.items
+        ++ map (linked_public joined.now (number, source.now)) source.now.publics) }
 {
     for public in source.publics() {
         publics.push(Public {
@@ -60,7 +61,8 @@ fn add_undeclared<'a>(
     declared: &NameTable,
     source: &'a Module,
 ) -> Result<(), AllocError>
-    ensures names { OnOk result (names.new ≡ with_names names.old (filter (λ name. is_none (number_in declared.now name)) source.now.externals)) }
+    ensures names { OnOk result (names.new
+        ≡ with_names names.old (filter (λ name. is_none (number_in declared.now name)) source.now.externals)) }
     ensures copies { OnOk result (copies.old.items ≡ names.old → copies.new.items ≡ names.new) }
 {
     for name in source.externals() {

@@ -16,7 +16,8 @@ use Rattle.map80.specs.Map.{address_of, IsByAddress}
 filter-map : {X Y : Type 0} (p : Y → Bool) (f : X → Y) (xs : List X) → filter p (map f xs) ≡ map f (filter (λ x. p (f x)) xs)
 filter-map p f [] = refl
 filter-map p f (x ∷ xs) =
-    elim (p (f x)) as (λ b. cond b (f x ∷ filter p (map f xs)) (filter p (map f xs)) ≡ map f (cond b (x ∷ filter (λ x. p (f x)) xs) (filter (λ x. p (f x)) xs)))
+    elim (p (f x)) as (λ b. cond b (f x ∷ filter p (map f xs)) (filter p (map f xs))
+    ≡ map f (cond b (x ∷ filter (λ x. p (f x)) xs) (filter (λ x. p (f x)) xs)))
     [ true ↦ ap (λ l. f x ∷ l) (filter-map p f xs) | false ↦ filter-map p f xs ]
 
 -- the test by which std sorts numbers
@@ -40,25 +41,33 @@ module _ (segments : List Placed) where
   abbrev one_at : ℕ → Bor Public
   one_at a = record { ref_ptr = (0, 0); now = record { name = []; segment = 0; offset = a } }
 
-  ascending-map : (xs : List (Bor Public)) → IsNonDecreasingBy key xs → IsNonDecreasingBy (address_of segments) (map (λ r. r.now) xs)
+  ascending-map : (xs : List (Bor Public)) → IsNonDecreasingBy key xs
+      → IsNonDecreasingBy (address_of segments) (map (λ r. r.now) xs)
   ascending-map xs up i j d le below =
       let e : Bor Public = record { ref_ptr = (0, 0); now = d } in
       let within : j < length xs = omega (arith, below, length-map xs (λ (r : Bor Public). r.now)) in
-      rw (get_or-map (λ (r : Bor Public). r.now) xs i e d (omega (arith, le, within)), get_or-map (λ (r : Bor Public). r.now) xs j e d within) (up i j e le within)
+      rw (
+        get_or-map (λ (r : Bor Public). r.now) xs i e d (omega (arith, le, within)),
+        get_or-map
+            (λ (r : Bor Public). r.now) xs j e d within,
+      ) (up i j e le within)
 
   tie-at : (a : ℕ) (r : Bor Public) → ties (λ x y. is_lt (nat_cmp (key x) (key y))) (one_at a) r ≡ (key r == a)
   tie-at a r = rw (is_less a (key r), is_less (key r) a) (ties-are_equal a (key r))
 
   each-map : (xs ys : List (Bor Public)) → IsStableByKey key nat_cmp xs ys → (a : ℕ) →
-      filter (λ p. address_of segments p == a) (map (λ r. r.now) ys) ≡ filter (λ p. address_of segments p == a) (map (λ r. r.now) xs)
+      filter (λ p. address_of segments p == a) (map (λ r. r.now) ys)
+      ≡ filter (λ p. address_of segments p == a) (map (λ r. r.now) xs)
   each-map xs ys stable a =
-      let tests : (zs : List (Bor Public)) → filter (ties (λ x y. is_lt (nat_cmp (key x) (key y))) (one_at a)) zs ≡ filter (λ r. key r == a) zs =
+      let tests : (zs : List (Bor Public))
+      → filter (ties (λ x y. is_lt (nat_cmp (key x) (key y))) (one_at a)) zs ≡ filter (λ r. key r == a) zs =
       λ zs. filter_agree _ (λ r. key r == a) (tie-at a) zs in
       filter-map (λ p. address_of segments p == a) (λ r. r.now) ys
       ∙ ap (map (λ (r : Bor Public). r.now)) (sym (tests ys) ∙ stable (one_at a) ∙ tests xs)
       ∙ sym (filter-map (λ p. address_of segments p == a) (λ r. r.now) xs)
 
-  pub sorted_by_address : (publics : List Public) (xs ys : List (Bor Public)) → map (λ r. r.now) xs ≡ publics → IsNonDecreasingBy key ys → IsStableByKey key nat_cmp xs ys →
+  pub sorted_by_address : (publics : List Public) (xs ys : List (Bor Public)) → map (λ r. r.now) xs ≡ publics
+      → IsNonDecreasingBy key ys → IsStableByKey key nat_cmp xs ys →
       IsByAddress segments publics (map (λ r. r.now) ys)
   sorted_by_address publics xs ys same up stable = record {
     ascending = ascending-map ys up;

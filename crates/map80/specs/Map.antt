@@ -41,7 +41,8 @@ public_line segments public = word_text (address_of segments public) ++ 32 ∷ (
 -- the same names by address: those that stand at an address are the same, in the same order
 pub record IsByAddress (segments : List Placed) (publics listed : List Public) : Type 0 where
   pub ascending : IsNonDecreasingBy (address_of segments) listed
-  pub each : (address : ℕ) → filter (λ p. address_of segments p == address) listed ≡ filter (λ p. address_of segments p == address) publics
+  pub each : (address : ℕ)
+      → filter (λ p. address_of segments p == address) listed ≡ filter (λ p. address_of segments p == address) publics
 
 -- a text with the lines of the public names, by address, behind it
 abbrev pub PrintsPublics : List Placed → List Public → (before after : List ℕ) → Type 0

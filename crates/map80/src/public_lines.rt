@@ -1,14 +1,12 @@
 //! The lines of public names.
 
-ghost use Rattle.std.specs.Prelude.{◌≡◌, ◌+◌, ◌%◌, ◌++◌, ◌==◌, find, map, OnOk, IfOk};
+ghost use Rattle.std.specs.Prelude.{◌≡◌, ◌++◌, map, OnOk, IfOk};
 ghost use Rattle.std.specs.List.{flat_map};
-ghost use Rattle.place80.specs.Layout.{placed_in, place_among};
 ghost use Rattle.map80.specs.Map.{IsByAddress, PrintsPublics, public_line};
 
 use decode80::word_digits;
-use omf_body::segment_id::{ABSOLUTE, STACK};
 use omf_parts::Public;
-use place80::Placed;
+use place80::{Placed, place_of};
 use std::alloc::{AllocError, Global};
 
 /// Appends a line for each public name, by address.
@@ -33,7 +31,7 @@ fn by_address<'a>(
     ensures { IfOk result (λ listed. IsByAddress segments.now publics.now (map (λ p. p.now) listed.items)) }
 {
     let mut listed = references_to(alloc, publics)?;
-    listed.sort_by_key(|public| address_of(segments, public.segment, public.offset))?;
+    listed.sort_by_key(|public| place_of(segments, public.segment, public.offset))?;
     Ok(listed)
 }
 
@@ -66,51 +64,9 @@ fn append_lines(
 fn append_line(text: &mut Vec<u8>, public: &Public, segments: &[Placed]) -> Result<(), AllocError>
     ensures { OnOk result (text.new.items ≡ text.old.items ++ public_line segments.now public.now) }
 {
-    text.extend_from_slice(&word_digits(address_of(segments, public.segment, public.offset)))?;
+    text.extend_from_slice(&word_digits(place_of(segments, public.segment, public.offset)))?;
     text.push(b' ')?;
     text.extend_from_slice(public.name.bytes())?;
     text.push(b'\n')?;
     Ok(())
-}
-
-/// The address of an offset in a segment: absolute offsets stand as they are, STACK is spoken of from its top, and anything else
-/// from its base.
-fn address_of(segments: &[Placed], id: u8, offset: u16) -> u16
-    ensures { result ≡ place_among segments.now id offset }
-{
-    match id {
-        ABSOLUTE => offset,
-        STACK => top_of(placed_in(segments, STACK)).wrapping_add(offset),
-        _ => ((u64::from(placed_in(segments, id).base) + u64::from(offset)) % 65536) as u16,
-    }
-}
-
-/// The address after the last byte of a segment, as a word.
-fn top_of(placed: Placed) -> u16
-    ensures { result ≡ (placed.base + placed.length) % 65536 }
-{
-    ((u64::from(placed.base) + u64::from(placed.length)) % 65536) as u16
-}
-
-/// The segment of this id, and one of no bytes at 0 where there is none.
-fn placed_in(segments: &[Placed], id: u8) -> Placed
-    ensures { result ≡ placed_in segments.now id }
-{
-    find_placed(segments, id).unwrap_or(Placed {
-        id,
-        base: 0,
-        length: 0,
-    })
-}
-
-/// The segment of this id.
-fn find_placed(segments: &[Placed], id: u8) -> Option<Placed>
-    ensures { result ≡ find (λ p. p.id == id) segments.now }
-{
-    for placed in segments {
-        if placed.id == id {
-            return Some(*placed);
-        }
-    }
-    None
 }

@@ -47,14 +47,24 @@ pub record Stay : Type 0 where
 pub of_stay : RecordsStay → ListsStay → ModulesStay → BegunModulesStay → Stay
 of_stay r l m b = record { records = r; lists = l; modules = m; begun = b }
 
-begins_stays : Stay → (bytes more : List ℕ) (first said : ℕ) → BeginsLibrary bytes first said → BeginsLibrary (bytes ++ more) first said
-begins_stays s bytes more first said b = record { kind = b.kind; body = b.body; framed = s.records bytes more 0 first b.kind b.body b.framed; header = b.header; count = b.count }
+begins_stays : Stay → (bytes more : List ℕ) (first said : ℕ) → BeginsLibrary bytes first said
+    → BeginsLibrary (bytes ++ more) first said
+begins_stays s bytes more first said b =
+    record {
+      kind = b.kind;
+      body = b.body;
+      framed = s.records bytes more 0 first b.kind b.body b.framed;
+      header = b.header;
+      count = b.count;
+    }
 
-modules_stay : Stay → (bytes more : List ℕ) (from to : ℕ) (ms : List ModuleValue) → SpellsModules bytes from to ms → SpellsModules (bytes ++ more) from to ms
+modules_stay : Stay → (bytes more : List ℕ) (from to : ℕ) (ms : List ModuleValue) → SpellsModules bytes from to ms
+    → SpellsModules (bytes ++ more) from to ms
 modules_stay s bytes more from to [] x = x
 modules_stay s bytes more from to (m ∷ ms) x = (x.0, s.modules bytes more from x.0 m x.1, modules_stay s bytes more x.0 to ms x.2)
 
-pub open_stays : Stay → (bytes more : List ℕ) (said index at : ℕ) (ms : List ModuleValue) (rs : List RecordValue) → OpenLibrary bytes said index at ms rs → OpenLibrary (bytes ++ more) said index at ms rs
+pub open_stays : Stay → (bytes more : List ℕ) (said index at : ℕ) (ms : List ModuleValue) (rs : List RecordValue)
+    → OpenLibrary bytes said index at ms rs → OpenLibrary (bytes ++ more) said index at ms rs
 open_stays s bytes more said index at ms rs o = record {
   first = o.first;
   begins = begins_stays s bytes more o.first said o.begins;
@@ -71,21 +81,32 @@ library_stays s bytes more ms l = record {
   begins = begins_stays s bytes more l.first (length ms) l.begins;
   spelled = modules_stay s bytes more l.first l.index ms l.spelled;
   indexed = record { spelled = s.lists bytes more l.index l.end l.records l.indexed.spelled; kinds = l.indexed.kinds };
-  ends = record { next = l.ends.next; body = l.ends.body; spelled = s.records bytes more l.end l.ends.next 0x0E l.ends.body l.ends.spelled };
+  ends = record {
+    next = l.ends.next;
+    body = l.ends.body;
+    spelled = s.records bytes more l.end l.ends.next 0x0E l.ends.body l.ends.spelled;
+  };
 }
 
-reads_module_stays : Stay → (bytes more : List ℕ) (begin here : ℕ) (commons : List Common) → ReadsModule bytes begin here commons → ReadsModule (bytes ++ more) begin here commons
+reads_module_stays : Stay → (bytes more : List ℕ) (begin here : ℕ) (commons : List Common) → ReadsModule bytes begin here commons
+    → ReadsModule (bytes ++ more) begin here commons
 reads_module_stays s bytes more begin here commons (inl n) = inl n
 reads_module_stays s bytes more begin here commons (inr b) = inr (s.begun bytes more begin here commons b)
 
-pub reads_stay : Stay → (bytes more : List ℕ) (ms : List ModuleValue) (next : UnfinishedModule) (p : Progress) → ReadsTo bytes ms next p → ReadsTo (bytes ++ more) ms next p
+pub reads_stay : Stay → (bytes more : List ℕ) (ms : List ModuleValue) (next : UnfinishedModule) (p : Progress)
+    → ReadsTo bytes ms next p → ReadsTo (bytes ++ more) ms next p
 reads_stay s bytes more ms next Header r = r
 reads_stay s bytes more ms next (Modules said) r = record {
   so_far = open_stays s bytes more said next.begin next.begin ms [] r.so_far;
   next_module = reads_module_stays s bytes more next.begin next.here next.commons.items r.next_module;
 }
 reads_stay s bytes more ms next (Index said at) r =
-    record { index = r.index; records = r.records; so_far = open_stays s bytes more said r.index at ms r.records r.so_far; some = r.some }
+    record {
+      index = r.index;
+      records = r.records;
+      so_far = open_stays s bytes more said r.index at ms r.records r.so_far;
+      some = r.some;
+    }
 reads_stay s bytes more ms next Ended r = library_stays s bytes more ms r
 
 -- ---- faults of records
@@ -98,7 +119,8 @@ not_cut_off (Truncated p) at other e = true≢false other
 not_cut_off (BadSum p) at other e = cc
 not_cut_off (ZeroLength p) at other e = cc
 
-pub whole_is_inside : (bytes : List ℕ) (at : ℕ) (f : RecordFault) → is_truncation f ≡ false → fault_at (drop at bytes) at ≡ Some f → at < length bytes
+pub whole_is_inside : (bytes : List ℕ) (at : ℕ) (f : RecordFault) → is_truncation f ≡ false → fault_at (drop at bytes) at ≡ Some f
+    → at < length bytes
 whole_is_inside bytes at f other x =
     elim (cases_lt at (length bytes)) [
       | inl within ↦ within
@@ -108,19 +130,22 @@ whole_is_inside bytes at f other x =
 pub more_inside : (bytes more : List ℕ) (at : ℕ) → at < length bytes → at < length (bytes ++ more)
 more_inside bytes more at within = omega (arith, length-append bytes more)
 
-pub record_fault_stays : OtherFaultsStay → (bytes more : List ℕ) (at : ℕ) (f : RecordFault) → is_truncation f ≡ false → fault_at (drop at bytes) at ≡ Some f → fault_at (drop at (bytes ++ more)) at ≡ Some f
+pub record_fault_stays : OtherFaultsStay → (bytes more : List ℕ) (at : ℕ) (f : RecordFault) → is_truncation f ≡ false
+    → fault_at (drop at bytes) at ≡ Some f → fault_at (drop at (bytes ++ more)) at ≡ Some f
 record_fault_stays law bytes more at f other x =
     let within = whole_is_inside bytes at f other x in
     ap (λ (r : List ℕ). fault_at r at) (drop-append-le at bytes more (omega arith)) ∙ law (drop at bytes) more at f other x
 
 truncated_here : (t z s : Bool) (at place : ℕ)
-    → (if t then Some (Truncated at) else (if z then Some (ZeroLength at) else (if s then None else Some (BadSum at)))) ≡ Some (Truncated place) → place ≡ at
+    → (if t then Some (Truncated at) else (if z then Some (ZeroLength at) else (if s then None else Some (BadSum at))))
+    ≡ Some (Truncated place) → place ≡ at
 truncated_here true z s at place e = cc
 truncated_here false true s at place e = cc
 truncated_here false false true at place e = cc
 truncated_here false false false at place e = cc
 
-pub cut_off_here : (bytes : List ℕ) (at : ℕ) (f : RecordFault) → fault_at (drop at bytes) at ≡ Some f → is_truncation f ≡ true → IsCutOff bytes at
+pub cut_off_here : (bytes : List ℕ) (at : ℕ) (f : RecordFault) → fault_at (drop at bytes) at ≡ Some f → is_truncation f ≡ true
+    → IsCutOff bytes at
 cut_off_here bytes at (Truncated p) x is =
     let rest = drop at bytes in
     x ∙ ap (λ (n : ℕ). Some (Truncated n)) (truncated_here (is_truncated rest) (has_zero_length rest) (has_zero_sum rest) at p x)
@@ -129,53 +154,68 @@ cut_off_here bytes at (ZeroLength p) x is = absurd (true≢false (sym is))
 
 -- ---- a library read so far is inside the bytes
 
-modules_inside : (bytes : List ℕ) (from to : ℕ) (ms : List ModuleValue) → from ≤ length bytes → SpellsModules bytes from to ms → to ≤ length bytes
+modules_inside : (bytes : List ℕ) (from to : ℕ) (ms : List ModuleValue) → from ≤ length bytes → SpellsModules bytes from to ms
+    → to ≤ length bytes
 modules_inside bytes from to [] inside s = omega (arith, s)
 modules_inside bytes from to (m ∷ ms) inside s = modules_inside bytes s.0 to ms (module_further bytes from s.0 m s.1).inside s.2
 
-records_inside : (bytes : List ℕ) (from to : ℕ) (rs : List RecordValue) → from ≤ length bytes → SpellsRecords bytes from to rs → to ≤ length bytes
+records_inside : (bytes : List ℕ) (from to : ℕ) (rs : List RecordValue) → from ≤ length bytes → SpellsRecords bytes from to rs
+    → to ≤ length bytes
 records_inside bytes from to [] inside s = omega (arith, s)
 records_inside bytes from to (r ∷ rs) inside s = records_inside bytes (from + 4 + length r.body) to rs s.0.within s.1
 
-pub open_inside : (bytes : List ℕ) (said index at : ℕ) (ms : List ModuleValue) (rs : List RecordValue) → OpenLibrary bytes said index at ms rs → at ≤ length bytes
-open_inside bytes said index at ms rs o = records_inside bytes index at rs (modules_inside bytes o.first index ms o.begins.framed.within o.spelled) o.indexed.spelled
+pub open_inside : (bytes : List ℕ) (said index at : ℕ) (ms : List ModuleValue) (rs : List RecordValue)
+    → OpenLibrary bytes said index at ms rs → at ≤ length bytes
+open_inside bytes said index at ms rs o =
+    records_inside bytes index at rs (modules_inside bytes o.first index ms o.begins.framed.within o.spelled) o.indexed.spelled
 
-bodies_inside : (bytes : List ℕ) (from to : ℕ) (ps : List PlacedBody) → from ≤ length bytes → SpellsBodies bytes from to ps → to ≤ length bytes
+bodies_inside : (bytes : List ℕ) (from to : ℕ) (ps : List PlacedBody) → from ≤ length bytes → SpellsBodies bytes from to ps
+    → to ≤ length bytes
 bodies_inside bytes from to [] inside s = omega (arith, s)
 bodies_inside bytes from to (p ∷ ps) inside s = bodies_inside bytes s.1.0 to ps (omega (arith, s.1.1.framed.within)) s.1.2
 
-begun_inside : (bytes : List ℕ) (begin here : ℕ) (commons : List Common) → BegunModule bytes begin here commons → here ≤ length bytes
+begun_inside : (bytes : List ℕ) (begin here : ℕ) (commons : List Common) → BegunModule bytes begin here commons
+    → here ≤ length bytes
 begun_inside bytes begin here commons b = bodies_inside bytes b.first here b.bodies b.begins.framed.within b.spelled
 
 -- ---- the fault of bytes that end
 
-faults_so_far : (bytes : List ℕ) (said index at : ℕ) (ms : List ModuleValue) (rs : List RecordValue) (f : LibraryFault) → OpenLibrary bytes said index at ms rs
+faults_so_far : (bytes : List ℕ) (said index at : ℕ) (ms : List ModuleValue) (rs : List RecordValue) (f : LibraryFault)
+    → OpenLibrary bytes said index at ms rs
     → FaultsAt bytes at said (length ms) (is_indexed rs) f → FaultsLibrary bytes f
 faults_so_far bytes said index at ms rs f o x = after_header o.first said index at ms rs f o.begins o.spelled o.indexed x
 
-pub header_faults : (bytes : List ℕ) (f : LibraryFault) → IsCutOff bytes 0 → FaultsWhereCut bytes 0 NotLibrary f → FaultsLibraryHeader bytes f
+pub header_faults : (bytes : List ℕ) (f : LibraryFault) → IsCutOff bytes 0 → FaultsWhereCut bytes 0 NotLibrary f
+    → FaultsLibraryHeader bytes f
 header_faults bytes f cut w =
     elim (cases_lt 0 (length bytes)) [
-      | inl within ↦ subst (λ (g : LibraryFault). FaultsLibraryHeader bytes g) (sym (w.no_record within)) (no_header_record (Truncated 0) within cut)
+      | inl within ↦ subst (λ (g : LibraryFault). FaultsLibraryHeader bytes g) (sym (w.no_record within))
+          (no_header_record (Truncated 0) within cut)
       | inr past ↦ subst (λ (g : LibraryFault). FaultsLibraryHeader bytes g) (sym (w.no_byte past)) (no_header_byte past)
     ]
 
-pub header_cut : (bytes : List ℕ) (f : LibraryFault) → IsCutOff bytes 0 → FaultsWhereCut bytes 0 NotLibrary f → FaultsLibrary bytes f
+pub header_cut : (bytes : List ℕ) (f : LibraryFault) → IsCutOff bytes 0 → FaultsWhereCut bytes 0 NotLibrary f
+    → FaultsLibrary bytes f
 header_cut bytes f cut w = in_header f (header_faults bytes f cut w)
 
-pub at_cut : (bytes : List ℕ) (at said found : ℕ) (indexed : Bool) (f : LibraryFault) → IsCutOff bytes at → FaultsWhereCut bytes at (NoEnd at) f → FaultsAt bytes at said found indexed f
+pub at_cut : (bytes : List ℕ) (at said found : ℕ) (indexed : Bool) (f : LibraryFault) → IsCutOff bytes at
+    → FaultsWhereCut bytes at (NoEnd at) f → FaultsAt bytes at said found indexed f
 at_cut bytes at said found indexed f cut w =
     elim (cases_lt at (length bytes)) [
-      | inl within ↦ subst (λ (g : LibraryFault). FaultsAt bytes at said found indexed g) (sym (w.no_record within)) (no_record (Truncated at) within cut)
+      | inl within ↦ subst (λ (g : LibraryFault). FaultsAt bytes at said found indexed g) (sym (w.no_record within))
+          (no_record (Truncated at) within cut)
       | inr past ↦ subst (λ (g : LibraryFault). FaultsAt bytes at said found indexed g) (sym (w.no_byte past)) (no_byte past)
     ]
 
-pub record_cut : (bytes : List ℕ) (said index at : ℕ) (ms : List ModuleValue) (rs : List RecordValue) (f : LibraryFault) → OpenLibrary bytes said index at ms rs → IsCutOff bytes at
+pub record_cut : (bytes : List ℕ) (said index at : ℕ) (ms : List ModuleValue) (rs : List RecordValue) (f : LibraryFault)
+    → OpenLibrary bytes said index at ms rs → IsCutOff bytes at
     → FaultsWhereCut bytes at (NoEnd at) f → FaultsLibrary bytes f
-record_cut bytes said index at ms rs f o cut w = faults_so_far bytes said index at ms rs f o (at_cut bytes at said (length ms) (is_indexed rs) f cut w)
+record_cut bytes said index at ms rs f o cut w =
+    faults_so_far bytes said index at ms rs f o (at_cut bytes at said (length ms) (is_indexed rs) f cut w)
 
 -- the fault of a record after the beginning of a module
-begun_faults : (bytes : List ℕ) (begin here : ℕ) (commons : List Common) (why : Cause) → BegunModule bytes begin here commons → FaultsWithin bytes here commons why → FaultsModule bytes begin (fault_by here why)
+begun_faults : (bytes : List ℕ) (begin here : ℕ) (commons : List Common) (why : Cause) → BegunModule bytes begin here commons
+    → FaultsWithin bytes here commons why → FaultsModule bytes begin (fault_by here why)
 begun_faults bytes begin here commons why b x =
     in_records b.first b.header (fault_by here why) b.begins
     (record {
@@ -188,26 +228,32 @@ begun_faults bytes begin here commons why b x =
       is = refl;
     })
 
-begun_faults_at : (bytes : List ℕ) (begin here said found : ℕ) (commons : List Common) (why : Cause) → BegunModule bytes begin here commons → FaultsWithin bytes here commons why
+begun_faults_at : (bytes : List ℕ) (begin here said found : ℕ) (commons : List Common) (why : Cause)
+    → BegunModule bytes begin here commons → FaultsWithin bytes here commons why
     → FaultsAt bytes begin said found false (of_module (fault_by here why))
 begun_faults_at bytes begin here said found commons why b x =
-    in_module b.first (body_bytes (ModuleHeader b.header)) (fault_by here why) refl b.begins.framed (begun_faults bytes begin here commons why b x)
+    in_module b.first (body_bytes (ModuleHeader b.header)) (fault_by here why) refl b.begins.framed
+    (begun_faults bytes begin here commons why b x)
 
-pub within_cut : (bytes : List ℕ) (begin here said found : ℕ) (commons : List Common) (f : LibraryFault) → BegunModule bytes begin here commons → IsCutOff bytes here
+pub within_cut : (bytes : List ℕ) (begin here said found : ℕ) (commons : List Common) (f : LibraryFault)
+    → BegunModule bytes begin here commons → IsCutOff bytes here
     → FaultsWhereCut bytes here (no_end_in_module here) f → FaultsAt bytes begin said found false f
 within_cut bytes begin here said found commons f b cut w =
     elim (cases_lt here (length bytes)) [
       | inl within ↦
           subst (λ (g : LibraryFault). FaultsAt bytes begin said found false g) (sym (w.no_record within))
-          (begun_faults_at bytes begin here said found commons (cause.Record (Truncated here)) b (no_record_within (Truncated here) within cut))
+          (begun_faults_at bytes begin here said found commons (cause.Record (Truncated here)) b
+          (no_record_within (Truncated here) within cut))
       | inr past ↦
           subst (λ (g : LibraryFault). FaultsAt bytes begin said found false g) (sym (w.no_byte past))
           (begun_faults_at bytes begin here said found commons cause.NoEnd b (no_byte_within past))
     ]
 
-pub module_cut : (bytes : List ℕ) (said begin here : ℕ) (ms : List ModuleValue) (commons : List Common) (f : LibraryFault) → OpenLibrary bytes said begin begin ms [] → BegunModule bytes begin here commons
+pub module_cut : (bytes : List ℕ) (said begin here : ℕ) (ms : List ModuleValue) (commons : List Common) (f : LibraryFault)
+    → OpenLibrary bytes said begin begin ms [] → BegunModule bytes begin here commons
     → IsCutOff bytes here → FaultsWhereCut bytes here (no_end_in_module here) f → FaultsLibrary bytes f
-module_cut bytes said begin here ms commons f o b cut w = faults_so_far bytes said begin begin ms [] f o (within_cut bytes begin here said (length ms) commons f b cut w)
+module_cut bytes said begin here ms commons f o b cut w =
+    faults_so_far bytes said begin begin ms [] f o (within_cut bytes begin here said (length ms) commons f b cut w)
 
 -- ---- where bytes end, no fault lasts
 
@@ -217,14 +263,17 @@ lasting_faults_last bytes more fault small lasts others small' =
     (lasts (more ++ others) (All-append (λ byte. byte < 256) more others small small'))
 
 pub without_more : (bytes : List ℕ) (f : LibraryFault) → LastingLibraryFault bytes f → FaultsLibrary bytes f
-without_more bytes f lasts = subst (λ (b : List ℕ). FaultsLibrary b f) (append-nil bytes) (lasts [] (All-nil (λ byte. byte < 256)))
+without_more bytes f lasts =
+    subst (λ (b : List ℕ). FaultsLibrary b f) (append-nil bytes) (lasts [] (All-nil (λ byte. byte < 256)))
 
-pub first_fault : (bytes : List ℕ) (f : LibraryFault) → OrNoMemory (LastingLibraryFault bytes) f → OrNoMemory (FaultsLibrary bytes) f
+pub first_fault : (bytes : List ℕ) (f : LibraryFault) → OrNoMemory (LastingLibraryFault bytes) f
+    → OrNoMemory (FaultsLibrary bytes) f
 first_fault bytes f (inl none) = inl none
 first_fault bytes f (inr lasts) = inr (without_more bytes f lasts)
 
 -- the fault of a piece that isn't taken
-pub piece_fault : (bytes : List ℕ) (f : LibraryFault) → (f ≢ Memory → LastingLibraryFault bytes f) → OrNoMemory (FaultsLibrary bytes) f
+pub piece_fault : (bytes : List ℕ) (f : LibraryFault) → (f ≢ Memory → LastingLibraryFault bytes f)
+    → OrNoMemory (FaultsLibrary bytes) f
 piece_fault bytes (Module g) x = inr (without_more bytes (Module g) (x (λ e. cc)))
 piece_fault bytes NotLibrary x = inr (without_more bytes NotLibrary (x (λ e. cc)))
 piece_fault bytes (CountDiffers said found) x = inr (without_more bytes (CountDiffers said found) (x (λ e. cc)))
@@ -236,15 +285,21 @@ pub first_piece_fault : (feed : LibraryFeedValue) (bytes : List ℕ) (f : Librar
     → (feed.kept ≡ None → f ≢ Memory → LastingLibraryFault (feed.bytes ++ bytes) f) → OrNoMemory (FaultsLibrary bytes) f
 first_piece_fault feed bytes f is x =
     piece_fault bytes f
-    (λ real. subst (λ (b : List ℕ). LastingLibraryFault (b ++ bytes) f) (ap (λ (v : LibraryFeedValue). v.bytes) is) (x (ap (λ (v : LibraryFeedValue). v.kept) is) real))
+    (λ real. subst (λ (b : List ℕ). LastingLibraryFault (b ++ bytes) f) (ap (λ (v : LibraryFeedValue). v.bytes) is)
+    (x (ap (λ (v : LibraryFeedValue). v.kept) is) real))
 
 -- what a feed has of one piece
-pub one_piece : (feed after : LibraryFeedValue) (bytes : List ℕ) → feed ≡ record { bytes = []; kept = None } → after ≡ record { bytes = feed.bytes ++ bytes; kept = None }
+pub one_piece : (feed after : LibraryFeedValue) (bytes : List ℕ) → feed ≡ record { bytes = []; kept = None }
+    → after ≡ record { bytes = feed.bytes ++ bytes; kept = None }
     → (after.kept ≡ None) × (after.bytes ≡ bytes)
-one_piece feed after bytes is taken =
-    (ap (λ (v : LibraryFeedValue). v.kept) taken, ap (λ (v : LibraryFeedValue). v.bytes) taken ∙ ap (λ (v : LibraryFeedValue). v.bytes ++ bytes) is)
+one_piece feed after bytes is taken = (
+  ap (λ (v : LibraryFeedValue). v.kept) taken,
+  ap (λ (v : LibraryFeedValue). v.bytes) taken
+      ∙ ap (λ (v : LibraryFeedValue). v.bytes ++ bytes) is,
+)
 
-changes : OneLibraryFault → (bytes more : List ℕ) (f now later : LibraryFault) → LastingLibraryFault bytes f → All (λ byte. byte < 256) more
+changes : OneLibraryFault → (bytes more : List ℕ) (f now later : LibraryFault) → LastingLibraryFault bytes f
+    → All (λ byte. byte < 256) more
     → FaultsLibrary bytes now → FaultsLibrary (bytes ++ more) later → (now ≡ later → ⊥) → ⊥
 changes one bytes more f now later lasts small x y other =
     other (one bytes now f x (without_more bytes f lasts) ∙ one (bytes ++ more) f later (lasts more small) y)
@@ -259,7 +314,8 @@ record Spoilt (bytes : List ℕ) (at : ℕ) : Type 0 where
 spoil : TruncatedCanBeSpoilt → (bytes : List ℕ) (at : ℕ) → at ≤ length bytes → IsCutOff bytes at → Spoilt bytes at
 spoil law bytes at inside cut =
     let more = law (drop at bytes) at cut in
-    let there : fault_at (drop at (bytes ++ more.0)) at ≡ Some (BadSum at) = ap (λ (r : List ℕ). fault_at r at) (drop-append-le at bytes more.0 inside) ∙ more.2 in
+    let there : fault_at (drop at (bytes ++ more.0)) at ≡ Some (BadSum at) =
+    ap (λ (r : List ℕ). fault_at r at) (drop-append-le at bytes more.0 inside) ∙ more.2 in
     record { more = more.0; small = more.1; fault = there; within = whole_is_inside (bytes ++ more.0) at (BadSum at) refl there }
 
 abbrev pub spoilt_at : ℕ → LibraryFault
@@ -283,8 +339,17 @@ pub record Cut (bytes : List ℕ) (at : ℕ) (none : LibraryFault) : Type 0 wher
 pub cut_at : (bytes : List ℕ) (at : ℕ) (none : LibraryFault) → (none ≡ spoilt_at at → ⊥) → Cut bytes at none
 cut_at bytes at none other =
     elim (cases_lt at (length bytes)) [
-      | inl within ↦ record { fault = truncated_at at; is = record { no_byte = λ past. absurd (omega (arith, within, past)); no_record = λ _. refl }; other = truncated_not_spoilt at }
-      | inr past ↦ record { fault = none; is = record { no_byte = λ _. refl; no_record = λ within. absurd (omega (arith, within, past)) }; other = other }
+      | inl within ↦ record {
+        fault = truncated_at at;
+        is = record { no_byte = λ past. absurd (omega (arith, within, past)); no_record = λ _. refl };
+        other =
+            truncated_not_spoilt at;
+      }
+      | inr past ↦ record {
+        fault = none;
+        is = record { no_byte = λ _. refl; no_record = λ within. absurd (omega (arith, within, past)) };
+        other = other;
+      }
     ]
 
 -- the laws by which a fault changes
@@ -306,13 +371,18 @@ counted_have_none l bytes count f (counted_in_header cut none) lasts =
 counted_have_none l bytes count f (counted_at_record said index at ms rs o cut counted) lasts =
     let now = cut_at bytes at (NoEnd at) (λ e. cc) in
     let later = spoil l.spoilt bytes at (open_inside bytes said index at ms rs o) cut in
-    changes l.one_fault bytes later.more f now.fault (spoilt_at at) lasts later.small (record_cut bytes said index at ms rs now.fault o cut now.is)
-    (faults_so_far (bytes ++ later.more) said index at ms rs (spoilt_at at) (open_stays l.stay bytes later.more said index at ms rs o) (no_record (BadSum at) later.within later.fault)) now.other
+    changes l.one_fault bytes later.more f now.fault (spoilt_at at) lasts later.small
+    (record_cut bytes said index at ms rs now.fault o cut now.is)
+    (faults_so_far (bytes ++ later.more) said index at ms rs (spoilt_at at)
+    (open_stays l.stay bytes later.more said index at ms rs o) (no_record (BadSum at) later.within later.fault)) now.other
 counted_have_none l bytes count f (counted_in_module said at ms o w counted) lasts =
     let now = cut_at bytes w.here (no_end_in_module w.here) (no_end_not_spoilt w.here) in
     let later = spoil l.spoilt bytes w.here (begun_inside bytes at w.here w.commons w.begun) w.cut_off in
-    changes l.one_fault bytes later.more f now.fault (spoilt_at w.here) lasts later.small (module_cut bytes said at w.here ms w.commons now.fault o w.begun w.cut_off now.is)
-    (faults_so_far (bytes ++ later.more) said at at ms [] (spoilt_at w.here) (open_stays l.stay bytes later.more said at at ms [] o)
-    (begun_faults_at (bytes ++ later.more) at w.here said (length ms) w.commons (cause.Record (BadSum w.here)) (l.stay.begun bytes later.more at w.here w.commons w.begun)
+    changes l.one_fault bytes later.more f now.fault (spoilt_at w.here) lasts later.small
+    (module_cut bytes said at w.here ms w.commons now.fault o w.begun w.cut_off now.is)
+    (faults_so_far (bytes ++ later.more) said at at ms [] (spoilt_at w.here)
+    (open_stays l.stay bytes later.more said at at ms [] o)
+    (begun_faults_at (bytes ++ later.more) at w.here said (length ms) w.commons (cause.Record (BadSum w.here))
+    (l.stay.begun bytes later.more at w.here w.commons w.begun)
     (no_record_within (BadSum w.here) later.within later.fault))) now.other
 counted_have_none l bytes count f (ended ms s counted) lasts = l.never_both bytes ms f s (without_more bytes f lasts)

@@ -16,7 +16,8 @@ use Rattle.omf_library.specs.Laws.{OneLibrary, OneLibraryFault, NeverBothLibrary
 
 -- ---- modules
 
-pub modules_push : (bytes : List ℕ) (from to next : ℕ) (ms : List ModuleValue) (m : ModuleValue) → SpellsModules bytes from to ms → SpellsModule bytes to next m → SpellsModules bytes from next (ms ++ m ∷ [])
+pub modules_push : (bytes : List ℕ) (from to next : ℕ) (ms : List ModuleValue) (m : ModuleValue) → SpellsModules bytes from to ms
+    → SpellsModule bytes to next m → SpellsModules bytes from next (ms ++ m ∷ [])
 modules_push bytes from to next [] m s one = (next, subst (λ (f : ℕ). SpellsModule bytes f next m) (sym s) one, refl)
 modules_push bytes from to next (n ∷ ms) m s one = (s.0, s.1, modules_push bytes s.0 to next ms m s.2 one)
 
@@ -30,13 +31,21 @@ pub record Further (bytes : List ℕ) (at after : ℕ) : Type 0 where
 
 pub module_further : (bytes : List ℕ) (at after : ℕ) (m : ModuleValue) → SpellsModule bytes at after m → Further bytes at after
 module_further bytes at after m s = record {
-  further = omega (arith, s.begins, s.spelled.header.framed.all_counted, bodies_further bytes s.spelled.first s.records.end_at s.records.within s.spelled.within, s.spelled.end.framed.all_counted);
+  further = omega (
+    arith,
+    s.begins,
+    s.spelled.header.framed.all_counted,
+    bodies_further bytes s.spelled.first s.records.end_at
+        s.records.within s.spelled.within,
+    s.spelled.end.framed.all_counted,
+  );
   inside = s.spelled.end.framed.within;
 }
 
 -- ---- the index
 
-pub all_with : (rs : List RecordValue) (r : RecordValue) → list_all (λ r. is_index_kind r.kind) rs ≡ true → is_index_kind r.kind ≡ true → list_all (λ r. is_index_kind r.kind) (rs ++ r ∷ []) ≡ true
+pub all_with : (rs : List RecordValue) (r : RecordValue) → list_all (λ r. is_index_kind r.kind) rs ≡ true
+    → is_index_kind r.kind ≡ true → list_all (λ r. is_index_kind r.kind) (rs ++ r ∷ []) ≡ true
 all_with [] r all one = rw one refl
 all_with (s ∷ rs) r all one =
     let parts = and_parts (is_index_kind s.kind) (list_all (λ r. is_index_kind r.kind) rs) all in
@@ -51,12 +60,14 @@ other_is a b other =
 
 -- ---- the answer
 
-pub every_library : OneLibrary → NeverBothLibrary → (bytes : List ℕ) (r : Result (List ModuleValue) LibraryFault) → IfOk r (SpellsLibrary bytes) → IfErr r (OrNoMemory (FaultsLibrary bytes))
+pub every_library : OneLibrary → NeverBothLibrary → (bytes : List ℕ) (r : Result (List ModuleValue) LibraryFault)
+    → IfOk r (SpellsLibrary bytes) → IfErr r (OrNoMemory (FaultsLibrary bytes))
     → (ms : List ModuleValue) → SpellsLibrary bytes ms → Answers r (Ok ms)
 every_library one never bytes (Ok ns) read fault ms s = inl (ap (λ (x : List ModuleValue). Ok x) (one bytes ns ms read s))
 every_library one never bytes (Err f) read (inl e) ms s = inr (ap (λ (g : LibraryFault). Err g) e)
 every_library one never bytes (Err f) read (inr x) ms s = absurd (never bytes ms f s x)
 
-pub every_fault : OneLibraryFault → (bytes : List ℕ) (f g : LibraryFault) → OrNoMemory (FaultsLibrary bytes) f → FaultsLibrary bytes g → Answers {A = List ModuleValue} (Err f) (Err g)
+pub every_fault : OneLibraryFault → (bytes : List ℕ) (f g : LibraryFault) → OrNoMemory (FaultsLibrary bytes) f
+    → FaultsLibrary bytes g → Answers {A = List ModuleValue} (Err f) (Err g)
 every_fault one bytes f g (inl e) y = inr (ap (λ (h : LibraryFault). Err h) e)
 every_fault one bytes f g (inr x) y = inl (ap (λ (h : LibraryFault). Err h) (one bytes f g x y))

@@ -31,50 +31,68 @@ use Rattle.omf_library.proofs.FeedLemmas.{Stay, open_stays, open_inside, whole_i
 
 -- ---- faults that last
 
-pub no_header_lasts : RecordsStay → (bytes : List ℕ) (next kind : ℕ) (body : List ℕ) → SpellsRecord bytes 0 next kind body → is_library_header kind body ≡ false → LastingHeaderFault bytes NotLibrary
-no_header_lasts law bytes next kind body s other = λ more small. no_header next kind body (law bytes more 0 next kind body s) other
+pub no_header_lasts : RecordsStay → (bytes : List ℕ) (next kind : ℕ) (body : List ℕ) → SpellsRecord bytes 0 next kind body
+    → is_library_header kind body ≡ false → LastingHeaderFault bytes NotLibrary
+no_header_lasts law bytes next kind body s other =
+    λ more small. no_header next kind body (law bytes more 0 next kind body s) other
 
-pub header_record_lasts : OtherFaultsStay → (bytes : List ℕ) (f : RecordFault) → is_truncation f ≡ false → fault_at (drop 0 bytes) 0 ≡ Some f → LastingHeaderFault bytes (Module (fault_by 0 (cause.Record f)))
+pub header_record_lasts : OtherFaultsStay → (bytes : List ℕ) (f : RecordFault) → is_truncation f ≡ false
+    → fault_at (drop 0 bytes) 0 ≡ Some f → LastingHeaderFault bytes (Module (fault_by 0 (cause.Record f)))
 header_record_lasts law bytes f other x = λ more small.
-    no_header_record f (more_inside bytes more 0 (whole_is_inside bytes 0 f other x)) (record_fault_stays law bytes more 0 f other x)
+    no_header_record f (more_inside bytes more 0 (whole_is_inside bytes 0 f other x))
+    (record_fault_stays law bytes more 0 f other x)
 
-pub record_lasts : OtherFaultsStay → (bytes : List ℕ) (at : ℕ) (f : RecordFault) → is_truncation f ≡ false → fault_at (drop at bytes) at ≡ Some f → LastingFaultAt bytes at (Module (fault_by at (cause.Record f)))
+pub record_lasts : OtherFaultsStay → (bytes : List ℕ) (at : ℕ) (f : RecordFault) → is_truncation f ≡ false
+    → fault_at (drop at bytes) at ≡ Some f → LastingFaultAt bytes at (Module (fault_by at (cause.Record f)))
 record_lasts law bytes at f other x = λ said found indexed more small.
     no_record f (more_inside bytes more at (whole_is_inside bytes at f other x)) (record_fault_stays law bytes more at f other x)
 
 pub header_lasts : (bytes : List ℕ) (f : LibraryFault) → LastingHeaderFault bytes f → LastingLibraryFault bytes f
 header_lasts bytes f x = λ more small. in_header f (x more small)
 
-pub at_lasts : Stay → (bytes : List ℕ) (said index at : ℕ) (ms : List ModuleValue) (rs : List RecordValue) (f : LibraryFault) → OpenLibrary bytes said index at ms rs
-    → ((more : List ℕ) → All (λ byte. byte < 256) more → FaultsAt (bytes ++ more) at said (length ms) (is_indexed rs) f) → LastingLibraryFault bytes f
+pub at_lasts : Stay → (bytes : List ℕ) (said index at : ℕ) (ms : List ModuleValue) (rs : List RecordValue) (f : LibraryFault)
+    → OpenLibrary bytes said index at ms rs
+    → ((more : List ℕ) → All (λ byte. byte < 256) more → FaultsAt (bytes ++ more) at said (length ms) (is_indexed rs) f)
+    → LastingLibraryFault bytes f
 at_lasts s bytes said index at ms rs f o x = λ more small.
     let m = open_stays s bytes more said index at ms rs o in
     after_header m.first said index at ms rs f m.begins m.spelled m.indexed (x more small)
 
-pub modules_record_lasts : Stay → (bytes : List ℕ) (said : ℕ) (ms : List ModuleValue) (next : UnfinishedModule) (f : LibraryFault) → ReadsModules bytes said ms next → LastingFaultAt bytes next.begin f → LastingLibraryFault bytes f
-modules_record_lasts s bytes said ms next f r x = at_lasts s bytes said next.begin next.begin ms [] f r.so_far (x said (length ms) false)
+pub modules_record_lasts : Stay → (bytes : List ℕ) (said : ℕ) (ms : List ModuleValue) (next : UnfinishedModule) (f : LibraryFault)
+    → ReadsModules bytes said ms next → LastingFaultAt bytes next.begin f → LastingLibraryFault bytes f
+modules_record_lasts s bytes said ms next f r x =
+    at_lasts s bytes said next.begin next.begin ms [] f r.so_far (x said (length ms) false)
 
-pub index_record_lasts : Stay → (bytes : List ℕ) (said at : ℕ) (ms : List ModuleValue) (f : LibraryFault) → ReadsIndexed bytes said at ms → LastingFaultAt bytes at f → LastingLibraryFault bytes f
-index_record_lasts s bytes said at ms f r x = at_lasts s bytes said r.index at ms r.records f r.so_far (x said (length ms) (is_indexed r.records))
+pub index_record_lasts : Stay → (bytes : List ℕ) (said at : ℕ) (ms : List ModuleValue) (f : LibraryFault)
+    → ReadsIndexed bytes said at ms → LastingFaultAt bytes at f → LastingLibraryFault bytes f
+index_record_lasts s bytes said at ms f r x =
+    at_lasts s bytes said r.index at ms r.records f r.so_far (x said (length ms) (is_indexed r.records))
 
-pub module_lasts : Stay → (bytes : List ℕ) (said : ℕ) (ms : List ModuleValue) (next : UnfinishedModule) (f : ModuleFault) → ReadsModules bytes said ms next → HeaderStands bytes next.begin
+pub module_lasts : Stay → (bytes : List ℕ) (said : ℕ) (ms : List ModuleValue) (next : UnfinishedModule) (f : ModuleFault)
+    → ReadsModules bytes said ms next → HeaderStands bytes next.begin
     → OrNoModuleMemory (LastingModuleFault bytes next.begin) f → OrNoMemory (LastingLibraryFault bytes) (of_module f)
 module_lasts s bytes said ms next f r h (inl none) = inl (ap of_module none)
 module_lasts s bytes said ms next f r h (inr lasts) =
     inr (at_lasts s bytes said next.begin next.begin ms [] (of_module f) r.so_far
-    (λ more small. in_module h.next h.body f refl (s.records bytes more next.begin h.next 0x02 h.body h.spelled) (lasts more small)))
+    (λ more small. in_module h.next h.body f refl (s.records bytes more next.begin h.next 0x02 h.body h.spelled)
+    (lasts more small)))
 
 goes_nowhere : (kind : ℕ) → kind ≢ 0x02 → is_index_kind kind ≡ false → goes_on false kind ≡ false
 goes_nowhere kind other index = rw (index, other_is kind 0x02 other) refl
 
-pub other_lasts : Stay → (bytes : List ℕ) (said after kind found : ℕ) (ms : List ModuleValue) (next : UnfinishedModule) (f : LibraryFault) → ReadsModules bytes said ms next
-    → OtherRecord bytes next.begin after kind → found ≡ length ms → LeadsNowhere next.begin said found kind f → LastingLibraryFault bytes f
+pub other_lasts : Stay → (bytes : List ℕ) (said after kind found : ℕ) (ms : List ModuleValue) (next : UnfinishedModule)
+    (f : LibraryFault) → ReadsModules bytes said ms next
+    → OtherRecord bytes next.begin after kind → found ≡ length ms → LeadsNowhere next.begin said found kind f
+    → LastingLibraryFault bytes f
 other_lasts s bytes said after kind found ms next f r o all n =
     at_lasts s bytes said next.begin next.begin ms [] f r.so_far
     (λ more small. subst (λ (k : ℕ). FaultsAt (bytes ++ more) next.begin said k false f) all
-    (at_record after kind o.body f (s.records bytes more next.begin after kind o.body o.spelled) (goes_nowhere kind o.other n.other) n.faults))
+    (at_record after kind o.body f (s.records bytes more next.begin after kind o.body o.spelled)
+    (goes_nowhere kind o.other n.other) n.faults))
 
-pub indexed_lasts : Stay → (bytes : List ℕ) (said at after kind found : ℕ) (body : List ℕ) (ms : List ModuleValue) (f : LibraryFault) → ReadsIndexed bytes said at ms
+pub indexed_lasts : Stay
+    → (bytes : List ℕ) (said at after kind found : ℕ) (body : List ℕ) (ms : List ModuleValue) (f : LibraryFault)
+    → ReadsIndexed bytes said at ms
     → SpellsRecord bytes at after kind body → found ≡ length ms → LeadsNowhere at said found kind f → LastingLibraryFault bytes f
 indexed_lasts s bytes said at after kind found body ms f r x all n =
     at_lasts s bytes said r.index at ms r.records f r.so_far
@@ -85,14 +103,16 @@ indexed_lasts s bytes said at after kind found body ms f r x all n =
 -- ---- reading on
 
 -- a module that is not begun yet
-pub next_begins : (bytes : List ℕ) (said after : ℕ) (ms : List ModuleValue) (next : UnfinishedModule) → next.begin ≡ after → next.here ≡ after → next.commons.items ≡ []
+pub next_begins : (bytes : List ℕ) (said after : ℕ) (ms : List ModuleValue) (next : UnfinishedModule) → next.begin ≡ after
+    → next.here ≡ after → next.commons.items ≡ []
     → OpenLibrary bytes said after after ms [] → ReadsModules bytes said ms next
 next_begins bytes said after ms next begin here none o = record {
   so_far = subst (λ (a : ℕ). OpenLibrary bytes said a a ms []) (sym begin) o;
   next_module = inl (here ∙ sym begin, none);
 }
 
-pub header_leads : (bytes : List ℕ) (said first : ℕ) (ms : List ModuleValue) (next : UnfinishedModule) → next.begin ≡ first → next.here ≡ first → next.commons.items ≡ [] → ms ≡ []
+pub header_leads : (bytes : List ℕ) (said first : ℕ) (ms : List ModuleValue) (next : UnfinishedModule) → next.begin ≡ first
+    → next.here ≡ first → next.commons.items ≡ [] → ms ≡ []
     → BeginsLibrary bytes first said → ReadsFurther bytes (length bytes + 2) ms next (Modules said)
 header_leads bytes said first ms next begin here none empty b = record {
   reads = next_begins bytes said first ms next begin here none
@@ -101,14 +121,21 @@ header_leads bytes said first ms next begin here none empty b = record {
   further = omega arith;
 }
 
-pub one_module_more : (bytes : List ℕ) (said after : ℕ) (ms : List ModuleValue) (m : ModuleValue) (old next : UnfinishedModule) → next.begin ≡ after → next.here ≡ after → next.commons.items ≡ []
-    → ReadsModules bytes said ms old → SpellsModule bytes old.begin after m → ReadsFurther bytes (left_after bytes old (Modules said)) (ms ++ m ∷ []) next (Modules said)
+pub one_module_more : (bytes : List ℕ) (said after : ℕ) (ms : List ModuleValue) (m : ModuleValue) (old next : UnfinishedModule)
+    → next.begin ≡ after → next.here ≡ after → next.commons.items ≡ []
+    → ReadsModules bytes said ms old → SpellsModule bytes old.begin after m
+    → ReadsFurther bytes (left_after bytes old (Modules said)) (ms ++ m ∷ []) next (Modules said)
 one_module_more bytes said after ms m old next begin here none r s =
     let o = r.so_far in
     let f = module_further bytes old.begin after m s in
     record {
       reads = next_begins bytes said after (ms ++ m ∷ []) next begin here none
-          (record { first = o.first; begins = o.begins; spelled = modules_push bytes o.first old.begin after ms m o.spelled s; indexed = record { spelled = refl; kinds = refl } });
+          (record {
+            first = o.first;
+            begins = o.begins;
+            spelled = modules_push bytes o.first old.begin after ms m o.spelled s;
+            indexed = record { spelled = refl; kinds = refl };
+          });
       further = omega (arith, begin, f.further, f.inside);
     }
 
@@ -116,8 +143,10 @@ some_indexed : (rs : List RecordValue) (r : RecordValue) → is_indexed (rs ++ r
 some_indexed [] r = refl
 some_indexed (x ∷ rs) r = refl
 
-leads_to : ListGrows → (bytes : List ℕ) (said index at after kind found : ℕ) (body : List ℕ) (ms : List ModuleValue) (rs : List RecordValue) (next : UnfinishedModule) (p : Progress)
-    → OpenLibrary bytes said index at ms rs → SpellsRecord bytes at after kind body → found ≡ length ms → LeadsTo said after found kind p → ReadsFurther bytes (length bytes - at + 1) ms next p
+leads_to : ListGrows → (bytes : List ℕ) (said index at after kind found : ℕ) (body : List ℕ) (ms : List ModuleValue)
+    (rs : List RecordValue) (next : UnfinishedModule) (p : Progress)
+    → OpenLibrary bytes said index at ms rs → SpellsRecord bytes at after kind body → found ≡ length ms
+    → LeadsTo said after found kind p → ReadsFurther bytes (length bytes - at + 1) ms next p
 leads_to law bytes said index at after kind found body ms rs next Header o s all x = absurd x
 leads_to law bytes said index at after kind found body ms rs next (Modules n) o s all x = absurd x
 leads_to law bytes said index at after kind found body ms rs next (Index n a) o s all x =
@@ -130,7 +159,11 @@ leads_to law bytes said index at after kind found body ms rs next (Index n a) o 
           first = o.first;
           begins = subst (λ (m : ℕ). BeginsLibrary bytes o.first m) (sym x.1) o.begins;
           spelled = o.spelled;
-          indexed = record { spelled = law bytes index at a rs r o.indexed.spelled (subst (λ (b : ℕ). SpellsRecord bytes at b kind body) (sym x.2) s); kinds = all_with rs r o.indexed.kinds x.0 };
+          indexed = record {
+            spelled =
+                law bytes index at a rs r o.indexed.spelled (subst (λ (b : ℕ). SpellsRecord bytes at b kind body) (sym x.2) s);
+            kinds = all_with rs r o.indexed.kinds x.0;
+          };
         };
         some = some_indexed rs r;
       };
@@ -150,20 +183,29 @@ leads_to law bytes said index at after kind found body ms rs next Ended o s all 
   further = omega arith;
 }
 
-pub other_leads : ListGrows → (bytes : List ℕ) (said after kind found : ℕ) (ms : List ModuleValue) (old next : UnfinishedModule) (p : Progress) → ReadsModules bytes said ms old
-    → OtherRecord bytes old.begin after kind → found ≡ length ms → LeadsTo said after found kind p → ReadsFurther bytes (left_after bytes old (Modules said)) ms next p
+pub other_leads : ListGrows
+    → (bytes : List ℕ) (said after kind found : ℕ) (ms : List ModuleValue) (old next : UnfinishedModule) (p : Progress)
+    → ReadsModules bytes said ms old
+    → OtherRecord bytes old.begin after kind → found ≡ length ms → LeadsTo said after found kind p
+    → ReadsFurther bytes (left_after bytes old (Modules said)) ms next p
 other_leads law bytes said after kind found ms old next p r o all x =
     leads_to law bytes said old.begin old.begin after kind found o.body ms [] next p r.so_far o.spelled all x
 
-pub indexed_leads : ListGrows → (bytes : List ℕ) (said at after kind found : ℕ) (body : List ℕ) (ms : List ModuleValue) (next : UnfinishedModule) (p : Progress) → ReadsIndexed bytes said at ms
-    → SpellsRecord bytes at after kind body → found ≡ length ms → LeadsTo said after found kind p → ReadsFurther bytes (length bytes - at + 1) ms next p
-indexed_leads law bytes said at after kind found body ms next p r s all x = leads_to law bytes said r.index at after kind found body ms r.records next p r.so_far s all x
+pub indexed_leads : ListGrows
+    → (bytes : List ℕ) (said at after kind found : ℕ) (body : List ℕ) (ms : List ModuleValue) (next : UnfinishedModule)
+    (p : Progress) → ReadsIndexed bytes said at ms
+    → SpellsRecord bytes at after kind body → found ≡ length ms → LeadsTo said after found kind p
+    → ReadsFurther bytes (length bytes - at + 1) ms next p
+indexed_leads law bytes said at after kind found body ms next p r s all x =
+    leads_to law bytes said r.index at after kind found body ms r.records next p r.so_far s all x
 
-pub modules_inside_bytes : (bytes : List ℕ) (said : ℕ) (ms : List ModuleValue) (next : UnfinishedModule) → ReadsModules bytes said ms next → next.begin ≤ length bytes
+pub modules_inside_bytes : (bytes : List ℕ) (said : ℕ) (ms : List ModuleValue) (next : UnfinishedModule)
+    → ReadsModules bytes said ms next → next.begin ≤ length bytes
 modules_inside_bytes bytes said ms next r = open_inside bytes said next.begin next.begin ms [] r.so_far
 
 -- a module that is read further, where it isn't whole
-pub still_reads : (bytes : List ℕ) (said : ℕ) (ms : List ModuleValue) (old next : UnfinishedModule) → ReadsModules bytes said ms old → next.begin ≡ old.begin
+pub still_reads : (bytes : List ℕ) (said : ℕ) (ms : List ModuleValue) (old next : UnfinishedModule)
+    → ReadsModules bytes said ms old → next.begin ≡ old.begin
     → ReadsModule bytes old.begin next.here next.commons.items → ReadsModules bytes said ms next
 still_reads bytes said ms old next r same m = record {
   so_far = subst (λ (a : ℕ). OpenLibrary bytes said a a ms []) (sym same) r.so_far;
@@ -171,11 +213,13 @@ still_reads bytes said ms old next r same m = record {
 }
 
 -- a module of which more than nothing is read is begun
-pub is_begun : (bytes : List ℕ) (begin here : ℕ) (commons : List Common) → ReadsModule bytes begin here commons → here ≢ begin → BegunModule bytes begin here commons
+pub is_begun : (bytes : List ℕ) (begin here : ℕ) (commons : List Common) → ReadsModule bytes begin here commons → here ≢ begin
+    → BegunModule bytes begin here commons
 is_begun bytes begin here commons (inl n) other = absurd (other n.0)
 is_begun bytes begin here commons (inr b) other = b
 
-pub begun_header : (bytes : List ℕ) (begin here : ℕ) (commons : List Common) → BegunModule bytes begin here commons → HeaderStands bytes begin
+pub begun_header : (bytes : List ℕ) (begin here : ℕ) (commons : List Common) → BegunModule bytes begin here commons
+    → HeaderStands bytes begin
 begun_header bytes begin here commons b = record { next = b.first; body = _; spelled = b.begins.framed }
 
 -- ---- modules so far
@@ -190,53 +234,75 @@ pub extends_by : (old new : List ModuleValue) (m : ModuleValue) → new ≡ old 
 extends_by old new m e = record { added = m ∷ []; is = e }
 
 pub extends_on : (a b c : List ModuleValue) → Extends a b → Extends b c → Extends a c
-extends_on a b c x y = record { added = x.added ++ y.added; is = y.is ∙ ap (λ (l : List ModuleValue). l ++ y.added) x.is ∙ append_assoc a x.added y.added }
+extends_on a b c x y = record {
+  added = x.added ++ y.added;
+  is = y.is ∙ ap (λ (l : List ModuleValue). l ++ y.added) x.is
+      ∙ append_assoc a x.added y.added;
+}
 
 pub taken_back : (old new : List ModuleValue) (n : ℕ) → Extends old new → n ≡ length old → take n new ≡ old
 taken_back old new n x size = ap (take n) x.is ∙ (ap (λ (k : ℕ). take k (old ++ x.added)) size ∙ take-append_seam old x.added)
 
 -- what was read of some bytes is read of them where a module that was unfinished is read from its begin
-pub forgotten : (bytes : List ℕ) (old new : List ModuleValue) (before after : UnfinishedModule) (p : Progress) → new ≡ old → after.begin ≡ before.begin → after.here ≡ before.begin
+pub forgotten : (bytes : List ℕ) (old new : List ModuleValue) (before after : UnfinishedModule) (p : Progress) → new ≡ old
+    → after.begin ≡ before.begin → after.here ≡ before.begin
     → after.commons.items ≡ [] → ReadsTo bytes old before p → ReadsTo bytes new after p
 forgotten bytes old new before after Header same begin here none r = same ∙ r
 forgotten bytes old new before after (Modules said) same begin here none r =
-    subst (λ (ms : List ModuleValue). ReadsModules bytes said ms after) (sym same) (next_begins bytes said before.begin old after begin here none r.so_far)
-forgotten bytes old new before after (Index said at) same begin here none r = subst (λ (ms : List ModuleValue). ReadsIndexed bytes said at ms) (sym same) r
-forgotten bytes old new before after Ended same begin here none r = subst (λ (ms : List ModuleValue). SpellsLibrary bytes ms) (sym same) r
+    subst (λ (ms : List ModuleValue). ReadsModules bytes said ms after) (sym same)
+    (next_begins bytes said before.begin old after begin here none r.so_far)
+forgotten bytes old new before after (Index said at) same begin here none r =
+    subst (λ (ms : List ModuleValue). ReadsIndexed bytes said at ms) (sym same) r
+forgotten bytes old new before after Ended same begin here none r =
+    subst (λ (ms : List ModuleValue). SpellsLibrary bytes ms) (sym same) r
 
 -- ---- where no more bytes come
 
-pub header_waits : (bytes : List ℕ) (ms : List ModuleValue) (next : UnfinishedModule) (p : Progress) → p ≡ Header → ms ≡ [] → IsCutOff bytes 0 → ReadsAll bytes ms next p
-header_waits bytes ms next p is empty cut = subst (λ (q : Progress). ReadsAll bytes ms next q) (sym is) (record { reads = empty; waits = cut })
+pub header_waits : (bytes : List ℕ) (ms : List ModuleValue) (next : UnfinishedModule) (p : Progress) → p ≡ Header → ms ≡ []
+    → IsCutOff bytes 0 → ReadsAll bytes ms next p
+header_waits bytes ms next p is empty cut =
+    subst (λ (q : Progress). ReadsAll bytes ms next q) (sym is) (record { reads = empty; waits = cut })
 
-counted_modules : (bytes : List ℕ) (said begin here : ℕ) (ms : List ModuleValue) (commons : List Common) → OpenLibrary bytes said begin begin ms [] → ReadsModule bytes begin here commons
+counted_modules : (bytes : List ℕ) (said begin here : ℕ) (ms : List ModuleValue) (commons : List Common)
+    → OpenLibrary bytes said begin begin ms [] → ReadsModule bytes begin here commons
     → IsCutOff bytes here → CountsModules bytes (length ms)
-counted_modules bytes said begin here ms commons o (inl n) cut = counted_at_record said begin begin ms [] o (subst (λ (a : ℕ). IsCutOff bytes a) n.0 cut) refl
-counted_modules bytes said begin here ms commons o (inr b) cut = counted_in_module said begin ms o (record { here = here; commons = commons; begun = b; cut_off = cut }) refl
+counted_modules bytes said begin here ms commons o (inl n) cut =
+    counted_at_record said begin begin ms [] o (subst (λ (a : ℕ). IsCutOff bytes a) n.0 cut) refl
+counted_modules bytes said begin here ms commons o (inr b) cut =
+    counted_in_module said begin ms o (record { here = here; commons = commons; begun = b; cut_off = cut }) refl
 
-pub counted : (bytes : List ℕ) (ms : List ModuleValue) (next : UnfinishedModule) (p : Progress) → ReadsTo bytes ms next p → WaitsTo bytes next p → CountsModules bytes (length ms)
+pub counted : (bytes : List ℕ) (ms : List ModuleValue) (next : UnfinishedModule) (p : Progress) → ReadsTo bytes ms next p
+    → WaitsTo bytes next p → CountsModules bytes (length ms)
 counted bytes ms next Header r w = counted_in_header w (ap (λ (l : List ModuleValue). length l) r)
-counted bytes ms next (Modules said) r w = counted_modules bytes said next.begin next.here ms next.commons.items r.so_far r.next_module w
+counted bytes ms next (Modules said) r w =
+    counted_modules bytes said next.begin next.here ms next.commons.items r.so_far r.next_module w
 counted bytes ms next (Index said at) r w = counted_at_record said r.index at ms r.records r.so_far w refl
 counted bytes ms next Ended r w = ended ms r refl
 
-faults_between : (bytes : List ℕ) (said : ℕ) (ms : List ModuleValue) (next : UnfinishedModule) (f : LibraryFault) → ReadsModules bytes said ms next → IsCutOff bytes next.here
+faults_between : (bytes : List ℕ) (said : ℕ) (ms : List ModuleValue) (next : UnfinishedModule) (f : LibraryFault)
+    → ReadsModules bytes said ms next → IsCutOff bytes next.here
     → next.here ≡ next.begin → FaultsWhereCut bytes next.here (NoEnd next.here) f → FaultsLibrary bytes f
 faults_between bytes said ms next f r cut same w =
-    record_cut bytes said next.begin next.begin ms [] f r.so_far (subst (λ (a : ℕ). IsCutOff bytes a) same cut) (subst (λ (a : ℕ). FaultsWhereCut bytes a (NoEnd a) f) same w)
+    record_cut bytes said next.begin next.begin ms [] f r.so_far (subst (λ (a : ℕ). IsCutOff bytes a) same cut)
+    (subst (λ (a : ℕ). FaultsWhereCut bytes a (NoEnd a) f) same w)
 
-faults_inside : (bytes : List ℕ) (said : ℕ) (ms : List ModuleValue) (next : UnfinishedModule) (f : LibraryFault) → ReadsModules bytes said ms next → IsCutOff bytes next.here
+faults_inside : (bytes : List ℕ) (said : ℕ) (ms : List ModuleValue) (next : UnfinishedModule) (f : LibraryFault)
+    → ReadsModules bytes said ms next → IsCutOff bytes next.here
     → next.here ≢ next.begin → FaultsWhereCut bytes next.here (no_end_in_module next.here) f → FaultsLibrary bytes f
 faults_inside bytes said ms next f r cut other w =
-    module_cut bytes said next.begin next.here ms next.commons.items f r.so_far (is_begun bytes next.begin next.here next.commons.items r.next_module other) cut w
+    module_cut bytes said next.begin next.here ms next.commons.items f r.so_far
+    (is_begun bytes next.begin next.here next.commons.items r.next_module other) cut w
 
-pub faults_in_modules : (bytes : List ℕ) (said : ℕ) (ms : List ModuleValue) (next : UnfinishedModule) (f : LibraryFault) → ReadsModules bytes said ms next → IsCutOff bytes next.here
-    → (next.here ≡ next.begin → FaultsWhereCut bytes next.here (NoEnd next.here) f) → (next.here ≢ next.begin → FaultsWhereCut bytes next.here (no_end_in_module next.here) f) → FaultsLibrary bytes f
+pub faults_in_modules : (bytes : List ℕ) (said : ℕ) (ms : List ModuleValue) (next : UnfinishedModule) (f : LibraryFault)
+    → ReadsModules bytes said ms next → IsCutOff bytes next.here
+    → (next.here ≡ next.begin → FaultsWhereCut bytes next.here (NoEnd next.here) f)
+    → (next.here ≢ next.begin → FaultsWhereCut bytes next.here (no_end_in_module next.here) f) → FaultsLibrary bytes f
 faults_in_modules bytes said ms next f r cut between inside =
     elim (eqb_tells next.here next.begin) [
       | inl is ↦ faults_between bytes said ms next f r cut is.1 (between is.1)
       | inr off ↦ faults_inside bytes said ms next f r cut off.1 (inside off.1)
     ]
 
-pub faults_in_index : (bytes : List ℕ) (said at : ℕ) (ms : List ModuleValue) (f : LibraryFault) → ReadsIndexed bytes said at ms → IsCutOff bytes at → FaultsWhereCut bytes at (NoEnd at) f → FaultsLibrary bytes f
+pub faults_in_index : (bytes : List ℕ) (said at : ℕ) (ms : List ModuleValue) (f : LibraryFault) → ReadsIndexed bytes said at ms
+    → IsCutOff bytes at → FaultsWhereCut bytes at (NoEnd at) f → FaultsLibrary bytes f
 faults_in_index bytes said at ms f r cut w = record_cut bytes said r.index at ms r.records f r.so_far cut w

@@ -13,31 +13,39 @@ use Rattle.omf_library.specs.Writing.{location_bytes, places_from, header_body, 
 -- ---- modules and their places
 
 -- the module that is next of those that are left
-next_module : (ms : List ModuleValue) (i : ℕ) (m : ModuleValue) → i < length ms → m ≡ get_or ms i m → drop i ms ≡ m ∷ drop (i + 1) ms
+next_module : (ms : List ModuleValue) (i : ℕ) (m : ModuleValue) → i < length ms → m ≡ get_or ms i m
+    → drop i ms ≡ m ∷ drop (i + 1) ms
 next_module ms i m within is = drop_more ms i m within ∙ ap (λ (x : ModuleValue). x ∷ drop (i + 1) ms) (sym is)
 
-pub bytes_step : (ms : List ModuleValue) (i : ℕ) (m : ModuleValue) (bytes new : List ℕ) → i < length ms → m ≡ get_or ms i m → new ≡ bytes ++ module_bytes m
-    → bytes ++ flat_map module_bytes (drop i ms) ≡ flat_map module_bytes ms → new ++ flat_map module_bytes (drop (i + 1) ms) ≡ flat_map module_bytes ms
+pub bytes_step : (ms : List ModuleValue) (i : ℕ) (m : ModuleValue) (bytes new : List ℕ) → i < length ms → m ≡ get_or ms i m
+    → new ≡ bytes ++ module_bytes m
+    → bytes ++ flat_map module_bytes (drop i ms) ≡ flat_map module_bytes ms
+    → new ++ flat_map module_bytes (drop (i + 1) ms) ≡ flat_map module_bytes ms
 bytes_step ms i m bytes new within is written inv =
     ap (λ (x : List ℕ). x ++ flat_map module_bytes (drop (i + 1) ms)) written
     ∙ append_assoc bytes (module_bytes m) (flat_map module_bytes (drop (i + 1) ms))
     ∙ ap (λ (l : List ModuleValue). bytes ++ flat_map module_bytes l) (sym (next_module ms i m within is))
     ∙ inv
 
-pub places_step : (ms : List ModuleValue) (i : ℕ) (m : ModuleValue) (bytes new places after : List ℕ) → i < length ms → m ≡ get_or ms i m → new ≡ bytes ++ module_bytes m
-    → after ≡ places ++ (10 + length bytes) ∷ [] → places ++ places_from (10 + length bytes) (drop i ms) ≡ places_from 10 ms → after ++ places_from (10 + length new) (drop (i + 1) ms) ≡ places_from 10 ms
+pub places_step : (ms : List ModuleValue) (i : ℕ) (m : ModuleValue) (bytes new places after : List ℕ) → i < length ms
+    → m ≡ get_or ms i m → new ≡ bytes ++ module_bytes m
+    → after ≡ places ++ (10 + length bytes) ∷ [] → places ++ places_from (10 + length bytes) (drop i ms) ≡ places_from 10 ms
+    → after ++ places_from (10 + length new) (drop (i + 1) ms) ≡ places_from 10 ms
 places_step ms i m bytes new places after within is written pushed inv =
     let at = 10 + length bytes in
-    let size : 10 + length new ≡ at + length (module_bytes m) = omega (arith, ap (λ (x : List ℕ). length x) written, length-append bytes (module_bytes m)) in
+    let size : 10 + length new ≡ at + length (module_bytes m) =
+    omega (arith, ap (λ (x : List ℕ). length x) written, length-append bytes (module_bytes m)) in
     ap (λ (x : List ℕ). x ++ places_from (10 + length new) (drop (i + 1) ms)) pushed
     ∙ ap (λ (n : ℕ). places ++ at ∷ [] ++ places_from n (drop (i + 1) ms)) size
     ∙ append_assoc places (at ∷ []) (places_from (at + length (module_bytes m)) (drop (i + 1) ms))
     ∙ ap (λ (l : List ModuleValue). places ++ places_from at l) (sym (next_module ms i m within is))
     ∙ inv
 
-pub read_step : (ms : List ModuleValue) (i : ℕ) (m : ModuleValue) → i < length ms → m ≡ get_or ms i m → IsReadAgain m → (AllByRecursion IsReadAgain (drop i ms) → AllByRecursion IsReadAgain ms)
+pub read_step : (ms : List ModuleValue) (i : ℕ) (m : ModuleValue) → i < length ms → m ≡ get_or ms i m → IsReadAgain m
+    → (AllByRecursion IsReadAgain (drop i ms) → AllByRecursion IsReadAgain ms)
     → AllByRecursion IsReadAgain (drop (i + 1) ms) → AllByRecursion IsReadAgain ms
-read_step ms i m within is read inv rest = inv (subst (λ (l : List ModuleValue). AllByRecursion IsReadAgain l) (sym (next_module ms i m within is)) (read, rest))
+read_step ms i m within is read inv rest =
+    inv (subst (λ (l : List ModuleValue). AllByRecursion IsReadAgain l) (sym (next_module ms i m within is)) (read, rest))
 
 -- ---- sizes
 
@@ -46,11 +54,13 @@ locations_length [] = refl
 locations_length (p ∷ ps) = length-append (location_bytes p) (flat_map location_bytes ps) ∙ omega (arith, locations_length ps)
 
 -- no module begins after the place that follows them all
-places_below : (at top : ℕ) (ms : List ModuleValue) → at + length (flat_map module_bytes ms) ≤ top → top / 128 ≤ 65535 → AllByRecursion (λ (p : ℕ). p / 128 ≤ 65535) (places_from at ms)
+places_below : (at top : ℕ) (ms : List ModuleValue) → at + length (flat_map module_bytes ms) ≤ top → top / 128 ≤ 65535
+    → AllByRecursion (λ (p : ℕ). p / 128 ≤ 65535) (places_from at ms)
 places_below at top [] below few = tt
 places_below at top (m ∷ ms) below few = (
   omega (arith, below, few),
-  places_below (at + length (module_bytes m)) top ms (omega (arith, below, length-append (module_bytes m) (flat_map module_bytes ms))) few,
+  places_below (at + length (module_bytes m)) top ms
+      (omega (arith, below, length-append (module_bytes m) (flat_map module_bytes ms))) few,
 )
 
 pub record Fits (ms : List ModuleValue) : Type 0 where
@@ -77,7 +87,8 @@ fits ms small =
       block = ltb-false 65535 (index_place ms / 128) d.1;
     }
 
-pub places_fit : (ms : List ModuleValue) → is_too_large ms ≡ false → AllByRecursion (λ (p : ℕ). p / 128 ≤ 65535) (places_from 10 ms)
+pub places_fit : (ms : List ModuleValue) → is_too_large ms ≡ false
+    → AllByRecursion (λ (p : ℕ). p / 128 ≤ 65535) (places_from 10 ms)
 places_fit ms small = places_below 10 (index_place ms) ms (omega arith) (fits ms small).block
 
 -- what is tested is what is asked
@@ -90,11 +101,14 @@ quarter n = by_cases (nat_lt 16383 n) (nat_lt 65534 (4 * n)) refl refl
     by_cases true false e f = absurd (omega (arith, ltb-true 16383 n e, ltb-false 65534 (4 * n) f))
     by_cases false true e f = absurd (omega (arith, ltb-false 16383 n e, ltb-true 65534 (4 * n) f))
 
-pub too_large_is : (ms : List ModuleValue) (names places dictionary bytes : List ℕ) → names ≡ names_body ms → places ≡ places_from 10 ms → dictionary ≡ dictionary_body ms → bytes ≡ flat_map module_bytes ms
-    → (nat_lt 65535 (length ms) || nat_lt 65534 (length names) || nat_lt 16383 (length places) || nat_lt 65534 (length dictionary) || nat_lt 65535 ((10 + length bytes) / 128)) ≡ is_too_large ms
+pub too_large_is : (ms : List ModuleValue) (names places dictionary bytes : List ℕ) → names ≡ names_body ms
+    → places ≡ places_from 10 ms → dictionary ≡ dictionary_body ms → bytes ≡ flat_map module_bytes ms
+    → (nat_lt 65535 (length ms) || nat_lt 65534 (length names) || nat_lt 16383 (length places) || nat_lt 65534 (length dictionary)
+    || nat_lt 65535 ((10 + length bytes) / 128)) ≡ is_too_large ms
 too_large_is ms names places dictionary bytes a b c d =
     let count : nat_lt 16383 (length places) ≡ nat_lt 65534 (length (locations_body ms)) =
-    quarter (length places) ∙ ap (λ (n : ℕ). nat_lt 65534 (4 * n)) (ap (λ (l : List ℕ). length l) b) ∙ ap (λ (n : ℕ). nat_lt 65534 n) (sym (locations_length (places_from 10 ms))) in
+    quarter (length places) ∙ ap (λ (n : ℕ). nat_lt 65534 (4 * n)) (ap (λ (l : List ℕ). length l) b)
+    ∙ ap (λ (n : ℕ). nat_lt 65534 n) (sym (locations_length (places_from 10 ms))) in
     rw (count, a, c, d) refl
 
 -- ---- the file
@@ -102,14 +116,23 @@ too_large_is ms names places dictionary bytes a b c d =
 joined : (h m a b c e : List ℕ) → h ++ m ++ a ++ b ++ c ++ e ≡ h ++ m ++ (a ++ (b ++ (c ++ []))) ++ e
 joined h m a b c e = simp (append_assoc, append-nil)
 
-pub file_is : (ms : List ModuleValue) (header modules names locations dictionary : List ℕ) → header ≡ header_body ms → modules ≡ flat_map module_bytes ms → names ≡ names_body ms
+pub file_is : (ms : List ModuleValue) (header modules names locations dictionary : List ℕ) → header ≡ header_body ms
+    → modules ≡ flat_map module_bytes ms → names ≡ names_body ms
     → locations ≡ locations_body ms → dictionary ≡ dictionary_body ms
-    → spelling 0x2C header ++ modules ++ spelling 0x28 names ++ spelling 0x26 locations ++ spelling 0x2A dictionary ++ spelling 0x0E [] ≡ library_bytes ms
+    → spelling 0x2C header ++ modules ++ spelling 0x28 names ++ spelling 0x26 locations ++ spelling 0x2A dictionary
+    ++ spelling 0x0E [] ≡ library_bytes ms
 unfolding library_bytes
 file_is ms header modules names locations dictionary a b c d e =
-    joined (spelling 0x2C header) modules (spelling 0x28 names) (spelling 0x26 locations) (spelling 0x2A dictionary) (spelling 0x0E [])
-    ∙ ap (λ (x : List ℕ). spelling 0x2C x ++ modules ++ (spelling 0x28 names ++ (spelling 0x26 locations ++ (spelling 0x2A dictionary ++ []))) ++ spelling 0x0E []) a
-    ∙ ap (λ (x : List ℕ). spelling 0x2C (header_body ms) ++ x ++ (spelling 0x28 names ++ (spelling 0x26 locations ++ (spelling 0x2A dictionary ++ []))) ++ spelling 0x0E []) b
-    ∙ ap (λ (x : List ℕ). spelling 0x2C (header_body ms) ++ flat_map module_bytes ms ++ (spelling 0x28 x ++ (spelling 0x26 locations ++ (spelling 0x2A dictionary ++ []))) ++ spelling 0x0E []) c
-    ∙ ap (λ (x : List ℕ). spelling 0x2C (header_body ms) ++ flat_map module_bytes ms ++ (spelling 0x28 (names_body ms) ++ (spelling 0x26 x ++ (spelling 0x2A dictionary ++ []))) ++ spelling 0x0E []) d
-    ∙ ap (λ (x : List ℕ). spelling 0x2C (header_body ms) ++ flat_map module_bytes ms ++ (spelling 0x28 (names_body ms) ++ (spelling 0x26 (locations_body ms) ++ (spelling 0x2A x ++ []))) ++ spelling 0x0E []) e
+    joined (spelling 0x2C header) modules (spelling 0x28 names) (spelling 0x26 locations) (spelling 0x2A dictionary)
+    (spelling 0x0E [])
+    ∙ ap (λ (x : List ℕ). spelling 0x2C x ++ modules
+    ++ (spelling 0x28 names ++ (spelling 0x26 locations ++ (spelling 0x2A dictionary ++ []))) ++ spelling 0x0E []) a
+    ∙ ap (λ (x : List ℕ). spelling 0x2C (header_body ms) ++ x
+    ++ (spelling 0x28 names ++ (spelling 0x26 locations ++ (spelling 0x2A dictionary ++ []))) ++ spelling 0x0E []) b
+    ∙ ap (λ (x : List ℕ). spelling 0x2C (header_body ms) ++ flat_map module_bytes ms
+    ++ (spelling 0x28 x ++ (spelling 0x26 locations ++ (spelling 0x2A dictionary ++ []))) ++ spelling 0x0E []) c
+    ∙ ap (λ (x : List ℕ). spelling 0x2C (header_body ms) ++ flat_map module_bytes ms
+    ++ (spelling 0x28 (names_body ms) ++ (spelling 0x26 x ++ (spelling 0x2A dictionary ++ []))) ++ spelling 0x0E []) d
+    ∙ ap (λ (x : List ℕ). spelling 0x2C (header_body ms) ++ flat_map module_bytes ms
+    ++ (spelling 0x28 (names_body ms) ++ (spelling 0x26 (locations_body ms) ++ (spelling 0x2A x ++ [])))
+    ++ spelling 0x0E []) e

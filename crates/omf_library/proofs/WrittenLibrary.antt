@@ -16,11 +16,13 @@ modules_spelled : (before after : List ℕ) (ms : List ModuleValue) → AllByRec
 modules_spelled before after [] all = ap length (sym (append-nil before))
 modules_spelled before after (m ∷ ms) all =
     let rest = flat_map module_bytes ms in
-    let front : before ++ module_bytes m ++ rest ≡ before ++ (module_bytes m ++ rest) = append_assoc before (module_bytes m) rest in
+    let front : before ++ module_bytes m ++ rest ≡ before ++ (module_bytes m ++ rest) =
+    append_assoc before (module_bytes m) rest in
     let whole : before ++ module_bytes m ++ (rest ++ after) ≡ before ++ (module_bytes m ++ rest) ++ after =
     sym (append_assoc (before ++ module_bytes m) rest after) ∙ ap (λ (bytes : List ℕ). bytes ++ after) front in
     let one : SpellsModule (before ++ module_bytes m ++ (rest ++ after)) (length before) (length (before ++ module_bytes m)) m =
-    subst (λ (to : ℕ). SpellsModule (before ++ module_bytes m ++ (rest ++ after)) (length before) to m) (sym (length-append before (module_bytes m))) (all.0 before (rest ++ after)) in (
+    subst (λ (to : ℕ). SpellsModule (before ++ module_bytes m ++ (rest ++ after)) (length before) to m)
+    (sym (length-append before (module_bytes m))) (all.0 before (rest ++ after)) in (
       length (before ++ module_bytes m),
       subst (λ (bytes : List ℕ). SpellsModule bytes (length before) (length (before ++ module_bytes m)) m) whole one,
       subst (λ (bytes : List ℕ). SpellsModules (bytes ++ after) (length (before ++ module_bytes m)) (length bytes) ms) front
@@ -50,17 +52,23 @@ library_spelled law lists ms all =
       begins = record {
         kind = 0x2C;
         body = header_body ms;
-        framed = subst (λ (to : ℕ). SpellsRecord (header ++ modules ++ index ++ end) 0 to 0x2C (header_body ms)) (sym (spelling_length 0x2C (header_body ms)))
-            (subst (λ (bytes : List ℕ). SpellsRecord bytes 0 (4 + length (header_body ms)) 0x2C (header_body ms)) from_header (law [] (modules ++ (index ++ end)) 0x2C (header_body ms)));
+        framed = subst (λ (to : ℕ). SpellsRecord (header ++ modules ++ index ++ end) 0 to 0x2C (header_body ms))
+            (sym (spelling_length 0x2C (header_body ms)))
+            (subst (λ (bytes : List ℕ). SpellsRecord bytes 0 (4 + length (header_body ms)) 0x2C (header_body ms)) from_header
+            (law [] (modules ++ (index ++ end)) 0x2C (header_body ms)));
         header = refl;
         count = word_again (length ms);
       };
-      spelled = subst (λ (bytes : List ℕ). SpellsModules bytes (length header) (length (header ++ modules)) ms) (sym (append_assoc (header ++ modules) index end)) (modules_spelled header (index ++ end) ms all);
+      spelled = subst (λ (bytes : List ℕ). SpellsModules bytes (length header) (length (header ++ modules)) ms)
+          (sym (append_assoc (header ++ modules) index end)) (modules_spelled header (index ++ end) ms all);
       indexed = record { spelled = lists (header ++ modules) end (index_records ms); kinds = refl };
       ends = record {
         next = length (header ++ modules ++ index) + 4 + 0;
         body = [];
-        spelled = subst (λ (from : ℕ). SpellsRecord (header ++ modules ++ index ++ end) from (length (header ++ modules ++ index) + 4 + 0) 0x0E []) (length-append (header ++ modules) index)
-            (subst (λ (bytes : List ℕ). SpellsRecord bytes (length (header ++ modules ++ index)) (length (header ++ modules ++ index) + 4 + 0) 0x0E []) (append-nil (header ++ modules ++ index ++ end)) (law (header ++ modules ++ index) [] 0x0E []));
+        spelled = subst (λ (from : ℕ). SpellsRecord (header ++ modules ++ index ++ end) from
+            (length (header ++ modules ++ index) + 4 + 0) 0x0E []) (length-append (header ++ modules) index)
+            (subst (λ (bytes : List ℕ). SpellsRecord bytes (length (header ++ modules ++ index))
+            (length (header ++ modules ++ index) + 4 + 0) 0x0E []) (append-nil (header ++ modules ++ index ++ end))
+            (law (header ++ modules ++ index) [] 0x0E []));
       };
     }

@@ -11,4 +11,5 @@ abbrev pub OneLibraryFault : Type 0
 OneLibraryFault = (bytes : List ℕ) (f f' : LibraryFault) → FaultsLibrary bytes f → FaultsLibrary bytes f' → f ≡ f'
 
 abbrev pub NeverBothLibrary : Type 0
-NeverBothLibrary = (bytes : List ℕ) (ms : List ModuleValue) (f : LibraryFault) → SpellsLibrary bytes ms → FaultsLibrary bytes f → ⊥
+NeverBothLibrary = (bytes : List ℕ) (ms : List ModuleValue) (f : LibraryFault) → SpellsLibrary bytes ms → FaultsLibrary bytes f
+    → ⊥

@@ -19,7 +19,8 @@ LastingLibraryFault bytes fault = (more : List ℕ) → All (λ byte. byte < 256
 
 -- A library begins with a header that says how many modules there are, these modules up to place `index`, and these index
 -- records up to place `at`.
-pub record OpenLibrary (bytes : List ℕ) (said index at : ℕ) (modules : List ModuleValue) (records : List RecordValue) : Type 0 where
+pub record OpenLibrary (bytes : List ℕ) (said index at : ℕ) (modules : List ModuleValue)
+    (records : List RecordValue) : Type 0 where
   pub first : ℕ
   pub begins : BeginsLibrary bytes first said
   pub spelled : SpellsModules bytes first index modules

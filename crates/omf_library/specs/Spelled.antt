@@ -60,8 +60,10 @@ pub record SpellsLibrary (bytes : List ℕ) (modules : List ModuleValue) : Type 
 -- no library header stands at the start
 pub data FaultsLibraryHeader (bytes : List ℕ) : LibraryFault → Type 0 where
   no_header_byte : length bytes ≤ 0 → FaultsLibraryHeader bytes NotLibrary
-  no_header_record : (fault : RecordFault) → 0 < length bytes → fault_at (drop 0 bytes) 0 ≡ Some fault → FaultsLibraryHeader bytes (Module (fault_by 0 (cause.Record fault)))
-  no_header : (next kind : ℕ) (body : List ℕ) → SpellsRecord bytes 0 next kind body → is_library_header kind body ≡ false → FaultsLibraryHeader bytes NotLibrary
+  no_header_record : (fault : RecordFault) → 0 < length bytes → fault_at (drop 0 bytes) 0 ≡ Some fault
+      → FaultsLibraryHeader bytes (Module (fault_by 0 (cause.Record fault)))
+  no_header : (next kind : ℕ) (body : List ℕ) → SpellsRecord bytes 0 next kind body → is_library_header kind body ≡ false
+      → FaultsLibraryHeader bytes NotLibrary
 
 -- a record by which the library goes on: of the index, or a module header where no index record stands before it
 abbrev pub goes_on : Bool → ℕ → Bool
@@ -77,10 +79,13 @@ fault_of_record at said found kind =
 -- neither goes on nor ends at a place.
 pub data FaultsAt (bytes : List ℕ) (at said found : ℕ) (indexed : Bool) : LibraryFault → Type 0 where
   no_byte : length bytes ≤ at → FaultsAt bytes at said found indexed (NoEnd at)
-  no_record : (fault : RecordFault) → at < length bytes → fault_at (drop at bytes) at ≡ Some fault → FaultsAt bytes at said found indexed (Module (fault_by at (cause.Record fault)))
-  in_module : (next : ℕ) (body : List ℕ) (fault : ModuleFault) → indexed ≡ false → SpellsRecord bytes at next 0x02 body → FaultsModule bytes at fault
+  no_record : (fault : RecordFault) → at < length bytes → fault_at (drop at bytes) at ≡ Some fault
+      → FaultsAt bytes at said found indexed (Module (fault_by at (cause.Record fault)))
+  in_module : (next : ℕ) (body : List ℕ) (fault : ModuleFault) → indexed ≡ false → SpellsRecord bytes at next 0x02 body
+      → FaultsModule bytes at fault
       → FaultsAt bytes at said found indexed (of_module fault)
-  at_record : (next kind : ℕ) (body : List ℕ) (fault : LibraryFault) → SpellsRecord bytes at next kind body → goes_on indexed kind ≡ false
+  at_record : (next kind : ℕ) (body : List ℕ) (fault : LibraryFault) → SpellsRecord bytes at next kind body
+      → goes_on indexed kind ≡ false
       → fault_of_record at said found kind ≡ Some fault → FaultsAt bytes at said found indexed fault
 
 -- The first fault of a library: of its header, or of what follows the modules and the index records that stand after it.

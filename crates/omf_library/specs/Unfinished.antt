@@ -59,9 +59,14 @@ left_after bytes next (Index said at) = length bytes - at + 1
 left_after bytes next Ended = 0
 
 -- one item more is read, and less is left
-pub record ReadsFurther (bytes : List ℕ) (left : ℕ) (modules : List ModuleValue) (next : UnfinishedModule) (progress : Progress) : Type 0 where
+pub record ReadsFurther (bytes : List ℕ) (left : ℕ) (modules : List ModuleValue) (next : UnfinishedModule)
+    (progress : Progress) : Type 0 where
   pub reads : ReadsTo bytes modules next progress
   pub further : left_after bytes next progress < left
+
+-- one item more is read than where so much is left
+abbrev pub ReadsOn : List ℕ → UnfinishedModule → Progress → List ModuleValue → UnfinishedModule → Progress → Type 0
+ReadsOn bytes was before modules next progress = ReadsFurther bytes (left_after bytes was before) modules next progress
 
 -- what is read is all that can be read of these bytes
 pub record ReadsAll (bytes : List ℕ) (modules : List ModuleValue) (next : UnfinishedModule) (progress : Progress) : Type 0 where
@@ -99,7 +104,8 @@ abbrev pub LastingHeaderFault : List ℕ → LibraryFault → Type 0
 LastingHeaderFault bytes fault = (more : List ℕ) → All (λ byte. byte < 256) more → FaultsLibraryHeader (bytes ++ more) fault
 
 abbrev pub LastingFaultAt : List ℕ → ℕ → LibraryFault → Type 0
-LastingFaultAt bytes at fault = (said found : ℕ) (indexed : Bool) (more : List ℕ) → All (λ byte. byte < 256) more → FaultsAt (bytes ++ more) at said found indexed fault
+LastingFaultAt bytes at fault = (said found : ℕ) (indexed : Bool) (more : List ℕ) → All (λ byte. byte < 256) more
+    → FaultsAt (bytes ++ more) at said found indexed fault
 
 -- how far a record that is no module header leads: to the place after an index record, or to the end of the library
 abbrev pub LeadsTo : ℕ → ℕ → ℕ → ℕ → Progress → Type 0

@@ -51,8 +51,8 @@ impl LibraryFeed {
         }
     }
 
-    /// Takes a piece of the library, and gives the number of whole modules so far. A record or a module that the piece cuts off is
-    /// completed by later pieces; bytes after the end-of-file record aren't looked at.
+    /// Takes a piece of the library, and gives the number of whole modules so far. A record or a module that the piece cuts off
+    /// is completed by later pieces; bytes after the end-of-file record aren't looked at.
     ///
     /// # Errors
     /// A fault other than `Memory` exactly where [`read_library`](crate::read_library) gives it on all bytes so far, this piece's
@@ -66,11 +66,13 @@ impl LibraryFeed {
 
         // The count is that of all bytes so far, of which no fault lasts.
         ensures counted { IfOk result (λ count. CountsModules (self.old.bytes ++ piece.now) count) }
-        ensures none_lasts { OnOk result ((fault : LibraryFaultValue) → LastingLibraryFault (self.old.bytes ++ piece.now) fault → ⊥) }
+        ensures none_lasts { OnOk result ((fault : LibraryFaultValue) → LastingLibraryFault (self.old.bytes ++ piece.now) fault
+            → ⊥) }
 
         // A fault lasts of all bytes so far, and is kept; out of memory is never kept.
         ensures fault { (fault : LibraryFaultValue) → self.old.kept ≡ None → fault ≢ LibraryFault.Memory → result ≡ Err fault
-            → LastingLibraryFault (self.old.bytes ++ piece.now) fault × (self.new ≡ record { bytes = self.old.bytes; kept = Some fault }) }
+            → LastingLibraryFault (self.old.bytes ++ piece.now) fault
+            × (self.new ≡ record { bytes = self.old.bytes; kept = Some fault }) }
         ensures memory { result ≡ Err LibraryFault.Memory → self.new ≡ self.old }
     {
         counted_have_none();
@@ -104,11 +106,13 @@ impl LibraryFeed {
 
         // What is read is what the bytes spell, and nothing that they spell is refused or read as another.
         ensures read { IfOk result (SpellsLibrary self.bytes) }
-        ensures every_library { self.kept ≡ None → (ms : List ModuleValue) → SpellsLibrary self.bytes ms → Answers result (Ok ms) }
+        ensures every_library { self.kept ≡ None → (ms : List ModuleValue) → SpellsLibrary self.bytes ms
+            → Answers result (Ok ms) }
 
         // Each refusal but out of memory has its cause, and it is the first.
         ensures fault { self.kept ≡ None → IfErr result (OrNoMemory (FaultsLibrary self.bytes)) }
-        ensures every_fault { self.kept ≡ None → (fault : LibraryFaultValue) → FaultsLibrary self.bytes fault → Answers result (Err fault) }
+        ensures every_fault { self.kept ≡ None → (fault : LibraryFaultValue) → FaultsLibrary self.bytes fault
+            → Answers result (Err fault) }
     {
         one_library();
         if let Some(fault) = self.kept {

@@ -6,7 +6,7 @@ ghost use Rattle.omf_module.specs.Pieces.{IsCutOff, ReadsModule};
 ghost use Rattle.omf_library.specs.Fault.{OrNoMemory};
 ghost use Rattle.omf_library.specs.Spelled.{BeginsLibrary, SpellsLibrary, FaultsLibrary, is_library_header, is_index_kind};
 ghost use Rattle.omf_library.specs.LibraryFeed.{LastingLibraryFault};
-ghost use Rattle.omf_library.specs.Unfinished.{ReadsModules, ReadsIndexed, ReadsLibrary, WaitsLibrary, left_after, ReadsFurther, ReadsAll, Extends, HeaderStands, StandsAt, RecordStands, LastingHeaderFault, LastingFaultAt, LeadsTo, LeadsNowhere, FaultsWhereCut, no_end_in_module};
+ghost use Rattle.omf_library.specs.Unfinished.{ReadsModules, ReadsIndexed, ReadsLibrary, WaitsLibrary, ReadsFurther, ReadsOn, ReadsAll, Extends, HeaderStands, StandsAt, RecordStands, LastingHeaderFault, LastingFaultAt, LeadsTo, LeadsNowhere, FaultsWhereCut, no_end_in_module};
 
 use crate::fault::LibraryFault;
 use omf_core::laws::{list_grows, lists_stay, other_faults_stay, records_stay};
@@ -162,7 +162,8 @@ fn read_module(
 ) -> Result<bool, LibraryFault>
     requires reads { ReadsModules bytes.now said modules.old.items next.old }
     requires header { HeaderStands bytes.now next.old.begin }
-    ensures further { result ≡ Ok true → ReadsFurther bytes.now (left_after bytes.now next.old (Progress.Modules said)) modules.new.items next.new (Progress.Modules said) }
+    ensures further { result ≡ Ok true
+        → ReadsOn bytes.now next.old (Progress.Modules said) modules.new.items next.new (Progress.Modules said) }
     ensures waits { result ≡ Ok false → ReadsAll bytes.now modules.new.items next.new (Progress.Modules said) }
     ensures extends { Extends modules.old.items modules.new.items }
     ensures fault { IfErr result (OrNoMemory (LastingLibraryFault bytes.now)) }
@@ -190,7 +191,8 @@ fn read_after_modules(
     next: &mut UnfinishedModule,
 ) -> Result<Option<Progress>, LibraryFault>
     requires { ReadsModules bytes.now said modules.old.items next.old }
-    ensures further { IfOk result (λ o. IfSome o (ReadsFurther bytes.now (left_after bytes.now next.old (Progress.Modules said)) modules.new.items next.new)) }
+    ensures further { IfOk result (λ o. IfSome o
+        (ReadsOn bytes.now next.old (Progress.Modules said) modules.new.items next.new)) }
     ensures waits { result ≡ Ok None → ReadsAll bytes.now modules.new.items next.new (Progress.Modules said) }
     ensures extends { Extends modules.old.items modules.new.items }
     ensures fault { IfErr result (OrNoMemory (LastingLibraryFault bytes.now)) }
@@ -220,7 +222,8 @@ fn read_after_index(
     modules: &[Module],
 ) -> Result<Option<Progress>, LibraryFault>
     requires { ReadsIndexed bytes.now said at modules.now }
-    ensures further { IfOk result (λ o. IfSome o (λ p. (next : UnfinishedModuleValue) → ReadsFurther bytes.now (length bytes.now - at + 1) modules.now next p)) }
+    ensures further { IfOk result (λ o. IfSome o (λ p. (next : UnfinishedModuleValue)
+        → ReadsFurther bytes.now (length bytes.now - at + 1) modules.now next p)) }
     ensures waits { result ≡ Ok None → IsCutOff bytes.now at }
     ensures fault { IfErr result (LastingLibraryFault bytes.now) }
 {
@@ -266,7 +269,8 @@ impl UnfinishedLibrary {
         requires { self.old.modules.items ≡ [] }
         ensures modules { self.new.modules.items ≡ self.old.modules.items }
         ensures progress { self.new.progress ≡ self.old.progress }
-        ensures further { IfOk result (λ o. IfSome o (ReadsFurther bytes.now (length bytes.now + 2) self.new.modules.items self.new.next)) }
+        ensures further { IfOk result (λ o. IfSome o
+            (ReadsFurther bytes.now (length bytes.now + 2) self.new.modules.items self.new.next)) }
         ensures waits { result ≡ Ok None → IsCutOff bytes.now 0 }
         ensures fault { IfErr result (LastingLibraryFault bytes.now) }
     {
@@ -281,7 +285,8 @@ impl UnfinishedLibrary {
     /// are needed or the library has ended.
     fn read_next(&mut self, alloc: Global, bytes: &[u8]) -> Result<Option<Progress>, LibraryFault>
         requires { ReadsLibrary bytes.now self.old }
-        ensures further { IfOk result (λ o. IfSome o (ReadsFurther bytes.now (left_after bytes.now self.old.next self.old.progress) self.new.modules.items self.new.next)) }
+        ensures further { IfOk result (λ o. IfSome o
+            (ReadsOn bytes.now self.old.next self.old.progress self.new.modules.items self.new.next)) }
         ensures waits { result ≡ Ok None → ReadsAll bytes.now self.new.modules.items self.new.next self.new.progress }
         ensures extends { Extends self.old.modules.items self.new.modules.items }
         ensures fault { IfErr result (OrNoMemory (LastingLibraryFault bytes.now)) }
@@ -361,8 +366,10 @@ impl UnfinishedLibrary {
 
     /// The fault of a library that ends between modules or inside one.
     fn fault_in_modules(&self, bytes: &[u8]) -> LibraryFault
-        ensures between { self.now.next.here ≡ self.now.next.begin → FaultsWhereCut bytes.now self.now.next.here (LibraryFault.NoEnd self.now.next.here) result }
-        ensures inside { self.now.next.here ≢ self.now.next.begin → FaultsWhereCut bytes.now self.now.next.here (no_end_in_module self.now.next.here) result }
+        ensures between { self.now.next.here ≡ self.now.next.begin
+            → FaultsWhereCut bytes.now self.now.next.here (LibraryFault.NoEnd self.now.next.here) result }
+        ensures inside { self.now.next.here ≢ self.now.next.begin
+            → FaultsWhereCut bytes.now self.now.next.here (no_end_in_module self.now.next.here) result }
     {
         let at = self.next.here;
         if at == self.next.begin {

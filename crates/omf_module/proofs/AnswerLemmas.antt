@@ -20,13 +20,15 @@ every_module one never bytes at (Ok x) read fault m after s =
 every_module one never bytes at (Err f) read (inl none) m after s = inr (ap (λ (g : ModuleFault). Err g) none)
 every_module one never bytes at (Err f) read (inr x) m after s = absurd (never bytes at after m f s x)
 
-pub answered : {A : Type 0} (Faults : ModuleFault → Type 0) (r : Result A ModuleFault) → IfErr r (OrNoMemory Faults) → ((f : ModuleFault) → Faults f → ⊥) → IsOk r ⊎ (r ≡ Err no_memory)
+pub answered : {A : Type 0} (Faults : ModuleFault → Type 0) (r : Result A ModuleFault) → IfErr r (OrNoMemory Faults)
+    → ((f : ModuleFault) → Faults f → ⊥) → IsOk r ⊎ (r ≡ Err no_memory)
 answered {A} Faults (Ok x) fault none = inl refl
 answered {A} Faults (Err f) (inl e) none = inr (ap (λ (g : ModuleFault). Err g) e)
 answered {A} Faults (Err f) (inr x) none = absurd (none f x)
 
 -- a refusal of a file that has a fault
-pub refused_by : {A : Type 0} → OneFileFault → (bytes : List ℕ) (f g : ModuleFault) → OrNoMemory (FaultsFile bytes) f → FaultsFile bytes g → Answers {A = A} (Err f) (Err g)
+pub refused_by : {A : Type 0} → OneFileFault → (bytes : List ℕ) (f g : ModuleFault) → OrNoMemory (FaultsFile bytes) f
+    → FaultsFile bytes g → Answers {A = A} (Err f) (Err g)
 refused_by {A} one bytes f g (inl none) x = inr (ap (λ (h : ModuleFault). Err h) none)
 refused_by {A} one bytes f g (inr y) x = inl (ap (λ (h : ModuleFault). Err h) (one bytes f g y x))
 

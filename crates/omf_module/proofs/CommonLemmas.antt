@@ -27,7 +27,8 @@ pub record CommonsSoFar (before : List Common) (bytes : List ℕ) (now : List Co
   pub later_fault : (fault : FieldFault) → FaultsCommons now rest fault → FaultsCommons before bytes fault
 
 pub none_taken : (before : List Common) (bytes : List ℕ) → CommonsSoFar before bytes before bytes
-none_taken before bytes = record { front = []; joined = refl; sound = refl; all = sym (append-nil before); new = refl; later_fault = λ fault f. f }
+none_taken before bytes =
+    record { front = []; joined = refl; sound = refl; all = sym (append-nil before); new = refl; later_fault = λ fault f. f }
 
 pub one_taken : (before : List Common) (bytes : List ℕ) (now : List Common) (rest after : List ℕ) (e : CommonEntry)
     → CommonsSoFar before bytes now rest
@@ -37,29 +38,47 @@ pub one_taken : (before : List Common) (bytes : List ℕ) (now : List Common) (r
     → IsTrue (is_new_common now (common_of e))
     → CommonsSoFar before bytes (now ++ common_of e ∷ []) after
 one_taken before bytes now rest after e s read spelled named new =
-    let flat : flat_map common_bytes (s.front ++ e ∷ []) ≡ flat_map common_bytes s.front ++ common_bytes e = flat_map-append common_bytes s.front (e ∷ []) ∙ ap (λ (b : List ℕ). flat_map common_bytes s.front ++ b) (append-nil (common_bytes e)) in
-    let mapped : map common_of (s.front ++ e ∷ []) ≡ map common_of s.front ++ common_of e ∷ [] = map-append common_of s.front (e ∷ []) in
+    let flat : flat_map common_bytes (s.front ++ e ∷ []) ≡ flat_map common_bytes s.front ++ common_bytes e =
+    flat_map-append common_bytes s.front (e ∷ [])
+    ∙ ap (λ (b : List ℕ). flat_map common_bytes s.front ++ b) (append-nil (common_bytes e)) in
+    let mapped : map common_of (s.front ++ e ∷ []) ≡ map common_of s.front ++ common_of e ∷ [] =
+    map-append common_of s.front (e ∷ []) in
     record {
       front = s.front ++ e ∷ [];
-      joined = s.joined ∙ (ap (λ (b : List ℕ). flat_map common_bytes s.front ++ b) spelled ∙ (sym (append_assoc (flat_map common_bytes s.front) (common_bytes e) after) ∙ ap (λ (b : List ℕ). b ++ after) (sym flat)));
-      sound = list_all-append common_layout.is_sound s.front (e ∷ []) ∙ and_from (list_all common_layout.is_sound s.front) ((is_common_id e.id && is_name e.name) && true) s.sound (and_from (is_common_id e.id && is_name e.name) true (and_from (is_common_id e.id) (is_name e.name) (new_common now (common_of e) new).id named) refl);
-      all = ap (λ (b : List Common). b ++ common_of e ∷ []) s.all ∙ (append_assoc before (map common_of s.front) (common_of e ∷ []) ∙ ap (λ (b : List Common). before ++ b) (sym mapped));
+      joined = s.joined ∙ (ap (λ (b : List ℕ). flat_map common_bytes s.front ++ b) spelled
+          ∙ (sym (append_assoc (flat_map common_bytes s.front) (common_bytes e) after)
+          ∙ ap (λ (b : List ℕ). b ++ after) (sym flat)));
+      sound = list_all-append common_layout.is_sound s.front (e ∷ [])
+          ∙ and_from (list_all common_layout.is_sound s.front) ((is_common_id e.id && is_name e.name) && true) s.sound
+          (and_from (is_common_id e.id && is_name e.name) true
+          (and_from (is_common_id e.id) (is_name e.name) (new_common now (common_of e) new).id named) refl);
+      all = ap (λ (b : List Common). b ++ common_of e ∷ []) s.all
+          ∙ (append_assoc before (map common_of s.front) (common_of e ∷ []) ∙ ap (λ (b : List Common). before ++ b) (sym mapped));
       new = subst (λ (b : List Common). each_after is_new_common before b ≡ true) (sym mapped)
-          (each_after_push is_new_common before (map common_of s.front) (common_of e) s.new (subst (λ (b : List Common). is_new_common b (common_of e) ≡ true) s.all new));
+          (each_after_push is_new_common before (map common_of s.front) (common_of e) s.new
+          (subst (λ (b : List Common). is_new_common b (common_of e) ≡ true) s.all new));
       later_fault = λ fault f. s.later_fault fault (later now (common_of e) rest after fault read f);
     }
 
-pub all_taken : (before : List Common) (bytes : List ℕ) (now : List Common) (rest : List ℕ) → CommonsSoFar before bytes now rest → rest ≡ [] → TakesCommons before bytes now
+pub all_taken : (before : List Common) (bytes : List ℕ) (now : List Common) (rest : List ℕ) → CommonsSoFar before bytes now rest
+    → rest ≡ [] → TakesCommons before bytes now
 all_taken before bytes now rest s end = record {
   entries = s.front;
-  spelled = record { joined = s.joined ∙ (ap (λ (b : List ℕ). flat_map common_bytes s.front ++ b) end ∙ append-nil (flat_map common_bytes s.front)); sound = s.sound };
+  spelled = record {
+    joined = s.joined
+        ∙ (ap (λ (b : List ℕ). flat_map common_bytes s.front ++ b) end ∙ append-nil (flat_map common_bytes s.front));
+    sound =
+        s.sound;
+  };
   all = s.all;
   new = s.new;
 }
 
 pub refused : (before : List Common) (bytes : List ℕ) (now : List Common) (rest : List ℕ) (fault : FieldFault) (why : Cause)
-    → CommonsSoFar before bytes now rest → 0 < length rest → read_new_common now rest ≡ Err fault → why ≡ commons_cause fault → RefusesCommons before bytes why
-refused before bytes now rest fault why s some faulted is = record { fault = fault; is = is; faults = s.later_fault fault (here now rest fault some faulted) }
+    → CommonsSoFar before bytes now rest → 0 < length rest → read_new_common now rest ≡ Err fault → why ≡ commons_cause fault
+    → RefusesCommons before bytes why
+refused before bytes now rest fault why s some faulted is =
+    record { fault = fault; is = is; faults = s.later_fault fault (here now rest fault some faulted) }
 
 pub not_empty : (rest : List ℕ) → (rest ≡ [] → ⊥) → 0 < length rest
 not_empty [] some = absurd (some refl)

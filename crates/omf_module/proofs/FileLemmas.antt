@@ -5,7 +5,8 @@ use Rattle.omf_parts.specs.Modules.{ModuleValue}
 use Rattle.omf_module.specs.Records.{SpellsBodies}
 use Rattle.omf_module.specs.Spelled.{SpellsModule, SpellsModules}
 
-pub modules_push : (bytes : List ℕ) (from to next : ℕ) (ms : List ModuleValue) (m : ModuleValue) → SpellsModules bytes from to ms → SpellsModule bytes to next m → SpellsModules bytes from next (ms ++ m ∷ [])
+pub modules_push : (bytes : List ℕ) (from to next : ℕ) (ms : List ModuleValue) (m : ModuleValue) → SpellsModules bytes from to ms
+    → SpellsModule bytes to next m → SpellsModules bytes from next (ms ++ m ∷ [])
 modules_push bytes from to next [] m s one = (next, subst (λ (f : ℕ). SpellsModule bytes f next m) (sym s) one, refl)
 modules_push bytes from to next (n ∷ ms) m s one = (s.0, s.1, modules_push bytes s.0 to next ms m s.2 one)
 
@@ -19,6 +20,13 @@ pub record Further (bytes : List ℕ) (at after : ℕ) : Type 0 where
 
 pub module_further : (bytes : List ℕ) (at after : ℕ) (m : ModuleValue) → SpellsModule bytes at after m → Further bytes at after
 module_further bytes at after m s = record {
-  further = omega (arith, s.begins, s.spelled.header.framed.all_counted, bodies_further bytes s.spelled.first s.records.end_at s.records.within s.spelled.within, s.spelled.end.framed.all_counted);
+  further = omega (
+    arith,
+    s.begins,
+    s.spelled.header.framed.all_counted,
+    bodies_further bytes s.spelled.first s.records.end_at
+        s.records.within s.spelled.within,
+    s.spelled.end.framed.all_counted,
+  );
   inside = s.spelled.end.framed.within;
 }

@@ -20,7 +20,8 @@ use Rattle.omf_module.specs.Reading.{BeginsModule, Follows, is_end, TakesCommons
 pub body_spelled : (bytes : List ℕ) (at next kind : ℕ) (body : List ℕ) (b : Body)
     → SpellsRecord bytes at next kind body → length body ≤ 65534 → Spells kind body b → SpellsBody bytes at next b
 body_spelled bytes at next kind body b r fits s = record {
-  framed = subst (λ (k : ℕ). SpellsRecord bytes at next k (body_bytes b)) s.of_kind (subst (λ (x : List ℕ). SpellsRecord bytes at next kind x) s.joined r);
+  framed = subst (λ (k : ℕ). SpellsRecord bytes at next k (body_bytes b)) s.of_kind
+      (subst (λ (x : List ℕ). SpellsRecord bytes at next kind x) s.joined r);
   sound = s.sound;
   fits = subst (λ (x : List ℕ). length x ≤ 65534) s.joined fits;
 }
@@ -29,7 +30,8 @@ pub goes_further : (bytes : List ℕ) (at next kind : ℕ) (body : List ℕ) →
 goes_further bytes at next kind body r = omega (arith, r.all_counted)
 
 pub begun : (bytes : List ℕ) (at next kind : ℕ) (body : List ℕ) (b : Body) (header : HeaderBody)
-    → SpellsRecord bytes at next kind body → length body ≤ 65534 → Spells kind body b → b ≡ ModuleHeader header → BeginsModule bytes at next header
+    → SpellsRecord bytes at next kind body → length body ≤ 65534 → Spells kind body b → b ≡ ModuleHeader header
+    → BeginsModule bytes at next header
 begun bytes at next kind body b header r fits s is = record {
   spelled = subst (λ (x : Body). SpellsBody bytes at next x) is (body_spelled bytes at next kind body b r fits s);
   further = goes_further bytes at next kind body r;
@@ -46,7 +48,8 @@ may_stand kind before (ModuleEnd b) is alone = (inl refl, refl)
 may_stand kind before _ is alone = (inr refl, refl)
 
 pub followed : (bytes : List ℕ) (at next kind : ℕ) (body : List ℕ) (before : List Common) (b : Body)
-    → SpellsRecord bytes at next kind body → length body ≤ 65534 → Spells kind body b → IsTrue (stands_alone kind) → Follows bytes at next before before b
+    → SpellsRecord bytes at next kind body → length body ≤ 65534 → Spells kind body b → IsTrue (stands_alone kind)
+    → Follows bytes at next before before b
 followed bytes at next kind body before b r fits s alone =
     let may = may_stand kind before b s.of_kind alone in
     record {
@@ -58,18 +61,23 @@ followed bytes at next kind body before b r fits s alone =
     }
 
 -- commons that are taken are the body of their record
-pub commons_spelled : (before after : List Common) (body : List ℕ) (t : TakesCommons before body after) → Spells 0x2E body (NamedCommons t.entries)
+pub commons_spelled : (before after : List Common) (body : List ℕ) (t : TakesCommons before body after)
+    → Spells 0x2E body (NamedCommons t.entries)
 commons_spelled before after body t = record { of_kind = refl; joined = t.spelled.joined; sound = t.spelled.sound }
 
-pub commons_spelled_by : (kind : ℕ) (before after : List Common) (body : List ℕ) → kind ≡ 0x2E → (t : TakesCommons before body after) → Spells kind body (NamedCommons t.entries)
+pub commons_spelled_by : (kind : ℕ) (before after : List Common) (body : List ℕ) → kind ≡ 0x2E
+    → (t : TakesCommons before body after) → Spells kind body (NamedCommons t.entries)
 commons_spelled_by kind before after body is t =
     subst (λ (k : ℕ). Spells k body (NamedCommons t.entries)) (sym is) (commons_spelled before after body t)
 
-pub followed_commons : (bytes : List ℕ) (at next kind : ℕ) (body : List ℕ) (before after : List Common) (b : Body) (t : TakesCommons before body after)
-    → kind ≡ 0x2E → SpellsRecord bytes at next kind body → length body ≤ 65534 → b ≡ NamedCommons t.entries → Follows bytes at next before after b
+pub followed_commons : (bytes : List ℕ) (at next kind : ℕ) (body : List ℕ) (before after : List Common) (b : Body)
+    (t : TakesCommons before body after)
+    → kind ≡ 0x2E → SpellsRecord bytes at next kind body → length body ≤ 65534 → b ≡ NamedCommons t.entries
+    → Follows bytes at next before after b
 followed_commons bytes at next kind body before after b t of_kind r fits is =
     subst (λ (x : Body). Follows bytes at next before after x) (sym is) (record {
-      spelled = body_spelled bytes at next 0x2E body (NamedCommons t.entries) (subst (λ (k : ℕ). SpellsRecord bytes at next k body) of_kind r) fits (commons_spelled before after body t);
+      spelled = body_spelled bytes at next 0x2E body (NamedCommons t.entries)
+          (subst (λ (k : ℕ). SpellsRecord bytes at next k body) of_kind r) fits (commons_spelled before after body t);
       stands = inr t.new;
       commons = t.all;
       further = goes_further bytes at next kind body r;
@@ -77,7 +85,8 @@ followed_commons bytes at next kind body before after b t of_kind r fits is =
     })
 
 pub is_alone : (kind : ℕ) → kind ≢ 0x02 → kind ≢ 0x0E → kind ≢ 0x2E → IsTrue (stands_alone kind)
-is_alone kind a b c = three (kind == 0x02) (kind == 0x0E) (kind == 0x2E) (λ e. a (eqb-true kind 0x02 e)) (λ e. b (eqb-true kind 0x0E e)) (λ e. c (eqb-true kind 0x2E e))
+is_alone kind a b c = three (kind == 0x02) (kind == 0x0E) (kind == 0x2E) (λ e. a (eqb-true kind 0x02 e))
+    (λ e. b (eqb-true kind 0x0E e)) (λ e. c (eqb-true kind 0x2E e))
   where
     three : (a b c : Bool) → (a ≡ true → ⊥) → (b ≡ true → ⊥) → (c ≡ true → ⊥) → (not a && not b && not c) ≡ true
     three true b c p q r = absurd (p refl)
@@ -85,7 +94,8 @@ is_alone kind a b c = three (kind == 0x02) (kind == 0x0E) (kind == 0x2E) (λ e. 
     three false false true p q r = absurd (r refl)
     three false false false p q r = refl
 
-pub is_alone_kind : (k : RecordKind) → (k ≡ kind.ModuleHeader → ⊥) → (k ≡ kind.EndOfFile → ⊥) → (k ≡ kind.NamedCommons → ⊥) → IsTrue (stands_alone (kind_byte k))
+pub is_alone_kind : (k : RecordKind) → (k ≡ kind.ModuleHeader → ⊥) → (k ≡ kind.EndOfFile → ⊥) → (k ≡ kind.NamedCommons → ⊥)
+    → IsTrue (stands_alone (kind_byte k))
 is_alone_kind kind.ModuleHeader a b c = absurd (a refl)
 is_alone_kind kind.EndOfFile a b c = absurd (b refl)
 is_alone_kind kind.NamedCommons a b c = absurd (c refl)

@@ -21,3 +21,4 @@ pub mod WrittenModule
 pub mod StayLemmas
 pub mod FileFeedLemmas
 pub mod GatheredLemmas
+pub mod FirstUseLemmas

@@ -17,36 +17,44 @@ Out = ModuleFault ⊎ Unit {0}
 
 data Tail (bytes : List ℕ) (first : Bool) (at : ℕ) : Out → Type 0 where
   ended : first ≡ false → EndsFile bytes at → Tail bytes first at (inr tt)
-  faulted : (f : ModuleFault) → FaultsModule bytes at f → ((first ≡ true) ⊎ ((at < length bytes) × (EndsFile bytes at → ⊥))) → Tail bytes first at (inl f)
+  faulted : (f : ModuleFault) → FaultsModule bytes at f → ((first ≡ true) ⊎ ((at < length bytes) × (EndsFile bytes at → ⊥)))
+      → Tail bytes first at (inl f)
   unended : first ≡ false → length bytes ≤ at → Tail bytes first at (inl (fault_by at NoEnd))
 
 abbrev Run : List ℕ → Bool → ℕ → List ModuleValue → Out → Type 0
 Run bytes first at [] out = Tail bytes first at out
 Run bytes first at (m ∷ ms) out = (next : ℕ) × SpellsModule bytes at next m × Run bytes false next ms out
 
-to_run : (bytes : List ℕ) (from to : ℕ) (ms : List ModuleValue) (out : Out) → SpellsModules bytes from to ms → Tail bytes false to out → Run bytes false from ms out
+to_run : (bytes : List ℕ) (from to : ℕ) (ms : List ModuleValue) (out : Out) → SpellsModules bytes from to ms
+    → Tail bytes false to out → Run bytes false from ms out
 to_run bytes from to [] out s t = subst (λ (a : ℕ). Tail bytes false a out) (sym s) t
 to_run bytes from to (m ∷ ms) out s t = (s.0, s.1, to_run bytes s.0 to ms out s.2 t)
 
-from_start : (bytes : List ℕ) (to : ℕ) (ms : List ModuleValue) (out : Out) → 0 < length ms → SpellsModules bytes 0 to ms → Tail bytes false to out → Run bytes true 0 ms out
+from_start : (bytes : List ℕ) (to : ℕ) (ms : List ModuleValue) (out : Out) → 0 < length ms → SpellsModules bytes 0 to ms
+    → Tail bytes false to out → Run bytes true 0 ms out
 from_start bytes to [] out some s t = absurd (omega (arith, some))
 from_start bytes to (m ∷ ms) out some s t = (s.0, s.1, to_run bytes s.0 to ms out s.2 t)
 
 module_ends : Below → (bytes : List ℕ) (at after : ℕ) (m : ModuleValue) → SpellsModule bytes at after m → EndsFile bytes at → ⊥
 module_ends b bytes at after m s e =
     let h = header_at bytes at after s.records s.spelled s.begins in
-    other_kinds 0x02 0x0E refl refl (b.one_record bytes at s.spelled.first e.next 0x02 0x0E (body_bytes (ModuleHeader s.records.header)) e.body h.framed e.spelled).0
+    other_kinds 0x02 0x0E refl refl
+    (b.one_record bytes at s.spelled.first e.next 0x02 0x0E
+    (body_bytes (ModuleHeader s.records.header)) e.body h.framed e.spelled).0
   where
     other_kinds : (x y : ℕ) → x ≡ 2 → y ≡ 14 → x ≡ y → ⊥
     other_kinds x y p q e = omega (arith, p, q, e)
 
-tail_module : Below → (bytes : List ℕ) (first : Bool) (at after : ℕ) (m : ModuleValue) (o : Out) → Tail bytes first at o → SpellsModule bytes at after m → ⊥
+tail_module : Below → (bytes : List ℕ) (first : Bool) (at after : ℕ) (m : ModuleValue) (o : Out) → Tail bytes first at o
+    → SpellsModule bytes at after m → ⊥
 tail_module b bytes first at after m o (ended n e) s = module_ends b bytes at after m s e
 tail_module b bytes first at after m o (faulted f x y) s = never_both b bytes at after m f s x
 tail_module b bytes first at after m o (unended n past) s =
-    let h = header_at bytes at after s.records s.spelled s.begins in past_spelled bytes at s.spelled.first 0x02 (body_bytes (ModuleHeader s.records.header)) past h.framed
+    let h = header_at bytes at after s.records s.spelled s.begins in
+    past_spelled bytes at s.spelled.first 0x02 (body_bytes (ModuleHeader s.records.header)) past h.framed
 
-goes_on : (bytes : List ℕ) (first : Bool) (at : ℕ) → first ≡ false → ((first ≡ true) ⊎ ((at < length bytes) × (EndsFile bytes at → ⊥))) → (at < length bytes) × (EndsFile bytes at → ⊥)
+goes_on : (bytes : List ℕ) (first : Bool) (at : ℕ) → first ≡ false
+    → ((first ≡ true) ⊎ ((at < length bytes) × (EndsFile bytes at → ⊥))) → (at < length bytes) × (EndsFile bytes at → ⊥)
 goes_on bytes first at n (inl y) = absurd (true≢false (sym y ∙ n))
 goes_on bytes first at n (inr g) = g
 
@@ -65,14 +73,19 @@ record SameRun (ms ns : List ModuleValue) (o p : Out) : Type 0 where
   modules : ms ≡ ns
   out : o ≡ p
 
-one_run : Below → (bytes : List ℕ) (first : Bool) (at : ℕ) (ms ns : List ModuleValue) (o p : Out) → Run bytes first at ms o → Run bytes first at ns p → SameRun ms ns o p
+one_run : Below → (bytes : List ℕ) (first : Bool) (at : ℕ) (ms ns : List ModuleValue) (o p : Out) → Run bytes first at ms o
+    → Run bytes first at ns p → SameRun ms ns o p
 one_run b bytes first at [] [] o p r s = record { modules = refl; out = one_tail b bytes first at o p r s }
 one_run b bytes first at [] (n ∷ ns) o p r s = absurd (tail_module b bytes first at s.0 n o r s.1)
 one_run b bytes first at (m ∷ ms) [] o p r s = absurd (tail_module b bytes first at r.0 m p s r.1)
 one_run b bytes first at (m ∷ ms) (n ∷ ns) o p r s =
     let same = one_module b bytes at r.0 s.0 m n r.1 s.1 in
     let rest = one_run b bytes false s.0 ms ns o p (subst (λ (a : ℕ). Run bytes false a ms o) same.1 r.2) s.2 in
-    record { modules = ap (λ (x : ModuleValue). x ∷ ms) same.0 ∙ ap (λ (xs : List ModuleValue). n ∷ xs) rest.modules; out = rest.out }
+    record {
+      modules = ap (λ (x : ModuleValue). x ∷ ms) same.0
+          ∙ ap (λ (xs : List ModuleValue). n ∷ xs) rest.modules;
+      out = rest.out;
+    }
 
 file_run : (bytes : List ℕ) (ms : List ModuleValue) → SpellsFile bytes ms → Run bytes true 0 ms (inr tt)
 file_run bytes ms s = from_start bytes s.end ms (inr tt) s.some s.spelled (ended refl s.ends)
@@ -83,8 +96,10 @@ record FaultRun (bytes : List ℕ) (f : ModuleFault) : Type 0 where
 
 fault_run : (bytes : List ℕ) (f : ModuleFault) → FaultsFile bytes f → FaultRun bytes f
 fault_run bytes f (first_module _ x) = record { modules = []; run = faulted f x (inl refl) }
-fault_run bytes f (later_module at ms _ some s within goes x) = record { modules = ms; run = from_start bytes at ms (inl f) some s (faulted f x (inr (within, goes))) }
-fault_run bytes f (no_end at ms some s past) = record { modules = ms; run = from_start bytes at ms (inl (fault_by at NoEnd)) some s (unended refl past) }
+fault_run bytes f (later_module at ms _ some s within goes x) =
+    record { modules = ms; run = from_start bytes at ms (inl f) some s (faulted f x (inr (within, goes))) }
+fault_run bytes f (no_end at ms some s past) =
+    record { modules = ms; run = from_start bytes at ms (inl (fault_by at NoEnd)) some s (unended refl past) }
 
 pub one_file : Below → OneFile
 one_file b bytes ms ns s t = (one_run b bytes true 0 ms ns (inr tt) (inr tt) (file_run bytes ms s) (file_run bytes ns t)).modules

@@ -37,14 +37,19 @@ pub record Stay : Type 0 where
 pub of_stay : RecordsStay → OtherFaultsStay → Stay
 of_stay r f = record { records = r; faults = f }
 
-body_stays : Stay → (bytes more : List ℕ) (from to : ℕ) (b : Body) → SpellsBody bytes from to b → SpellsBody (bytes ++ more) from to b
-body_stays s bytes more from to b x = record { framed = s.records bytes more from to _ _ x.framed; sound = x.sound; fits = x.fits }
+body_stays : Stay → (bytes more : List ℕ) (from to : ℕ) (b : Body) → SpellsBody bytes from to b
+    → SpellsBody (bytes ++ more) from to b
+body_stays s bytes more from to b x =
+    record { framed = s.records bytes more from to _ _ x.framed; sound = x.sound; fits = x.fits }
 
-bodies_stay : Stay → (bytes more : List ℕ) (from to : ℕ) (ps : List PlacedBody) → SpellsBodies bytes from to ps → SpellsBodies (bytes ++ more) from to ps
+bodies_stay : Stay → (bytes more : List ℕ) (from to : ℕ) (ps : List PlacedBody) → SpellsBodies bytes from to ps
+    → SpellsBodies (bytes ++ more) from to ps
 bodies_stay s bytes more from to [] x = x
-bodies_stay s bytes more from to (p ∷ ps) x = (x.0, (x.1.0, body_stays s bytes more from x.1.0 p.body x.1.1, bodies_stay s bytes more x.1.0 to ps x.1.2))
+bodies_stay s bytes more from to (p ∷ ps) x =
+    (x.0, (x.1.0, body_stays s bytes more from x.1.0 p.body x.1.1, bodies_stay s bytes more x.1.0 to ps x.1.2))
 
-pub module_records_stay : Stay → (bytes more : List ℕ) (after : ℕ) (r : ModuleRecords) → SpellsModuleRecords bytes after r → SpellsModuleRecords (bytes ++ more) after r
+pub module_records_stay : Stay → (bytes more : List ℕ) (after : ℕ) (r : ModuleRecords) → SpellsModuleRecords bytes after r
+    → SpellsModuleRecords (bytes ++ more) after r
 module_records_stay s bytes more after r x = record {
   first = x.first;
   header = body_stays s bytes more r.at x.first (ModuleHeader r.header) x.header;
@@ -53,7 +58,8 @@ module_records_stay s bytes more after r x = record {
   end = body_stays s bytes more r.end_at after (ModuleEnd r.end) x.end;
 }
 
-pub begun_stays : Stay → (bytes more : List ℕ) (begin here : ℕ) (commons : List Common) → BegunModule bytes begin here commons → BegunModule (bytes ++ more) begin here commons
+pub begun_stays : Stay → (bytes more : List ℕ) (begin here : ℕ) (commons : List Common) → BegunModule bytes begin here commons
+    → BegunModule (bytes ++ more) begin here commons
 begun_stays s bytes more begin here commons b = record {
   first = b.first;
   header = b.header;
@@ -65,16 +71,19 @@ begun_stays s bytes more begin here commons b = record {
 }
 
 truncated_here : (t z s : Bool) (at place : ℕ)
-    → (if t then Some (Truncated at) else (if z then Some (ZeroLength at) else (if s then None else Some (BadSum at)))) ≡ Some (Truncated place) → place ≡ at
+    → (if t then Some (Truncated at) else (if z then Some (ZeroLength at) else (if s then None else Some (BadSum at))))
+    ≡ Some (Truncated place) → place ≡ at
 truncated_here true z s at place e = cc
 truncated_here false true s at place e = cc
 truncated_here false false true at place e = cc
 truncated_here false false false at place e = cc
 
 -- a fault that isn't of a record cut off
-other_fault : (rest : List ℕ) (at : ℕ) (f : RecordFault) → fault_at rest at ≡ Some f → (fault_at rest at ≡ Some (Truncated at) → ⊥) → is_truncation f ≡ false
+other_fault : (rest : List ℕ) (at : ℕ) (f : RecordFault) → fault_at rest at ≡ Some f
+    → (fault_at rest at ≡ Some (Truncated at) → ⊥) → is_truncation f ≡ false
 other_fault rest at (Truncated p) x other =
-    absurd (other (x ∙ ap (λ (n : ℕ). Some (Truncated n)) (truncated_here (is_truncated rest) (has_zero_length rest) (has_zero_sum rest) at p x)))
+    absurd (other (x ∙ ap (λ (n : ℕ). Some (Truncated n))
+    (truncated_here (is_truncated rest) (has_zero_length rest) (has_zero_sum rest) at p x)))
 other_fault rest at (BadSum p) x other = refl
 other_fault rest at (ZeroLength p) x other = refl
 
@@ -82,30 +91,41 @@ other_fault rest at (ZeroLength p) x other = refl
 pub past_is_cut_off : (bytes : List ℕ) (at : ℕ) → length bytes ≤ at → IsCutOff bytes at
 past_is_cut_off bytes at past = ap (λ (r : List ℕ). fault_at r at) (drop_all at bytes past)
 
-pub record_fault_stays : Stay → (bytes more : List ℕ) (at : ℕ) (f : RecordFault) → at < length bytes → (IsCutOff bytes at → ⊥) → fault_at (drop at bytes) at ≡ Some f → fault_at (drop at (bytes ++ more)) at ≡ Some f
+pub record_fault_stays : Stay → (bytes more : List ℕ) (at : ℕ) (f : RecordFault) → at < length bytes → (IsCutOff bytes at → ⊥)
+    → fault_at (drop at bytes) at ≡ Some f → fault_at (drop at (bytes ++ more)) at ≡ Some f
 record_fault_stays s bytes more at f within whole x =
-    ap (λ (r : List ℕ). fault_at r at) (drop-append-le at bytes more (omega arith)) ∙ s.faults (drop at bytes) more at f (other_fault (drop at bytes) at f x whole) x
+    ap (λ (r : List ℕ). fault_at r at) (drop-append-le at bytes more (omega arith))
+    ∙ s.faults (drop at bytes) more at f (other_fault (drop at bytes) at f x whole) x
 
 more_bytes : (bytes more : List ℕ) (at : ℕ) → at < length bytes → at < length (bytes ++ more)
 more_bytes bytes more at within = omega (arith, length-append bytes more)
 
-header_stays : Stay → (bytes more : List ℕ) (at : ℕ) (why : Cause) → (IsCutOff bytes at → ⊥) → FaultsHeader bytes at why → FaultsHeader (bytes ++ more) at why
+header_stays : Stay → (bytes more : List ℕ) (at : ℕ) (why : Cause) → (IsCutOff bytes at → ⊥) → FaultsHeader bytes at why
+    → FaultsHeader (bytes ++ more) at why
 header_stays s bytes more at why whole (no_header_byte p) = absurd (whole (past_is_cut_off bytes at p))
-header_stays s bytes more at why whole (no_header_record f w x) = no_header_record f (more_bytes bytes more at w) (record_fault_stays s bytes more at f w whole x)
+header_stays s bytes more at why whole (no_header_record f w x) =
+    no_header_record f (more_bytes bytes more at w) (record_fault_stays s bytes more at f w whole x)
 header_stays s bytes more at why whole (other_kind n k body r o) = other_kind n k body (s.records bytes more at n k body r) o
-header_stays s bytes more at why whole (in_header_body n body f r e) = in_header_body n body f (s.records bytes more at n 2 body r) e
+header_stays s bytes more at why whole (in_header_body n body f r e) =
+    in_header_body n body f (s.records bytes more at n 2 body r) e
 
-within_stays : Stay → (bytes more : List ℕ) (at : ℕ) (commons : List Common) (why : Cause) → (IsCutOff bytes at → ⊥) → FaultsWithin bytes at commons why → FaultsWithin (bytes ++ more) at commons why
+within_stays : Stay → (bytes more : List ℕ) (at : ℕ) (commons : List Common) (why : Cause) → (IsCutOff bytes at → ⊥)
+    → FaultsWithin bytes at commons why → FaultsWithin (bytes ++ more) at commons why
 within_stays s bytes more at commons why whole (no_byte p) = absurd (whole (past_is_cut_off bytes at p))
-within_stays s bytes more at commons why whole (no_record f w x) = no_record f (more_bytes bytes more at w) (record_fault_stays s bytes more at f w whole x)
+within_stays s bytes more at commons why whole (no_record f w x) =
+    no_record f (more_bytes bytes more at w) (record_fault_stays s bytes more at f w whole x)
 within_stays s bytes more at commons why whole (file_ends n body r) = file_ends n body (s.records bytes more at n 14 body r)
-within_stays s bytes more at commons why whole (second_header n body r) = second_header n body (s.records bytes more at n 2 body r)
-within_stays s bytes more at commons why whole (in_body n k body f r alone e) = in_body n k body f (s.records bytes more at n k body r) alone e
-within_stays s bytes more at commons why whole (in_commons n body f r e) = in_commons n body f (s.records bytes more at n 0x2E body r) e
+within_stays s bytes more at commons why whole (second_header n body r) =
+    second_header n body (s.records bytes more at n 2 body r)
+within_stays s bytes more at commons why whole (in_body n k body f r alone e) =
+    in_body n k body f (s.records bytes more at n k body r) alone e
+within_stays s bytes more at commons why whole (in_commons n body f r e) =
+    in_commons n body f (s.records bytes more at n 0x2E body r) e
 
 -- ---- faults that last
 
-pub header_lasts : Stay → (bytes : List ℕ) (at : ℕ) (why : Cause) → (IsCutOff bytes at → ⊥) → (why ≢ Memory) → FaultsHeader bytes at why → OrNoMemory (LastingModuleFault bytes at) (fault_of at why)
+pub header_lasts : Stay → (bytes : List ℕ) (at : ℕ) (why : Cause) → (IsCutOff bytes at → ⊥) → (why ≢ Memory)
+    → FaultsHeader bytes at why → OrNoMemory (LastingModuleFault bytes at) (fault_of at why)
 header_lasts s bytes at why whole real x =
     by_cause (LastingModuleFault bytes at) at why (λ _ more small. in_header why (header_stays s bytes more at why whole x))
 
@@ -122,12 +142,14 @@ records_last s bytes begin here commons why b whole x =
       why = why;
       spelled = more_of.spelled;
       follow = more_of.follow;
-      faults = subst (λ (c : List Common). FaultsWithin (bytes ++ more) here c why) more_of.declared (within_stays s bytes more here commons why whole (x real));
+      faults = subst (λ (c : List Common). FaultsWithin (bytes ++ more) here c why) more_of.declared
+          (within_stays s bytes more here commons why whole (x real));
       is = refl;
     }))
 
 -- the end of a module that is begun
-pub ends_module : (bytes : List ℕ) (begin here after : ℕ) (commons : List Common) (end : EndBody) → BegunModule bytes begin here commons → SpellsBody bytes here after (ModuleEnd end) → WholeModule bytes begin
+pub ends_module : (bytes : List ℕ) (begin here after : ℕ) (commons : List Common) (end : EndBody)
+    → BegunModule bytes begin here commons → SpellsBody bytes here after (ModuleEnd end) → WholeModule bytes begin
 ends_module bytes begin here after commons end b x = record {
   after = after;
   records = record { at = begin; header = b.header; within = b.bodies; end_at = here; end = end };
@@ -137,16 +159,29 @@ ends_module bytes begin here after commons end b x = record {
 
 -- one record more
 pub goes_further : (bytes : List ℕ) (begin here next : ℕ) (before after : List Common) (body : Body)
-    → BegunModule bytes begin here before → Follows bytes here next before after body → is_end body ≢ true → BegunModule bytes begin next after
+    → BegunModule bytes begin here before → Follows bytes here next before after body → is_end body ≢ true
+    → BegunModule bytes begin next after
 goes_further bytes begin here next before after body b f other =
-    let so_far : WithinSoFar bytes b.first here b.bodies before = record { spelled = b.spelled; follow = b.follow; declared = b.declared } in
+    let so_far : WithinSoFar bytes b.first here b.bodies before =
+    record { spelled = b.spelled; follow = b.follow; declared = b.declared } in
     let w = one_within bytes b.first here next b.bodies before after body so_far f other in
-    record { first = b.first; header = b.header; bodies = b.bodies ++ record { at = here; body = body } ∷ []; begins = b.begins; spelled = w.spelled; follow = w.follow; declared = w.declared }
+    record {
+      first = b.first;
+      header = b.header;
+      bodies = b.bodies ++ record { at = here; body = body } ∷ [];
+      begins = b.begins;
+      spelled = w.spelled;
+      follow = w.follow;
+      declared = w.declared;
+    }
 
-pub begun_at : (bytes : List ℕ) (begin first : ℕ) (header : HeaderBody) → SpellsBody bytes begin first (ModuleHeader header) → BegunModule bytes begin first []
-begun_at bytes begin first header x = record { first = first; header = header; bodies = []; begins = x; spelled = refl; follow = refl; declared = refl }
+pub begun_at : (bytes : List ℕ) (begin first : ℕ) (header : HeaderBody) → SpellsBody bytes begin first (ModuleHeader header)
+    → BegunModule bytes begin first []
+begun_at bytes begin first header x =
+    record { first = first; header = header; bodies = []; begins = x; spelled = refl; follow = refl; declared = refl }
 
-uses_last : Stay → OneFault → NeverBoth → (bytes : List ℕ) (begin : ℕ) (f : ModuleFault) (w : WholeModule bytes begin) (o : Option ModuleFault)
+uses_last : Stay → OneFault → NeverBoth
+    → (bytes : List ℕ) (begin : ℕ) (f : ModuleFault) (w : WholeModule bytes begin) (o : Option ModuleFault)
     → use_fault w.records ≡ o → FaultsModule bytes begin f → LastingModuleFault bytes begin f
 uses_last s one never bytes begin f w None used x = absurd (never bytes begin w.after (made_of (parts_of w.records)) f
     (record { records = w.records; begins = w.begins; spelled = w.spelled; used = used; says = refl }) x)
@@ -156,7 +191,8 @@ uses_last s one never bytes begin f w (Some g) used x = λ more small.
     (in_uses w.after w.records g w.begins (module_records_stay s bytes more w.after w.records w.spelled) used)
 
 -- the fault of a module whose records all stand there
-pub whole_module_lasts : Stay → OneFault → NeverBoth → (bytes : List ℕ) (begin : ℕ) (f : ModuleFault) → WholeModule bytes begin → OrNoMemory (FaultsModule bytes begin) f → OrNoMemory (LastingModuleFault bytes begin) f
+pub whole_module_lasts : Stay → OneFault → NeverBoth → (bytes : List ℕ) (begin : ℕ) (f : ModuleFault) → WholeModule bytes begin
+    → OrNoMemory (FaultsModule bytes begin) f → OrNoMemory (LastingModuleFault bytes begin) f
 whole_module_lasts s one never bytes begin f w (inl none) = inl none
 whole_module_lasts s one never bytes begin f w (inr x) = inr (uses_last s one never bytes begin f w (use_fault w.records) refl x)
 
@@ -165,30 +201,37 @@ bodies_forward bytes from to [] s = omega (arith, s)
 bodies_forward bytes from to (p ∷ ps) s = omega (arith, s.1.1.framed.all_counted, bodies_forward bytes s.1.0 to ps s.1.2)
 
 -- a module that is begun is read further than to its begin
-pub begun_further : (bytes : List ℕ) (begin here : ℕ) (commons : List Common) → BegunModule bytes begin here commons → begin < here
-begun_further bytes begin here commons b = omega (arith, b.begins.framed.all_counted, bodies_forward bytes b.first here b.bodies b.spelled)
+pub begun_further : (bytes : List ℕ) (begin here : ℕ) (commons : List Common) → BegunModule bytes begin here commons
+    → begin < here
+begun_further bytes begin here commons b =
+    omega (arith, b.begins.framed.all_counted, bodies_forward bytes b.first here b.bodies b.spelled)
 
-pub is_begun : (bytes : List ℕ) (begin here : ℕ) (commons : List Common) → ReadsModule bytes begin here commons → (here ≡ begin → ⊥) → BegunModule bytes begin here commons
+pub is_begun : (bytes : List ℕ) (begin here : ℕ) (commons : List Common) → ReadsModule bytes begin here commons
+    → (here ≡ begin → ⊥) → BegunModule bytes begin here commons
 is_begun bytes begin here commons (inl n) other = absurd (other n.0)
 is_begun bytes begin here commons (inr b) other = b
 
-pub none_declared : (bytes : List ℕ) (begin here : ℕ) (commons : List Common) → ReadsModule bytes begin here commons → here ≡ begin → commons ≡ []
+pub none_declared : (bytes : List ℕ) (begin here : ℕ) (commons : List Common) → ReadsModule bytes begin here commons
+    → here ≡ begin → commons ≡ []
 none_declared bytes begin here commons (inl n) same = n.1
 none_declared bytes begin here commons (inr b) same = absurd (omega (arith, same, begun_further bytes begin here commons b))
 
 -- ---- where a module waits for bytes, no fault lasts
 
 abbrev Spoilt : List ℕ → ℕ → Type 0
-Spoilt bytes at = (more : List ℕ) × All (λ byte. byte < 256) more × (at < length (bytes ++ more)) × (fault_at (drop at (bytes ++ more)) at ≡ Some (BadSum at))
+Spoilt bytes at = (more : List ℕ) × All (λ byte. byte < 256) more × (at < length (bytes ++ more))
+    × (fault_at (drop at (bytes ++ more)) at ≡ Some (BadSum at))
 
-inside_where_spoilt : (bytes : List ℕ) (at : ℕ) → fault_at (drop at bytes) at ≡ Some (BadSum at) → (at < length bytes) ⊎ (length bytes ≤ at) → at < length bytes
+inside_where_spoilt : (bytes : List ℕ) (at : ℕ) → fault_at (drop at bytes) at ≡ Some (BadSum at)
+    → (at < length bytes) ⊎ (length bytes ≤ at) → at < length bytes
 inside_where_spoilt bytes at x (inl within) = within
 inside_where_spoilt bytes at x (inr past) = let cut = past_is_cut_off bytes at past in absurd cc
 
 spoil : TruncatedCanBeSpoilt → (bytes : List ℕ) (at : ℕ) → at ≤ length bytes → IsCutOff bytes at → Spoilt bytes at
 spoil law bytes at inside cut =
     let more = law (drop at bytes) at cut in
-    let there : fault_at (drop at (bytes ++ more.0)) at ≡ Some (BadSum at) = ap (λ (r : List ℕ). fault_at r at) (drop-append-le at bytes more.0 inside) ∙ more.2 in
+    let there : fault_at (drop at (bytes ++ more.0)) at ≡ Some (BadSum at) =
+    ap (λ (r : List ℕ). fault_at r at) (drop-append-le at bytes more.0 inside) ∙ more.2 in
     (more.0, more.1, inside_where_spoilt (bytes ++ more.0) at there (cases_lt at (length (bytes ++ more.0))), there)
 
 header_waits : (bytes : List ℕ) (begin : ℕ) → IsCutOff bytes begin → (begin < length bytes) ⊎ (length bytes ≤ begin)
@@ -196,13 +239,15 @@ header_waits : (bytes : List ℕ) (begin : ℕ) → IsCutOff bytes begin → (be
 header_waits bytes begin cut (inl within) = (Record (Truncated begin), no_header_record (Truncated begin) within cut, λ e. cc)
 header_waits bytes begin cut (inr past) = (NoHeader, no_header_byte past, λ e. cc)
 
-within_waits : (bytes : List ℕ) (here : ℕ) (commons : List Common) → IsCutOff bytes here → (here < length bytes) ⊎ (length bytes ≤ here)
+within_waits : (bytes : List ℕ) (here : ℕ) (commons : List Common) → IsCutOff bytes here
+    → (here < length bytes) ⊎ (length bytes ≤ here)
     → (why : Cause) × FaultsWithin bytes here commons why × (why ≡ Record (BadSum here) → ⊥)
 within_waits bytes here commons cut (inl within) = (Record (Truncated here), no_record (Truncated here) within cut, λ e. cc)
 within_waits bytes here commons cut (inr past) = (NoEnd, no_byte past, λ e. cc)
 
 -- the fault of a record after the beginning of a module
-begun_faults : (bytes : List ℕ) (begin here : ℕ) (commons : List Common) (why : Cause) → BegunModule bytes begin here commons → FaultsWithin bytes here commons why → FaultsModule bytes begin (fault_by here why)
+begun_faults : (bytes : List ℕ) (begin here : ℕ) (commons : List Common) (why : Cause) → BegunModule bytes begin here commons
+    → FaultsWithin bytes here commons why → FaultsModule bytes begin (fault_by here why)
 begun_faults bytes begin here commons why b x =
     in_records b.first b.header (fault_by here why) b.begins
     (record {
@@ -215,12 +260,14 @@ begun_faults bytes begin here commons why b x =
       is = refl;
     })
 
-bodies_inside : (bytes : List ℕ) (from to : ℕ) (ps : List PlacedBody) → from ≤ length bytes → SpellsBodies bytes from to ps → to ≤ length bytes
+bodies_inside : (bytes : List ℕ) (from to : ℕ) (ps : List PlacedBody) → from ≤ length bytes → SpellsBodies bytes from to ps
+    → to ≤ length bytes
 bodies_inside bytes from to [] inside s = omega (arith, s)
 bodies_inside bytes from to (p ∷ ps) inside s = bodies_inside bytes s.1.0 to ps (omega (arith, s.1.1.framed.within)) s.1.2
 
 without_more : (bytes : List ℕ) (begin : ℕ) (f : ModuleFault) → LastingModuleFault bytes begin f → FaultsModule bytes begin f
-without_more bytes begin f lasts = subst (λ (b : List ℕ). FaultsModule b begin f) (append-nil bytes) (lasts [] (All-nil (λ byte. byte < 256)))
+without_more bytes begin f lasts =
+    subst (λ (b : List ℕ). FaultsModule b begin f) (append-nil bytes) (lasts [] (All-nil (λ byte. byte < 256)))
 
 -- A module that waits for bytes has one fault as it stands, and another where some bytes follow.
 pub record Undone (bytes : List ℕ) (begin : ℕ) : Type 0 where
@@ -232,7 +279,8 @@ pub record Undone (bytes : List ℕ) (begin : ℕ) : Type 0 where
   pub later : FaultsModule (bytes ++ more) begin (fault_by at (Record (BadSum at)))
   pub other : why ≡ Record (BadSum at) → ⊥
 
-pub undone : Stay → TruncatedCanBeSpoilt → (bytes : List ℕ) (begin : ℕ) → begin ≤ length bytes → WaitsModule bytes begin → Undone bytes begin
+pub undone : Stay → TruncatedCanBeSpoilt → (bytes : List ℕ) (begin : ℕ) → begin ≤ length bytes → WaitsModule bytes begin
+    → Undone bytes begin
 undone s law bytes begin inside (inl cut) =
     let x = header_waits bytes begin cut (cases_lt begin (length bytes)) in
     let y = spoil law bytes begin inside cut in
@@ -247,7 +295,8 @@ undone s law bytes begin inside (inl cut) =
     }
 undone s law bytes begin inside (inr w) =
     let x = within_waits bytes w.here w.commons w.cut_off (cases_lt w.here (length bytes)) in
-    let y = spoil law bytes w.here (bodies_inside bytes w.begun.first w.here w.begun.bodies w.begun.begins.framed.within w.begun.spelled) w.cut_off in
+    let y = spoil law bytes w.here
+    (bodies_inside bytes w.begun.first w.here w.begun.bodies w.begun.begins.framed.within w.begun.spelled) w.cut_off in
     let more_of = begun_stays s bytes y.0 begin w.here w.commons w.begun in
     record {
       more = y.0;
@@ -255,11 +304,13 @@ undone s law bytes begin inside (inr w) =
       at = w.here;
       why = x.0;
       now = begun_faults bytes begin w.here w.commons x.0 w.begun x.1;
-      later = begun_faults (bytes ++ y.0) begin w.here w.commons (Record (BadSum w.here)) more_of (no_record (BadSum w.here) y.2 y.3);
+      later = begun_faults (bytes ++ y.0) begin w.here w.commons (Record (BadSum w.here)) more_of
+          (no_record (BadSum w.here) y.2 y.3);
       other = x.2;
     }
 
-pub waits_none : Stay → TruncatedCanBeSpoilt → OneFault → (bytes : List ℕ) (begin : ℕ) (f : ModuleFault) → begin ≤ length bytes → WaitsModule bytes begin → LastingModuleFault bytes begin f → ⊥
+pub waits_none : Stay → TruncatedCanBeSpoilt → OneFault → (bytes : List ℕ) (begin : ℕ) (f : ModuleFault) → begin ≤ length bytes
+    → WaitsModule bytes begin → LastingModuleFault bytes begin f → ⊥
 waits_none s law one bytes begin f inside waits lasts =
     let u = undone s law bytes begin inside waits in
     let now = one bytes begin f (fault_by u.at u.why) (without_more bytes begin f lasts) u.now in

@@ -22,14 +22,17 @@ use Rattle.omf_module.proofs.WithinLemmas.{by_cause}
 
 -- ---- ids
 
-by_test : (test : Bool) (f : Cause) (rest other : Option Cause) → Some f ≡ (if test then None else other) → (if test then rest else other) ≡ Some f
+by_test : (test : Bool) (f : Cause) (rest other : Option Cause) → Some f ≡ (if test then None else other)
+    → (if test then rest else other) ≡ Some f
 by_test true f rest other e = absurd cc
 by_test false f rest other e = sym e
 
-pub unknown_first : (m : ModuleValue) (id : ℕ) (ids : List ℕ) (f : Cause) → Some f ≡ unknown_id m (id ∷ []) → unknown_id m (id ∷ ids) ≡ Some f
+pub unknown_first : (m : ModuleValue) (id : ℕ) (ids : List ℕ) (f : Cause) → Some f ≡ unknown_id m (id ∷ [])
+    → unknown_id m (id ∷ ids) ≡ Some f
 unknown_first m id ids f e = by_test (has_segment m.commons id) f (unknown_id m ids) (Some (SegmentUnknown id)) e
 
-pub known_first : (m : ModuleValue) (id : ℕ) (ids : List ℕ) → None ≡ unknown_id m (id ∷ []) → unknown_id m (id ∷ ids) ≡ unknown_id m ids
+pub known_first : (m : ModuleValue) (id : ℕ) (ids : List ℕ) → None ≡ unknown_id m (id ∷ [])
+    → unknown_id m (id ∷ ids) ≡ unknown_id m ids
 known_first m id ids e = rw (one_known m id (sym e))
 
 -- ---- bodies
@@ -37,24 +40,31 @@ known_first m id ids e = rw (one_known m id (sym e))
 -- the first fault is that of the first record that has one
 pub fault_first : (m : ModuleValue) (nearest : Option ContentValue) (p : PlacedBody) (ps : List PlacedBody) (why : Cause)
     → body_fault m nearest p.body ≡ Some why → bodies_fault m nearest (p ∷ ps) ≡ Some (fault_by p.at why)
-fault_first m nearest p ps why e = ap (λ (f : Option Cause). option_or (option_map (fault_by p.at) f) (bodies_fault m (content_after nearest p.body) ps)) e
+fault_first m nearest p ps why e =
+    ap (λ (f : Option Cause). option_or (option_map (fault_by p.at) f) (bodies_fault m (content_after nearest p.body) ps)) e
 
 pub fault_later : (m : ModuleValue) (nearest : Option ContentValue) (p : PlacedBody) (ps : List PlacedBody)
     → body_fault m nearest p.body ≡ None → bodies_fault m nearest (p ∷ ps) ≡ bodies_fault m (content_after nearest p.body) ps
-fault_later m nearest p ps e = ap (λ (f : Option Cause). option_or (option_map (fault_by p.at) f) (bodies_fault m (content_after nearest p.body) ps)) e
+fault_later m nearest p ps e =
+    ap (λ (f : Option Cause). option_or (option_map (fault_by p.at) f) (bodies_fault m (content_after nearest p.body) ps)) e
 
 -- what was looked at so far, and what is left
-pub record ContentsSoFar (parts : ModuleValue) (all : List PlacedBody) (rest : List PlacedBody) (nearest : Option ContentValue) (whole : List ContentValue) : Type 0 where
-  pub sound : (cs : List ContentValue) → bodies_fault (with_contents parts cs) nearest rest ≡ bodies_fault (with_contents parts cs) None all
+pub record ContentsSoFar (parts : ModuleValue) (all : List PlacedBody) (rest : List PlacedBody) (nearest : Option ContentValue)
+    (whole : List ContentValue) : Type 0 where
+  pub sound : (cs : List ContentValue)
+      → bodies_fault (with_contents parts cs) nearest rest ≡ bodies_fault (with_contents parts cs) None all
   pub contents : whole ++ contents_from nearest rest ≡ contents_from None all
 
 pub none_looked_at : (parts : ModuleValue) (all : List PlacedBody) → ContentsSoFar parts all all None []
 none_looked_at parts all = record { sound = λ cs. refl; contents = refl }
 
-pub one_looked_at : (parts : ModuleValue) (all : List PlacedBody) (p : PlacedBody) (ps : List PlacedBody) (nearest after : Option ContentValue) (old new : List ContentValue)
-    → ContentsSoFar parts all (p ∷ ps) nearest old → TakesBody parts nearest p.body old new after → ContentsSoFar parts all ps after new
+pub one_looked_at : (parts : ModuleValue) (all : List PlacedBody) (p : PlacedBody) (ps : List PlacedBody)
+    (nearest after : Option ContentValue) (old new : List ContentValue)
+    → ContentsSoFar parts all (p ∷ ps) nearest old → TakesBody parts nearest p.body old new after
+    → ContentsSoFar parts all ps after new
 one_looked_at parts all p ps nearest after old new s t = record {
-  sound = λ cs. ap (λ (n : Option ContentValue). bodies_fault (with_contents parts cs) n ps) t.nearest ∙ (sym (fault_later (with_contents parts cs) nearest p ps (t.sound cs)) ∙ s.sound cs);
+  sound = λ cs. ap (λ (n : Option ContentValue). bodies_fault (with_contents parts cs) n ps) t.nearest
+      ∙ (sym (fault_later (with_contents parts cs) nearest p ps (t.sound cs)) ∙ s.sound cs);
   contents =
       let begun = if begins_content p.body then option_to_list nearest else [] in
       ap (λ (n : Option ContentValue). new ++ contents_from n ps) t.nearest
@@ -62,38 +72,50 @@ one_looked_at parts all p ps nearest after old new s t = record {
       ∙ (append_assoc old begun (contents_from (content_after nearest p.body) ps) ∙ s.contents));
 }
 
-pub all_looked_at : (parts : ModuleValue) (all : List PlacedBody) (i : ℕ) (nearest : Option ContentValue) (whole : List ContentValue)
+pub all_looked_at : (parts : ModuleValue) (all : List PlacedBody) (i : ℕ) (nearest : Option ContentValue)
+    (whole : List ContentValue)
     → ContentsSoFar parts all (drop i all) nearest whole → length all ≤ i → ContentsSoFar parts all [] nearest whole
-all_looked_at parts all i nearest whole s past = subst (λ (rest : List PlacedBody). ContentsSoFar parts all rest nearest whole) (drop_all i all past) s
+all_looked_at parts all i nearest whole s past =
+    subst (λ (rest : List PlacedBody). ContentsSoFar parts all rest nearest whole) (drop_all i all past) s
 
-pub fault_here : (parts : ModuleValue) (all : List PlacedBody) (p : PlacedBody) (ps : List PlacedBody) (nearest : Option ContentValue) (old : List ContentValue) (why : Cause)
+pub fault_here : (parts : ModuleValue) (all : List PlacedBody) (p : PlacedBody) (ps : List PlacedBody)
+    (nearest : Option ContentValue) (old : List ContentValue) (why : Cause)
     → ContentsSoFar parts all (p ∷ ps) nearest old
     → (why ≢ Memory → (cs : List ContentValue) → body_fault (with_contents parts cs) nearest p.body ≡ Some why)
-    → OrNoMemory (λ fault. (cs : List ContentValue) → bodies_fault (with_contents parts cs) None all ≡ Some fault) (fault_of p.at why)
+    → OrNoMemory (λ fault. (cs : List ContentValue)
+    → bodies_fault (with_contents parts cs) None all ≡ Some fault) (fault_of p.at why)
 fault_here parts all p ps nearest old why s f =
     by_cause (λ fault. (cs : List ContentValue) → bodies_fault (with_contents parts cs) None all ≡ Some fault) p.at why
     (λ real cs. sym (s.sound cs) ∙ fault_first (with_contents parts cs) nearest p ps why (f real cs))
 
-pub front : (all : List PlacedBody) (i : ℕ) (p : PlacedBody) → i < length all → p ≡ get_or all i p → drop i all ≡ p ∷ drop (i + 1) all
+pub front : (all : List PlacedBody) (i : ℕ) (p : PlacedBody) → i < length all → p ≡ get_or all i p
+    → drop i all ≡ p ∷ drop (i + 1) all
 front all i p within is = drop_more all i p within ∙ ap (λ (q : PlacedBody). q ∷ drop (i + 1) all) (sym is)
 
-pub front_entry : (all : List (ℕ × Segment)) (i : ℕ) (e : ℕ × Segment) → i < length all → e ≡ get_or all i e → map (λ s. s.0) (drop i all) ≡ e.0 ∷ map (λ s. s.0) (drop (i + 1) all)
-front_entry all i e within is = ap (λ (l : List (ℕ × Segment)). map (λ s. s.0) l) (drop_more all i e within ∙ ap (λ (q : ℕ × Segment). q ∷ drop (i + 1) all) (sym is))
+pub front_entry : (all : List (ℕ × Segment)) (i : ℕ) (e : ℕ × Segment) → i < length all → e ≡ get_or all i e
+    → map (λ s. s.0) (drop i all) ≡ e.0 ∷ map (λ s. s.0) (drop (i + 1) all)
+front_entry all i e within is =
+    ap (λ (l : List (ℕ × Segment)). map (λ s. s.0) l) (drop_more all i e within
+    ∙ ap (λ (q : ℕ × Segment). q ∷ drop (i + 1) all) (sym is))
 
 -- a record's own ids and place come before its references
-pub own_first : (ids place reference : Option Cause) (why : Cause) → Some why ≡ option_or ids place → option_or ids (option_or place reference) ≡ Some why
+pub own_first : (ids place reference : Option Cause) (why : Cause) → Some why ≡ option_or ids place
+    → option_or ids (option_or place reference) ≡ Some why
 own_first None None reference why e = absurd cc
 own_first None (Some f) reference why e = sym e
 own_first (Some f) place reference why e = sym e
 
-pub past_own : (ids place reference : Option Cause) → None ≡ option_or ids place → option_or ids (option_or place reference) ≡ reference
+pub past_own : (ids place reference : Option Cause) → None ≡ option_or ids place
+    → option_or ids (option_or place reference) ≡ reference
 past_own None None reference e = refl
 past_own None (Some f) reference e = absurd cc
 past_own (Some f) place reference e = absurd cc
 
 -- a record that isn't content: its references are looked at after its own ids and place
-pub references_refused : (parts : ModuleValue) (nearest : Option ContentValue) (body : Body) (r : Result (Option ContentValue) Cause)
-    → ((cs : List ContentValue) → None ≡ option_or (unknown_id (with_contents parts cs) (ids_in body)) (place_fault (with_contents parts cs) body))
+pub references_refused : (parts : ModuleValue) (nearest : Option ContentValue) (body : Body)
+    (r : Result (Option ContentValue) Cause)
+    → ((cs : List ContentValue)
+    → None ≡ option_or (unknown_id (with_contents parts cs) (ids_in body)) (place_fault (with_contents parts cs) body))
     → IfErr r (λ why. why ≢ Memory → (cs : List ContentValue) → reference_fault (with_contents parts cs) nearest body ≡ Some why)
     → IfErr r (λ why. why ≢ Memory → (cs : List ContentValue) → body_fault (with_contents parts cs) nearest body ≡ Some why)
 references_refused parts nearest body (Ok after) own f = tt
@@ -110,9 +132,11 @@ after_none : (nearest : Option ContentValue) (body : Body) → ((b : ContentBody
 after_none nearest (Content b) other = absurd (other b refl)
 after_none nearest _ other = refl
 
-pub references_taken : (parts : ModuleValue) (nearest : Option ContentValue) (body : Body) (whole : List ContentValue) (r : Result (Option ContentValue) Cause)
+pub references_taken : (parts : ModuleValue) (nearest : Option ContentValue) (body : Body) (whole : List ContentValue)
+    (r : Result (Option ContentValue) Cause)
     → ((b : ContentBody) → body ≡ Content b → ⊥)
-    → ((cs : List ContentValue) → None ≡ option_or (unknown_id (with_contents parts cs) (ids_in body)) (place_fault (with_contents parts cs) body))
+    → ((cs : List ContentValue)
+    → None ≡ option_or (unknown_id (with_contents parts cs) (ids_in body)) (place_fault (with_contents parts cs) body))
     → OnOk r ((cs : List ContentValue) → reference_fault (with_contents parts cs) nearest body ≡ None)
     → IfOk r (λ after. after ≡ option_map (λ c. with_fixups c (fixups_in c.segment body)) nearest)
     → IfOk r (λ after. TakesBody parts nearest body whole whole after)
@@ -121,5 +145,6 @@ references_taken parts nearest body whole (Ok after) other own sound is = record
   sound = λ cs. let m = with_contents parts cs in
       past_own (unknown_id m (ids_in body)) (place_fault m body) (reference_fault m nearest body) (own cs) ∙ sound cs;
   nearest = is ∙ sym (after_none nearest body other);
-  whole = sym (append-nil whole) ∙ ap (λ (begins : Bool). whole ++ (if begins then option_to_list nearest else [])) (sym (begins_none body other));
+  whole = sym (append-nil whole)
+      ∙ ap (λ (begins : Bool). whole ++ (if begins then option_to_list nearest else [])) (sym (begins_none body other));
 }

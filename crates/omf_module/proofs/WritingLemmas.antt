@@ -18,18 +18,23 @@ use Rattle.omf_module.specs.Writing.{segment_entry, header_body, common_body, pu
 use Rattle.omf_module.proofs.WrittenSound.{header_short}
 
 -- a header always fits its record
-pub header_fits : (name own : List ℕ) (entries : List SegmentEntry) (listed segments : List (ℕ × Segment)) → name ≡ own → is_name own ≡ true → entries ≡ map segment_entry listed → listed ≡ segments → length segments ≤ 255
+pub header_fits : (name own : List ℕ) (entries : List SegmentEntry) (listed segments : List (ℕ × Segment)) → name ≡ own
+    → is_name own ≡ true → entries ≡ map segment_entry listed → listed ≡ segments → length segments ≤ 255
     → 65534 < length (name_spelling name ++ 0 ∷ 0 ∷ flat_map segment_bytes entries) → ⊥
 header_fits name own entries listed segments en is ee el few long =
     let es : entries ≡ map segment_entry segments = ee ∙ ap (λ (l : List (ℕ × Segment)). map segment_entry l) el in
     let short : length (name_spelling name ++ 0 ∷ 0 ∷ flat_map segment_bytes entries) ≤ 65534 =
     subst (λ (n : List ℕ). length (name_spelling n ++ 0 ∷ 0 ∷ flat_map segment_bytes entries) ≤ 65534) (sym en)
-    (subst (λ (xs : List SegmentEntry). length (name_spelling own ++ 0 ∷ 0 ∷ flat_map segment_bytes xs) ≤ 65534) (sym es) (header_short own segments is few)) in
+    (subst (λ (xs : List SegmentEntry). length (name_spelling own ++ 0 ∷ 0 ∷ flat_map segment_bytes xs) ≤ 65534) (sym es)
+    (header_short own segments is few)) in
     omega arith
 
-more : (after before out : List ℕ) (bs cs : List Body) → after ≡ before ++ flat_map record_bytes cs → before ≡ out ++ flat_map record_bytes bs → after ≡ out ++ flat_map record_bytes (bs ++ cs)
+more : (after before out : List ℕ) (bs cs : List Body) → after ≡ before ++ flat_map record_bytes cs
+    → before ≡ out ++ flat_map record_bytes bs → after ≡ out ++ flat_map record_bytes (bs ++ cs)
 more after before out bs cs e f =
-    e ∙ (ap (λ (x : List ℕ). x ++ flat_map record_bytes cs) f ∙ (append_assoc out (flat_map record_bytes bs) (flat_map record_bytes cs) ∙ ap (λ (x : List ℕ). out ++ x) (sym (flat_map-append record_bytes bs cs))))
+    e ∙ (ap (λ (x : List ℕ). x ++ flat_map record_bytes cs) f
+    ∙ (append_assoc out (flat_map record_bytes bs) (flat_map record_bytes cs)
+    ∙ ap (λ (x : List ℕ). out ++ x) (sym (flat_map-append record_bytes bs cs))))
 
 one : (after before : List ℕ) (b : Body) → after ≡ before ++ record_bytes b → after ≡ before ++ flat_map record_bytes (b ∷ [])
 one after before b e = e ∙ ap (λ (x : List ℕ). before ++ x) (sym (append-nil (record_bytes b)))
@@ -50,7 +55,9 @@ module_written m out o1 o2 o3 o4 o5 o6 e1 e2 e3 e4 e5 e6 =
     let x = map external_body m.externals in
     let t = flat_map content_bodies m.contents in
     more o6 o5 out (h ++ (c ++ p ++ x ++ t)) (ModuleEnd (end_body m.start) ∷ []) (one o6 o5 (ModuleEnd (end_body m.start)) e6)
-    (more o5 o4 out (h ++ c ++ p ++ x) t e5 (more o4 o3 out (h ++ c ++ p) x e4 (more o3 o2 out (h ++ c) p e3 (more o2 o1 out h c e2 (one o1 out (ModuleHeader (header_body m)) e1)))))
+    (more o5 o4 out (h ++ c ++ p ++ x) t e5
+    (more o4 o3 out (h ++ c ++ p) x e4
+    (more o3 o2 out (h ++ c) p e3 (more o2 o1 out h c e2 (one o1 out (ModuleHeader (header_body m)) e1)))))
 
 -- what was appended where the result says so, if this is the body
 pub one_appended : (body same : Body) (old new : List ℕ) (result : Result (Unit {0}) PutFault)

@@ -18,48 +18,65 @@ use Rattle.omf_module.proofs.WrittenSpelled.{placed_after, one_spelled, bodies_s
 use Rattle.omf_module.proofs.WrittenSound.{header_fits, end_fits}
 use Rattle.omf_module.proofs.WrittenSays.{name_of, records_after, within_passes, says_module, uses_none}
 
-three_joined : (before header within end : List ℕ) → before ++ header ++ within ++ end ≡ before ++ (header ++ (within ++ (end ++ [])))
+three_joined : (before header within end : List ℕ)
+    → before ++ header ++ within ++ end ≡ before ++ (header ++ (within ++ (end ++ [])))
 three_joined before header within end = simp (append_assoc, append-nil)
 
 module_is : (m : ModuleValue) (before : List ℕ)
-    → before ++ record_bytes (ModuleHeader (header_body m)) ++ flat_map record_bytes (bodies_within m) ++ record_bytes (ModuleEnd (end_body m.start)) ≡ before ++ module_bytes m
+    → before ++ record_bytes (ModuleHeader (header_body m)) ++ flat_map record_bytes (bodies_within m)
+    ++ record_bytes (ModuleEnd (end_body m.start)) ≡ before ++ module_bytes m
 unfolding module_bytes
 module_is m before =
-    three_joined before (record_bytes (ModuleHeader (header_body m))) (flat_map record_bytes (bodies_within m)) (record_bytes (ModuleEnd (end_body m.start)))
-    ∙ ap (λ (bytes : List ℕ). before ++ (record_bytes (ModuleHeader (header_body m)) ++ bytes)) (sym (flat_map-append record_bytes (bodies_within m) (ModuleEnd (end_body m.start) ∷ [])))
+    three_joined before (record_bytes (ModuleHeader (header_body m))) (flat_map record_bytes (bodies_within m))
+    (record_bytes (ModuleEnd (end_body m.start)))
+    ∙ ap (λ (bytes : List ℕ). before ++ (record_bytes (ModuleHeader (header_body m)) ++ bytes))
+    (sym (flat_map-append record_bytes (bodies_within m) (ModuleEnd (end_body m.start) ∷ [])))
 
 -- the bytes of the three, seen from each
-from_within : (before header within end after : List ℕ) → before ++ header ++ within ++ (end ++ after) ≡ before ++ header ++ within ++ end ++ after
+from_within : (before header within end after : List ℕ)
+    → before ++ header ++ within ++ (end ++ after) ≡ before ++ header ++ within ++ end ++ after
 from_within before header within end after = sym (append_assoc (before ++ header ++ within) end after)
 
-from_header : (before header within end after : List ℕ) → before ++ header ++ (within ++ (end ++ after)) ≡ before ++ header ++ within ++ end ++ after
-from_header before header within end after = sym (append_assoc (before ++ header) within (end ++ after)) ∙ from_within before header within end after
+from_header : (before header within end after : List ℕ)
+    → before ++ header ++ (within ++ (end ++ after)) ≡ before ++ header ++ within ++ end ++ after
+from_header before header within end after = sym (append_assoc (before ++ header) within (end ++ after))
+    ∙ from_within before header within end after
 
 same_form : (m : ModuleValue) → IsModule m → m ≡ made_of m
 same_form m is = ap (λ (segments : List (ℕ × Segment)). record m { segments = segments }) is.canonical
 
 spelled_in : WrittenIsSpelled → (m : ModuleValue) → IsModule m → (before after header within end : List ℕ)
-    → header ≡ record_bytes (ModuleHeader (header_body m)) → within ≡ flat_map record_bytes (bodies_within m) → end ≡ record_bytes (ModuleEnd (end_body m.start))
+    → header ≡ record_bytes (ModuleHeader (header_body m)) → within ≡ flat_map record_bytes (bodies_within m)
+    → end ≡ record_bytes (ModuleEnd (end_body m.start))
     → SpellsModule (before ++ header ++ within ++ end ++ after) (length before) (length (before ++ header ++ within ++ end)) m
 spelled_in law m is before after header within end eh ew ee =
     let bytes = before ++ header ++ within ++ end ++ after in
     let front = before ++ header in
-    let h : SpellsBody (before ++ header ++ (within ++ (end ++ after))) (length before) (length front) (ModuleHeader (header_body m)) =
-    subst (λ (bs : List ℕ). SpellsBody (before ++ bs ++ (within ++ (end ++ after))) (length before) (length (before ++ bs)) (ModuleHeader (header_body m))) (sym eh)
-    (one_spelled law before (within ++ (end ++ after)) (ModuleHeader (header_body m)) (header_fits m is.canonical (name_of m is.names))) in
-    let w : SpellsBodies (front ++ within ++ (end ++ after)) (length front) (length (front ++ within)) (placed_after front (bodies_within m)) =
-    subst (λ (bs : List ℕ). SpellsBodies (front ++ bs ++ (end ++ after)) (length front) (length (front ++ bs)) (placed_after front (bodies_within m))) (sym ew)
+    let h : SpellsBody (before ++ header ++ (within ++ (end ++ after))) (length before) (length front)
+    (ModuleHeader (header_body m)) =
+    subst (λ (bs : List ℕ). SpellsBody (before ++ bs ++ (within ++ (end ++ after))) (length before) (length (before ++ bs))
+    (ModuleHeader (header_body m))) (sym eh)
+    (one_spelled law before (within ++ (end ++ after)) (ModuleHeader (header_body m))
+    (header_fits m is.canonical (name_of m is.names))) in
+    let w : SpellsBodies (front ++ within ++ (end ++ after)) (length front) (length (front ++ within))
+    (placed_after front (bodies_within m)) =
+    subst (λ (bs : List ℕ). SpellsBodies (front ++ bs ++ (end ++ after)) (length front) (length (front ++ bs))
+    (placed_after front (bodies_within m))) (sym ew)
     (bodies_spelled law front (end ++ after) (bodies_within m) (within_passes m is).fit) in
-    let e : SpellsBody (front ++ within ++ end ++ after) (length (front ++ within)) (length (front ++ within ++ end)) (ModuleEnd (end_body m.start)) =
-    subst (λ (bs : List ℕ). SpellsBody (front ++ within ++ bs ++ after) (length (front ++ within)) (length (front ++ within ++ bs)) (ModuleEnd (end_body m.start))) (sym ee)
+    let e : SpellsBody (front ++ within ++ end ++ after) (length (front ++ within)) (length (front ++ within ++ end))
+    (ModuleEnd (end_body m.start)) =
+    subst (λ (bs : List ℕ). SpellsBody (front ++ within ++ bs ++ after) (length (front ++ within))
+    (length (front ++ within ++ bs)) (ModuleEnd (end_body m.start))) (sym ee)
     (one_spelled law (front ++ within) after (ModuleEnd (end_body m.start)) (end_fits m.start)) in
     record {
       records = records_after m front (length before) (length (front ++ within));
       begins = refl;
       spelled = record {
         first = length front;
-        header = subst (λ (bs : List ℕ). SpellsBody bs (length before) (length front) (ModuleHeader (header_body m))) (from_header before header within end after) h;
-        within = subst (λ (bs : List ℕ). SpellsBodies bs (length front) (length (front ++ within)) (placed_after front (bodies_within m))) (from_within before header within end after) w;
+        header = subst (λ (bs : List ℕ). SpellsBody bs (length before) (length front) (ModuleHeader (header_body m)))
+            (from_header before header within end after) h;
+        within = subst (λ (bs : List ℕ). SpellsBodies bs (length front) (length (front ++ within))
+            (placed_after front (bodies_within m))) (from_within before header within end after) w;
         follow = (within_passes m is).follow front;
         end = e;
       };
@@ -69,9 +86,11 @@ spelled_in law m is before after header within end eh ew ee =
 
 pub module_spelled : WrittenIsSpelled → WrittenModuleIsSpelled
 module_spelled law m is before after =
-    subst (λ (to : ℕ). SpellsModule (before ++ module_bytes m ++ after) (length before) to m) (length-append before (module_bytes m))
+    subst (λ (to : ℕ). SpellsModule (before ++ module_bytes m ++ after) (length before) to m)
+    (length-append before (module_bytes m))
     (subst (λ (bytes : List ℕ). SpellsModule (bytes ++ after) (length before) (length bytes) m) (module_is m before)
-    (spelled_in law m is before after (record_bytes (ModuleHeader (header_body m))) (flat_map record_bytes (bodies_within m)) (record_bytes (ModuleEnd (end_body m.start))) refl refl refl))
+    (spelled_in law m is before after (record_bytes (ModuleHeader (header_body m))) (flat_map record_bytes (bodies_within m))
+    (record_bytes (ModuleEnd (end_body m.start))) refl refl refl))
 
 -- ---- files
 
@@ -80,11 +99,13 @@ modules_spelled : WrittenModuleIsSpelled → (before after : List ℕ) (ms : Lis
 modules_spelled law before after [] all = ap length (sym (append-nil before))
 modules_spelled law before after (m ∷ ms) all =
     let rest = flat_map module_bytes ms in
-    let front : before ++ module_bytes m ++ rest ≡ before ++ (module_bytes m ++ rest) = append_assoc before (module_bytes m) rest in
+    let front : before ++ module_bytes m ++ rest ≡ before ++ (module_bytes m ++ rest) =
+    append_assoc before (module_bytes m) rest in
     let whole : before ++ module_bytes m ++ (rest ++ after) ≡ before ++ (module_bytes m ++ rest) ++ after =
     sym (append_assoc (before ++ module_bytes m) rest after) ∙ ap (λ (bytes : List ℕ). bytes ++ after) front in
     let one : SpellsModule (before ++ module_bytes m ++ (rest ++ after)) (length before) (length (before ++ module_bytes m)) m =
-    subst (λ (to : ℕ). SpellsModule (before ++ module_bytes m ++ (rest ++ after)) (length before) to m) (sym (length-append before (module_bytes m))) (law m all.0 before (rest ++ after)) in (
+    subst (λ (to : ℕ). SpellsModule (before ++ module_bytes m ++ (rest ++ after)) (length before) to m)
+    (sym (length-append before (module_bytes m))) (law m all.0 before (rest ++ after)) in (
       length (before ++ module_bytes m),
       subst (λ (bytes : List ℕ). SpellsModule bytes (length before) (length (before ++ module_bytes m)) m) whole one,
       subst (λ (bytes : List ℕ). SpellsModules (bytes ++ after) (length (before ++ module_bytes m)) (length bytes) ms) front
@@ -103,6 +124,7 @@ file_spelled law ms some all =
       ends = record {
         next = length (bytes ++ record_bytes (EndOfFile []));
         body = [];
-        spelled = subst (λ (bs : List ℕ). SpellsRecord bs (length bytes) (length (bytes ++ record_bytes (EndOfFile []))) 0x0E []) (append-nil (bytes ++ record_bytes (EndOfFile []))) end.framed;
+        spelled = subst (λ (bs : List ℕ). SpellsRecord bs (length bytes) (length (bytes ++ record_bytes (EndOfFile []))) 0x0E [])
+            (append-nil (bytes ++ record_bytes (EndOfFile []))) end.framed;
       };
     }

@@ -33,34 +33,41 @@ off_at id a below =
       | inr off ↦ off.0
     ]
 
-none_with : (listed : Bool) (id a : ℕ) (s : Segment) (rest : List (ℕ × Segment)) → id < a → list_any (λ d. d.id == id) (map segment_entry rest) ≡ false
+none_with : (listed : Bool) (id a : ℕ) (s : Segment) (rest : List (ℕ × Segment)) → id < a
+    → list_any (λ d. d.id == id) (map segment_entry rest) ≡ false
     → list_any (λ d. d.id == id) (map segment_entry (cons_option (if listed then Some (a, s) else None) rest)) ≡ false
 none_with true id a s rest below none = rw (off_at id a below) none
 none_with false id a s rest below none = none
 
-distinct_with : (listed : Bool) (a : ℕ) (s : Segment) (rest : List (ℕ × Segment)) → list_any (λ d. d.id == a) (map segment_entry rest) ≡ false → are_distinct (map segment_entry rest) ≡ true
+distinct_with : (listed : Bool) (a : ℕ) (s : Segment) (rest : List (ℕ × Segment))
+    → list_any (λ d. d.id == a) (map segment_entry rest) ≡ false → are_distinct (map segment_entry rest) ≡ true
     → are_distinct (map segment_entry (cons_option (if listed then Some (a, s) else None) rest)) ≡ true
 distinct_with true a s rest none others = rw none others
 distinct_with false a s rest none others = others
 
 -- ids below those that may be listed aren't
-none_below : (e : List (ℕ × Segment)) (c : List Common) (id a n : ℕ) → id < a → list_any (λ d. d.id == id) (map segment_entry (entries_for e c (range_with_len a n))) ≡ false
+none_below : (e : List (ℕ × Segment)) (c : List Common) (id a n : ℕ) → id < a
+    → list_any (λ d. d.id == id) (map segment_entry (entries_for e c (range_with_len a n))) ≡ false
 unfolding entries_for
 none_below e c id a zero below = refl
 none_below e c id a (suc n) below =
-    none_with (has_common_id c a || is_used (segment_in e a)) id a (segment_in e a) (entries_for e c (range_with_len (a + 1) n)) below (none_below e c id (a + 1) n (omega arith))
+    none_with (has_common_id c a || is_used (segment_in e a)) id a (segment_in e a)
+    (entries_for e c (range_with_len (a + 1) n)) below (none_below e c id (a + 1) n (omega arith))
 
-distinct_from : (e : List (ℕ × Segment)) (c : List Common) (a n : ℕ) → are_distinct (map segment_entry (entries_for e c (range_with_len a n))) ≡ true
+distinct_from : (e : List (ℕ × Segment)) (c : List Common) (a n : ℕ)
+    → are_distinct (map segment_entry (entries_for e c (range_with_len a n))) ≡ true
 unfolding entries_for
 distinct_from e c a zero = refl
 distinct_from e c a (suc n) =
-    distinct_with (has_common_id c a || is_used (segment_in e a)) a (segment_in e a) (entries_for e c (range_with_len (a + 1) n)) (none_below e c a (a + 1) n (omega arith)) (distinct_from e c (a + 1) n)
+    distinct_with (has_common_id c a || is_used (segment_in e a)) a (segment_in e a) (entries_for e c (range_with_len (a + 1) n))
+    (none_below e c a (a + 1) n (omega arith)) (distinct_from e c (a + 1) n)
 
 one_form_distinct : (e : List (ℕ × Segment)) (c : List Common) → are_distinct (map segment_entry (canonical_segments e c)) ≡ true
 unfolding listed_ids
 one_form_distinct e c = distinct_from e c 1 255
 
-segments_length : (segments : List (ℕ × Segment)) → length (flat_map segment_bytes (map segment_entry segments)) ≡ 4 * length segments
+segments_length : (segments : List (ℕ × Segment))
+    → length (flat_map segment_bytes (map segment_entry segments)) ≡ 4 * length segments
 segments_length [] = refl
 segments_length (s ∷ ss) = omega (arith, segments_length ss)
 
@@ -72,14 +79,24 @@ name_short name is =
 pub header_short : (name : List ℕ) (segments : List (ℕ × Segment)) → is_name name ≡ true → length segments ≤ 255
     → length (name_spelling name ++ 0 ∷ 0 ∷ flat_map segment_bytes (map segment_entry segments)) ≤ 65534
 header_short name segments is few =
-    omega (arith, few, name_short name is, segments_length segments, length-append (name_spelling name) (0 ∷ 0 ∷ flat_map segment_bytes (map segment_entry segments)))
+    omega (
+      arith,
+      few,
+      name_short name is,
+      segments_length segments,
+      length-append (name_spelling name)
+          (0 ∷ 0 ∷ flat_map segment_bytes (map segment_entry segments)),
+    )
 
-pub header_fits : (m : ModuleValue) → m.segments ≡ canonical_segments m.segments m.commons → is_name m.name ≡ true → Fits (ModuleHeader (header_body m))
+pub header_fits : (m : ModuleValue) → m.segments ≡ canonical_segments m.segments m.commons → is_name m.name ≡ true
+    → Fits (ModuleHeader (header_body m))
 header_fits m form name =
-    let few : length m.segments ≤ 255 = subst (λ (ss : List (ℕ × Segment)). length ss ≤ 255) (sym form) (canonical_few m.segments m.commons) in
+    let few : length m.segments ≤ 255 =
+    subst (λ (ss : List (ℕ × Segment)). length ss ≤ 255) (sym form) (canonical_few m.segments m.commons) in
     record {
       sound = and_from (is_name m.name) (are_distinct (map segment_entry m.segments)) name
-          (subst (λ (ss : List (ℕ × Segment)). are_distinct (map segment_entry ss) ≡ true) (sym form) (one_form_distinct m.segments m.commons));
+          (subst (λ (ss : List (ℕ × Segment)). are_distinct (map segment_entry ss) ≡ true) (sym form)
+          (one_form_distinct m.segments m.commons));
       short = header_short m.name m.segments name few;
     }
 
@@ -106,13 +123,16 @@ external_fits name is = record {
   short = omega (arith, name_short name is, length-append name (0 ∷ []), length-append (name ++ 0 ∷ []) []);
 }
 
-pub own_fits : (field : Field) (offset : ℕ) → Fits (Relocation (record { field = field; references = record { offset = offset } ∷ [] }))
+pub own_fits : (field : Field) (offset : ℕ)
+    → Fits (Relocation (record { field = field; references = record { offset = offset } ∷ [] }))
 own_fits field offset = record { sound = refl; short = omega arith }
 
-pub other_fits : (id : ℕ) (field : Field) (offset : ℕ) → Fits (IntersegmentReferences (record { segment = id; field = field; references = record { offset = offset } ∷ [] }))
+pub other_fits : (id : ℕ) (field : Field) (offset : ℕ)
+    → Fits (IntersegmentReferences (record { segment = id; field = field; references = record { offset = offset } ∷ [] }))
 other_fits id field offset = record { sound = refl; short = omega arith }
 
-pub external_reference_fits : (index : ℕ) (field : Field) (offset : ℕ) → Fits (ExternalReferences (record { field = field; references = record { index = index; offset = offset } ∷ [] }))
+pub external_reference_fits : (index : ℕ) (field : Field) (offset : ℕ)
+    → Fits (ExternalReferences (record { field = field; references = record { index = index; offset = offset } ∷ [] }))
 external_reference_fits index field offset = record { sound = refl; short = omega arith }
 
 pub content_fits : (c : ContentValue) → length c.bytes ≤ 65531 → Fits (content_body c)

@@ -11,5 +11,6 @@ pub mod StayLaws
 pub mod FileFeed
 pub mod FileFeedLaws
 pub mod UseLaws
+pub mod FirstUseLaws
 pub mod Writing
 pub mod WritingLaws

@@ -11,7 +11,7 @@ use Rattle.omf_body.specs.Layouts.{SpellsRow}
 use Rattle.omf_module.specs.declared.fault.Cause.{Cause}
 use Rattle.omf_module.specs.declared.fault.ModuleFault.{ModuleFault}
 use Rattle.omf_module.specs.declared.module_file.ModuleFile.{ModuleFile}
-use Rattle.omf_module.specs.declared.module_file.Within.{Within}
+use Rattle.omf_module.specs.declared.module_file.WithinRead.{WithinRead}
 use Rattle.omf_parts.specs.declared.symbols.Common.{Common}
 use Rattle.omf_module.specs.Fault.{no_memory}
 use Rattle.omf_parts.specs.Rules.{each_after, is_new_common}
@@ -58,11 +58,11 @@ pub record Follows (bytes : List ℕ) (at next : ℕ) (before after : List Commo
   pub inside : next ≤ length bytes
 
 -- records that follow a header at a place, up to the end of the module and the place after it, and their commons
-pub record ReadsWithin (bytes : List ℕ) (first after : ℕ) (w : Within) (commons : List Common) : Type 0 where
-  pub spelled : SpellsBodies bytes first w.end_at w.bodies.items
-  pub follow : IsTrue (each_follows [] w.bodies.items)
-  pub declared : commons ≡ commons_of w.bodies.items
-  pub end : SpellsBody bytes w.end_at after (ModuleEnd w.end)
+pub record ReadsWithin (bytes : List ℕ) (first : ℕ) (r : WithinRead) : Type 0 where
+  pub spelled : SpellsBodies bytes first r.within.end_at r.within.bodies.items
+  pub follow : IsTrue (each_follows [] r.within.bodies.items)
+  pub declared : r.commons.items ≡ commons_of r.within.bodies.items
+  pub end : SpellsBody bytes r.within.end_at r.after (ModuleEnd r.within.end)
 
 -- the records of a module, as they were read
 abbrev pub records_of : ModuleFile → ModuleRecords
@@ -79,7 +79,8 @@ with_contents p contents = record p { contents = contents }
 
 -- A record was looked at, and what it says of contents was taken: it has no fault, `nearest` is the nearest content after it,
 -- and the one before stands among those that are whole where a new one begins.
-pub record TakesBody (p : ModuleValue) (before : Option ContentValue) (body : Body) (old new : List ContentValue) (after : Option ContentValue) : Type 0 where
+pub record TakesBody (p : ModuleValue) (before : Option ContentValue) (body : Body) (old new : List ContentValue)
+    (after : Option ContentValue) : Type 0 where
   pub sound : (cs : List ContentValue) → body_fault (with_contents p cs) before body ≡ None
   pub nearest : after ≡ content_after before body
   pub whole : new ≡ old ++ (if begins_content body then option_to_list before else [])

@@ -60,7 +60,8 @@ abbrev pub read_new_common : List Common → List ℕ → Result (Common × List
 read_new_common before bytes = do
   id ← read_byte bytes
   if is_common_id id.0 && not (has_common_id before id.0)
-      then (read_name id.1 >>= λ name. if has_common_name before name.0 then Err field.BadBody else Ok (record { id = id.0; name = name.0 }, name.1))
+      then (read_name id.1 >>= λ name.
+      if has_common_name before name.0 then Err field.BadBody else Ok (record { id = id.0; name = name.0 }, name.1))
       else Err field.BadBody
 
 -- the first fault of the commons of a record, after those that stand before it

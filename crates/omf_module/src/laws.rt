@@ -6,6 +6,7 @@ ghost use Rattle.omf_module.specs.StayLaws.{ModulesStay, BegunModulesStay};
 ghost use Rattle.omf_module.specs.FileFeedLaws.{OneModuleCount, LastingFileFaultsLast};
 ghost use Rattle.omf_module.specs.GatheredLaws.{ContentsHaveTheFixupsUpToTheNext};
 ghost use Rattle.omf_module.specs.UseLaws.{NoFaultExactlyWhereUsesAreThere};
+ghost use Rattle.omf_module.specs.FirstUseLaws.{BodiesFaultIsTheFirst, UseFaultIsTheFirst};
 ghost use Rattle.omf_module.specs.WritingLaws.{WrittenModuleIsSpelled, WrittenFileIsSpelled};
 
 use omf_body::laws::{one_body, one_fault};
@@ -73,6 +74,14 @@ pub fn contents_have_the_fixups_up_to_the_next()
 /// there, and each record of fixups comes after a content.
 pub fn records_without_fault_keep_the_rules()
     ensures { NoFaultExactlyWhereUsesAreThere }
+{}
+
+/// The fault of use of a module's records is the first of all: of the entries of its records, in order, the first that uses what
+/// isn't there gives it. A fixup is seen in the last content that the records before it begin, with the fixups that come before
+/// it.
+pub fn fault_of_use_is_the_first()
+    ensures bodies { BodiesFaultIsTheFirst }
+    ensures all { UseFaultIsTheFirst }
 {}
 
 /// What is written of a module spells it, wherever it stands: it is read again as the same module.

@@ -18,7 +18,7 @@ use crate::fault::ModuleFault;
 use crate::file_feed::FileFeed;
 use crate::gathering::{externals_of, publics_of, segments_in};
 use crate::laws::{one_file_reading, one_reading};
-use crate::module_file::{ModuleFile, PlacedBody};
+use crate::module_file::{ModuleFile, ModuleFileRead, PlacedBody};
 use crate::record_reading::{header_at, records_at};
 use crate::uses::{contents_of, look_at_header, look_at_start};
 use omf_body::{HeaderBody, Place};
@@ -108,7 +108,11 @@ pub(crate) fn module_at(
     ensures read { IfOk result (λ r. SpellsModule bytes.now at r.1 r.0) }
     ensures fault { IfErr result (OrNoMemory (FaultsModule bytes.now at)) }
 {
-    let (file, commons, after) = records_at(alloc, bytes, at)?;
+    let ModuleFileRead {
+        file,
+        commons,
+        after,
+    } = records_at(alloc, bytes, at)?;
     let parts = parts_of(alloc, &file, commons)?;
     let module = Module::from_sound_parts(alloc, parts)?;
     Ok((module, after))

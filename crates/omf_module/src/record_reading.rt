@@ -7,7 +7,7 @@ ghost use Rattle.omf_module.specs.Reading.{Follows, BeginsModule, ReadsWithin, O
 
 use crate::commons::take_commons;
 use crate::fault::{Cause, ModuleFault};
-use crate::module_file::{ModuleFile, PlacedBody, Within};
+use crate::module_file::{ModuleFile, ModuleFileRead, PlacedBody, Within, WithinRead};
 use omf_body::{Body, HeaderBody, parse};
 use omf_core::{RecordKind, next_record};
 use omf_parts::Common;
@@ -64,9 +64,9 @@ fn within_at<'a>(
     alloc: Global,
     bytes: &'a [u8],
     first: usize,
-) -> Result<(Within<'a>, Vec<Common>, usize), ModuleFault>
+) -> Result<WithinRead<'a>, ModuleFault>
     requires { first ≤ length bytes.now }
-    ensures read { IfOk result (λ r. ReadsWithin bytes.now first r.2 r.0 r.1.items) }
+    ensures read { IfOk result (ReadsWithin bytes.now first) }
     ensures fault { IfErr result (OrNoMemory (FaultsRecords bytes.now first)) }
 {
     let mut bodies = Vec::new(alloc);
@@ -83,7 +83,11 @@ fn within_at<'a>(
                 end_at: here,
                 end,
             };
-            return Ok((within, commons, next));
+            return Ok(WithinRead {
+                within,
+                commons,
+                after: next,
+            });
         }
         bodies.push(PlacedBody { at: here, body })?;
         here = next;
@@ -95,17 +99,25 @@ pub(crate) fn records_at<'a>(
     alloc: Global,
     bytes: &'a [u8],
     at: usize,
-) -> Result<(ModuleFile<'a>, Vec<Common>, usize), ModuleFault>
-    ensures read { IfOk result (λ r. SpellsModuleRecords bytes.now r.2 (records_of r.0)) }
-    ensures begins { IfOk result (λ r. r.0.at ≡ at) }
-    ensures commons { IfOk result (λ r. r.1.items ≡ commons_of r.0.within.bodies.items) }
+) -> Result<ModuleFileRead<'a>, ModuleFault>
+    ensures read { IfOk result (λ r. SpellsModuleRecords bytes.now r.after (records_of r.file)) }
+    ensures begins { IfOk result (λ r. r.file.at ≡ at) }
+    ensures commons { IfOk result (λ r. r.commons.items ≡ commons_of r.file.within.bodies.items) }
     ensures fault { IfErr result (OrNoMemory (FaultsModule bytes.now at)) }
 {
     let (header, first) = match header_at(bytes, at) {
         Ok(read) => read,
         Err(why) => return Err(why.at(at)),
     };
-    let (within, commons, after) = within_at(alloc, bytes, first)?;
-    let module = ModuleFile { at, header, within };
-    Ok((module, commons, after))
+    let WithinRead {
+        within,
+        commons,
+        after,
+    } = within_at(alloc, bytes, first)?;
+    let file = ModuleFile { at, header, within };
+    Ok(ModuleFileRead {
+        file,
+        commons,
+        after,
+    })
 }

@@ -5,7 +5,7 @@ use Rattle.std.specs.List.{list_any, range_with_len}
 use Rattle.std.specs.Option.{option_or}
 use Rattle.std.proofs.lemmas.Bool.{cases_Bool, eqb-false}
 use Rattle.std.proofs.lemmas.Bool.Decides.{nat_tests}
-use Rattle.std.proofs.lemmas.List.Elements.{All-nil, All-cons, All-weaker}
+use Rattle.std.proofs.lemmas.List.Elements.{All-nil, All-cons}
 use Rattle.std.proofs.lemmas.List.Folds.{find-append}
 use Rattle.omf_parts.specs.Segments.{has_segment, has_common_id, is_fixed_id}
 use Rattle.omf_parts.specs.Modules.{ModuleValue}
@@ -14,7 +14,6 @@ use Rattle.place80.specs.declared.placed_segments.Placed.{Placed}
 use Rattle.place80.specs.Layout.{default_base, common_ids, order_of, given_length, own_segment, common_numbers, placed_after, placed_from, layout_of}
 use Rattle.place80.specs.PlaceFault.{ids_of, overlap_of, first_shared, with_each, is_outside, overlaps, pairs, all_pairs, absolute_places, outside_memory, overlap, layout_fault}
 use Rattle.place80.specs.declared.place_fault.PlaceFault.TheVariants.{OutsideMemory}
-use Rattle.place80.proofs.LocatedDisjoint.{HasWord}
 
 neither : {A : Type 0} (a b : Option A) → option_or a b ≡ None → (a ≡ None) × (b ≡ None)
 neither None b none = (refl, none)
@@ -29,44 +28,46 @@ over_absolute m segments = with_each segments (absolute_places m.contents)
 
 -- where segments can be laid out, they are in memory and no two of them overlap
 pub in_memory_and_apart : (options : Options) (m : ModuleValue) → layout_fault options m ≡ None →
-    (find (is_outside m.contents) (layout_of options m) ≡ None) × (find (λ pq. overlaps pq.0 pq.1) (pairs (layout_of options m)) ≡ None)
+    (find (is_outside m.contents) (layout_of options m) ≡ None)
+    × (find (λ pq. overlaps pq.0 pq.1) (pairs (layout_of options m)) ≡ None)
 in_memory_and_apart options m none =
     let parts = neither (outside_memory m (layout_of options m)) (overlap m (layout_of options m)) none in
     let segments : List Placed = layout_of options m in (
       unmapped (λ (p : Placed). OutsideMemory p.id) (find (is_outside m.contents) segments) parts.0,
-      (neither (find (λ (pq : Placed × Placed). overlaps pq.0 pq.1) (pairs segments)) (find (λ (pq : Placed × Placed). overlaps pq.0 pq.1) (over_absolute m segments))
+      (neither (find (λ (pq : Placed × Placed). overlaps pq.0 pq.1) (pairs segments))
+          (find (λ (pq : Placed × Placed). overlaps pq.0 pq.1) (over_absolute m segments))
           (sym (find-append (λ (pq : Placed × Placed). overlaps pq.0 pq.1) (pairs segments) (over_absolute m segments))
-          ∙ unmapped ids_of (find (λ (pq : Placed × Placed). overlaps pq.0 pq.1) (all_pairs m segments)) (unmapped overlap_of (first_shared (all_pairs m segments)) parts.1))).0,
+          ∙ unmapped ids_of (find (λ (pq : Placed × Placed). overlaps pq.0 pq.1) (all_pairs m segments))
+          (unmapped overlap_of (first_shared (all_pairs m segments)) parts.1))).0,
     )
 
 -- the length of each segment is the one that is given, or else its own
 abbrev pub length_of_id : Options → ModuleValue → ℕ → ℕ
 length_of_id options m id = unwrap_or (given_length options id) (own_segment m id).length
 
-placed_lengths : (options : Options) (m : ModuleValue) (before : ℕ) (ids : List ℕ) → All (λ p. p.length ≡ length_of_id options m p.id) (placed_from options m before ids)
+placed_lengths : (options : Options) (m : ModuleValue) (before : ℕ) (ids : List ℕ)
+    → All (λ p. p.length ≡ length_of_id options m p.id) (placed_from options m before ids)
 placed_lengths options m before [] = All-nil (λ p. p.length ≡ length_of_id options m p.id)
 placed_lengths options m before (id ∷ ids) =
     let p : Placed = placed_after options m before id in
-    All-cons (λ q. q.length ≡ length_of_id options m q.id) p (placed_from options m (p.base + p.length) ids) refl (placed_lengths options m (p.base + p.length) ids)
+    All-cons (λ q. q.length ≡ length_of_id options m q.id) p (placed_from options m (p.base + p.length) ids) refl
+    (placed_lengths options m (p.base + p.length) ids)
 
-pub layout_lengths : (options : Options) (m : ModuleValue) → All (λ p. p.length ≡ length_of_id options m p.id) (layout_of options m)
+pub layout_lengths : (options : Options) (m : ModuleValue)
+    → All (λ p. p.length ≡ length_of_id options m p.id) (layout_of options m)
 unfolding layout_of
 layout_lengths options m = placed_lengths options m default_base (order_of m.commons)
 
--- words where the lengths that are given and the module's own are
-pub layout_has_words : (options : Options) (m : ModuleValue) → ((id : ℕ) → length_of_id options m id < 65536) → All HasWord (layout_of options m)
-layout_has_words options m words =
-    All-weaker (λ p. p.length ≡ length_of_id options m p.id) HasWord
-    (λ p is. let word : length_of_id options m p.id < 65536 = words p.id in omega arith) (layout_of options m) (layout_lengths options m)
-
 -- the ids of the placed segments
-placed_ids : (options : Options) (m : ModuleValue) (before : ℕ) (ids : List ℕ) (id : ℕ) → list_any (λ p. p.id == id) (placed_from options m before ids) ≡ list_any (λ i. i == id) ids
+placed_ids : (options : Options) (m : ModuleValue) (before : ℕ) (ids : List ℕ) (id : ℕ)
+    → list_any (λ p. p.id == id) (placed_from options m before ids) ≡ list_any (λ i. i == id) ids
 placed_ids options m before [] id = refl
 placed_ids options m before (i ∷ is) id =
     let p : Placed = placed_after options m before i in
     ap (λ b. i == id || b) (placed_ids options m (p.base + p.length) is id)
 
-layout_ids : (options : Options) (m : ModuleValue) (id : ℕ) → list_any (λ p. p.id == id) (layout_of options m) ≡ list_any (λ i. i == id) (order_of m.commons)
+layout_ids : (options : Options) (m : ModuleValue) (id : ℕ)
+    → list_any (λ p. p.id == id) (layout_of options m) ≡ list_any (λ i. i == id) (order_of m.commons)
 unfolding layout_of
 layout_ids options m id = placed_ids options m default_base (order_of m.commons) id
 
@@ -88,7 +89,8 @@ any_front test (x ∷ xs) ys found =
     ]) found
 
 -- a number of a range that passes a test
-any_of_range : (test : ℕ → Bool) (n low id : ℕ) → low ≤ id → id < low + n → test id ≡ true → list_any (λ i. i == id) (filter test (range_with_len low n)) ≡ true
+any_of_range : (test : ℕ → Bool) (n low id : ℕ) → low ≤ id → id < low + n → test id ≡ true
+    → list_any (λ i. i == id) (filter test (range_with_len low n)) ≡ true
 any_of_range test zero low id above below passes = absurd (omega arith)
 any_of_range test (suc n) low id above below passes =
     let rest : List ℕ = filter test (range_with_len (low + 1) n) in
@@ -107,13 +109,17 @@ any_of_range test (suc n) low id above below passes =
 abbrev ordered : List ℕ → List ℕ
 ordered named = 1 ∷ 3 ∷ (named ++ 255 ∷ 2 ∷ 4 ∷ [])
 
-from_later : (named : List ℕ) (id : ℕ) → list_any (λ i. i == id) (named ++ 255 ∷ 2 ∷ 4 ∷ []) ≡ true → list_any (λ i. i == id) (ordered named) ≡ true
-from_later named id later = ap (λ b. 1 == id || (3 == id || b)) later ∙ ap (λ b. 1 == id || b) (or_true (3 == id)) ∙ or_true (1 == id)
+from_later : (named : List ℕ) (id : ℕ) → list_any (λ i. i == id) (named ++ 255 ∷ 2 ∷ 4 ∷ []) ≡ true
+    → list_any (λ i. i == id) (ordered named) ≡ true
+from_later named id later = ap (λ b. 1 == id || (3 == id || b)) later ∙ ap (λ b. 1 == id || b) (or_true (3 == id))
+    ∙ or_true (1 == id)
 
-last_three : (id : ℕ) → is_fixed_id id ≡ true → (id == 0) ≡ false → (1 == id) ≡ false → (3 == id) ≡ false → list_any (λ i. i == id) (255 ∷ 2 ∷ 4 ∷ []) ≡ true
+last_three : (id : ℕ) → is_fixed_id id ≡ true → (id == 0) ≡ false → (1 == id) ≡ false → (3 == id) ≡ false
+    → list_any (λ i. i == id) (255 ∷ 2 ∷ 4 ∷ []) ≡ true
 last_three id fixed a b c = grind (arith, nat_tests, fixed, a, b, c)
 
-fixed_in_order : (named : List ℕ) (id : ℕ) → is_fixed_id id ≡ true → (id == 0) ≡ false → list_any (λ i. i == id) (ordered named) ≡ true
+fixed_in_order : (named : List ℕ) (id : ℕ) → is_fixed_id id ≡ true → (id == 0) ≡ false
+    → list_any (λ i. i == id) (ordered named) ≡ true
 fixed_in_order named id fixed not_absolute =
     let back : List ℕ = named ++ 255 ∷ 2 ∷ 4 ∷ [] in
     elim (cases_Bool (1 == id)) [
@@ -125,7 +131,8 @@ fixed_in_order named id fixed not_absolute =
     ]
 
 -- every segment of the program but the absolute one is placed
-pub layout_has : (options : Options) (m : ModuleValue) (id : ℕ) → ((i : ℕ) → has_common_id m.commons i ≡ true → (6 ≤ i) × (i ≤ 254)) → has_segment m.commons id ≡ true → (id == 0) ≡ false →
+pub layout_has : (options : Options) (m : ModuleValue) (id : ℕ)
+    → ((i : ℕ) → has_common_id m.commons i ≡ true → (6 ≤ i) × (i ≤ 254)) → has_segment m.commons id ≡ true → (id == 0) ≡ false →
     list_any (λ p. p.id == id) (layout_of options m) ≡ true
 unfolding common_numbers
 layout_has options m id ids has not_absolute = elim (cases_Bool (is_fixed_id id)) [
@@ -135,5 +142,6 @@ layout_has options m id ids has not_absolute = elim (cases_Bool (is_fixed_id id)
       let bounds = ids id named in
       layout_ids options m id
       ∙ from_later (common_ids m.commons) id
-      (any_front (λ i. i == id) (common_ids m.commons) (255 ∷ 2 ∷ 4 ∷ []) (any_of_range (has_common_id m.commons) 249 6 id bounds.0 (omega (arith, bounds.1)) named))
+      (any_front (λ i. i == id) (common_ids m.commons) (255 ∷ 2 ∷ 4 ∷ [])
+      (any_of_range (has_common_id m.commons) 249 6 id bounds.0 (omega (arith, bounds.1)) named))
 ]

@@ -21,7 +21,8 @@ use Rattle.place80.proofs.LocatedDisjoint.{EndsInMemory, find_none}
 abbrev holds : ℕ → Range → ℕ
 holds address range = cond (in_range range address) 1 0
 
-held_more : (address : ℕ) (range : Range) (ranges : List Range) → held address (range ∷ ranges) ≡ holds address range + held address ranges
+held_more : (address : ℕ) (range : Range) (ranges : List Range)
+    → held address (range ∷ ranges) ≡ holds address range + held address ranges
 held_more address range ranges = sum_by-cons (holds address) range ranges
 
 held_append : (address : ℕ) (xs ys : List Range) → held address (xs ++ ys) ≡ held address xs + held address ys
@@ -64,7 +65,8 @@ one_of_three id n = elim (cases_Bool (id == 1)) [
 
 -- code, stacks and data are all segments
 held_in_three : (address : ℕ) (segments : List Placed) →
-    held_where address (λ p. p.id == 1) segments + held_where address (λ p. p.id == 3) segments + held_where address (λ p. not (p.id == 1 || p.id == 3)) segments
+    held_where address (λ p. p.id == 1) segments + held_where address (λ p. p.id == 3) segments + held_where address
+    (λ p. not (p.id == 1 || p.id == 3)) segments
     ≡ held address (map range_at segments)
 held_in_three address [] = refl
 held_in_three address (p ∷ ps) =
@@ -77,20 +79,25 @@ held_in_three address (p ∷ ps) =
     omega (arith, code, stack, other, rest, one, whole)
 
 -- the one stack holds no more than all of them
-held_stack : (address : ℕ) (segments : List Placed) → holds address (located_stack segments) ≤ held_where address (λ p. p.id == 3) segments
+held_stack : (address : ℕ) (segments : List Placed)
+    → holds address (located_stack segments) ≤ held_where address (λ p. p.id == 3) segments
 held_stack address [] =
-    let none : holds address (range_at (nowhere 3)) ≡ 0 = ap (λ b. cond b 1 0) (empty_holds address (range_at (nowhere 3)) refl) in
+    let none : holds address (range_at (nowhere 3)) ≡ 0 =
+    ap (λ b. cond b 1 0) (empty_holds address (range_at (nowhere 3)) refl) in
     omega arith
 held_stack address (p ∷ ps) = elim (cases_Bool (p.id == 3)) [
   | inl e ↦
-      let here : located_stack (p ∷ ps) ≡ range_at p = ap (λ b. range_at (unwrap_or (cond b (Some p) (find (λ q. q.id == 3) ps)) (nowhere 3))) e in
+      let here : located_stack (p ∷ ps) ≡ range_at p =
+      ap (λ b. range_at (unwrap_or (cond b (Some p) (find (λ q. q.id == 3) ps)) (nowhere 3))) e in
       let one : holds address (located_stack (p ∷ ps)) ≡ holds address (range_at p) = ap (holds address) here in
-      let more : held_where address (λ q. q.id == 3) (p ∷ ps) ≡ holds address (range_at p) + held_where address (λ q. q.id == 3) ps =
+      let more : held_where address (λ q. q.id == 3) (p ∷ ps)
+      ≡ holds address (range_at p) + held_where address (λ q. q.id == 3) ps =
       ap (λ b. held address (map range_at (cond b (p ∷ filter (λ q. q.id == 3) ps) (filter (λ q. q.id == 3) ps)))) e
       ∙ held_more address (range_at p) (map range_at (filter (λ q. q.id == 3) ps)) in
       omega (arith, one, more)
   | inr e ↦
-      let there : located_stack (p ∷ ps) ≡ located_stack ps = ap (λ b. range_at (unwrap_or (cond b (Some p) (find (λ q. q.id == 3) ps)) (nowhere 3))) e in
+      let there : located_stack (p ∷ ps) ≡ located_stack ps =
+      ap (λ b. range_at (unwrap_or (cond b (Some p) (find (λ q. q.id == 3) ps)) (nowhere 3))) e in
       let one : holds address (located_stack (p ∷ ps)) ≡ holds address (located_stack ps) = ap (holds address) there in
       let same : held_where address (λ q. q.id == 3) (p ∷ ps) ≡ held_where address (λ q. q.id == 3) ps =
       ap (λ b. held address (map range_at (cond b (p ∷ filter (λ q. q.id == 3) ps) (filter (λ q. q.id == 3) ps)))) e in
@@ -99,17 +106,21 @@ held_stack address (p ∷ ps) = elim (cases_Bool (p.id == 3)) [
 ]
 
 -- an address in a segment's range is one of the segment's
-above_base : (base length address : ℕ) → base + length ≤ 65536 → nat_le (base % 65536) address ≡ true → nat_lt address (base % 65536 + length) ≡ true →
+above_base : (base length address : ℕ) → base + length ≤ 65536 → nat_le (base % 65536) address ≡ true
+    → nat_lt address (base % 65536 + length) ≡ true →
     (base ≤ address) × (address < base + length)
-above_base base length address ends above below = (grind (arith, nat_tests, ends, above, below), grind (arith, nat_tests, ends, above, below))
+above_base base length address ends above below =
+    (grind (arith, nat_tests, ends, above, below), grind (arith, nat_tests, ends, above, below))
 
-pub in_segment : (p : Placed) (address : ℕ) → EndsInMemory p → in_range (range_at p) address ≡ true → (p.base ≤ address) × (address < p.base + p.length)
+pub in_segment : (p : Placed) (address : ℕ) → EndsInMemory p → in_range (range_at p) address ≡ true
+    → (p.base ≤ address) × (address < p.base + p.length)
 in_segment p address ends inside =
     let parts = and_parts (nat_le (p.base % 65536) address) (nat_lt address (p.base % 65536 + p.length)) inside in
     above_base p.base p.length address ends parts.0 parts.1
 
 -- two segments with an address in both overlap
-pub share_then_overlap : (p q : Placed) (address : ℕ) → p.base ≤ address → address < p.base + p.length → q.base ≤ address → address < q.base + q.length →
+pub share_then_overlap : (p q : Placed) (address : ℕ) → p.base ≤ address → address < p.base + p.length → q.base ≤ address
+    → address < q.base + q.length →
     overlaps p q ≡ true
 share_then_overlap p q address above below other_above other_below =
     and_from (nat_lt 0 p.length && nat_lt 0 q.length && nat_lt p.base (q.base + q.length)) (nat_lt q.base (p.base + p.length))
@@ -118,7 +129,8 @@ share_then_overlap p q address above below other_above other_below =
     (lt-ltb p.base (q.base + q.length) (omega arith)))
     (lt-ltb q.base (p.base + p.length) (omega arith))
 
-not_in : (p q : Placed) (address : ℕ) → EndsInMemory p → EndsInMemory q → overlaps p q ≡ false → in_range (range_at p) address ≡ true → in_range (range_at q) address ≡ false
+not_in : (p q : Placed) (address : ℕ) → EndsInMemory p → EndsInMemory q → overlaps p q ≡ false
+    → in_range (range_at p) address ≡ true → in_range (range_at q) address ≡ false
 not_in p q address ends other_ends apart inside = elim (cases_Bool (in_range (range_at q) address)) [
   | inl e ↦
       let here = in_segment p address ends inside in
@@ -128,31 +140,38 @@ not_in p q address ends other_ends apart inside = elim (cases_Bool (in_range (ra
 ]
 
 -- none of the later segments holds an address of one that overlaps none of them
-none_holds : (p : Placed) (ps : List Placed) (address : ℕ) → EndsInMemory p → All EndsInMemory ps → find (λ (pq : Placed × Placed). overlaps pq.0 pq.1) (map (λ q. (p, q)) ps) ≡ None →
+none_holds : (p : Placed) (ps : List Placed) (address : ℕ) → EndsInMemory p → All EndsInMemory ps
+    → find (λ (pq : Placed × Placed). overlaps pq.0 pq.1) (map (λ q. (p, q)) ps) ≡ None →
     in_range (range_at p) address ≡ true → held address (map range_at ps) ≡ 0
 none_holds p [] address ends all none inside = refl
 none_holds p (q ∷ qs) address ends all none inside =
     let parts = find_none (λ (pq : Placed × Placed). overlaps pq.0 pq.1) (p, q) (map (λ q. (p, q)) qs) none in
-    let out : holds address (range_at q) ≡ 0 = ap (λ b. cond b 1 0) (not_in p q address ends (All-head EndsInMemory q qs all) parts.0 inside) in
-    let rest : held address (map range_at qs) ≡ 0 = none_holds p qs address ends (All-tail EndsInMemory q qs all) parts.1 inside in
+    let out : holds address (range_at q) ≡ 0 =
+    ap (λ b. cond b 1 0) (not_in p q address ends (All-head EndsInMemory q qs all) parts.0 inside) in
+    let rest : held address (map range_at qs) ≡ 0 =
+    none_holds p qs address ends (All-tail EndsInMemory q qs all) parts.1 inside in
     held_more address (range_at q) (map range_at qs) ∙ omega arith
 
 pub none_of_both : {A : Type 0} (a b : Option A) → option_or a b ≡ None → (a ≡ None) × (b ≡ None)
 none_of_both None b none = (refl, none)
 none_of_both (Some x) b none = absurd cc
 
-held_once : (address : ℕ) (segments : List Placed) → All EndsInMemory segments → find (λ pq. overlaps pq.0 pq.1) (pairs segments) ≡ None →
+held_once : (address : ℕ) (segments : List Placed) → All EndsInMemory segments
+    → find (λ pq. overlaps pq.0 pq.1) (pairs segments) ≡ None →
     held address (map range_at segments) ≤ 1
 held_once address [] ends none = omega arith
 held_once address (p ∷ ps) ends none =
-    let parts = none_of_both (find (λ (pq : Placed × Placed). overlaps pq.0 pq.1) (map (λ q. (p, q)) ps)) (find (λ (pq : Placed × Placed). overlaps pq.0 pq.1) (pairs ps))
+    let parts = none_of_both (find (λ (pq : Placed × Placed). overlaps pq.0 pq.1) (map (λ q. (p, q)) ps))
+    (find (λ (pq : Placed × Placed). overlaps pq.0 pq.1) (pairs ps))
     (sym (find-append (λ (pq : Placed × Placed). overlaps pq.0 pq.1) (map (λ q. (p, q)) ps) (pairs ps)) ∙ none) in
     let rest : held address (map range_at ps) ≤ 1 = held_once address ps (All-tail EndsInMemory p ps ends) parts.1 in
-    let whole : held address (map range_at (p ∷ ps)) ≡ holds address (range_at p) + held address (map range_at ps) = held_more address (range_at p) (map range_at ps) in
+    let whole : held address (map range_at (p ∷ ps)) ≡ holds address (range_at p) + held address (map range_at ps) =
+    held_more address (range_at p) (map range_at ps) in
     elim (cases_Bool (in_range (range_at p) address)) [
       | inl e ↦
           let one : holds address (range_at p) ≡ 1 = ap (λ b. cond b 1 0) e in
-          let others : held address (map range_at ps) ≡ 0 = none_holds p ps address (All-head EndsInMemory p ps ends) (All-tail EndsInMemory p ps ends) parts.0 e in
+          let others : held address (map range_at ps) ≡ 0 =
+          none_holds p ps address (All-head EndsInMemory p ps ends) (All-tail EndsInMemory p ps ends) parts.0 e in
           omega (arith, whole, one, others)
       | inr e ↦
           let none_here : holds address (range_at p) ≡ 0 = ap (λ b. cond b 1 0) e in
@@ -160,7 +179,8 @@ held_once address (p ∷ ps) ends none =
     ]
 
 -- no address lies in two of the ranges
-pub disjoint_located : (segments : List Placed) → All EndsInMemory segments → find (λ pq. overlaps pq.0 pq.1) (pairs segments) ≡ None →
+pub disjoint_located : (segments : List Placed) → All EndsInMemory segments
+    → find (λ pq. overlaps pq.0 pq.1) (pairs segments) ≡ None →
     AreDisjoint (located_code segments ++ located_stack segments ∷ located_data segments)
 disjoint_located segments ends none address =
     let code = held_filled address (map range_at (filter (λ p. p.id == 1) segments)) in

@@ -33,7 +33,8 @@ EndsInMemory p = p.base + p.length ≤ 65536
 abbrev pub HasWord : Placed → Type 0
 HasWord p = p.length < 65536
 
-pub find_none : {A : Type 0} (test : A → Bool) (x : A) (xs : List A) → find test (x ∷ xs) ≡ None → (test x ≡ false) × (find test xs ≡ None)
+pub find_none : {A : Type 0} (test : A → Bool) (x : A) (xs : List A) → find test (x ∷ xs) ≡ None
+    → (test x ≡ false) × (find test xs ≡ None)
 find_none test x xs none =
     (elim (test x) as (λ b. cond b (Some x) (find test xs) ≡ None → (b ≡ false) × (find test xs ≡ None)) [
       | true ↦ λ wrong. absurd cc
@@ -43,7 +44,8 @@ find_none test x xs none =
 not_past : (end : ℕ) (other : Bool) → (nat_lt 65536 end || other) ≡ false → end ≤ 65536
 not_past end other inside = let none = or_parts (nat_lt 65536 end) other inside in grind (arith, nat_tests, none.0)
 
-pub ends_in_memory : (contents : List ContentValue) (segments : List Placed) → find (is_outside contents) segments ≡ None → All EndsInMemory segments
+pub ends_in_memory : (contents : List ContentValue) (segments : List Placed) → find (is_outside contents) segments ≡ None
+    → All EndsInMemory segments
 ends_in_memory contents [] none = All-nil EndsInMemory
 ends_in_memory contents (p ∷ ps) none =
     let parts = find_none (is_outside contents) p ps none in
@@ -57,24 +59,32 @@ range_in_memory p ends word = record { first = omega arith; length = word; «end
 all_both : {A : Type 0} (P Q R : A → Type 0) (xs : List A) → ((x : A) → P x → Q x → R x) → All P xs → All Q xs → All R xs
 all_both P Q R [] gives ps qs = All-nil R
 all_both P Q R (x ∷ xs) gives ps qs =
-    All-cons R x xs (gives x (All-head P x xs ps) (All-head Q x xs qs)) (all_both P Q R xs gives (All-tail P x xs ps) (All-tail Q x xs qs))
+    All-cons R x xs (gives x (All-head P x xs ps) (All-head Q x xs qs))
+    (all_both P Q R xs gives (All-tail P x xs ps) (All-tail Q x xs qs))
 
-ranges_in_memory : (segments : List Placed) → All EndsInMemory segments → All HasWord segments → All (λ p. IsInMemory (range_at p)) segments
-ranges_in_memory segments ends words = all_both EndsInMemory HasWord (λ p. IsInMemory (range_at p)) segments range_in_memory ends words
+ranges_in_memory : (segments : List Placed) → All EndsInMemory segments → All HasWord segments
+    → All (λ p. IsInMemory (range_at p)) segments
+ranges_in_memory segments ends words =
+    all_both EndsInMemory HasWord (λ p. IsInMemory (range_at p)) segments range_in_memory ends words
 
-chosen_in_memory : (test : Placed → Bool) (segments : List Placed) → All EndsInMemory segments → All HasWord segments → All IsInMemory (filled (map range_at (filter test segments)))
+chosen_in_memory : (test : Placed → Bool) (segments : List Placed) → All EndsInMemory segments → All HasWord segments
+    → All IsInMemory (filled (map range_at (filter test segments)))
 chosen_in_memory test segments ends words =
     All-filter (λ range. nat_lt 0 range.length) IsInMemory (map range_at (filter test segments))
-    (All-map IsInMemory range_at (filter test segments) (All-filter test (λ p. IsInMemory (range_at p)) segments (ranges_in_memory segments ends words)))
+    (All-map IsInMemory range_at (filter test segments)
+    (All-filter test (λ p. IsInMemory (range_at p)) segments (ranges_in_memory segments ends words)))
 
-pub code_in_memory : (segments : List Placed) → All EndsInMemory segments → All HasWord segments → All IsInMemory (located_code segments)
+pub code_in_memory : (segments : List Placed) → All EndsInMemory segments → All HasWord segments
+    → All IsInMemory (located_code segments)
 code_in_memory segments ends words = chosen_in_memory (λ p. p.id == 1) segments ends words
 
-pub data_in_memory : (segments : List Placed) → All EndsInMemory segments → All HasWord segments → All IsInMemory (located_data segments)
+pub data_in_memory : (segments : List Placed) → All EndsInMemory segments → All HasWord segments
+    → All IsInMemory (located_data segments)
 data_in_memory segments ends words = chosen_in_memory (λ p. not (p.id == 1 || p.id == 3)) segments ends words
 
 -- the segment that is found, or else none at 0
-pub found_all : (P : Placed → Type 0) (id : ℕ) (segments : List Placed) → P (nowhere id) → All P segments → P (placed_in segments id)
+pub found_all : (P : Placed → Type 0) (id : ℕ) (segments : List Placed) → P (nowhere id) → All P segments
+    → P (placed_in segments id)
 found_all P id [] none all = none
 found_all P id (p ∷ ps) none all =
     elim (p.id == id) as (λ b. P (unwrap_or (cond b (Some p) (find (λ q. q.id == id) ps)) (nowhere id))) [
@@ -82,6 +92,8 @@ found_all P id (p ∷ ps) none all =
       | false ↦ found_all P id ps none (All-tail P p ps all)
     ]
 
-pub stack_in_memory : (segments : List Placed) → All EndsInMemory segments → All HasWord segments → IsInMemory (located_stack segments)
+pub stack_in_memory : (segments : List Placed) → All EndsInMemory segments → All HasWord segments
+    → IsInMemory (located_stack segments)
 stack_in_memory segments ends words =
-    found_all (λ p. IsInMemory (range_at p)) 3 segments (range_in_memory (nowhere 3) (omega arith) (omega arith)) (ranges_in_memory segments ends words)
+    found_all (λ p. IsInMemory (range_at p)) 3 segments (range_in_memory (nowhere 3) (omega arith) (omega arith))
+    (ranges_in_memory segments ends words)

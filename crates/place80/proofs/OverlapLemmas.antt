@@ -9,17 +9,22 @@ use Rattle.place80.proofs.LocatedApart.{share_then_overlap}
 
 -- an address of a segment
 pub in_placed : (p : Placed) (address : ℕ) → p.base ≤ address → address < p.base + p.length → is_in_placed p address ≡ true
-in_placed p address above below = and_from (nat_le p.base address) (nat_lt address (p.base + p.length)) (le-leb p.base address above) (lt-ltb address (p.base + p.length) below)
+in_placed p address above below =
+    and_from (nat_le p.base address) (nat_lt address (p.base + p.length)) (le-leb p.base address above)
+    (lt-ltb address (p.base + p.length) below)
 
-pub placed_bounds : (p : Placed) (address : ℕ) → is_in_placed p address ≡ true → (p.base ≤ address) × (address < p.base + p.length)
+pub placed_bounds : (p : Placed) (address : ℕ) → is_in_placed p address ≡ true
+    → (p.base ≤ address) × (address < p.base + p.length)
 placed_bounds p address inside =
     let parts = and_parts (nat_le p.base address) (nat_lt address (p.base + p.length)) inside in
     (leb-true p.base address parts.0, ltb-true address (p.base + p.length) parts.1)
 
 -- overlapping segments have an address in both
-common_address : (p q : Placed) → overlaps p q ≡ true → (address : ℕ) × (is_in_placed p address ≡ true) × (is_in_placed q address ≡ true)
+common_address : (p q : Placed) → overlaps p q ≡ true
+    → (address : ℕ) × (is_in_placed p address ≡ true) × (is_in_placed q address ≡ true)
 common_address p q both =
-    let outer = and_parts (nat_lt 0 p.length && nat_lt 0 q.length && nat_lt p.base (q.base + q.length)) (nat_lt q.base (p.base + p.length)) both in
+    let outer = and_parts (nat_lt 0 p.length && nat_lt 0 q.length && nat_lt p.base (q.base + q.length))
+    (nat_lt q.base (p.base + p.length)) both in
     let inner = and_parts (nat_lt 0 p.length && nat_lt 0 q.length) (nat_lt p.base (q.base + q.length)) outer.0 in
     let some = and_parts (nat_lt 0 p.length) (nat_lt 0 q.length) inner.0 in
     let first_some : 0 < p.length = ltb-true 0 p.length some.0 in
@@ -35,7 +40,8 @@ common_address p q both =
           (p.base, in_placed p p.base (omega arith) (omega arith), in_placed q p.base order first_below)
     ]
 
-pub overlap_is_shared_address : (p q : Placed) → overlaps p q ≡ true ↔ ((address : ℕ) × (is_in_placed p address ≡ true) × (is_in_placed q address ≡ true))
+pub overlap_is_shared_address : (p q : Placed)
+    → overlaps p q ≡ true ↔ ((address : ℕ) × (is_in_placed p address ≡ true) × (is_in_placed q address ≡ true))
 overlap_is_shared_address p q = (
   common_address p q,
   λ shared.

@@ -20,7 +20,8 @@ from_first_id commons = ap (filter (has_common_id commons)) all_numbers
 -- the ids from one on: itself, if a common has it, and those after it
 pub ids_step : (commons : List Common) (id : ℕ) → id < 255 →
     filter (has_common_id commons) (range_with_len id (255 - id))
-    ≡ cond (has_common_id commons id) (id ∷ filter (has_common_id commons) (range_with_len (id + 1) (255 - (id + 1)))) (filter (has_common_id commons) (range_with_len (id + 1) (255 - (id + 1))))
+    ≡ cond (has_common_id commons id) (id ∷ filter (has_common_id commons) (range_with_len (id + 1) (255 - (id + 1))))
+    (filter (has_common_id commons) (range_with_len (id + 1) (255 - (id + 1))))
 ids_step commons id below =
     let left : 255 - id ≡ suc (255 - (id + 1)) = omega arith in
     rw left refl
@@ -42,13 +43,16 @@ unfolding layout_of
 whole_layout options m = refl
 
 -- the places so far and those that are left, with one more
-pub one_place_more : (options : Options) (m : ModuleValue) (before : ℕ) (ids : List ℕ) (i : ℕ) (segments : List Placed) (placed : Placed) → i < length ids → placed ≡ placed_after options m before (get_or ids i 0) →
-    (segments ++ placed ∷ []) ++ placed_from options m (placed.base + placed.length) (drop (i + 1) ids) ≡ segments ++ placed_from options m before (drop i ids)
+pub one_place_more : (options : Options) (m : ModuleValue) (before : ℕ) (ids : List ℕ) (i : ℕ) (segments : List Placed)
+    (placed : Placed) → i < length ids → placed ≡ placed_after options m before (get_or ids i 0) →
+    (segments ++ placed ∷ []) ++ placed_from options m (placed.base + placed.length) (drop (i + 1) ids) ≡ segments
+    ++ placed_from options m before (drop i ids)
 one_place_more options m before ids i segments placed inside is =
     append_assoc segments (placed ∷ []) (placed_from options m (placed.base + placed.length) (drop (i + 1) ids))
     ∙ ap (λ (p : Placed). segments ++ p ∷ placed_from options m (p.base + p.length) (drop (i + 1) ids)) is
     ∙ ap (λ l. segments ++ placed_from options m before l) (sym (drop_more ids i 0 inside))
 
-pub one_word_more : (segments : List Placed) (placed : Placed) → AllByRecursion (λ p. p.length < 65536) segments → placed.length < 65536 → AllByRecursion (λ p. p.length < 65536) (segments ++ placed ∷ [])
+pub one_word_more : (segments : List Placed) (placed : Placed) → AllByRecursion (λ p. p.length < 65536) segments
+    → placed.length < 65536 → AllByRecursion (λ p. p.length < 65536) (segments ++ placed ∷ [])
 one_word_more [] placed all word = (word, tt)
 one_word_more (p ∷ ps) placed all word = (all.0, one_word_more ps placed all.1 word)

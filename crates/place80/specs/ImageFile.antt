@@ -33,7 +33,15 @@ chunk_content chunk = record { segment = absolute_id; offset = chunk.address; by
 
 -- the module of an image: its name, one content for each chunk, in order, and its start; it has no segments of its own
 abbrev pub image_module : Located → ModuleValue
-image_module image = record { name = image.name; segments = []; commons = []; publics = []; externals = []; contents = map chunk_content image.chunks; start = Some (absolute_id, image.start) }
+image_module image = record {
+  name = image.name;
+  segments = [];
+  commons = [];
+  publics = [];
+  externals = [];
+  contents = map chunk_content image.chunks;
+  start = Some (absolute_id, image.start);
+}
 
 -- the object file of an image
 abbrev pub image_bytes : Located → List ℕ
@@ -80,7 +88,8 @@ pub record SpellsImage (bytes : List ℕ) (program : AbsoluteProgram) : Type 0 w
 -- why they spell none: the first fault of the file, or what forbids its modules
 pub data FaultsImage (bytes : List ℕ) : ImageFault → Type 0 where
   of_file : (fault : ModuleFault) → FaultsFile bytes fault → FaultsImage bytes (Module fault)
-  of_modules : (modules : List ModuleValue) (fault : ImageFault) → SpellsFile bytes modules → program_of_one modules ≡ Err fault → FaultsImage bytes fault
+  of_modules : (modules : List ModuleValue) (fault : ImageFault) → SpellsFile bytes modules → program_of_one modules ≡ Err fault
+      → FaultsImage bytes fault
 
 -- ---- laws
 

@@ -18,7 +18,8 @@ HasItsLength options m p = p.length ≡ unwrap_or (given_length options p.id) (o
 -- it stands at the base that is given for it, or at the end of the one before it, at the next multiple of 256 where it is
 -- paged
 abbrev pub Follows : Options → ModuleValue → Placed → Placed → Type 0
-Follows options m before p = p.base ≡ unwrap_or (given_base options p.id) (rounded (own_segment m p.id).paged (before.base + before.length))
+Follows options m before p =
+    p.base ≡ unwrap_or (given_base options p.id) (rounded (own_segment m p.id).paged (before.base + before.length))
 
 -- each stands so after the one before it
 abbrev pub AllFollow : Options → ModuleValue → Placed → List Placed → Type 0
@@ -40,11 +41,13 @@ abbrev pub LayoutIsLaidOut : Type 0
 LayoutIsLaidOut = (options : Options) (m : ModuleValue) → IsLaidOut options m (layout_of options m)
 
 abbrev pub LaidOutInOneWay : Type 0
-LaidOutInOneWay = (options : Options) (m : ModuleValue) (segments : List Placed) → IsLaidOut options m segments → segments ≡ layout_of options m
+LaidOutInOneWay = (options : Options) (m : ModuleValue) (segments : List Placed) → IsLaidOut options m segments
+    → segments ≡ layout_of options m
 
 -- two segments overlap exactly where an address lies in both
 abbrev pub OverlapIsASharedAddress : Type 0
-OverlapIsASharedAddress = (p q : Placed) → overlaps p q ≡ true ↔ ((address : ℕ) × (is_in_placed p address ≡ true) × (is_in_placed q address ≡ true))
+OverlapIsASharedAddress = (p q : Placed)
+    → overlaps p q ≡ true ↔ ((address : ℕ) × (is_in_placed p address ≡ true) × (is_in_placed q address ≡ true))
 
 -- the segment ends with memory or before it, and where it is MEMORY, it holds all of its content
 pub record LiesInMemory (contents : List ContentValue) (p : Placed) : Type 0 where

@@ -1,20 +1,21 @@
 -- The image of a located program: its chunks, its regions and its start, by the places of its segments.
 -- (ISIS-II User's Guide, LOCATE: an absolute module.)
-use Rattle.std.specs.Prelude.{ℕ, ◌≡◌, ◌+◌, ◌≤◌, ◌<◌, All, IsTrue, length, ◌%◌, ◌==◌, Bool, ◌||◌, not, None, List, [], ◌∷◌, filter, find, map}
+use Rattle.std.specs.Prelude.{ℕ, ◌≡◌, ◌+◌, ◌≤◌, ◌<◌, All, IsTrue, length, ◌%◌, ◌==◌, Bool, ◌||◌, not, Option, None, option_map, List, [], ◌∷◌, filter, find, map}
 use Rattle.std.specs.List.{AllByRecursion}
 use Rattle.omf_parts.specs.Segments.{code_id, stack_id}
 use Rattle.omf_parts.specs.Modules.{ModuleValue}
 use Rattle.omf_parts.specs.declared.fixup.Target.{Target}
 use Rattle.omf_parts.specs.Contents.{ContentValue}
 use Rattle.omf_relocation.specs.Patches.{are_inside, are_apart}
-use Rattle.omf_relocation.specs.ImageByte.{word_to, patch_with, ByteChunk, chunk_at, chunks_of}
+use Rattle.omf_relocation.specs.ImageByte.{word_to, patch_with, ByteChunk, chunk_at, chunks_of, image_byte}
 use Rattle.image80.specs.declared.range.Range.{Range}
 use Rattle.place80.specs.declared.options.Options.{Options}
 use Rattle.place80.specs.declared.placed_segments.Placed.{Placed}
-use Rattle.image80.specs.Image.{PlacedBytes}
+use Rattle.image80.specs.Image.{PlacedBytes, byte_at}
+use Rattle.image80.specs.Regions.{Areas, Arranges}
 use Rattle.image80.specs.RegionsText.{filled}
 use Rattle.place80.specs.Layout.{placed_in, place_among, program_bases}
-use Rattle.place80.specs.PlaceFault.{overlaps, pairs}
+use Rattle.place80.specs.PlaceFault.{overlaps, pairs, start_place}
 
 -- a chunk of an image
 abbrev pub placed_bytes : ByteChunk → PlacedBytes
@@ -31,6 +32,14 @@ word_among segments = word_to (λ id. place_among segments id 0) (λ index. 0)
 
 abbrev pub chunk_among : List Placed → ContentValue → PlacedBytes
 chunk_among segments c = placed_bytes (chunk_at (place_among segments c.segment c.offset) (word_among segments) c)
+
+-- these chunks have at every address the byte that the one module defines under its own places
+abbrev pub HoldsProgram : Options → ModuleValue → List PlacedBytes → Type 0
+HoldsProgram options m chunks = (address : ℕ) → byte_at chunks address ≡ image_byte (program_bases options m) (m ∷ []) address
+
+-- the place where the program starts
+abbrev pub program_start : Options → ModuleValue → Option ℕ
+program_start options m = option_map (start_place (program_bases options m) m) m.start
 
 -- a content that fits its place: its references begin in it, lie inside it and share no byte, and its chunk is one
 pub record CanBePlaced (segments : List Placed) (c : ContentValue) : Type 0 where
@@ -62,3 +71,7 @@ is_data id = not (id == code_id || id == stack_id)
 
 abbrev pub located_data : List Placed → List Range
 located_data segments = filled (map range_at (filter (λ p. is_data p.id) segments))
+
+-- regions of these segments, each kind put by address
+abbrev pub ArrangesSegments : List Placed → Areas → Type 0
+ArrangesSegments segments areas = Arranges (located_code segments) (located_stack segments) (located_data segments) areas

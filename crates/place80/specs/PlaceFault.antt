@@ -96,7 +96,9 @@ abbrev pub start_place : Bases → ModuleValue → ℕ × ℕ → ℕ
 start_place bases m start = place_in bases (m ∷ []) 0 m start.0 start.1
 
 abbrev pub start_not_code : Bases → ModuleValue → List Placed → Option PlaceFault
-start_not_code bases m segments = option_and_then (λ start. if is_in_placed (placed_in segments code_id) (start_place bases m start) then None else Some StartNotCode) m.start
+start_not_code bases m segments =
+    let is_code = λ (start : ℕ × ℕ). is_in_placed (placed_in segments code_id) (start_place bases m start) in
+    option_and_then (λ start. if is_code start then None else Some StartNotCode) m.start
 
 -- why segments can't be laid out
 abbrev pub layout_fault : Options → ModuleValue → Option PlaceFault

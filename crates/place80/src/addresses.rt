@@ -1,4 +1,4 @@
-//! Places by the segments that were laid out.
+//! Addresses by the segments that were laid out.
 
 ghost use Rattle.std.specs.Prelude.{◌≡◌};
 ghost use Rattle.place80.specs.Layout.{top_in, place_among};
@@ -15,9 +15,9 @@ fn top_in(segments: &[Placed]) -> u16
     ((u64::from(stack.base) + u64::from(stack.length)) % 65536) as u16
 }
 
-/// The place of an offset in a segment: absolute offsets stand as they are, STACK is spoken of from its top, and anything
-/// else from its base.
-pub(crate) fn place_of(segments: &[Placed], id: u8, offset: u16) -> u16
+/// The address of an offset in a segment, as of a public name: absolute offsets stand as they are, STACK is spoken of from its
+/// top, and anything else from its base. A segment that isn't among these begins at 0.
+pub fn place_of(segments: &[Placed], id: u8, offset: u16) -> u16
     ensures { result ≡ place_among segments.now id offset }
 {
     match id {

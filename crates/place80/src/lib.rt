@@ -3,9 +3,11 @@
 //! | Item | What it is |
 //! |---|---|
 //! | [`layout`], [`Layout`], [`Placed`] | the segments of a program at their places |
+//! | [`place_of`] | the address of an offset in one of them: where a public name lies |
 //! | [`locate`], [`Options`], [`PlaceFault`] | a program made an image, where its segments go, and why it can't be located |
 //! | [`write_image`], [`read_image`], [`ImageFault`] | an image as an object file, and why bytes are no image |
-//! | [`Image`], [`Chunk`], [`Regions`], [`Range`], [`Case`], [`RegionMap`] | a located program and its regions, which stand in `image80` |
+//! | [`Image`], [`Chunk`] | a located program, which stands in `image80` |
+//! | [`Regions`], [`Range`], [`Case`], [`RegionMap`] | its regions, which stand there too |
 //! | [`write_regions`], [`read_regions`], [`RegionsFault`] | regions as a text, which stand in `image80` too |
 //! | [`write_regions2`], [`migrate_regions`] | regions as a text of version 2, which stand there too |
 //! | [`laws`] | what holds of the definitions alone |
@@ -26,6 +28,7 @@ mod overlap;
 mod place_fault;
 mod placed_segments;
 
+pub use addresses::place_of;
 pub use image_fault::ImageFault;
 pub use image_file::{read_image, write_image};
 pub use image80::{

@@ -1,14 +1,11 @@
 //! A program at its places.
 
-ghost use Rattle.std.specs.Prelude.{◌≡◌, ◌⊎◌, ℕ, false, None, Some, [], ◌∷◌, map, option_map, IfOk, IfErr, OnOk};
+ghost use Rattle.std.specs.Prelude.{◌≡◌, ◌⊎◌, false, None, Some, [], ◌∷◌, map, IfOk, IfErr, OnOk};
 ghost use Rattle.std.specs.List.{AllByRecursion};
-ghost use Rattle.omf_relocation.specs.ImageByte.{image_byte};
 ghost use Rattle.omf_relocation.specs.HighReferences.{any_loses_low_byte};
-ghost use Rattle.image80.specs.Image.{byte_at};
-ghost use Rattle.image80.specs.Regions.{Arranges};
 ghost use Rattle.place80.specs.Layout.{layout_of, program_bases};
-ghost use Rattle.place80.specs.Locating.{CanBePlaced, Fit, chunk_among, located_chunks, located_code, located_stack, located_data};
-ghost use Rattle.place80.specs.PlaceFault.{locate_fault, start_place};
+ghost use Rattle.place80.specs.Locating.{CanBePlaced, Fit, HoldsProgram, ArrangesSegments, chunk_among, located_chunks, program_start};
+ghost use Rattle.place80.specs.PlaceFault.{locate_fault};
 ghost use Rattle.place80.specs.declared.place_fault.PlaceFault.TheVariants.{Memory, NoStart, Unresolved};
 
 use crate::addresses::{is_in_placed, place_of};
@@ -46,9 +43,9 @@ use std::alloc::{AllocError, Global};
 pub fn locate(alloc: Global, program: &Module, options: &Options) -> Result<Image, PlaceFault>
     ensures name { IfOk result (λ image. image.name ≡ program.now.name) }
     ensures chunks { IfOk result (λ image. image.chunks ≡ located_chunks options.now program.now) }
-    ensures memory { IfOk result (λ image. (address : ℕ) → byte_at image.chunks address ≡ image_byte (program_bases options.now program.now) (program.now ∷ []) address) }
-    ensures regions { IfOk result (λ image. let segments = layout_of options.now program.now in Arranges (located_code segments) (located_stack segments) (located_data segments) image.regions) }
-    ensures start { IfOk result (λ image. Some image.start ≡ option_map (start_place (program_bases options.now program.now) program.now) program.now.start) }
+    ensures memory { IfOk result (λ image. HoldsProgram options.now program.now image.chunks) }
+    ensures regions { IfOk result (λ image. ArrangesSegments (layout_of options.now program.now) image.regions) }
+    ensures start { IfOk result (λ image. Some image.start ≡ program_start options.now program.now) }
     ensures high { OnOk result (any_loses_low_byte (program_bases options.now program.now) (program.now ∷ []) ≡ false) }
     ensures none { OnOk result (locate_fault options.now program.now ≡ None) }
     ensures fault { IfErr result (λ fault. (fault ≡ Memory) ⊎ (locate_fault options.now program.now ≡ Some fault)) }
@@ -85,7 +82,7 @@ fn image_of(
     requires contents { AllByRecursion (CanBePlaced segments.now) program.now.contents }
     ensures name { IfOk result (λ image. image.name ≡ program.now.name) }
     ensures chunks { IfOk result (λ image. image.chunks ≡ map (chunk_among segments.now) program.now.contents) }
-    ensures regions { IfOk result (λ image. Arranges (located_code segments.now) (located_stack segments.now) (located_data segments.now) image.regions) }
+    ensures regions { IfOk result (λ image. ArrangesSegments segments.now image.regions) }
     ensures start { IfOk result (λ image. image.start ≡ start) }
 {
     let name = program.name().copy(alloc)?;

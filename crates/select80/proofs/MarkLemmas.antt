@@ -1,12 +1,11 @@
 -- Marks on a row of modules, their queue, and the search along what is needed.
 use Rattle.std.specs.Prelude.{◌≡◌, ℕ, zero, suc, ◌+◌, ◌<◌, ◌≤◌, ◌⊎◌, Bool, true, false, not, Option, Some, List, [], ◌∷◌, ◌++◌, slice_get, length, Contains, count_by, filter_map, refl}
 use Rattle.std.specs.List.{cons_option}
-use Rattle.std.proofs.Common.{◌∙◌, ap, sym, subst, arith, inl, inr, cond, get_or, set, take, replicate}
+use Rattle.std.proofs.Common.{◌∙◌, ap, sym, subst, arith, inl, inr, cond, get_or, set, take}
 use Rattle.std.proofs.lemmas.Bool.{cases_eq, cases_lt, false≢true}
-use Rattle.std.proofs.lemmas.List.{get_or-set_same, get_or-set_other, length-set, length_push, length-replicate, take_more}
+use Rattle.std.proofs.lemmas.List.{get_or-set_same, get_or-set_other, length-set, length_push, take_more}
 use Rattle.std.proofs.lemmas.List.Elements.{Contains-push_cases, Contains-append_left, Contains-append_right, Contains-append_cases, filter_map-append}
 use Rattle.std.proofs.lemmas.List.Sums.{sum_by-set}
-use Rattle.std.proofs.lemmas.List.Folds.{sum_by-replicate}
 use Rattle.std.proofs.lemmas.Option.{none-some, same_Some, slice_get_within, slice_get-get_or, get_or_from_slice_get}
 use Rattle.omf_parts.specs.Modules.{ModuleValue}
 use Rattle.select80.specs.Selecting.{needed, IsReached, root, needed_by, is_marked, AreReached, IsQueue, Marks, IsSearched}
@@ -50,23 +49,15 @@ marks_none marked queue = record {
   queues = λ q. q;
 }
 
-pub marks_again : (marked : List Bool) (queue : List ℕ) (n : ℕ) → is_marked marked n ≡ true → Marks (n ∷ []) marked queue marked queue
-marks_again marked queue n here = record {
-  kept = λ k is. is;
-  all = λ k has. ap (is_marked marked) (sym (has_one n k has)) ∙ here;
-  only = λ k is. inl is;
-  stays = λ i m at. at;
-  places = refl;
-  queues = λ q. q;
-}
-
-same_mark : (marked : List Bool) (n k : ℕ) → n < length marked → is_marked marked k ≡ true → is_marked (set marked n true) k ≡ true
+same_mark : (marked : List Bool) (n k : ℕ) → n < length marked → is_marked marked k ≡ true
+    → is_marked (set marked n true) k ≡ true
 same_mark marked n k inside is = elim (cases_eq k n) [
   | inl same ↦ ap (is_marked (set marked n true)) same ∙ get_or-set_same marked n true false inside
   | inr ne ↦ get_or-set_other marked n k true false ne ∙ is
 ]
 
-new_mark : (marked : List Bool) (n k : ℕ) → is_marked (set marked n true) k ≡ true → (is_marked marked k ≡ true) ⊎ Contains (n ∷ []) k
+new_mark : (marked : List Bool) (n k : ℕ) → is_marked (set marked n true) k ≡ true
+    → (is_marked marked k ≡ true) ⊎ Contains (n ∷ []) k
 new_mark marked n k is = elim (cases_eq k n) [
   | inl same ↦ inr (is_one n k (sym same))
   | inr ne ↦ inl (sym (get_or-set_other marked n k true false ne) ∙ is)
@@ -75,13 +66,15 @@ new_mark marked n k is = elim (cases_eq k n) [
 abbrev without : Bool → ℕ
 without b = cond (not b) 1 0
 
-one_less : (marked : List Bool) (n : ℕ) → n < length marked → is_marked marked n ≡ false → count_by not (set marked n true) + 1 ≡ count_by not marked
+one_less : (marked : List Bool) (n : ℕ) → n < length marked → is_marked marked n ≡ false
+    → count_by not (set marked n true) + 1 ≡ count_by not marked
 one_less marked n inside unmarked =
     let sums = sum_by-set without marked n true false inside in
     let one : without (is_marked marked n) ≡ 1 = ap without unmarked in
     omega (arith, sums, one)
 
-queue_more : (marked : List Bool) (queue : List ℕ) (n : ℕ) → n < length marked → is_marked marked n ≡ false → IsQueue marked queue → IsQueue (set marked n true) (queue ++ n ∷ [])
+queue_more : (marked : List Bool) (queue : List ℕ) (n : ℕ) → n < length marked → is_marked marked n ≡ false → IsQueue marked queue
+    → IsQueue (set marked n true) (queue ++ n ∷ [])
 queue_more marked queue n inside unmarked q = record {
   queued = λ k is. elim (new_mark marked n k is) [
     | inl before ↦ Contains-append_left queue (n ∷ []) k (q.queued k before)
@@ -109,7 +102,11 @@ pub marks_more : (ns ms : List ℕ) (marked marked1 marked2 : List Bool) (queue 
     Marks ns marked queue marked1 queue1 → Marks ms marked1 queue1 marked2 queue2 → Marks (ns ++ ms) marked queue marked2 queue2
 marks_more ns ms marked marked1 marked2 queue queue1 queue2 first next = record {
   kept = λ k is. next.kept k (first.kept k is);
-  all = λ k has. elim (Contains-append_cases ns ms k has) [ inl early ↦ next.kept k (first.all k early) | inr late ↦ next.all k late ];
+  all = λ k has. elim (Contains-append_cases ns ms k has) [
+    | inl early ↦ next.kept k (first.all k early)
+    | inr late ↦
+        next.all k late
+  ];
   only = λ k is. elim (next.only k is) [
     | inl before ↦ elim (first.only k before) [ inl was ↦ inl was | inr early ↦ inr (Contains-append_left ns ms k early) ]
     | inr late ↦ inr (Contains-append_right ns ms k late)
@@ -120,27 +117,6 @@ marks_more ns ms marked marked1 marked2 queue queue1 queue2 first next = record 
 }
 
 -- ---- the search
-
-no_mark : (n k : ℕ) → is_marked (replicate n false) k ≡ true → ⊥
-no_mark zero k is = absurd (false≢true is)
-no_mark (suc n) zero is = absurd (false≢true is)
-no_mark (suc n) (suc k) is = no_mark n k is
-
-all_unmarked : (n : ℕ) → count_by not (replicate n false) ≡ n
-all_unmarked n = sum_by-replicate without n false ∙ omega arith
-
-pub search_none : (row : List ModuleValue) (marked : List Bool) → marked ≡ replicate (length row) false → IsSearched row 0 0 marked []
-search_none row marked is = subst (λ (m : List Bool). IsSearched row 0 0 m []) (sym is) (record {
-  reached = λ k has. absurd (no_mark (length row) k has);
-  started = λ k none. absurd (omega (arith, none));
-  closed = λ i n k m none. absurd (omega (arith, none));
-  is_queue = record {
-    queued = λ k has. absurd (no_mark (length row) k has);
-    has_mark = λ k has. absurd (has_none k has);
-    room = omega (arith, all_unmarked (length row), length-replicate (length row) false);
-  };
-  places = length-replicate (length row) false;
-})
 
 more_roots : (row : List ModuleValue) (roots k : ℕ) → IsReached row roots k → IsReached row (roots + 1) k
 more_roots row roots k (root _ below) = root k (omega arith)
@@ -162,7 +138,8 @@ search_root row n marked after queue queue_after so_far marks = record {
   places = marks.places ∙ so_far.places;
 }
 
-pub search_next : (row : List ModuleValue) (roots looked_at n : ℕ) (m : ModuleValue) (marked after : List Bool) (queue queue_after : List ℕ) →
+pub search_next : (row : List ModuleValue) (roots looked_at n : ℕ) (m : ModuleValue) (marked after : List Bool)
+    (queue queue_after : List ℕ) →
     IsSearched row roots looked_at marked queue → slice_get queue looked_at ≡ Some n → slice_get row n ≡ Some m →
     Marks (needed row m) marked queue after queue_after → IsSearched row roots (looked_at + 1) after queue_after
 search_next row roots looked_at n m marked after queue queue_after so_far at there marks = record {
@@ -186,14 +163,16 @@ search_next row roots looked_at n m marked after queue queue_after so_far at the
   places = marks.places ∙ so_far.places;
 }
 
-search_back : (row : List ModuleValue) (roots looked_at : ℕ) (marked : List Bool) (queue : List ℕ) → IsSearched row roots looked_at marked queue →
+search_back : (row : List ModuleValue) (roots looked_at : ℕ) (marked : List Bool) (queue : List ℕ)
+    → IsSearched row roots looked_at marked queue →
     length queue ≤ looked_at → (k : ℕ) → IsReached row roots k → is_marked marked k ≡ true
 search_back row roots looked_at marked queue so_far all k (root _ below) = so_far.started k below
 search_back row roots looked_at marked queue so_far all k (needed_by n _ m from there needs) =
     let at = at_has queue n (so_far.is_queue.queued n (search_back row roots looked_at marked queue so_far all n from)) in
     so_far.closed at.0 n k m (let inside = slice_get_within queue at.0 n at.1 in omega arith) at.1 there needs
 
-pub search_end : (row : List ModuleValue) (roots looked_at : ℕ) (marked : List Bool) (queue : List ℕ) → IsSearched row roots looked_at marked queue →
+pub search_end : (row : List ModuleValue) (roots looked_at : ℕ) (marked : List Bool) (queue : List ℕ)
+    → IsSearched row roots looked_at marked queue →
     length queue ≤ looked_at → AreReached row roots marked
 search_end row roots looked_at marked queue so_far all = record {
   reached = λ k. (λ is. so_far.reached k is, λ from. search_back row roots looked_at marked queue so_far all k from);
@@ -202,20 +181,24 @@ search_end row roots looked_at marked queue so_far all = record {
 
 -- ---- steps of the loops
 
-pub search_inside : (row : List ModuleValue) (roots looked_at n : ℕ) (marked : List Bool) (queue : List ℕ) → IsSearched row roots looked_at marked queue →
+pub search_inside : (row : List ModuleValue) (roots looked_at n : ℕ) (marked : List Bool) (queue : List ℕ)
+    → IsSearched row roots looked_at marked queue →
     looked_at < length queue → n ≡ get_or queue looked_at n → (slice_get queue looked_at ≡ Some n) × (n < length row)
 search_inside row roots looked_at n marked queue so_far inside is =
     let at = slice_get-get_or queue looked_at n inside ∙ ap (λ x. Some x) (sym is) in
     let less = mark_inside marked n (so_far.is_queue.has_mark n (has_at queue looked_at n at)) in
     (at, omega (arith, less, so_far.places))
 
-pub search_room : (row : List ModuleValue) (roots looked_at : ℕ) (marked : List Bool) (queue : List ℕ) → IsSearched row roots looked_at marked queue → length queue ≤ length row
-search_room row roots looked_at marked queue so_far = omega (arith, so_far.is_queue.room, so_far.places)
-
-pub marks_next : (h : List ℕ → Option ℕ) (names : List (List ℕ)) (i : ℕ) (name : List ℕ) (number : Option ℕ) (marked marked1 marked2 : List Bool) (queue queue1 queue2 : List ℕ) →
-    i < length names → name ≡ get_or names i name → number ≡ h name → Marks (filter_map h (take i names)) marked queue marked1 queue1 →
-    Marks (cons_option number []) marked1 queue1 marked2 queue2 → Marks (filter_map h (take (i + 1) names)) marked queue marked2 queue2
+pub marks_next : (h : List ℕ
+    → Option ℕ) (names : List (List ℕ)) (i : ℕ) (name : List ℕ) (number : Option ℕ) (marked marked1 marked2 : List Bool)
+    (queue queue1 queue2 : List ℕ) →
+    i < length names → name ≡ get_or names i name → number ≡ h name
+    → Marks (filter_map h (take i names)) marked queue marked1 queue1 →
+    Marks (cons_option number []) marked1 queue1 marked2 queue2
+    → Marks (filter_map h (take (i + 1) names)) marked queue marked2 queue2
 marks_next h names i name number marked marked1 marked2 queue queue1 queue2 inside is gives before next =
     let more = take_more names i name inside ∙ ap (λ x. take i names ++ x ∷ []) (sym is) in
-    let all = ap (filter_map h) more ∙ filter_map-append h (take i names) (name ∷ []) ∙ ap (λ (o : Option ℕ). filter_map h (take i names) ++ cons_option o []) (sym gives) in
-    subst (λ (ns : List ℕ). Marks ns marked queue marked2 queue2) (sym all) (marks_more (filter_map h (take i names)) (cons_option number []) marked marked1 marked2 queue queue1 queue2 before next)
+    let all = ap (filter_map h) more ∙ filter_map-append h (take i names) (name ∷ [])
+    ∙ ap (λ (o : Option ℕ). filter_map h (take i names) ++ cons_option o []) (sym gives) in
+    subst (λ (ns : List ℕ). Marks ns marked queue marked2 queue2) (sym all)
+    (marks_more (filter_map h (take i names)) (cons_option number []) marked marked1 marked2 queue queue1 queue2 before next)

@@ -20,10 +20,12 @@ pub record IsFirstProvider (libraries : List (List ModuleValue)) (name : List �
   pub provider : ModuleValue
   pub there : module_at libraries place ≡ Some provider
   pub declares_it : declares name provider ≡ true
-  pub none_before : (before : Chosen) (m : ModuleValue) → IsBefore before place → module_at libraries before ≡ Some m → declares name m ≡ false
+  pub none_before : (before : Chosen) (m : ModuleValue) → IsBefore before place → module_at libraries before ≡ Some m
+      → declares name m ≡ false
 
 -- a module needs the one at a place: for a name that is external to it and public in no root
-pub record Needs (roots : List ModuleValue) (libraries : List (List ModuleValue)) (m : ModuleValue) (place : Chosen) : Type 0 where
+pub record Needs (roots : List ModuleValue) (libraries : List (List ModuleValue)) (m : ModuleValue)
+    (place : Chosen) : Type 0 where
   pub name : List ℕ
   pub external : Contains m.externals name
   pub in_no_root : list_any (declares name) roots ≡ false
@@ -31,7 +33,8 @@ pub record Needs (roots : List ModuleValue) (libraries : List (List ModuleValue)
 
 -- the places of what is taken: what a root needs, and what a taken module needs
 pub data IsChosen (roots : List ModuleValue) (libraries : List (List ModuleValue)) : Chosen → Type 0 where
-  by_root : (root : ModuleValue) (place : Chosen) → Contains roots root → Needs roots libraries root place → IsChosen roots libraries place
+  by_root : (root : ModuleValue) (place : Chosen) → Contains roots root → Needs roots libraries root place
+      → IsChosen roots libraries place
   by_member : (member place : Chosen) (m : ModuleValue) → IsChosen roots libraries member → module_at libraries member ≡ Some m →
       Needs roots libraries m place → IsChosen roots libraries place
 

@@ -4,6 +4,7 @@ use Rattle.std.specs.List.{slice_index_or}
 use Rattle.omf_parts.specs.Modules.{ModuleValue}
 use Rattle.omf_library.specs.Providers.{first_provider}
 use Rattle.select80.specs.declared.chosen.Chosen.{Chosen}
+use Rattle.select80.specs.declared.selecting.Search.{Search}
 
 -- the modules of the libraries, one library after another
 abbrev pub members : List (List ModuleValue) → List ModuleValue
@@ -32,7 +33,8 @@ needed row m = filter_map (first_provider row) m.externals
 -- numbers that are reached from the roots by needs
 pub data IsReached (row : List ModuleValue) (roots : ℕ) : ℕ → Type 0 where
   root : (n : ℕ) → n < roots → IsReached row roots n
-  needed_by : (n k : ℕ) (m : ModuleValue) → IsReached row roots n → slice_get row n ≡ Some m → Contains (needed row m) k → IsReached row roots k
+  needed_by : (n k : ℕ) (m : ModuleValue) → IsReached row roots n → slice_get row n ≡ Some m → Contains (needed row m) k
+      → IsReached row roots k
 
 abbrev pub is_marked : List Bool → ℕ → Bool
 is_marked marked k = slice_index_or marked k false
@@ -48,7 +50,8 @@ pub record IsQueue (marked : List Bool) (queue : List ℕ) : Type 0 where
   pub room : length queue + count_by not marked ≡ length marked
 
 -- some numbers are marked, and those that weren't yet are put last into the queue
-pub record Marks (numbers : List ℕ) (was_marked : List Bool) (was_queue : List ℕ) (marked : List Bool) (queue : List ℕ) : Type 0 where
+pub record Marks (numbers : List ℕ) (was_marked : List Bool) (was_queue : List ℕ) (marked : List Bool)
+    (queue : List ℕ) : Type 0 where
   pub kept : (k : ℕ) → is_marked was_marked k ≡ true → is_marked marked k ≡ true
   pub all : (k : ℕ) → Contains numbers k → is_marked marked k ≡ true
   pub only : (k : ℕ) → is_marked marked k ≡ true → (is_marked was_marked k ≡ true) ⊎ Contains numbers k
@@ -56,11 +59,16 @@ pub record Marks (numbers : List ℕ) (was_marked : List Bool) (was_queue : List
   pub places : length marked ≡ length was_marked
   pub queues : IsQueue was_marked was_queue → IsQueue marked queue
 
+-- the same of a search
+abbrev pub MarksIn : List ℕ → Search → Search → Type 0
+MarksIn numbers was now = Marks numbers was.marked.items was.queue.items now.marked.items now.queue.items
+
 -- the search so far: what the first numbers of the queue need is marked
 pub record IsSearched (row : List ModuleValue) (roots looked_at : ℕ) (marked : List Bool) (queue : List ℕ) : Type 0 where
   pub reached : (k : ℕ) → is_marked marked k ≡ true → IsReached row roots k
   pub started : (k : ℕ) → k < roots → is_marked marked k ≡ true
-  pub closed : (i n k : ℕ) (m : ModuleValue) → i < looked_at → slice_get queue i ≡ Some n → slice_get row n ≡ Some m → Contains (needed row m) k →
-      is_marked marked k ≡ true
+  pub closed : (i n k : ℕ) (m : ModuleValue) → i < looked_at → slice_get queue i ≡ Some n → slice_get row n ≡ Some m
+      → Contains (needed row m) k
+      → is_marked marked k ≡ true
   pub is_queue : IsQueue marked queue
   pub places : length marked ≡ length row

@@ -2,7 +2,7 @@
 
 ghost use Rattle.std.specs.Prelude.{◌≡◌, ◌↔◌, ◌<◌, ◌≤◌, [], ◌∷◌, ◌++◌, length, Contains, IfOk, OnOk};
 ghost use Rattle.select80.specs.Selected.{IsChosen, AreAscending};
-ghost use Rattle.select80.specs.Selecting.{members, places_in, places_from, marked_places, needed, AreReached, Marks, IsSearched};
+ghost use Rattle.select80.specs.Selecting.{members, places_in, places_from, marked_places, needed, AreReached, MarksIn, IsSearched};
 
 use crate::chosen::Chosen;
 use crate::row::Row;
@@ -36,7 +36,7 @@ impl Search {
     /// Marks a module, and puts it last in the queue, where it isn't marked yet.
     fn mark(&mut self, number: usize) -> Result<(), AllocError>
         requires { number < length self.old.marked.items }
-        ensures { OnOk result (Marks (number ∷ []) self.old.marked.items self.old.queue.items self.new.marked.items self.new.queue.items) }
+        ensures { OnOk result (MarksIn (number ∷ []) self.old self.new) }
     {
         if !self.marked[number] {
             self.marked[number] = true;
@@ -48,7 +48,7 @@ impl Search {
     /// Marks the modules that a module needs.
     fn mark_needed(&mut self, row: &Row<'_>, source: &Module) -> Result<(), AllocError>
         requires { length self.old.marked.items ≡ length row.now }
-        ensures { OnOk result (Marks (needed row.now source.now) self.old.marked.items self.old.queue.items self.new.marked.items self.new.queue.items) }
+        ensures { OnOk result (MarksIn (needed row.now source.now) self.old self.new) }
     {
         for name in source.externals() {
             if let Some(number) = row.first(name.bytes()) {
@@ -134,7 +134,8 @@ pub fn select(
     roots: &[Module],
     libraries: &[Library],
 ) -> Result<Vec<Chosen>, AllocError>
-    ensures chosen { IfOk result (λ taken. (place : Chosen) → Contains taken.items place ↔ IsChosen roots.now libraries.now place) }
+    ensures chosen { IfOk result (λ taken.
+        (place : Chosen) → Contains taken.items place ↔ IsChosen roots.now libraries.now place) }
     ensures ascending { IfOk result (λ taken. AreAscending taken.items) }
 {
     let marked = marks_of(alloc, roots, libraries)?;

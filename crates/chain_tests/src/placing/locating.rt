@@ -19,8 +19,8 @@ fn module(alloc: Global) -> Result<Module, Fail> {
 }
 
 /// The number of segments that are laid out for a module, with no option.
-fn segments(alloc: Global, module: &Module) -> Result<usize, PlaceFault> {
-    Ok(layout(alloc, module, &Options::default())?.segments.len())
+fn segments(alloc: Global, source: &Module) -> Result<usize, PlaceFault> {
+    Ok(layout(alloc, source, &Options::default())?.segments.len())
 }
 
 #[test]

@@ -10,7 +10,8 @@ use Rattle.build80.proofs.building.build.Goals as goal
 pub returns-clause-image : goal.returns-clause-image
 returns-clause-image c =
     let modules = modules_with c.args.roots.now c.args.libraries.now c.in_ok-linked.linked.taken.items in
-    holds_modules c.linking_keeps_bytes.ensures.bytes c.args.options.now c.args.name.now modules c.in_ok-linked.linked.module c.in_ok-image.image
+    holds_modules c.linking_keeps_bytes.ensures.bytes c.args.options.now c.args.name.now modules c.in_ok-linked.linked.module
+    c.in_ok-image.image
     c.in_ok-linked.ensures.sound c.in_ok-linked.ensures.no_fault c.in_ok-linked.ensures.linked (record {
       own_name = c.in_ok-image.ensures.name;
       memory = c.in_ok-image.ensures.memory;
@@ -36,6 +37,7 @@ returns-in_err-image-clause-fault c =
     rw (p.1, p.2) (λ link place. elim c.in_err-image.ensures.fault [
       | inl memory ↦ absurd (place (ap Place memory))
       | inr first ↦
-          by_place c.in_ok-linked.linked.taken.items c.in_err-image.field-0.0 c.in_ok-linked.ensures.taken c.in_ok-linked.ensures.no_fault
+          by_place c.in_ok-linked.linked.taken.items c.in_err-image.field-0.0 c.in_ok-linked.ensures.taken
+          c.in_ok-linked.ensures.no_fault
           (ap (locate_fault c.args.options.now) (sym c.in_ok-linked.ensures.linked) ∙ first)
     ])

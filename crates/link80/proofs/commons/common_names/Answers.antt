@@ -13,15 +13,18 @@ loop-number-preserved c =
     let left : List (List ℕ) = flat_map names_of_commons (drop (c.loop-number.number + 1) c.args.modules.now) in (
       ap (λ names. with_names names left) c.in_ok-add_commons.ensures.names
           ∙ with_both c.loop-number.names (names_of_commons c.get.result.now) left
-          ∙ ap (λ ms. with_names c.loop-number.names (flat_map names_of_commons ms)) (sym (left_at c.args.modules.now c.loop-number.number c.get.result.now c.get.ensures))
+          ∙ ap (λ ms. with_names c.loop-number.names (flat_map names_of_commons ms))
+          (sym (left_at c.args.modules.now c.loop-number.number c.get.result.now c.get.ensures))
           ∙ c.loop-number.invariant.0,
       c.in_ok-add_commons.ensures.copies c.loop-number.invariant.1,
     )
 
 pub returns-clause-names : goal.returns-clause-names
 returns-clause-names c =
-    let past : length c.args.modules.now ≤ c.loop-number.number = omega (arith, c.loop-number-test.false, c.len-number-end.ensures) in
-    sym (at_drop_all (λ ms. with_names c.loop-number.names (flat_map names_of_commons ms)) c.args.modules.now c.loop-number.number past)
+    let past : length c.args.modules.now ≤ c.loop-number.number =
+    omega (arith, c.loop-number-test.false, c.len-number-end.ensures) in
+    sym (at_drop_all (λ ms. with_names c.loop-number.names (flat_map names_of_commons ms)) c.args.modules.now c.loop-number.number
+    past)
     ∙ c.loop-number.invariant.0
     ∙ first_sights (flat_map names_of_commons c.args.modules.now)
 

@@ -8,5 +8,6 @@ use Rattle.link80.proofs.contents.linked_contents.Given as goal
 -- the contents so far, and those of the modules that are left
 abbrev pub invariant-loop-number : goal.invariant-loop-number
 invariant-loop-number l =
-    (l.contents.items ++ flat_map (λ m. map (linked_content l.tables m) m.1.contents) (enumerate_from l.number (drop l.number l.tables)) ≡ linked_contents l.tables)
+    (l.contents.items ++ flat_map (λ m. map (linked_content l.tables m) m.1.contents)
+    (enumerate_from l.number (drop l.number l.tables)) ≡ linked_contents l.tables)
     × ((k : ℕ) (m : ModuleValue) → k < l.number → slice_get l.tables k ≡ Some m → IsModule m)

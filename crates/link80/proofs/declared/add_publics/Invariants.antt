@@ -6,4 +6,6 @@ use Rattle.link80.proofs.declared.add_publics.Given as goal
 abbrev pub invariant-loop-public : goal.invariant-loop-public
 invariant-loop-public l =
     (l.names ++ map (λ p. p.name) (drop l.public-index l.source.publics) ≡ l.initial.names ++ names_of_publics l.source)
-    × ((rest : List (List ℕ)) → again_in l.initial.names (names_of_publics l.source ++ rest) ≡ again_in l.names (map (λ p. p.name) (drop l.public-index l.source.publics) ++ rest))
+    × ((rest : List (List ℕ))
+    → again_in l.initial.names (names_of_publics l.source ++ rest)
+    ≡ again_in l.names (map (λ p. p.name) (drop l.public-index l.source.publics) ++ rest))

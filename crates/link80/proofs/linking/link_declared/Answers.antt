@@ -8,7 +8,8 @@ use Rattle.link80.specs.Linking.{IsFirstFault, IsLinkOf}
 use Rattle.link80.proofs.linking.link_declared.Goals as goal
 
 pub link_laid-requires-clause-names : goal.link_laid-requires-clause-names
-link_laid-requires-clause-names c = c.requires.names ∙ ap (λ (ms : List ModuleValue). map (λ (p : Public). p.name) (linked_publics ms)) (sym c.in_ok-laid.ensures.same)
+link_laid-requires-clause-names c = c.requires.names
+    ∙ ap (λ (ms : List ModuleValue). map (λ (p : Public). p.name) (linked_publics ms)) (sym c.in_ok-laid.ensures.same)
 
 pub link_laid-requires-clause-once : goal.link_laid-requires-clause-once
 link_laid-requires-clause-once c = ap duplicate_public c.in_ok-laid.ensures.same ∙ c.requires.once
@@ -18,8 +19,10 @@ link_laid-requires-clause-segments_fit c = ap segment_too_long c.in_ok-laid.ensu
 
 pub returns-clause-made : goal.returns-clause-made
 returns-clause-made c =
-    subst (λ (ms : List ModuleValue). IfOk c.link_laid.result (λ made. IsLinkOf c.args.name.now ms made.0 made.1.items)) c.in_ok-laid.ensures.same c.link_laid.ensures.made
+    subst (λ (ms : List ModuleValue). IfOk c.link_laid.result (λ made. IsLinkOf c.args.name.now ms made.0 made.1.items))
+    c.in_ok-laid.ensures.same c.link_laid.ensures.made
 
 pub returns-clause-fault : goal.returns-clause-fault
 returns-clause-fault c =
-    subst (λ (ms : List ModuleValue). IfErr c.link_laid.result (IsFirstFault ms)) c.in_ok-laid.ensures.same c.link_laid.ensures.fault
+    subst (λ (ms : List ModuleValue). IfErr c.link_laid.result (IsFirstFault ms)) c.in_ok-laid.ensures.same
+    c.link_laid.ensures.fault

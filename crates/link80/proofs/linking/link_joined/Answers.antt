@@ -16,8 +16,10 @@ returns-in_err-tables-clause-fault c =
 pub from_sound_parts-requires : goal.from_sound_parts-requires
 from_sound_parts-requires c =
     let none : link_fault c.args.joined.now ≡ None = c.requires.no_other_fault ∙ c.in_ok-tables.ensures.fit in
-    let sound : AllByRecursion IsModule c.args.joined.now = subst (AllByRecursion IsModule) c.in_ok-tables.ensures.same c.in_ok-parts.ensures.sound in
-    let keeps : IsTrue (keeps_rules (linked_parts c.args.name.now c.args.joined.now)) = c.linked_module_keeps_rules.ensures.rules c.args.name.now c.args.joined.now sound none in
+    let sound : AllByRecursion IsModule c.args.joined.now =
+    subst (AllByRecursion IsModule) c.in_ok-tables.ensures.same c.in_ok-parts.ensures.sound in
+    let keeps : IsTrue (keeps_rules (linked_parts c.args.name.now c.args.joined.now)) =
+    c.linked_module_keeps_rules.ensures.rules c.args.name.now c.args.joined.now sound none in
     let parts_are = c.in_ok-parts.ensures.parts ∙ ap (linked_parts c.args.name.now) c.in_ok-tables.ensures.same in
     ap keeps_rules parts_are ∙ keeps
 

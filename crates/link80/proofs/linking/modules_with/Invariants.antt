@@ -9,4 +9,5 @@ invariant-loop-root l = l.modules ++ drop l.root-index l.roots ≡ l.roots
 
 -- the modules so far, and those at the places that are left
 abbrev pub invariant-loop-place : goal.invariant-loop-place
-invariant-loop-place l = l.modules ++ filter_map (module_at l.libraries) (drop l.place-index l.taken) ≡ modules_with l.roots l.libraries l.taken
+invariant-loop-place l =
+    l.modules ++ filter_map (module_at l.libraries) (drop l.place-index l.taken) ≡ modules_with l.roots l.libraries l.taken

@@ -6,7 +6,8 @@ use Rattle.link80.proofs.linking.parts_without_publics.Goals as goal
 
 pub returns-clause-parts : goal.returns-clause-parts
 returns-clause-parts c =
-    let segments_are = c.in_ok-segments.ensures ∙ ap (λ (ms : List ModuleValue). map (λ (id : ℕ). (id, linked_segment ms id)) (linked_ids ms)) c.tables.view_is in
+    let segments_are = c.in_ok-segments.ensures
+    ∙ ap (λ (ms : List ModuleValue). map (λ (id : ℕ). (id, linked_segment ms id)) (linked_ids ms)) c.tables.view_is in
     let commons_are = c.in_ok-commons.ensures ∙ ap linked_commons c.tables.view_is in
     let externals_are = c.in_ok-externals.ensures ∙ c.unresolved.ensures in
     λ j. record {

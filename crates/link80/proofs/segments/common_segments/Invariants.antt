@@ -10,6 +10,7 @@ use Rattle.link80.proofs.segments.common_segments.Given as goal
 abbrev pub invariant-loop-number : goal.invariant-loop-number
 invariant-loop-number l =
     (with_named_parts (common_names l.joined) l.segments.items (flat_map parts_of_commons (drop l.number l.joined))
-    ≡ with_named_parts (common_names l.joined) (map (λ _. empty_segment) (common_names l.joined)) (flat_map parts_of_commons l.joined))
+    ≡ with_named_parts (common_names l.joined) (map (λ _. empty_segment) (common_names l.joined))
+    (flat_map parts_of_commons l.joined))
     × (length l.segments.items ≡ length (common_names l.joined))
     × (AllByRecursion OncePart (drop l.number l.joined) → AllByRecursion OncePart l.joined)

@@ -6,4 +6,5 @@ use Rattle.link80.proofs.segments.fixed_segment.Given as goal
 -- the parts so far, joined, and those of the modules that are left
 abbrev pub invariant-loop-number : goal.invariant-loop-number
 invariant-loop-number l =
-    with_parts (λ m. segment_in m.segments l.id) l.segment (drop l.number l.joined) ≡ with_parts (λ m. segment_in m.segments l.id) empty_segment l.joined
+    with_parts (λ m. segment_in m.segments l.id) l.segment (drop l.number l.joined)
+    ≡ with_parts (λ m. segment_in m.segments l.id) empty_segment l.joined

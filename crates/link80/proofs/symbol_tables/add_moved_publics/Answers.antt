@@ -7,10 +7,13 @@ use Rattle.link80.proofs.symbol_tables.add_moved_publics.Goals as goal
 
 pub loop-public-preserved : goal.loop-public-preserved
 loop-public-preserved c =
-    ap (λ l. l ++ map (linked_public c.args.joined.now (c.args.number, c.args.source.now)) (drop (c.loop-public.public-index + 1) c.publics-public-items.result.now)) c.in_ok-push.ensures.items
-    ∙ one_more (linked_public c.args.joined.now (c.args.number, c.args.source.now)) c.publics-public-items.result.now c.loop-public.public-index c.public-item.result c.loop-public.publics.items
+    ap (λ l. l ++ map (linked_public c.args.joined.now (c.args.number, c.args.source.now))
+    (drop (c.loop-public.public-index + 1) c.publics-public-items.result.now)) c.in_ok-push.ensures.items
+    ∙ one_more (linked_public c.args.joined.now (c.args.number, c.args.source.now)) c.publics-public-items.result.now
+    c.loop-public.public-index c.public-item.result c.loop-public.publics.items
     (record { name = c.in_ok-copy.field-0; segment = c.linked_id.result; offset = c.moved.result })
-    c.loop-public-test.true c.public-item.is (λ j. record { name = c.in_ok-copy.ensures.same j; segment = c.linked_id.ensures j; offset = c.moved.ensures j })
+    c.loop-public-test.true c.public-item.is
+    (λ j. record { name = c.in_ok-copy.ensures.same j; segment = c.linked_id.ensures j; offset = c.moved.ensures j })
     ∙ c.loop-public.invariant
 
 pub moved-requires : goal.moved-requires

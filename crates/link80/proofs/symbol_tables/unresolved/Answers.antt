@@ -17,15 +17,18 @@ loop-number-preserved c =
     let left : List (List ℕ) = flat_map (undeclared c.args.declared.now) (drop (c.loop-number.number + 1) c.args.joined.now) in (
       ap (λ names. with_names names left) c.in_ok-add_undeclared.ensures.names
           ∙ with_both c.loop-number.names (undeclared c.args.declared.now c.get.result.now) left
-          ∙ ap (λ ms. with_names c.loop-number.names (flat_map (undeclared c.args.declared.now) ms)) (sym (left_at c.args.joined.now c.loop-number.number c.get.result.now c.get.ensures))
+          ∙ ap (λ ms. with_names c.loop-number.names (flat_map (undeclared c.args.declared.now) ms))
+          (sym (left_at c.args.joined.now c.loop-number.number c.get.result.now c.get.ensures))
           ∙ c.loop-number.invariant.0,
       c.in_ok-add_undeclared.ensures.copies c.loop-number.invariant.1,
     )
 
 pub returns-clause-names : goal.returns-clause-names
 returns-clause-names c =
-    let past : length c.args.joined.now ≤ c.loop-number.number = omega (arith, c.loop-number-test.false, c.len-number-end.ensures) in
-    sym (at_drop_all (λ ms. with_names c.loop-number.names (flat_map (undeclared c.args.declared.now) ms)) c.args.joined.now c.loop-number.number past)
+    let past : length c.args.joined.now ≤ c.loop-number.number =
+    omega (arith, c.loop-number-test.false, c.len-number-end.ensures) in
+    sym (at_drop_all (λ ms. with_names c.loop-number.names (flat_map (undeclared c.args.declared.now) ms)) c.args.joined.now
+    c.loop-number.number past)
     ∙ c.loop-number.invariant.0
     ∙ unresolved_is c.args.joined.now c.args.declared.now c.requires
 

@@ -6,6 +6,7 @@ use Rattle.link80.proofs.symbol_tables.unresolved.Given as goal
 -- the names so far, with those of the modules that are left
 abbrev pub invariant-loop-number : goal.invariant-loop-number
 invariant-loop-number l =
-    (with_names l.names (flat_map (λ m. filter (λ name. is_none (number_in l.declared name)) m.externals) (drop l.number l.joined))
+    (with_names l.names (flat_map (λ m. filter (λ name. is_none (number_in l.declared name)) m.externals)
+    (drop l.number l.joined))
     ≡ with_names [] (flat_map (λ m. filter (λ name. is_none (number_in l.declared name)) m.externals) l.joined))
     × (l.copies.items ≡ l.names)

@@ -4,4 +4,5 @@ use Rattle.map80.specs.Map.{public_line}
 use Rattle.map80.proofs.public_lines.append_lines.Given as goal
 
 abbrev pub invariant-loop-public : goal.invariant-loop-public
-invariant-loop-public l = l.text.items ≡ l.initial.text.items ++ flat_map (public_line l.segments) (map (λ p. p.now) (take l.public-index l.listed))
+invariant-loop-public l =
+    l.text.items ≡ l.initial.text.items ++ flat_map (public_line l.segments) (map (λ p. p.now) (take l.public-index l.listed))

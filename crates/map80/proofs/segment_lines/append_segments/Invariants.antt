@@ -7,6 +7,7 @@ use Rattle.map80.proofs.segment_lines.append_segments.Given as goal
 
 abbrev pub invariant-loop-placed : goal.invariant-loop-placed
 invariant-loop-placed l = record {
-  lines : l.text.items ++ flat_map (segment_line l.commons) (drop l.placed-index l.segments) ≡ l.initial.text.items ++ flat_map (segment_line l.commons) l.segments;
+  lines : l.text.items ++ flat_map (segment_line l.commons) (drop l.placed-index l.segments) ≡ l.initial.text.items
+      ++ flat_map (segment_line l.commons) l.segments;
   rules : AllByRecursion (λ (p : Placed). p.length < 65536) (drop l.placed-index l.segments);
 }

@@ -12,21 +12,24 @@ returns-in_err-piece-clause-every_library c =
     let bytes = c.args.bytes.now in
     let f = c.in_err-piece.field-0.0 in
     let p = err_from_is_err_and c.from_residual.result c.from_residual.ensures.1 in
-    let x = first_piece_fault c.new-feed.result bytes f c.new-feed.ensures (λ none real. (c.in_err-piece.ensures.fault f none real refl).0) in
+    let x = first_piece_fault c.new-feed.result bytes f c.new-feed.ensures
+    (λ none real. (c.in_err-piece.ensures.fault f none real refl).0) in
     rw (p.1, p.2) (every_library c.one_library.ensures.library c.one_library.ensures.never_both bytes (Err f) tt x)
 
 pub returns-in_err-piece-clause-fault : goal.returns-in_err-piece-clause-fault
 returns-in_err-piece-clause-fault c =
     let f = c.in_err-piece.field-0.0 in
     let p = err_from_is_err_and c.from_residual.result c.from_residual.ensures.1 in
-    rw (p.1, p.2) (first_piece_fault c.new-feed.result c.args.bytes.now f c.new-feed.ensures (λ none real. (c.in_err-piece.ensures.fault f none real refl).0))
+    rw (p.1, p.2) (first_piece_fault c.new-feed.result c.args.bytes.now f c.new-feed.ensures
+    (λ none real. (c.in_err-piece.ensures.fault f none real refl).0))
 
 pub returns-in_err-piece-clause-every_fault : goal.returns-in_err-piece-clause-every_fault
 returns-in_err-piece-clause-every_fault c =
     let bytes = c.args.bytes.now in
     let f = c.in_err-piece.field-0.0 in
     let p = err_from_is_err_and c.from_residual.result c.from_residual.ensures.1 in
-    let x = first_piece_fault c.new-feed.result bytes f c.new-feed.ensures (λ none real. (c.in_err-piece.ensures.fault f none real refl).0) in
+    let x = first_piece_fault c.new-feed.result bytes f c.new-feed.ensures
+    (λ none real. (c.in_err-piece.ensures.fault f none real refl).0) in
     rw (p.1, p.2) (λ g. every_fault c.one_library.ensures.fault bytes f g x)
 
 pub returns-clause-read : goal.returns-clause-read

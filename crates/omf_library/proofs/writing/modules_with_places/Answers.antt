@@ -11,21 +11,30 @@ use Rattle.omf_library.proofs.writing.modules_with_places.Goals as goal
 
 pub loop-source-preserved : goal.loop-source-preserved
 loop-source-preserved c = record {
-  bytes = bytes_step c.args.modules.now c.loop-source.source-index c.source-item.result c.loop-source.bytes.items c.push_module.new.bytes.items c.loop-source-test.true c.source-item.is c.in_ok-push_module.ensures.bytes c.loop-source.invariant.bytes;
-  places = places_step c.args.modules.now c.loop-source.source-index c.source-item.result c.loop-source.bytes.items c.push_module.new.bytes.items c.loop-source.places.items c.push_module.new.places.items c.loop-source-test.true c.source-item.is
+  bytes = bytes_step c.args.modules.now c.loop-source.source-index c.source-item.result c.loop-source.bytes.items
+      c.push_module.new.bytes.items c.loop-source-test.true c.source-item.is c.in_ok-push_module.ensures.bytes
+      c.loop-source.invariant.bytes;
+  places = places_step c.args.modules.now c.loop-source.source-index c.source-item.result c.loop-source.bytes.items
+      c.push_module.new.bytes.items c.loop-source.places.items c.push_module.new.places.items c.loop-source-test.true
+      c.source-item.is
       c.in_ok-push_module.ensures.bytes c.in_ok-push_module.ensures.place c.loop-source.invariant.places;
-  read = read_step c.args.modules.now c.loop-source.source-index c.source-item.result c.loop-source-test.true c.source-item.is c.in_ok-push_module.ensures.read c.loop-source.invariant.read;
+  read = read_step c.args.modules.now c.loop-source.source-index c.source-item.result c.loop-source-test.true c.source-item.is
+      c.in_ok-push_module.ensures.read c.loop-source.invariant.read;
 }
 
 pub returns-clause-bytes : goal.returns-clause-bytes
 returns-clause-bytes c =
-    all_taken (λ (l : List ModuleValue). flat_map module_bytes l) c.args.modules.now c.loop-source.source-index c.loop-source.bytes.items (flat_map module_bytes c.args.modules.now)
+    all_taken (λ (l : List ModuleValue). flat_map module_bytes l) c.args.modules.now c.loop-source.source-index
+    c.loop-source.bytes.items (flat_map module_bytes c.args.modules.now)
     c.loop-source.invariant.bytes c.loop-source-test.false refl
 
 pub returns-clause-places : goal.returns-clause-places
 returns-clause-places c =
-    all_taken (places_from (10 + length c.loop-source.bytes.items)) c.args.modules.now c.loop-source.source-index c.loop-source.places.items (places_from 10 c.args.modules.now)
+    all_taken (places_from (10 + length c.loop-source.bytes.items)) c.args.modules.now c.loop-source.source-index
+    c.loop-source.places.items (places_from 10 c.args.modules.now)
     c.loop-source.invariant.places c.loop-source-test.false refl
 
 pub returns-clause-read : goal.returns-clause-read
-returns-clause-read c = c.loop-source.invariant.read (subst (AllByRecursion IsReadAgain) (sym (drop_all c.loop-source.source-index c.args.modules.now c.loop-source-test.false)) tt)
+returns-clause-read c = c.loop-source.invariant.read
+    (subst (AllByRecursion IsReadAgain)
+    (sym (drop_all c.loop-source.source-index c.args.modules.now c.loop-source-test.false)) tt)

@@ -6,7 +6,8 @@ use Rattle.omf_module.proofs.commons.take_commons.Goals as goal
 
 pub returns-in-Err-clause-fault : goal.returns-in-Err-clause-fault
 returns-in-Err-clause-fault c = λ _.
-    refused c.args.commons.now.items c.args.body.now c.loop-cursor.commons.items c.loop-cursor.cursor c.in-Err.fault c.of_commons.result c.loop-cursor.invariant
+    refused c.args.commons.now.items c.args.body.now c.loop-cursor.commons.items c.loop-cursor.cursor c.in-Err.fault
+    c.of_commons.result c.loop-cursor.invariant
     (not_empty c.loop-cursor.cursor (search rules))
     (search rules) c.of_commons.ensures
 

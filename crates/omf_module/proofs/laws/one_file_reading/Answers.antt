@@ -4,5 +4,6 @@ use Rattle.omf_module.proofs.laws.one_file_reading.Goals as goal
 
 pub returns : goal.returns
 returns c =
-    let b = of_laws c.one_record_at_each_place.ensures c.no_fault_exactly_at_records.ensures c.one_body.ensures c.one_fault.ensures.one c.one_fault.ensures.never_both in
+    let b = of_laws c.one_record_at_each_place.ensures c.no_fault_exactly_at_records.ensures c.one_body.ensures
+    c.one_fault.ensures.one c.one_fault.ensures.never_both in
     record { file = one_file b; fault = one_file_fault b; never_both = never_both_file b }

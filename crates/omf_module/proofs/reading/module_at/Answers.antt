@@ -10,9 +10,12 @@ use Rattle.omf_module.proofs.reading.module_at.Goals as goal
 pub returns-in_err-parts-clause-fault : goal.returns-in_err-parts-clause-fault
 returns-in_err-parts-clause-fault c =
     let p = err_from_is_err_and c.from_residual-in_err-parts.result c.from_residual-in_err-parts.ensures.1 in
-    rw (p.1, p.2) (uses_then c.args.bytes.now c.args.at c.in_ok-file.after (records_of c.in_ok-file.file) c.in_err-parts.field-0.0 c.in_ok-file.ensures.begins c.in_ok-file.ensures.read c.in_err-parts.ensures.fault)
+    rw (p.1, p.2) (uses_then c.args.bytes.now c.args.at c.in_ok-file.field-0.after
+    (records_of c.in_ok-file.field-0.file) c.in_err-parts.field-0.0 c.in_ok-file.ensures.begins c.in_ok-file.ensures.read
+    c.in_err-parts.ensures.fault)
 
 pub from_sound_parts-requires : goal.from_sound_parts-requires
 from_sound_parts-requires c =
     subst (λ (m : ModuleValue). IsTrue (keeps_rules m)) (sym c.in_ok-parts.ensures.parts)
-    (keeps c.args.bytes.now c.in_ok-file.after (records_of c.in_ok-file.file) c.in_ok-file.ensures.read c.in_ok-parts.ensures.sound)
+    (keeps c.args.bytes.now c.in_ok-file.field-0.after
+    (records_of c.in_ok-file.field-0.file) c.in_ok-file.ensures.read c.in_ok-parts.ensures.sound)

@@ -14,14 +14,19 @@ returns-in-Err-clause-fault c =
 pub returns-in_err-contents-clause-fault : goal.returns-in_err-contents-clause-fault
 returns-in_err-contents-clause-fault c =
     let p = err_from_is_err_and c.from_residual.result c.from_residual.ensures.1 in
-    rw (p.1, p.2) (contents_refused (records_of c.args.file.now) c.args.draft.now c.in_err-contents.field-0.0 c.requires c.in_default.ensures
-    (subst (λ (b : List PlacedBody). OrNoMemory (λ fault. (cs : List ContentValue) → bodies_fault (with_contents c.args.draft.now cs) None b ≡ Some fault) c.in_err-contents.field-0.0)
+    rw (p.1, p.2) (contents_refused
+    (records_of c.args.file.now) c.args.draft.now c.in_err-contents.field-0.0 c.requires c.in_default.ensures
+    (subst (λ (b : List PlacedBody). OrNoMemory (λ fault. (cs : List ContentValue)
+    → bodies_fault (with_contents c.args.draft.now cs) None b ≡ Some fault) c.in_err-contents.field-0.0)
     c.deref.ensures.value c.in_err-contents.ensures.fault))
 
 pub returns-in-Err-look_at_start-clause-fault : goal.returns-in-Err-look_at_start-clause-fault
 returns-in-Err-look_at_start-clause-fault c =
-    rw c.at-in-Err-look_at_start.ensures (start_refused (records_of c.args.file.now) c.args.draft.now c.in-Err-look_at_start.why c.requires c.in_default.ensures (λ cs. rw c.deref.ensures.value at (c.in_ok-contents.ensures.sound cs)) c.in-Err-look_at_start.ensures)
+    rw c.at-in-Err-look_at_start.ensures
+    (start_refused (records_of c.args.file.now) c.args.draft.now c.in-Err-look_at_start.why c.requires c.in_default.ensures
+    (λ cs. rw c.deref.ensures.value at (c.in_ok-contents.ensures.sound cs)) c.in-Err-look_at_start.ensures)
 
 pub returns-in-Ok-clause-sound : goal.returns-in-Ok-clause-sound
 returns-in-Ok-clause-sound c =
-    all_used (records_of c.args.file.now) c.args.draft.now c.requires c.in_default.ensures (λ cs. rw c.deref.ensures.value at (c.in_ok-contents.ensures.sound cs)) c.in-Ok.ensures
+    all_used (records_of c.args.file.now) c.args.draft.now c.requires c.in_default.ensures
+    (λ cs. rw c.deref.ensures.value at (c.in_ok-contents.ensures.sound cs)) c.in-Ok.ensures

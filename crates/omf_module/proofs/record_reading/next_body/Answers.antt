@@ -21,37 +21,44 @@ returns-then-bytes-at-clause-fault c = λ _. no_byte (omega (arith, c.if-bytes-a
 pub returns-in_err-record-clause-fault : goal.returns-in_err-record-clause-fault
 returns-in_err-record-clause-fault c =
     let p = err_from_is_err_and c.from_residual.result c.from_residual.ensures.1 in
-    rw (p.1, p.2) (λ _. no_record c.in_err-record.field-0.0 (omega (arith, c.if-bytes-at.false)) (sym c.in_err-record.ensures.fault))
+    rw (p.1, p.2) (λ _. no_record c.in_err-record.field-0.0 (omega (arith, c.if-bytes-at.false))
+    (sym c.in_err-record.ensures.fault))
 
 pub returns-in-ModuleHeader-clause-fault : goal.returns-in-ModuleHeader-clause-fault
 returns-in-ModuleHeader-clause-fault c = λ _.
     let is = sym c.in-Some.ensures.kind ∙ ap kind_byte c.in-ModuleHeader.is in
     subst (λ (k : ℕ). FaultsWithin c.args.bytes.now c.args.at c.args.commons.now.items (UnknownKind k)) (sym is)
     (second_header c.in_ok-record.after c.in_ok-record.record.body.now
-    (subst (λ (k : ℕ). SpellsRecord c.args.bytes.now c.args.at c.in_ok-record.after k c.in_ok-record.record.body.now) is c.in_ok-record.ensures.read))
+    (subst (λ (k : ℕ). SpellsRecord c.args.bytes.now c.args.at c.in_ok-record.after k c.in_ok-record.record.body.now) is
+    c.in_ok-record.ensures.read))
 
 pub returns-in-EndOfFile-clause-fault : goal.returns-in-EndOfFile-clause-fault
 returns-in-EndOfFile-clause-fault c = λ _.
     let is = sym c.in-Some.ensures.kind ∙ ap kind_byte c.in-EndOfFile.is in
     file_ends c.in_ok-record.after c.in_ok-record.record.body.now
-    (subst (λ (k : ℕ). SpellsRecord c.args.bytes.now c.args.at c.in_ok-record.after k c.in_ok-record.record.body.now) is c.in_ok-record.ensures.read)
+    (subst (λ (k : ℕ). SpellsRecord c.args.bytes.now c.args.at c.in_ok-record.after k c.in_ok-record.record.body.now) is
+    c.in_ok-record.ensures.read)
 
 pub returns-in_default-clause-fault : goal.returns-in_default-clause-fault
 returns-in_default-clause-fault c = λ _.
     let other = c.in_default.ensures.unknown in
-    in_body c.in_ok-record.after c.in_ok-record.record.kind c.in_ok-record.record.body.now (body_fault.UnknownKind c.in_ok-record.record.kind) c.in_ok-record.ensures.read
-    (is_alone c.in_ok-record.record.kind (λ e. other ModuleHeader (sym e)) (λ e. other EndOfFile (sym e)) (λ e. other NamedCommons (sym e)))
+    in_body c.in_ok-record.after c.in_ok-record.record.kind c.in_ok-record.record.body.now
+    (body_fault.UnknownKind c.in_ok-record.record.kind) c.in_ok-record.ensures.read
+    (is_alone c.in_ok-record.record.kind (λ e. other ModuleHeader (sym e)) (λ e. other EndOfFile (sym e))
+    (λ e. other NamedCommons (sym e)))
     (unknown c.in_ok-record.record.kind c.in_ok-record.record.body.now (λ b. other (body_kind b)))
 
 pub returns-in_err-take_commons-in-NamedCommons-clause-fault :
     goal.returns-in_err-take_commons-in-NamedCommons-clause-fault
 returns-in_err-take_commons-in-NamedCommons-clause-fault c =
-    let p = err_from_is_err_and c.from_residual-in_err-take_commons-in-NamedCommons.result c.from_residual-in_err-take_commons-in-NamedCommons.ensures.1 in
+    let p = err_from_is_err_and c.from_residual-in_err-take_commons-in-NamedCommons.result
+    c.from_residual-in_err-take_commons-in-NamedCommons.ensures.1 in
     rw (p.1, p.2) (λ ne.
     let r = c.in_err-take_commons-in-NamedCommons.ensures.fault ne in
     subst (λ (x : Cause). FaultsWithin c.args.bytes.now c.args.at c.args.commons.now.items x) (sym r.is)
     (in_commons c.in_ok-record.after c.in_ok-record.record.body.now r.fault
-    (subst (λ (k : ℕ). SpellsRecord c.args.bytes.now c.args.at c.in_ok-record.after k c.in_ok-record.record.body.now) (sym c.in-Some.ensures.kind ∙ ap kind_byte c.in-NamedCommons.is) c.in_ok-record.ensures.read) r.faults))
+    (subst (λ (k : ℕ). SpellsRecord c.args.bytes.now c.args.at c.in_ok-record.after k c.in_ok-record.record.body.now)
+    (sym c.in-Some.ensures.kind ∙ ap kind_byte c.in-NamedCommons.is) c.in_ok-record.ensures.read) r.faults))
 
 pub returns-in_err-parse-clause-fault : goal.returns-in_err-parse-clause-fault
 returns-in_err-parse-clause-fault c =
@@ -62,10 +69,14 @@ returns-in_err-parse-clause-fault c =
           let t = w.in_ok-take_commons-in-NamedCommons.ensures.taken in
           let is = sym c.in-Some.ensures.kind ∙ ap kind_byte w.in-NamedCommons.is in
           absurd (ok_err (Err c.in_err-parse.field-0.0) (body_of.NamedCommons t.entries) c.in_err-parse.field-0.0
-          (c.in_err-parse.ensures.every_body (body_of.NamedCommons t.entries) (commons_spelled_by source.kind c.args.commons.now.items w.take_commons.new.commons.items source.body.now is t)) refl)
+          (c.in_err-parse.ensures.every_body (body_of.NamedCommons t.entries)
+          (commons_spelled_by source.kind c.args.commons.now.items w.take_commons.new.commons.items source.body.now is t))
+          refl)
       | in_default-kind w ↦
           in_body c.in_ok-record.after source.kind source.body.now c.in_err-parse.field-0.0 c.in_ok-record.ensures.read
-          (subst (λ (k : ℕ). IsTrue (stands_alone k)) c.in-Some.ensures.kind (is_alone_kind c.in-Some.kind w.in_default-kind.not-ModuleHeader w.in_default-kind.not-EndOfFile w.in_default-kind.not-NamedCommons)) c.in_err-parse.ensures.fault
+          (subst (λ (k : ℕ). IsTrue (stands_alone k)) c.in-Some.ensures.kind
+          (is_alone_kind c.in-Some.kind w.in_default-kind.not-ModuleHeader w.in_default-kind.not-EndOfFile
+          w.in_default-kind.not-NamedCommons)) c.in_err-parse.ensures.fault
     ])
 
 pub returns-clause-follows : goal.returns-clause-follows
@@ -76,10 +87,17 @@ returns-clause-follows c =
           let t = w.in_ok-take_commons-in-NamedCommons.ensures.taken in
           let is = sym c.in-Some.ensures.kind ∙ ap kind_byte w.in-NamedCommons.is in
           let same = ok_same (Ok c.in_ok-parse.field-0) c.in_ok-parse.field-0 (body_of.NamedCommons t.entries) refl
-          (c.in_ok-parse.ensures.every_body (body_of.NamedCommons t.entries) (commons_spelled_by source.kind c.args.commons.now.items w.take_commons.new.commons.items source.body.now is t)) in
-          rw w.commons-is (followed_commons c.args.bytes.now c.args.at c.in_ok-record.after source.kind source.body.now c.args.commons.now.items w.take_commons.new.commons.items c.in_ok-parse.field-0 t is c.in_ok-record.ensures.read c.in_ok-record.ensures.longest same)
+          (c.in_ok-parse.ensures.every_body (body_of.NamedCommons t.entries)
+          (commons_spelled_by source.kind c.args.commons.now.items w.take_commons.new.commons.items source.body.now is t)) in
+          rw w.commons-is (followed_commons c.args.bytes.now c.args.at c.in_ok-record.after source.kind source.body.now
+          c.args.commons.now.items w.take_commons.new.commons.items c.in_ok-parse.field-0 t is c.in_ok-record.ensures.read
+          c.in_ok-record.ensures.longest same)
       | in_default-kind w ↦
           let alone : IsTrue (stands_alone source.kind) =
-          subst (λ (k : ℕ). IsTrue (stands_alone k)) c.in-Some.ensures.kind (is_alone_kind c.in-Some.kind w.in_default-kind.not-ModuleHeader w.in_default-kind.not-EndOfFile w.in_default-kind.not-NamedCommons) in
-          rw w.commons-is (followed c.args.bytes.now c.args.at c.in_ok-record.after source.kind source.body.now c.args.commons.now.items c.in_ok-parse.field-0 c.in_ok-record.ensures.read c.in_ok-record.ensures.longest c.in_ok-parse.ensures.read alone)
+          subst (λ (k : ℕ). IsTrue (stands_alone k)) c.in-Some.ensures.kind
+          (is_alone_kind c.in-Some.kind w.in_default-kind.not-ModuleHeader w.in_default-kind.not-EndOfFile
+          w.in_default-kind.not-NamedCommons) in
+          rw w.commons-is (followed c.args.bytes.now c.args.at c.in_ok-record.after source.kind source.body.now
+          c.args.commons.now.items c.in_ok-parse.field-0 c.in_ok-record.ensures.read c.in_ok-record.ensures.longest
+          c.in_ok-parse.ensures.read alone)
     ]

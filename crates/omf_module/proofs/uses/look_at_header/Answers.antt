@@ -13,7 +13,8 @@ returns-in_err-look_at_id c =
     rw (p.1, p.2) (λ cs.
     let m = with_contents c.args.parts.now cs in
     sym (sym (c.loop-entry.invariant cs) ∙ (ap (λ (es : List SegmentEntry). unknown_id m (map (λ e. e.id) es)) front
-    ∙ unknown_first m c.in-Some.entry.id (map (λ (e : SegmentEntry). e.id) c.next.new.self) c.in_err-look_at_id.field-0.0 (c.in_err-look_at_id.ensures cs))))
+    ∙ unknown_first m c.in-Some.entry.id (map (λ (e : SegmentEntry). e.id) c.next.new.self) c.in_err-look_at_id.field-0.0
+    (c.in_err-look_at_id.ensures cs))))
 
 pub loop-entry-preserved : goal.loop-entry-preserved
 loop-entry-preserved c =

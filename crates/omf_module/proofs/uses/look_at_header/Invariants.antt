@@ -6,7 +6,9 @@ use Rattle.omf_module.specs.Reading.{with_contents}
 use Rattle.omf_module.proofs.uses.look_at_header.Given as goal
 
 abbrev pub invariant-loop-entry : goal.invariant-loop-entry
-invariant-loop-entry l = (cs : List ContentValue) → unknown_id (with_contents l.parts cs) (map (λ e. e.id) l.rest) ≡ unknown_id (with_contents l.parts cs) (map (λ e. e.id) l.header.segments)
+invariant-loop-entry l = (cs : List ContentValue)
+    → unknown_id (with_contents l.parts cs) (map (λ e. e.id) l.rest)
+    ≡ unknown_id (with_contents l.parts cs) (map (λ e. e.id) l.header.segments)
 
 abbrev pub decreases-loop-entry : goal.decreases-loop-entry
 decreases-loop-entry l = length l.rest

@@ -8,6 +8,7 @@ use Rattle.omf_module.proofs.writing.append_contents.Given as goal
 
 abbrev pub invariant-loop-content : goal.invariant-loop-content
 invariant-loop-content l = record {
-  written : l.out.items ++ flat_map record_bytes (flat_map content_bodies (drop l.content-index l.contents)) ≡ l.initial.out.items ++ flat_map record_bytes (flat_map content_bodies l.contents);
+  written : l.out.items ++ flat_map record_bytes (flat_map content_bodies (drop l.content-index l.contents)) ≡ l.initial.out.items
+      ++ flat_map record_bytes (flat_map content_bodies l.contents);
   short : AllByRecursion (λ (c : ContentValue). length c.bytes ≤ 65531) (drop l.content-index l.contents);
 }

@@ -6,4 +6,6 @@ use Rattle.omf_module.specs.Writing.{external_body}
 use Rattle.omf_module.proofs.writing.append_externals.Given as goal
 
 abbrev pub invariant-loop-name : goal.invariant-loop-name
-invariant-loop-name l = l.out.items ++ flat_map record_bytes (map external_body (drop l.name-index l.externals)) ≡ l.initial.out.items ++ flat_map record_bytes (map external_body l.externals)
+invariant-loop-name l = l.out.items
+    ++ flat_map record_bytes (map external_body (drop l.name-index l.externals)) ≡ l.initial.out.items
+    ++ flat_map record_bytes (map external_body l.externals)

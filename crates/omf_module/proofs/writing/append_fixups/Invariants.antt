@@ -6,4 +6,6 @@ use Rattle.omf_module.specs.Writing.{fixup_body}
 use Rattle.omf_module.proofs.writing.append_fixups.Given as goal
 
 abbrev pub invariant-loop-fixup : goal.invariant-loop-fixup
-invariant-loop-fixup l = l.out.items ++ flat_map record_bytes (map (fixup_body l.own) (drop l.fixup-index l.fixups)) ≡ l.initial.out.items ++ flat_map record_bytes (map (fixup_body l.own) l.fixups)
+invariant-loop-fixup l =
+    l.out.items ++ flat_map record_bytes (map (fixup_body l.own) (drop l.fixup-index l.fixups)) ≡ l.initial.out.items
+    ++ flat_map record_bytes (map (fixup_body l.own) l.fixups)

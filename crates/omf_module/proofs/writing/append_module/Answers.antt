@@ -17,10 +17,21 @@ append_contents-requires c =
 
 pub returns-clause-written : goal.returns-clause-written
 returns-clause-written c =
-    module_written c.args.source.now c.args.out.now.items c.append_header.new.out.items c.append_commons.new.out.items c.append_publics.new.out.items c.append_externals.new.out.items c.append_contents.new.out.items c.append_end.new.out.items
+    module_written c.args.source.now c.args.out.now.items c.append_header.new.out.items c.append_commons.new.out.items
+    c.append_publics.new.out.items c.append_externals.new.out.items c.append_contents.new.out.items c.append_end.new.out.items
     c.in_ok-append_header.ensures
-    (c.in_ok-append_commons.ensures ∙ ap (λ (x : List Common). c.append_header.new.out.items ++ flat_map record_bytes (map common_body x)) c.commons.ensures.value)
-    (c.in_ok-append_publics.ensures ∙ ap (λ (x : List Public). c.append_commons.new.out.items ++ flat_map record_bytes (map public_body x)) c.publics.ensures.value)
-    (c.in_ok-append_externals.ensures ∙ ap (λ (x : List (List ℕ)). c.append_publics.new.out.items ++ flat_map record_bytes (map external_body x)) c.externals.ensures.value)
-    (c.in_ok-append_contents.ensures ∙ ap (λ (x : List ContentValue). c.append_externals.new.out.items ++ flat_map record_bytes (flat_map content_bodies x)) c.contents.ensures.value)
-    (c.in_ok-append_end.ensures ∙ ap (λ (x : Option (ℕ × ℕ)). c.append_contents.new.out.items ++ record_bytes (ModuleEnd (end_body x))) c.start.ensures.value)
+    (c.in_ok-append_commons.ensures
+    ∙ ap (λ (x : List Common). c.append_header.new.out.items
+    ++ flat_map record_bytes (map common_body x)) c.commons.ensures.value)
+    (c.in_ok-append_publics.ensures
+    ∙ ap (λ (x : List Public). c.append_commons.new.out.items
+    ++ flat_map record_bytes (map public_body x)) c.publics.ensures.value)
+    (c.in_ok-append_externals.ensures
+    ∙ ap (λ (x : List (List ℕ)). c.append_publics.new.out.items
+    ++ flat_map record_bytes (map external_body x)) c.externals.ensures.value)
+    (c.in_ok-append_contents.ensures
+    ∙ ap (λ (x : List ContentValue). c.append_externals.new.out.items
+    ++ flat_map record_bytes (flat_map content_bodies x)) c.contents.ensures.value)
+    (c.in_ok-append_end.ensures
+    ∙ ap (λ (x : Option (ℕ × ℕ)). c.append_contents.new.out.items
+    ++ record_bytes (ModuleEnd (end_body x))) c.start.ensures.value)

@@ -6,4 +6,6 @@ use Rattle.omf_module.specs.Writing.{public_body}
 use Rattle.omf_module.proofs.writing.append_publics.Given as goal
 
 abbrev pub invariant-loop-public : goal.invariant-loop-public
-invariant-loop-public l = l.out.items ++ flat_map record_bytes (map public_body (drop l.public-index l.publics)) ≡ l.initial.out.items ++ flat_map record_bytes (map public_body l.publics)
+invariant-loop-public l =
+    l.out.items ++ flat_map record_bytes (map public_body (drop l.public-index l.publics)) ≡ l.initial.out.items
+    ++ flat_map record_bytes (map public_body l.publics)

@@ -12,21 +12,28 @@ use Rattle.omf_module.proofs.writing.file_of.Goals as goal
 pub loop-module-preserved : goal.loop-module-preserved
 loop-module-preserved c = record {
   written =
-      one_taken (λ (l : List ModuleValue). flat_map module_bytes l) (module_bytes c.module-item.result) c.args.modules.now c.loop-module.module-index c.module-item.result
+      one_taken (λ (l : List ModuleValue). flat_map module_bytes l)
+      (module_bytes c.module-item.result) c.args.modules.now c.loop-module.module-index c.module-item.result
       c.loop-module.file.items c.append_module.new.out.items (flat_map module_bytes c.args.modules.now)
       c.loop-module.invariant.written c.loop-module-test.true c.module-item.is refl c.in_ok-append_module.ensures.written;
   rules = λ rest. c.loop-module.invariant.rules
-      (subst (λ (l : List ModuleValue). AllByRecursion IsModule l) (sym (first_left c.args.modules.now c.loop-module.module-index c.module-item.result c.loop-module-test.true c.module-item.is))
+      (subst (λ (l : List ModuleValue). AllByRecursion IsModule l)
+      (sym (first_left c.args.modules.now c.loop-module.module-index c.module-item.result c.loop-module-test.true
+      c.module-item.is))
       (c.in_ok-append_module.ensures.rules, rest));
 }
 
 pub returns-clause-written : goal.returns-clause-written
 unfolding file_bytes
 returns-clause-written c =
-    let all = all_taken (λ (l : List ModuleValue). flat_map module_bytes l) c.args.modules.now c.loop-module.module-index c.loop-module.file.items (flat_map module_bytes c.args.modules.now) c.loop-module.invariant.written c.loop-module-test.false refl in
+    let all = all_taken (λ (l : List ModuleValue). flat_map module_bytes l) c.args.modules.now c.loop-module.module-index
+    c.loop-module.file.items
+    (flat_map module_bytes c.args.modules.now) c.loop-module.invariant.written c.loop-module-test.false refl in
     let added : c.put_record.new.out.items ≡ c.loop-module.file.items ++ record_bytes (EndOfFile []) = search rules in
     added ∙ ap (λ (w : List ℕ). w ++ record_bytes (EndOfFile [])) all
 
 pub returns-clause-rules : goal.returns-clause-rules
 returns-clause-rules c =
-    c.loop-module.invariant.rules (subst (λ (l : List ModuleValue). AllByRecursion IsModule l) (sym (drop_all c.loop-module.module-index c.args.modules.now c.loop-module-test.false)) tt)
+    c.loop-module.invariant.rules
+    (subst (λ (l : List ModuleValue). AllByRecursion IsModule l)
+    (sym (drop_all c.loop-module.module-index c.args.modules.now c.loop-module-test.false)) tt)

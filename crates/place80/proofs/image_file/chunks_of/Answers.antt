@@ -6,4 +6,5 @@ use Rattle.place80.proofs.image_file.chunks_of.Goals as goal
 
 pub chunk_of-requires : goal.chunk_of-requires
 chunk_of-requires c =
-    all_item (λ (content : ContentValue). IsChunk (content_chunk content)) c.args.contents.now c.loop-content.content-index c.content-item.result c.requires c.loop-content-test.true c.content-item.is
+    all_item (λ (content : ContentValue). IsChunk (content_chunk content)) c.args.contents.now c.loop-content.content-index
+    c.content-item.result c.requires c.loop-content-test.true c.content-item.is

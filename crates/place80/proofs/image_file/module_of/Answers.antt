@@ -11,5 +11,6 @@ from_sound_parts-requires c =
 
 pub returns-clause-made : goal.returns-clause-made
 returns-clause-made c =
-    subst (λ (m : ModuleValue). IfOk c.from_sound_parts.result (λ made. made ≡ m)) (ap made_of c.in_ok-parts.ensures.parts ∙ made_as_it_is c.args.image.now)
+    subst (λ (m : ModuleValue). IfOk c.from_sound_parts.result (λ made. made ≡ m)) (ap made_of c.in_ok-parts.ensures.parts
+    ∙ made_as_it_is c.args.image.now)
     c.from_sound_parts.ensures

@@ -8,6 +8,7 @@ use Rattle.place80.proofs.image_file.program_of.Goals as goal
 
 pub chunks_of-requires : goal.chunks_of-requires
 chunks_of-requires c =
-    subst (λ (contents : List ContentValue). AllByRecursion (λ (content : ContentValue). IsChunk (content_chunk content)) contents)
+    subst (λ (contents : List ContentValue). AllByRecursion
+    (λ (content : ContentValue). IsChunk (content_chunk content)) contents)
     (sym c.contents.ensures.value)
     (absolute_contents c.args.program.now c.contents.ensures.rules (sym c.is_absolute.ensures ∙ c.if-not-is_absolute.false))

@@ -15,14 +15,18 @@ returns-in_err-modules-clause-fault c =
 pub returns-in-len1-clause-read : goal.returns-in-len1-clause-read
 returns-in-len1-clause-read c =
     let m = c.module-item.result in
-    let same = subst (λ (ms : List ModuleValue). program_of_one ms ≡ program_of m) c.as_slice.ensures.value (program_of_first c.as_slice.result.now m c.in-len1.len_at_least c.in-len1.len_below c.module-item.is) in
-    read_by_module c.args.bytes.now m c.in_ok-modules.modules.items c.program_of.result c.in_ok-modules.ensures.read same c.program_of.ensures.read
+    let same = subst (λ (ms : List ModuleValue). program_of_one ms ≡ program_of m) c.as_slice.ensures.value
+    (program_of_first c.as_slice.result.now m c.in-len1.len_at_least c.in-len1.len_below c.module-item.is) in
+    read_by_module c.args.bytes.now m c.in_ok-modules.modules.items c.program_of.result c.in_ok-modules.ensures.read same
+    c.program_of.ensures.read
 
 pub returns-in-len1-clause-fault : goal.returns-in-len1-clause-fault
 returns-in-len1-clause-fault c =
     let m = c.module-item.result in
-    let same = subst (λ (ms : List ModuleValue). program_of_one ms ≡ program_of m) c.as_slice.ensures.value (program_of_first c.as_slice.result.now m c.in-len1.len_at_least c.in-len1.len_below c.module-item.is) in
-    refused_by_module c.args.bytes.now m c.in_ok-modules.modules.items c.program_of.result c.in_ok-modules.ensures.read same c.program_of.ensures.fault
+    let same = subst (λ (ms : List ModuleValue). program_of_one ms ≡ program_of m) c.as_slice.ensures.value
+    (program_of_first c.as_slice.result.now m c.in-len1.len_at_least c.in-len1.len_below c.module-item.is) in
+    refused_by_module c.args.bytes.now m c.in_ok-modules.modules.items c.program_of.result c.in_ok-modules.ensures.read same
+    c.program_of.ensures.fault
 
 pub returns-clause-fault : goal.returns-clause-fault
 returns-clause-fault c =

@@ -11,7 +11,8 @@ use Rattle.place80.proofs.located_regions.code_ranges.Goals as goal
 use Rattle.place80.proofs.located_regions.code_ranges.Goals.{then-placed-eq-CODE+in_ok-push_filled, else-placed-eq-CODE}
 
 pub range_at-requires : goal.range_at-requires
-range_at-requires c = item_has (λ (p : Placed). p.length < 65536) c.args.segments.now c.loop-placed.placed-index _ c.requires c.loop-placed-test.true
+range_at-requires c = item_has
+    (λ (p : Placed). p.length < 65536) c.args.segments.now c.loop-placed.placed-index _ c.requires c.loop-placed-test.true
 
 pub loop-placed-preserved : goal.loop-placed-preserved
 loop-placed-preserved c =
@@ -21,11 +22,14 @@ loop-placed-preserved c =
     elim c.if-placed-eq-CODE.branch [
       | then-placed-eq-CODE+in_ok-push_filled w ↦
           ap (λ (v : Vec Range). v.items ++ rest) w.ranges-is
-          ∙ ap (λ l. l ++ rest) (w.in_ok-push_filled.ensures ∙ ap (λ r. c.loop-placed.ranges.items ++ filled (r ∷ [])) w.range_at.ensures)
-          ∙ one_range_more test c.args.segments.now c.loop-placed.placed-index first c.loop-placed.ranges.items c.loop-placed-test.true (eq-eqb _ 1 w.if-placed-eq-CODE.true)
+          ∙ ap (λ l. l ++ rest) (w.in_ok-push_filled.ensures
+          ∙ ap (λ r. c.loop-placed.ranges.items ++ filled (r ∷ [])) w.range_at.ensures)
+          ∙ one_range_more test c.args.segments.now c.loop-placed.placed-index first c.loop-placed.ranges.items
+          c.loop-placed-test.true (eq-eqb _ 1 w.if-placed-eq-CODE.true)
           ∙ c.loop-placed.invariant
       | else-placed-eq-CODE w ↦
           ap (λ (v : Vec Range). v.items ++ rest) w.ranges-is
-          ∙ no_range_more test c.args.segments.now c.loop-placed.placed-index first c.loop-placed.ranges.items c.loop-placed-test.true (ne_eqb _ 1 w.if-placed-eq-CODE.false)
+          ∙ no_range_more test c.args.segments.now c.loop-placed.placed-index first c.loop-placed.ranges.items
+          c.loop-placed-test.true (ne_eqb _ 1 w.if-placed-eq-CODE.false)
           ∙ c.loop-placed.invariant
     ]

@@ -10,7 +10,8 @@ use Rattle.place80.proofs.located_regions.data_ranges.Goals as goal
 use Rattle.place80.proofs.located_regions.data_ranges.Goals.{then-is_data+in_ok-push_filled, else-is_data}
 
 pub range_at-requires : goal.range_at-requires
-range_at-requires c = item_has (λ (p : Placed). p.length < 65536) c.args.segments.now c.loop-placed.placed-index _ c.requires c.loop-placed-test.true
+range_at-requires c = item_has
+    (λ (p : Placed). p.length < 65536) c.args.segments.now c.loop-placed.placed-index _ c.requires c.loop-placed-test.true
 
 pub loop-placed-preserved : goal.loop-placed-preserved
 loop-placed-preserved c =
@@ -20,11 +21,14 @@ loop-placed-preserved c =
     elim c.if-is_data.branch [
       | then-is_data+in_ok-push_filled w ↦
           ap (λ (v : Vec Range). v.items ++ rest) w.ranges-is
-          ∙ ap (λ l. l ++ rest) (w.in_ok-push_filled.ensures ∙ ap (λ r. c.loop-placed.ranges.items ++ filled (r ∷ [])) w.range_at.ensures)
-          ∙ one_range_more test c.args.segments.now c.loop-placed.placed-index first c.loop-placed.ranges.items c.loop-placed-test.true (sym c.is_data.ensures ∙ w.if-is_data.true)
+          ∙ ap (λ l. l ++ rest) (w.in_ok-push_filled.ensures
+          ∙ ap (λ r. c.loop-placed.ranges.items ++ filled (r ∷ [])) w.range_at.ensures)
+          ∙ one_range_more test c.args.segments.now c.loop-placed.placed-index first c.loop-placed.ranges.items
+          c.loop-placed-test.true (sym c.is_data.ensures ∙ w.if-is_data.true)
           ∙ c.loop-placed.invariant
       | else-is_data w ↦
           ap (λ (v : Vec Range). v.items ++ rest) w.ranges-is
-          ∙ no_range_more test c.args.segments.now c.loop-placed.placed-index first c.loop-placed.ranges.items c.loop-placed-test.true (sym c.is_data.ensures ∙ w.if-is_data.false)
+          ∙ no_range_more test c.args.segments.now c.loop-placed.placed-index first c.loop-placed.ranges.items
+          c.loop-placed-test.true (sym c.is_data.ensures ∙ w.if-is_data.false)
           ∙ c.loop-placed.invariant
     ]

@@ -19,22 +19,28 @@ pub data_ranges-requires : goal.data_ranges-requires
 data_ranges-requires c = c.requires.words
 
 pub from_disjoint-requires-clause-code_filled : goal.from_disjoint-requires-clause-code_filled
-from_disjoint-requires-clause-code_filled c = subst (λ (l : List Range). All (λ range. 0 < range.length) l) (sym c.in_ok-code.ensures) (code_not_empty c.args.segments.now)
+from_disjoint-requires-clause-code_filled c =
+    subst (λ (l : List Range). All (λ range. 0 < range.length) l) (sym c.in_ok-code.ensures) (code_not_empty c.args.segments.now)
 
 pub from_disjoint-requires-clause-data_filled : goal.from_disjoint-requires-clause-data_filled
-from_disjoint-requires-clause-data_filled c = subst (λ (l : List Range). All (λ range. 0 < range.length) l) (sym c.in_ok-data_ranges.ensures) (data_not_empty c.args.segments.now)
+from_disjoint-requires-clause-data_filled c =
+    subst (λ (l : List Range). All (λ range. 0 < range.length) l) (sym c.in_ok-data_ranges.ensures)
+    (data_not_empty c.args.segments.now)
 
 pub from_disjoint-requires-clause-code_in_memory : goal.from_disjoint-requires-clause-code_in_memory
 from_disjoint-requires-clause-code_in_memory c =
-    subst (λ (l : List Range). All IsInMemory l) (sym c.in_ok-code.ensures) (code_in_memory c.args.segments.now c.requires.ends (All-from_recursion HasWord c.args.segments.now c.requires.words))
+    subst (λ (l : List Range). All IsInMemory l) (sym c.in_ok-code.ensures)
+    (code_in_memory c.args.segments.now c.requires.ends (All-from_recursion HasWord c.args.segments.now c.requires.words))
 
 pub from_disjoint-requires-clause-stack_in_memory : goal.from_disjoint-requires-clause-stack_in_memory
 from_disjoint-requires-clause-stack_in_memory c =
-    subst (λ (r : Range). IsInMemory r) (sym c.stack_range-stack.ensures) (stack_in_memory c.args.segments.now c.requires.ends (All-from_recursion HasWord c.args.segments.now c.requires.words))
+    subst (λ (r : Range). IsInMemory r) (sym c.stack_range-stack.ensures)
+    (stack_in_memory c.args.segments.now c.requires.ends (All-from_recursion HasWord c.args.segments.now c.requires.words))
 
 pub from_disjoint-requires-clause-data_in_memory : goal.from_disjoint-requires-clause-data_in_memory
 from_disjoint-requires-clause-data_in_memory c =
-    subst (λ (l : List Range). All IsInMemory l) (sym c.in_ok-data_ranges.ensures) (data_in_memory c.args.segments.now c.requires.ends (All-from_recursion HasWord c.args.segments.now c.requires.words))
+    subst (λ (l : List Range). All IsInMemory l) (sym c.in_ok-data_ranges.ensures)
+    (data_in_memory c.args.segments.now c.requires.ends (All-from_recursion HasWord c.args.segments.now c.requires.words))
 
 pub from_disjoint-requires-clause-disjoint : goal.from_disjoint-requires-clause-disjoint
 from_disjoint-requires-clause-disjoint c =

@@ -10,9 +10,14 @@ pub returns : goal.returns
 returns c =
     let roots = length c.args.roots.now in
     let marked = drop roots c.in_ok-marked.marked.items in
-    let gives = ap (marked_places c.as_slice.result.now) (take_rest c.deref.result.now roots ∙ ap (drop roots) c.deref.ensures.value)
+    let gives = ap (marked_places c.as_slice.result.now) (take_rest c.deref.result.now roots
+    ∙ ap (drop roots) c.deref.ensures.value)
     ∙ ap (λ ps. marked_places ps marked) (c.as_slice.ensures.value ∙ c.in_ok-places.ensures) in
     record {
-      chosen = IfOk-weaker c.with_mark.result _ _ (λ taken is. selected c.args.roots.now c.args.libraries.now (c.args.roots.now ++ members c.args.libraries.now) c.in_ok-marked.marked.items taken.items refl c.in_ok-marked.ensures (is ∙ gives)) c.with_mark.ensures;
-      ascending = IfOk-weaker c.with_mark.result _ _ (λ taken is. subst AreAscending (sym (is ∙ gives)) (marked_in_order c.args.libraries.now marked)) c.with_mark.ensures;
+      chosen = IfOk-weaker c.with_mark.result _ _
+          (λ taken is. selected c.args.roots.now c.args.libraries.now
+          (c.args.roots.now ++ members c.args.libraries.now) c.in_ok-marked.marked.items taken.items refl c.in_ok-marked.ensures
+          (is ∙ gives)) c.with_mark.ensures;
+      ascending = IfOk-weaker c.with_mark.result _ _
+          (λ taken is. subst AreAscending (sym (is ∙ gives)) (marked_in_order c.args.libraries.now marked)) c.with_mark.ensures;
     }

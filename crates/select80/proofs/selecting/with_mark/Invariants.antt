@@ -4,4 +4,6 @@ use Rattle.select80.specs.Selecting.{marked_places}
 use Rattle.select80.proofs.selecting.with_mark.Given as goal
 
 abbrev pub invariant-loop-place : goal.invariant-loop-place
-invariant-loop-place l = l.taken.items ++ marked_places (drop (length l.yielded) l.places) (drop (length l.yielded) l.marked) ≡ marked_places l.places l.marked
+invariant-loop-place l =
+    l.taken.items ++ marked_places (drop (length l.yielded) l.places) (drop (length l.yielded) l.marked)
+    ≡ marked_places l.places l.marked

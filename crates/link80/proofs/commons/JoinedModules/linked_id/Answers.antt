@@ -11,15 +11,19 @@ use Rattle.link80.proofs.commons.JoinedModules.linked_id.Goals.{After-number_of,
 commons_are : (c : After-number_of) → c.self.inside.commons ≡ common_names c.args.self.now
 commons_are c = c.self.invariant.0 ∙ ap common_names c.self.view_is
 
-number_is : (c : After-number_of) → number_in (common_names c.args.self.now) (common_name c.args.source.now.commons c.args.id) ≡ c.number_of.result
+number_is : (c : After-number_of)
+    → number_in (common_names c.args.self.now) (common_name c.args.source.now.commons c.args.id) ≡ c.number_of.result
 number_is c =
     ap (λ names. number_in names (common_name c.args.source.now.commons c.args.id)) (sym (commons_are c))
-    ∙ ap (number_in c.self.inside.commons) (sym (c.common_name.ensures ∙ ap (λ commons. common_name commons c.args.id) c.commons.ensures.value))
+    ∙ ap (number_in c.self.inside.commons)
+    (sym (c.common_name.ensures ∙ ap (λ commons. common_name commons c.args.id) c.commons.ensures.value))
     ∙ sym c.number_of.ensures.number
 
 few : (c : In-Some) → c.in-Some.number < 249
 few c =
-    let below : length (common_names c.args.self.now) ≤ 249 = few_commons c.args.self.now (ap Rattle.link80.specs.LinkFault.too_many_commons (sym c.self.view_is) ∙ c.self.invariant.2) in
+    let below : length (common_names c.args.self.now) ≤ 249 =
+    few_commons c.args.self.now (ap Rattle.link80.specs.LinkFault.too_many_commons (sym c.self.view_is)
+    ∙ c.self.invariant.2) in
     omega (arith, c.in-Some.ensures.within, below, ap length (commons_are c.before))
 
 pub overflow_cast-result : goal.overflow_cast-result

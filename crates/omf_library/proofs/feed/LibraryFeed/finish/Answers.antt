@@ -6,6 +6,8 @@ use Rattle.omf_library.proofs.feed.LibraryFeed.finish.Goals as goal
 
 pub returns-clause-every_library : goal.returns-clause-every_library
 returns-clause-every_library c = λ none ms s.
-    let same : c.deref.result.now ≡ c.args.self.bytes = c.deref.ensures.value ∙ ap (λ (v : LibraryFeedValue). v.bytes) c.self.view_is in
-    every_library c.one_library.ensures.library c.one_library.ensures.never_both c.deref.result.now c.finished.result c.finished.ensures.read c.finished.ensures.fault ms
+    let same : c.deref.result.now ≡ c.args.self.bytes = c.deref.ensures.value
+    ∙ ap (λ (v : LibraryFeedValue). v.bytes) c.self.view_is in
+    every_library c.one_library.ensures.library c.one_library.ensures.never_both c.deref.result.now c.finished.result
+    c.finished.ensures.read c.finished.ensures.fault ms
     (subst (λ (b : List ℕ). SpellsLibrary b ms) (sym same) s)

@@ -9,4 +9,5 @@ read_on-requires c =
     let feed = c.self.inside in
     let same : c.deref.result.now ≡ feed.bytes.items ++ c.args.piece.now = search rules in
     subst (λ (b : List ℕ). ReadsFile b feed.read) (sym same)
-    (reads_stay (of_stay c.records_stay.ensures c.other_faults_stay.ensures) feed.bytes.items c.args.piece.now feed.read c.self.invariant)
+    (reads_stay (of_stay c.records_stay.ensures c.other_faults_stay.ensures) feed.bytes.items c.args.piece.now feed.read
+    c.self.invariant)

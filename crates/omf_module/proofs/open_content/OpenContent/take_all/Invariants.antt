@@ -9,4 +9,6 @@ use Rattle.omf_module.proofs.open_content.OpenContent.take_all.Given as goal
 abbrev pub invariant-loop-fixup : goal.invariant-loop-fixup
 invariant-loop-fixup l =
     (with_fixups l.self (drop l.fixup-index l.fixups) ≡ with_fixups l.fn.self l.fixups)
-    × ((cs : List ContentValue) → fixups_fault (with_contents l.parts cs) l.self (drop l.fixup-index l.fixups) ≡ fixups_fault (with_contents l.parts cs) l.fn.self l.fixups)
+    × ((cs : List ContentValue)
+    → fixups_fault (with_contents l.parts cs) l.self (drop l.fixup-index l.fixups)
+    ≡ fixups_fault (with_contents l.parts cs) l.fn.self l.fixups)

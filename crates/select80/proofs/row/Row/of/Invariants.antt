@@ -4,4 +4,5 @@ use Rattle.select80.specs.Selecting.{members}
 use Rattle.select80.proofs.row.Row.of.Given as goal
 
 abbrev pub invariant-loop-library : goal.invariant-loop-library
-invariant-loop-library l = map (λ m. m.now) l.modules.items ++ members (drop l.library-index l.libraries) ≡ l.roots ++ members l.libraries
+invariant-loop-library l =
+    map (λ m. m.now) l.modules.items ++ members (drop l.library-index l.libraries) ≡ l.roots ++ members l.libraries

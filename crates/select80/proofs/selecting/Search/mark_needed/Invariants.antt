@@ -6,4 +6,6 @@ use Rattle.select80.specs.Selecting.{Marks}
 use Rattle.select80.proofs.selecting.Search.mark_needed.Given as goal
 
 abbrev pub invariant-loop-name : goal.invariant-loop-name
-invariant-loop-name l = Marks (filter_map (first_provider l.row) (take l.name-index l.name-items)) l.initial.self.marked.items l.initial.self.queue.items l.self.marked.items l.self.queue.items
+invariant-loop-name l = Marks
+    (filter_map (first_provider l.row) (take l.name-index l.name-items)) l.initial.self.marked.items l.initial.self.queue.items
+    l.self.marked.items l.self.queue.items
