@@ -57,7 +57,8 @@ pub record IsDepthOf (code : Code) (point : Point) (depth : Depth) : Type 0 wher
 -- a depth for each point
 pub record AreDepthsOf (code : Code) (points : List Point) (depths : List Depth) : Type 0 where
   pub count : length depths ≡ length points
-  pub each : (k : ℕ) (depth : Depth) (point : Point) → slice_get depths k ≡ Some depth → slice_get points k ≡ Some point → IsDepthOf code point depth
+  pub each : (k : ℕ) (depth : Depth) (point : Point) → slice_get depths k ≡ Some depth → slice_get points k ≡ Some point
+      → IsDepthOf code point depth
 
 -- the call of a point that is noted
 pub record IsSiteOf (code : Code) (points : List Point) (calling : CallingPoint) (site : CallSite) : Type 0 where
@@ -70,7 +71,8 @@ pub record IsSiteOf (code : Code) (points : List Point) (calling : CallingPoint)
 -- a call for each that is noted
 pub record AreSitesOf (code : Code) (s : Search) (sites : List CallSite) : Type 0 where
   pub count : length sites ≡ length s.calls.items
-  pub each : (k : ℕ) (site : CallSite) (calling : CallingPoint) → slice_get sites k ≡ Some site → slice_get s.calls.items k ≡ Some calling → IsSiteOf code s.points.keys calling site
+  pub each : (k : ℕ) (site : CallSite) (calling : CallingPoint) → slice_get sites k ≡ Some site
+      → slice_get s.calls.items k ≡ Some calling → IsSiteOf code s.points.keys calling site
 
 -- the bounds are the greatest sums by the depths of a search's points and by the calls
 pub record AreGreatestOf (code : Code) (s : Search) (depths : List Depth) (sites : List CallSite) (bounds : List ℕ) : Type 0 where
@@ -81,7 +83,8 @@ pub record AreGreatestOf (code : Code) (s : Search) (depths : List Depth) (sites
 
 -- none of the points is one of a procedure with so many bytes
 pub record NoneStands (code : Code) (points : List Point) (p : Procedure) (bytes : ℕ) : Type 0 where
-  pub none : (n : ℕ) (point : Point) → slice_get points n ≡ Some point → point.procedure ≡ p → pos bytes ≡ depth_of (role_of code point.procedure) point.frame → ⊥
+  pub none : (n : ℕ) (point : Point) → slice_get points n ≡ Some point → point.procedure ≡ p
+      → pos bytes ≡ depth_of (role_of code point.procedure) point.frame → ⊥
 
 -- where a procedure stands with so many bytes
 pub record EndsWith (code : Code) (p : Procedure) (bytes : ℕ) (last : Standing) : Type 0 where

@@ -30,7 +30,8 @@ pub record IsFurther (calls : List Call) (reached : List Reach) (n : ℕ) (reach
 
 -- each is the first call, or of the procedure that an earlier one enters
 pub record AreReached (calls : List Call) (first : Call) (reached : List Reach) : Type 0 where
-  pub each : (n : ℕ) (reach : Reach) → slice_get reached n ≡ Some reach → ((n ≡ 0) × (reach.call ≡ first)) ⊎ IsFurther calls reached n reach
+  pub each : (n : ℕ) (reach : Reach) → slice_get reached n ≡ Some reach
+      → ((n ≡ 0) × (reach.call ≡ first)) ⊎ IsFurther calls reached n reach
 
 -- each but the first one names an earlier one
 pub record AreLinked (reached : List Reach) : Type 0 where
@@ -58,7 +59,8 @@ pub record AreMarked (entered : List Bool) (reached : List Reach) : Type 0 where
 -- the call of this number doesn't enter the first one's procedure, and the callees of the procedure that it enters are entered
 pub record IsFollowed (calls : List Call) (first : Call) (reached : List Reach) (n : ℕ) : Type 0 where
   pub away : (reach : Reach) → slice_get reached n ≡ Some reach → first.caller ≡ Entry reach.call.target → ⊥
-  pub callees : (reach : Reach) (call : Call) → slice_get reached n ≡ Some reach → Contains calls call → call.caller ≡ Entry reach.call.target → IsEntered reached call.target
+  pub callees : (reach : Reach) (call : Call) → slice_get reached n ≡ Some reach → Contains calls call
+      → call.caller ≡ Entry reach.call.target → IsEntered reached call.target
 
 -- a list of calls, last first, leads from the call of a number to a procedure
 pub record IsLedBack (calls : List Call) (reached : List Reach) (n : ℕ) (back : List Call) (q : Procedure) : Type 0 where

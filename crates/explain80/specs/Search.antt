@@ -101,7 +101,8 @@ pub record IsCalling (code : Code) (points : List Point) (call : CallingPoint) :
 -- each point has its origin, and comes from there; the exits and the calls are there
 pub record IsSound (code : Code) (s : Search) : Type 0 where
   pub paired : length s.origins.items ≡ length s.points.keys
-  pub comes : (n : ℕ) (point : Point) (origin : Origin) → slice_get s.points.keys n ≡ Some point → slice_get s.origins.items n ≡ Some origin → Comes code s.points.keys n point origin
+  pub comes : (n : ℕ) (point : Point) (origin : Origin) → slice_get s.points.keys n ≡ Some point
+      → slice_get s.origins.items n ≡ Some origin → Comes code s.points.keys n point origin
   pub exits : (k : ℕ) (exit : Exit) → slice_get s.exits.items k ≡ Some exit → IsExit code s.points.keys exit
   pub calls : (k : ℕ) (call : CallingPoint) → slice_get s.calls.items k ≡ Some call → IsCalling code s.points.keys call
 
@@ -155,21 +156,27 @@ pub record HasBack (code : Code) (points : List Point) (p : Procedure) (f : Stac
 
 -- a call comes back to points that are there after each of the first exits of its callee
 pub record BacksFrom (code : Code) (points new : List Point) (exits : List Exit) (first : ℕ) (call : CallingPoint) : Type 0 where
-  pub backs : (k : ℕ) (exit : Exit) (one : Point) → k < first → slice_get exits k ≡ Some exit → exit.procedure ≡ Entry call.target → slice_get points call.point ≡ Some one →
+  pub backs : (k : ℕ) (exit : Exit) (one : Point) → k < first → slice_get exits k ≡ Some exit
+      → exit.procedure ≡ Entry call.target → slice_get points call.point ≡ Some one →
       HasBack code new one.procedure one.frame call.next exit.taken
 
 -- where a move leads from a point is there, by the exits that were known before
 pub record CoversMove (code : Code) (points : List Point) (known new : List Exit) (point : Point) (moves : Moves) (after : ℕ) : Type 0 where
-  pub on : (to : ℕ) (g : StackFrame) → LeadsTo moves (code.targets point.at) after to g → Has points (point_of point.procedure to g)
+  pub on : (to : ℕ) (g : StackFrame) → LeadsTo moves (code.targets point.at) after to g
+      → Has points (point_of point.procedure to g)
   pub enter : (target : ℕ) → called moves ≡ Some target → Has points (point_of (Entry target) target entry_frame)
-  pub back : (target taken : ℕ) → called moves ≡ Some target → HasExit known (Entry target) taken → HasBack code points point.procedure point.frame after taken
+  pub back : (target taken : ℕ) → called moves ≡ Some target → HasExit known (Entry target) taken
+      → HasBack code points point.procedure point.frame after taken
   pub return : (taken : ℕ) → returning moves ≡ Some taken → HasExit new point.procedure taken
 
 -- where a point leads is there, by the exits that were known before
 pub record Covers (code : Code) (points : List Point) (known new : List Exit) (point : Point) : Type 0 where
-  pub on : (to : ℕ) (g : StackFrame) → GoesOnTo code point.procedure point.at point.frame to g → Has points (point_of point.procedure to g)
-  pub enter : (target next : ℕ) → Calls code point.procedure point.at point.frame target next → Has points (point_of (Entry target) target entry_frame)
-  pub back : (target next taken : ℕ) → Calls code point.procedure point.at point.frame target next → HasExit known (Entry target) taken → HasBack code points point.procedure point.frame next taken
+  pub on : (to : ℕ) (g : StackFrame) → GoesOnTo code point.procedure point.at point.frame to g
+      → Has points (point_of point.procedure to g)
+  pub enter : (target next : ℕ) → Calls code point.procedure point.at point.frame target next
+      → Has points (point_of (Entry target) target entry_frame)
+  pub back : (target next taken : ℕ) → Calls code point.procedure point.at point.frame target next
+      → HasExit known (Entry target) taken → HasBack code points point.procedure point.frame next taken
   pub return : (taken : ℕ) → Returns code point.procedure point.at point.frame taken → HasExit new point.procedure taken
 
 -- a call of the point of this number is noted

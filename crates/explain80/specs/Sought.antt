@@ -44,7 +44,8 @@ ShowsSought code sought shown = ShowsKind code sought.at sought.kind shown
 -- no walks show what is sought
 abbrev pub NoWalksShow : Code → ℕ → Kind → Type 0
 NoWalksShow code at (Fault fault) = (point : Point) → IsWalked code point → FaultAt code at fault point → ⊥
-NoWalksShow code at (Clash clash) = (one other : Point) → IsWalked code one → IsWalked code other → ClashAt code at clash one other → ⊥
+NoWalksShow code at (Clash clash) = (one other : Point) → IsWalked code one → IsWalked code other
+    → ClashAt code at clash one other → ⊥
 
 -- it shows the refusal, which holds only where walks show it
 pub record IsSoughtFor (refusal : Refusal) (sought : Sought) : Type 0 where

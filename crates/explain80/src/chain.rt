@@ -75,8 +75,8 @@ fn site_of(caller: &Point, depth: i64, target: u16) -> CallSite
 /// as `verify` reports it, or as the refusal `StackTooSmall` names it. The limit is that of [`explain`](crate::explain).
 ///
 /// # Errors
-/// `NotShown` where the bound is another number, or a procedure calls itself. `Limit` where the limit was met before, a frame has more
-/// than 1,000,000 words, or there are more than 262,144 calls. `Memory` where memory runs out.
+/// `NotShown` where the bound is another number, or a procedure calls itself. `Limit` where the limit was met before, a frame has
+/// more than 1,000,000 words, or there are more than 262,144 calls. `Memory` where memory runs out.
 pub fn find_chain(
     alloc: Global,
     image: &Image,
@@ -180,7 +180,8 @@ impl Search {
         requires sound { IsSound (C.code program.now) self.now }
         requires calls { All (CallsAt (C.code program.now)) sites.now }
         ensures chain { IfOk result (λ chain. IfSome chain (ChainsTo (C.code program.now) (bytes_of bounds.now Main))) }
-        ensures none { IfOk result (λ chain. IfNone chain ((depths : List DepthSeen) → AreGreatestOf (C.code program.now) self.now depths sites.now bounds.now → ⊥)) }
+        ensures none { IfOk result (λ chain. IfNone chain ((depths : List DepthSeen)
+            → AreGreatestOf (C.code program.now) self.now depths sites.now bounds.now → ⊥)) }
     {
         let mut calls = Vec::new(alloc);
         let mut procedure = Procedure::Main;

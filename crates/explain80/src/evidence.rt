@@ -231,7 +231,8 @@ fn room(frame: &Frame, role: Role) -> usize
 /// How many words a point's procedure has taken where the point returns; `None` where it doesn't.
 fn words_taken<C: Code>(alloc: Global, program: &C, point: &Point) -> Result<Option<u32>, Stop>
     ensures returns { IfOk result (λ r. IfSome r (Returns (C.code program.now) point.now.procedure point.now.at point.now.frame)) }
-    ensures none { IfOk result (λ r. IfNone r ((taken : ℕ) → Returns (C.code program.now) point.now.procedure point.now.at point.now.frame taken → ⊥)) }
+    ensures none { IfOk result (λ r. IfNone r ((taken : ℕ)
+        → Returns (C.code program.now) point.now.procedure point.now.at point.now.frame taken → ⊥)) }
 {
     match look_at(alloc, program, point)? {
         Looked::Moved(moves, _next) => Ok(returning(&moves)),

@@ -21,14 +21,16 @@ use verify80::ImageCode;
 /// At how many points and words a search is looked through first.
 const FIRST_SIZE: usize = 1_024;
 
-/// The ways that show a refusal: the walks of the image's program are followed one by one, breadth first, and no frames are merged.
+/// The ways that show a refusal: the walks of the image's program are followed one by one, breadth first, and no frames are
+/// merged.
 ///
 /// For `Recursion` it is the calls that lead back to a procedure. `StackTooSmall` has a chain of calls instead of a way:
 /// [`find_chain`](crate::find_chain). The limit is on the points that are followed and the words of their frames together.
 ///
 /// # Errors
-/// `NotShown` where every walk was followed to its end and none shows the refusal, which then doesn't hold; and for `StackTooSmall`,
-/// `TooManyPoints` and `Memory`, which no ways show. `Limit` where the limit was met before. `Memory` where memory runs out.
+/// `NotShown` where every walk was followed to its end and none shows the refusal, which then doesn't hold; and for
+/// `StackTooSmall`, `TooManyPoints` and `Memory`, which no ways show. `Limit` where the limit was met before. `Memory` where
+/// memory runs out.
 pub fn explain(
     alloc: Global,
     image: &Image,

@@ -7,9 +7,9 @@ use crate::route::{Call, Route};
 pub enum Explanation {
     /// A way whose last point is at the fault.
     Way(Route),
-    /// Two ways. For `HeightsDiffer` their last points are at one address of one procedure, with other numbers of words, or of words taken; for
-    /// `UnevenArguments` they return with other numbers of words taken; for `ShortArguments` the first is the caller's at the
-    /// call, and the second its callee's where it has taken more words than the caller has.
+    /// Two ways. For `HeightsDiffer` their last points are at one address of one procedure, with other numbers of words, or of
+    /// words taken; for `UnevenArguments` they return with other numbers of words taken; for `ShortArguments` the first is the
+    /// caller's at the call, and the second its callee's where it has taken more words than the caller has.
     Ways(Route, Route),
     /// The calls that lead to a procedure, and the calls that lead from there back to it, that of the fault first.
     Ring {

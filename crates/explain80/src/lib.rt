@@ -1,7 +1,7 @@
 //! Explanations: why a program is refused, shown by ways through its procedures that lead to the fault.
 //!
-//! It is a second, plain program beside the verifier's: it follows the walks one by one, breadth first, and merges no frames. What
-//! it answers is proved to show the refusal that it was asked for.
+//! It is a second, plain program beside the verifier's: it follows the walks one by one, breadth first, and merges no frames.
+//! What it answers is proved to show what it was asked for, and of the refusals 1 to 16 it gives up only by the limit or memory.
 //!
 //! | Item | What it is |
 //! |---|---|

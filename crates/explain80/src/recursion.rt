@@ -41,7 +41,8 @@ impl Search {
         requires ordered { AreOrdered self.now }
         requires callers { CallersAreThere self.now }
         ensures none { IfOk result (λ shown. IfNone shown (HasNoRing self.now at)) }
-        ensures shown { IfOk result (λ shown. IfSome shown (λ shown. (code : CodeSeen) → IsSound code self.now → ByRing code at shown)) }
+        ensures shown { IfOk result (λ shown. IfSome shown (λ shown. (code : CodeSeen) → IsSound code self.now
+            → ByRing code at shown)) }
     {
         let known = self.known_calls(alloc)?;
         for number in 0..self.calls.len() {

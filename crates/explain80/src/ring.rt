@@ -52,7 +52,8 @@ pub(crate) fn ring_from(
 
 /// The first call alone.
 fn start(alloc: Global, first: Call) -> Result<Vec<Reach>, AllocError>
-    ensures reached { IfOk result (λ reached. (calls : List CallSeen) → Contains calls first → AreReached calls first reached.items) }
+    ensures reached { IfOk result (λ reached. (calls : List CallSeen) → Contains calls first
+        → AreReached calls first reached.items) }
     ensures entered { IfOk result (λ reached. IsEntered reached.items first.target) }
 {
     let mut reached = Vec::new(alloc);
@@ -75,10 +76,12 @@ fn enter_callees(
     requires target { EntersAt reached.old.items number target }
     requires marked { AreMarked entered.old.items reached.old.items }
     ensures table { length entered.new.items ≡ 65536 }
-    ensures reached { OnOk result ((first : CallSeen) → AreReached calls.now first reached.old.items → AreReached calls.now first reached.new.items) }
+    ensures reached { OnOk result ((first : CallSeen) → AreReached calls.now first reached.old.items
+        → AreReached calls.now first reached.new.items) }
     ensures more { OnOk result (Extends reached.old.items reached.new.items) }
     ensures marked { OnOk result (AreMarked entered.new.items reached.new.items) }
-    ensures callees { OnOk result ((call : CallSeen) → Contains calls.now call → call.caller ≡ Entry target → IsEntered reached.new.items call.target) }
+    ensures callees { OnOk result ((call : CallSeen) → Contains calls.now call → call.caller ≡ Entry target
+        → IsEntered reached.new.items call.target) }
 {
     for call in calls {
         let place = usize::from(call.target);
@@ -107,7 +110,9 @@ fn is_of(call: Call, target: u16) -> bool
 fn calls_back(alloc: Global, reached: &[Reach], number: usize) -> Result<Vec<Call>, AllocError>
     requires linked { AreLinked reached.now }
     requires there { number < length reached.now }
-    ensures { IfOk result (λ back. (calls : List CallSeen) (first : CallSeen) (last : ReachSeen) → AreReached calls first reached.now → Contains calls first → slice_get reached.now number ≡ Some last → IsLed calls first back.items (Entry last.call.target)) }
+    ensures { IfOk result (λ back. (calls : List CallSeen) (first : CallSeen) (last : ReachSeen)
+        → AreReached calls first reached.now → Contains calls first → slice_get reached.now number ≡ Some last
+        → IsLed calls first back.items (Entry last.call.target)) }
 {
     let mut back = Vec::new(alloc);
     let mut at = number;

@@ -123,7 +123,8 @@ impl Search {
         ensures grows { OnOk result (Grows (C.code program.now) self.old self.new) }
         ensures exits { OnOk result (self.new.exits.items ≡ self.old.exits.items) }
         ensures calls { OnOk result (self.new.calls.items ≡ self.old.calls.items) }
-        ensures back { OnOk result ((one : Point) → slice_get self.old.points.keys call.point ≡ Some one → HasBack (C.code program.now) self.new.points.keys one.procedure one.frame call.next exit.taken) }
+        ensures back { OnOk result ((one : Point) → slice_get self.old.points.keys call.point ≡ Some one
+            → HasBack (C.code program.now) self.new.points.keys one.procedure one.frame call.next exit.taken) }
     {
         let caller = &self.points[call.point];
         let procedure = caller.procedure;
@@ -245,7 +246,8 @@ impl Search {
         requires begun { Has self.old.points.keys (point_of Main (C.code program.now).start main_frame) }
         ensures grows { OnOk result (Grows (C.code program.now) self.old self.new) }
         ensures same { IfOk result (λ closed. closed ≡ true → self.new.points.keys ≡ self.old.points.keys) }
-        ensures closed { IfOk result (λ closed. closed ≡ true → IsClosed (C.code program.now) self.new.points.keys self.new.exits.items self.new.calls.items) }
+        ensures closed { IfOk result (λ closed. closed ≡ true
+            → IsClosed (C.code program.now) self.new.points.keys self.new.exits.items self.new.calls.items) }
     {
         let points = self.points.len();
         let exits = self.exits.len();
@@ -312,7 +314,9 @@ impl Search {
         ensures grows { OnOk result (Grows (C.code program.now) self.old self.new) }
         ensures exits { OnOk result (self.new.exits.items ≡ self.old.exits.items) }
         ensures calls { OnOk result (self.new.calls.items ≡ self.old.calls.items) }
-        ensures there { OnOk result ((one : Point) (to : ℕ) → slice_get self.old.points.keys number ≡ Some one → Contains ((C.code program.now).targets one.at) to → Has self.new.points.keys (point_of one.procedure to frame.now)) }
+        ensures there { OnOk result ((one : Point) (to : ℕ) → slice_get self.old.points.keys number ≡ Some one
+            → Contains ((C.code program.now).targets one.at) to
+            → Has self.new.points.keys (point_of one.procedure to frame.now)) }
     {
         let at = self.points[number].at;
         let procedure = self.points[number].procedure;
@@ -330,9 +334,11 @@ impl Search {
         requires sound { IsSound (C.code program.now) self.old }
         requires there { number < length self.old.points.keys }
         ensures grows { OnOk result (Grows (C.code program.now) self.old self.new) }
-        ensures covers { OnOk result ((point : Point) → slice_get self.old.points.keys number ≡ Some point → Covers (C.code program.now) self.new.points.keys self.old.exits.items self.new.exits.items point) }
+        ensures covers { OnOk result ((point : Point) → slice_get self.old.points.keys number ≡ Some point
+            → Covers (C.code program.now) self.new.points.keys self.old.exits.items self.new.exits.items point) }
         ensures more { OnOk result (Extends self.old.calls.items self.new.calls.items) }
-        ensures noted { OnOk result ((point : Point) → slice_get self.old.points.keys number ≡ Some point → NotesCalls (C.code program.now) self.new.calls.items number point) }
+        ensures noted { OnOk result ((point : Point) → slice_get self.old.points.keys number ≡ Some point
+            → NotesCalls (C.code program.now) self.new.calls.items number point) }
     {
         match look_at(alloc, program, &self.points[number])? {
             Looked::Wrong(_) | Looked::Stuck(_) => Ok(()),
@@ -352,7 +358,8 @@ impl Search {
         requires sound { IsSound (C.code program.now) self.old }
         requires moving { IsMovingAt (C.code program.now) self.old.points.keys number moves next }
         ensures grows { OnOk result (Grows (C.code program.now) self.old self.new) }
-        ensures covers { OnOk result ((point : Point) → slice_get self.old.points.keys number ≡ Some point → CoversMove (C.code program.now) self.new.points.keys self.old.exits.items self.new.exits.items point moves next) }
+        ensures covers { OnOk result ((point : Point) → slice_get self.old.points.keys number ≡ Some point
+            → CoversMove (C.code program.now) self.new.points.keys self.old.exits.items self.new.exits.items point moves next) }
         ensures noted { OnOk result (NotesMove self.old.calls.items self.new.calls.items number moves) }
     {
         let procedure = self.points[number].procedure;

@@ -32,7 +32,8 @@ impl Search {
     pub(crate) fn route(&self, alloc: Global, number: usize) -> Result<Route, AllocError>
         requires ordered { AreOrdered self.now }
         requires there { number < length self.now.points.keys }
-        ensures { IfOk result (λ route. (code : CodeSeen) (last : Point) → IsSound code self.now → slice_get self.now.points.keys number ≡ Some last → IsRoute code route last) }
+        ensures { IfOk result (λ route. (code : CodeSeen) (last : Point) → IsSound code self.now
+            → slice_get self.now.points.keys number ≡ Some last → IsRoute code route last) }
     {
         Ok(Route {
             calls: self.calls_to(alloc, number)?,
@@ -47,7 +48,8 @@ impl Search {
     pub(crate) fn show(&self, alloc: Global, evidence: Evidence) -> Result<Explanation, AllocError>
         requires ordered { AreOrdered self.now }
         requires there { AreWithin (length self.now.points.keys) evidence }
-        ensures { IfOk result (λ shown. (code : CodeSeen) (sought : Sought) → IsSound code self.now → IsEvidence code self.now.points.keys sought evidence → ShowsSought code sought shown) }
+        ensures { IfOk result (λ shown. (code : CodeSeen) (sought : Sought) → IsSound code self.now
+            → IsEvidence code self.now.points.keys sought evidence → ShowsSought code sought shown) }
     {
         match evidence {
             Evidence::One(number) => Ok(Explanation::Way(self.route(alloc, number)?)),
@@ -78,7 +80,8 @@ impl Search {
     fn way_to(&self, alloc: Global, number: usize) -> Result<Vec<Point>, AllocError>
         requires ordered { AreOrdered self.now }
         requires there { number < length self.now.points.keys }
-        ensures { IfOk result (λ way. (code : CodeSeen) (last : Point) → IsSound code self.now → slice_get self.now.points.keys number ≡ Some last → IsWayTo code way.items last) }
+        ensures { IfOk result (λ way. (code : CodeSeen) (last : Point) → IsSound code self.now
+            → slice_get self.now.points.keys number ≡ Some last → IsWayTo code way.items last) }
     {
         let mut way = Vec::new(alloc);
         let mut at = number;
@@ -111,8 +114,10 @@ impl Search {
         requires ordered { AreOrdered self.now }
         requires there { number < length self.now.points.keys }
         ensures earlier { IfSome result (λ caller. caller.point < number) }
-        ensures called { IfSome result (λ caller. (code : CodeSeen) → IsSound code self.now → IsCallTo code self.now.points.keys number caller.point caller.call) }
-        ensures main { IfNone result ((code : CodeSeen) (point : Point) → IsSound code self.now → slice_get self.now.points.keys number ≡ Some point → point.procedure ≡ Main) }
+        ensures called { IfSome result (λ caller. (code : CodeSeen) → IsSound code self.now
+            → IsCallTo code self.now.points.keys number caller.point caller.call) }
+        ensures main { IfNone result ((code : CodeSeen) (point : Point) → IsSound code self.now
+            → slice_get self.now.points.keys number ≡ Some point → point.procedure ≡ Main) }
     {
         let start = self.start_of(number);
         match self.origins[start] {
@@ -126,7 +131,9 @@ impl Search {
         requires start { start < length self.now.points.keys }
         requires there { point < length self.now.points.keys }
         ensures point { result.point ≡ point }
-        ensures call { (one first : Point) → slice_get self.now.points.keys point ≡ Some one → slice_get self.now.points.keys start ≡ Some first → result.call ≡ record { caller = one.procedure; at = one.at; target = first.at } }
+        ensures call { (one first : Point) → slice_get self.now.points.keys point ≡ Some one
+            → slice_get self.now.points.keys start ≡ Some first
+            → result.call ≡ record { caller = one.procedure; at = one.at; target = first.at } }
     {
         let caller = &self.points[point];
         let call = Call {
@@ -141,7 +148,8 @@ impl Search {
     pub(crate) fn calls_to(&self, alloc: Global, number: usize) -> Result<Vec<Call>, AllocError>
         requires ordered { AreOrdered self.now }
         requires there { number < length self.now.points.keys }
-        ensures { IfOk result (λ calls. (code : CodeSeen) (last : Point) → IsSound code self.now → slice_get self.now.points.keys number ≡ Some last → Lead code Main calls.items last.procedure) }
+        ensures { IfOk result (λ calls. (code : CodeSeen) (last : Point) → IsSound code self.now
+            → slice_get self.now.points.keys number ≡ Some last → Lead code Main calls.items last.procedure) }
     {
         let mut calls = Vec::new(alloc);
         let mut at = number;
