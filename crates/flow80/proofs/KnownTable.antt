@@ -1,6 +1,6 @@
 -- The table that is known, as frames by procedure and address: a closed one closes.
 use Rattle.std.specs.Prelude.{◌≡◌, ℕ, zero, suc, Bool, true, false, nat_eq, List, [], ◌∷◌, Option, Some, None, slice_get, if◌then◌else◌, refl}
-use Rattle.std.proofs.Common.{ap, sym, ◌∙◌, subst, true≢false}
+use Rattle.std.proofs.Common.{ap, sym, ◌∙◌, subst}
 use Rattle.std.specs.Cmp.{unsigned_Decides, first_so, second_so}
 use Rattle.decode80.specs.declared.fetching.Fetched.{Fetched}
 use Rattle.frames80.specs.declared.fault.FrameFault.TheVariants.{ReturnFromMain}
@@ -18,22 +18,13 @@ use Rattle.flow80.specs.Walks.{Moving, returning, role_of}
 use Rattle.flow80.specs.Points.{Point, AreApart, is_at, same_procedure}
 use Rattle.flow80.specs.Fitting.{Table, Has, FrameCloses, Closes}
 use Rattle.flow80.proofs.MoveLemmas.{fault_of, moved_is}
+use Rattle.flow80.proofs.NumberLemmas.{same_is, is_same}
 use Rattle.flow80.specs.Known.{Known, HasPoint, Follows, AllClosed, takes_of}
 
 -- the frame of the first point of that address of that procedure
 abbrev pub frame_at : List Point → Procedure → ℕ → Option StackFrame
 frame_at [] p at = None
 frame_at (point ∷ points) p at = if is_at p at point then Some point.frame else frame_at points p at
-
-same_is : (p q : Procedure) → same_procedure p q ≡ true → p ≡ q
-same_is Main Main same = refl
-same_is Main (Entry b) same = absurd (true≢false (sym same))
-same_is (Entry a) Main same = absurd (true≢false (sym same))
-same_is (Entry a) (Entry b) same = ap (λ n. Entry n) ((unsigned_Decides a b).0 same)
-
-is_same : (p : Procedure) → same_procedure p p ≡ true
-is_same Main = refl
-is_same (Entry a) = (unsigned_Decides a a).1 refl
 
 pub at_is : (p : Procedure) (at : ℕ) (point : Point) → is_at p at point ≡ true → (point.procedure ≡ p) × (point.at ≡ at)
 at_is p at point same = (

@@ -1,10 +1,12 @@
 -- The numbers that are kept of addresses of procedures. (This project's own.)
-use Rattle.std.specs.Prelude.{◌≡◌, ℕ, ◌+◌, ◌*◌, Bool, ◌&&◌, nat_eq, nat_lt, false, if◌then◌else◌, Option, Some, None}
+use Rattle.std.specs.Prelude.{◌≡◌, ℕ, ◌+◌, ◌*◌, Bool, ◌&&◌, nat_eq, nat_lt, true, false, if◌then◌else◌, Option, Some, None, slice_index_or}
 use Rattle.std.specs.Ordering.{nat_cmp}
 use Rattle.std.specs.BTreeMap.{get}
 use Rattle.bounds80.specs.declared.procedure.Procedure.{Procedure}
 use Rattle.bounds80.specs.declared.procedure.Procedure.TheVariants.{Main, Entry}
+use Rattle.flow80.specs.declared.numbers.FirstPoint.{FirstPoint}
 use Rattle.flow80.specs.declared.numbers.Numbers.{Numbers}
+use Rattle.flow80.specs.Points.{same_procedure}
 
 -- a number for each procedure, and for each address of each
 abbrev pub procedure_number : Procedure → ℕ
@@ -14,9 +16,20 @@ procedure_number (Entry entry) = entry + 1
 abbrev pub place_number : Procedure → ℕ → ℕ
 place_number procedure at = 65536 * procedure_number procedure + at
 
+-- the number of the first point at an address, where that is one of the procedure, and else a further one
+abbrev pub number_of : Option FirstPoint → Procedure → Option ℕ → Option ℕ
+number_of None procedure further = further
+number_of (Some point) procedure further = if same_procedure point.procedure procedure then Some point.number else further
+
+-- whether no other procedure has the first point at an address
+abbrev pub is_free : Option FirstPoint → Procedure → Bool
+is_free None procedure = true
+is_free (Some point) procedure = same_procedure point.procedure procedure
+
 -- the number that is kept of an address of a procedure
 unfoldable pub number_at : Numbers → Procedure → ℕ → Option ℕ
-number_at numbers procedure at = if nat_lt at 65536 then get nat_cmp numbers.by_place (place_number procedure at) else None
+number_at numbers procedure at =
+    if nat_lt at 65536 then number_of (slice_index_or numbers.first.items at None) procedure (get nat_cmp numbers.further (place_number procedure at)) else None
 
 -- whether two addresses of procedures are the same
 abbrev pub same_place : Procedure → ℕ → Procedure → ℕ → Bool

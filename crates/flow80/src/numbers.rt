@@ -1,16 +1,30 @@
 //! The number of each point, by its procedure and address.
 
-ghost use Rattle.std.specs.Prelude.{◌≡◌, IfOk, OnOk, OnErr};
-ghost use Rattle.flow80.specs.Numbers.{number_at, place_number, HasNone, SameNumbers, Puts};
+ghost use Rattle.std.specs.Prelude.{◌≡◌, None, slice_index_or, IfOk, OnOk, OnErr};
+ghost use Rattle.flow80.specs.Points.{same_procedure};
+ghost use Rattle.flow80.specs.Numbers.{number_at, place_number, is_free, HasNone, SameNumbers, Puts};
 
-use bounds80::Procedure;
+use bounds80::{Procedure, table};
 use std::alloc::{AllocError, Global};
 use std::collections::BTreeMap;
 
+/// How many addresses there are.
+const ADDRESSES: usize = 65_536;
+
+/// The point that came first at an address: its procedure and its number.
+#[derive(Clone, Copy)]
+struct FirstPoint {
+    procedure: Procedure,
+    number: u32,
+}
+
 /// Numbers by procedure and address.
+///
+/// Most code is of one procedure. So a table has the first point of each address, and a map the points of further procedures there.
 #[derive(Drop)]
 pub(crate) struct Numbers {
-    by_place: BTreeMap<u64, u32>,
+    first: Vec<Option<FirstPoint>>,
+    further: BTreeMap<u64, u32>,
 }
 
 /// A number for each address of each procedure: no two have the same.
@@ -24,21 +38,57 @@ fn place_number(procedure: Procedure, at: u16) -> u64
     65536 * procedure + u64::from(at)
 }
 
+/// The first point at an address.
+fn first_at(first: &[Option<FirstPoint>], at: u16) -> Option<FirstPoint>
+    ensures { result ≡ slice_index_or first.now at None }
+{
+    match first.get(usize::from(at)) {
+        Some(point) => *point,
+        None => None,
+    }
+}
+
+/// Whether no other procedure has the first point at an address.
+fn is_free(first: Option<FirstPoint>, procedure: Procedure) -> bool
+    ensures { result ≡ is_free first procedure }
+{
+    match first {
+        Some(point) => point.is_of(procedure),
+        None => true,
+    }
+}
+
+impl FirstPoint {
+    /// Whether the point is one of a procedure.
+    fn is_of(&self, procedure: Procedure) -> bool
+        ensures { result ≡ same_procedure self.now.procedure procedure }
+    {
+        self.procedure == procedure
+    }
+}
+
 impl Numbers {
     /// No numbers.
-    pub(crate) fn new(alloc: Global) -> Numbers
-        ensures { HasNone result }
+    ///
+    /// # Errors
+    /// `AllocError` where memory runs out.
+    pub(crate) fn new(alloc: Global) -> Result<Numbers, AllocError>
+        ensures { IfOk result HasNone }
     {
-        Numbers {
-            by_place: BTreeMap::new(alloc),
-        }
+        Ok(Numbers {
+            first: table(alloc, None, ADDRESSES)?,
+            further: BTreeMap::new(alloc),
+        })
     }
 
     /// The number that is kept of an address of a procedure.
     pub(crate) fn get(&self, procedure: Procedure, at: u16) -> Option<u32>
         ensures { result ≡ number_at self.now procedure at }
     {
-        self.by_place.get(&place_number(procedure, at)).copied()
+        match first_at(&self.first, at) {
+            Some(point) if point.is_of(procedure) => Some(point.number),
+            _ => self.further.get(&place_number(procedure, at)).copied(),
+        }
     }
 
     /// Keeps a number of an address of a procedure.
@@ -54,7 +104,12 @@ impl Numbers {
         ensures put { OnOk result (Puts self.old self.new procedure at number) }
         ensures err { OnErr result (SameNumbers self.old self.new) }
     {
-        self.by_place.insert(place_number(procedure, at), number)?;
+        let index = usize::from(at);
+        if index < self.first.len() && is_free(first_at(&self.first, at), procedure) {
+            self.first[index] = Some(FirstPoint { procedure, number });
+            return Ok(());
+        }
+        self.further.insert(place_number(procedure, at), number)?;
         Ok(())
     }
 }

@@ -45,14 +45,17 @@ impl Model for Points {
 
 impl Points {
     /// No points.
-    pub(crate) fn new(alloc: Global) -> Points
-        ensures { result ≡ record { points = []; frames = [] } }
+    ///
+    /// # Errors
+    /// `AllocError` where memory runs out.
+    pub(crate) fn new(alloc: Global) -> Result<Points, AllocError>
+        ensures { IfOk result (λ points. points ≡ record { points = []; frames = [] }) }
     {
-        Points {
+        Ok(Points {
             frames: Frames::new(alloc),
             stored: Vec::new(alloc),
-            numbers: Numbers::new(alloc),
-        }
+            numbers: Numbers::new(alloc)?,
+        })
     }
 
     /// How many points there are.

@@ -62,7 +62,7 @@ impl Table {
         let exits = no_exits(alloc)?;
         let callers = Callers::new(alloc)?;
         Ok(Table {
-            points: Points::new(alloc),
+            points: Points::new(alloc)?,
             exits,
             callers,
             pending: Pending::new(alloc, program)?,

@@ -1,4 +1,4 @@
 use Rattle.flow80.proofs.table.Table.new.Goals as goal
 
 pub returns : goal.returns
-returns g c = λ i. record { points = (c.new-2.ensures i).points; exits = c.in_ok-exits.ensures i }
+returns g c = λ i. record { points = (c.in_ok-new.ensures i).points; exits = c.in_ok-exits.ensures i }
