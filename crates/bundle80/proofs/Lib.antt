@@ -1,2 +1,3 @@
 mod BundleLemmas
 mod BundledLemmas
+mod InputsLineLemmas

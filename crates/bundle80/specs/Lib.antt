@@ -1,3 +1,4 @@
 pub mod BundleText
+pub mod InputsLineLaws
 pub mod Bundle
 pub mod Fault

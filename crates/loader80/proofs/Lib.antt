@@ -1,5 +1,6 @@
 mod StreamLemmas
 mod InputsLemmas
+mod FirstLineLemmas
 mod RunLemmas
 mod TranscriptLemmas
 mod SendsLemmas

@@ -2,6 +2,7 @@ pub mod Failures
 pub mod WholeText
 pub mod HexText
 pub mod InputsText
+pub mod FirstLineLaws
 pub mod Texts
 pub mod TranscriptText
 pub mod Vouched

@@ -1,0 +1,5 @@
+use Rattle.bundle80.proofs.InputsLineLemmas.{parted_at_the_first}
+use Rattle.bundle80.proofs.laws.inputs_begin_at_the_first_inputs_line.Goals as goal
+
+pub returns : goal.returns
+returns c = parted_at_the_first
