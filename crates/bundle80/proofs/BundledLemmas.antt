@@ -1,7 +1,7 @@
 -- What is answered for a bundle is what is answered for its three parts.
-use Rattle.std.specs.Prelude.{◌≡◌, ℕ, ◌<◌, List, Option, Some, Result, Ok, Err, IfSome, length, take}
+use Rattle.std.specs.Prelude.{◌≡◌, ℕ, ◌<◌, List, Option, Some, Result, Ok, Err, length, take}
 use Rattle.std.specs.Io.KnownBytes.{Appends}
-use Rattle.std.proofs.Common.{◌∙◌, sym, subst}
+use Rattle.std.proofs.Common.{sym, subst}
 use Rattle.loader80.specs.declared.replies.Outcome.{Outcome}
 use Rattle.loader80.specs.declared.fault.SessionFault.{SessionFault}
 use Rattle.loader80.specs.declared.fault.SessionFault.TheVariants.{Read, Write}
@@ -13,19 +13,11 @@ use Rattle.bundle80.specs.declared.fault.BundleFault.{BundleFault}
 use Rattle.bundle80.specs.declared.fault.BundleFault.TheVariants.{Session}
 use Rattle.bundle80.specs.Bundle.{BundleSends, of_session}
 
--- the parts of a bundle
-pub parts_of : (parted bundle : Option Texts) (t : Texts) → parted ≡ bundle → parted ≡ Some t → bundle ≡ Some t
-parts_of parted bundle t same some = sym same ∙ some
-
 -- a bundle of these parts whose answer's text was written whole
 bundled : (limit steps : ℕ) (t : Texts) (answer : Result Outcome SessionFault) (text : List ℕ) (old new : Option (List ℕ)) → Says limit steps t answer text → Sends limit steps t answer old new → BundleSends limit steps (Some t) (of_session answer) old new
 bundled limit steps t (Ok o) text old new says sends = sends
 bundled limit steps t (Err (Read k)) text old new says sends = absurd says
 bundled limit steps t (Err fault) text old new says sends = sends
-
--- a text that is known and read
-pub told_text : (left : Option (List ℕ)) (bytes text : List ℕ) → IfSome left (λ told. bytes ≡ told) → left ≡ Some text → bytes ≡ text
-told_text left bytes text whole told = subst (λ (o : Option (List ℕ)). IfSome o (λ x. bytes ≡ x)) told whole
 
 -- what is answered, and what is found to be within the limit, of an image that was read is so of the bundle's
 said_of : (limit steps : ℕ) (image : List ℕ) (t : Texts) (answer : Result Outcome SessionFault) (text : List ℕ) → image ≡ t.image → Says limit steps (record { image = image; regions = t.regions; inputs = t.inputs }) answer text → Says limit steps t answer text

@@ -9,14 +9,10 @@ use Rattle.bundle80.specs.declared.fault.BundleFault.TheVariants.{Session, BadBu
 use Rattle.loader80.specs.Texts.{Texts}
 use Rattle.loader80.specs.Sends.{Sends}
 
--- the greatest number of bytes of a bundle whose three parts can be within their limits: two digits for each byte of the image, and
--- a line feed; the regions; the line INPUTS and its line feed; the inputs
+-- the greatest number of bytes of a bundle whose three parts can be within their limits: two digits for each byte of the image,
+-- and a line feed; the regions; the line INPUTS and its line feed; the inputs
 abbrev pub bundle_limit : ℕ
 bundle_limit = 4194312
-
--- three texts
-abbrev pub texts_read : (image regions inputs : List ℕ) → Texts
-texts_read image regions inputs = record { image = image; regions = regions; inputs = inputs }
 
 -- a bundle of three parts is answered as a session on them, and one without is bad. A read that fails is reported of the
 -- bundle itself, and in either case memory may run out

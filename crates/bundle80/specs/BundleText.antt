@@ -1,4 +1,5 @@
--- The three texts of a bundle: the image in hexadecimal on the first line, the regions up to the first line `INPUTS`, and the inputs.
+-- The three texts of a bundle: the image in hexadecimal on the first line, the regions up to the first line `INPUTS`, and the
+-- inputs.
 use Rattle.std.specs.Prelude.{ℕ, List, [], ◌∷◌, ◌++◌, Option, None, Some, codes, if◌then◌else◌}
 use Rattle.std.specs.List.{join_with_byte}
 use Rattle.std.specs.Option.{option_map}
@@ -6,6 +7,11 @@ use Rattle.std.specs.Str.{bytes_eq}
 use Rattle.image80.specs.Lines.{parts}
 use Rattle.loader80.specs.HexText.{bytes_spelled}
 use Rattle.loader80.specs.Texts.{Texts}
+use Rattle.bundle80.specs.declared.bundle_text.BundleTexts.{BundleTexts}
+
+-- the bytes of the texts that a bundle was parted into
+abbrev pub texts_of : BundleTexts → Texts
+texts_of parts = record { image = parts.image.items; regions = parts.regions.now; inputs = parts.inputs.now }
 
 -- what stands before and after the line that parts them
 pub record Sides : Type 0 where

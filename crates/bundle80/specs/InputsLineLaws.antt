@@ -1,4 +1,5 @@
--- Where a bundle's regions end and its inputs begin, in other words: at the first line `INPUTS`. (It follows from the definitions.)
+-- Where a bundle's regions end and its inputs begin, in other words: at the first line `INPUTS`. (It follows from the
+-- definitions.)
 use Rattle.std.specs.Prelude.{◌≡◌, ◌<◌, ◌↔◌, ℕ, false, Some, codes, List, [], ◌∷◌, ◌++◌, length, IsTrue}
 use Rattle.std.specs.List.{AllByRecursion, flat_map}
 use Rattle.std.specs.Str.{bytes_eq}
@@ -8,8 +9,8 @@ use Rattle.bundle80.specs.BundleText.{Sides, sides_of, text_joined}
 abbrev pub lines_text : List (List ℕ) → List ℕ
 lines_text lines = flat_map (λ line. line ++ 10 ∷ []) lines
 
--- The parts have a line `INPUTS`, which others follow, and no line before it is one. The lines before it are the one text, and the parts
--- after it, joined by line feeds, the other.
+-- The parts have a line `INPUTS`, which others follow, and no line before it is one. The lines before it are the one text, and
+-- the parts after it, joined by line feeds, the other.
 pub record IsParted (parts : List (List ℕ)) (sides : Sides) : Type 0 where
   pub earlier : List (List ℕ)
   pub line : List ℕ

@@ -1,8 +1,7 @@
 //! A bundle parted into its three texts.
-ghost use Rattle.std.specs.Prelude.{◌≡◌, None, Some, IfOk, MatchOption};
+ghost use Rattle.std.specs.Prelude.{◌≡◌, None, Some, IfOk};
 ghost use Rattle.std.specs.Option.{option_map};
-ghost use Rattle.loader80.specs.Texts.{Texts};
-ghost use Rattle.bundle80.specs.BundleText.{Sides, bundle_texts, sides_of};
+ghost use Rattle.bundle80.specs.BundleText.{bundle_texts, sides_of, texts_of};
 ghost use Rattle.image80.specs.Lines.{parts};
 
 use image80::lines::first_line;
@@ -21,7 +20,7 @@ pub struct BundleTexts<'a> {
 /// regions up to the first line that is exactly `INPUTS`, then the inputs. `None` where it can't
 /// be parted so.
 pub fn part_bundle(alloc: Global, bundle: &[u8]) -> Result<Option<BundleTexts<'_>>, AllocError>
-    ensures { IfOk result (λ texts. option_map (λ t. record { image = t.image.items; regions = t.regions.now; inputs = t.inputs.now }) texts ≡ bundle_texts bundle.now) }
+    ensures { IfOk result (λ texts. option_map texts_of texts ≡ bundle_texts bundle.now) }
 {
     let Some((line, rest)) = first_line(bundle) else {
         return Ok(None);
@@ -44,7 +43,8 @@ const INPUTS: &[u8] = b"INPUTS";
 
 // What stands before and after the first line that is `INPUTS`, where there is such a line.
 fn sides(text: &[u8]) -> Option<(&[u8], &[u8])>
-    ensures { option_map (λ (before, after). record { before = before.now; after = after.now }) result ≡ sides_of (parts text.now) }
+    ensures { option_map (λ (before, after). record { before = before.now; after = after.now }) result
+        ≡ sides_of (parts text.now) }
 {
     let mut at = 0;
     while let Some((line, rest)) = first_line(&text[at..]) {

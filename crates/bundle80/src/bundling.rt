@@ -4,7 +4,8 @@ ghost use Rattle.std.specs.Prelude.{◌≡◌, ℕ, ◌+◌, ◌<◌, ◌≤◌,
 ghost use Rattle.bundle80.specs.BundleText.{bundle_texts};
 ghost use Rattle.loader80.specs.WholeText.{TakesAtMost};
 ghost use Rattle.loader80.specs.Sends.{AreWithin, IsTooLong};
-ghost use Rattle.bundle80.specs.Bundle.{bundle_limit, BundleSends, BundleTooLong, bundle_read_failures, bundle_write_failures, of_session, texts_read};
+ghost use Rattle.loader80.specs.Texts.{texts_of};
+ghost use Rattle.bundle80.specs.Bundle.{bundle_limit, BundleSends, BundleTooLong, bundle_read_failures, bundle_write_failures, of_session};
 
 use crate::bundle_text::part_bundle;
 use crate::fault::BundleFault;
@@ -35,8 +36,10 @@ pub fn bundle<S: Source, K: Sink>(
 ) -> Result<Outcome, BundleFault>
     requires input { S.failed input.old < u64.MAX }
     requires out { K.failed out.old < u64.MAX }
-    ensures sends { (bytes : List ℕ) → S.left input.old ≡ Some bytes → length bytes ≤ bundle_limit → BundleSends outputs steps (bundle_texts bytes) result (K.written out.old) (K.written out.new) }
-    ensures too_long { (bytes : List ℕ) → S.left input.old ≡ Some bytes → bundle_limit < length bytes → BundleTooLong result (K.written out.old) (K.written out.new) }
+    ensures sends { (bytes : List ℕ) → S.left input.old ≡ Some bytes → length bytes ≤ bundle_limit →
+        BundleSends outputs steps (bundle_texts bytes) result (K.written out.old) (K.written out.new) }
+    ensures too_long { (bytes : List ℕ) → S.left input.old ≡ Some bytes → bundle_limit < length bytes →
+        BundleTooLong result (K.written out.old) (K.written out.new) }
     ensures input_failures { S.failed input.new ≡ S.failed input.old + bundle_read_failures result }
     ensures out_failures { K.failed out.new ≡ K.failed out.old + bundle_write_failures result }
     ensures taken { TakesAtMost (bundle_limit + 1) (S.left input.old) (S.left input.new) }
@@ -97,8 +100,8 @@ fn of_session(answer: Result<Outcome, SessionFault>) -> Result<Outcome, BundleFa
 
 /// The number of the first text that is too long.
 fn first_too_long(texts: SessionTexts<'_>) -> Option<u8>
-    ensures within { IfNone result (AreWithin (texts_read texts.entry.image.now texts.entry.regions.now texts.entry.inputs.now)) }
-    ensures first { IfSome result (IsTooLong (texts_read texts.entry.image.now texts.entry.regions.now texts.entry.inputs.now)) }
+    ensures within { IfNone result (AreWithin (texts_of texts.entry)) }
+    ensures first { IfSome result (IsTooLong (texts_of texts.entry)) }
 {
     if texts.image.len() > TEXT_LIMIT {
         Some(1)

@@ -57,4 +57,6 @@ listing_of image = flat_map (range_lines (memory_of image.chunks)) image.regions
 
 -- the line of the instruction at an address, with so many bytes of its range left
 abbrev pub instruction_line_of : Located → (at left : ℕ) → List ℕ
-instruction_line_of image at left = let bytes = bytes_from (memory_of image.chunks) at in list_line at bytes (instruction_of bytes left)
+instruction_line_of image at left =
+    let bytes = bytes_from (memory_of image.chunks) at in
+    list_line at bytes (instruction_of bytes left)

@@ -14,4 +14,5 @@ pub data AreLines (memory : List ℕ) : (at left : ℕ) → List ℕ → Type 0 
 
 -- the lines of a range take all of its bytes, each once
 abbrev pub RangesAreListedLineByLine : Type 0
-RangesAreListedLineByLine = (memory : List ℕ) (range : Range) → range.first < 65536 → AreLines memory range.first range.length (range_lines memory range)
+RangesAreListedLineByLine = (memory : List ℕ) (range : Range) → range.first < 65536 →
+    AreLines memory range.first range.length (range_lines memory range)

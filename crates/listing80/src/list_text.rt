@@ -1,6 +1,6 @@
 //! The listing of an image's code.
 
-ghost use Rattle.std.specs.Prelude.{◌≡◌, ◌+◌, ◌<◌, ◌≤◌, ◌++◌, [], ◌∷◌, length, drop, take, codes, IfOk, IfSome, OnOk};
+ghost use Rattle.std.specs.Prelude.{◌≡◌, ◌+◌, ◌<◌, ◌≤◌, ◌++◌, length, IfOk, IfSome, OnOk};
 ghost use Rattle.std.specs.List.{flat_map};
 ghost use Rattle.decode80.specs.Text.{byte_text};
 ghost use Rattle.listing80.specs.Listing.{bytes_from, columns, instruction_line_of, instruction_of, line_length, list_line, listing_of, range_lines};
@@ -90,7 +90,8 @@ fn append_line(
     text: &mut Vec<u8>,
 ) -> Result<usize, AllocError>
     requires { 0 < left }
-    ensures line { OnOk result (text.new.items ≡ text.old.items ++ list_line at (bytes_from memory.now at) (instruction_of (bytes_from memory.now at) left)) }
+    ensures line { OnOk result (text.new.items ≡ text.old.items
+        ++ list_line at (bytes_from memory.now at) (instruction_of (bytes_from memory.now at) left)) }
     ensures length { IfOk result (λ n. n ≡ line_length (instruction_of (bytes_from memory.now at) left)) }
     ensures some { IfOk result (λ n. (1 ≤ n) × (n ≤ 3)) }
     ensures within { IfOk result (λ n. n ≤ left) }

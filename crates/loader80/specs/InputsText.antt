@@ -17,7 +17,8 @@ input_from _ _ = None
 
 -- what a line `pp hh..` spells, None where it has another form
 abbrev pub line_input : List ℕ → Option (List (ℕ × ℕ))
-line_input line = if slice_index line 2 == 32 then input_from (bytes_spelled (take 2 line)) (bytes_spelled (drop 3 line)) else None
+line_input line =
+    if slice_index line 2 == 32 then input_from (bytes_spelled (take 2 line)) (bytes_spelled (drop 3 line)) else None
 
 -- what all lines of a text spell, in order
 abbrev pub inputs_of : List ℕ → List (ℕ × ℕ)

@@ -28,7 +28,8 @@ pub record AreWithin (t : Texts) : Type 0 where
 pub data IsTooLong (t : Texts) (number : ℕ) : Type 0 where
   image : number ≡ 1 → text_limit < length t.image → IsTooLong t number
   regions : number ≡ 2 → length t.image ≤ text_limit → text_limit < length t.regions → IsTooLong t number
-  inputs : number ≡ 3 → length t.image ≤ text_limit → length t.regions ≤ text_limit → text_limit < length t.inputs → IsTooLong t number
+  inputs : number ≡ 3 → length t.image ≤ text_limit → length t.regions ≤ text_limit → text_limit < length t.inputs →
+      IsTooLong t number
 
 -- the texts before the one of this number, of three, are within the limit
 pub data IsTurnOf (t : Texts) (number : ℕ) : Type 0 where
@@ -46,7 +47,8 @@ Answers limit steps t answer text = AreWithin t × Says limit steps t answer tex
 
 -- the writer holds the whole text of the answer; after a failed write it holds a proper prefix of the text of some
 -- answer
-pub record SendsAll (limit steps : ℕ) (t : Texts) (answer : Result Outcome SessionFault) (old new : Option (List ℕ)) : Type 0 where
+pub record SendsAll (limit steps : ℕ) (t : Texts) (answer : Result Outcome SessionFault)
+    (old new : Option (List ℕ)) : Type 0 where
   pub text : List ℕ
   pub answers : Answers limit steps t answer text
   pub appended : Appends old new text

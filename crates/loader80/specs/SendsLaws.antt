@@ -9,8 +9,12 @@ use Rattle.loader80.specs.Sends.{AreWithin, Sends, SendsPrefix}
 
 -- an answer whose text was written whole is sent
 abbrev pub WrittenAnswersAreSent : Type 0
-WrittenAnswersAreSent = (limit steps : ℕ) (t : Texts) (answer : Result Outcome SessionFault) (text : List ℕ) (old new : Option (List ℕ)) → AreWithin t → Says limit steps t answer text → Appends old new text → Sends limit steps t answer old new
+WrittenAnswersAreSent = (limit steps : ℕ) (t : Texts) (answer : Result Outcome SessionFault) (text : List ℕ)
+    (old new : Option (List ℕ)) → AreWithin t → Says limit steps t answer text → Appends old new text →
+    Sends limit steps t answer old new
 
 -- a proper prefix of an answer's text is a prefix of what is sent
 abbrev pub PrefixesAreSent : Type 0
-PrefixesAreSent = (limit steps : ℕ) (t : Texts) (answer : Result Outcome SessionFault) (text : List ℕ) (count : ℕ) (old new : Option (List ℕ)) → AreWithin t → Says limit steps t answer text → count < length text → Appends old new (take count text) → SendsPrefix limit steps t old new
+PrefixesAreSent = (limit steps : ℕ) (t : Texts) (answer : Result Outcome SessionFault) (text : List ℕ) (count : ℕ)
+    (old new : Option (List ℕ)) → AreWithin t → Says limit steps t answer text → count < length text →
+    Appends old new (take count text) → SendsPrefix limit steps t old new

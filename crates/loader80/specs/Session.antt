@@ -50,7 +50,8 @@ abbrev pub Faults : Texts → SessionFault → List ℕ → Type 0
 Faults t (Regions f) text = Refuses t.regions f × (f ≢ RegionsMemory) × (text ≡ [])
 Faults t (Image f) text = ((areas : Areas) × Spells t.regions areas) × FaultsImage t.image f × (f ≢ ImageMemory) × (text ≡ [])
 Faults t (Inputs n) text = ((image : Located) × SpellsProgram t image) × (bad_line t.inputs ≡ Some n) × (text ≡ [])
-Faults t (Refused r) text = ((image : Located) × SpellsProgram t image × Holds (code_of image) r) × (r ≢ NoMemory) × (bad_line t.inputs ≡ None) × (text ≡ refusal_line r)
+Faults t (Refused r) text = ((image : Located) × SpellsProgram t image × Holds (code_of image) r) × (r ≢ NoMemory)
+    × (bad_line t.inputs ≡ None) × (text ≡ refusal_line r)
 Faults t Memory text = text ≡ []
 Faults t (Read k) text = ⊥
 Faults t Write text = ⊥
@@ -63,7 +64,8 @@ Says limit steps t (Err f) text = Faults t f text
 
 -- a refusal's line, or out of memory
 abbrev pub IsRefused : Refusal → Result Outcome SessionFault → List ℕ → Type 0
-IsRefused refusal answer text = ((answer ≡ Err Memory) × (text ≡ [])) ⊎ ((answer ≡ Err (Refused refusal)) × (refusal ≢ NoMemory) × (text ≡ refusal_line refusal))
+IsRefused refusal answer text = ((answer ≡ Err Memory) × (text ≡ []))
+    ⊎ ((answer ≡ Err (Refused refusal)) × (refusal ≢ NoMemory) × (text ≡ refusal_line refusal))
 
 -- the transcript of a run of the image with the bytes that were found, or out of memory
 abbrev pub Transcribes : Located → (bytes : ℕ) → List (List ℕ) → (limit steps : ℕ) → Result Outcome SessionFault → List ℕ → Type 0

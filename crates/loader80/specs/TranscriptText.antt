@@ -45,4 +45,5 @@ named_text refusal None = 10 ∷ []
 
 -- the line for an image that is refused: the refusal's number and name, and what it names
 abbrev pub refusal_line : Refusal → List ℕ
-refusal_line refusal = codes "REFUSED " ++ (decimal (refusal_code refusal) ++ (32 ∷ (refusal_name refusal ++ named_text refusal (refusal_address refusal))))
+refusal_line refusal = codes "REFUSED "
+    ++ (decimal (refusal_code refusal) ++ (32 ∷ (refusal_name refusal ++ named_text refusal (refusal_address refusal))))

@@ -1,5 +1,5 @@
-//! What holds of what is answered for three texts, whatever calls are made, and of the text of inputs. A law is ensured by a function
-//! that does nothing: a layer above that calls it has the law in its proof.
+//! What holds of what is answered for three texts, whatever calls are made, and of the text of inputs. A law is ensured by a
+//! function that does nothing: a layer above that calls it has the law in its proof.
 
 ghost use Rattle.loader80.specs.FirstLineLaws.{BadLineIsTheFirst};
 ghost use Rattle.loader80.specs.SendsLaws.{WrittenAnswersAreSent, PrefixesAreSent};

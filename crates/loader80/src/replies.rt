@@ -2,6 +2,7 @@
 
 ghost use Rattle.std.specs.Prelude.{◌≡◌, ◌<◌, ◌↔◌, [], IsTrue, length, IfOk, IfErr, string_bytes};
 ghost use Rattle.machine80.specs.Ports.{lists_of};
+ghost use Rattle.loader80.specs.Texts.{texts_of};
 ghost use Rattle.loader80.specs.Session.{Says, SpellsProgram, Faults, IsRefused, Transcribes};
 
 use crate::fault::SessionFault;
@@ -46,7 +47,7 @@ pub struct Reply {
 /// Reads the texts, checks the image and runs it for at most `steps` steps, keeping at most `outputs` outputs: the next one
 /// is refused. If memory for an output below that limit runs out, the answer is `Memory`.
 pub fn answer_texts(alloc: Global, texts: SessionTexts<'_>, steps: u64, outputs: usize) -> Reply
-    ensures { Says outputs steps (record { image = texts.entry.image.now; regions = texts.entry.regions.now; inputs = texts.entry.inputs.now }) result.answer (string_bytes result.text) }
+    ensures { Says outputs steps (texts_of texts.entry) result.answer (string_bytes result.text) }
 {
     match load(alloc, texts) {
         Ok(image) => answer_image(alloc, image, texts, steps, outputs),
@@ -62,8 +63,8 @@ fn answer_image(
     steps: u64,
     outputs: usize,
 ) -> Reply
-    requires { SpellsProgram (record { image = texts.image.now; regions = texts.regions.now; inputs = texts.inputs.now }) image }
-    ensures { Says outputs steps (record { image = texts.entry.image.now; regions = texts.entry.regions.now; inputs = texts.entry.inputs.now }) result.answer (string_bytes result.text) }
+    requires { SpellsProgram (texts_of texts) image }
+    ensures { Says outputs steps (texts_of texts.entry) result.answer (string_bytes result.text) }
 {
     let inputs = match read_inputs(alloc, texts.inputs) {
         Ok(inputs) => inputs,
@@ -78,8 +79,8 @@ fn answer_image(
 
 /// The image that the texts spell.
 fn load(alloc: Global, texts: SessionTexts<'_>) -> Result<Image, SessionFault>
-    ensures image { IfOk result (SpellsProgram (record { image = texts.entry.image.now; regions = texts.entry.regions.now; inputs = texts.entry.inputs.now })) }
-    ensures fault { IfErr result (λ fault. Faults (record { image = texts.entry.image.now; regions = texts.entry.regions.now; inputs = texts.entry.inputs.now }) fault []) }
+    ensures image { IfOk result (SpellsProgram (texts_of texts.entry)) }
+    ensures fault { IfErr result (λ fault. Faults (texts_of texts.entry) fault []) }
 {
     let regions = match read_regions(alloc, texts.regions) {
         Ok(regions) => regions,
@@ -122,7 +123,8 @@ fn refuse(alloc: Global, refusal: Refusal) -> Reply
 
 /// A vouched image is run, and its transcript is made.
 fn transcribe(alloc: Global, vouched: &Vouched, inputs: Inputs, steps: u64, outputs: usize) -> Reply
-    ensures { Transcribes vouched.now.image vouched.now.stack_bytes (lists_of inputs.pairs.items) outputs steps result.answer (string_bytes result.text) }
+    ensures { Transcribes vouched.now.image vouched.now.stack_bytes (lists_of inputs.pairs.items) outputs steps result.answer
+        (string_bytes result.text) }
 {
     let Ok(mut bus) = PagedBus::of_bytes(alloc, vouched.memory()) else {
         return faulty(alloc, SessionFault::Memory);

@@ -1,9 +1,9 @@
 //! A vouched image is run.
 
-ghost use Rattle.std.specs.Prelude.{◌≡◌, ℕ, ◌+◌, ◌-◌, ◌<◌, ◌^◌, Option, nat_lt, IfSome};
+ghost use Rattle.std.specs.Prelude.{◌≡◌, ℕ, ◌-◌, ◌<◌, ◌^◌, Option, IfSome};
 ghost use Rattle.image80.specs.Image.{memory_of};
-ghost use Rattle.machine80.specs.Ports.{has_room};
-ghost use Rattle.machine80.specs.Step.{machine, refusals_at};
+ghost use Rattle.machine80.specs.Ports.{has_refused};
+ghost use Rattle.machine80.specs.Step.{PortsAfter, with_ports};
 ghost use Rattle.machine80.specs.World.{world_at_start, IsProperEnd};
 ghost use Rattle.machine80.specs.Run.{IsRun, Agrees};
 
@@ -41,14 +41,13 @@ pub struct Ended {
 /// ```
 pub fn run<B: Bus, P: Ports>(vouched: &Vouched, bus: &mut B, ports: &mut P, steps: u64) -> Ended
     requires content { B.memory bus.old ≡ memory_of vouched.now.image.chunks }
-    requires count { P.refused ports.old < 2 ^ 64 - 1 }
-    ensures run { let start = world_at_start vouched.now.image (P.inputs ports.old) (P.outputs ports.old) in
-        let after = machine result.cpu (B.memory bus.new) (P.inputs ports.new) (P.outputs ports.new) in
-        (most : Option ℕ) → Agrees (nat_lt (P.refused ports.old) (P.refused ports.new)) most (P.outputs ports.new) → IsRun vouched.now.image.regions most start steps result.steps after result.end }
+    requires count { (P.lists ports.old).refused < 2 ^ 64 - 1 }
+    ensures run { let start = world_at_start vouched.now.image (P.lists ports.old).inputs (P.lists ports.old).outputs in
+        let after = with_ports result.cpu (B.memory bus.new) (P.lists ports.new) in
+        (most : Option ℕ) → Agrees (has_refused (P.lists ports.old) (P.lists ports.new)) most (P.lists ports.new).outputs →
+        IsRun vouched.now.image.regions most start steps result.steps after result.end }
     ensures proper { IfSome result.end IsProperEnd }
-    ensures refusals { P.refused ports.new ≡ P.refused ports.old + refusals_at result.end }
-    ensures limit { P.limit ports.new ≡ P.limit ports.old }
-    ensures room { has_room (P.limit ports.old) (P.outputs ports.old) → has_room (P.limit ports.new) (P.outputs ports.new) }
+    ensures ports { PortsAfter result.end (P.lists ports.old) (P.lists ports.new) }
 {
     images_that_never_go_wrong_stay_right();
     let image = vouched.image();

@@ -1,6 +1,6 @@
 //! A session: three texts are read, and the transcript of the run is written.
 
-ghost use Rattle.std.specs.Prelude.{◌≡◌, ◌+◌, ◌<◌, ◌≤◌, Some, IfOk, IfErr, IfSome, OnOk, length, vec_len};
+ghost use Rattle.std.specs.Prelude.{◌≡◌, ◌+◌, ◌<◌, ◌≤◌, Some, IfOk, IfErr, IfSome, vec_len};
 ghost use Rattle.loader80.specs.Texts.{Texts};
 ghost use Rattle.loader80.specs.WholeText.{TakesAtMost};
 ghost use Rattle.loader80.specs.Sends.{Sends, read_failures_at, write_failures_of, TextFault, text_limit};
@@ -39,7 +39,8 @@ pub fn session<A: Source, B: Source, C: Source, K: Sink>(
     requires regions { B.failed regions.old < u64.MAX }
     requires inputs { C.failed inputs.old < u64.MAX }
     requires out { K.failed out.old < u64.MAX }
-    ensures sends { (t : Texts) → A.left image.old ≡ Some t.image → B.left regions.old ≡ Some t.regions → C.left inputs.old ≡ Some t.inputs → Sends outputs steps t result (K.written out.old) (K.written out.new) }
+    ensures sends { (t : Texts) → A.left image.old ≡ Some t.image → B.left regions.old ≡ Some t.regions →
+        C.left inputs.old ≡ Some t.inputs → Sends outputs steps t result (K.written out.old) (K.written out.new) }
     ensures image_failures { A.failed image.new ≡ A.failed image.old + read_failures_at 1 result }
     ensures regions_failures { B.failed regions.new ≡ B.failed regions.old + read_failures_at 2 result }
     ensures inputs_failures { C.failed inputs.new ≡ C.failed inputs.old + read_failures_at 3 result }

@@ -145,7 +145,8 @@ pub fn vouch(alloc: Global, image: Image) -> Result<Vouched, (Image, Refusal)>
 /// What a fitting table of frames says of the image's runs. (It carries a law, and does nothing.)
 #[inline]
 fn runs_as_verified(image: &Image)
-    ensures { (bytes : ℕ) → IsFitted (code_of image.now) bytes → bytes ≤ image.now.regions.stack.length → NeverGoesWrong image.now bytes }
+    ensures { (bytes : ℕ) → IsFitted (code_of image.now) bytes → bytes ≤ image.now.regions.stack.length →
+        NeverGoesWrong image.now bytes }
 {
     fitted_images_never_go_wrong();
     image.regions.stack();

@@ -80,7 +80,8 @@ pub fn read_all<S: Source>(
 pub fn write_all<K: Sink>(sink: &mut K, bytes: &[u8]) -> Result<(), Failed>
     requires { K.failed sink.old < u64.MAX }
     ensures whole { OnOk result (Appends (K.written sink.old) (K.written sink.new) bytes.now) }
-    ensures prefix { OnErr result ((n : ℕ) × (n < length bytes.now) × Appends (K.written sink.old) (K.written sink.new) (take n bytes.now)) }
+    ensures prefix { OnErr result ((n : ℕ) × (n < length bytes.now)
+        × Appends (K.written sink.old) (K.written sink.new) (take n bytes.now)) }
     ensures count { K.failed sink.new ≡ K.failed sink.old + error_failures result }
 {
     let mut at = 0;

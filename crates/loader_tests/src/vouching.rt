@@ -1,5 +1,5 @@
-//! The program that pushes an argument is verified, vouched for, and run over either memory. Other programs are rows of the program's
-//! tests.
+//! The program that pushes an argument is verified, vouched for, and run over either memory. Other programs are rows of the
+//! program's tests.
 
 use crate::pushing::{IMAGE, INPUTS, REGIONS};
 use image80::{Image, read_regions};

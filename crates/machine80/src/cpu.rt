@@ -1,6 +1,6 @@
 //! The processor.
 
-ghost use Rattle.std.specs.Prelude.{◌≡◌, ◌/◌, ◌%◌};
+ghost use Rattle.std.specs.Prelude.{◌≡◌, ◌/◌};
 ghost use Rattle.machine80.specs.Cpu.{hl_of, pair_of, with_pair, register_of, started};
 ghost use Rattle.machine80.specs.Effects.{with_answer, with_register_answer, with_sum};
 ghost use Rattle.machine80.specs.Flags.{flags_byte};

@@ -98,8 +98,13 @@ pub(crate) fn proceed<B: Bus>(
 ) -> Option<End>
     ensures end { result ≡ guard regions.now found.instr cpu.old }
     ensures kept { OnSome result ((cpu.new ≡ cpu.old) × (B.memory bus.new ≡ B.memory bus.old)) }
-    ensures cpu { IfNone result (cpu.new ≡ record (changed found.instr (B.memory bus.old) cpu.old) { pc = target found.instr found.next (B.memory bus.old) cpu.old }) }
-    ensures memory { IfNone result (B.memory bus.new ≡ stored (B.memory bus.old) (stores found.instr found.next (B.memory bus.old) cpu.old)) }
+    ensures cpu { IfNone result (cpu.new
+        ≡ record (changed found.instr (B.memory bus.old) cpu.old) {
+          pc = target found.instr found.next
+              (B.memory bus.old) cpu.old;
+        }) }
+    ensures memory { IfNone result (B.memory bus.new
+        ≡ stored (B.memory bus.old) (stores found.instr found.next (B.memory bus.old) cpu.old)) }
 {
     match go_on(found.instr, found.next, cpu, bus, regions) {
         Ok(address) => {
@@ -160,7 +165,8 @@ fn call<B: Bus>(
     ensures kept { OnErr result ((cpu.new ≡ cpu.old) × (B.memory bus.new ≡ B.memory bus.old)) }
     ensures target { IfOk result (λ to. to ≡ address) }
     ensures cpu { OnOk result (cpu.new ≡ record cpu.old { sp = behind cpu.old.sp 2 }) }
-    ensures memory { OnOk result (B.memory bus.new ≡ stored (B.memory bus.old) (push_bytes cpu.old.sp (back / 256) (back % 256))) }
+    ensures memory { OnOk result (B.memory bus.new
+        ≡ stored (B.memory bus.old) (push_bytes cpu.old.sp (back / 256) (back % 256))) }
 {
     push_place(back, cpu, bus, regions)?;
     Ok(address)
@@ -178,7 +184,8 @@ fn go_straight<B: Bus>(
     ensures end { result_err result ≡ guard regions.now instr cpu.old }
     ensures kept { OnErr result ((cpu.new ≡ cpu.old) × (B.memory bus.new ≡ B.memory bus.old)) }
     ensures cpu { OnOk result (cpu.new ≡ changed instr (B.memory bus.old) cpu.old) }
-    ensures memory { (next : ℕ) → OnOk result (B.memory bus.new ≡ stored (B.memory bus.old) (stores instr next (B.memory bus.old) cpu.old)) }
+    ensures memory { (next : ℕ) →
+        OnOk result (B.memory bus.new ≡ stored (B.memory bus.old) (stores instr next (B.memory bus.old) cpu.old)) }
 {
     let r = cpu.registers;
     match instr {
@@ -211,7 +218,8 @@ fn store_answer<B: Bus>(
     bus: &mut B,
     regions: &Regions,
 ) -> Result<(), End>
-    ensures end { result_err result ≡ ends_at (first_outside (in_data regions.now) (hl_of cpu.old.registers ∷ [])) StoreOutside None }
+    ensures end { result_err result
+        ≡ ends_at (first_outside (in_data regions.now) (hl_of cpu.old.registers ∷ [])) StoreOutside None }
     ensures kept { OnErr result ((cpu.new ≡ cpu.old) × (B.memory bus.new ≡ B.memory bus.old)) }
     ensures cpu { OnOk result (cpu.new ≡ with_flags cpu.old answer) }
     ensures memory { OnOk result (B.memory bus.new ≡ stored (B.memory bus.old) ((hl_of cpu.old.registers, answer.value) ∷ [])) }

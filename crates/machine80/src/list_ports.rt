@@ -1,6 +1,6 @@
-ghost use Rattle.std.specs.Prelude.{◌≡◌, ℕ, ◌+◌, ◌-◌, ◌<◌, ◌≤◌, ◌^◌, List, [], ◌∷◌, ◌++◌, Option, Some, length, drop, slice_index, slice_get, OnOk, OnErr, replicate};
+ghost use Rattle.std.specs.Prelude.{◌≡◌, ◌+◌, ◌-◌, ◌<◌, ◌≤◌, [], Option, Some, length, replicate};
 ghost use Rattle.machine80.specs.ListPorts.{FirstOf};
-ghost use Rattle.machine80.specs.Ports.{bytes_of, lists_of, next_input, without_next, has_room, Lists};
+ghost use Rattle.machine80.specs.Ports.{lists_of, PortLists};
 
 use crate::inputs::Inputs;
 use crate::ports::{PortRefused, Ports};
@@ -22,13 +22,19 @@ pub struct ListPorts {
 }
 
 impl Model for ListPorts {
-    ghost use Rattle.std.specs.Prelude.{ℕ, ◌≤◌, ◌<◌, length, All, min, vec_capacity};
-    ghost use Rattle.machine80.specs.Ports.{Lists};
+    ghost use Rattle.std.specs.Prelude.{◌≤◌, ◌<◌, Some, length, All, min, vec_capacity};
+    ghost use Rattle.machine80.specs.Ports.{PortLists};
     ghost use Rattle.machine80.specs.ListPorts.{queues};
 
-    ghost Value = { Lists };
+    ghost Value = { PortLists };
 
-    ghost view = { λ p. record { inputs = queues p.places p.pairs.items; outputs = p.outputs.items; refused = p.refused; limit = p.limit; room = min p.limit (vec_capacity p.outputs) } };
+    ghost view = { λ p. record {
+      inputs = queues p.places p.pairs.items;
+      outputs = p.outputs.items;
+      refused = p.refused;
+      limit = Some p.limit;
+      room = min p.limit (vec_capacity p.outputs);
+    } };
 
     ghost invariant = { λ p. All (λ place. place ≤ length p.pairs.items) p.places };
 }
@@ -40,7 +46,7 @@ impl ListPorts {
         ensures inputs { result.inputs ≡ lists_of inputs.pairs.items }
         ensures outputs { result.outputs ≡ [] }
         ensures refused { result.refused ≡ 0 }
-        ensures limit { result.limit ≡ limit }
+        ensures limit { result.limit ≡ Some limit }
     {
         ListPorts {
             pairs: inputs.pairs,
@@ -82,15 +88,7 @@ fn first_of(pairs: &[(u8, u8)], from: usize, port: u8) -> Option<(usize, u8)>
 }
 
 impl Ports for ListPorts {
-    ghost inputs = { λ p. p.inputs };
-
-    ghost outputs = { λ p. p.outputs };
-
-    ghost refused = { λ p. p.refused };
-
-    ghost limit = { λ p. Some p.limit };
-
-    ghost room = { λ p. p.room };
+    ghost lists = { λ p. p };
 
     fn take(&mut self, port: u8) -> Option<u8> {
         match first_of(self.pairs.as_slice(), self.places[port as usize], port) {

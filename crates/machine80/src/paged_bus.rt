@@ -8,8 +8,8 @@ use image80::Image;
 use std::alloc::{AllocError, Global};
 use std::marker::Model;
 
-/// A memory of 65536 bytes in 256 pages of 256 bytes. All of them are made at once, so that a store takes no memory. They stand one after
-/// another, so that a load needs no look at its page.
+/// A memory of 65536 bytes in 256 pages of 256 bytes. All of them are made at once, so that a store takes no memory. They stand
+/// one after another, so that a load needs no look at its page.
 #[derive(Drop)]
 pub struct PagedBus {
     pages: Vec<[u8; 256]>,

@@ -28,7 +28,8 @@ pub(crate) fn push_place<B: Bus>(
     ensures end { result_err result ≡ ends_at (first_outside (in_range regions.now.stack) (pushed_bytes cpu.old.sp)) Stack None }
     ensures kept { OnErr result ((cpu.new ≡ cpu.old) × (B.memory bus.new ≡ B.memory bus.old)) }
     ensures cpu { OnOk result (cpu.new ≡ record cpu.old { sp = behind cpu.old.sp 2 }) }
-    ensures memory { OnOk result (B.memory bus.new ≡ stored (B.memory bus.old) (push_bytes cpu.old.sp (place / 256) (place % 256))) }
+    ensures memory { OnOk result (B.memory bus.new
+        ≡ stored (B.memory bus.old) (push_bytes cpu.old.sp (place / 256) (place % 256))) }
 {
     guard_push(cpu.sp, regions)?;
     push_word(bus, cpu.sp, place);
@@ -61,7 +62,8 @@ pub(crate) fn push_pair<B: Bus>(
     ensures end { result_err result ≡ ends_at (first_outside (in_range regions.now.stack) (pushed_bytes cpu.old.sp)) Stack None }
     ensures kept { OnErr result ((cpu.new ≡ cpu.old) × (B.memory bus.new ≡ B.memory bus.old)) }
     ensures cpu { OnOk result (cpu.new ≡ record cpu.old { sp = behind cpu.old.sp 2 }) }
-    ensures memory { OnOk result (B.memory bus.new ≡ stored (B.memory bus.old) (push_bytes cpu.old.sp (high_of cpu.old.registers pair) (low_of cpu.old.registers pair))) }
+    ensures memory { OnOk result (B.memory bus.new
+        ≡ stored (B.memory bus.old) (push_bytes cpu.old.sp (high_of cpu.old.registers pair) (low_of cpu.old.registers pair))) }
 {
     guard_push(cpu.sp, regions)?;
     push(
@@ -84,7 +86,12 @@ pub(crate) fn pop_pair<B: Bus>(
 ) -> Result<(), End>
     ensures end { result_err result ≡ ends_at (first_outside (in_range regions.now.stack) (popped_bytes cpu.old.sp)) Stack None }
     ensures kept { OnErr result (cpu.new ≡ cpu.old) }
-    ensures cpu { OnOk result (cpu.new ≡ record cpu.old { registers = with_stack_pair cpu.old.registers pair (byte_in (B.memory bus.now) (ahead cpu.old.sp 1)) (byte_in (B.memory bus.now) cpu.old.sp); sp = ahead cpu.old.sp 2 }) }
+    ensures cpu { OnOk result (cpu.new
+        ≡ record cpu.old {
+          registers = with_stack_pair cpu.old.registers pair (byte_in (B.memory bus.now) (ahead cpu.old.sp 1))
+              (byte_in (B.memory bus.now) cpu.old.sp);
+          sp = ahead cpu.old.sp 2;
+        }) }
 {
     guard_pop(cpu.sp, regions)?;
     cpu.registers
@@ -98,8 +105,16 @@ pub(crate) fn pop_pair<B: Bus>(
 pub(crate) fn exchange<B: Bus>(cpu: &mut Cpu, bus: &mut B, regions: &Regions) -> Result<(), End>
     ensures end { result_err result ≡ ends_at (first_outside (in_range regions.now.stack) (popped_bytes cpu.old.sp)) Stack None }
     ensures kept { OnErr result ((cpu.new ≡ cpu.old) × (B.memory bus.new ≡ B.memory bus.old)) }
-    ensures cpu { OnOk result (cpu.new ≡ record cpu.old { registers = record cpu.old.registers { h = byte_in (B.memory bus.old) (ahead cpu.old.sp 1); l = byte_in (B.memory bus.old) cpu.old.sp } }) }
-    ensures memory { OnOk result (B.memory bus.new ≡ stored (B.memory bus.old) ((cpu.old.sp, cpu.old.registers.l) ∷ (ahead cpu.old.sp 1, cpu.old.registers.h) ∷ [])) }
+    ensures cpu { OnOk result (cpu.new
+        ≡ record cpu.old {
+          registers = record cpu.old.registers {
+            h = byte_in (B.memory bus.old) (ahead cpu.old.sp 1);
+            l = byte_in
+                (B.memory bus.old) cpu.old.sp;
+          };
+        }) }
+    ensures memory { OnOk result (B.memory bus.new
+        ≡ stored (B.memory bus.old) ((cpu.old.sp, cpu.old.registers.l) ∷ (ahead cpu.old.sp 1, cpu.old.registers.h) ∷ [])) }
 {
     guard_pop(cpu.sp, regions)?;
     let (high, low) = (bus.load(ahead(cpu.sp, 1)), bus.load(cpu.sp));

@@ -1,11 +1,11 @@
 //! One step.
 
-ghost use Rattle.std.specs.Prelude.{◌≡◌, ◌==◌, ◌+◌, ◌-◌, ◌<◌, ◌^◌, AllPairs, OnSome, IfNone, nat_lt};
+ghost use Rattle.std.specs.Prelude.{◌≡◌, ◌==◌, ◌-◌, ◌<◌, ◌^◌, AllPairs, OnSome, IfNone};
 ghost use Rattle.std.specs.List.{list_any};
 ghost use Rattle.image80.specs.Regions.{targets_at};
 ghost use Rattle.machine80.specs.Cpu.{hl_of};
-ghost use Rattle.machine80.specs.Ports.{has_room};
-ghost use Rattle.machine80.specs.Step.{machine, guard, guarded, jump_end, step_of, turn_of, refusals_at};
+ghost use Rattle.machine80.specs.Ports.{has_refused};
+ghost use Rattle.machine80.specs.Step.{PortsAfter, guard, guarded, jump_end, step_of, turn_of, with_ports};
 
 use crate::bus::Bus;
 use crate::cpu::Cpu;
@@ -16,12 +16,12 @@ use crate::ports::Ports;
 use decode80::{Fetched, Instr};
 use image80::Regions;
 
-/// Makes one step: the instruction at the program counter is fetched, guarded and executed (Intel 8080 Microcomputer Systems User's
-/// Manual, chapter 4; docs/MACHINE.md). The answer is `None`, or how the run ends: [`End::Fetch`] where no instruction is fetched;
-/// else [`End::Stack`], [`End::Direct`] or [`End::StoreOutside`] at the first byte that it would touch outside its region; else
-/// [`End::Halt`] at HLT, [`End::InputEnd`] at IN where no byte waits, [`End::OutputRefused`] at OUT where the ports refuse the byte,
-/// [`End::JumpOutside`] at a PCHL where HL is none of the targets that are declared for its address. (Where none are declared, it
-/// goes where HL says.)
+/// Makes one step: the instruction at the program counter is fetched, guarded and executed (Intel 8080 Microcomputer Systems
+/// User's Manual, chapter 4; docs/MACHINE.md). The answer is `None`, or how the run ends: [`End::Fetch`] where no instruction is
+/// fetched; else [`End::Stack`], [`End::Direct`] or [`End::StoreOutside`] at the first byte that it would touch outside its
+/// region; else [`End::Halt`] at HLT, [`End::InputEnd`] at IN where no byte waits, [`End::OutputRefused`] at OUT where the ports
+/// refuse the byte, [`End::JumpOutside`] at a PCHL where HL is none of the targets that are declared for its address. (Where none
+/// are declared, it goes where HL says.)
 ///
 /// Where the run ends, nothing has changed but the count of refused outputs, which is one higher after
 /// [`End::OutputRefused`]. The count must be below the greatest `u64`.
@@ -31,14 +31,13 @@ pub fn step<B: Bus, P: Ports>(
     ports: &mut P,
     regions: &Regions,
 ) -> Option<End>
-    requires { P.refused ports.old < 2 ^ 64 - 1 }
-    ensures turn { let before = machine cpu.old (B.memory bus.old) (P.inputs ports.old) (P.outputs ports.old) in
-        let after = machine cpu.new (B.memory bus.new) (P.inputs ports.new) (P.outputs ports.new) in
-        step_of regions.now (nat_lt (P.refused ports.old) (P.refused ports.new)) before ≡ turn_of result after }
-    ensures kept { OnSome result (machine cpu.new (B.memory bus.new) (P.inputs ports.new) (P.outputs ports.new) ≡ machine cpu.old (B.memory bus.old) (P.inputs ports.old) (P.outputs ports.old)) }
-    ensures refusals { P.refused ports.new ≡ P.refused ports.old + refusals_at result }
-    ensures limit { P.limit ports.new ≡ P.limit ports.old }
-    ensures room { has_room (P.limit ports.old) (P.outputs ports.old) → has_room (P.limit ports.new) (P.outputs ports.new) }
+    requires { (P.lists ports.old).refused < 2 ^ 64 - 1 }
+    ensures turn { let before = with_ports cpu.old (B.memory bus.old) (P.lists ports.old) in
+        let after = with_ports cpu.new (B.memory bus.new) (P.lists ports.new) in
+        step_of regions.now (has_refused (P.lists ports.old) (P.lists ports.new)) before ≡ turn_of result after }
+    ensures kept { OnSome result (with_ports cpu.new (B.memory bus.new) (P.lists ports.new)
+        ≡ with_ports cpu.old (B.memory bus.old) (P.lists ports.old)) }
+    ensures ports { PortsAfter result (P.lists ports.old) (P.lists ports.new) }
 {
     let Some(found) = fetch(cpu.pc, bus, regions) else {
         return Some(End::Fetch(cpu.pc));
@@ -55,14 +54,14 @@ fn execute<B: Bus, P: Ports>(
     ports: &mut P,
     regions: &Regions,
 ) -> Option<End>
-    requires { P.refused ports.old < 2 ^ 64 - 1 }
-    ensures turn { let before = machine cpu.old (B.memory bus.old) (P.inputs ports.old) (P.outputs ports.old) in
-        let after = machine cpu.new (B.memory bus.new) (P.inputs ports.new) (P.outputs ports.new) in
-        guarded regions.now (guard regions.now found.instr cpu.old) (nat_lt (P.refused ports.old) (P.refused ports.new)) found before ≡ turn_of result after }
-    ensures kept { OnSome result (machine cpu.new (B.memory bus.new) (P.inputs ports.new) (P.outputs ports.new) ≡ machine cpu.old (B.memory bus.old) (P.inputs ports.old) (P.outputs ports.old)) }
-    ensures refusals { P.refused ports.new ≡ P.refused ports.old + refusals_at result }
-    ensures limit { P.limit ports.new ≡ P.limit ports.old }
-    ensures room { has_room (P.limit ports.old) (P.outputs ports.old) → has_room (P.limit ports.new) (P.outputs ports.new) }
+    requires { (P.lists ports.old).refused < 2 ^ 64 - 1 }
+    ensures turn { let before = with_ports cpu.old (B.memory bus.old) (P.lists ports.old) in
+        let after = with_ports cpu.new (B.memory bus.new) (P.lists ports.new) in
+        let refused = has_refused (P.lists ports.old) (P.lists ports.new) in
+        guarded regions.now (guard regions.now found.instr cpu.old) refused found before ≡ turn_of result after }
+    ensures kept { OnSome result (with_ports cpu.new (B.memory bus.new) (P.lists ports.new)
+        ≡ with_ports cpu.old (B.memory bus.old) (P.lists ports.old)) }
+    ensures ports { PortsAfter result (P.lists ports.old) (P.lists ports.new) }
 {
     match found.instr {
         Instr::Hlt => Some(End::Halt),

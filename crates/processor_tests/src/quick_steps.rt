@@ -1,4 +1,5 @@
-//! A quick step is the step: both are made from the same states, and must leave the same. The quick steps go over a memory in pages.
+//! A quick step is the step: both are made from the same states, and must leave the same. The quick steps go over a memory in
+//! pages.
 
 use crate::memory::{empty_memory, empty_pages};
 use decode80::length_of;
@@ -83,8 +84,8 @@ fn put<B: Bus>(bus: &mut B, opcode: u8, pc: u16) {
     bus.store(pc.wrapping_add(2), 0x12);
 }
 
-/// Whether both steps from a state come to the same end, registers, outputs and inputs, where ports of this kind have an input byte
-/// or none, and room for one output or for none.
+/// Whether both steps from a state come to the same end, registers, outputs and inputs, where ports of this kind have an input
+/// byte or none, and room for one output or for none.
 fn steps_agree(
     alloc: Global,
     pair: &mut Pair,
@@ -128,8 +129,8 @@ fn all_agree(
     Ok(same_memory(&pair.slow, &pair.quick))
 }
 
-/// Goes through every first byte, unused ones too, with settings of each flag, from each set of registers, in the midst of the code
-/// and at the end of memory.
+/// Goes through every first byte, unused ones too, with settings of each flag, from each set of registers, in the midst of the
+/// code and at the end of memory.
 fn go_through_bytes(
     rt: &impl Abort,
     alloc: Global,

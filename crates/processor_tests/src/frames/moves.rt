@@ -7,8 +7,8 @@ use frames80::Word::{Any, Own};
 use frames80::{Frame, FrameFault, Moves, Role};
 use std::test::Fail;
 
-/// Instructions, each with the frame before it, how the procedure goes on, the address or the number of words or of the refusal, and the
-/// frame after it; where there is none, the frame before it stands there.
+/// Instructions, each with the frame before it, how the procedure goes on, the address or the number of words or of the refusal,
+/// and the frame after it; where there is none, the frame before it stands there.
 #[rattlefmt::skip]
 static ROWS: [(Role, [u8; 3], Parts, &str, u32, Parts); 54] = [
     // PUSH and POP of BC, DE and HL carry the return address; PSW doesn't.
@@ -42,7 +42,8 @@ static ROWS: [(Role, [u8; 3], Parts, &str, u32, Parts); 54] = [
     (MAIN, [0x31, 0x00, 0x32], (0, &[], [Any, Any, Any]), "on", 0, (0, &[], [Any, Any, Any])),
     (MAIN, [0x21, 0x05, 0x00], (0, &[], [Any, Any, Any]), "on", 0, (0, &[], [Any, Any, Any])),
     (MAIN, [0xE5, 0x00, 0x00], (0, &[], [Any, Any, Any]), "on", 0, (0, &[Any], [Any, Any, Any])),
-    // JMP, JZ, CALL and CZ of 3210, RST 7, RET, RZ, HLT and NOP, in a procedure that has taken two words; RET where one was taken.
+    // JMP, JZ, CALL and CZ of 3210, RST 7, RET, RZ, HLT and NOP, in a procedure that has taken two words; RET where one was
+    // taken.
     (Entry, [0xC3, 0x10, 0x32], (2, &[Own], [Any, Any, Any]), "jump", 0x3210, (2, &[Own], [Any, Any, Any])),
     (Entry, [0xCA, 0x10, 0x32], (2, &[Own], [Any, Any, Any]), "either", 0x3210, (2, &[Own], [Any, Any, Any])),
     (Entry, [0xCD, 0x10, 0x32], (2, &[Own], [Any, Any, Any]), "call", 0x3210, (2, &[Own], [Any, Any, Any])),

@@ -1,5 +1,5 @@
-//! Programs that the verifier refuses, and what is known of them from the manual's description of each instruction. What others put
-//! out is in the program's tests.
+//! Programs that the verifier refuses, and what is known of them from the manual's description of each instruction. What others
+//! put out is in the program's tests.
 
 use machine80::End;
 

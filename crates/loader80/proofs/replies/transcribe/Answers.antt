@@ -21,9 +21,7 @@ returns-in-Ok-transcript_text c =
       outputs_before = c.new-ports.ensures.outputs;
       refused_before = c.new-ports.ensures.refused;
       limit_before = c.new-ports.ensures.limit;
-      limit_after = c.run-ended.ensures.limit;
-      refusals = c.run-ended.ensures.refusals;
-      room = c.run-ended.ensures.room;
+      ports_after = c.run-ended.ensures.ports;
     } in
     let outputs : c.outputs.result.now ≡ c.run-ended.new.ports.outputs = c.outputs.ensures in
     let text : string_bytes c.in-Ok-transcript_text.text ≡ transcript o.stack_bytes last.outputs o.end o.at o.steps =

@@ -1,4 +1,4 @@
-use Rattle.std.specs.Prelude.{◌≡◌, true, refl, None}
+use Rattle.std.specs.Prelude.{◌≡◌, true}
 use Rattle.std.proofs.Common.{◌∙◌, ap, sym, rules}
 use Rattle.image80.specs.Regions.{targets_at}
 use Rattle.machine80.specs.Step.{jump_end}

@@ -1,4 +1,4 @@
-use Rattle.std.proofs.Common.{◌≡◌, ◌<◌, ℕ, arith}
+use Rattle.std.proofs.Common.{arith}
 use Rattle.machine80.proofs.PagesLemmas.{memory_in_pages-cut}
 use Rattle.machine80.proofs.paged_bus.PagedBus.of_bytes.Goals as goal
 

@@ -1,4 +1,4 @@
-use Rattle.std.proofs.Common.{◌≡◌, ◌/◌, ◌%◌, ◌<◌, ◌∙◌, ap, sym, subst, List, ℕ, [], arith, length, get_or, set}
+use Rattle.std.proofs.Common.{◌≡◌, ◌/◌, ◌<◌, ◌∙◌, ap, sym, subst, List, ℕ, [], arith, length, get_or, set}
 use Rattle.machine80.specs.Pages.{memory_in_pages}
 use Rattle.machine80.proofs.PagesLemmas.{length-memory_in_pages, memory_in_pages-set, page_at}
 use Rattle.machine80.proofs.paged_bus.PagedBusBus.store.Goals as goal
