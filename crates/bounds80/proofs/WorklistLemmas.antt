@@ -330,13 +330,6 @@ taken_off sums lists lists_after counts settled after callee are is none same =
 
 -- the calls that are left
 
-pub left_none : (counts : List ℕ) → AreLeft [] counts []
-left_none counts = record {
-  of_list = λ call there. there;
-  counted = λ call there. absurd (omega (arith, there.1));
-  all = λ call there some. there;
-}
-
 pub left_kept : (calls : List CallSite) (counts : List ℕ) (pending : List CallSite) (i to : ℕ) → i < length calls → to ≡ slot_of (Entry (get_or calls i no_call).target) →
     0 < get_or counts to 0 → AreLeft (take i calls) counts pending → AreLeft (take (i + 1) calls) counts (pending ++ get_or calls i no_call ∷ [])
 left_kept calls counts pending i to within is some are =

@@ -34,13 +34,15 @@ through_call call below = (call.depth +ℤ pos 2) +ℤ below
 -- the sums over chains of the lists' calls
 pub data Chain (depths : List Depth) (calls : List CallSite) : Procedure → ℤ → Type 0 where
   last : (p : Procedure) (bytes : ℤ) → HasLast depths p bytes → Chain depths calls p bytes
-  through : (p : Procedure) (call : CallSite) (below bytes : ℤ) → CallsBy calls p call → Chain depths calls (Entry call.target) below →
+  through : (p : Procedure) (call : CallSite) (below bytes : ℤ) → CallsBy calls p call →
+      Chain depths calls (Entry call.target) below →
       bytes ≡ through_call call below → Chain depths calls p bytes
 
 -- the lists' calls lead from one procedure to another
 pub data Reaches (calls : List CallSite) : Procedure → Procedure → Type 0 where
   here : (p q : Procedure) → p ≡ q → Reaches calls p q
-  further : (p q r : Procedure) (call : CallSite) → Reaches calls p q → CallsBy calls q call → r ≡ Entry call.target → Reaches calls p r
+  further : (p q r : Procedure) (call : CallSite) → Reaches calls p q → CallsBy calls q call → r ≡ Entry call.target →
+      Reaches calls p r
 
 -- a call at this address whose callee leads back to its caller
 pub record Cycles (calls : List CallSite) (at : ℕ) : Type 0 where

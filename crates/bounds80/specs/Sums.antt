@@ -27,7 +27,8 @@ most_step = 4194304
 
 -- the sums hold every depth and every call but those that are pending
 pub record AreSums (depths : List Depth) (calls : List CallSite) (sums : List ℕ) (open_calls : List CallSite) : Type 0 where
-  pub reached : AreEntered depths calls → (p : Procedure) → HasLast depths p (pos 0) → Chain depths calls p (pos (bytes_of sums p))
+  pub reached : AreEntered depths calls → (p : Procedure) → HasLast depths p (pos 0) →
+      Chain depths calls p (pos (bytes_of sums p))
   pub deep : (depth : Depth) → Contains depths depth → depth.depth ≤ℤ pos (bytes_of sums depth.procedure)
   pub call : (call : CallSite) → Contains calls call → Contains open_calls call ⊎ IsAbsorbed calls sums open_calls call
   pub of_list : (call : CallSite) → Contains open_calls call → Contains calls call
@@ -44,7 +45,8 @@ pub record IsRaised (old : ℕ) (bytes : ℤ) (new : ℕ) : Type 0 where
 
 -- the depths that have been looked at are in the sums
 pub record AreDepths (seen : List Depth) (sums : List ℕ) : Type 0 where
-  pub reached : (slot : ℕ) → (slice_index sums slot ≡ 0) ⊎ ((p : Procedure) → slot_of p ≡ slot → HasLast seen p (pos (slice_index sums slot)))
+  pub reached : (slot : ℕ) → (slice_index sums slot ≡ 0)
+      ⊎ ((p : Procedure) → slot_of p ≡ slot → HasLast seen p (pos (slice_index sums slot)))
   pub deep : (depth : Depth) → Contains seen depth → depth.depth ≤ℤ pos (bytes_of sums depth.procedure)
   pub small : (slot : ℕ) → slice_index sums slot ≤ most_step
 
@@ -75,8 +77,8 @@ pub record AreIdle (lists : List (List CallSite)) (counts : List ℕ) (looked : 
   pub none : (slot : ℕ) → Contains slots slot → (slot < looked) × (slice_index counts slot ≡ 0)
   pub all : (slot : ℕ) → slot < looked → slice_index counts slot ≡ 0 → Contains slots slot ⊎ (slice_index_or lists slot [] ≡ [])
 
--- while calls are absorbed: those that are left by their callees, how many each procedure has, and the settled procedures, which have none,
--- where they have callers
+-- while calls are absorbed: those that are left by their callees, how many each procedure has, and the settled procedures, which
+-- have none, where they have callers
 pub record IsWorklist (sums : List ℕ) (lists : List (List CallSite)) (counts settled : List ℕ) : Type 0 where
   pub counted : AreCounted lists counts
   pub small : AreSmall sums (length (joined lists))
@@ -86,9 +88,11 @@ pub record IsWorklist (sums : List ℕ) (lists : List (List CallSite)) (counts s
   pub all : (slot : ℕ) → slice_index counts slot ≡ 0 → Contains settled slot ⊎ (slice_index_or lists slot [] ≡ [])
 
 -- a call is absorbed, or a procedure without callers is taken off the worklist
-pub record IsAdvance (old : List ℕ) (old_lists : List (List CallSite)) (old_settled sums : List ℕ) (lists : List (List CallSite)) (counts settled : List ℕ) : Type 0 where
+pub record IsAdvance (old : List ℕ) (old_lists : List (List CallSite)) (old_settled sums : List ℕ) (lists : List (List CallSite))
+    (counts settled : List ℕ) : Type 0 where
   pub worklist : IsWorklist sums lists counts settled
-  pub hold : (depths : List Depth) (calls : List CallSite) → AreSums depths calls old (joined old_lists) → AreSums depths calls sums (joined lists)
+  pub hold : (depths : List Depth) (calls : List CallSite) → AreSums depths calls old (joined old_lists) →
+      AreSums depths calls sums (joined lists)
   pub fewer : 2 * length (joined lists) + length settled < 2 * length (joined old_lists) + length old_settled
 
 -- the calls whose callees have calls that are left
@@ -110,7 +114,8 @@ pub record AreStuck (pending : List CallSite) : Type 0 where
 
 -- for each procedure that has one of the calls that have been looked at, one of its pending calls
 pub record AreFollowed (pending seen table : List CallSite) : Type 0 where
-  pub next : (p : Procedure) (call : CallSite) → CallsBy seen p call → (d : CallSite) → CallsBy pending p (slice_index_or table (slot_of p) d)
+  pub next : (p : Procedure) (call : CallSite) → CallsBy seen p call → (d : CallSite) →
+      CallsBy pending p (slice_index_or table (slot_of p) d)
 
 -- a call that the table has for its caller
 pub record IsFollowed (calls table : List CallSite) (call : CallSite) : Type 0 where
@@ -121,6 +126,7 @@ pub record IsFollowed (calls table : List CallSite) (call : CallSite) : Type 0 w
 pub record IsFollowing (calls table : List CallSite) (met : List Bool) (call : CallSite) : Type 0 where
   pub followed : AreFollowed calls calls table
   pub at : IsFollowed calls table call
-  pub back : (p : Procedure) → slice_index_or met (slot_of p) false ≡ true → (d : CallSite) → Reaches calls (Entry (slice_index_or table (slot_of p) d).target) call.caller
+  pub back : (p : Procedure) → slice_index_or met (slot_of p) false ≡ true → (d : CallSite) →
+      Reaches calls (Entry (slice_index_or table (slot_of p) d).target) call.caller
   pub places : length table ≡ 65537
   pub met_places : length met ≡ 65537

@@ -15,13 +15,6 @@ use Rattle.image80.specs.Image.{Located, memory_of}
 use Rattle.image80.specs.Regions.{in_code}
 use Rattle.cases80.specs.Suggested.{IsSuggested, IsTable, IsWord, is_undeclared, word_in, words_from}
 
--- a table has no word at first
-pub no_words : (image : Located) (table : ℕ) → IsTable image table []
-no_words image table = record {
-  read = refl;
-  each = λ k inside. absurd (omega (arith, inside));
-}
-
 -- the word of a table at an index
 abbrev word_of : Located → ℕ → ℕ → ℕ
 word_of image table k = word_in (memory_of image.chunks) (table + 2 * k)

@@ -1,5 +1,5 @@
--- The CASE line that the table of a DO CASE suggests for a PCHL. (PL/M-80 compiles DO CASE to a jump through a table of words, low
--- byte first; 8080 Assembly Language Programming Manual, PCHL. That a table ends at a word that is no address in CODE is this
+-- The CASE line that the table of a DO CASE suggests for a PCHL. (PL/M-80 compiles DO CASE to a jump through a table of words,
+-- low byte first; 8080 Assembly Language Programming Manual, PCHL. That a table ends at a word that is no address in CODE is this
 -- project's own.)
 use Rattle.std.specs.Prelude.{◌≡◌, ℕ, ◌+◌, ◌*◌, ◌<◌, ◌≤◌, ◌==◌, ◌↔◌, Bool, true, ◌&&◌, List, All, AllPairs, Contains, length, map, slice_index, is_none}
 use Rattle.std.specs.List.{range_with_len}

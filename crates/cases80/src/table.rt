@@ -23,8 +23,8 @@ pub(crate) fn is_undeclared(image: &Image, code: &ImageCode<'_>, at: u16) -> boo
     code.is_code(at) && code.byte(at) == PCHL && image.regions.targets(at).is_none()
 }
 
-/// The word at an address, where both of its bytes are code and belong to no instruction that is marked as taken, and the word is an
-/// address in the code.
+/// The word at an address, where both of its bytes are code and belong to no instruction that is marked as taken, and the word is
+/// an address in the code.
 pub(crate) fn word_at(code: &ImageCode<'_>, taken: &[bool], address: usize) -> Option<u16>
     ensures { IfSome result (IsWord code.now address) }
 {
@@ -46,8 +46,8 @@ fn is_free(code: &ImageCode<'_>, taken: &[bool], address: u16) -> bool
     code.is_code(address) && !is_marked(taken, address)
 }
 
-/// The case of a PCHL whose table is at an address: the table's words, as long as they are such, ascending, each once; `None` where
-/// there is no word.
+/// The case of a PCHL whose table is at an address: the table's words, as long as they are such, ascending, each once; `None`
+/// where there is no word.
 pub(crate) fn case_of_table(
     alloc: Global,
     image: &Image,

@@ -14,8 +14,8 @@
 
 use decode80::{Instr, Pair, Register, StackPair};
 
-/// What the instructions that come before an address, one after another, have left: the table is known at a PCHL where its word was
-/// loaded and exchanged.
+/// What the instructions that come before an address, one after another, have left: the table is known at a PCHL where its word
+/// was loaded and exchanged.
 #[derive(Clone, Copy)]
 pub(crate) struct Trail {
     /// The word that LXI has put into BC.

@@ -14,8 +14,8 @@ struct Place {
     trail: Trail,
 }
 
-/// A walk over the addresses of a program, without its frames: it follows each branch, goes on behind each CALL, and to the words of
-/// the table of each PCHL that isn't declared. So it takes more than the verifier's walks do.
+/// A walk over the addresses of a program, without its frames: it follows each branch, goes on behind each CALL, and to the words
+/// of the table of each PCHL that isn't declared. So it takes more than the verifier's walks do.
 #[derive(Drop)]
 pub(crate) struct Walk {
     /// For each address whether it was reached.
@@ -77,8 +77,8 @@ impl Walk {
         *self.tables.get(usize::from(at))?
     }
 
-    /// Goes on from one address, or, where there is none, to the next word of the table that was found last: all that a target leads
-    /// to is known before the next word is read. Whether there was either.
+    /// Goes on from one address, or, where there is none, to the next word of the table that was found last: all that a target
+    /// leads to is known before the next word is read. Whether there was either.
     fn go_on(&mut self, image: &Image, code: &ImageCode<'_>) -> Result<bool, AllocError> {
         if let Some(place) = self.pending.pop() {
             if let Ok(found) = fetch(place.at, code) {

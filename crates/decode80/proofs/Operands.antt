@@ -13,13 +13,6 @@ spelling-cons (Operate o Memory) = refl
 spelling-cons (Operate o (Immediate b)) = refl
 spelling-cons i = refl
 
--- an operand leaves the opcode and the length as they are
-pub opcode-with_operand : (i : Instr) (b c : ℕ) → opcode (with_operand b c i) ≡ opcode i
-opcode-with_operand (Operate o (InRegister s)) b c = refl
-opcode-with_operand (Operate o Memory) b c = refl
-opcode-with_operand (Operate o (Immediate x)) b c = refl
-opcode-with_operand i b c = refl
-
 pub length-with_operand : (i : Instr) (b c : ℕ) → length (spelling (with_operand b c i)) ≡ length (spelling i)
 length-with_operand (Operate o (InRegister s)) b c = refl
 length-with_operand (Operate o Memory) b c = refl

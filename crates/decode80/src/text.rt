@@ -134,7 +134,8 @@ fn append_one(operand: &[u8], out: &mut Vec<u8>) -> Result<(), AllocError>
 fn append_two(first: &[u8], second: &[u8], out: &mut Vec<u8>) -> Result<(), AllocError>
     ensures ok { OnOk result (out.new.items ≡ out.old.items ++ (codes " " ++ first.now ++ (codes "," ++ second.now))) }
     ensures err { OnErr result (take (vec_len out.old) out.new.items ≡ out.old.items) }
-    ensures full { OnErr result (vec_capacity out.old < vec_len out.old + length (codes " " ++ first.now ++ (codes "," ++ second.now))) }
+    ensures full { OnErr result
+        (vec_capacity out.old < vec_len out.old + length (codes " " ++ first.now ++ (codes "," ++ second.now))) }
     ensures capacity { vec_capacity out.old ≤ vec_capacity out.new }
 {
     append_after(b" ", first, out)?;

@@ -13,7 +13,7 @@ use Rattle.flow80.specs.declared.refusal.Refusal.TheVariants.{FetchOutside, Unus
 use Rattle.flow80.specs.Code.{Code}
 use Rattle.flow80.specs.Walks.{Walk, begins, goes_on, enters, comes_back, Calls, role_of}
 use Rattle.flow80.specs.Use.{last, through, IsBound}
-use Rattle.flow80.specs.Faults.{Holds, Many, most_points}
+use Rattle.flow80.specs.Faults.{HoldsAnyway, Many, most_points}
 use Rattle.flow80.specs.Fitting.{FrameFits, Fits}
 use Rattle.flow80.specs.Rows.{ReturnsWith, Wants, IsRow, AreRows}
 use Rattle.flow80.specs.Accepted.{IsMeasured}
@@ -145,25 +145,25 @@ module _ (laws : FrameLaws) (code : Code) (known : Known) (wants bytes : List �
           let has = has_walk laws code known is.filled (many.procedure n) (many.at n) (many.frame n) (many.walk n less) in
           placed known.points has.number has.point (many.procedure n) (many.at n) has.there has.procedure has.address
 
-  no_refusal : (refusal : Refusal) → refusal ≢ Memory → ((need has : ℕ) → refusal ≢ StackTooSmall need has) → Holds code refusal → ⊥
-  no_refusal (FetchOutside at) apart other holds = no_look_fault laws code _ known_fits at Outside holds
-  no_refusal (UnusedOpcode at) apart other holds = no_look_fault laws code _ known_fits at Unused holds
-  no_refusal (EnablesInterrupts at) apart other holds = no_look_fault laws code _ known_fits at LooksAtEi holds
-  no_refusal (DirectStore at) apart other holds = no_look_fault laws code _ known_fits at LooksAtStore holds
-  no_refusal (Sphl at) apart other holds = no_move_fault laws code _ known_fits at FrameSphl holds
-  no_refusal (Pchl at) apart other holds = no_look_fault laws code _ known_fits at LooksAtPchl holds
-  no_refusal (StackByByte at) apart other holds = no_move_fault laws code _ known_fits at FrameStackByByte holds
-  no_refusal (SetsStack at) apart other holds = no_move_fault laws code _ known_fits at FrameSetsStack holds
-  no_refusal (PopsBelow at) apart other holds = no_move_fault laws code _ known_fits at FramePopsBelow holds
-  no_refusal (ReturnNotOwn at) apart other holds = no_move_fault laws code _ known_fits at FrameReturnNotOwn holds
-  no_refusal (ReturnFromMain at) apart other holds = no_move_fault laws code _ known_fits at FrameReturnFromMain holds
-  no_refusal (HeightsDiffer at) apart other holds = no_differ laws code _ known_fits at holds
-  no_refusal (UnevenArguments at) apart other holds = no_uneven laws code _ known_fits at holds
-  no_refusal (ShortArguments at) apart other holds = no_short laws code _ known_fits at holds
-  no_refusal (Recursion at) apart other holds = is.bounded.ends.none at holds
-  no_refusal (StackTooSmall need has) apart other holds = other need has refl
-  no_refusal TooManyPoints apart other holds = few_points holds
-  no_refusal Memory apart other holds = apart refl
+  no_refusal : (refusal : Refusal) → refusal ≢ Memory → HoldsAnyway code refusal → ⊥
+  no_refusal (FetchOutside at) apart holds = no_look_fault laws code _ known_fits at Outside holds
+  no_refusal (UnusedOpcode at) apart holds = no_look_fault laws code _ known_fits at Unused holds
+  no_refusal (EnablesInterrupts at) apart holds = no_look_fault laws code _ known_fits at LooksAtEi holds
+  no_refusal (DirectStore at) apart holds = no_look_fault laws code _ known_fits at LooksAtStore holds
+  no_refusal (Sphl at) apart holds = no_move_fault laws code _ known_fits at FrameSphl holds
+  no_refusal (Pchl at) apart holds = no_look_fault laws code _ known_fits at LooksAtPchl holds
+  no_refusal (StackByByte at) apart holds = no_move_fault laws code _ known_fits at FrameStackByByte holds
+  no_refusal (SetsStack at) apart holds = no_move_fault laws code _ known_fits at FrameSetsStack holds
+  no_refusal (PopsBelow at) apart holds = no_move_fault laws code _ known_fits at FramePopsBelow holds
+  no_refusal (ReturnNotOwn at) apart holds = no_move_fault laws code _ known_fits at FrameReturnNotOwn holds
+  no_refusal (ReturnFromMain at) apart holds = no_move_fault laws code _ known_fits at FrameReturnFromMain holds
+  no_refusal (HeightsDiffer at) apart holds = no_differ laws code _ known_fits at holds
+  no_refusal (UnevenArguments at) apart holds = no_uneven laws code _ known_fits at holds
+  no_refusal (ShortArguments at) apart holds = no_short laws code _ known_fits at holds
+  no_refusal (Recursion at) apart holds = is.bounded.ends.none at holds
+  no_refusal (StackTooSmall need has) apart holds = absurd holds
+  no_refusal TooManyPoints apart holds = few_points holds
+  no_refusal Memory apart holds = apart refl
 
   -- rows
   enters_first : (entry : ℕ) (p : Procedure) (at : ℕ) (f : StackFrame) → Walk code p at f → p ≡ Entry entry → Walk code (Entry entry) entry entry_frame
@@ -245,5 +245,5 @@ module _ (laws : FrameLaws) (code : Code) (known : Known) (wants bytes : List �
     fitted = record { table = known_table known (bytes_of wants) (bytes_of bytes); fits = known_fits; printed = refl };
     bound = main_bound;
     rows = rows_are rows listed;
-    none_else_holds = no_refusal;
+    none_holds = no_refusal;
   }

@@ -102,13 +102,6 @@ none_kept numbers first empty = record {
       ∙ ap (λ (entries : List (ℕ × ℕ)). lookup (is_at (nat_cmp (place_number procedure at))) entries) empty);
 }
 
--- two addresses of procedures have two numbers
-procedures_apart : (p q : Procedure) → procedure_number p ≡ procedure_number q → same_procedure p q ≡ true
-procedures_apart Main Main e = refl
-procedures_apart Main (Entry b) e = absurd (omega arith)
-procedures_apart (Entry a) Main e = absurd (omega arith)
-procedures_apart (Entry a) (Entry b) e = let same : a ≡ b = omega arith in (unsigned_Decides a b).1 same
-
 apart : (p q : Procedure) (a b : ℕ) → a < 65536 → b < 65536 → same_place p a q b ≡ false → is_eq (nat_cmp (place_number p a) (place_number q b)) ≡ false
 apart p q a b inside other differ =
     let different : place_number p a ≢ place_number q b =

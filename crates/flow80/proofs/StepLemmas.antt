@@ -16,7 +16,7 @@ use Rattle.flow80.specs.declared.refusal.Refusal.{Refusal}
 use Rattle.flow80.specs.declared.refusal.Refusal.TheVariants.{UnevenArguments, ShortArguments, Memory}
 use Rattle.flow80.specs.Code.{Code}
 use Rattle.flow80.specs.Walks.{LeadsTo, called, returning, role_of}
-use Rattle.flow80.specs.Faults.{Holds as Refused}
+use Rattle.flow80.specs.Faults.{HoldsAnyway as Refused}
 use Rattle.flow80.specs.Shown.{IsShown, AtMove, FrameLaws}
 use Rattle.flow80.specs.Known.{Known, IsSmall, Stands, weight, Goes, HasPoint, Flows, Carries, Steps, GoesToFirst, exit_of, Exits, CallsOut, IsShort}
 use Rattle.flow80.proofs.ShownLemmas.{shown_on, shown_entry, shown_after, exit_shown, exit_shown_at, taken_at_return, short, uneven}

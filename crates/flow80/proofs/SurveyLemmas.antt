@@ -22,7 +22,7 @@ use Rattle.flow80.specs.declared.refusal.Refusal.TheVariants.{ShortArguments}
 use Rattle.flow80.specs.declared.site.Site.{Site}
 use Rattle.flow80.specs.Code.{Code}
 use Rattle.flow80.specs.Walks.{Walk, Moving, Calls, called, role_of}
-use Rattle.flow80.specs.Faults.{Holds as Refused}
+use Rattle.flow80.specs.Faults.{HoldsAnyway as Refused}
 use Rattle.flow80.specs.Points.{Point, IsPointAt, IsNoPoint}
 use Rattle.bounds80.specs.Chains.{slot_of, bytes_of}
 use Rattle.flow80.specs.Shown.{Whole, FrameLaws}

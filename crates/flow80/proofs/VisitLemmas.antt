@@ -22,7 +22,7 @@ use Rattle.flow80.specs.declared.refusal.Refusal.{Refusal}
 use Rattle.flow80.specs.Refusal.{refusal_of, look_refusal}
 use Rattle.flow80.specs.Code.{Code}
 use Rattle.flow80.specs.Walks.{role_of}
-use Rattle.flow80.specs.Faults.{Holds as Refused, LooksWrong}
+use Rattle.flow80.specs.Faults.{HoldsAnyway as Refused, LooksWrong}
 use Rattle.flow80.specs.Points.{Point}
 use Rattle.flow80.specs.declared.site.Site.{Site}
 use Rattle.flow80.specs.Survey.{IsMoveAt, EffectIsAt}

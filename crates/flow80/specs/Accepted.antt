@@ -2,11 +2,11 @@
 use Rattle.std.specs.Prelude.{◌≢◌, ◌≤◌, ℕ, List}
 use Rattle.bounds80.specs.declared.procedure.Procedure.TheVariants.{Main}
 use Rattle.flow80.specs.declared.refusal.Refusal.{Refusal}
-use Rattle.flow80.specs.declared.refusal.Refusal.TheVariants.{Memory, StackTooSmall}
+use Rattle.flow80.specs.declared.refusal.Refusal.TheVariants.{Memory}
 use Rattle.flow80.specs.declared.report.ProcRow.{ProcRow}
 use Rattle.flow80.specs.Code.{Code}
 use Rattle.flow80.specs.Use.{IsBound}
-use Rattle.flow80.specs.Faults.{Holds}
+use Rattle.flow80.specs.Faults.{Holds, HoldsAnyway}
 use Rattle.flow80.specs.Fitting.{IsFitted}
 use Rattle.flow80.specs.Rows.{AreRows}
 
@@ -16,7 +16,7 @@ pub record IsMeasured (code : Code) (listed : List ProcRow) (bytes : ℕ) : Type
   pub fitted : IsFitted code bytes
   pub bound : IsBound code Main bytes
   pub rows : AreRows code listed
-  pub none_else_holds : (refusal : Refusal) → refusal ≢ Memory → ((need has : ℕ) → refusal ≢ StackTooSmall need has) → Holds code refusal → ⊥
+  pub none_holds : (refusal : Refusal) → refusal ≢ Memory → HoldsAnyway code refusal → ⊥
 
 -- a table of frames fits the program with so many bytes of stack, which are the most that a chain of its calls uses and no more
 -- than there are; the rows are those of its procedures; and no refusal holds of it

@@ -132,3 +132,8 @@ Holds code (Recursion at) = Recurs code at
 Holds code (StackTooSmall need has) = Overruns code need has
 Holds code TooManyPoints = Many code (most_points + 1)
 Holds code Memory = Unit {0}
+
+-- the refusal holds however large the stack is; that it is too small doesn't
+abbrev pub HoldsAnyway : Code → Refusal → Type 0
+HoldsAnyway code (StackTooSmall need has) = ⊥
+HoldsAnyway code refusal = Holds code refusal

@@ -33,7 +33,8 @@ pub record FrameCloses (code : Code) (table : Table) (p : Procedure) (at : ℕ) 
   pub moving : Moving code p at f found moves
   pub on : (to : ℕ) (g : StackFrame) → LeadsTo moves (code.targets at) found.next to g → Has table p to g
   pub enters : (target : ℕ) → called moves ≡ Some target → Has table (Entry target) target entry_frame
-  pub after : (target taken : ℕ) → called moves ≡ Some target → table.takes (Entry target) ≡ Some taken → Has table p found.next (returned taken f)
+  pub after : (target taken : ℕ) → called moves ≡ Some target → table.takes (Entry target) ≡ Some taken →
+      Has table p found.next (returned taken f)
   pub return : (taken : ℕ) → returning moves ≡ Some taken → table.takes p ≡ Some taken
 
 -- the table closes: the start is in it, and each of its frames closes

@@ -11,10 +11,12 @@ use Rattle.flow80.specs.Fitting.{Table, Has, Fits}
 
 -- every walk is covered by a frame of the table, and takes no more words than its procedure wants
 abbrev pub CoversWalks : Type 0
-CoversWalks = (code : Code) (table : Table) → Fits code table → (p : Procedure) (at : ℕ) (f : StackFrame) → Walk code p at f → Has table p at f
+CoversWalks = (code : Code) (table : Table) → Fits code table → (p : Procedure) (at : ℕ) (f : StackFrame) → Walk code p at f →
+    Has table p at f
 
 abbrev pub WantsEnough : Type 0
-WantsEnough = (code : Code) (table : Table) → Fits code table → (p : Procedure) (at : ℕ) (f : StackFrame) → Walk code p at f → f.taken ≤ table.wants p
+WantsEnough = (code : Code) (table : Table) → Fits code table → (p : Procedure) (at : ℕ) (f : StackFrame) → Walk code p at f →
+    f.taken ≤ table.wants p
 
 -- no walk is at a fault: at an instruction that is not admissible, at one that its frame forbids, at a point where another
 -- walk has other counts, at a return where another return has taken another number of words, at a call without the words

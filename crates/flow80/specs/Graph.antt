@@ -29,7 +29,8 @@ pub record HasCall (code : Code) (p : Procedure) (at : ℕ) (depth : ℤ) (targe
 -- the lists are those of the program's walks: each entry is a walk's, and each walk has its entry
 pub record IsGraph (code : Code) (depths : List Depth) (calls : List CallSite) : Type 0 where
   pub depth : All (λ (d : Depth). HasDepth code d.procedure d.depth) depths
-  pub every_depth : (p : Procedure) (depth : ℤ) → HasDepth code p depth → Any (λ (d : Depth). (d.procedure ≡ p) × (d.depth ≡ depth)) depths
+  pub every_depth : (p : Procedure) (depth : ℤ) → HasDepth code p depth →
+      Any (λ (d : Depth). (d.procedure ≡ p) × (d.depth ≡ depth)) depths
   pub call : All (λ (c : CallSite). HasCall code c.caller c.at c.depth c.target) calls
   pub every_call : (p : Procedure) (at : ℕ) (depth : ℤ) (target : ℕ) → HasCall code p at depth target →
       Any (λ (c : CallSite). (c.caller ≡ p) × (c.target ≡ target) × (c.depth ≡ depth)) calls

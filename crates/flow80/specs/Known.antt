@@ -16,7 +16,7 @@ use Rattle.flow80.specs.Code.{Code}
 use Rattle.flow80.specs.Walks.{Moving, LeadsTo, called, returning, role_of}
 use Rattle.flow80.specs.declared.refusal.Refusal.{Refusal}
 use Rattle.flow80.specs.declared.refusal.Refusal.TheVariants.{ShortArguments, Memory}
-use Rattle.flow80.specs.Faults.{most_points, Holds as Refused}
+use Rattle.flow80.specs.Faults.{most_points, HoldsAnyway as Refused}
 use Rattle.flow80.specs.Rows.{ReturnsWith}
 use Rattle.flow80.specs.Points.{Point, AreApart}
 use Rattle.flow80.specs.Shown.{IsShown, AtMove}
@@ -71,7 +71,9 @@ abbrev pub owns : StackFrame → ℕ
 owns f = sum_by owns_word f.words + owns_word f.pairs.bc + owns_word f.pairs.de + owns_word f.pairs.hl
 
 abbrev pub weight : Known → ℕ
-weight known = (sum_by (λ (p : Point). owns p.frame) known.points + (most_points - length known.points) * (most_points + 8)) + count_by is_none known.exits
+weight known =
+    (sum_by (λ (p : Point). owns p.frame) known.points + (most_points - length known.points) * (most_points + 8))
+    + count_by is_none known.exits
 
 -- a step changes nothing, or the measure falls
 pub record Goes (old new : Known) (changed : Bool) : Type 0 where
@@ -91,7 +93,8 @@ pub record HasPoint (known : Known) (p : Procedure) (at : ℕ) (g : StackFrame) 
 pub record Follows (known : Known) (p : Procedure) (targets : List ℕ) (f : StackFrame) (next : ℕ) (moves : Moves) : Type 0 where
   pub on : (to : ℕ) (g : StackFrame) → LeadsTo moves targets next to g → HasPoint known p to g
   pub enters : (target : ℕ) → called moves ≡ Some target → HasPoint known (Entry target) target entry_frame
-  pub after : (target taken : ℕ) → called moves ≡ Some target → exit_of known.exits target ≡ Some taken → HasPoint known p next (returned taken f)
+  pub after : (target taken : ℕ) → called moves ≡ Some target → exit_of known.exits target ≡ Some taken →
+      HasPoint known p next (returned taken f)
   pub return : (entry taken : ℕ) → p ≡ Entry entry → returning moves ≡ Some taken → exit_of known.exits entry ≡ Some taken
 
 -- what comes of a frame that leads to a point: the table stays small and shown, it changes nothing or is nearer to its end,
@@ -99,7 +102,8 @@ pub record Follows (known : Known) (p : Procedure) (targets : List ℕ) (f : Sta
 pub record Flows (old new : Known) (p : Procedure) (to : ℕ) (g : StackFrame) (result : Result Bool Refusal) : Type 0 where
   pub small : OnOk result (IsSmall new)
   pub more : OnOk result (length old.points ≤ length new.points)
-  pub stands : (code : Code) → Stands code old → IsShown code p to g → MatchResult result (λ _. Stands code new) (λ refusal. Refused code refusal)
+  pub stands : (code : Code) → Stands code old → IsShown code p to g →
+      MatchResult result (λ _. Stands code new) (λ refusal. Refused code refusal)
   pub goes : IfOk result (λ changed. Goes old new changed)
   pub has : IfOk result (λ changed. changed ≡ false → HasPoint new p to g)
 
@@ -116,17 +120,20 @@ Carries (Return _) f = Unit {0}
 Carries (MaybeReturn _ _) f = Unit {0}
 
 -- what comes of a point's move: as of one frame, for each way that it leads
-pub record Steps (old new : Known) (p : Procedure) (at : ℕ) (targets : List ℕ) (next : ℕ) (role : Role) (moves : Moves) (result : Result Bool Refusal) : Type 0 where
+pub record Steps (old new : Known) (p : Procedure) (at : ℕ) (targets : List ℕ) (next : ℕ) (role : Role) (moves : Moves)
+    (result : Result Bool Refusal) : Type 0 where
   pub small : OnOk result (IsSmall new)
   pub more : OnOk result (length old.points ≤ length new.points)
-  pub stands : (code : Code) (f : StackFrame) (found : Fetched) → Stands code old → AtMove code p at f found moves → Carries moves f → targets ≡ code.targets at → found.next ≡ next → role ≡ role_of code p →
+  pub stands : (code : Code) (f : StackFrame) (found : Fetched) → Stands code old → AtMove code p at f found moves →
+      Carries moves f → targets ≡ code.targets at → found.next ≡ next → role ≡ role_of code p →
       MatchResult result (λ _. Stands code new) (λ refusal. Refused code refusal)
   pub goes : IfOk result (λ changed. Goes old new changed)
   pub follows : IfOk result (λ changed. changed ≡ false → (f : StackFrame) → Carries moves f → Follows new p targets f next moves)
 
 -- how far a PCHL has come that leads to each of its targets: what was shown stays shown where the targets are, it changed nothing
 -- or is nearer to its end, and where it changed nothing the first targets are in the table
-pub record GoesToFirst (old now : Known) (p : Procedure) (f : StackFrame) (targets : List ℕ) (count : ℕ) (changed : Bool) : Type 0 where
+pub record GoesToFirst (old now : Known) (p : Procedure) (f : StackFrame) (targets : List ℕ) (count : ℕ)
+    (changed : Bool) : Type 0 where
   pub small : IsSmall now
   pub more : length old.points ≤ length now.points
   pub stands : (code : Code) → Stands code old → ((to : ℕ) → Contains targets to → IsShown code p to f) → Stands code now
@@ -143,14 +150,17 @@ pub record Exits (old new : Known) (p : Procedure) (at taken : ℕ) (result : Re
   pub has : IfOk result (λ changed. changed ≡ false → (entry : ℕ) → p ≡ Entry entry → exit_of new.exits entry ≡ Some taken)
 
 -- what comes of a call
-pub record CallsOut (old new : Known) (p : Procedure) (at next : ℕ) (role : Role) (g : StackFrame) (target : ℕ) (result : Result Bool Refusal) : Type 0 where
+pub record CallsOut (old new : Known) (p : Procedure) (at next : ℕ) (role : Role) (g : StackFrame) (target : ℕ)
+    (result : Result Bool Refusal) : Type 0 where
   pub small : OnOk result (IsSmall new)
   pub more : OnOk result (length old.points ≤ length new.points)
-  pub stands : (code : Code) (found : Fetched) (moves : Moves) → Stands code old → AtMove code p at g found moves → called moves ≡ Some target → found.next ≡ next → role ≡ role_of code p →
+  pub stands : (code : Code) (found : Fetched) (moves : Moves) → Stands code old → AtMove code p at g found moves →
+      called moves ≡ Some target → found.next ≡ next → role ≡ role_of code p →
       MatchResult result (λ _. Stands code new) (λ refusal. Refused code refusal)
   pub goes : IfOk result (λ changed. Goes old new changed)
   pub enters : IfOk result (λ changed. changed ≡ false → HasPoint new (Entry target) target entry_frame)
-  pub after : IfOk result (λ changed. changed ≡ false → (taken : ℕ) → exit_of new.exits target ≡ Some taken → HasPoint new p next (returned taken g))
+  pub after : IfOk result (λ changed. changed ≡ false → (taken : ℕ) → exit_of new.exits target ≡ Some taken →
+      HasPoint new p next (returned taken g))
 
 -- why a caller's frame does not come back: out of memory, or it has too few words
 abbrev pub IsShort : (at room taken : ℕ) → Refusal → Type 0
@@ -169,7 +179,8 @@ pub record Visits (code : Code) (old new : Known) (i : ℕ) (result : Result Boo
   pub more : OnOk result (length old.points ≤ length new.points)
   pub stands : Stands code old → MatchResult result (λ _. Stands code new) (λ refusal. Refused code refusal)
   pub goes : IfOk result (λ changed. Goes old new changed)
-  pub closed : IfOk result (λ changed. changed ≡ false → (point : Point) → slice_get new.points i ≡ Some point → IsClosed code new point)
+  pub closed : IfOk result (λ changed. changed ≡ false → (point : Point) → slice_get new.points i ≡ Some point →
+      IsClosed code new point)
 
 -- all points are closed, and the start is among them
 pub record AllClosed (code : Code) (known : Known) : Type 0 where
@@ -188,8 +199,8 @@ pub record Looks (code : Code) (old new : Known) (result : Result Bool Refusal) 
   pub ongoing : IfOk result (Ongoing code old new)
   pub refused : IfErr result (λ refusal. Stands code old → Refused code refusal)
 
--- what comes of a sweep: what was shown stays shown, and the measure doesn't rise; where the last part of it changed something, it
--- falls
+-- what comes of a sweep: what was shown stays shown, and the measure doesn't rise; where the last part of it changed something,
+-- it falls
 pub record Sweeps (code : Code) (old new : Known) (result : Result Bool Refusal) : Type 0 where
   pub small : OnOk result (IsSmall new)
   pub stands : Stands code old → MatchResult result (λ _. Stands code new) (λ refusal. Refused code refusal)

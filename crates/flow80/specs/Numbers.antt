@@ -29,7 +29,8 @@ is_free (Some point) procedure = same_procedure point.procedure procedure
 -- the number that is kept of an address of a procedure
 unfoldable pub number_at : Numbers → Procedure → ℕ → Option ℕ
 number_at numbers procedure at =
-    if nat_lt at 65536 then number_of (slice_index_or numbers.first.items at None) procedure (get nat_cmp numbers.further (place_number procedure at)) else None
+    if nat_lt at 65536 then number_of (slice_index_or numbers.first.items at None) procedure
+    (get nat_cmp numbers.further (place_number procedure at)) else None
 
 -- whether two addresses of procedures are the same
 abbrev pub same_place : Procedure → ℕ → Procedure → ℕ → Bool

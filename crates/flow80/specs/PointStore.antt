@@ -25,5 +25,6 @@ pub record IsStoredAt (stored : List StoredPoint) (procedure : Procedure) (at i 
 -- each point that is stored has a frame, and the number that is kept of its address is its own
 pub record AreStored (frames : List StackFrame) (stored : List StoredPoint) (numbers : Numbers) : Type 0 where
   pub framed : (i : ℕ) (point : StoredPoint) → slice_get stored i ≡ Some point → point.frame < length frames
-  pub numbered : (i : ℕ) (point : StoredPoint) → slice_get stored i ≡ Some point → number_at numbers point.procedure point.at ≡ Some i
+  pub numbered : (i : ℕ) (point : StoredPoint) → slice_get stored i ≡ Some point →
+      number_at numbers point.procedure point.at ≡ Some i
   pub stands : (procedure : Procedure) (at i : ℕ) → number_at numbers procedure at ≡ Some i → IsStoredAt stored procedure at i

@@ -32,7 +32,8 @@ with_frame frame point = record point { frame = frame }
 
 -- no address of a procedure stands twice
 pub record AreApart (points : List Point) : Type 0 where
-  pub apart : (i j : ℕ) (a b : Point) → slice_get points i ≡ Some a → slice_get points j ≡ Some b → a.procedure ≡ b.procedure → a.at ≡ b.at → i ≡ j
+  pub apart : (i j : ℕ) (a b : Point) → slice_get points i ≡ Some a → slice_get points j ≡ Some b → a.procedure ≡ b.procedure →
+      a.at ≡ b.at → i ≡ j
 
 -- each address is one of memory
 pub record AreAddresses (points : List Point) : Type 0 where

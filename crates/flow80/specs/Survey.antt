@@ -53,12 +53,14 @@ pub record TakesAt (points : List Point) (p : Procedure) (taken : ℕ) : Type 0 
 
 -- for each procedure the most words that are taken at one of its first points
 pub record AreWants (points : List Point) (wants : List ℕ) (count : ℕ) : Type 0 where
-  pub above : (i : ℕ) (point : Point) → i < count → slice_get points i ≡ Some point → point.frame.taken ≤ bytes_of wants point.procedure
+  pub above : (i : ℕ) (point : Point) → i < count → slice_get points i ≡ Some point →
+      point.frame.taken ≤ bytes_of wants point.procedure
   pub reached : (p : Procedure) → (bytes_of wants p ≡ 0) ⊎ TakesAt points p (bytes_of wants p)
 
 -- each procedure of the first points is marked, by its slot
 pub record AreMarked (points : List Point) (marks : List Bool) (count : ℕ) : Type 0 where
-  pub marked : (i : ℕ) (point : Point) → i < count → slice_get points i ≡ Some point → slice_index_or marks (slot_of point.procedure) false ≡ true
+  pub marked : (i : ℕ) (point : Point) → i < count → slice_get points i ≡ Some point →
+      slice_index_or marks (slot_of point.procedure) false ≡ true
 
 -- the depth at a point
 abbrev pub depth_at : Code → Point → Depth
@@ -66,7 +68,12 @@ depth_at code point = record { procedure = point.procedure; depth = depth_of (ro
 
 -- a call at a point
 abbrev pub call_at : Code → Point → ℕ → CallSite
-call_at code point target = record { caller = point.procedure; at = point.at; depth = depth_of (role_of code point.procedure) point.frame; target = target }
+call_at code point target = record {
+  caller = point.procedure;
+  at = point.at;
+  depth = depth_of (role_of code point.procedure) point.frame;
+  target = target;
+}
 
 pub record IsDepthAt (code : Code) (known : Known) (depth : Depth) : Type 0 where
   pub number : ℕ
@@ -84,14 +91,17 @@ pub record IsCallAt (code : Code) (known : Known) (call : CallSite) : Type 0 whe
   pub is : call ≡ call_at code point target
 
 -- the depths and the calls of the first points; each caller has the words that its callee wants
-pub record IsSurvey (code : Code) (known : Known) (wants : List ℕ) (count : ℕ) (depths : List Depth) (calls : List CallSite) : Type 0 where
+pub record IsSurvey (code : Code) (known : Known) (wants : List ℕ) (count : ℕ) (depths : List Depth)
+    (calls : List CallSite) : Type 0 where
   pub depth : (d : Depth) → Contains depths d → IsDepthAt code known d
-  pub every_depth : (i : ℕ) (point : Point) → i < count → slice_get known.points i ≡ Some point → Contains depths (depth_at code point)
+  pub every_depth : (i : ℕ) (point : Point) → i < count → slice_get known.points i ≡ Some point →
+      Contains depths (depth_at code point)
   pub call : (c : CallSite) → Contains calls c → IsCallAt code known c
   pub every_call : (i : ℕ) (point : Point) (target next : ℕ) → i < count → slice_get known.points i ≡ Some point →
       Calls code point.procedure point.at point.frame target next → Contains calls (call_at code point target)
   pub words : (i : ℕ) (point : Point) (target next : ℕ) → i < count → slice_get known.points i ≡ Some point →
-      Calls code point.procedure point.at point.frame target next → bytes_of wants (Entry target) ≤ room (role_of code point.procedure) point.frame.words
+      Calls code point.procedure point.at point.frame target next →
+      bytes_of wants (Entry target) ≤ room (role_of code point.procedure) point.frame.words
   pub few : length calls ≤ count
   pub addresses : AreAddresses known.points
 
@@ -122,7 +132,8 @@ pub record IsBounded (code : Code) (known : Known) (wants bytes : List ℕ) : Ty
   pub bounds : AreBounds code bytes
   pub ends : NoneRecurs code
   pub words : (i : ℕ) (point : Point) (target next : ℕ) → slice_get known.points i ≡ Some point →
-      Calls code point.procedure point.at point.frame target next → bytes_of wants (Entry target) ≤ room (role_of code point.procedure) point.frame.words
+      Calls code point.procedure point.at point.frame target next →
+      bytes_of wants (Entry target) ≤ room (role_of code point.procedure) point.frame.words
   pub addresses : AreAddresses known.points
 
 -- the row of a procedure

@@ -27,7 +27,8 @@ pub record Chains (code : Code) (p : Procedure) (target : ℕ) (below bytes : �
 -- the sums over all chains of calls from a procedure on
 pub data Use (code : Code) : Procedure → ℤ → Type 0 where
   last : (p : Procedure) (bytes : ℤ) → EndsChain code p bytes → Use code p bytes
-  through : (p : Procedure) (target : ℕ) (below bytes : ℤ) → Use code (Entry target) below → Chains code p target below bytes → Use code p bytes
+  through : (p : Procedure) (target : ℕ) (below bytes : ℤ) → Use code (Entry target) below → Chains code p target below bytes →
+      Use code p bytes
 
 -- the greatest of the sums
 pub record IsBound (code : Code) (p : Procedure) (bytes : ℕ) : Type 0 where

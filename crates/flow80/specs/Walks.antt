@@ -107,6 +107,7 @@ pub data Walk (code : Code) : Procedure → ℕ → StackFrame → Type 0 where
       Walk code p at f → GoesOn code p at f to g → Walk code p to g
   enters : (p : Procedure) (at : ℕ) (f : StackFrame) (target next : ℕ) (q : Procedure) (start : ℕ) (g : StackFrame) →
       Walk code p at f → Calls code p at f target next → Enters target q start g → Walk code q start g
-  comes_back : (p : Procedure) (at : ℕ) (f : StackFrame) (target next : ℕ) (exit : ℕ) (h : StackFrame) (taken : ℕ) (g : StackFrame) →
-      Walk code p at f → Calls code p at f target next → Walk code (Entry target) exit h → Returns code (Entry target) exit h taken →
+  comes_back : (p : Procedure) (at : ℕ) (f : StackFrame) (target next exit : ℕ) (h : StackFrame) (taken : ℕ) (g : StackFrame) →
+      Walk code p at f → Calls code p at f target next →
+      Walk code (Entry target) exit h → Returns code (Entry target) exit h taken →
       GoesOnAfter code p f taken g → Walk code p next g

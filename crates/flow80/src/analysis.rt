@@ -2,7 +2,7 @@
 
 ghost use Rattle.std.specs.Prelude.{◌≡◌, IfOk, IfErr};
 ghost use Rattle.flow80.specs.Accepted.{IsAccepted, IsMeasured};
-ghost use Rattle.flow80.specs.Faults.{Holds};
+ghost use Rattle.flow80.specs.Faults.{Holds, HoldsAnyway};
 ghost use Rattle.flow80.specs.Known.{IsFilled, nothing_known};
 
 use crate::code::Code;
@@ -34,14 +34,14 @@ pub fn analyze<C: Code>(alloc: Global, program: &C) -> Result<Report, Refusal>
     Ok(report)
 }
 
-/// Goes over a program as [`analyze`] does, and reports on it however small its stack is: on one too that is refused for nothing but
-/// that.
+/// Goes over a program as [`analyze`] does, and reports on it however small its stack is: on one too that is refused for nothing
+/// but that.
 ///
 /// # Errors
-/// A refusal that holds, or `Memory`.
+/// A refusal that holds, but never `StackTooSmall`; or `Memory`.
 pub fn measure<C: Code>(alloc: Global, program: &C) -> Result<Report, Refusal>
     ensures measured { IfOk result (λ r. IsMeasured (C.code program.now) r.procedures.items r.stack_bytes) }
-    ensures refused { IfErr result (Holds (C.code program.now)) }
+    ensures refused { IfErr result (HoldsAnyway (C.code program.now)) }
 {
     let mut table = Table::new(alloc, program)?;
     fill_and_report(alloc, program, &mut table)
@@ -55,7 +55,7 @@ fn fill_and_report<C: Code>(
 ) -> Result<Report, Refusal>
     requires { table.old.known ≡ nothing_known }
     ensures measured { IfOk result (λ r. IsMeasured (C.code program.now) r.procedures.items r.stack_bytes) }
-    ensures refused { IfErr result (Holds (C.code program.now)) }
+    ensures refused { IfErr result (HoldsAnyway (C.code program.now)) }
 {
     fill(program, table)?;
     report_on(alloc, program, table)
@@ -65,7 +65,7 @@ fn fill_and_report<C: Code>(
 fn report_on<C: Code>(alloc: Global, program: &C, table: &Table) -> Result<Report, Refusal>
     requires { IsFilled (C.code program.now) table.now.known }
     ensures measured { IfOk result (λ r. IsMeasured (C.code program.now) r.procedures.items r.stack_bytes) }
-    ensures refused { IfErr result (Holds (C.code program.now)) }
+    ensures refused { IfErr result (HoldsAnyway (C.code program.now)) }
 {
     frame_laws();
     let wants = find_wants(alloc, table)?;

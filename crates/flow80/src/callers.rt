@@ -15,8 +15,8 @@ struct Link {
     before: usize,
 }
 
-/// For each entry, the points at calls of it, each once, the newest first: they are looked at again when the callee's return is seen.
-/// What the verifier answers doesn't rest on this list, only how soon.
+/// For each entry, the points at calls of it, each once, the newest first: they are looked at again when the callee's return is
+/// seen. What the verifier answers doesn't rest on this list, only how soon.
 #[derive(Drop)]
 pub(crate) struct Callers {
     newest: Vec<usize>,

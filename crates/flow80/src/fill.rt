@@ -2,7 +2,7 @@
 
 ghost use Rattle.std.specs.Prelude.{◌≡◌, OnOk, IfErr};
 ghost use Rattle.flow80.specs.Known.{IsFilled, nothing_known};
-ghost use Rattle.flow80.specs.Faults.{Holds};
+ghost use Rattle.flow80.specs.Faults.{HoldsAnyway};
 
 use crate::code::Code;
 use crate::refusal::Refusal;
@@ -15,7 +15,7 @@ use crate::table::Table;
 pub(crate) fn fill<C: Code>(program: &C, table: &mut Table) -> Result<(), Refusal>
     requires { table.old.known ≡ nothing_known }
     ensures filled { OnOk result (IsFilled (C.code program.now) table.new.known) }
-    ensures refused { IfErr result (Holds (C.code program.now)) }
+    ensures refused { IfErr result (HoldsAnyway (C.code program.now)) }
 {
     let mut changes = true;
     while changes {

@@ -20,7 +20,8 @@ struct FirstPoint {
 
 /// Numbers by procedure and address.
 ///
-/// Most code is of one procedure. So a table has the first point of each address, and a map the points of further procedures there.
+/// Most code is of one procedure. So a table has the first point of each address, and a map the points of further procedures
+/// there.
 #[derive(Drop)]
 pub(crate) struct Numbers {
     first: Vec<Option<FirstPoint>>,

@@ -1,7 +1,7 @@
 //! The order in which points are looked at: reverse postorder of the code, over all of its procedures.
 //!
-//! A point is looked at best when what leads to it has been: then a frame that comes to it late changes nothing behind it a second
-//! time. What the verifier answers doesn't rest on this order, only how soon.
+//! A point is looked at best when what leads to it has been: then a frame that comes to it late changes nothing behind it a
+//! second time. What the verifier answers doesn't rest on this order, only how soon.
 
 use crate::code::Code;
 use decode80::Fetched;

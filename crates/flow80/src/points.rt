@@ -1,6 +1,6 @@
 //! The points that are known, each with what is known of its frame.
 
-ghost use Rattle.std.specs.Prelude.{◌≡◌, ◌≤◌, ◌<◌, [], ◌∷◌, ◌++◌, true, false, length, slice_get, Err, IfSome, IfNone, IfOk, OnOk, OnErr};
+ghost use Rattle.std.specs.Prelude.{◌≡◌, ◌≤◌, ◌<◌, [], ◌∷◌, ◌++◌, true, false, length, slice_get, Err, IfSome, IfNone, IfOk, OnOk};
 ghost use Rattle.frames80.specs.StackFrame.{entry_frame, main_frame};
 ghost use Rattle.frames80.specs.Moves.{changed};
 ghost use Rattle.frames80.specs.Calls.{agree, merged, returned, room};
@@ -22,8 +22,8 @@ struct StoredPoint {
     frame: FrameId,
 }
 
-/// The points that are known: addresses of procedures, each with what is known of its frame, in order of first sight; and the frames
-/// that they and what leads to them have.
+/// The points that are known: addresses of procedures, each with what is known of its frame, in order of first sight; and the
+/// frames that they and what leads to them have.
 #[derive(Drop)]
 pub(crate) struct Points {
     frames: Frames,
@@ -113,7 +113,8 @@ impl Points {
         requires new { IsNoPoint self.old.points procedure at }
         requires room { length self.old.points < 4294967295 }
         requires there { frame < length self.old.frames }
-        ensures added { OnOk result (self.new.points ≡ self.old.points ++ record { procedure = procedure; at = at; frame = frame_at self.old.frames frame } ∷ []) }
+        ensures added { OnOk result (self.new.points ≡ self.old.points
+            ++ record { procedure = procedure; at = at; frame = frame_at self.old.frames frame } ∷ []) }
         ensures frames { self.new.frames ≡ self.old.frames }
     {
         self.stored.reserve(1)?;
@@ -202,9 +203,12 @@ impl Points {
         requires one { one < length self.old.frames }
         requires other { other < length self.old.frames }
         ensures agree { OnOk result (agree (frame_at self.old.frames one) (frame_at self.old.frames other) ≡ true) }
-        ensures merged { IfOk result (λ id. IsFrame self.new.frames id (merged (frame_at self.old.frames one) (frame_at self.old.frames other))) }
-        ensures unchanged { IfOk result (λ id. merged (frame_at self.old.frames one) (frame_at self.old.frames other) ≡ frame_at self.old.frames one → id ≡ one) }
-        ensures differ { result ≡ Err MeetFault.HeightsDiffer → agree (frame_at self.old.frames one) (frame_at self.old.frames other) ≡ false }
+        ensures merged { IfOk result (λ id.
+            IsFrame self.new.frames id (merged (frame_at self.old.frames one) (frame_at self.old.frames other))) }
+        ensures unchanged { IfOk result (λ id. merged (frame_at self.old.frames one) (frame_at self.old.frames other)
+            ≡ frame_at self.old.frames one → id ≡ one) }
+        ensures differ { result ≡ Err MeetFault.HeightsDiffer →
+            agree (frame_at self.old.frames one) (frame_at self.old.frames other) ≡ false }
         ensures points { self.new.points ≡ self.old.points }
         ensures stays { StayNumbered self.old.frames self.new.frames }
     {

@@ -1,7 +1,7 @@
 //! The depths and the calls of a program, read off its table.
 
 ghost use Rattle.std.specs.Prelude.{◌≡◌, ◌<◌, [], ◌∷◌, ◌++◌, IfOk, IfErr, OnOk, length};
-ghost use Rattle.flow80.specs.Faults.{Holds};
+ghost use Rattle.flow80.specs.Faults.{HoldsAnyway};
 ghost use Rattle.flow80.specs.Known.{Stands};
 ghost use Rattle.flow80.specs.Survey.{AreWants, IsSurvey, IsSeen, noted};
 ghost use Rattle.flow80.specs.Walks.{called};
@@ -35,8 +35,10 @@ pub(crate) fn find_calls<C: Code>(
 ) -> Result<CallGraph, Refusal>
     requires slots { length wants.now ≡ 65537 }
     requires wants { AreWants table.now.known.points wants.now (length table.now.known.points) }
-    ensures surveyed { IfOk result (λ s. IsSurvey (C.code program.now) table.now.known wants.now (length table.now.known.points) s.depths.items s.calls.items) }
-    ensures refused { IfErr result (λ refusal. Stands (C.code program.now) table.now.known → Holds (C.code program.now) refusal) }
+    ensures surveyed { IfOk result (λ s.
+        IsSurvey (C.code program.now) table.now.known wants.now (length table.now.known.points) s.depths.items s.calls.items) }
+    ensures refused { IfErr result (λ refusal.
+        Stands (C.code program.now) table.now.known → HoldsAnyway (C.code program.now) refusal) }
 {
     let mut graph = CallGraph {
         depths: Vec::new(alloc),
@@ -77,7 +79,8 @@ fn look_at<C: Code>(
     requires wants { AreWants table.now.known.points wants.now (length table.now.known.points) }
     requires there { point < length table.now.known.points }
     ensures seen { IfOk result (λ seen. IsSeen (C.code program.now) table.now.known wants.now point seen.0 seen.1) }
-    ensures refused { IfErr result (λ refusal. Stands (C.code program.now) table.now.known → Holds (C.code program.now) refusal) }
+    ensures refused { IfErr result (λ refusal.
+        Stands (C.code program.now) table.now.known → HoldsAnyway (C.code program.now) refusal) }
 {
     frame_laws();
     let (site, effect) = table.effect_at(program, point)?;

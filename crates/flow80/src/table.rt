@@ -1,6 +1,6 @@
 //! The table of frames while it fills.
 
-ghost use Rattle.std.specs.Prelude.{◌≡◌, ◌+◌, ◌<◌, ◌≤◌, ◌↔◌, ℕ, List, false, true, Some, None, Ok, Err, IfOk, IfErr, OnOk, IfSome, length, replicate, slice_get};
+ghost use Rattle.std.specs.Prelude.{◌≡◌, ◌+◌, ◌<◌, ◌≤◌, ℕ, List, false, true, Some, None, Ok, Err, IfOk, IfErr, OnOk, IfSome, length, replicate, slice_get};
 ghost use Rattle.bounds80.specs.declared.procedure.Procedure.TheVariants.{Main, Entry};
 ghost use Rattle.flow80.specs.Points.{AreAddresses, IsPointAt, IsNoPoint};
 ghost use Rattle.flow80.specs.Known.{IsSmall, IsWithin, Stands, Flows, Exits, CallsOut, Steps, Visits, Looks, Sweeps, AreClosed, AllClosed, IsShort, exit_of, nothing_known};
@@ -10,7 +10,7 @@ ghost use Rattle.frames80.specs.Moves.{changed};
 ghost use Rattle.frames80.specs.StackFrame.{entry_frame, main_frame};
 ghost use Rattle.interned80.specs.Admitted.{move_of};
 ghost use Rattle.interned80.specs.Frames.{frame_at, IsFrame, StayNumbered};
-ghost use Rattle.flow80.specs.Faults.{most_points, Holds};
+ghost use Rattle.flow80.specs.Faults.{HoldsAnyway};
 ghost use Rattle.flow80.specs.Survey.{EffectIsAt, IsEntered};
 ghost use Rattle.flow80.specs.Walks.{role_of};
 
@@ -189,7 +189,8 @@ impl Table {
         requires small { IsSmall self.old.known }
         requires there { site.now.frame < length self.old.frames }
         requires fits { IsWithin (length self.old.known.points) (frame_at self.old.frames site.now.frame) }
-        ensures flows { Flows self.old.known self.new.known site.now.procedure site.now.next (changed change (frame_at self.old.frames site.now.frame)) result }
+        ensures flows { Flows self.old.known self.new.known site.now.procedure site.now.next
+            (changed change (frame_at self.old.frames site.now.frame)) result }
         ensures stays { StayNumbered self.old.frames self.new.frames }
     {
         let frame = self.points.change(site.frame, change)?;
@@ -204,7 +205,8 @@ impl Table {
         requires { site.now.frame < length self.old.frames }
         ensures enough { OnOk result (taken ≤ room site.now.role (frame_at self.old.frames site.now.frame).words) }
         ensures back { IfOk result (λ id. IsFrame self.new.frames id (returned taken (frame_at self.old.frames site.now.frame))) }
-        ensures short { IfErr result (IsShort site.now.at (room site.now.role (frame_at self.old.frames site.now.frame).words) taken) }
+        ensures short { IfErr result
+            (IsShort site.now.at (room site.now.role (frame_at self.old.frames site.now.frame).words) taken) }
         ensures known { self.new.known ≡ self.old.known }
         ensures stays { StayNumbered self.old.frames self.new.frames }
     {
@@ -223,7 +225,8 @@ impl Table {
         requires small { IsSmall self.old.known }
         requires there { site.now.frame < length self.old.frames }
         requires fits { IsWithin (length self.old.known.points) (frame_at self.old.frames site.now.frame) }
-        ensures calls { CallsOut self.old.known self.new.known site.now.procedure site.now.at site.now.next site.now.role (frame_at self.old.frames site.now.frame) target result }
+        ensures calls { CallsOut self.old.known self.new.known site.now.procedure site.now.at site.now.next site.now.role
+            (frame_at self.old.frames site.now.frame) target result }
         ensures stays { StayNumbered self.old.frames self.new.frames }
     {
         frame_laws();
@@ -246,7 +249,9 @@ impl Table {
         requires small { IsSmall self.old.known }
         requires there { site.now.frame < length self.old.frames }
         requires fits { IsWithin (length self.old.known.points) (frame_at self.old.frames site.now.frame) }
-        ensures steps { (targets : List ℕ) → Steps self.old.known self.new.known site.now.procedure site.now.at targets site.now.next site.now.role (Either (frame_at self.old.frames site.now.frame) to) result }
+        ensures steps { (targets : List ℕ) →
+            Steps self.old.known self.new.known site.now.procedure site.now.at targets site.now.next site.now.role
+            (Either (frame_at self.old.frames site.now.frame) to) result }
         ensures stays { StayNumbered self.old.frames self.new.frames }
     {
         frame_laws();
@@ -260,7 +265,8 @@ impl Table {
         requires small { IsSmall self.old.known }
         requires there { site.now.frame < length self.old.frames }
         requires fits { IsWithin (length self.old.known.points) (frame_at self.old.frames site.now.frame) }
-        ensures steps { Steps self.old.known self.new.known site.now.procedure site.now.at targets.now site.now.next site.now.role (Case (frame_at self.old.frames site.now.frame)) result }
+        ensures steps { Steps self.old.known self.new.known site.now.procedure site.now.at targets.now site.now.next site.now.role
+            (Case (frame_at self.old.frames site.now.frame)) result }
         ensures stays { StayNumbered self.old.frames self.new.frames }
     {
         frame_laws();
@@ -277,7 +283,9 @@ impl Table {
         requires small { IsSmall self.old.known }
         requires there { site.now.frame < length self.old.frames }
         requires fits { IsWithin (length self.old.known.points) (frame_at self.old.frames site.now.frame) }
-        ensures steps { (targets : List ℕ) → Steps self.old.known self.new.known site.now.procedure site.now.at targets site.now.next site.now.role (MaybeCall (frame_at self.old.frames site.now.frame) target) result }
+        ensures steps { (targets : List ℕ) →
+            Steps self.old.known self.new.known site.now.procedure site.now.at targets site.now.next site.now.role
+            (MaybeCall (frame_at self.old.frames site.now.frame) target) result }
         ensures stays { StayNumbered self.old.frames self.new.frames }
     {
         frame_laws();
@@ -291,7 +299,9 @@ impl Table {
         requires small { IsSmall self.old.known }
         requires there { site.now.frame < length self.old.frames }
         requires fits { IsWithin (length self.old.known.points) (frame_at self.old.frames site.now.frame) }
-        ensures steps { (targets : List ℕ) → Steps self.old.known self.new.known site.now.procedure site.now.at targets site.now.next site.now.role (MaybeReturn (frame_at self.old.frames site.now.frame) taken) result }
+        ensures steps { (targets : List ℕ) →
+            Steps self.old.known self.new.known site.now.procedure site.now.at targets site.now.next site.now.role
+            (MaybeReturn (frame_at self.old.frames site.now.frame) taken) result }
         ensures stays { StayNumbered self.old.frames self.new.frames }
     {
         frame_laws();
@@ -308,7 +318,8 @@ impl Table {
         requires small { IsSmall self.old.known }
         requires there { site.now.frame < length self.old.frames }
         requires fits { IsWithin (length self.old.known.points) (frame_at self.old.frames site.now.frame) }
-        ensures { Steps self.old.known self.new.known site.now.procedure site.now.at targets.now site.now.next site.now.role (move_of effect (frame_at self.old.frames site.now.frame)) result }
+        ensures { Steps self.old.known self.new.known site.now.procedure site.now.at targets.now site.now.next site.now.role
+            (move_of effect (frame_at self.old.frames site.now.frame)) result }
     {
         frame_laws();
         match effect {
@@ -342,7 +353,8 @@ impl Table {
     ) -> Result<(Site, Effect), Refusal>
         requires { point < length self.now.known.points }
         ensures moves { IfOk result (λ r. EffectIsAt (C.code program.now) self.now point r.0 r.1) }
-        ensures refused { IfErr result (λ refusal. Stands (C.code program.now) self.now.known → Holds (C.code program.now) refusal) }
+        ensures refused { IfErr result (λ refusal. Stands (C.code program.now) self.now.known →
+            HoldsAnyway (C.code program.now) refusal) }
     {
         frame_laws();
         let (procedure, at) = self.points.place(point);
@@ -386,8 +398,8 @@ impl Table {
         ensures { Looks (C.code program.now) self.old.known self.new.known result }
     {
         let mut changed = false;
-        // (The bound is never met: a point is put there only where a frame has changed, which no frame can do for ever. Nothing rests
-        // on it, since a pass over all points follows.)
+        // (The bound is never met: a point is put there only where a frame has changed, which no frame can do for ever. Nothing
+        // rests on it, since a pass over all points follows.)
         for _ in 0..u64::MAX {
             let Some(point) = self.next_pending() else {
                 break;
@@ -413,7 +425,8 @@ impl Table {
     fn pass<C: Code>(&mut self, program: &C) -> Result<bool, Refusal>
         requires { IsSmall self.old.known }
         ensures looks { Looks (C.code program.now) self.old.known self.new.known result }
-        ensures closed { IfOk result (λ changed. changed ≡ false → AreClosed (C.code program.now) self.new.known (length self.new.known.points)) }
+        ensures closed { IfOk result (λ changed. changed ≡ false →
+            AreClosed (C.code program.now) self.new.known (length self.new.known.points)) }
     {
         let mut changed = false;
         for point in 0..self.len() {

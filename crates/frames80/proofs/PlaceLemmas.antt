@@ -13,9 +13,9 @@ use Rattle.frames80.specs.declared.effect.Change.{Change}
 use Rattle.frames80.specs.declared.effect.Change.TheVariants.{Keep, Push, PushAny, Pop, Drop, Swap, Exchange, Forget, SetStack}
 use Rattle.frames80.specs.Word.{met}
 use Rattle.frames80.specs.StackFrame.{StackFrame, pair_in, with_pair, top_word, taken_after_pop}
-use Rattle.frames80.specs.Moves.{changed, change_fault, pop_fault, return_fault, is_own_alone}
-use Rattle.frames80.specs.Calls.{room, returned, agree, words_met, merged}
-use Rattle.frames80.specs.Places.{InPair, InWord, Source, From, Unknown, word_from_top, word_at, sourced, pair_source, source, source_after, ChangesByPlaces, ReturnsByPlaces, MeetsByPlaces, SameCounts, Covers, CountsAlone, CoveredGoesAlong}
+use Rattle.frames80.specs.Moves.{changed, return_fault, is_own_alone}
+use Rattle.frames80.specs.Calls.{returned, agree, words_met, merged}
+use Rattle.frames80.specs.Places.{InPair, InWord, Source, From, Unknown, word_from_top, word_at, sourced, pair_source, source, source_after, ChangesByPlaces, ReturnsByPlaces, MeetsByPlaces, SameCounts, Covers, CoveredGoesAlong}
 
 top_at : (words : List Word) → top_word words ≡ word_from_top words 0
 top_at [] = refl
@@ -87,37 +87,11 @@ counts_of_agree f g same = record {
   words = (unsigned_Decides (length f.words) (length g.words)).0 (second_so (nat_eq f.taken g.taken) (nat_eq (length f.words) (length g.words)) same);
 }
 
-pub agree_of_counts : (f g : StackFrame) → SameCounts f g → agree f g ≡ true
-agree_of_counts f g same = rw ((unsigned_Decides f.taken g.taken).1 same.taken, (unsigned_Decides (length f.words) (length g.words)).1 same.words) refl
-
 pub meets_by_places : MeetsByPlaces
 meets_by_places f g (InPair Bc) same = refl
 meets_by_places f g (InPair De) same = refl
 meets_by_places f g (InPair Hl) same = refl
 meets_by_places f g (InWord i) same = met_at f.words g.words i (counts_of_agree f g same).words
-
--- counts alone decide
-pop_fault_same : (role : Role) (xs ys : List Word) → length xs ≡ length ys → pop_fault role xs ≡ pop_fault role ys
-pop_fault_same (Main top) [] [] long = refl
-pop_fault_same (Main top) [] (y ∷ ys) long = absurd (omega arith)
-pop_fault_same (Main top) (x ∷ xs) [] long = absurd (omega arith)
-pop_fault_same (Main top) (x ∷ xs) (y ∷ ys) long = refl
-pop_fault_same Entry xs ys long = refl
-
-change_fault_same : (role : Role) (change : Change) (xs ys : List Word) → length xs ≡ length ys → change_fault role change xs ≡ change_fault role change ys
-change_fault_same role Keep xs ys long = refl
-change_fault_same role (Push pair) xs ys long = refl
-change_fault_same role PushAny xs ys long = refl
-change_fault_same role (Pop pair) xs ys long = pop_fault_same role xs ys long
-change_fault_same role Drop xs ys long = pop_fault_same role xs ys long
-change_fault_same role Swap xs ys long = pop_fault_same role xs ys long
-change_fault_same role Exchange xs ys long = refl
-change_fault_same role (Forget pair) xs ys long = refl
-change_fault_same role (SetStack address) xs ys long = refl
-
-room_same : (role : Role) (xs ys : List Word) → length xs ≡ length ys → room role xs ≡ room role ys
-room_same (Main top) xs ys long = long
-room_same Entry xs ys long = ap (λ n. n - 1) long
 
 taken_same : (xs ys : List Word) (n m : ℕ) → length xs ≡ length ys → n ≡ m → taken_after_pop xs n ≡ taken_after_pop ys m
 taken_same [] [] n m long same = ap (λ k. k + 1) same
@@ -141,15 +115,6 @@ change_same (SetStack address) f g same = record { taken = same.taken; words = r
 
 return_same : (taken : ℕ) (f g : StackFrame) → SameCounts f g → SameCounts (returned taken f) (returned taken g)
 return_same taken f g same = record { taken = same.taken; words = dropped_same taken f.words g.words same.words }
-
-pub counts_alone : CountsAlone
-counts_alone f g same = record {
-  agrees = agree_of_counts f g same;
-  fault = λ role change. change_fault_same role change f.words g.words same.words;
-  change = λ change. change_same change f g same;
-  room = λ role. room_same role f.words g.words same.words;
-  return = λ taken. return_same taken f g same;
-}
 
 -- covering, place by place
 sourced_own : (f g : StackFrame) (from : Source) → Covers f g → sourced f from ≡ Own → sourced g from ≡ Own

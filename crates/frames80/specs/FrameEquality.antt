@@ -17,7 +17,8 @@ frame_eq f g = nat_eq f.taken g.taken && (pointwise word_eq f.words g.words && p
 
 -- the words are hashed from bottom to top
 abbrev pub frame_writes : StackFrame → HashWrites
-frame_writes f = u32 f.taken ++ slice word_writes (reverse f.words) ++ word_writes f.pairs.bc ++ word_writes f.pairs.de ++ word_writes f.pairs.hl
+frame_writes f = u32 f.taken ++ slice word_writes (reverse f.words) ++ word_writes f.pairs.bc ++ word_writes f.pairs.de
+    ++ word_writes f.pairs.hl
 
 own_words : (xs : List Word) → pointwise word_eq xs xs ≡ true
 own_words xs = (pointwise_decides word_decides xs xs).1 refl
@@ -26,7 +27,14 @@ own_word : (w : Word) → word_eq w w ≡ true
 own_word w = (word_decides w w).1 refl
 
 own : (f : StackFrame) → frame_eq f f ≡ true
-own f = rw ((unsigned_Decides f.taken f.taken).1 refl, own_words f.words, own_word f.pairs.bc, own_word f.pairs.de, own_word f.pairs.hl) refl
+own f =
+    rw (
+      (unsigned_Decides f.taken f.taken).1 refl,
+      own_words f.words,
+      own_word f.pairs.bc,
+      own_word f.pairs.de,
+      own_word f.pairs.hl,
+    ) refl
 
 -- equality is equality of all parts
 pub frame_decides : (f g : StackFrame) → Decides (frame_eq f g) (f ≡ g)
@@ -37,12 +45,18 @@ frame_decides f g = (equal, same)
         let words = pointwise word_eq f.words g.words in
         let rest = second_so (nat_eq f.taken g.taken) (words && pairs_eq f.pairs g.pairs) holds in
         let pairs = second_so words (pairs_eq f.pairs g.pairs) rest in
-        let low = second_so (word_eq f.pairs.bc g.pairs.bc) (word_eq f.pairs.de g.pairs.de && word_eq f.pairs.hl g.pairs.hl) pairs in
-        let e1 : f.taken ≡ g.taken = (unsigned_Decides f.taken g.taken).0 (first_so (nat_eq f.taken g.taken) (words && pairs_eq f.pairs g.pairs) holds) in
-        let e2 : f.words ≡ g.words = (pointwise_decides word_decides f.words g.words).0 (first_so words (pairs_eq f.pairs g.pairs) rest) in
-        let e3 : f.pairs.bc ≡ g.pairs.bc = (word_decides f.pairs.bc g.pairs.bc).0 (first_so (word_eq f.pairs.bc g.pairs.bc) (word_eq f.pairs.de g.pairs.de && word_eq f.pairs.hl g.pairs.hl) pairs) in
-        let e4 : f.pairs.de ≡ g.pairs.de = (word_decides f.pairs.de g.pairs.de).0 (first_so (word_eq f.pairs.de g.pairs.de) (word_eq f.pairs.hl g.pairs.hl) low) in
-        let e5 : f.pairs.hl ≡ g.pairs.hl = (word_decides f.pairs.hl g.pairs.hl).0 (second_so (word_eq f.pairs.de g.pairs.de) (word_eq f.pairs.hl g.pairs.hl) low) in
+        let low = second_so (word_eq f.pairs.bc g.pairs.bc)
+        (word_eq f.pairs.de g.pairs.de && word_eq f.pairs.hl g.pairs.hl) pairs in
+        let e1 : f.taken ≡ g.taken = (unsigned_Decides f.taken g.taken).0
+        (first_so (nat_eq f.taken g.taken) (words && pairs_eq f.pairs g.pairs) holds) in
+        let e2 : f.words ≡ g.words = (pointwise_decides word_decides f.words g.words).0
+        (first_so words (pairs_eq f.pairs g.pairs) rest) in
+        let e3 : f.pairs.bc ≡ g.pairs.bc = (word_decides f.pairs.bc g.pairs.bc).0
+        (first_so (word_eq f.pairs.bc g.pairs.bc) (word_eq f.pairs.de g.pairs.de && word_eq f.pairs.hl g.pairs.hl) pairs) in
+        let e4 : f.pairs.de ≡ g.pairs.de = (word_decides f.pairs.de g.pairs.de).0
+        (first_so (word_eq f.pairs.de g.pairs.de) (word_eq f.pairs.hl g.pairs.hl) low) in
+        let e5 : f.pairs.hl ≡ g.pairs.hl = (word_decides f.pairs.hl g.pairs.hl).0
+        (second_so (word_eq f.pairs.de g.pairs.de) (word_eq f.pairs.hl g.pairs.hl) low) in
         λ i. record { taken = e1 i; words = e2 i; pairs = record { bc = e3 i; de = e4 i; hl = e5 i } }
 
     same : f ≡ g → frame_eq f g ≡ true

@@ -70,15 +70,18 @@ source_after taken (InWord i) = From (InWord (taken + i))
 
 -- a change takes each place from one place, or it is any word
 abbrev pub ChangesByPlaces : Type 0
-ChangesByPlaces = (change : Change) (f : StackFrame) (place : Place) → word_at (changed change f) place ≡ sourced f (source change place)
+ChangesByPlaces = (change : Change) (f : StackFrame) (place : Place) →
+    word_at (changed change f) place ≡ sourced f (source change place)
 
 -- so does a return
 abbrev pub ReturnsByPlaces : Type 0
-ReturnsByPlaces = (taken : ℕ) (f : StackFrame) (place : Place) → word_at (returned taken f) place ≡ sourced f (source_after taken place)
+ReturnsByPlaces = (taken : ℕ) (f : StackFrame) (place : Place) →
+    word_at (returned taken f) place ≡ sourced f (source_after taken place)
 
 -- where frames meet each place is what meets there
 abbrev pub MeetsByPlaces : Type 0
-MeetsByPlaces = (f g : StackFrame) (place : Place) → agree f g ≡ true → word_at (merged f g) place ≡ met (word_at f place) (word_at g place)
+MeetsByPlaces = (f g : StackFrame) (place : Place) → agree f g ≡ true →
+    word_at (merged f g) place ≡ met (word_at f place) (word_at g place)
 
 -- two frames have the same counts: as many words taken, and as many words
 pub record SameCounts (f g : StackFrame) : Type 0 where

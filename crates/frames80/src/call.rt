@@ -1,7 +1,7 @@
 //! What becomes of a caller's frame when its callee returns.
 
 ghost use Rattle.std.specs.Prelude.{◌≡◌, ◌≤◌, ◌≢◌, length, Ok, Err, IfOk, IfErr};
-ghost use Rattle.frames80.specs.Calls.{after_call, room, returned};
+ghost use Rattle.frames80.specs.Calls.{after_call, room};
 
 use crate::fault::CallFault;
 use crate::frame::Frame;

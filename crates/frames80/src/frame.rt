@@ -1,6 +1,6 @@
 //! What is known of a procedure's stack and register pairs at a point.
 
-ghost use Rattle.std.specs.Prelude.{◌≡◌, ◌+◌, ◌<◌, ◌≤◌, ◌∷◌, IfOk, OnErr, length, reverse};
+ghost use Rattle.std.specs.Prelude.{◌≡◌, ◌+◌, ◌<◌, ◌≤◌, IfOk, reverse};
 
 use crate::frame_pair::FramePair;
 use crate::word::Word;

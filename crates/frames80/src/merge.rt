@@ -1,6 +1,6 @@
 //! How frames meet at a point.
 
-ghost use Rattle.std.specs.Prelude.{◌≡◌, ◌↔◌, true, false, IfOk, OnOk, OnErr, IsErr, IsOk, length, vec_len};
+ghost use Rattle.std.specs.Prelude.{◌≡◌, ◌↔◌, true, false, IfOk, OnOk, OnErr, IsOk, vec_len};
 ghost use Rattle.frames80.specs.Word.{met};
 ghost use Rattle.frames80.specs.Calls.{agree, merged, words_met};
 

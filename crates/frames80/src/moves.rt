@@ -1,6 +1,6 @@
 //! What becomes of a frame at an instruction.
 
-ghost use Rattle.std.specs.Prelude.{◌≡◌, ◌≢◌, ◌≤◌, ◌↔◌, length, IfOk, IfErr, IfSome, OnOk, IsOkAnd, Ok, Err, IsTrue, None, Some};
+ghost use Rattle.std.specs.Prelude.{◌≡◌, ◌≢◌, ◌≤◌, length, IfOk, IfErr, Ok, Err, None, Some};
 ghost use Rattle.frames80.specs.Effects.{effect_of};
 ghost use Rattle.frames80.specs.Moves.{moves_of, changed, fault_of};
 
@@ -41,10 +41,11 @@ pub enum Moves {
 /// What becomes of a frame at an instruction. The frame has up to 1,000,000 words, and as many taken.
 ///
 /// # Errors
-/// Each exactly where it says, and no two of them hold at once: `Sphl` at SPHL, `StackByByte` at INX SP and DCX SP; `SetsStack` at LXI SP, but for the main program with the stack's top; `PopsBelow` at a POP or XTHL of the main
-/// program with no words; `ReturnFromMain` at a return of the main program; `ReturnNotOwn` at a return of an entry whose words
-/// are not its return address alone. A conditional return is refused like any other. `Memory` comes only where none of these
-/// holds and memory runs out.
+/// Each exactly where it says, and no two of them hold at once: `Sphl` at SPHL, `StackByByte` at INX SP and DCX SP; `SetsStack`
+/// at LXI SP, but for the main program with the stack's top; `PopsBelow` at a POP or XTHL of the main program with no words;
+/// `ReturnFromMain` at a return of the main program; `ReturnNotOwn` at a return of an entry whose words are not its return
+/// address alone. A conditional return is refused like any other. `Memory` comes only where none of these holds and memory runs
+/// out.
 pub fn next(alloc: Global, frame: &Frame, instr: Instr, role: Role) -> Result<Moves, FrameFault>
     requires taken { frame.now.taken ≤ 1000000 }
     requires words { length frame.now.words ≤ 1000000 }

@@ -24,16 +24,6 @@ both_false false q no_ = (refl, no_)
 neither : (p q : Bool) → p ≡ false → q ≡ false → (p || q) ≡ false
 neither p q e f = rw (e, f) refl
 
--- nothing has met yet
-pub walk_start : (one other : List Word) → length one ≡ length other → IsWalk one other [] false one other
-walk_start one other even = record {
-  even = even;
-  met_so_far = refl;
-  unchanged = λ _ same. same;
-  same = λ _. refl;
-  same_rest = λ same. same;
-}
-
 -- one more pair of words meets
 module _ (one other met_words rest beside : List Word) (changed differs : Bool) (x y w : Word) (xs ys : List Word) (h : IsWalk one other met_words changed rest beside) (ex : rest ≡ x ∷ xs) (ey : beside ≡ y ∷ ys) (is : w ≡ met x y)
     (tells : (differs ≡ false) ↔ (w ≡ x)) where

@@ -79,7 +79,8 @@ impl Frames {
     pub fn fault_of(&self, frame: FrameId, role: Role, effect: Effect) -> Option<FrameFault>
         requires { frame < length self.now }
         ensures refused { IfSome result (λ fault. moves_of role effect (frame_at self.now frame) ≡ Err fault) }
-        ensures admitted { IfNone result (moves_of role effect (frame_at self.now frame) ≡ Ok (move_of effect (frame_at self.now frame))) }
+        ensures admitted { IfNone result (moves_of role effect (frame_at self.now frame)
+            ≡ Ok (move_of effect (frame_at self.now frame))) }
     {
         if let Effect::Refuse(fault) = effect {
             return Some(fault);
@@ -124,8 +125,8 @@ impl Frames {
         Ok(keep(&mut self.kept, Kept::of_words(kept.taken, words))?)
     }
 
-    /// The number of the frame that is known of both: a word or a pair is the return address only where it is in both. It is that of
-    /// the first where the first doesn't change.
+    /// The number of the frame that is known of both: a word or a pair is the return address only where it is in both. It is that
+    /// of the first where the first doesn't change.
     ///
     /// # Errors
     /// `HeightsDiffer` exactly where the frames differ in the words taken or in the number of words; `Memory` only where they
@@ -135,7 +136,8 @@ impl Frames {
         requires other { other < length self.old }
         ensures agree { OnOk result (agree (frame_at self.old one) (frame_at self.old other) ≡ true) }
         ensures merged { IfOk result (λ id. IsFrame self.new id (merged (frame_at self.old one) (frame_at self.old other))) }
-        ensures unchanged { IfOk result (λ id. merged (frame_at self.old one) (frame_at self.old other) ≡ frame_at self.old one → id ≡ one) }
+        ensures unchanged { IfOk result (λ id. merged (frame_at self.old one) (frame_at self.old other) ≡ frame_at self.old one →
+            id ≡ one) }
         ensures differ { result ≡ Err MeetFault.HeightsDiffer → agree (frame_at self.old one) (frame_at self.old other) ≡ false }
         ensures stays { StayNumbered self.old self.new }
     {
@@ -165,8 +167,8 @@ impl Frames {
         self.stacks.room(kept.words, role)
     }
 
-    /// By how many bytes the stack has grown since the procedure's start: `2 * (words - 1 - taken)` in an entry, which starts with
-    /// its return address on it, and `2 * words` in the main program. It takes no memory.
+    /// By how many bytes the stack has grown since the procedure's start: `2 * (words - 1 - taken)` in an entry, which starts
+    /// with its return address on it, and `2 * words` in the main program. It takes no memory.
     pub fn depth(&self, frame: FrameId, role: Role) -> i64
         requires { frame < length self.now }
         ensures { result ≡ depth_of role (frame_at self.now frame) }

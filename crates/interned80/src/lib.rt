@@ -1,5 +1,6 @@
 //! Frames of the verifier by number: each distinct frame is kept once, and frames share the words that they have in common. What
-//! becomes of a frame at an instruction, a call or a join is what `frames80` says of it; it takes the time of the words that change.
+//! becomes of a frame at an instruction, a call or a join is what `frames80` says of it; it takes the time of the words that
+//! change.
 //!
 //! | Item | What it is |
 //! |---|---|

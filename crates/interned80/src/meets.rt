@@ -35,7 +35,8 @@ pub(crate) fn meet_frames(stacks: &mut Stacks, one: Kept, other: Kept) -> Result
     requires other { other.words < length stacks.old }
     ensures agree { OnOk result (agree (frame_of stacks.old one) (frame_of stacks.old other) ≡ true) }
     ensures merged { IfOk result (λ kept. IsKept stacks.new kept (merged (frame_of stacks.old one) (frame_of stacks.old other))) }
-    ensures unchanged { IfOk result (λ kept. merged (frame_of stacks.old one) (frame_of stacks.old other) ≡ frame_of stacks.old one → kept ≡ one) }
+    ensures unchanged { IfOk result (λ kept. merged (frame_of stacks.old one) (frame_of stacks.old other)
+        ≡ frame_of stacks.old one → kept ≡ one) }
     ensures differ { result ≡ Err MeetFault.HeightsDiffer → agree (frame_of stacks.old one) (frame_of stacks.old other) ≡ false }
     ensures stays { StacksStay stacks.old stacks.new }
 {
@@ -60,8 +61,10 @@ fn meet_words(stacks: &mut Stacks, one: u32, other: u32) -> Result<u32, AllocErr
     requires one { one < length stacks.old }
     requires other { other < length stacks.old }
     requires even { length (words_at stacks.old one) ≡ length (words_at stacks.old other) }
-    ensures met { IfOk result (λ number. IsStack stacks.new number (words_met (words_at stacks.old one) (words_at stacks.old other))) }
-    ensures unchanged { IfOk result (λ number. words_met (words_at stacks.old one) (words_at stacks.old other) ≡ words_at stacks.old one → number ≡ one) }
+    ensures met { IfOk result (λ number.
+        IsStack stacks.new number (words_met (words_at stacks.old one) (words_at stacks.old other))) }
+    ensures unchanged { IfOk result (λ number. words_met (words_at stacks.old one) (words_at stacks.old other)
+        ≡ words_at stacks.old one → number ≡ one) }
     ensures stays { StacksStay stacks.old stacks.new }
 {
     let meeting = meet_tops(stacks, one, other)?;

@@ -1,6 +1,6 @@
 -- What a look at an address says, case by case.
 use Rattle.std.specs.Prelude.{◌≡◌, ℕ, Bool, true, false, not, ◌&&◌, List, Result, Ok, Err, refl, if◌then◌else◌}
-use Rattle.std.proofs.Common.{◌∙◌, ap, subst, sym}
+use Rattle.std.proofs.Common.{◌∙◌, ap, subst}
 use Rattle.decode80.specs.declared.fetching.FetchFault.{FetchFault}
 use Rattle.decode80.specs.declared.fetching.FetchFault.TheVariants.{Outside as FetchOutside, Unused as FetchUnused}
 use Rattle.decode80.specs.declared.fetching.Fetched.{Fetched}

@@ -1,5 +1,5 @@
--- What is kept of an image while it is verified and run, so that a look at an address takes the same time for any number of chunks
--- and ranges. (This project's own.)
+-- What is kept of an image while it is verified and run, so that a look at an address takes the same time for any number of
+-- chunks and ranges. (This project's own.)
 use Rattle.std.specs.Prelude.{◌≡◌, ℕ, List, length}
 use Rattle.image80.specs.Image.{Located, memory_of}
 use Rattle.image80.specs.RegionMap.{Maps}

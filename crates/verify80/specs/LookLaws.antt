@@ -14,8 +14,8 @@ use Rattle.verify80.specs.Looking.{halt_follows, is_declared, stores_in_data, lo
 abbrev pub fetch_at : Areas → (memory : List ℕ) → (at : ℕ) → Result Fetched FetchFault
 fetch_at regions memory at = fetch (in_code regions) (λ place. slice_index memory place) at
 
--- an instruction is fetched inside the code; if it is an EI, a HLT follows; if it is a PCHL, targets are declared for it; it stores
--- to no address outside data
+-- an instruction is fetched inside the code; if it is an EI, a HLT follows; if it is a PCHL, targets are declared for it; it
+-- stores to no address outside data
 pub record IsAdmitted (regions : Areas) (memory : List ℕ) (at : ℕ) (found : Fetched) : Type 0 where
   pub fetched : fetch_at regions memory at ≡ Ok found
   pub halts : found.instr ≡ Ei → halt_follows regions memory at ≡ true

@@ -2,7 +2,7 @@
 
 ghost use Rattle.std.specs.Prelude.{IfOk, IfErr};
 ghost use Rattle.flow80.specs.Accepted.{IsAccepted, IsMeasured};
-ghost use Rattle.flow80.specs.Faults.{Holds};
+ghost use Rattle.flow80.specs.Faults.{Holds, HoldsAnyway};
 ghost use Rattle.verify80.specs.Kept.{IsKept};
 ghost use Rattle.verify80.specs.Looking.{code_of};
 
@@ -42,14 +42,14 @@ pub fn verify(alloc: Global, image: &Image) -> Result<Report, Refusal>
     Ok(verified.report)
 }
 
-/// Goes over an image as [`verify`] does, and reports on it however small its stack is: on one too that is refused for nothing but
-/// that.
+/// Goes over an image as [`verify`] does, and reports on it however small its stack is: on one too that is refused for nothing
+/// but that.
 ///
 /// # Errors
-/// Those of [`verify`].
+/// Those of [`verify`], but never `StackTooSmall`.
 pub fn measure(alloc: Global, image: &Image) -> Result<Report, Refusal>
     ensures measured { IfOk result (λ report. IsMeasured (code_of image.now) report.procedures.items report.stack_bytes) }
-    ensures refused { IfErr result (Holds (code_of image.now)) }
+    ensures refused { IfErr result (HoldsAnyway (code_of image.now)) }
 {
     let code = ImageCode::new(alloc, image)?;
     flow80::measure(alloc, &code)
@@ -60,7 +60,8 @@ pub fn measure(alloc: Global, image: &Image) -> Result<Report, Refusal>
 /// # Errors
 /// Those of [`verify`].
 pub fn verify_and_keep(alloc: Global, image: &Image) -> Result<Verified, Refusal>
-    ensures accepted { IfOk result (λ verified. IsAccepted (code_of image.now) verified.report.procedures.items verified.report.stack_bytes) }
+    ensures accepted { IfOk result (λ verified.
+        IsAccepted (code_of image.now) verified.report.procedures.items verified.report.stack_bytes) }
     ensures kept { IfOk result (λ verified. IsKept image.now verified.memory.items verified.map) }
     ensures refused { IfErr result (Holds (code_of image.now)) }
 {
