@@ -1,7 +1,6 @@
 -- The calls of a search's points, as walks have them.
-use Rattle.std.proofs.Common.{◌≡◌, ◌<◌, ◌⊎◌, inl, inr, ◌+◌, ℕ, List, [], ◌∷◌, ◌++◌, Some, Contains, length, slice_get, sym, ◌∙◌, ap, subst}
+use Rattle.std.proofs.Common.{◌≡◌, ◌<◌, ℕ, List, [], ◌∷◌, Some, Contains, length, slice_get, sym, ◌∙◌, ap, subst}
 use Rattle.std.proofs.lemmas.Option.{same_Some, slice_get-get_or, slice_get_within}
-use Rattle.std.proofs.lemmas.List.{length-append}
 use Rattle.bounds80.specs.declared.procedure.Procedure.{Procedure}
 use Rattle.bounds80.specs.declared.procedure.Procedure.TheVariants.{Main, Entry}
 use Rattle.flow80.specs.Code.{Code}
@@ -15,19 +14,8 @@ use Rattle.explain80.specs.Ring.{Chained, IsRingOf}
 use Rattle.explain80.specs.Search.{CallersAreThere, HasCall, IsSound}
 use Rattle.explain80.specs.Shows.{RingOf}
 use Rattle.explain80.specs.Ways.{IsCalled, Lead}
-use Rattle.explain80.proofs.ListLemmas.{slice_get-push, there_is}
+use Rattle.explain80.proofs.ListLemmas.{there_is}
 use Rattle.explain80.proofs.WayLemmas.{walked}
-
--- a call more
-pub known-push : (s : Search) (count : ℕ) (calls new : List Call) (call : Call) → AreKnown s count calls → IsKnown s count call → new ≡ calls ++ call ∷ [] → AreKnown s (count + 1) new
-known-push s count calls new call h k e = record {
-  all = ap length e ∙ length-append calls (call ∷ []) ∙ ap (λ n. n + 1) h.all;
-  known = λ n one is. by n one (slice_get-push calls call n one (ap (λ xs. slice_get xs n) (sym e) ∙ is));
-}
-  where
-    by : (n : ℕ) (one : Call) → (slice_get calls n ≡ Some one) ⊎ ((n ≡ length calls) × (one ≡ call)) → IsKnown s n one
-    by n one (inl is) = h.known n one is
-    by n one (inr at) = subst (λ i. IsKnown s i one) (sym (at.0 ∙ h.all)) (subst (IsKnown s count) (sym at.1) k)
 
 -- a call that is noted is known
 pub known-at : (s : Search) (calls : List Call) → AreKnown s (length s.calls.items) calls → (n target : ℕ) (point : Point) → HasCall s.calls.items n target → slice_get s.points.keys n ≡ Some point →

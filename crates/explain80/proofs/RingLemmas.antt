@@ -1,14 +1,13 @@
 -- Calls by which a procedure is reached, and the way back by them.
-use Rattle.std.proofs.Common.{◌≡◌, ◌≢◌, ◌<◌, ◌≤◌, ◌⊎◌, inl, inr, ℕ, Bool, true, false, List, [], ◌∷◌, ◌++◌, Some, Contains, length, get_or, set, reverse, slice_get, refl, sym, ◌∙◌, ap, subst, true≢false, arith}
-use Rattle.std.specs.Prelude.{All}
+use Rattle.std.proofs.Common.{◌≡◌, ◌≢◌, ◌<◌, ◌⊎◌, inl, inr, ℕ, Bool, true, false, List, [], ◌∷◌, ◌++◌, Some, Contains, length, get_or, set, reverse, slice_get, refl, sym, ◌∙◌, ap, subst, arith}
 use Rattle.std.proofs.lemmas.Option.{same_Some, slice_get_within}
 use Rattle.std.proofs.lemmas.Bool.{cases_eq}
-use Rattle.std.proofs.lemmas.List.{get_or-set_other, get_or_past, reverse-append}
+use Rattle.std.proofs.lemmas.List.{get_or-set_other, reverse-append}
 use Rattle.bounds80.specs.declared.procedure.Procedure.{Procedure}
 use Rattle.bounds80.specs.declared.procedure.Procedure.TheVariants.{Main, Entry}
 use Rattle.explain80.specs.declared.route.Call.{Call}
 use Rattle.explain80.specs.declared.ring.Reach.{Reach}
-use Rattle.explain80.specs.Ring.{AreLinked, AreMarked, AreReached, Chained, EntersAt, IsEntered, IsFollowed, IsFurther, IsLed, IsLedBack, NoneLeadBack}
+use Rattle.explain80.specs.Ring.{AreComplete, AreLinked, AreMarked, AreReached, Chained, EntersAt, IsEntered, IsFollowed, IsFurther, IsLed, IsLedBack, NoneLeadBack, ReachesFrom}
 use Rattle.explain80.specs.Search.{Extends}
 use Rattle.explain80.proofs.ListLemmas.{extends-push, slice_get-append, slice_get-extends, slice_get-last, slice_get-push, there_is}
 
@@ -47,42 +46,48 @@ module _ (calls : List Call) (first : Call) where
 
   -- one call back
   pub back-step : (reached : List Reach) (at : ℕ) (back : List Call) (q : Procedure) (one before : Reach) → AreReached calls first reached → IsLedBack calls reached at back q → 0 < at → slice_get reached at ≡ Some one → slice_get reached one.from ≡ Some before →
-      IsLedBack calls reached one.from (back ++ before.call ∷ []) q
+      IsLedBack calls reached one.from (back ++ one.call ∷ []) q
   back-step reached at back q one before h b some is was = by (h.each at one is)
     where
       same : b.reach ≡ one
       same = same_Some b.reach one (sym b.is ∙ is)
 
-      by : ((at ≡ 0) × (one.call ≡ first)) ⊎ IsFurther calls reached at one → IsLedBack calls reached one.from (back ++ before.call ∷ []) q
+      by : ((at ≡ 0) × (one.call ≡ first)) ⊎ IsFurther calls reached at one → IsLedBack calls reached one.from (back ++ one.call ∷ []) q
       by (inl e) = absurd (omega (arith, some, e.0))
       by (inr f) = record {
         reach = before;
         is = was;
-        rest = one.call ∷ b.rest;
-        reversed = reverse-append back (before.call ∷ []) ∙ ap (λ xs. before.call ∷ xs) (b.reversed ∙ ap (λ (r : Reach). r.call ∷ b.rest) same);
-        chained = (f.caller ∙ ap (λ (r : Reach). Entry r.call.target) (same_Some f.before before (sym f.is ∙ was)), f.known, subst (λ (r : Reach). Chained calls (Entry r.call.target) b.rest q) same b.chained);
+        chained = subst (λ led. Chained calls (Entry before.call.target) led q) (sym (reverse-append back (one.call ∷ [])))
+            (f.caller ∙ ap (λ (r : Reach). Entry r.call.target) (same_Some f.before before (sym f.is ∙ was)), f.known, subst (λ (r : Reach). Chained calls (Entry r.call.target) (reverse back) q) same b.chained);
       }
 
-  -- back at the first call
-  pub led : (reached : List Reach) (at : ℕ) (back items : List Call) (q : Procedure) → AreReached calls first reached → Contains calls first → IsLedBack calls reached at back q → at ≡ 0 → items ≡ reverse back → IsLed calls first items q
-  led reached at back items q h known b none e = by (h.each at b.reach b.is)
+  -- the first call of those by which procedures are reached
+  pub first-is : (reached : List Reach) (reach : Reach) → AreReached calls first reached → slice_get reached 0 ≡ Some reach → reach.call ≡ first
+  first-is reached reach h is = by 0 refl (h.each 0 reach is)
     where
-      by : ((at ≡ 0) × (b.reach.call ≡ first)) ⊎ IsFurther calls reached at b.reach → IsLed calls first items q
-      by (inl is) = record {
-        rest = b.rest;
-        is = e ∙ b.reversed ∙ ap (λ call. call ∷ b.rest) is.1;
-        chained = (refl, known, subst (λ (call : Call). Chained calls (Entry call.target) b.rest q) is.1 b.chained);
-      }
-      by (inr f) = absurd (omega (arith, f.earlier, none))
+      by : (n : ℕ) → n ≡ 0 → ((n ≡ 0) × (reach.call ≡ first)) ⊎ IsFurther calls reached n reach → reach.call ≡ first
+      by n none (inl e) = e.1
+      by n none (inr f) = absurd (omega (arith, none, f.earlier))
 
-pub back-begin : (calls : List Call) (reached : List Reach) (at : ℕ) (one last : Reach) (back : List Call) → slice_get reached at ≡ Some one → slice_get reached at ≡ Some last → back ≡ one.call ∷ [] → IsLedBack calls reached at back (Entry last.call.target)
-back-begin calls reached at one last back is was e = record {
-  reach = one;
-  is = is;
-  rest = [];
-  reversed = ap reverse e;
-  chained = ap (λ (r : Reach). Entry r.call.target) (same_Some one last (sym is ∙ was));
-}
+-- back at the first call, another one of the same callee leads on
+pub led : (calls : List Call) (call : Call) (reached : List Reach) (at : ℕ) (back items : List Call) (q : Procedure) → ReachesFrom calls call.target reached → Contains calls call → IsLedBack calls reached at back q → at ≡ 0 → items ≡ call ∷ reverse back →
+    IsLed calls call items q
+led calls call reached at back items q h known b none e =
+    let begins = first-is calls h.first reached b.reach h.are_reached (subst (λ n. slice_get reached n ≡ Some b.reach) none b.is) in
+    let callee = ap (λ (c : Call). c.target) begins ∙ h.enters in
+    record { rest = reverse back; is = e; chained = (refl, known, subst (λ n. Chained calls (Entry n) (reverse back) q) callee b.chained) }
+
+pub back-begin : (calls : List Call) (reached : List Reach) (at : ℕ) (last : Reach) → slice_get reached at ≡ Some last → IsLedBack calls reached at [] (Entry last.call.target)
+back-begin calls reached at last is = record { reach = last; is = is; chained = refl }
+
+-- what is reached from a procedure on is complete
+pub complete : (calls : List Call) (target : ℕ) (reached : List Reach) → ReachesFrom calls target reached → AreComplete calls reached
+complete calls target reached h = λ reach is.
+    let callee = ap (λ (c : Call). c.target) (first-is calls h.first reached reach h.are_reached is) ∙ h.enters in
+    subst (λ n. ReachesFrom calls n reached) (sym callee) h
+
+pub none-yet : (calls : List Call) (reached : List Reach) → reached ≡ [] → AreComplete calls reached
+none-yet calls reached none = λ reach is. absurd (omega (arith, ap length none, slice_get_within reached 0 reach is))
 
 -- what is read where there is nothing
 abbrev pub no_reach : Reach
@@ -115,9 +120,6 @@ entered-extends old new e target h = record {
 pub entered-push : (old new : List Reach) (reach : Reach) → new ≡ old ++ reach ∷ [] → IsEntered new reach.call.target
 entered-push old new reach e = record { number = length old; at = record { reach = reach; is = ap (λ xs. slice_get xs (length old)) e ∙ slice_get-last old reach; enters = refl } }
 
-pub marked-extends : (entered : List Bool) (old new : List Reach) → Extends old new → AreMarked entered old → AreMarked entered new
-marked-extends entered old new e h = record { marked = λ target is. entered-extends old new e target (h.marked target is) }
-
 -- a procedure that is entered is marked
 pub marked-set : (entered : List Bool) (old new : List Reach) (reach : Reach) (place : ℕ) → place ≡ reach.call.target → place < length entered → AreMarked entered old → new ≡ old ++ reach ∷ [] → AreMarked (set entered place true) new
 marked-set entered old new reach place same below h e = record { marked = λ target is. by target is (cases_eq target place) }
@@ -126,34 +128,24 @@ marked-set entered old new reach place same below h e = record { marked = λ tar
     by target is (inl at) = subst (IsEntered new) (sym (at ∙ same)) (entered-push old new reach e)
     by target is (inr other) = entered-extends old new (extends-push old new reach e) target (h.marked target (sym (get_or-set_other entered place target true false other) ∙ is))
 
-pub marked-none : (entered : List Bool) (reached : List Reach) → All (λ x. x ≡ false) entered → AreMarked entered reached
-marked-none entered reached clear = record { marked = λ target is. absurd (true≢false (sym is ∙ by target (which target (length entered)))) }
-  where
-    which : (i n : ℕ) → (i < n) ⊎ (n ≤ i)
-    which i n = grind arith
-
-    by : (i : ℕ) → (i < length entered) ⊎ (length entered ≤ i) → get_or entered i false ≡ false
-    by i (inl inside) = clear i false inside
-    by i (inr past) = get_or_past entered i false past
-
-pub followed-extends : (calls : List Call) (first : Call) (old new : List Reach) → Extends old new → (n : ℕ) → n < length old → IsFollowed calls first old n → IsFollowed calls first new n
-followed-extends calls first old new e n below h = record {
-  away = λ reach is. h.away reach (was reach is);
+pub followed-extends : (calls : List Call) (old new : List Reach) → Extends old new → (n : ℕ) → n < length old → IsFollowed calls old n → IsFollowed calls new n
+followed-extends calls old new e n below h = record {
   callees = λ reach call is known of. entered-extends old new e call.target (h.callees reach call (was reach is) known of);
 }
   where
     was : (reach : Reach) → slice_get new n ≡ Some reach → slice_get old n ≡ Some reach
     was reach is = let one = there_is old n below in one.1 ∙ ap (λ r. Some r) (same_Some one.0 reach (sym (slice_get-extends old new e n one.0 one.1) ∙ is))
 
--- where the callees of all are followed, and none enters the first one's procedure, no calls lead back to it
-module _ (calls : List Call) (first : Call) (reached : List Reach) (followed : (n : ℕ) → n < length reached → IsFollowed calls first reached n) where
-  leads_back : (target : ℕ) → IsEntered reached target → (rest : List Call) → Chained calls (Entry target) rest first.caller → ⊥
+-- where no call enters the procedure of a call, none lead back to it from its callee
+module _ (calls : List Call) (call : Call) (reached : List Reach) (h : ReachesFrom calls call.target reached)
+    (away : (n : ℕ) (reach : Reach) → slice_get reached n ≡ Some reach → call.caller ≡ Entry reach.call.target → ⊥) where
+  leads_back : (target : ℕ) → IsEntered reached target → (rest : List Call) → Chained calls (Entry target) rest call.caller → ⊥
   leads_back target entered [] c =
       let at = entered.at in
-      (followed entered.number (slice_get_within reached entered.number at.reach at.is)).away at.reach at.is (sym c ∙ ap Entry (sym at.enters))
-  leads_back target entered (call ∷ rest) c =
+      away entered.number at.reach at.is (sym c ∙ ap Entry (sym at.enters))
+  leads_back target entered (next ∷ rest) c =
       let at = entered.at in
-      leads_back call.target ((followed entered.number (slice_get_within reached entered.number at.reach at.is)).callees at.reach call at.is c.1 (c.0 ∙ ap Entry (sym at.enters))) rest c.2
+      leads_back next.target ((h.followed entered.number (slice_get_within reached entered.number at.reach at.is)).callees at.reach next at.is c.1 (c.0 ∙ ap Entry (sym at.enters))) rest c.2
 
-  pub none-lead-back : IsEntered reached first.target → NoneLeadBack calls first
-  none-lead-back begun = record { none = λ rest c. leads_back first.target begun rest c }
+  pub none-lead-back : NoneLeadBack calls call
+  none-lead-back = record { none = λ rest c. leads_back call.target h.begun rest c }

@@ -1,5 +1,5 @@
 -- What goes on holding while a search goes on.
-use Rattle.std.proofs.Common.{◌≡◌, ◌+◌, ℕ, ◌⊎◌, inl, inr, List, [], ◌∷◌, ◌++◌, Some, length, slice_get, refl, sym, ◌∙◌, ap, subst, arith}
+use Rattle.std.proofs.Common.{◌≡◌, ◌+◌, ℕ, ◌⊎◌, inl, inr, List, [], ◌∷◌, ◌++◌, Some, length, slice_get, sym, ◌∙◌, ap, subst, arith}
 use Rattle.std.proofs.lemmas.Option.{none-some, slice_get_within}
 use Rattle.std.proofs.lemmas.List.{length-append}
 use Rattle.flow80.specs.Code.{Code}
@@ -29,10 +29,6 @@ exit-extends code old new e exit h = record { point = h.point; is = slice_get-ex
 
 pub calling-extends : (code : Code) (old new : List Point) → Extends old new → (call : CallingPoint) → IsCalling code old call → IsCalling code new call
 calling-extends code old new e call h = record { point = h.point; is = slice_get-extends old new e call.point h.point h.is; calls = h.calls }
-
--- a search that has not gone on
-pub grows-same : (code : Code) (s : Search) → IsSound code s → Grows code s s
-grows-same code s h = record { points = extends-same s.points.keys s.points.keys refl; exits = extends-same s.exits.items s.exits.items refl; sound = h }
 
 pub grows-on : (code : Code) (one two three : Search) → Grows code one two → Grows code two three → Grows code one three
 grows-on code one two three a b = record {

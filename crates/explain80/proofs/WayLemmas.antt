@@ -52,10 +52,6 @@ pub same_procedure : (code : Code) (one : Point) (rest : List Point) (last : Poi
 same_procedure code one [] last way = ap (λ (p : Point). p.procedure) (sym way)
 same_procedure code one (other ∷ rest) last way = same_procedure code other rest last way.1 ∙ same code one other way.0
 
--- calls gone backwards have one more
-pub led-begin : (code : Code) (points : List Point) (from : ℕ) (last : Point) → slice_get points from ≡ Some last → IsLed code points from [] last.procedure
-led-begin code points from last e = record { point = last; is = e; lead = refl }
-
 pub led-step : (code : Code) (points : List Point) (from before : ℕ) (back : List Call) (q : Procedure) (call : Call) → IsLed code points from back q → IsCallTo code points from before call → IsLed code points before (back ++ call ∷ []) q
 led-step code points from before back q call h c = record {
   point = c.one;

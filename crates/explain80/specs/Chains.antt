@@ -34,7 +34,8 @@ pub record CallsAt (code : Code) (call : CallSite) : Type 0 where
 -- calls lead from a procedure to where the last one stands, and the depths come to a sum, with two bytes for each return address
 abbrev pub IsChain : Code → Procedure → List CallSite → Standing → ℤ → Type 0
 IsChain code p [] last sum = (last.procedure ≡ p) × StandsAt code last × (sum ≡ last.depth)
-IsChain code p (call ∷ rest) last sum = (call.caller ≡ p) × CallsAt code call × ((below : ℤ) × IsChain code (Entry call.target) rest last below × (sum ≡ (call.depth +ℤ pos 2) +ℤ below))
+IsChain code p (call ∷ rest) last sum = (call.caller ≡ p) × CallsAt code call
+    × ((below : ℤ) × IsChain code (Entry call.target) rest last below × (sum ≡ (call.depth +ℤ pos 2) +ℤ below))
 
 -- the chain is the main program's, and comes to so many bytes
 abbrev pub ChainsTo : Code → ℕ → Chain → Type 0

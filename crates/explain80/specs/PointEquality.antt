@@ -41,9 +41,12 @@ point_decides a b = (equal, same)
     equal holds =
         let rest = nat_eq a.at b.at && frame_eq a.frame b.frame in
         let h1 = second_so (procedure_eq a.procedure b.procedure) rest holds in
-        let e1 : a.procedure ≡ b.procedure = same_slot a.procedure b.procedure ((unsigned_Decides (slot_of a.procedure) (slot_of b.procedure)).0 (first_so (procedure_eq a.procedure b.procedure) rest holds)) in
+        let e1 : a.procedure ≡ b.procedure = same_slot a.procedure b.procedure
+        ((unsigned_Decides (slot_of a.procedure) (slot_of b.procedure)).0
+        (first_so (procedure_eq a.procedure b.procedure) rest holds)) in
         let e2 : a.at ≡ b.at = (unsigned_Decides a.at b.at).0 (first_so (nat_eq a.at b.at) (frame_eq a.frame b.frame) h1) in
-        let e3 : a.frame ≡ b.frame = (frame_decides a.frame b.frame).0 (second_so (nat_eq a.at b.at) (frame_eq a.frame b.frame) h1) in
+        let e3 : a.frame ≡ b.frame = (frame_decides a.frame b.frame).0
+        (second_so (nat_eq a.at b.at) (frame_eq a.frame b.frame) h1) in
         λ i. record { procedure = e1 i; at = e2 i; frame = e3 i }
 
     same : a ≡ b → point_eq a b ≡ true

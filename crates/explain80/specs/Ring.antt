@@ -1,5 +1,5 @@
 -- Calls that lead from a first one back to its procedure. (This project's own.)
-use Rattle.std.specs.Prelude.{◌≡◌, ◌<◌, ◌⊎◌, ℕ, Bool, true, false, List, [], ◌∷◌, Contains, Some, get_or, reverse, slice_get}
+use Rattle.std.specs.Prelude.{◌≡◌, ◌<◌, ◌⊎◌, ℕ, Bool, true, false, List, [], ◌∷◌, Contains, Some, get_or, length, reverse, slice_get}
 use Rattle.bounds80.specs.declared.procedure.Procedure.{Procedure}
 use Rattle.bounds80.specs.declared.procedure.Procedure.TheVariants.{Entry}
 use Rattle.explain80.specs.declared.route.Call.{Call}
@@ -56,16 +56,25 @@ pub record IsEntered (reached : List Reach) (target : ℕ) : Type 0 where
 pub record AreMarked (entered : List Bool) (reached : List Reach) : Type 0 where
   pub marked : (target : ℕ) → get_or entered target false ≡ true → IsEntered reached target
 
--- the call of this number doesn't enter the first one's procedure, and the callees of the procedure that it enters are entered
-pub record IsFollowed (calls : List Call) (first : Call) (reached : List Reach) (n : ℕ) : Type 0 where
-  pub away : (reach : Reach) → slice_get reached n ≡ Some reach → first.caller ≡ Entry reach.call.target → ⊥
+-- the callees of the procedure that the call of this number enters are entered
+pub record IsFollowed (calls : List Call) (reached : List Reach) (n : ℕ) : Type 0 where
   pub callees : (reach : Reach) (call : Call) → slice_get reached n ≡ Some reach → Contains calls call
       → call.caller ≡ Entry reach.call.target → IsEntered reached call.target
 
--- a list of calls, last first, leads from the call of a number to a procedure
+-- all procedures to which calls lead from one on are entered, each by a call to which they lead, the first by a call of its own
+pub record ReachesFrom (calls : List Call) (target : ℕ) (reached : List Reach) : Type 0 where
+  pub first : Call
+  pub enters : first.target ≡ target
+  pub are_reached : AreReached calls first reached
+  pub begun : IsEntered reached target
+  pub followed : (n : ℕ) → n < length reached → IsFollowed calls reached n
+
+-- there are none yet, or all from the procedure on that the first one enters
+abbrev pub AreComplete : List Call → List Reach → Type 0
+AreComplete calls reached = (reach : Reach) → slice_get reached 0 ≡ Some reach → ReachesFrom calls reach.call.target reached
+
+-- a list of calls, last first, leads from the procedure that the call of a number enters to a procedure
 pub record IsLedBack (calls : List Call) (reached : List Reach) (n : ℕ) (back : List Call) (q : Procedure) : Type 0 where
   pub reach : Reach
   pub is : slice_get reached n ≡ Some reach
-  pub rest : List Call
-  pub reversed : reverse back ≡ reach.call ∷ rest
-  pub chained : Chained calls (Entry reach.call.target) rest q
+  pub chained : Chained calls (Entry reach.call.target) (reverse back) q

@@ -83,7 +83,8 @@ abbrev pub Comes : Code → List Point → ℕ → Point → Origin → Type 0
 Comes code points n point Begins = BeginsAt code point.procedure point.at point.frame
 Comes code points n point (GoesOn i) = Before points n i (λ one. LeadsOn code one point)
 Comes code points n point (Enters i) = Before points n i (λ one. EntersFrom code one point)
-Comes code points n point (ComesBack call exit) = Before points n call (λ one. Before points n exit (λ callee. BackFrom code one callee point))
+Comes code points n point (ComesBack call exit) = Before points n call (λ one.
+    Before points n exit (λ callee. BackFrom code one callee point))
 
 -- a procedure returns there
 pub record IsExit (code : Code) (points : List Point) (exit : Exit) : Type 0 where
@@ -119,7 +120,8 @@ pub record Extends {X : Type 0} (old new : List X) : Type 0 where
 
 -- a point has been added with its origin, unless it was there
 pub record IsAdded (old new : Search) (point : Point) (origin : Origin) : Type 0 where
-  pub points : ((new.points.keys ≡ old.points.keys) × (new.origins.items ≡ old.origins.items)) ⊎ ((new.points.keys ≡ old.points.keys ++ point ∷ []) × (new.origins.items ≡ old.origins.items ++ origin ∷ []))
+  pub points : ((new.points.keys ≡ old.points.keys) × (new.origins.items ≡ old.origins.items))
+      ⊎ ((new.points.keys ≡ old.points.keys ++ point ∷ []) × (new.origins.items ≡ old.origins.items ++ origin ∷ []))
   pub there : Has new.points.keys point
   pub exits : new.exits.items ≡ old.exits.items
   pub calls : new.calls.items ≡ old.calls.items
@@ -161,7 +163,8 @@ pub record BacksFrom (code : Code) (points new : List Point) (exits : List Exit)
       HasBack code new one.procedure one.frame call.next exit.taken
 
 -- where a move leads from a point is there, by the exits that were known before
-pub record CoversMove (code : Code) (points : List Point) (known new : List Exit) (point : Point) (moves : Moves) (after : ℕ) : Type 0 where
+pub record CoversMove (code : Code) (points : List Point) (known new : List Exit) (point : Point) (moves : Moves)
+    (after : ℕ) : Type 0 where
   pub on : (to : ℕ) (g : StackFrame) → LeadsTo moves (code.targets point.at) after to g
       → Has points (point_of point.procedure to g)
   pub enter : (target : ℕ) → called moves ≡ Some target → Has points (point_of (Entry target) target entry_frame)

@@ -59,13 +59,14 @@ pub record ShortAt (code : Code) (at : ℕ) (one other : Point) : Type 0 where
   pub procedure : other.procedure ≡ Entry target
   pub short : room (role_of code one.procedure) one.frame.words < other.frame.taken
 
--- a route to a point, and two routes to two points, at which there is this
+-- a route leads to a point at which there is this
 pub record EndsWhere (code : Code) (There : Point → Type 0) (route : Route) : Type 0 where
   pub last : Point
   pub is_route : IsRoute code route last
   pub there : There last
 
-pub record EndWhere (code : Code) (There : Point → Point → Type 0) (route other : Route) : Type 0 where
+-- two routes lead to points at which there is this
+pub record BothEndWhere (code : Code) (There : Point → Point → Type 0) (route other : Route) : Type 0 where
   pub last : Point
   pub other_last : Point
   pub is_route : IsRoute code route last
@@ -78,7 +79,7 @@ ByOneWay code There (OneWay route) = EndsWhere code There route
 ByOneWay code There _ = ⊥
 
 abbrev pub ByTwoWays : Code → (Point → Point → Type 0) → Explanation → Type 0
-ByTwoWays code There (TwoWays route other) = EndWhere code There route other
+ByTwoWays code There (TwoWays route other) = BothEndWhere code There route other
 ByTwoWays code There _ = ⊥
 
 -- calls lead from the main program to a procedure, and from there, by a call at this address, back to it

@@ -42,7 +42,8 @@ Way code one (other ∷ rest) last = Follows code one other × Way code other re
 
 -- the main program, or a procedure, is at its start
 abbrev pub Starts : Code → Point → Type 0
-Starts code point = Begins code point.procedure point.at point.frame ⊎ ((target : ℕ) × Enters target point.procedure point.at point.frame)
+Starts code point = Begins code point.procedure point.at point.frame
+    ⊎ ((target : ℕ) × Enters target point.procedure point.at point.frame)
 
 -- a walk of the caller is at the call
 pub record IsCalled (code : Code) (call : Call) : Type 0 where

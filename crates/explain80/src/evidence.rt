@@ -51,7 +51,8 @@ pub(crate) fn find_fault<C: Code>(
     at: u16,
     fault: Fault,
 ) -> Result<Option<usize>, Stop>
-    ensures found { IfOk result (λ found. IfSome found (λ number. IsOne points.now (FaultAt (C.code program.now) at fault) number)) }
+    ensures found { IfOk result (λ found.
+        IfSome found (λ number. IsOne points.now (FaultAt (C.code program.now) at fault) number)) }
     ensures none { IfOk result (λ found. IfNone found (IsNoOne points.now (FaultAt (C.code program.now) at fault))) }
 {
     for number in 0..points.len() {
@@ -230,7 +231,8 @@ fn room(frame: &Frame, role: Role) -> usize
 
 /// How many words a point's procedure has taken where the point returns; `None` where it doesn't.
 fn words_taken<C: Code>(alloc: Global, program: &C, point: &Point) -> Result<Option<u32>, Stop>
-    ensures returns { IfOk result (λ r. IfSome r (Returns (C.code program.now) point.now.procedure point.now.at point.now.frame)) }
+    ensures returns { IfOk result (λ r.
+        IfSome r (Returns (C.code program.now) point.now.procedure point.now.at point.now.frame)) }
     ensures none { IfOk result (λ r. IfNone r ((taken : ℕ)
         → Returns (C.code program.now) point.now.procedure point.now.at point.now.frame taken → ⊥)) }
 {

@@ -5,9 +5,7 @@ ghost use Rattle.flow80.specs.Faults.{Holds, Recurs};
 ghost use Rattle.verify80.specs.Looking.{code_of};
 ghost use Rattle.explain80.specs.declared.fault.Unexplained.TheVariants.{NotShown};
 ghost use Rattle.explain80.specs.Shows.{ByRing, Shows};
-ghost use Rattle.explain80.specs.Sought.{IsEvidence, IsNotShown, IsOfNoWay, NoWalksShow, ShowsSought};
-ghost use Rattle.explain80.specs.Search.{IsSound};
-ghost use Rattle.flow80.specs.Code.{Code as CodeSeen};
+ghost use Rattle.explain80.specs.Sought.{IsNotShown, IsOfNoWay, NoWalksShow, ShowsSought};
 
 use crate::explanation::Explanation;
 use crate::fault::Unexplained;

@@ -1,13 +1,13 @@
 //! The ring of calls that shows a recursion, in a search.
 
-ghost use Rattle.std.specs.Prelude.{◌≡◌, ℕ, IfNone, IfOk, IfSome, length};
+ghost use Rattle.std.specs.Prelude.{IfNone, IfOk, IfSome, length};
 ghost use Rattle.flow80.specs.Code.{Code as CodeSeen};
 ghost use Rattle.explain80.specs.Search.{AreOrdered, CallersAreThere, IsSound};
 ghost use Rattle.explain80.specs.Known.{AreKnown, HasNoRing};
 ghost use Rattle.explain80.specs.Shows.{ByRing};
 
 use crate::explanation::Explanation;
-use crate::ring::ring_from;
+use crate::ring::{follow_from, ring_by};
 use crate::route::Call;
 use crate::search::Search;
 use std::alloc::{AllocError, Global};
@@ -45,10 +45,13 @@ impl Search {
             → ByRing code at shown)) }
     {
         let known = self.known_calls(alloc)?;
+        // (All calls at one address have one callee, so what is reached from it is found once.)
+        let mut reached = Vec::new(alloc);
         for number in 0..self.calls.len() {
-            let first = known[number];
-            if first.at == at {
-                if let Some(ring) = ring_from(alloc, &known, first)? {
+            let call = known[number];
+            if call.at == at {
+                follow_from(alloc, &known, call, &mut reached)?;
+                if let Some(ring) = ring_by(alloc, &reached, call)? {
                     let calls = self.calls_to(alloc, self.calls[number].point)?;
                     return Ok(Some(Explanation::Ring { calls, ring }));
                 }

@@ -4,7 +4,7 @@ ghost use Rattle.std.specs.Prelude.{◌≡◌, ◌↔◌, ◌<◌, true, List, l
 ghost use Rattle.bounds80.specs.declared.procedure.Procedure.TheVariants.{Entry};
 ghost use Rattle.explain80.specs.declared.route.Call.{Call as CallSeen};
 ghost use Rattle.explain80.specs.declared.ring.Reach.{Reach as ReachSeen};
-ghost use Rattle.explain80.specs.Ring.{AreLinked, AreMarked, AreReached, EntersAt, IsEntered, IsLed, IsRingOf, NoneLeadBack};
+ghost use Rattle.explain80.specs.Ring.{AreComplete, AreLinked, AreMarked, AreReached, EntersAt, IsEntered, IsLed, IsRingOf, NoneLeadBack, ReachesFrom};
 ghost use Rattle.explain80.specs.Search.{Extends};
 
 use crate::route::Call;
@@ -23,29 +23,69 @@ pub(crate) struct Reach {
     pub(crate) from: usize,
 }
 
-/// The calls from a first one on that lead back to its procedure, that call first; `None` where none do.
+/// Makes `reached` the calls by which procedures are reached from the callee of this call on, unless that is what it is.
 ///
 /// # Errors
 /// `AllocError` where memory runs out.
-pub(crate) fn ring_from(
+pub(crate) fn follow_from(
     alloc: Global,
     calls: &[Call],
-    first: Call,
-) -> Result<Option<Vec<Call>>, AllocError>
+    call: Call,
+    reached: &mut Vec<Reach>,
+) -> Result<(), AllocError>
+    requires known { Contains calls.now call }
+    requires complete { AreComplete calls.now reached.old.items }
+    ensures { OnOk result (ReachesFrom calls.now call.target reached.new.items) }
+{
+    let begun = match reached.first() {
+        Some(reach) => reach.call.target == call.target,
+        None => false,
+    };
+    if !begun {
+        *reached = reach_from(alloc, calls, call)?;
+    }
+    Ok(())
+}
+
+/// The calls by which procedures are reached from a first call on, that call first: one for each procedure to which calls lead.
+///
+/// # Errors
+/// `AllocError` where memory runs out.
+fn reach_from(alloc: Global, calls: &[Call], first: Call) -> Result<Vec<Reach>, AllocError>
     requires { Contains calls.now first }
-    ensures ring { IfOk result (λ ring. IfSome ring (λ ring. IsRingOf calls.now first ring.items)) }
-    ensures none { IfOk result (λ ring. IfNone ring (NoneLeadBack calls.now first)) }
+    ensures { IfOk result (λ reached. ReachesFrom calls.now first.target reached.items) }
 {
     let mut entered = table(alloc, false, ADDRESSES)?;
     let mut reached = start(alloc, first)?;
     let mut number = 0;
     while number < reached.len() {
         let target = reached[number].call.target;
-        if is_of(first, target) {
-            return Ok(Some(calls_back(alloc, &reached, number)?));
-        }
         enter_callees(calls, number, target, &mut entered, &mut reached)?;
         number += 1;
+    }
+    Ok(reached)
+}
+
+/// The calls from this one on that lead back to its procedure, this call first; `None` where none do. `reached` are the calls by
+/// which procedures are reached from its callee on.
+///
+/// # Errors
+/// `AllocError` where memory runs out.
+pub(crate) fn ring_by(
+    alloc: Global,
+    reached: &[Reach],
+    call: Call,
+) -> Result<Option<Vec<Call>>, AllocError>
+    requires { AreLinked reached.now }
+    ensures ring { IfOk result (λ ring. IfSome ring (λ ring. (calls : List CallSeen)
+        → ReachesFrom calls call.target reached.now → Contains calls call → IsRingOf calls call ring.items)) }
+    ensures none { IfOk result (λ ring. IfNone ring ((calls : List CallSeen)
+        → ReachesFrom calls call.target reached.now → NoneLeadBack calls call)) }
+{
+    for number in 0..reached.len() {
+        if is_of(call, reached[number].call.target) {
+            return Ok(Some(calls_back(alloc, reached, number, call)?));
+        }
     }
     Ok(None)
 }
@@ -106,21 +146,26 @@ fn is_of(call: Call, target: u16) -> bool
     }
 }
 
-/// The calls from the first one to the one of this number.
-fn calls_back(alloc: Global, reached: &[Reach], number: usize) -> Result<Vec<Call>, AllocError>
+/// The calls from this one on to the one of a number, in place of the first one, which has the same callee.
+fn calls_back(
+    alloc: Global,
+    reached: &[Reach],
+    number: usize,
+    call: Call,
+) -> Result<Vec<Call>, AllocError>
     requires linked { AreLinked reached.now }
     requires there { number < length reached.now }
-    ensures { IfOk result (λ back. (calls : List CallSeen) (first : CallSeen) (last : ReachSeen)
-        → AreReached calls first reached.now → Contains calls first → slice_get reached.now number ≡ Some last
-        → IsLed calls first back.items (Entry last.call.target)) }
+    ensures { IfOk result (λ back. (calls : List CallSeen) (last : ReachSeen)
+        → ReachesFrom calls call.target reached.now → Contains calls call → slice_get reached.now number ≡ Some last
+        → IsLed calls call back.items (Entry last.call.target)) }
 {
     let mut back = Vec::new(alloc);
     let mut at = number;
-    back.push(reached[at].call)?;
     while at > 0 {
-        at = reached[at].from;
         back.push(reached[at].call)?;
+        at = reached[at].from;
     }
+    back.push(call)?;
     back.reverse();
     Ok(back)
 }

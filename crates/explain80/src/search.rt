@@ -98,7 +98,8 @@ impl Search {
 
     /// Adds the start of a procedure that is called.
     fn enter(&mut self, alloc: Global, call: CallingPoint) -> Result<(), AllocError>
-        ensures { OnOk result (IsAdded self.old self.new (point_of (Entry call.target) call.target entry_frame) (Enters call.point)) }
+        ensures { OnOk result (IsAdded self.old self.new (point_of (Entry call.target) call.target entry_frame)
+            (Enters call.point)) }
     {
         let start = Point {
             procedure: Procedure::Entry(call.target),
@@ -157,7 +158,8 @@ impl Search {
         ensures grows { OnOk result (Grows (C.code program.now) self.old self.new) }
         ensures exits { OnOk result (self.new.exits.items ≡ self.old.exits.items) }
         ensures calls { OnOk result (self.new.calls.items ≡ self.old.calls.items) }
-        ensures back { OnOk result (BacksFrom (C.code program.now) self.old.points.keys self.new.points.keys self.old.exits.items (length self.old.exits.items) call) }
+        ensures back { OnOk result (BacksFrom (C.code program.now) self.old.points.keys self.new.points.keys
+            self.old.exits.items (length self.old.exits.items) call) }
     {
         for k in 0..self.exits.len() {
             let exit = self.exits[k];
@@ -266,7 +268,8 @@ impl Search {
         ensures there { OnOk result (Has self.new.points.keys (point_of (Entry call.target) call.target entry_frame)) }
         ensures exits { OnOk result (self.new.exits.items ≡ self.old.exits.items) }
         ensures calls { OnOk result (self.new.calls.items ≡ self.old.calls.items ++ call ∷ []) }
-        ensures back { OnOk result (BacksFrom (C.code program.now) self.old.points.keys self.new.points.keys self.old.exits.items (length self.old.exits.items) call) }
+        ensures back { OnOk result (BacksFrom (C.code program.now) self.old.points.keys self.new.points.keys
+            self.old.exits.items (length self.old.exits.items) call) }
     {
         self.enter(alloc, call)?;
         self.note_call(call)?;

@@ -2,13 +2,13 @@ use Rattle.std.specs.Prelude.{◌≡◌, ◌<◌, List, length, slice_get, Some}
 use Rattle.bounds80.specs.declared.procedure.Procedure.TheVariants.{Entry}
 use Rattle.explain80.specs.declared.route.Call.{Call}
 use Rattle.explain80.specs.declared.ring.Reach.{Reach}
-use Rattle.explain80.specs.Ring.{AreReached, IsLedBack}
+use Rattle.explain80.specs.Ring.{IsLedBack, ReachesFrom}
 use Rattle.explain80.proofs.ring.calls_back.Given as goal
 
 abbrev pub invariant-loop-at : goal.invariant-loop-at
 invariant-loop-at l = record {
   there : l.at < length l.reached;
-  led : (calls : List Call) (first : Call) (last : Reach) → AreReached calls first l.reached → slice_get l.reached l.number ≡ Some last → IsLedBack calls l.reached l.at l.back.items (Entry last.call.target);
+  led : (calls : List Call) (last : Reach) → ReachesFrom calls l.call.target l.reached → slice_get l.reached l.number ≡ Some last → IsLedBack calls l.reached l.at l.back.items (Entry last.call.target);
 }
 
 abbrev pub decreases-loop-at : goal.decreases-loop-at

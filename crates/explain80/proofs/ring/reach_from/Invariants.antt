@@ -1,14 +1,14 @@
 use Rattle.std.specs.Prelude.{◌≡◌, ◌<◌, ◌-◌, ℕ, length}
 use Rattle.explain80.specs.Ring.{AreMarked, AreReached, IsEntered, IsFollowed}
-use Rattle.explain80.proofs.ring.ring_from.Given as goal
+use Rattle.explain80.proofs.ring.reach_from.Given as goal
 
 abbrev pub invariant-loop-number : goal.invariant-loop-number
 invariant-loop-number l = record {
   table : length l.entered.items ≡ 65536;
-  reached : AreReached l.calls l.first l.reached.items;
-  begun : IsEntered l.reached.items l.first.target;
+  reached : AreReached l.calls l.fn.first l.reached.items;
+  begun : IsEntered l.reached.items l.fn.first.target;
   marked : AreMarked l.entered.items l.reached.items;
-  followed : (n : ℕ) → n < l.number → n < length l.reached.items → IsFollowed l.calls l.first l.reached.items n;
+  followed : (n : ℕ) → n < l.number → n < length l.reached.items → IsFollowed l.calls l.reached.items n;
 }
 
 -- (a Vec has fewer elements)
