@@ -6,7 +6,8 @@ use Rattle.image80.specs.Image.{PlacedBytes, covers, byte_of}
 -- the memory with the chunk's bytes at their addresses, and every other byte as it was
 pub record Holds (before : List ℕ) (chunk : PlacedBytes) (after : List ℕ) : Type 0 where
   pub whole : length after ≡ length before
-  pub bytes : (address : ℕ) → slice_index after address ≡ (if covers chunk address then byte_of chunk address else slice_index before address)
+  pub bytes : (address : ℕ) →
+      slice_index after address ≡ (if covers chunk address then byte_of chunk address else slice_index before address)
 
 -- so many bytes, and each is 0
 pub record AreZeros (bytes : List ℕ) (count : ℕ) : Type 0 where

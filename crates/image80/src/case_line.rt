@@ -1,6 +1,6 @@
 ghost use Rattle.std.specs.Prelude.{◌≡◌, ◌≢◌, ◌<◌, ℕ, List, [], ◌∷◌, ◌++◌, length, All, IsTrue, IfOk, IfSome, IfNone};
 ghost use Rattle.decode80.specs.Text.{word_text};
-ghost use Rattle.image80.specs.Case.{DeclaredCase, IsCase, is_target};
+ghost use Rattle.image80.specs.Case.{DeclaredCase};
 ghost use Rattle.image80.specs.CaseLine.{IsCaseLine};
 ghost use Rattle.image80.specs.Reading.{IsCaseOf};
 ghost use Rattle.image80.specs.RegionsText.{case_text, targets_text};

@@ -1,8 +1,7 @@
 //! The reader of regions texts.
 
-ghost use Rattle.std.specs.Prelude.{◌≡◌, ◌≢◌, ◌∷◌, ℕ, List, [], true, false, ◌==◌, map, All, IfOk, IfErr, OnOk, IfSome, IfNone, slice_get};
+ghost use Rattle.std.specs.Prelude.{◌≡◌, ◌∷◌, ℕ, List, [], true, false, ◌==◌, map, IfOk, IfErr, OnOk, IfSome, IfNone, slice_get};
 ghost use Rattle.std.specs.List.{IsDistinct};
-ghost use Rattle.image80.specs.CaseLine.{IsCaseLine};
 ghost use Rattle.image80.specs.Lines.{parts};
 ghost use Rattle.image80.specs.Reading.{AreCasesOf, is_seen};
 ghost use Rattle.image80.specs.RegionsText.{heading, code_ranges, data_ranges, stack_ranges, case_lines, entry_text, GoodText, IsProper, Spells, Refuses};

@@ -1,5 +1,5 @@
-//! What was lent for writing is as it was where memory runs out, and what was handed over is handed back. With memory each of these tests
-//! shows the call that is done; with each allocation refused in turn (`make faults`) the one that isn't.
+//! What was lent for writing is as it was where memory runs out, and what was handed over is handed back. With memory each of
+//! these tests shows the call that is done; with each allocation refused in turn (`make faults`) the one that isn't.
 
 use image80::{
     Image, Regions, RegionsFault, migrate_regions, read_regions, write_regions, write_regions2,

@@ -1,5 +1,5 @@
-//! Modules, files and records of many parts, as many as files allow: more than 255, 1,000 and 65,535 of them. What the program makes of
-//! many parts is in its tests.
+//! Modules, files and records of many parts, as many as files allow: more than 255, 1,000 and 65,535 of them. What the program
+//! makes of many parts is in its tests.
 
 use omf_body::{
     Cursor, ExternalEntry, Field, FieldFault, NameBytes, OffsetEntry, PublicEntry, SegmentEntry,

@@ -40,4 +40,5 @@ field_byte Both = 3
 abbrev pub read_field : List ℕ → Result (Field × List ℕ) FieldFault
 read_field [] = Err BadBody
 read_field (byte ∷ rest) =
-    if byte == 1 then Ok (Low, rest) else (if byte == 2 then Ok (High, rest) else (if byte == 3 then Ok (Both, rest) else Err BadBody))
+    if byte == 1 then Ok (Low, rest)
+    else (if byte == 2 then Ok (High, rest) else (if byte == 3 then Ok (Both, rest) else Err BadBody))

@@ -85,5 +85,7 @@ FaultsBody _ bytes f = ⊥
 
 -- the first fault of a record: its type byte is that of no body, or its body has a fault
 pub data FirstFault : ℕ → List ℕ → BodyFault → Type 0 where
-  unknown : (type_byte : ℕ) (bytes : List ℕ) → ((body : Body) → kind_byte (body_kind body) ≢ type_byte) → FirstFault type_byte bytes (fault.UnknownKind type_byte)
-  in_body : (kind : RecordKind) (bytes : List ℕ) (f : FieldFault) → FaultsBody kind bytes f → FirstFault (kind_byte kind) bytes (fault_of kind f)
+  unknown : (type_byte : ℕ) (bytes : List ℕ) → ((body : Body) → kind_byte (body_kind body) ≢ type_byte) →
+      FirstFault type_byte bytes (fault.UnknownKind type_byte)
+  in_body : (kind : RecordKind) (bytes : List ℕ) (f : FieldFault) → FaultsBody kind bytes f →
+      FirstFault (kind_byte kind) bytes (fault_of kind f)

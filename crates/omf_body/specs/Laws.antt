@@ -12,11 +12,13 @@ OneBody = (type_byte : ℕ) (bytes : List ℕ) (b c : Body) → Spells type_byte
 
 -- No bytes have two first faults.
 abbrev pub OneFault : Type 0
-OneFault = (type_byte : ℕ) (bytes : List ℕ) (f g : BodyFault) → FirstFault type_byte bytes f → FirstFault type_byte bytes g → f ≡ g
+OneFault = (type_byte : ℕ) (bytes : List ℕ) (f g : BodyFault) → FirstFault type_byte bytes f → FirstFault type_byte bytes g →
+    f ≡ g
 
 -- No bytes that spell a body have a fault.
 abbrev pub NeverBoth : Type 0
-NeverBoth = (type_byte : ℕ) (bytes : List ℕ) (b : Body) (f : BodyFault) → Spells type_byte bytes b → FirstFault type_byte bytes f → ⊥
+NeverBoth = (type_byte : ℕ) (bytes : List ℕ) (b : Body) (f : BodyFault) → Spells type_byte bytes b →
+    FirstFault type_byte bytes f → ⊥
 
 -- The bytes that are written of a sound body spell it.
 abbrev pub WrittenIsSpelled : Type 0

@@ -187,7 +187,8 @@ pub fn parse<'a>(source: Record<'a>) -> Result<Body<'a>, BodyFault>
 
     // Each refusal has its cause, and it is the first.
     ensures fault { IfErr result (λ fault. FirstFault source.entry.kind source.entry.body.now fault) }
-    ensures every_fault { (fault : BodyFaultValue) → FirstFault source.entry.kind source.entry.body.now fault → result ≡ Err fault }
+    ensures every_fault { (fault : BodyFaultValue) → FirstFault source.entry.kind source.entry.body.now fault →
+        result ≡ Err fault }
 {
     let Some(kind) = RecordKind::from_byte(source.kind) else {
         return Err(BodyFault::UnknownKind(source.kind));

@@ -12,7 +12,7 @@ pub struct Row<'a, E: Entry> {
 }
 
 impl<'a, E: Entry> Model for Row<'a, E> {
-    ghost use Rattle.std.specs.Prelude.{List, ℕ};
+    ghost use Rattle.std.specs.Prelude.{List};
     ghost use Rattle.omf_body.specs.Layouts.{SpellsRow, entries_of};
 
     ghost Value = { List E };

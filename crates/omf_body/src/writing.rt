@@ -1,7 +1,7 @@
 //! The one way in which each body is written: a whole record, appended to a file. Bytes that aren't looked at are written
 //! as 00. (8080 Object Module Formats, record formats.)
 
-ghost use Rattle.std.specs.Prelude.{◌≡◌, ◌++◌, [], IfOk, OnOk};
+ghost use Rattle.std.specs.Prelude.{◌≡◌, ◌++◌, IfOk, OnOk};
 ghost use Rattle.std.specs.List.{flat_map};
 ghost use Rattle.omf_body.specs.declared.body.Body.TheVariants as body_of;
 ghost use Rattle.omf_body.specs.Bodies.{body_bytes};
@@ -32,7 +32,8 @@ fn header_bytes(
     name: &NameBytes,
     segments: &[SegmentEntry],
 ) -> Result<Vec<u8>, AllocError>
-    ensures { IfOk result (λ made. made.items ≡ body_bytes (body_of.ModuleHeader (record { name = name.now; translator = 0; version = 0; segments = segments.now }))) }
+    ensures { IfOk result (λ made. made.items
+        ≡ body_bytes (body_of.ModuleHeader (record { name = name.now; translator = 0; version = 0; segments = segments.now }))) }
 {
     let mut body = Vec::new(alloc);
     push_name(name.bytes(), &mut body)?;
@@ -52,7 +53,8 @@ pub fn put_header(
     segments: &[SegmentEntry],
     out: &mut Vec<u8>,
 ) -> Result<(), PutFault>
-    ensures { Appends (body_of.ModuleHeader (record { name = name.now; translator = 0; version = 0; segments = segments.now })) out.old.items out.new.items result }
+    ensures { Appends (body_of.ModuleHeader
+        (record { name = name.now; translator = 0; version = 0; segments = segments.now })) out.old.items out.new.items result }
 {
     let Ok(body) = header_bytes(alloc, name, segments) else {
         return Err(PutFault::Memory);
@@ -66,7 +68,8 @@ fn content_bytes(
     offset: u16,
     bytes: &[u8],
 ) -> Result<Vec<u8>, AllocError>
-    ensures { IfOk result (λ made. made.items ≡ body_bytes (body_of.Content (record { segment = segment; offset = offset; bytes = bytes.now }))) }
+    ensures { IfOk result (λ made. made.items
+        ≡ body_bytes (body_of.Content (record { segment = segment; offset = offset; bytes = bytes.now }))) }
 {
     let mut body = Vec::new(alloc);
     body.push(segment)?;
@@ -87,7 +90,8 @@ pub fn put_content(
     bytes: &[u8],
     out: &mut Vec<u8>,
 ) -> Result<(), PutFault>
-    ensures { Appends (body_of.Content (record { segment = segment; offset = offset; bytes = bytes.now })) out.old.items out.new.items result }
+    ensures { Appends (body_of.Content
+        (record { segment = segment; offset = offset; bytes = bytes.now })) out.old.items out.new.items result }
 {
     let Ok(body) = content_bytes(alloc, segment, offset, bytes) else {
         return Err(PutFault::Memory);
@@ -96,7 +100,8 @@ pub fn put_content(
 }
 
 fn publics_bytes(alloc: Global, segment: u8, publics: &[PublicEntry]) -> Result<Vec<u8>, AllocError>
-    ensures { IfOk result (λ made. made.items ≡ body_bytes (body_of.PublicDeclarations (record { segment = segment; publics = publics.now }))) }
+    ensures { IfOk result (λ made. made.items
+        ≡ body_bytes (body_of.PublicDeclarations (record { segment = segment; publics = publics.now }))) }
 {
     let mut body = Vec::new(alloc);
     body.push(segment)?;
@@ -115,7 +120,8 @@ pub fn put_publics(
     publics: &[PublicEntry],
     out: &mut Vec<u8>,
 ) -> Result<(), PutFault>
-    ensures { Appends (body_of.PublicDeclarations (record { segment = segment; publics = publics.now })) out.old.items out.new.items result }
+    ensures { Appends (body_of.PublicDeclarations
+        (record { segment = segment; publics = publics.now })) out.old.items out.new.items result }
 {
     let Ok(body) = publics_bytes(alloc, segment, publics) else {
         return Err(PutFault::Memory);
@@ -180,7 +186,8 @@ fn external_references_bytes(
     field: Field,
     references: &[IndexEntry],
 ) -> Result<Vec<u8>, AllocError>
-    ensures { IfOk result (λ made. made.items ≡ body_bytes (body_of.ExternalReferences (record { field = field; references = references.now }))) }
+    ensures { IfOk result (λ made. made.items
+        ≡ body_bytes (body_of.ExternalReferences (record { field = field; references = references.now }))) }
 {
     let mut body = Vec::new(alloc);
     body.push(field.byte())?;
@@ -199,7 +206,8 @@ pub fn put_external_references(
     references: &[IndexEntry],
     out: &mut Vec<u8>,
 ) -> Result<(), PutFault>
-    ensures { Appends (body_of.ExternalReferences (record { field = field; references = references.now })) out.old.items out.new.items result }
+    ensures { Appends (body_of.ExternalReferences
+        (record { field = field; references = references.now })) out.old.items out.new.items result }
 {
     let Ok(body) = external_references_bytes(alloc, field, references) else {
         return Err(PutFault::Memory);
@@ -212,7 +220,8 @@ fn relocation_bytes(
     field: Field,
     references: &[OffsetEntry],
 ) -> Result<Vec<u8>, AllocError>
-    ensures { IfOk result (λ made. made.items ≡ body_bytes (body_of.Relocation (record { field = field; references = references.now }))) }
+    ensures { IfOk result (λ made. made.items
+        ≡ body_bytes (body_of.Relocation (record { field = field; references = references.now }))) }
 {
     let mut body = Vec::new(alloc);
     body.push(field.byte())?;
@@ -231,7 +240,8 @@ pub fn put_relocation(
     references: &[OffsetEntry],
     out: &mut Vec<u8>,
 ) -> Result<(), PutFault>
-    ensures { Appends (body_of.Relocation (record { field = field; references = references.now })) out.old.items out.new.items result }
+    ensures { Appends (body_of.Relocation
+        (record { field = field; references = references.now })) out.old.items out.new.items result }
 {
     let Ok(body) = relocation_bytes(alloc, field, references) else {
         return Err(PutFault::Memory);
@@ -245,7 +255,9 @@ fn intersegment_bytes(
     field: Field,
     references: &[OffsetEntry],
 ) -> Result<Vec<u8>, AllocError>
-    ensures { IfOk result (λ made. made.items ≡ body_bytes (body_of.IntersegmentReferences (record { segment = segment; field = field; references = references.now }))) }
+    ensures { IfOk result (λ made. made.items
+        ≡ body_bytes (body_of.IntersegmentReferences
+        (record { segment = segment; field = field; references = references.now }))) }
 {
     let mut body = Vec::new(alloc);
     body.push(segment)?;
@@ -266,7 +278,8 @@ pub fn put_intersegment(
     references: &[OffsetEntry],
     out: &mut Vec<u8>,
 ) -> Result<(), PutFault>
-    ensures { Appends (body_of.IntersegmentReferences (record { segment = segment; field = field; references = references.now })) out.old.items out.new.items result }
+    ensures { Appends (body_of.IntersegmentReferences
+        (record { segment = segment; field = field; references = references.now })) out.old.items out.new.items result }
 {
     let Ok(body) = intersegment_bytes(alloc, segment, field, references) else {
         return Err(PutFault::Memory);
@@ -275,7 +288,8 @@ pub fn put_intersegment(
 }
 
 fn end_bytes(alloc: Global, start: Option<Place>) -> Result<Vec<u8>, AllocError>
-    ensures { IfOk result (λ made. made.items ≡ body_bytes (body_of.ModuleEnd (record { start = start; unread = end_filling start }))) }
+    ensures { IfOk result (λ made. made.items
+        ≡ body_bytes (body_of.ModuleEnd (record { start = start; unread = end_filling start }))) }
 {
     let bytes = match start {
         None => [0, 0, 0, 0],
@@ -292,7 +306,8 @@ fn end_bytes(alloc: Global, start: Option<Place>) -> Result<Vec<u8>, AllocError>
 /// `TooLong` only where the body would have more than 65534 bytes, and then never `Ok`; `Memory` only where there is no
 /// memory. After either, `out` holds the bytes that it held.
 pub fn put_end(alloc: Global, start: Option<Place>, out: &mut Vec<u8>) -> Result<(), PutFault>
-    ensures { Appends (body_of.ModuleEnd (record { start = start; unread = end_filling start })) out.old.items out.new.items result }
+    ensures { Appends (body_of.ModuleEnd
+        (record { start = start; unread = end_filling start })) out.old.items out.new.items result }
 {
     let Ok(body) = end_bytes(alloc, start) else {
         return Err(PutFault::Memory);

@@ -1,6 +1,6 @@
 //! Records of a file that comes in pieces.
 
-ghost use Rattle.std.specs.Prelude.{◌≡◌, ◌<◌, ◌++◌, ◌⊎◌, [], None, Some, Err, IfOk, IfErr, OnOk};
+ghost use Rattle.std.specs.Prelude.{◌≡◌, ◌<◌, ◌++◌, [], None, Some, Err, IfOk, IfErr, OnOk};
 ghost use Rattle.omf_core.specs.declared.fault.RecordFault.{RecordFault as RecordFaultValue};
 ghost use Rattle.omf_core.specs.Feed.{CountsRecords, LastingRecordFault, ReadsUpTo};
 
@@ -65,11 +65,13 @@ impl Feed {
 
         // The count is that of all bytes so far, of which no fault lasts.
         ensures counted { IfOk result (λ count. CountsRecords (self.old.bytes ++ piece.now) count) }
-        ensures none_lasts { OnOk result ((fault : RecordFaultValue) → LastingRecordFault (self.old.bytes ++ piece.now) fault → ⊥) }
+        ensures none_lasts { OnOk result ((fault : RecordFaultValue) → LastingRecordFault (self.old.bytes ++ piece.now) fault →
+            ⊥) }
 
         // A fault lasts of all bytes so far, and is kept.
         ensures fault { (fault : RecordFaultValue) → self.old.kept ≡ None → result ≡ Err (FeedFault.Record fault)
-            → LastingRecordFault (self.old.bytes ++ piece.now) fault × (self.new ≡ record { bytes = self.old.bytes; kept = Some fault }) }
+            → LastingRecordFault (self.old.bytes ++ piece.now) fault
+            × (self.new ≡ record { bytes = self.old.bytes; kept = Some fault }) }
         ensures memory { result ≡ Err FeedFault.Memory → self.new ≡ self.old }
     {
         if let Some(fault) = self.kept {

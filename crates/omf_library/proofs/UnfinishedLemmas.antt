@@ -1,5 +1,5 @@
 -- The steps of reading a library that comes in pieces.
-use Rattle.std.proofs.Common.{◌≡◌, ◌≢◌, inl, inr, ℕ, ◌+◌, ◌-◌, ◌<◌, ◌≤◌, Bool, true, false, List, [], ◌∷◌, ◌++◌, length, take, drop, Some, refl, sym, ap, subst, ◌∙◌, arith, append_assoc}
+use Rattle.std.proofs.Common.{◌≡◌, ◌≢◌, inl, inr, ℕ, ◌+◌, ◌-◌, ◌<◌, Bool, true, false, List, [], ◌∷◌, ◌++◌, length, take, drop, Some, refl, sym, ap, subst, ◌∙◌, arith}
 use Rattle.std.specs.List.{All}
 use Rattle.std.proofs.lemmas.Bool.Decides.{eqb_tells}
 use Rattle.std.proofs.lemmas.List.{append-nil}
@@ -24,10 +24,10 @@ use Rattle.omf_library.specs.declared.unfinished.Progress.{Progress}
 use Rattle.omf_library.specs.declared.unfinished.Progress.TheVariants.{Header, Modules, Index, Ended}
 use Rattle.omf_library.specs.Fault.{of_module, OrNoMemory}
 use Rattle.omf_library.specs.LibraryFeed.{LastingLibraryFault, OpenLibrary, CountsModules, in_header as counted_in_header, at_record as counted_at_record, in_module as counted_in_module, ended}
-use Rattle.omf_library.specs.Spelled.{is_index_kind, is_indexed, goes_on, is_library_header, BeginsLibrary, SpellsLibrary, no_header_record, no_header, FaultsAt, no_record, in_module, at_record, FaultsLibrary, in_header, after_header}
+use Rattle.omf_library.specs.Spelled.{is_index_kind, is_indexed, goes_on, is_library_header, BeginsLibrary, no_header_record, no_header, FaultsAt, no_record, in_module, at_record, FaultsLibrary, in_header, after_header}
 use Rattle.omf_library.specs.Unfinished.{ReadsModules, ReadsIndexed, ReadsTo, WaitsTo, left_after, ReadsFurther, ReadsAll, Extends, OtherRecord, HeaderStands, LastingHeaderFault, LastingFaultAt, LeadsTo, LeadsNowhere, FaultsWhereCut, no_end_in_module}
 use Rattle.omf_library.proofs.ReadingLemmas.{modules_push, module_further, other_is, all_with}
-use Rattle.omf_library.proofs.FeedLemmas.{Stay, open_stays, open_inside, whole_is_inside, more_inside, record_fault_stays, record_cut, module_cut}
+use Rattle.omf_library.proofs.FeedLemmas.{Stay, open_stays, whole_is_inside, more_inside, record_fault_stays, record_cut, module_cut}
 
 -- ---- faults that last
 
@@ -111,16 +111,6 @@ next_begins bytes said after ms next begin here none o = record {
   next_module = inl (here ∙ sym begin, none);
 }
 
-pub header_leads : (bytes : List ℕ) (said first : ℕ) (ms : List ModuleValue) (next : UnfinishedModule) → next.begin ≡ first
-    → next.here ≡ first → next.commons.items ≡ [] → ms ≡ []
-    → BeginsLibrary bytes first said → ReadsFurther bytes (length bytes + 2) ms next (Modules said)
-header_leads bytes said first ms next begin here none empty b = record {
-  reads = next_begins bytes said first ms next begin here none
-      (subst (λ (l : List ModuleValue). OpenLibrary bytes said first first l []) (sym empty)
-      (record { first = first; begins = b; spelled = refl; indexed = record { spelled = refl; kinds = refl } }));
-  further = omega arith;
-}
-
 pub one_module_more : (bytes : List ℕ) (said after : ℕ) (ms : List ModuleValue) (m : ModuleValue) (old next : UnfinishedModule)
     → next.begin ≡ after → next.here ≡ after → next.commons.items ≡ []
     → ReadsModules bytes said ms old → SpellsModule bytes old.begin after m
@@ -199,62 +189,19 @@ pub indexed_leads : ListGrows
 indexed_leads law bytes said at after kind found body ms next p r s all x =
     leads_to law bytes said r.index at after kind found body ms r.records next p r.so_far s all x
 
-pub modules_inside_bytes : (bytes : List ℕ) (said : ℕ) (ms : List ModuleValue) (next : UnfinishedModule)
-    → ReadsModules bytes said ms next → next.begin ≤ length bytes
-modules_inside_bytes bytes said ms next r = open_inside bytes said next.begin next.begin ms [] r.so_far
-
--- a module that is read further, where it isn't whole
-pub still_reads : (bytes : List ℕ) (said : ℕ) (ms : List ModuleValue) (old next : UnfinishedModule)
-    → ReadsModules bytes said ms old → next.begin ≡ old.begin
-    → ReadsModule bytes old.begin next.here next.commons.items → ReadsModules bytes said ms next
-still_reads bytes said ms old next r same m = record {
-  so_far = subst (λ (a : ℕ). OpenLibrary bytes said a a ms []) (sym same) r.so_far;
-  next_module = subst (λ (a : ℕ). ReadsModule bytes a next.here next.commons.items) (sym same) m;
-}
-
 -- a module of which more than nothing is read is begun
 pub is_begun : (bytes : List ℕ) (begin here : ℕ) (commons : List Common) → ReadsModule bytes begin here commons → here ≢ begin
     → BegunModule bytes begin here commons
 is_begun bytes begin here commons (inl n) other = absurd (other n.0)
 is_begun bytes begin here commons (inr b) other = b
 
-pub begun_header : (bytes : List ℕ) (begin here : ℕ) (commons : List Common) → BegunModule bytes begin here commons
-    → HeaderStands bytes begin
-begun_header bytes begin here commons b = record { next = b.first; body = _; spelled = b.begins.framed }
-
 -- ---- modules so far
-
-pub same_list : (ms : List ModuleValue) → Extends ms ms
-same_list ms = record { added = []; is = sym (append-nil ms) }
 
 pub same_as : (old new : List ModuleValue) → new ≡ old → Extends old new
 same_as old new e = record { added = []; is = e ∙ sym (append-nil old) }
 
-pub extends_by : (old new : List ModuleValue) (m : ModuleValue) → new ≡ old ++ m ∷ [] → Extends old new
-extends_by old new m e = record { added = m ∷ []; is = e }
-
-pub extends_on : (a b c : List ModuleValue) → Extends a b → Extends b c → Extends a c
-extends_on a b c x y = record {
-  added = x.added ++ y.added;
-  is = y.is ∙ ap (λ (l : List ModuleValue). l ++ y.added) x.is
-      ∙ append_assoc a x.added y.added;
-}
-
 pub taken_back : (old new : List ModuleValue) (n : ℕ) → Extends old new → n ≡ length old → take n new ≡ old
 taken_back old new n x size = ap (take n) x.is ∙ (ap (λ (k : ℕ). take k (old ++ x.added)) size ∙ take-append_seam old x.added)
-
--- what was read of some bytes is read of them where a module that was unfinished is read from its begin
-pub forgotten : (bytes : List ℕ) (old new : List ModuleValue) (before after : UnfinishedModule) (p : Progress) → new ≡ old
-    → after.begin ≡ before.begin → after.here ≡ before.begin
-    → after.commons.items ≡ [] → ReadsTo bytes old before p → ReadsTo bytes new after p
-forgotten bytes old new before after Header same begin here none r = same ∙ r
-forgotten bytes old new before after (Modules said) same begin here none r =
-    subst (λ (ms : List ModuleValue). ReadsModules bytes said ms after) (sym same)
-    (next_begins bytes said before.begin old after begin here none r.so_far)
-forgotten bytes old new before after (Index said at) same begin here none r =
-    subst (λ (ms : List ModuleValue). ReadsIndexed bytes said at ms) (sym same) r
-forgotten bytes old new before after Ended same begin here none r =
-    subst (λ (ms : List ModuleValue). SpellsLibrary bytes ms) (sym same) r
 
 -- ---- where no more bytes come
 

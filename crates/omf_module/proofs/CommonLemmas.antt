@@ -26,10 +26,6 @@ pub record CommonsSoFar (before : List Common) (bytes : List ℕ) (now : List Co
   pub new : IsTrue (each_after is_new_common before (map common_of front))
   pub later_fault : (fault : FieldFault) → FaultsCommons now rest fault → FaultsCommons before bytes fault
 
-pub none_taken : (before : List Common) (bytes : List ℕ) → CommonsSoFar before bytes before bytes
-none_taken before bytes =
-    record { front = []; joined = refl; sound = refl; all = sym (append-nil before); new = refl; later_fault = λ fault f. f }
-
 pub one_taken : (before : List Common) (bytes : List ℕ) (now : List Common) (rest after : List ℕ) (e : CommonEntry)
     → CommonsSoFar before bytes now rest
     → read_new_common now rest ≡ Ok (common_of e, after)

@@ -11,7 +11,6 @@ use Rattle.omf_core.specs.Record.{fault_at, is_truncated, has_zero_length, has_z
 use Rattle.omf_core.specs.Laws.{RecordsStay, OtherFaultsStay, TruncatedCanBeSpoilt}
 use Rattle.omf_body.specs.declared.body.Body.{Body}
 use Rattle.omf_body.specs.declared.body.EndBody.{EndBody}
-use Rattle.omf_body.specs.declared.body.HeaderBody.{HeaderBody}
 use Rattle.omf_body.specs.declared.body.Body.TheVariants.{ModuleHeader, ModuleEnd}
 use Rattle.omf_parts.specs.Modules.{made_of}
 use Rattle.omf_parts.specs.declared.symbols.Common.{Common}
@@ -175,11 +174,6 @@ goes_further bytes begin here next before after body b f other =
       declared = w.declared;
     }
 
-pub begun_at : (bytes : List ℕ) (begin first : ℕ) (header : HeaderBody) → SpellsBody bytes begin first (ModuleHeader header)
-    → BegunModule bytes begin first []
-begun_at bytes begin first header x =
-    record { first = first; header = header; bodies = []; begins = x; spelled = refl; follow = refl; declared = refl }
-
 uses_last : Stay → OneFault → NeverBoth
     → (bytes : List ℕ) (begin : ℕ) (f : ModuleFault) (w : WholeModule bytes begin) (o : Option ModuleFault)
     → use_fault w.records ≡ o → FaultsModule bytes begin f → LastingModuleFault bytes begin f
@@ -205,11 +199,6 @@ pub begun_further : (bytes : List ℕ) (begin here : ℕ) (commons : List Common
     → begin < here
 begun_further bytes begin here commons b =
     omega (arith, b.begins.framed.all_counted, bodies_forward bytes b.first here b.bodies b.spelled)
-
-pub is_begun : (bytes : List ℕ) (begin here : ℕ) (commons : List Common) → ReadsModule bytes begin here commons
-    → (here ≡ begin → ⊥) → BegunModule bytes begin here commons
-is_begun bytes begin here commons (inl n) other = absurd (other n.0)
-is_begun bytes begin here commons (inr b) other = b
 
 pub none_declared : (bytes : List ℕ) (begin here : ℕ) (commons : List Common) → ReadsModule bytes begin here commons
     → here ≡ begin → commons ≡ []

@@ -1,5 +1,5 @@
 -- What records use is looked at one after another.
-use Rattle.std.proofs.Common.{◌≡◌, ◌≢◌, ℕ, ◌<◌, ◌≤◌, ◌+◌, Bool, true, false, Option, Some, None, Result, Ok, Err, List, [], ◌∷◌, ◌++◌, length, map, drop, get_or, refl, sym, ap, subst, ◌∙◌, append_assoc}
+use Rattle.std.proofs.Common.{◌≡◌, ◌≢◌, ℕ, ◌<◌, ◌≤◌, ◌+◌, Bool, true, false, Option, Some, None, Result, Ok, Err, List, [], ◌∷◌, ◌++◌, length, drop, get_or, refl, sym, ap, subst, ◌∙◌, append_assoc}
 use Rattle.std.specs.Prelude.{if◌then◌else◌, option_map, IfOk, IfErr, OnOk}
 use Rattle.std.specs.Option.{option_or, option_to_list}
 use Rattle.std.proofs.lemmas.List.{append-nil, drop_all, drop_more}
@@ -9,7 +9,6 @@ use Rattle.omf_body.specs.declared.body.Body.TheVariants.{Content}
 use Rattle.omf_module.specs.declared.fault.Cause.{Cause}
 use Rattle.omf_module.specs.declared.fault.Cause.TheVariants.{SegmentUnknown, Memory}
 use Rattle.omf_module.specs.declared.module_file.PlacedBody.{PlacedBody}
-use Rattle.omf_parts.specs.declared.segment.Segment.{Segment}
 use Rattle.omf_module.specs.Fault.{fault_of}
 use Rattle.omf_parts.specs.Contents.{ContentValue}
 use Rattle.omf_parts.specs.Modules.{ModuleValue}
@@ -55,9 +54,6 @@ pub record ContentsSoFar (parts : ModuleValue) (all : List PlacedBody) (rest : L
       → bodies_fault (with_contents parts cs) nearest rest ≡ bodies_fault (with_contents parts cs) None all
   pub contents : whole ++ contents_from nearest rest ≡ contents_from None all
 
-pub none_looked_at : (parts : ModuleValue) (all : List PlacedBody) → ContentsSoFar parts all all None []
-none_looked_at parts all = record { sound = λ cs. refl; contents = refl }
-
 pub one_looked_at : (parts : ModuleValue) (all : List PlacedBody) (p : PlacedBody) (ps : List PlacedBody)
     (nearest after : Option ContentValue) (old new : List ContentValue)
     → ContentsSoFar parts all (p ∷ ps) nearest old → TakesBody parts nearest p.body old new after
@@ -91,12 +87,6 @@ fault_here parts all p ps nearest old why s f =
 pub front : (all : List PlacedBody) (i : ℕ) (p : PlacedBody) → i < length all → p ≡ get_or all i p
     → drop i all ≡ p ∷ drop (i + 1) all
 front all i p within is = drop_more all i p within ∙ ap (λ (q : PlacedBody). q ∷ drop (i + 1) all) (sym is)
-
-pub front_entry : (all : List (ℕ × Segment)) (i : ℕ) (e : ℕ × Segment) → i < length all → e ≡ get_or all i e
-    → map (λ s. s.0) (drop i all) ≡ e.0 ∷ map (λ s. s.0) (drop (i + 1) all)
-front_entry all i e within is =
-    ap (λ (l : List (ℕ × Segment)). map (λ s. s.0) l) (drop_more all i e within
-    ∙ ap (λ (q : ℕ × Segment). q ∷ drop (i + 1) all) (sym is))
 
 -- a record's own ids and place come before its references
 pub own_first : (ids place reference : Option Cause) (why : Cause) → Some why ≡ option_or ids place

@@ -15,7 +15,7 @@ use Rattle.omf_parts.specs.declared.symbols.Common.{Common}
 use Rattle.omf_module.specs.Fault.{fault_of}
 use Rattle.omf_module.specs.Records.{SpellsBody, SpellsBodies, commons_in, commons_of, may_follow, each_follows}
 use Rattle.omf_module.specs.Uses.{fault_by}
-use Rattle.omf_module.specs.Spelled.{FaultsWithin, FaultsRecords, FaultsModule, in_records}
+use Rattle.omf_module.specs.Spelled.{FaultsRecords, FaultsModule, in_records}
 use Rattle.omf_module.specs.Reading.{Follows, is_end, OrNoMemory}
 
 abbrev placed : ℕ → Body → PlacedBody
@@ -47,9 +47,6 @@ pub record WithinSoFar (bytes : List ℕ) (first here : ℕ) (bodies : List Plac
   pub follow : IsTrue (each_follows [] bodies)
   pub declared : commons ≡ commons_of bodies
 
-pub none_within : (bytes : List ℕ) (first : ℕ) → WithinSoFar bytes first first [] []
-none_within bytes first = record { spelled = refl; follow = refl; declared = refl }
-
 not_ended : (before : List Common) (b : Body) → is_end b ≢ true → (IsTrue (is_end b) ⊎ IsTrue (may_follow before b))
     → may_follow before b ≡ true
 not_ended before b other (inl e) = absurd (other e)
@@ -70,14 +67,6 @@ pub by_cause : (P : ModuleFault → Type 0) (here : ℕ) (why : Cause) → (why 
     → OrNoMemory P (fault_of here why)
 by_cause P here Memory is = inl refl
 by_cause P here _ is = inr (is (λ e. absurd cc))
-
-pub records_fault : (bytes : List ℕ) (first here : ℕ) (bodies : List PlacedBody) (commons : List Common) (why : Cause)
-    → WithinSoFar bytes first here bodies commons → (why ≢ Memory → FaultsWithin bytes here commons why)
-    → OrNoMemory (FaultsRecords bytes first) (fault_of here why)
-records_fault bytes first here bodies commons why s f =
-    by_cause (FaultsRecords bytes first) here why (λ real.
-    let faults = subst (λ (c : List Common). FaultsWithin bytes here c why) s.declared (f real) in
-    record { here = here; before = bodies; why = why; spelled = s.spelled; follow = s.follow; faults = faults; is = refl })
 
 pub other_than_end : (b : Body) → ((end : EndBody) → b ≡ ModuleEnd end → ⊥) → is_end b ≢ true
 other_than_end (ModuleEnd b) other = absurd (other b refl)

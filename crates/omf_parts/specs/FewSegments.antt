@@ -12,7 +12,8 @@ length-cons_option (Some x) xs n few = omega (arith, few)
 entries_few : (e : List (ℕ × Segment)) (c : List Common) (ids : List ℕ) → length (entries_for e c ids) ≤ length ids
 unfolding entries_for
 entries_few e c [] = omega arith
-entries_few e c (i ∷ is) = omega (arith, length-cons_option (entry_for e c i) (entries_for e c is) (length is) (entries_few e c is))
+entries_few e c (i ∷ is) =
+    omega (arith, length-cons_option (entry_for e c i) (entries_for e c is) (length is) (entries_few e c is))
 
 ids_few : length listed_ids ≤ 255
 unfolding listed_ids

@@ -17,8 +17,13 @@ pub record SoundParts (m : ModuleValue) : Type 0 where
 
 pub sound_parts : (m : ModuleValue) → is_sound m ≡ true → SoundParts m
 sound_parts m sound =
-    let c = and_parts (each_after is_new_common [] m.commons && list_all (λ q. has_segment m.commons q.segment) m.publics && list_all (is_content m.segments m.commons (length m.externals)) m.contents) (is_start m.commons m.start) sound in
-    let b = and_parts (each_after is_new_common [] m.commons && list_all (λ q. has_segment m.commons q.segment) m.publics) (list_all (is_content m.segments m.commons (length m.externals)) m.contents) c.0 in
+    let c = and_parts
+    (each_after is_new_common [] m.commons && list_all (λ q. has_segment m.commons q.segment) m.publics
+    && list_all (is_content m.segments m.commons (length m.externals)) m.contents)
+    (is_start m.commons m.start) sound in
+    let b = and_parts
+    (each_after is_new_common [] m.commons && list_all (λ q. has_segment m.commons q.segment) m.publics)
+    (list_all (is_content m.segments m.commons (length m.externals)) m.contents) c.0 in
     let a = and_parts (each_after is_new_common [] m.commons) (list_all (λ q. has_segment m.commons q.segment) m.publics) b.0 in
     record { commons = a.0; publics = a.1; contents = b.1; start = c.1 }
 
@@ -29,12 +34,20 @@ pub record InBoundsParts (segments : List (ℕ × Segment)) (commons : List Comm
   pub within : c.offset + length c.bytes ≤ end_of segments c.segment
   pub short : length c.bytes ≤ 65531
 
-pub in_bounds_parts : (segments : List (ℕ × Segment)) (commons : List Common) (c : ContentValue) → is_in_bounds segments commons c ≡ true → InBoundsParts segments commons c
+pub in_bounds_parts : (segments : List (ℕ × Segment)) (commons : List Common) (c : ContentValue) →
+    is_in_bounds segments commons c ≡ true → InBoundsParts segments commons c
 in_bounds_parts segments commons c placed =
     let a = and_parts (lies_within segments commons c) (nat_le (length c.bytes) 65531) placed in
-    let b = and_parts (has_segment commons c.segment && not (c.segment == stack_id)) (nat_le (c.offset + length c.bytes) (end_of segments c.segment)) a.0 in
+    let b = and_parts
+    (has_segment commons c.segment && not (c.segment == stack_id))
+    (nat_le (c.offset + length c.bytes) (end_of segments c.segment)) a.0 in
     let d = and_parts (has_segment commons c.segment) (not (c.segment == stack_id)) b.0 in
-    record { has = d.0; not_stack = not-true (c.segment == stack_id) d.1; within = leb-true (c.offset + length c.bytes) (end_of segments c.segment) b.1; short = leb-true (length c.bytes) 65531 a.1 }
+    record {
+      has = d.0;
+      not_stack = not-true (c.segment == stack_id) d.1;
+      within = leb-true (c.offset + length c.bytes) (end_of segments c.segment) b.1;
+      short = leb-true (length c.bytes) 65531 a.1;
+    }
 
 -- a common that may follow others
 pub record NewCommon (before : List Common) (c : Common) : Type 0 where

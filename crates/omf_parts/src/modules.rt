@@ -32,9 +32,25 @@ impl Model for Module {
 
     ghost use Rattle.omf_parts.specs.Rules.{IsModule};
 
-    ghost view = { λ m. record { name = m.name; segments = m.segments.items; commons = m.commons.items; publics = m.publics.items; externals = m.externals.items; contents = m.contents.items; start = m.start } };
+    ghost view = { λ m. record {
+      name = m.name;
+      segments = m.segments.items;
+      commons = m.commons.items;
+      publics = m.publics.items;
+      externals = m.externals.items;
+      contents = m.contents.items;
+      start = m.start;
+    } };
 
-    ghost invariant = { λ m. IsModule (record { name = m.name; segments = m.segments.items; commons = m.commons.items; publics = m.publics.items; externals = m.externals.items; contents = m.contents.items; start = m.start }) };
+    ghost invariant = { λ m. IsModule (record {
+      name = m.name;
+      segments = m.segments.items;
+      commons = m.commons.items;
+      publics = m.publics.items;
+      externals = m.externals.items;
+      contents = m.contents.items;
+      start = m.start;
+    }) };
 }
 
 impl Module {

@@ -1,6 +1,6 @@
 //! The names of a module are names: their type keeps it, and a look at each of them makes it known to the proof.
 
-ghost use Rattle.std.specs.Prelude.{◌≡◌, IsTrue};
+ghost use Rattle.std.specs.Prelude.{IsTrue};
 ghost use Rattle.std.specs.List.{list_all};
 ghost use Rattle.omf_core.specs.Name.{is_name};
 ghost use Rattle.omf_parts.specs.Rules.{has_names};

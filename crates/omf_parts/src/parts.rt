@@ -22,5 +22,13 @@ impl Model for Parts {
 
     ghost Value = { ModuleValue };
 
-    ghost view = { λ p. record { name = p.name; segments = p.segments.items; commons = p.commons.items; publics = p.publics.items; externals = p.externals.items; contents = p.contents.items; start = p.start } };
+    ghost view = { λ p. record {
+      name = p.name;
+      segments = p.segments.items;
+      commons = p.commons.items;
+      publics = p.publics.items;
+      externals = p.externals.items;
+      contents = p.contents.items;
+      start = p.start;
+    } };
 }

@@ -1,6 +1,6 @@
 //! The rules of a module, tested.
 
-ghost use Rattle.std.specs.Prelude.{◌≡◌, ℕ, ◌+◌, length, IfOk};
+ghost use Rattle.std.specs.Prelude.{◌≡◌, ◌+◌, length, IfOk};
 ghost use Rattle.std.specs.List.{list_all};
 ghost use Rattle.omf_parts.specs.Segments.{has_common_id, has_segment, segment_in};
 ghost use Rattle.omf_parts.specs.Rules.{end_of, is_in_bounds, has_fitting, is_start, keeps_rules_but_for_fixups, keeps_fixup_rules};

@@ -181,13 +181,3 @@ pub test_at : {A : Type 0} (test : A → Bool) (xs : List A) (i : ℕ) (d : A) �
 test_at test [] i d all below = absurd (omega arith)
 test_at test (x ∷ xs) zero d all below = (and_parts (test x) (list_all test xs) all).0
 test_at test (x ∷ xs) (suc i) d all below = test_at test xs i d (and_parts (test x) (list_all test xs) all).1 (omega arith)
-
-pub content_above_at : (segments : List (ℕ × Segment)) (commons : List Common) (externals : ℕ) (c : ContentValue) (i : ℕ) (d : Fixup) → IsTrue (is_content segments commons externals c) →
-    i < length c.fixups → c.offset ≤ (get_or c.fixups i d).offset
-content_above_at segments commons externals c i d good below =
-    le_from_test c.offset (get_or c.fixups i d).offset (test_at (λ f. nat_le c.offset f.offset) c.fixups i d (content_above segments commons externals c good) below)
-
-pub content_target_at : (segments : List (ℕ × Segment)) (commons : List Common) (externals : ℕ) (c : ContentValue) (i : ℕ) (d : Fixup) → IsTrue (is_content segments commons externals c) →
-    i < length c.fixups → IsTrue (has_target commons externals (get_or c.fixups i d).target)
-content_target_at segments commons externals c i d good below =
-    test_at (λ f. has_target commons externals f.target) c.fixups i d (content_targets segments commons externals c good) below

@@ -29,7 +29,8 @@ placed_publics bases modules = flat_map (λ m. map (placed_public bases modules 
 
 -- what a name stands for: the place of the public that bears it, or else the word that is given for it
 abbrev pub name_word : Bases → List PlacedName → List ℕ → ℕ
-name_word bases publics name = option_map_or (λ p. p.word) (find (λ p. pointwise nat_eq p.name name) publics) (word_of bases.words name)
+name_word bases publics name =
+    option_map_or (λ p. p.word) (find (λ p. pointwise nat_eq p.name name) publics) (word_of bases.words name)
 
 -- the name of an external
 abbrev pub name_at : List (List ℕ) → ℕ → List ℕ
@@ -46,7 +47,9 @@ patch_with word first f = record { at = f.offset - first; field = f.field; word 
 
 -- in a module
 abbrev pub target_word : Bases → List ModuleValue → ℕ × ModuleValue → Target → ℕ
-target_word bases modules m = word_to (λ id. place_in bases modules m.0 m.1 id 0) (λ index. name_word bases (placed_publics bases modules) (name_at m.1.externals index))
+target_word bases modules m = word_to
+    (λ id. place_in bases modules m.0 m.1 id 0)
+    (λ index. name_word bases (placed_publics bases modules) (name_at m.1.externals index))
 
 abbrev pub patch_of : Bases → List ModuleValue → ℕ × ModuleValue → ContentValue → Fixup → Patch
 patch_of bases modules m c = patch_with (target_word bases modules m) c.offset
@@ -77,4 +80,5 @@ chunk_covers address c = nat_lt address 65536 && nat_lt (distance c.place addres
 
 abbrev pub image_byte : Bases → List ModuleValue → ℕ → ℕ
 image_byte bases modules address =
-    option_map_or (λ c. slice_index c.bytes (distance c.place address)) (last_or None (filter (chunk_covers address) (chunks_of bases modules))) 0
+    option_map_or (λ c. slice_index c.bytes (distance c.place address))
+    (last_or None (filter (chunk_covers address) (chunks_of bases modules))) 0

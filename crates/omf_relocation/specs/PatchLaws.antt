@@ -16,7 +16,8 @@ BothTwice = (w u v : ℕ) → ((w + u) % 65536 + v) % 65536 ≡ (w + (u + v) % 6
 
 -- to a high byte, where one of the two words is a multiple of 256
 abbrev pub HighTwice : Type 0
-HighTwice = (b u v : ℕ) → (u % 256 ≡ 0) ⊎ (v % 256 ≡ 0) → ((b + u / 256 % 256) % 256 + v / 256 % 256) % 256 ≡ (b + (u + v) % 65536 / 256 % 256) % 256
+HighTwice = (b u v : ℕ) → (u % 256 ≡ 0) ⊎ (v % 256 ≡ 0) →
+    ((b + u / 256 % 256) % 256 + v / 256 % 256) % 256 ≡ (b + (u + v) % 65536 / 256 % 256) % 256
 
 -- The same holds in bytes: a fixup applied with one word and then with another is applied with their sum.
 abbrev pub patch_by : Field → ℕ → ℕ → Patch
@@ -27,7 +28,8 @@ PatchedTwice =
     (field : Field) (at u v : ℕ) (bytes : List ℕ)
     → IsTrue (is_inside_bytes (length bytes) (patch_by field at u))
     → (field ≡ High → (u % 256 ≡ 0) ⊎ (v % 256 ≡ 0))
-    → with_patches (patch_by field at v ∷ []) (with_patches (patch_by field at u ∷ []) bytes) ≡ with_patches (patch_by field at ((u + v) % 65536) ∷ []) bytes
+    → with_patches (patch_by field at v ∷ []) (with_patches (patch_by field at u ∷ []) bytes)
+    ≡ with_patches (patch_by field at ((u + v) % 65536) ∷ []) bytes
 
 -- So it is for all references of a content: each is increased by a first word, and by a second one where it is still a
 -- reference then, which comes to one total.
@@ -58,4 +60,5 @@ TwoPassesAreOne =
     → IsTrue (are_inside (length bytes) (map first_patch words))
     → IsTrue (are_apart (map first_patch words))
     → AllByRecursion AddsUp words
-    → with_patches (filter_map second_patch words) (with_patches (map first_patch words) bytes) ≡ with_patches (map total_patch words) bytes
+    → with_patches (filter_map second_patch words) (with_patches (map first_patch words) bytes)
+    ≡ with_patches (map total_patch words) bytes

@@ -26,7 +26,8 @@ patched Both bytes at word i =
 
 -- the byte at a place: by the patch that has one there, and else as it is
 abbrev pub byte_with : List Patch → List ℕ → ℕ → ℕ
-byte_with patches bytes i = option_map_or (λ p. patched p.field bytes p.at p.word i) (find (patches_at i) patches) (slice_index bytes i)
+byte_with patches bytes i =
+    option_map_or (λ p. patched p.field bytes p.at p.word i) (find (patches_at i) patches) (slice_index bytes i)
 
 -- the bytes with all patches
 abbrev pub with_patches : List Patch → List ℕ → List ℕ

@@ -1,13 +1,11 @@
 -- What becomes of feeds that take all bytes of a file, piece after piece.
-use Rattle.std.specs.Prelude.{◌≡◌, ℕ, ◌<◌, List, [], length, Option, Some, None, IfSome}
-use Rattle.omf_module.specs.declared.fault.ModuleFault.{ModuleFault}
+use Rattle.std.specs.Prelude.{◌≡◌, ℕ, List, [], Option, Some, None}
 use Rattle.omf_module.specs.FileFeed.{FileFeedValue, LastingFileFault}
 use Rattle.omf_module.specs.Reading.{OrNoMemory as OrNoModuleMemory}
 use Rattle.omf_module.specs.Spelled.{SpellsFile, FaultsFile}
 use Rattle.omf_library.specs.Fault.{OrNoMemory as OrNoLibraryMemory}
 use Rattle.omf_library.specs.LibraryFeed.{LibraryFeedValue, LastingLibraryFault}
 use Rattle.omf_library.specs.Spelled.{SpellsLibrary, FaultsLibrary}
-use Rattle.loader80.specs.declared.whole.ReadAllFault.TheVariants.{TooLong}
 use Rattle.plm80.specs.declared.commands.link_feed.LinkFeed.{LinkFeed}
 use Rattle.plm80.specs.declared.commands.link_feed.LinkFeed.TheVariants as feed
 use Rattle.plm80.specs.declared.commands.link_feed.LinkFile.{LinkFile}
@@ -16,7 +14,8 @@ use Rattle.plm80.specs.declared.commands.file_fault.FileFault.{FileFault}
 use Rattle.plm80.specs.declared.commands.file_fault.FileFault.TheVariants as fault
 
 -- A feed was given these bytes: it has them, or it keeps a fault that they have whatever follows.
-pub record HasTaken {Fault : Type 0} (Lasting : List ℕ → Fault → Type 0) (has : List ℕ) (kept : Option Fault) (bytes : List ℕ) : Type 0 where
+pub record HasTaken {Fault : Type 0} (Lasting : List ℕ → Fault → Type 0) (has : List ℕ) (kept : Option Fault)
+    (bytes : List ℕ) : Type 0 where
   pub all : kept ≡ None → has ≡ bytes
   pub lasts : (fault : Fault) → kept ≡ Some fault → Lasting bytes fault
 

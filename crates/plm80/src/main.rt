@@ -27,8 +27,8 @@ const OUTPUTS: usize = 65_536;
 /// command that they name.
 ///
 /// The exit status is 0 where the run halted or a command is done, 1 where the image is refused, 2 at a fault, 3 where the
-/// run ended at a port, a store outside data or a jump outside its declared targets, and 4 where its steps were used up. A fault is one line on standard
-/// error.
+/// run ended at a port, a store outside data or a jump outside its declared targets, and 4 where its steps were used up. A fault
+/// is one line on standard error.
 fn main(rt: HostRuntime) -> ExitCode {
     let arguments = match env::args(&rt) {
         Ok(arguments) => arguments.collect::<Vec<String>>(rt.alloc()),

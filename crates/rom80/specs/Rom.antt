@@ -20,4 +20,5 @@ chunks_of first bytes = chunks_at first (take 65531 bytes) ++ chunks_at (first +
 
 -- the byte at an address where bytes stand from `first` on, and 0 everywhere else
 abbrev pub byte_among : ℕ → List ℕ → ℕ → ℕ
-byte_among first bytes address = if nat_le first address && nat_lt address (first + length bytes) then slice_index bytes (address - first) else 0
+byte_among first bytes address =
+    if nat_le first address && nat_lt address (first + length bytes) then slice_index bytes (address - first) else 0

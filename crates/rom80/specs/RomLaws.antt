@@ -5,7 +5,8 @@ use Rattle.rom80.specs.Rom.{bytes_over, chunks_of, byte_among}
 
 -- at each address the chunks have the byte that stands there
 abbrev pub ChunksHoldBytes : Type 0
-ChunksHoldBytes = (first : ℕ) (bytes : List ℕ) (address : ℕ) → byte_at (chunks_of first bytes) address ≡ byte_among first bytes address
+ChunksHoldBytes = (first : ℕ) (bytes : List ℕ) (address : ℕ) →
+    byte_at (chunks_of first bytes) address ≡ byte_among first bytes address
 
 -- over their own range they have these bytes
 abbrev pub BytesAreTakenOutAgain : Type 0

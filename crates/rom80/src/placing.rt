@@ -14,9 +14,9 @@ use std::alloc::{AllocError, Global};
 /// The bytes that one content record carries at most.
 const CONTENT: usize = 65531;
 
-/// The image of this name whose memory has the bytes from the address `first` on, and 0 everywhere else. It starts at `start`, in a
-/// chunk of the first 65531 bytes and, where there are more, another one of the others. Its regions have no address:
-/// whoever runs the image owes it others.
+/// The image of this name whose memory has the bytes from the address `first` on, and 0 everywhere else. It starts at `start`, in
+/// a chunk of the first 65531 bytes and, where there are more, another one of the others. Its regions have no address: whoever
+/// runs the image owes it others.
 ///
 /// # Errors
 /// `PastMemory` exactly where the bytes go past FFFF; `Memory` only where memory ran out.

@@ -53,8 +53,8 @@ Example: plm80 locate readings.obj readings.img readings.regions
 
 Faults and what to do: docs/FAULTS.md (installed: share/doc/plm80), man plm80.";
 
-/// The commands of files and of located programs, in the order of the help text. (Two functions make the commands, since one proof of
-/// all their texts is more than the prover takes.)
+/// The commands of files and of located programs, in the order of the help text. (Two functions make the commands, since one
+/// proof of all their texts is more than the prover takes.)
 fn main_commands() -> [Syntax<'static>; 6] {
     [LINK, LOCATE, RUN, LIST, CHECK, EXPLAIN]
 }

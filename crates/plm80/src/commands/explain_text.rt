@@ -189,8 +189,8 @@ fn bytes_left(image: &Image, at: u16) -> usize {
     0
 }
 
-/// Appends what is known of the stack before an instruction: the words from bottom to top, the pairs that hold the return address,
-/// and how many words have been taken from beneath it.
+/// Appends what is known of the stack before an instruction: the words from bottom to top, the pairs that hold the return
+/// address, and how many words have been taken from beneath it.
 fn append_frame(alloc: Global, text: &mut Vec<u8>, frame: &Frame) -> Result<(), AllocError> {
     for word in &frame.words {
         let shown = match word {

@@ -1,18 +1,19 @@
 //! The files that `link` takes: object files and libraries, which their first byte tells apart.
 
-ghost use Rattle.std.specs.Prelude.{◌≡◌, ◌<◌, List, ℕ, IfOk, IfErr, IfSome};
+ghost use Rattle.std.specs.Prelude.{◌<◌, List, ℕ, IfOk, IfErr, IfSome};
 ghost use Rattle.omf_module.specs.Spelled.{SpellsFile};
 ghost use Rattle.plm80.specs.Pieces.{HasTakenEither, SpellsEither, FaultsEither};
 
 use crate::commands::file_fault::FileFault;
 use crate::commands::pieces::{TakePieces, read_in_pieces};
 use loader80::{Source, TEXT_LIMIT};
+use omf_core::RecordKind;
 use omf_library::{Library, LibraryFeed};
 use omf_module::{FileFeed, Module};
 use std::alloc::{AllocError, Global};
 
 /// The type of a library header, which no module begins with.
-const LIBRARY_HEADER: u8 = 0x2C;
+const LIBRARY_HEADER: u8 = RecordKind::LibraryHeader as u8;
 
 /// An object file or a library that comes in pieces. Its first byte decides which it is.
 #[derive(Drop)]

@@ -1,5 +1,5 @@
 -- What was read when memory ran out was still taken.
-use Rattle.std.proofs.Common.{◌≡◌, ◌+◌, ◌≤◌, length, take, arith, rules, ◌++◌, length-append, length-take}
+use Rattle.std.proofs.Common.{◌≡◌, ◌+◌, ◌≤◌, length, take, arith, ◌++◌, length-append, length-take}
 use Rattle.std.proofs.lemmas.List.{take-append-le}
 use Rattle.std.proofs.KnownBytes.{Consumes-trans}
 use Rattle.plm80.proofs.commands.pieces.read_in_pieces.Goals as goal
