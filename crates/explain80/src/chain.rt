@@ -1,12 +1,13 @@
 //! The chain of calls that a stack bound adds up.
 
-ghost use Rattle.std.specs.Prelude.{◌≡◌, ◌↔◌, ◌++◌, ◌∷◌, [], List, Err, pos, true, All, IfNone, IfOk, IfSome, OnOk};
+ghost use Rattle.std.specs.Prelude.{◌≡◌, ◌↔◌, ◌<◌, ◌++◌, ◌∷◌, [], List, Contains, Err, Some, pos, true, length, slice_get, All, IfNone, IfOk, IfSome, OnOk};
 ghost use Rattle.bounds80.specs.Chains.{IsModest, bytes_of};
 ghost use Rattle.bounds80.specs.declared.procedure.Procedure.TheVariants.{Main};
 ghost use Rattle.frames80.specs.Calls.{depth_of};
 ghost use Rattle.flow80.specs.Walks.{role_of as role_in};
 ghost use Rattle.verify80.specs.Looking.{code_of};
 ghost use Rattle.bounds80.specs.declared.graph.Depth.{Depth as DepthSeen};
+ghost use Rattle.explain80.specs.declared.point.Point.{Point as PointSeen};
 ghost use Rattle.explain80.specs.declared.fault.Unexplained.TheVariants.{NotShown};
 ghost use Rattle.explain80.specs.Chains.{AddsUp, AreDepthsOf, AreGreatestOf, AreSitesOf, CallsAt, ChainsTo, EndsWith, IsNextCall, IsNotTheBound, NoneStands, NoNextCall};
 ghost use Rattle.explain80.specs.Search.{IsClosed, IsSound};
@@ -15,7 +16,7 @@ use crate::fault::{Stop, Unexplained};
 use crate::looked::{MOST_WORDS, role_of};
 use crate::point::Point;
 use crate::search::Search;
-use bounds80::{Bounds, BoundsFault, CallSite, Depth, find_bounds};
+use bounds80::{Bounds, BoundsFault, CallSite, Depth, SLOTS, find_bounds, slot, table};
 use flow80::{Code, Procedure};
 use frames80::depth;
 use image80::Image;
@@ -183,18 +184,91 @@ impl Search {
         ensures none { IfOk result (λ chain. IfNone chain ((depths : List DepthSeen)
             → AreGreatestOf (C.code program.now) self.now depths sites.now bounds.now → ⊥)) }
     {
+        let likely_points = self.likely_points(alloc, program, bounds)?;
+        let likely_calls = likely_calls(alloc, sites, bounds)?;
         let mut calls = Vec::new(alloc);
         let mut procedure = Procedure::Main;
         loop {
-            if let Some(last) = self.last_of(program, procedure, bounds.get(procedure))? {
+            let bytes = bounds.get(procedure);
+            if let Some(last) = self.likely_last(program, &likely_points, procedure, bytes)? {
                 return Ok(Some(Chain { calls, last }));
             }
-            let Some(call) = next_call(sites, bounds, procedure) else {
-                return Ok(None);
+            let Some(call) = next_call(sites, &likely_calls, bounds, procedure) else {
+                let Some(last) = self.last_of(program, procedure, bytes)? else {
+                    return Ok(None);
+                };
+                return Ok(Some(Chain { calls, last }));
             };
             push(&mut calls, call)?;
             procedure = Procedure::Entry(call.target);
         }
+    }
+
+    /// For each procedure, the number of the first of its points that has its bound on the stack. What is answered doesn't rest on
+    /// this table, only how soon.
+    fn likely_points<C: Code>(
+        &self,
+        alloc: Global,
+        program: &C,
+        bounds: &Bounds,
+    ) -> Result<Vec<Option<usize>>, Stop>
+        ensures { IfOk result (λ likely. length likely.items ≡ 65537) }
+    {
+        let mut likely = table(alloc, None, SLOTS)?;
+        for number in 0..self.points.len() {
+            let point = &self.points[number];
+            let depth = depth_at(program, point)?;
+            let place = slot(point.procedure);
+            if likely[place].is_none() && comes_to(depth, bounds.get(point.procedure)) {
+                likely[place] = Some(number);
+            }
+        }
+        Ok(likely)
+    }
+
+    /// Where a procedure has so many bytes on the stack, if it is where the table says.
+    fn likely_last<C: Code>(
+        &self,
+        program: &C,
+        likely: &[Option<usize>],
+        procedure: Procedure,
+        bytes: u64,
+    ) -> Result<Option<Standing>, Stop>
+        requires sound { IsSound (C.code program.now) self.now }
+        requires table { length likely.now ≡ 65537 }
+        ensures { IfOk result (λ last. IfSome last (EndsWith (C.code program.now) procedure bytes)) }
+    {
+        let named = likely[slot(procedure)];
+        match named {
+            Some(number) if number < self.points.len() => {
+                self.last_at(program, number, procedure, bytes)
+            }
+            _ => Ok(None),
+        }
+    }
+
+    /// Where the point of a number is, if it is of a procedure, with so many bytes on the stack.
+    fn last_at<C: Code>(
+        &self,
+        program: &C,
+        number: usize,
+        procedure: Procedure,
+        bytes: u64,
+    ) -> Result<Option<Standing>, Stop>
+        requires sound { IsSound (C.code program.now) self.now }
+        requires there { number < length self.now.points.keys }
+        ensures last { IfOk result (λ last. IfSome last (EndsWith (C.code program.now) procedure bytes)) }
+        ensures none { IfOk result (λ last. IfNone last ((point : PointSeen) → slice_get self.now.points.keys number ≡ Some point
+            → point.procedure ≡ procedure → pos bytes ≡ depth_of (role_in (C.code program.now) point.procedure) point.frame → ⊥)) }
+    {
+        let point = &self.points[number];
+        if is_of(point, procedure) {
+            let depth = depth_at(program, point)?;
+            if comes_to(depth, bytes) {
+                return Ok(Some(Standing::new(procedure, point.at, depth)));
+            }
+        }
+        Ok(None)
     }
 
     /// Where a procedure has so many bytes on the stack.
@@ -209,12 +283,8 @@ impl Search {
         ensures none { IfOk result (λ last. IfNone last (NoneStands (C.code program.now) self.now.points.keys procedure bytes)) }
     {
         for number in 0..self.points.len() {
-            let point = &self.points[number];
-            if is_of(point, procedure) {
-                let depth = depth_at(program, point)?;
-                if comes_to(depth, bytes) {
-                    return Ok(Some(Standing::new(procedure, point.at, depth)));
-                }
+            if let Some(last) = self.last_at(program, number, procedure, bytes)? {
+                return Ok(Some(last));
             }
         }
         Ok(None)
@@ -257,11 +327,57 @@ fn depth_at<C: Code>(program: &C, point: &Point) -> Result<i64, Stop>
     Ok(depth(&point.frame, role_of(program, point.procedure)))
 }
 
+/// For each procedure, the number of its first call with which its callee's bytes come to its own. What is answered doesn't rest on
+/// this table, only how soon.
+fn likely_calls(
+    alloc: Global,
+    sites: &[CallSite],
+    bounds: &Bounds,
+) -> Result<Vec<Option<usize>>, AllocError>
+    ensures { IfOk result (λ likely. length likely.items ≡ 65537) }
+{
+    let mut likely = table(alloc, None, SLOTS)?;
+    for number in 0..sites.len() {
+        let place = slot(sites[number].caller);
+        if likely[place].is_none() && adds_up(sites[number], bounds, sites[number].caller) {
+            likely[place] = Some(number);
+        }
+    }
+    Ok(likely)
+}
+
+/// The call that the table names for a procedure.
+fn likely_call(
+    sites: &[CallSite],
+    likely: &[Option<usize>],
+    procedure: Procedure,
+) -> Option<CallSite>
+    requires { length likely.now ≡ 65537 }
+    ensures { IfSome result (Contains sites.now) }
+{
+    let named = likely[slot(procedure)];
+    match named {
+        Some(number) if number < sites.len() => Some(sites[number]),
+        _ => None,
+    }
+}
+
 /// A call of a procedure with which its callee's bytes come to the procedure's.
-fn next_call(sites: &[CallSite], bounds: &Bounds, procedure: Procedure) -> Option<CallSite>
+fn next_call(
+    sites: &[CallSite],
+    likely: &[Option<usize>],
+    bounds: &Bounds,
+    procedure: Procedure,
+) -> Option<CallSite>
+    requires { length likely.now ≡ 65537 }
     ensures call { IfSome result (IsNextCall sites.now bounds.now procedure) }
     ensures none { IfNone result (NoNextCall sites.now bounds.now procedure) }
 {
+    if let Some(site) = likely_call(sites, likely, procedure) {
+        if adds_up(site, bounds, procedure) {
+            return Some(site);
+        }
+    }
     for site in sites {
         if adds_up(*site, bounds, procedure) {
             return Some(*site);

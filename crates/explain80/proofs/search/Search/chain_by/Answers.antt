@@ -14,8 +14,8 @@ returns-in-Some-clause-chain g c =
     let bounds = c.args.bounds.now in
     let last = c.in-Some.last in
     let p = c.loop-calls.procedure in
-    let found = subst (λ r. IfSome r (EndsWith code p c.get.result)) c.in-Some.is c.in_ok-last.ensures.last in
-    let ends = subst (λ bytes. EndsWith code p bytes last) c.get.ensures found in
+    let found = subst (λ r. IfSome r (EndsWith code p c.get-bytes.result)) c.in-Some.is c.in_ok-last.ensures in
+    let ends = subst (λ bytes. EndsWith code p bytes last) c.get-bytes.ensures found in
     subst (λ calls. IsChain code Main calls last (pos (bytes_of bounds Main))) (append_nil c.loop-calls.calls.items) (c.loop-calls.invariant.chain [] last (chain-end code p (bytes_of bounds p) last ends))
 
 pub loop-calls-preserved : goal.loop-calls-preserved
@@ -31,12 +31,22 @@ loop-calls-preserved g c =
       entered = λ depths of. of.entered.entered call c.in-Some-next_call.ensures.call.known;
     }
 
-pub returns-in_default-next_call-clause-none : goal.returns-in_default-next_call-clause-none
-returns-in_default-next_call-clause-none g c = λ depths of.
+pub returns-in_default-next_call-clause-chain : goal.returns-in_default-next_call-clause-chain
+returns-in_default-next_call-clause-chain g c =
+    let code = g.C.Code.code c.args.program.now in
+    let bounds = c.args.bounds.now in
+    let last = c.in-Some-2.last in
+    let p = c.loop-calls.procedure in
+    let found = subst (λ r. IfSome r (EndsWith code p c.get-bytes.result)) c.in-Some-2.is c.in_ok-last-2.ensures.last in
+    let ends = subst (λ bytes. EndsWith code p bytes last) c.get-bytes.ensures found in
+    subst (λ calls. IsChain code Main calls last (pos (bytes_of bounds Main))) (append_nil c.loop-calls.calls.items) (c.loop-calls.invariant.chain [] last (chain-end code p (bytes_of bounds p) last ends))
+
+pub returns-in_default-2-clause-none : goal.returns-in_default-2-clause-none
+returns-in_default-2-clause-none g c = λ depths of.
     let code = g.C.Code.code c.args.program.now in
     let s = c.args.self.now in
     let bounds = c.args.bounds.now in
     let p = c.loop-calls.procedure in
-    let stands = subst (λ bytes. NoneStands code s.points.keys p bytes) c.get.ensures (subst (λ r. IfNone r (NoneStands code s.points.keys p c.get.result)) c.in_default.is c.in_ok-last.ensures.none) in
+    let stands = subst (λ bytes. NoneStands code s.points.keys p bytes) c.get-bytes.ensures (subst (λ r. IfNone r (NoneStands code s.points.keys p c.get-bytes.result)) c.in_default-2.is c.in_ok-last-2.ensures.none) in
     let next = subst (λ r. IfNone r (NoNextCall c.args.sites.now bounds p)) c.in_default-next_call.is c.next_call.ensures.none in
     goes-on code s depths c.args.sites.now bounds of p (c.loop-calls.invariant.entered depths of) stands next

@@ -4,7 +4,7 @@ use Rattle.std.proofs.lemmas.Int.{to_z-of_z}
 use Rattle.explain80.specs.declared.chain.Standing.{Standing}
 use Rattle.explain80.specs.Chains.{EndsWith}
 use Rattle.explain80.proofs.ChainLemmas.{stands-at}
-use Rattle.explain80.proofs.search.Search.last_of.Goals as goal
+use Rattle.explain80.proofs.search.Search.last_at.Goals as goal
 
 pub returns-then-comes_to-clause-last : goal.returns-then-comes_to-clause-last
 returns-then-comes_to-clause-last g c =
@@ -15,4 +15,4 @@ returns-then-comes_to-clause-last g c =
     let fits : SFits w64 depth = search rules in
     let same = to_z-of_z w64 depth fits in
     subst (λ (x : Standing). EndsWith code c.args.procedure c.args.bytes x) (sym (c.new.ensures ∙ ap (λ d. record { procedure = c.args.procedure; at = point.at; depth = d }) same))
-    (stands-at code c.args.self.now c.requires c.loop-number.number point c.args.procedure c.in_ok-depth.depth c.args.bytes c.index-point.ensures (c.is_of.ensures.0 c.if-is_of.true) c.in_ok-depth.ensures.depth (c.comes_to.ensures.0 c.if-comes_to.true ∙ same))
+    (stands-at code c.args.self.now c.requires.sound c.args.number point c.args.procedure c.in_ok-depth.depth c.args.bytes c.index-point.ensures (c.is_of.ensures.0 c.if-is_of.true) c.in_ok-depth.ensures.depth (c.comes_to.ensures.0 c.if-comes_to.true ∙ same))
