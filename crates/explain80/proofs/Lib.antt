@@ -10,3 +10,4 @@ pub mod RingLemmas
 pub mod KnownLemmas
 pub mod ChainLemmas
 pub mod BoundLemmas
+pub mod ExitLemmas

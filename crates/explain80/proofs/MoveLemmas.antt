@@ -1,5 +1,5 @@
 -- Where moves lead, move by move, and that what a look finds is all that there is.
-use Rattle.std.proofs.Common.{◌≡◌, ◌≤◌, ◌<◌, ◌+◌, ℕ, ◌⊎◌, inl, inr, List, [], ◌∷◌, ◌++◌, Contains, None, Some, get_or, length, slice_get, refl, sym, ◌∙◌, ap, subst, arith}
+use Rattle.std.proofs.Common.{◌≡◌, ◌≤◌, ◌<◌, ◌+◌, ℕ, ◌⊎◌, inl, inr, List, [], ◌∷◌, ◌++◌, Contains, None, Some, get_or, length, slice_get, refl, sym, ◌∙◌, ap, subst}
 use Rattle.std.proofs.lemmas.Option.{same_Some, none-some, slice_get_within}
 use Rattle.std.proofs.lemmas.List.Elements.{All-contains, All-from_get_or, Contains-get_or}
 use Rattle.decode80.specs.declared.fetching.Fetched.{Fetched}
@@ -202,21 +202,9 @@ backs-before code old cur new exits same call e is b = record {
   backs = λ k exit one below there inside at. (subst (λ xs. BacksFrom code cur new xs (length xs) call) is b).backs k exit one below there inside (slice_get-extends old cur e call.point one at);
 }
 
--- one exit more
-pub backs-step : (code : Code) (old cur new : List Point) (exits : List Exit) (k : ℕ) (call : CallingPoint) → Extends old cur → Extends cur new → BacksFrom code old cur exits k call →
-    ((exit : Exit) (one : Point) → slice_get exits k ≡ Some exit → exit.procedure ≡ Entry call.target → slice_get cur call.point ≡ Some one → HasBack code new one.procedure one.frame call.next exit.taken) →
-    BacksFrom code old new exits (k + 1) call
-backs-step code old cur new exits k call e f b last = record { backs = backs }
-  where
-    backs : (j : ℕ) (exit : Exit) (one : Point) → j < k + 1 → slice_get exits j ≡ Some exit → exit.procedure ≡ Entry call.target → slice_get old call.point ≡ Some one → HasBack code new one.procedure one.frame call.next exit.taken
-    backs j exit one below there inside is = by (lt_or_eq j k below)
-      where
-        lt_or_eq : (j k : ℕ) → j < k + 1 → (j < k) ⊎ (j ≡ k)
-        lt_or_eq j k h = grind arith
-
-        by : (j < k) ⊎ (j ≡ k) → HasBack code new one.procedure one.frame call.next exit.taken
-        by (inl h) = let was = b.backs j exit one h there inside is in record { back = λ g after. has-extends cur new f (point_of one.procedure call.next g) (was.back g after) }
-        by (inr same) = last exit one (subst (λ i. slice_get exits i ≡ Some exit) same there) inside (slice_get-extends old cur e call.point one is)
+-- where a call goes on stays there where points are added
+pub back-extends : (code : Code) (old new : List Point) (one : Point) (next taken : ℕ) → Extends old new → HasBack code old one.procedure one.frame next taken → HasBack code new one.procedure one.frame next taken
+back-extends code old new one next taken e was = record { back = λ g after. has-extends old new e (point_of one.procedure next g) (was.back g after) }
 
 -- a point that leads on: what is added after it comes from it
 module _ (code : Code) (old new : Search) (h : IsSound code old) where

@@ -3,6 +3,7 @@ pub mod Ways
 pub mod Shows
 pub mod Chains
 -- what the crate's own functions promise one another: no public contract cites these
+pub mod Exits
 pub mod Search
 pub mod Evidence
 pub mod Sought

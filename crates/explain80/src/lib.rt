@@ -15,6 +15,7 @@
 
 mod chain;
 mod evidence;
+mod exits;
 mod explaining;
 mod explanation;
 mod fault;

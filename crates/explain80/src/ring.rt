@@ -13,7 +13,7 @@ use flow80::Procedure;
 use std::alloc::{AllocError, Global};
 
 /// How many addresses there are.
-const ADDRESSES: usize = 65_536;
+pub(crate) const ADDRESSES: usize = 65_536;
 
 /// A call by which a procedure is reached from a first call on.
 #[derive(Clone, Copy)]

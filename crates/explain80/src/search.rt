@@ -8,6 +8,7 @@ ghost use Rattle.explain80.specs.declared.point.Point.{Point};
 ghost use Rattle.explain80.specs.declared.origin.Origin.TheVariants.{GoesOn, Enters};
 ghost use Rattle.explain80.specs.Search.{BacksFrom, Covers, CoversMove, Extends, Grows, Has, HasBack, HasExit, IsAdded, IsCalling, IsClosed, IsExit, IsMovingAt, IsSound, NotesCalls, NotesMove, SamePoints, point_of};
 
+use crate::exits::Exits;
 use crate::fault::Stop;
 use crate::looked::{Looked, back, look_at, role_of};
 use crate::origin::{CallingPoint, Exit, Origin};
@@ -22,7 +23,7 @@ use std::alloc::{AllocError, Global};
 pub(crate) struct Search {
     pub(crate) points: IndexSet<Point>,
     pub(crate) origins: Vec<Origin>,
-    pub(crate) exits: Vec<Exit>,
+    pub(crate) exits: Exits,
     pub(crate) calls: Vec<CallingPoint>,
     /// How many points have been followed.
     followed: usize,
@@ -42,7 +43,7 @@ impl Search {
         let mut search = Search {
             points: IndexSet::new(alloc),
             origins: Vec::new(alloc),
-            exits: Vec::new(alloc),
+            exits: Exits::new(alloc)?,
             calls: Vec::new(alloc),
             followed: 0,
             size: 0,
@@ -161,11 +162,9 @@ impl Search {
         ensures back { OnOk result (BacksFrom (C.code program.now) self.old.points.keys self.new.points.keys
             self.old.exits.items (length self.old.exits.items) call) }
     {
-        for k in 0..self.exits.len() {
-            let exit = self.exits[k];
-            if exit.is_of(call.target) {
-                self.come_back(alloc, program, call, exit)?;
-            }
+        let exits = self.exits.of(alloc, call.target)?;
+        for exit in &exits {
+            self.come_back(alloc, program, call, *exit)?;
         }
         Ok(())
     }
@@ -276,18 +275,6 @@ impl Search {
         self.come_back_from_each(alloc, program, call)
     }
 
-    /// Whether an exit of the procedure with as many words taken is known.
-    fn has_exit(&self, exit: Exit) -> bool
-        ensures { result ≡ true → HasExit self.now.exits.items exit.procedure exit.taken }
-    {
-        for known in &self.exits {
-            if known.procedure == exit.procedure && known.taken == exit.taken {
-                return true;
-            }
-        }
-        false
-    }
-
     /// Adds what an exit leads to: where each known call of the procedure goes on.
     fn leave<C: Code>(&mut self, alloc: Global, program: &C, exit: Exit) -> Result<(), Stop>
         requires sound { IsSound (C.code program.now) self.old }
@@ -296,7 +283,7 @@ impl Search {
         ensures there { OnOk result (HasExit self.new.exits.items exit.procedure exit.taken) }
         ensures calls { OnOk result (self.new.calls.items ≡ self.old.calls.items) }
     {
-        if self.has_exit(exit) {
+        if self.exits.has(exit) {
             return Ok(());
         }
         self.note_exit(exit)?;
