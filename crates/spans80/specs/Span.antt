@@ -1,6 +1,6 @@
 -- Spans of words and of bytes, and what becomes of them by the arithmetic of pairs and of their halves. (The arithmetic is that
 -- of the Intel 8080 Microcomputer Systems User's Manual, chapter 4; that spans are followed is this project's own.)
-use Rattle.std.specs.Prelude.{◌≤◌, ℕ, ◌+◌, ◌*◌, ◌/◌, ◌%◌, ◌==◌, ◌||◌, nat_le, nat_lt, min, max, if◌then◌else◌}
+use Rattle.std.specs.Prelude.{◌≤◌, ℕ, ◌+◌, ◌-◌, ◌*◌, ◌/◌, ◌%◌, ◌==◌, ◌&&◌, nat_le, nat_lt, min, max, if◌then◌else◌}
 use Rattle.spans80.specs.declared.span.Span.{Span}
 use Rattle.spans80.specs.declared.span.ByteSpan.{ByteSpan}
 
@@ -38,23 +38,25 @@ hull s t = record { first = min s.first t.first; last = max s.last t.last }
 
 -- one more, and one less: anything, where a number may wrap
 abbrev pub next_span : Span → Span
-next_span s = if nat_lt s.last 65535 then record { first = (s.first + 1) % 65536; last = (s.last + 1) % 65536 } else any_word
+next_span s = if nat_lt s.last 65535 then record { first = (s.first + 1) % 65536; last = s.last + 1 } else any_word
 
 abbrev pub previous_span : Span → Span
-previous_span s = if nat_lt 0 s.first then record { first = (s.first + 65535) % 65536; last = (s.last + 65535) % 65536 } else any_word
+previous_span s = if nat_lt 0 s.first then record { first = s.first - 1; last = s.last - 1 } else any_word
 
 abbrev pub next_byte : ByteSpan → ByteSpan
-next_byte s = if nat_lt s.last 255 then record { first = (s.first + 1) % 256; last = (s.last + 1) % 256 } else any_byte
+next_byte s = if nat_lt s.last 255 then record { first = (s.first + 1) % 256; last = s.last + 1 } else any_byte
 
 abbrev pub previous_byte : ByteSpan → ByteSpan
-previous_byte s = if nat_lt 0 s.first then record { first = (s.first + 255) % 256; last = (s.last + 255) % 256 } else any_byte
+previous_byte s = if nat_lt 0 s.first then record { first = s.first - 1; last = s.last - 1 } else any_byte
 
 -- the sums of a word of one and a word of the other: where none of them wraps or all do, from the least to the greatest
 abbrev pub sum_span : Span → Span → Span
 sum_span s t =
-    if nat_lt (s.last + t.last) 65536 || nat_le 65536 (s.first + t.first)
-    then record { first = (s.first + t.first) % 65536; last = (s.last + t.last) % 65536 }
-    else any_word
+    if nat_lt (s.last + t.last) 65536 && nat_lt (s.first + t.first) 65536
+    then record { first = s.first + t.first; last = s.last + t.last }
+    else (if nat_le 65536 (s.first + t.first) && nat_le 65536 (s.last + t.last)
+    then record { first = s.first + t.first - 65536; last = s.last + t.last - 65536 }
+    else any_word)
 
 -- the high bytes of the words, and their low bytes: any, unless the words have one high byte
 abbrev pub high_of : Span → ByteSpan

@@ -54,8 +54,8 @@ impl ByteSpan {
     {
         if self.first > 0 {
             ByteSpan {
-                first: self.first.wrapping_sub(1),
-                last: self.last.wrapping_sub(1),
+                first: self.first - 1,
+                last: self.last.saturating_sub(1),
             }
         } else {
             ByteSpan::ANY
@@ -120,8 +120,8 @@ impl Span {
     {
         if self.first > 0 {
             Span {
-                first: self.first.wrapping_sub(1),
-                last: self.last.wrapping_sub(1),
+                first: self.first - 1,
+                last: self.last.saturating_sub(1),
             }
         } else {
             Span::ANY
@@ -134,10 +134,15 @@ impl Span {
     {
         let first = u32::from(self.first) + u32::from(other.first);
         let last = u32::from(self.last) + u32::from(other.last);
-        if last < 65536 || first >= 65536 {
+        if last < 65536 && first < 65536 {
             Span {
-                first: (first % 65536) as u16,
-                last: (last % 65536) as u16,
+                first: first as u16,
+                last: last as u16,
+            }
+        } else if first >= 65536 && last >= 65536 {
+            Span {
+                first: (first - 65536) as u16,
+                last: (last - 65536) as u16,
             }
         } else {
             Span::ANY

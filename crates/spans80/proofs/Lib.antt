@@ -1,0 +1,5 @@
+pub mod ArithmeticBounds
+pub mod RegisterBytes
+pub mod ByteLemmas
+pub mod FetchBounds
+pub mod StepBytes
