@@ -1,5 +1,3 @@
-pub mod ArithmeticBounds
-pub mod RegisterBytes
-pub mod ByteLemmas
-pub mod FetchBounds
-pub mod StepBytes
+pub mod SpanLemmas
+pub mod FollowLemmas
+pub mod StepPairs

@@ -2,10 +2,14 @@
 
 ghost use Rattle.spans80.specs.Following.{AnythingHolds, MoreHolds, PairsFollow};
 
+use crate::bytes::bytes_stay_bytes;
+
 /// What may be in the pairs before a step of the machine leads to what may be in them after it, as [`crate::pairs_after`] says;
 /// bytes make pairs of which anything holds; and what holds of pairs holds of any with more words.
 pub fn pairs_follow()
     ensures follow { PairsFollow }
     ensures anything { AnythingHolds }
     ensures more { MoreHolds }
-{}
+{
+    bytes_stay_bytes();
+}
