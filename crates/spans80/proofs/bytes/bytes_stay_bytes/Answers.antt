@@ -1,0 +1,15 @@
+use Rattle.spans80.proofs.FetchBounds.{operands_bounded}
+use Rattle.spans80.proofs.StepBytes.{bytes_stay, addresses_stay, length_stays}
+use Rattle.spans80.proofs.bytes.bytes_stay_bytes.Goals as goal
+
+pub returns-clause-bytes : goal.returns-clause-bytes
+returns-clause-bytes c = bytes_stay (operands_bounded c.spelling_laws.ensures.decoded_in_range)
+
+pub returns-clause-addresses : goal.returns-clause-addresses
+returns-clause-addresses c = addresses_stay (operands_bounded c.spelling_laws.ensures.decoded_in_range)
+
+pub returns-clause-length : goal.returns-clause-length
+returns-clause-length c = length_stays
+
+pub returns-clause-operands : goal.returns-clause-operands
+returns-clause-operands c = operands_bounded c.spelling_laws.ensures.decoded_in_range
