@@ -3,3 +3,4 @@ pub mod RegisterBytes
 pub mod ByteLemmas
 pub mod FetchBounds
 pub mod StepBytes
+pub mod RunBytes
