@@ -1,5 +1,5 @@
 -- A program that a table of frames fits never goes wrong.
-use Rattle.std.specs.Prelude.{◌≡◌, ℕ, zero, suc, ◌+◌, ◌-◌, ◌*◌, ◌%◌, ◌<◌, ◌≤◌, Bool, true, false, not, ◌&&◌, List, [], ◌∷◌, Option, None, Some, All, length, slice_index_or, refl, if◌then◌else◌}
+use Rattle.std.specs.Prelude.{◌≡◌, ℕ, zero, suc, ◌+◌, ◌-◌, ◌*◌, ◌%◌, ◌<◌, ◌≤◌, Bool, true, false, not, ◌&&◌, List, [], ◌∷◌, Option, None, Some, Ok, All, length, slice_index_or, refl, if◌then◌else◌}
 use Rattle.std.specs.List.{list_all, range_with_len}
 use Rattle.std.proofs.Common.{◌∙◌, ap, sym, subst, arith, cond}
 use Rattle.std.proofs.lemmas.List.{length-map}
@@ -67,7 +67,7 @@ abbrev world_or : World → Option World → World
 world_or otherwise None = otherwise
 world_or otherwise (Some w) = w
 
-world_in : {w v : World} → Some w ≡ Some v → w ≡ v
+pub world_in : {w v : World} → Some w ≡ Some v → w ≡ v
 world_in {w} h = ap (world_or w) h
 
 -- an end of an instruction that is executed
@@ -105,20 +105,22 @@ full image = length-map (range_with_len 0 65536) (byte_at image.chunks) ∙ rang
 -- the instruction at a watched world is the image's
 module _ (image : Located) (table : Table) (most : ℕ) (rules : Ground image.regions) (fits : Fits (code_of image) table) (printed : table.bound Main ≡ most) (within : most ≤ image.regions.stack.length)
     (changes : ChangesByPlaces) (returns_law : ReturnsByPlaces) (looks : LooksFindWhatIsAdmitted) (fetches : FetchReadsCodeAlone) where
-  record Finds (w : World) : Type 0 where
-    found : Fetched
-    fetched : fetched_by image.regions w ≡ Some found
-    declared : found.instr ≡ Pchl → is_declared image.regions w.machine.cpu.pc ≡ true
-    stores : list_all (in_data image.regions) (direct_bytes found.instr) ≡ true
-    safe : Safe image table most w found.instr found.next
+  pub record Finds (w : World) : Type 0 where
+    pub found : Fetched
+    pub looked : (code_of image).look w.machine.cpu.pc ≡ Ok found
+    pub fetched : fetched_by image.regions w ≡ Some found
+    pub declared : found.instr ≡ Pchl → is_declared image.regions w.machine.cpu.pc ≡ true
+    pub stores : list_all (in_data image.regions) (direct_bytes found.instr) ≡ true
+    pub safe : Safe image table most w found.instr found.next
 
-  finds : (w : World) → Watched image table most w → Finds w
+  pub finds : (w : World) → Watched image table most w → Finds w
   finds w s =
       let fit = fits.frames s.procedure w.machine.cpu.pc s.frame s.there in
       let admitted : IsAdmitted image.regions (memory_of image.chunks) w.machine.cpu.pc fit.found =
       (looks image.regions (memory_of image.chunks) w.machine.cpu.pc fit.found).0 fit.moving.looked in
       record {
         found = fit.found;
+        looked = fit.moving.looked;
         fetched = fetch_here fetches image w.machine.memory w.machine.cpu.pc fit.found s.code admitted.fetched;
         declared = admitted.declared;
         stores = admitted.stores;
@@ -129,29 +131,39 @@ module _ (image : Located) (table : Table) (most : ℕ) (rules : Ground image.re
   turn_there : (limit : Option ℕ) (w : World) (f : Finds w) → turn_at image.regions limit w ≡ guarded image.regions (guard image.regions f.found.instr w.machine.cpu) (refuses limit w.machine.outputs) f.found w.machine
   turn_there limit w f = ap (λ (o : Option Fetched). step_on image.regions (refuses limit w.machine.outputs) o w.machine) f.fetched
 
-  -- the next world is watched too
-  turned : (w after : World) (f : Finds w) (t : Turn) (places : List ℕ) → places ≡ places_after f.found.instr f.found.next w.machine.cpu.registers.flags w.places →
-      ((m : Machine) → t ≡ Next m → Watched image table most (record { machine = m; places = places_after f.found.instr f.found.next w.machine.cpu.registers.flags w.places })) →
-      world_after t places ≡ Some after → Watched image table most after
-  turned w after f (Next m) places same watched h =
-      subst (λ (x : World). Watched image table most x) (world_in h)
-      (subst (λ (ps : List ℕ). Watched image table most (record { machine = m; places = ps })) (sym same) (watched m refl))
-  turned w after f (Stop e) places same watched h = cc
+  -- what holds of the machine that an instruction leaves holds of the next world
+  turned : (P : World → Type 0) (w after : World) (f : Finds w) (t : Turn) (places : List ℕ) → places ≡ places_after f.found.instr f.found.next w.machine.cpu.registers.flags w.places →
+      ((m : Machine) → t ≡ Next m → P (record { machine = m; places = places_after f.found.instr f.found.next w.machine.cpu.registers.flags w.places })) →
+      world_after t places ≡ Some after → P after
+  turned P w after f (Next m) places same holds h =
+      subst P (world_in h)
+      (subst (λ (ps : List ℕ). P (record { machine = m; places = ps })) (sym same) (holds m refl))
+  turned P w after f (Stop e) places same holds h = cc
 
-  guarded_turn : (limit : Option ℕ) (w after : World) (f : Finds w) (g : Option End) (places : List ℕ) → guard image.regions f.found.instr w.machine.cpu ≡ g →
+  guarded_turn : (P : World → Type 0) (limit : Option ℕ) (w after : World) (f : Finds w) (g : Option End) (places : List ℕ) → guard image.regions f.found.instr w.machine.cpu ≡ g →
       places ≡ places_after f.found.instr f.found.next w.machine.cpu.registers.flags w.places →
-      world_after (guarded image.regions g (refuses limit w.machine.outputs) f.found w.machine) places ≡ Some after → Watched image table most after
-  guarded_turn limit w after f (Some e) places pass same h = cc
-  guarded_turn limit w after f None places pass same h =
-      turned w after f (execute image.regions (refuses limit w.machine.outputs) f.found.instr f.found.next w.machine) places same (λ m e. f.safe.goes_on (refuses limit w.machine.outputs) m pass e) h
+      ((m : Machine) → guard image.regions f.found.instr w.machine.cpu ≡ None → execute image.regions (refuses limit w.machine.outputs) f.found.instr f.found.next w.machine ≡ Next m →
+      P (record { machine = m; places = places_after f.found.instr f.found.next w.machine.cpu.registers.flags w.places })) →
+      world_after (guarded image.regions g (refuses limit w.machine.outputs) f.found w.machine) places ≡ Some after → P after
+  guarded_turn P limit w after f (Some e) places pass same holds h = cc
+  guarded_turn P limit w after f None places pass same holds h =
+      turned P w after f (execute image.regions (refuses limit w.machine.outputs) f.found.instr f.found.next w.machine) places same (λ m e. holds m pass e) h
 
+  pub leads_on : (P : World → Type 0) (limit : Option ℕ) (w after : World) (f : Finds w) →
+      ((m : Machine) → guard image.regions f.found.instr w.machine.cpu ≡ None → execute image.regions (refuses limit w.machine.outputs) f.found.instr f.found.next w.machine ≡ Next m →
+      P (record { machine = m; places = places_after f.found.instr f.found.next w.machine.cpu.registers.flags w.places })) →
+      next_world image.regions limit w ≡ Some after → P after
+  leads_on P limit w after f holds h =
+      let places : List ℕ = places_then (fetch image.regions w.machine.memory w.machine.cpu.pc) w.machine.cpu.registers.flags w.places in
+      guarded_turn P limit w after f (guard image.regions f.found.instr w.machine.cpu) places refl
+      (ap (λ (o : Option Fetched). places_then o w.machine.cpu.registers.flags w.places) f.fetched) holds
+      (ap (λ (t : Turn). world_after t places) (sym (turn_there limit w f)) ∙ h)
+
+  -- the next world is watched too
   stays_watched : (limit : Option ℕ) (w after : World) → Watched image table most w → next_world image.regions limit w ≡ Some after → Watched image table most after
   stays_watched limit w after s h =
       let f : Finds w = finds w s in
-      let places : List ℕ = places_then (fetch image.regions w.machine.memory w.machine.cpu.pc) w.machine.cpu.registers.flags w.places in
-      guarded_turn limit w after f (guard image.regions f.found.instr w.machine.cpu) places refl
-      (ap (λ (o : Option Fetched). places_then o w.machine.cpu.registers.flags w.places) f.fetched)
-      (ap (λ (t : Turn). world_after t places) (sym (turn_there limit w f)) ∙ h)
+      leads_on (Watched image table most) limit w after f (λ m pass e. f.safe.goes_on (refuses limit w.machine.outputs) m pass e) h
 
   followed : (limit : Option ℕ) (w : World) (o : Option World) → ((v : World) → o ≡ Some v → Watched image table most v) → following image.regions limit o ≡ Some w → Watched image table most w
   followed limit w None before h = cc
@@ -183,7 +195,7 @@ module _ (image : Located) (table : Table) (most : ℕ) (rules : Ground image.re
   pub watched_from : (start : Machine) → IsStart image start → (limit : Option ℕ) (w : World) → IsWorldFrom image start limit w → Watched image table most w
   watched_from start is limit w at = always_watched start is limit at.steps w at.is
 
-  same_found : (w : World) (f : Finds w) (found : Fetched) → fetched_by image.regions w ≡ Some found → f.found ≡ found
+  pub same_found : (w : World) (f : Finds w) (found : Fetched) → fetched_by image.regions w ≡ Some found → f.found ≡ found
   same_found w f found fetched = let there = f.fetched in cc (there, fetched)
 
   -- the guard finds a store through a pair alone

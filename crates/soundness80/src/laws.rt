@@ -34,8 +34,7 @@ pub fn images_never_go_wrong_from_power_on()
 /// A run that begins with the image's memory and with registers of 0 is one of those.
 pub fn runs_begin_from_power_on()
     ensures { RunsBeginFromPowerOn }
-{
-}
+{}
 
 /// From power-on, each step of a run of an accepted image is at an address that a walk of its procedures comes to, and fetches the
 /// instruction that the verifier has found there. A return that is taken goes to the address behind a call on a walk, and a walk

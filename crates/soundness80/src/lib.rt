@@ -10,5 +10,6 @@
 mod laws;
 
 pub use laws::{
-    accepted_images_stay_on_walks, fitted_images_never_go_wrong, images_never_go_wrong_from_power_on, runs_begin_from_power_on,
+    accepted_images_stay_on_walks, fitted_images_never_go_wrong,
+    images_never_go_wrong_from_power_on, runs_begin_from_power_on,
 };
