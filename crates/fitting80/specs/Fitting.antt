@@ -10,7 +10,7 @@ use Rattle.flow80.specs.Rows.{ReturnsWith}
 use Rattle.soundness80.specs.Reached.{IsReached}
 use Rattle.spans80.specs.declared.pairs.Pairs.{Pairs}
 use Rattle.spans80.specs.Pairs.{AreInside, anything, pairs_after}
-use Rattle.stores80.specs.Ways.{MayLeadTo, callee_of}
+use Rattle.fitting80.specs.Ways.{MayLeadTo, callee_of}
 
 -- what stands in a table at an address, if anything does
 abbrev pub entry_in : {A : Type 0} → Option (Option A) → Option A

@@ -1,0 +1,4 @@
+pub mod Ways
+pub mod Returning
+pub mod Fitting
+pub mod Runs

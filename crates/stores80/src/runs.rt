@@ -1,0 +1,1 @@
+//! A table of pairs that holds in all runs.
