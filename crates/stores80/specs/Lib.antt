@@ -1,6 +1,6 @@
-pub mod Ways
-pub mod Returning
-pub mod Fitting
 pub mod Pointers
 pub mod Stores
 pub mod DataReach
+-- what the crate's own functions promise one another: no public contract cites these
+pub mod Kinds
+pub mod Listing

@@ -1,8 +1,7 @@
 -- What is known of the register-indirect stores of a program, and of its jumps by PCHL, in all of its runs. (This project's own;
 -- runs are those of the machine, from power-on.)
-use Rattle.std.specs.Prelude.{◌≡◌, ◌≢◌, ◌↔◌, ◌<◌, ℕ, Bool, true, false, List, All, Any, AllPairs, Contains, Option, None, Some, Ok, length, filter, is_some, slice_get}
+use Rattle.std.specs.Prelude.{◌≡◌, ◌≢◌, ◌↔◌, ◌<◌, ℕ, Bool, true, false, List, All, Any, AllPairs, Contains, Option, Some, Ok}
 use Rattle.decode80.specs.declared.instr.Instr.{Instr}
-use Rattle.decode80.specs.declared.instr.Instr.TheVariants.{Pchl}
 use Rattle.decode80.specs.declared.fetching.Fetched.{Fetched}
 use Rattle.image80.specs.Regions.{Areas, in_data}
 use Rattle.image80.specs.Image.{Located}
@@ -12,82 +11,76 @@ use Rattle.machine80.specs.Effects.{pointed_bytes}
 use Rattle.machine80.specs.Step.{Machine, Stop}
 use Rattle.machine80.specs.World.{World, turn_at, fetched_by}
 use Rattle.flow80.specs.Code.{Code}
-use Rattle.verify80.specs.Looking.{code_of}
+use Rattle.verify80.specs.Looking.{code_of, is_pchl}
 use Rattle.soundness80.specs.Starts.{IsStart, IsWorldFrom}
 use Rattle.soundness80.specs.Reached.{IsReached}
 use Rattle.spans80.specs.Bytes.{HoldsBytes}
 use Rattle.spans80.specs.Span.{Within}
-use Rattle.spans80.specs.Pairs.{anything}
 use Rattle.stores80.specs.declared.stores.OpenStore.{OpenStore}
-use Rattle.stores80.specs.Pointers.{pointer_span}
+use Rattle.stores80.specs.Pointers.{stores_by_pair}
 
--- whether an instruction is a register-indirect store
-abbrev pub stores_by_pointer : Instr → Bool
-stores_by_pointer instr = is_some (pointer_span instr anything)
-
--- a walk comes to an instruction at an address
-pub record IsReachedAs (code : Code) (at : ℕ) (instr : Instr) : Type 0 where
+-- a walk comes to an address, and the instruction there is of a kind
+pub record IsReachedAs (code : Code) (kind : Instr → Bool) (at : ℕ) : Type 0 where
   pub reached : IsReached code at
   pub found : Fetched
   pub looked : code.look at ≡ Ok found
-  pub is : found.instr ≡ instr
+  pub is : kind found.instr ≡ true
 
--- a walk comes to a register-indirect store at an address
-pub record IsReachedStore (code : Code) (at : ℕ) : Type 0 where
-  pub instr : Instr
-  pub reached : IsReachedAs code at instr
-  pub stores : stores_by_pointer instr ≡ true
+-- addresses, ascending: exactly those that a walk comes to, of instructions of a kind
+pub record AreReachedAs (code : Code) (kind : Instr → Bool) (addresses : List ℕ) : Type 0 where
+  pub ascending : AllPairs (λ a b. a < b) addresses
+  pub each : (at : ℕ) → Contains addresses at ↔ IsReachedAs code kind at
 
--- an open store: a register-indirect store that a walk comes to, where not each address that it may have is data
+-- an open store: a register-indirect store that a walk comes to, with a span in which not each address is data
 pub record IsOpen (image : Located) (store : OpenStore) : Type 0 where
-  pub reached : IsReachedAs (code_of image) store.at store.instr
-  pub stores : stores_by_pointer store.instr ≡ true
+  pub reached : IsReached (code_of image) store.at
+  pub found : Fetched
+  pub looked : (code_of image).look store.at ≡ Ok found
+  pub instr : found.instr ≡ store.instr
+  pub stores : stores_by_pair store.instr ≡ true
   pub outside : ℕ
   pub within : Within store.span outside
   pub no_data : in_data image.regions outside ≡ false
 
--- an address that is stored to by the instruction at `at`: one of the span of the open store there, or data if none is listed there
-pub record GoesAsListed (regions : Areas) (open : List OpenStore) (at address : ℕ) : Type 0 where
-  pub listed : All (λ store. store.at ≡ at → Within store.span address) open
-  pub unlisted : All (λ store. store.at ≢ at) open → in_data regions address ≡ true
+-- an address that the instruction at `at` stores to: of the span of the open store there, or data if none is listed there
+pub record GoesAsListed (regions : Areas) (open_stores : List OpenStore) (at address : ℕ) : Type 0 where
+  pub listed : All (λ store. store.at ≡ at → Within store.span address) open_stores
+  pub unlisted : All (λ store. store.at ≢ at) open_stores → in_data regions address ≡ true
 
--- what a run may end with, at an instruction: HLT, an empty port, a refused output, a listed store outside data, and a listed PCHL
-abbrev pub EndsAsListed : (open : List OpenStore) → (jumps : List ℕ) → (at : ℕ) → End → Type 0
-EndsAsListed open jumps at Halt = Unit {0}
-EndsAsListed open jumps at (InputEnd _) = Unit {0}
-EndsAsListed open jumps at (OutputRefused _) = Unit {0}
-EndsAsListed open jumps at (StoreOutside address) = Any (λ store. (store.at ≡ at) × Within store.span address) open
-EndsAsListed open jumps at (JumpOutside _) = Contains jumps at
-EndsAsListed open jumps at (Fetch _) = ⊥
-EndsAsListed open jumps at (Stack _) = ⊥
-EndsAsListed open jumps at (Direct _) = ⊥
+-- what a run may end with at an instruction: HLT, an empty port, a refused output, a store of the span that is listed there, or a
+-- listed PCHL
+abbrev pub EndsAsListed : (open_stores : List OpenStore) → (jumps : List ℕ) → (at : ℕ) → End → Type 0
+EndsAsListed open_stores jumps at Halt = Unit {0}
+EndsAsListed open_stores jumps at (InputEnd _) = Unit {0}
+EndsAsListed open_stores jumps at (OutputRefused _) = Unit {0}
+EndsAsListed open_stores jumps at (StoreOutside address) = Any (λ store. (store.at ≡ at) × Within store.span address) open_stores
+EndsAsListed open_stores jumps at (JumpOutside _) = Contains jumps at
+EndsAsListed open_stores jumps at (Fetch _) = ⊥
+EndsAsListed open_stores jumps at (Stack _) = ⊥
+EndsAsListed open_stores jumps at (Direct _) = ⊥
 
 -- Two claims on each world of each run from power-on, whatever bytes are in the registers, in memory outside the code and at the
 -- ports, however many outputs are taken and however long it runs.
 
 -- each register-indirect store goes where it is listed to go, or to data
 abbrev pub StoresGoAsListed : Located → List OpenStore → Type 0
-StoresGoAsListed image open =
+StoresGoAsListed image open_stores =
     (start : Machine) → IsStart image start → HoldsBytes start → (most : Option ℕ) (w : World) (found : Fetched) →
     IsWorldFrom image start most w → fetched_by image.regions w ≡ Some found →
-    All (GoesAsListed image.regions open w.machine.cpu.pc) (pointed_bytes found.instr w.machine.cpu.registers)
+    All (GoesAsListed image.regions open_stores w.machine.cpu.pc) (pointed_bytes found.instr w.machine.cpu.registers)
 
 -- each run ends, if at all, as is listed
 abbrev pub RunsEndAsListed : Located → List OpenStore → (jumps : List ℕ) → Type 0
-RunsEndAsListed image open jumps =
+RunsEndAsListed image open_stores jumps =
     (start : Machine) → IsStart image start → HoldsBytes start → (most : Option ℕ) (w : World) (e : End) →
-    IsWorldFrom image start most w → turn_at image.regions most w ≡ Stop e → EndsAsListed open jumps w.machine.cpu.pc e
+    IsWorldFrom image start most w → turn_at image.regions most w ≡ Stop e → EndsAsListed open_stores jumps w.machine.cpu.pc e
 
--- what is listed of an image: how many register-indirect stores walks come to, of these the open ones and each PCHL that walks come
--- to, by address; and that its runs go so
-pub record AreStoresOf (image : Located) (count : ℕ) (open : List OpenStore) (jumps : List ℕ) : Type 0 where
-  pub addresses : List ℕ
-  pub ascending : AllPairs (λ a b. a < b) addresses
-  pub each : (at : ℕ) → Contains addresses at ↔ IsReachedStore (code_of image) at
-  pub counted : count ≡ length addresses
-  pub open_ascending : AllPairs (λ a b. a.at < b.at) open
-  pub open_each : All (IsOpen image) open
-  pub jumps_ascending : AllPairs (λ a b. a < b) jumps
-  pub jumps_each : (at : ℕ) → Contains jumps at ↔ IsReachedAs (code_of image) at Pchl
-  pub stores : StoresGoAsListed image open
-  pub ends : RunsEndAsListed image open jumps
+-- what is listed of an image: each register-indirect store that walks come to, the open ones among them, and each PCHL that walks
+-- come to; and its runs go so
+pub record AreStoresOf (image : Located) (addresses : List ℕ) (open_stores : List OpenStore) (jumps : List ℕ) : Type 0 where
+  pub each_store : AreReachedAs (code_of image) stores_by_pair addresses
+  pub open_ascending : AllPairs (λ a b. a.at < b.at) open_stores
+  pub each_open : All (IsOpen image) open_stores
+  pub each_jump : AreReachedAs (code_of image) is_pchl jumps
+  pub stores_go : StoresGoAsListed image open_stores
+  pub runs_end : RunsEndAsListed image open_stores jumps

@@ -8,13 +8,11 @@
 #![tactic(auto)]
 
 mod data_ends;
-mod finding;
-mod fitting;
+
 mod pointer;
-mod returning;
-mod runs;
+
+mod listing;
 mod stores;
 
-pub use finding::find_stores;
 pub use spans80::Span;
 pub use stores::{OpenStore, Stores};

@@ -1,1 +1,0 @@
-//! A table of pairs that holds in all runs.
