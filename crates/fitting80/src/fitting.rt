@@ -101,8 +101,25 @@ fn entry_fits(
         && has_anything_behind(table, returning, effect, found.next)
 }
 
+/// Whether a table of pairs fits a program that begins at `start`, of which these instructions are reached, by address, and whose
+/// procedures return at these marks, by entry.
+pub fn fits(
+    table: &[Option<Pairs>],
+    returning: &[bool],
+    start: u16,
+    regions: &Regions,
+    reached: &[Option<Fetched>],
+) -> bool
+    requires { length reached.now ≤ 65536 }
+    ensures start { result ≡ true → Has table.now start anything }
+    ensures entries { result ≡ true → (at : ℕ) (found : Fetched) → at < length reached.now → entry_in (slice_get reached.now at) ≡ Some found →
+        EntryFits (λ entry. is_marked returning.now entry ≡ true) (declared_targets regions.now at) table.now at found }
+{
+    has(table, start, Pairs::ANY) && all_fit(table, returning, regions, reached)
+}
+
 /// Whether the pairs fit at each address where an instruction is reached.
-pub fn all_fit(
+fn all_fit(
     table: &[Option<Pairs>],
     returning: &[bool],
     regions: &Regions,

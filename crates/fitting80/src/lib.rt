@@ -2,7 +2,7 @@
 //!
 //! | Item | What it is |
 //! |---|---|
-//! | [`all_fit`] | whether a table fits |
+//! | [`fits`] | whether a table fits |
 //! | [`pairs_at`] | what a table has at an address |
 //! | [`mark_returning`] | marks the procedures that return |
 //! | [`fitting_pairs_hold`] | runs keep to a table that fits, as a contract |
@@ -12,6 +12,6 @@ mod fitting;
 mod laws;
 mod returning;
 
-pub use fitting::{all_fit, pairs_at};
+pub use fitting::{fits, pairs_at};
 pub use laws::fitting_pairs_hold;
 pub use returning::mark_returning;
