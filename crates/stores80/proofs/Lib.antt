@@ -1,2 +1,4 @@
 pub mod ListLemmas
 pub mod EndLemmas
+pub mod TableLemmas
+pub mod StoreLemmas

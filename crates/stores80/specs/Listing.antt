@@ -3,6 +3,9 @@ use Rattle.std.specs.Prelude.{◌≡◌, ◌≢◌, ◌<◌, ℕ, Bool, true, fa
 use Rattle.decode80.specs.declared.instr.Instr.{Instr}
 use Rattle.decode80.specs.declared.fetching.Fetched.{Fetched}
 use Rattle.image80.specs.Regions.{Areas, in_data}
+use Rattle.image80.specs.Image.{Located}
+use Rattle.soundness80.specs.Starts.{NeverGoesWrongFromPowerOn}
+use Rattle.soundness80.specs.Reached.{StaysOnWalks}
 use Rattle.spans80.specs.declared.span.Span.{Span}
 use Rattle.spans80.specs.declared.pairs.Pairs.{Pairs}
 use Rattle.spans80.specs.Span.{Within}
@@ -10,6 +13,12 @@ use Rattle.spans80.specs.Pairs.{anything}
 use Rattle.fitting80.specs.Fitting.{entry_in, pairs_at}
 use Rattle.stores80.specs.declared.stores.OpenStore.{OpenStore}
 use Rattle.stores80.specs.Pointers.{pointer_span}
+
+-- no run of the image goes wrong, and each stays on walks
+pub record AreKnown (image : Located) : Type 0 where
+  pub bytes : ℕ
+  pub sound : NeverGoesWrongFromPowerOn image bytes
+  pub walks : StaysOnWalks image
 
 -- the instruction that is reached at an address
 abbrev pub reached_at : List (Option Fetched) → ℕ → Option Fetched

@@ -8,11 +8,11 @@
 #![tactic(auto)]
 
 mod data_ends;
-
-mod pointer;
-
+mod finding;
 mod listing;
+mod pointer;
 mod stores;
 
+pub use finding::find_stores;
 pub use spans80::Span;
 pub use stores::{OpenStore, Stores};
