@@ -32,6 +32,7 @@ all_pushed reached kind n xs below is = record {
   pushed : (at : ℕ) → Contains xs at ⊎ (n ≡ at) → (at < n + 1) × (is_kind kind (reached_at reached at) ≡ true)
   pushed at (inl there) = let e = below.each at there in (omega (arith, e.0), e.1)
   pushed at (inr same) = (omega arith, subst (λ k. is_kind kind (reached_at reached k) ≡ true) same is)
+
   at_bound : (at : ℕ) → is_kind kind (reached_at reached at) ≡ true → (at < n) ⊎ (at ≡ n) → Contains (xs ++ n ∷ []) at
   at_bound at kind_of (inl less) = Contains-append_left xs (n ∷ []) at (below.all at less kind_of)
   at_bound at kind_of (inr same) = subst (λ k. Contains (xs ++ n ∷ []) k) (sym same) (Contains-push xs n)

@@ -72,6 +72,7 @@ listed_or_not at [] = inr (All-nil (λ (store : OpenStore). store.at ≢ at))
 listed_or_not at (store ∷ stores) = go (nat_same store.at at) (listed_or_not at stores) where
   nat_same : (a b : ℕ) → (a ≡ b) ⊎ (a ≢ b)
   nat_same a b = grind arith
+
   go : (store.at ≡ at) ⊎ (store.at ≢ at) → Any (λ store. store.at ≡ at) stores ⊎ All (λ store. store.at ≢ at) stores → Any (λ store. store.at ≡ at) (store ∷ stores) ⊎ All (λ store. store.at ≢ at) (store ∷ stores)
   go (inl same) rest = inl (0, store, omega arith, refl, same)
   go (inr other) (inl (k, x, inside, is, same)) = inl (suc k, x, omega arith, is, same)
@@ -172,7 +173,7 @@ module _ (image : Located) (bytes : ℕ) (reached : List (Option Fetched)) (tabl
       let keep = keeps start begins held most w from in
       let points = points_by found.instr keep.pairs w.machine.cpu.registers address keep.holds there in
       let span : span_at reached table w.machine.cpu.pc ≡ Some points.span =
-          ap (λ (o : Option Fetched). span_of o (known (pairs_at table w.machine.cpu.pc))) here.there ∙ ap (λ (o : Option Pairs). span_of (Some found) (known o)) keep.there ∙ points.is in
+      ap (λ (o : Option Fetched). span_of o (known (pairs_at table w.machine.cpu.pc))) here.there ∙ ap (λ (o : Option Pairs). span_of (Some found) (known o)) keep.there ∙ points.is in
       record {
         listed = λ k d inside same.
             let store = get_or stores k d in

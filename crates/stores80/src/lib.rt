@@ -9,10 +9,12 @@
 
 mod data_ends;
 mod finding;
+mod lines;
 mod listing;
 mod pointer;
 mod stores;
 
 pub use finding::find_stores;
+pub use lines::stores_text;
 pub use spans80::Span;
 pub use stores::{OpenStore, Stores};

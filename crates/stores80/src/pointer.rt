@@ -11,7 +11,9 @@ pub(crate) fn pointer_span(instr: Instr, pairs: Pairs) -> Option<Span>
     ensures { result ≡ pointer_span instr pairs }
 {
     match instr {
-        Instr::Store(_) | Instr::MviMemory(_) | Instr::InrMemory | Instr::DcrMemory => Some(pairs.hl),
+        Instr::Store(_) | Instr::MviMemory(_) | Instr::InrMemory | Instr::DcrMemory => Some(
+            pairs.hl,
+        ),
         Instr::Stax(IndexPair::Bc) => Some(pairs.bc),
         Instr::Stax(IndexPair::De) => Some(pairs.de),
         _ => None,
