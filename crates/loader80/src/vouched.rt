@@ -5,10 +5,11 @@ ghost use Rattle.flow80.specs.Faults.{Holds};
 ghost use Rattle.flow80.specs.Fitting.{IsFitted};
 ghost use Rattle.machine80.specs.World.{NeverGoesWrong};
 ghost use Rattle.verify80.specs.Looking.{code_of};
+ghost use Rattle.soundness80.specs.Starts.{NeverGoesWrongFromPowerOn};
 ghost use Rattle.loader80.specs.Vouched.{IsVouched};
 
 use image80::{Image, RegionMap};
-use soundness80::fitted_images_never_go_wrong;
+use soundness80::{fitted_images_never_go_wrong, images_never_go_wrong_from_power_on};
 use std::alloc::Global;
 use std::marker::Model;
 use verify80::{ProcRow, Refusal, Verified, verify_and_keep};
@@ -44,6 +45,7 @@ impl Vouched {
     ghost use Rattle.image80.specs.RegionMap.{Maps};
     ghost use Rattle.verify80.specs.Kept.{IsKept};
     ghost use Rattle.verify80.specs.Looking.{code_of};
+    ghost use Rattle.soundness80.specs.Starts.{NeverGoesWrongFromPowerOn};
     ghost use Rattle.loader80.specs.Vouched.{IsVouched};
 
     /// An image that is accepted.
@@ -97,12 +99,15 @@ impl Vouched {
     /// fetches only inside code, stores directly only to data, jumps by PCHL only where targets are declared, touches as
     /// stack only so many bytes below the stack's top, and returns only to the place after the newest call that hasn't
     /// returned; and it ends, if at all, by HLT, at an empty port, at a refused output, at a register-indirect store
-    /// outside data or at a PCHL outside its declared targets.
+    /// outside data or at a PCHL outside its declared targets. The same holds from power-on: whatever registers, flags and
+    /// the memory outside code hold, if SP is at the stack's top and each address of code has the image's byte.
     pub fn stack_bytes(&self) -> u64
         ensures bytes { result ≡ self.now.stack_bytes }
         ensures never_goes_wrong { NeverGoesWrong self.now.image result }
+        ensures from_power_on { NeverGoesWrongFromPowerOn self.now.image result }
         ensures within_stack { result ≤ self.now.image.regions.stack.length }
     {
+        runs_as_verified(&self.image);
         self.stack_bytes
     }
 
@@ -132,22 +137,27 @@ pub fn vouch(alloc: Global, image: Image) -> Result<Vouched, (Image, Refusal)>
     ensures image { IfOk result (λ vouched. vouched.image ≡ image) }
     ensures vouched { IfOk result (λ vouched. IsVouched image vouched.rows vouched.stack_bytes) }
     ensures never_goes_wrong { IfOk result (λ vouched. NeverGoesWrong image vouched.stack_bytes) }
+    ensures from_power_on { IfOk result (λ vouched. NeverGoesWrongFromPowerOn image vouched.stack_bytes) }
     ensures within_stack { IfOk result (λ vouched. vouched.stack_bytes ≤ image.regions.stack.length) }
     ensures handed_back { IfErr result (λ refused. refused.0 ≡ image) }
     ensures refused { IfErr result (λ refused. Holds (code_of image) refused.1) }
 {
+    runs_as_verified(&image);
     match verify_and_keep(alloc, &image) {
         Ok(verified) => Ok(Vouched::new(image, verified)),
         Err(refusal) => Err((image, refusal)),
     }
 }
 
-/// What a fitting table of frames says of the image's runs. (It carries a law, and does nothing.)
+/// What a fitting table of frames says of the image's runs, also from power-on. (It carries laws, and does nothing.)
 #[inline]
 fn runs_as_verified(image: &Image)
-    ensures { (bytes : ℕ) → IsFitted (code_of image.now) bytes → bytes ≤ image.now.regions.stack.length →
+    ensures watched { (bytes : ℕ) → IsFitted (code_of image.now) bytes → bytes ≤ image.now.regions.stack.length →
         NeverGoesWrong image.now bytes }
+    ensures from_power_on { (bytes : ℕ) → IsFitted (code_of image.now) bytes → bytes ≤ image.now.regions.stack.length →
+        NeverGoesWrongFromPowerOn image.now bytes }
 {
     fitted_images_never_go_wrong();
+    images_never_go_wrong_from_power_on();
     image.regions.stack();
 }

@@ -25,6 +25,7 @@ mod pieces;
 mod program_files;
 mod running;
 mod shared_paths;
+mod stores;
 mod suggesting;
 mod syntax;
 
@@ -72,6 +73,7 @@ fn perform(rt: &HostRuntime, request: Request<'_>) -> Result<u8, Reported> {
         Request::Map(arguments) => mapping::map_file(rt, arguments),
         Request::Extract(arguments) => extracting::extract_file(rt, arguments),
         Request::Absolute(arguments) => absolute::write_absolute(rt, arguments),
+        Request::Stores(files) => stores::list_stores(rt, files),
     }
 }
 

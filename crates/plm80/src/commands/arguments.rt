@@ -12,6 +12,7 @@ use crate::commands::mapping::{MAP, MapArguments};
 use crate::commands::migrating::{REGIONS, RegionsArguments};
 use crate::commands::program_files::ProgramFiles;
 use crate::commands::running::{RUN, RunArguments};
+use crate::commands::stores::STORES;
 use crate::commands::suggesting::CASES;
 use crate::commands::syntax::Syntax;
 use clap::error::ErrorKind;
@@ -33,6 +34,7 @@ pub enum Request<'a> {
     Map(MapArguments<'a>),
     Extract(ExtractArguments<'a>),
     Absolute(AbsoluteArguments<'a>),
+    Stores(ProgramFiles<'a>),
 }
 
 const ABOUT: &str = "Links, locates, verifies and runs 8080 programs from OMF-80 object files";
@@ -53,7 +55,7 @@ Example: plm80 locate readings.obj readings.img readings.regions
 
 Faults and what to do: docs/FAULTS.md (installed: share/doc/plm80), man plm80.";
 
-/// The commands of files and of located programs, in the order of the help text. (Two functions make the commands, since one
+/// The commands of files and of located programs, in the order of the help text. (Several functions make the commands, since one
 /// proof of all their texts is more than the prover takes.)
 fn main_commands() -> [Syntax<'static>; 6] {
     [LINK, LOCATE, RUN, LIST, CHECK, EXPLAIN]
@@ -64,6 +66,11 @@ fn other_commands() -> [Syntax<'static>; 6] {
     [LIB, REGIONS, CASES, MAP, EXTRACT, ABSOLUTE]
 }
 
+/// The commands of programs on a board, in the order of the help text.
+fn board_commands() -> [Syntax<'static>; 1] {
+    [STORES]
+}
+
 /// The command of a name.
 fn command_of(name: &str) -> Option<Syntax<'static>> {
     for command in main_commands() {
@@ -72,6 +79,11 @@ fn command_of(name: &str) -> Option<Syntax<'static>> {
         }
     }
     for command in other_commands() {
+        if command.name == name {
+            return Some(command);
+        }
+    }
+    for command in board_commands() {
         if command.name == name {
             return Some(command);
         }
@@ -138,6 +150,9 @@ fn program<'a>(alloc: Global) -> Result<Command<'a>, AllocError> {
     for command in other_commands() {
         program = command.add_to(alloc, program)?;
     }
+    for command in board_commands() {
+        program = command.add_to(alloc, program)?;
+    }
     Ok(program)
 }
 
@@ -172,6 +187,7 @@ fn asked_for<'a>(
         "map" => Request::Map(MapArguments::of(arguments)),
         "extract" => Request::Extract(ExtractArguments::of(arguments)),
         "absolute" => Request::Absolute(AbsoluteArguments::of(arguments)),
+        "stores" => Request::Stores(ProgramFiles::of(arguments)),
         _ => return Ok(None),
     };
     Ok(Some(request))
