@@ -59,6 +59,7 @@ test: need-rt need-python3
 	@tests/commands/walk $(PROGRAM)
 	@tests/commands/sums $(PROGRAM)
 	@tests/commands/explained $(PROGRAM)
+	@tests/commands/stored $(PROGRAM)
 	@tests/commands/completion $(PROGRAM)
 	@tests/commands/faults
 	@if command -v cc > /dev/null; then tests/faults/run $(PROGRAM) program; else echo "faults: passed over without a C compiler"; fi
@@ -69,6 +70,7 @@ commands: need-python3 build
 	@tests/commands/walk $(PROGRAM)
 	@tests/commands/sums $(PROGRAM)
 	@tests/commands/explained $(PROGRAM)
+	@tests/commands/stored $(PROGRAM)
 	@tests/commands/completion $(PROGRAM)
 	@tests/commands/faults
 

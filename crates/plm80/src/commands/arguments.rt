@@ -45,10 +45,10 @@ hexadecimal, its regions, a line INPUTS, its inputs) and prints the transcript
 of its run. Files have at most 1048576 bytes, a bundle 4194312.
 
 The exit status is 0 if the command is done or the program halted, 1 if the
-verifier refuses the program or cases sees no table for a PCHL, 2 at a fault of
-the arguments or of a file, and for help, 3 if the program stops at an empty
-port, a refused output, a store outside data or a jump outside its declared
-targets, and 4 if its steps are used up.
+verifier refuses the program, stores lists something or cases sees no table for
+a PCHL, 2 at a fault of the arguments or of a file, and for help, 3 if the
+program stops at an empty port, a refused output, a store outside data or a jump
+outside its declared targets, and 4 if its steps are used up.
 
 Example: plm80 locate readings.obj readings.img readings.regions
          plm80 run readings.img readings.regions readings.inputs
