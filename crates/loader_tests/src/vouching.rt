@@ -6,9 +6,11 @@ use image80::{Image, read_regions};
 use loader80::{ProcRow, Vouched, read_inputs, run, vouch};
 use machine80::{End, FlatBus, ListPorts, PagedBus, Ports};
 use place80::read_image;
+use reach80::find_reached;
 use std::alloc::Global;
 use std::process::Abort;
 use std::test::Fail;
+use stores80::find_stores;
 use verify80::verify;
 
 /// Its procedure.
@@ -32,6 +34,22 @@ fn an_image_is_verified(rt: HostRuntime) -> Result<(), Fail> {
     assert_eq!(rt; report.stack_bytes, 4);
     assert_eq!(rt; report.procedures.len(), 1);
     assert!(rt; report.procedures.as_slice() == ROWS.as_slice());
+    Ok(())
+}
+
+#[test]
+fn what_a_vouched_image_reaches(rt: HostRuntime) -> Result<(), Fail> {
+    let image = image(rt.alloc())?;
+    let vouched = match vouch(rt.alloc(), image) {
+        Ok(vouched) => vouched,
+        Err((_image, refusal)) => return Err(refusal.into()),
+    };
+    let reached = find_reached(rt.alloc(), &vouched)?;
+    assert!(rt; reached.at(0x300B).is_some());
+    assert!(rt; reached.at(0x3012).is_none());
+    let stores = find_stores(rt.alloc(), &vouched)?;
+    assert!(rt; stores.addresses.is_empty());
+    assert!(rt; stores.open.is_empty());
     Ok(())
 }
 

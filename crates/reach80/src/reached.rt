@@ -58,7 +58,7 @@ impl Reached {
 /// # Example
 /// ```
 /// let reached = find_reached(rt.alloc(), &vouched)?;
-/// assert_eq!(rt; reached.at(0x0100).is_some(), true);
+/// assert!(rt; reached.at(0x300B).is_some());
 /// ```
 ///
 /// # Errors

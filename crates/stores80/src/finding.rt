@@ -37,8 +37,8 @@ use widening80::{Flow, propose};
 /// # Example
 /// ```
 /// let stores = find_stores(rt.alloc(), &vouched)?;
-/// assert_eq!(rt; stores.addresses.len(), 1);
-/// assert_eq!(rt; stores.open.len(), 0);
+/// assert!(rt; stores.addresses.is_empty());
+/// assert!(rt; stores.open.is_empty());
 /// ```
 ///
 /// # Errors
