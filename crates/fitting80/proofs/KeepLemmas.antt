@@ -98,7 +98,7 @@ module _ (image : Located) (bytes : ℕ) (table : List (Option Pairs)) (sound : 
       let same : m ≡ after.machine = ap (λ (x : World). x.machine) (world_in is) in
       let step : step_of image.regions (refuses most w.machine.outputs) w.machine ≡ Next after.machine = h ∙ ap (λ (x : Machine). Next x) same in
       let way = executes image.regions (refuses most w.machine.outputs) stands.found.instr stands.found.next w.machine after.machine (declared_at w from stands.found stands.fetched)
-          (executed image.regions (refuses most w.machine.outputs) w.machine after.machine stands.found stands.fetched step) in
+      (executed image.regions (refuses most w.machine.outputs) w.machine after.machine stands.found stands.fetched step) in
       gone w after from stands.found stands.fetched stands.reached stands.looked keeps before now step way.way
 
   next_keeps : (w after : World) → IsWorldFrom image start most w → KeepsTo table w → HoldsBytes w.machine → next_world image.regions most w ≡ Some after → KeepsTo table after

@@ -140,6 +140,7 @@ by_target : (regions : Areas) (i : Instr) (next : ℕ) (m after : Machine) → (
 by_target regions i next m after no_jump no_halt h = go (proceeds i (declared_targets regions m.cpu.pc) next m.memory m.cpu no_jump no_halt) where
   at : after.cpu.pc ≡ target i next m.memory m.cpu
   at = sym (ap (λ (n : Machine). n.cpu.pc) (next_in h))
+
   go : Goes i m.cpu.registers.flags (declared_targets regions m.cpu.pc) next (target i next m.memory m.cpu) → GoesOn regions i next m after
   go (inl taken) = record { way = inl (taken, at) }
   go (inr way) = record { way = inr (subst (λ to. MayLeadTo (effect_of i) (declared_targets regions m.cpu.pc) next to) (sym at) way) }

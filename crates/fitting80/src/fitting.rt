@@ -97,8 +97,13 @@ fn entry_fits(
         return false;
     };
     let effect = effect_of(found.instr);
-    has_on_all_ways(table, effect, targets, found.next, pairs_after(found.instr, pairs))
-        && has_anything_behind(table, returning, effect, found.next)
+    has_on_all_ways(
+        table,
+        effect,
+        targets,
+        found.next,
+        pairs_after(found.instr, pairs),
+    ) && has_anything_behind(table, returning, effect, found.next)
 }
 
 /// Whether a table of pairs fits a program that begins at `start`, of which these instructions are reached, by address, and whose

@@ -54,12 +54,36 @@ impl Pairs {
         let Pairs { bc, de, hl } = self;
         match register {
             Register::A => self,
-            Register::B => Pairs { bc: Span::of_halves(half, bc.low()), de, hl },
-            Register::C => Pairs { bc: Span::of_halves(bc.high(), half), de, hl },
-            Register::D => Pairs { bc, de: Span::of_halves(half, de.low()), hl },
-            Register::E => Pairs { bc, de: Span::of_halves(de.high(), half), hl },
-            Register::H => Pairs { bc, de, hl: Span::of_halves(half, hl.low()) },
-            Register::L => Pairs { bc, de, hl: Span::of_halves(hl.high(), half) },
+            Register::B => Pairs {
+                bc: Span::of_halves(half, bc.low()),
+                de,
+                hl,
+            },
+            Register::C => Pairs {
+                bc: Span::of_halves(bc.high(), half),
+                de,
+                hl,
+            },
+            Register::D => Pairs {
+                bc,
+                de: Span::of_halves(half, de.low()),
+                hl,
+            },
+            Register::E => Pairs {
+                bc,
+                de: Span::of_halves(de.high(), half),
+                hl,
+            },
+            Register::H => Pairs {
+                bc,
+                de,
+                hl: Span::of_halves(half, hl.low()),
+            },
+            Register::L => Pairs {
+                bc,
+                de,
+                hl: Span::of_halves(hl.high(), half),
+            },
         }
     }
 

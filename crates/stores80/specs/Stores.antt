@@ -4,17 +4,17 @@ use Rattle.std.specs.Prelude.{◌≡◌, ◌≢◌, ◌↔◌, ◌<◌, ℕ, Boo
 use Rattle.decode80.specs.declared.instr.Instr.{Instr}
 use Rattle.decode80.specs.declared.fetching.Fetched.{Fetched}
 use Rattle.image80.specs.Regions.{Areas, in_data}
-use Rattle.image80.specs.Image.{Located}
+use Rattle.image80.specs.Image.{Located, memory_of}
 use Rattle.machine80.specs.declared.end.End.{End}
 use Rattle.machine80.specs.declared.end.End.TheVariants.{Halt, InputEnd, OutputRefused, StoreOutside, JumpOutside, Fetch, Stack, Direct}
 use Rattle.machine80.specs.Effects.{pointed_bytes}
 use Rattle.machine80.specs.Step.{Machine, Stop}
-use Rattle.machine80.specs.World.{World, turn_at, fetched_by}
+use Rattle.machine80.specs.World.{World, IsWorldOf, turn_at, fetched_by}
 use Rattle.flow80.specs.Code.{Code}
 use Rattle.verify80.specs.Looking.{code_of, is_pchl}
 use Rattle.soundness80.specs.Starts.{IsStart, IsWorldFrom}
 use Rattle.soundness80.specs.Reached.{IsReached}
-use Rattle.spans80.specs.Bytes.{HoldsBytes}
+use Rattle.spans80.specs.Bytes.{HasBytes, HoldsBytes}
 use Rattle.spans80.specs.Span.{Within}
 use Rattle.stores80.specs.declared.stores.OpenStore.{OpenStore}
 use Rattle.stores80.specs.Pointers.{stores_by_pair}
@@ -84,3 +84,16 @@ pub record AreStoresOf (image : Located) (addresses : List ℕ) (open_stores : L
   pub each_jump : AreReachedAs (code_of image) is_pchl jumps
   pub stores_go : StoresGoAsListed image open_stores
   pub runs_end : RunsEndAsListed image open_stores jumps
+
+-- the runs of the watched machine, which begin with the image's memory and with registers of 0, are some of these, if bytes wait at
+-- the ports: their stores go as listed, and they end as listed
+pub record WatchedRunsGoAsListed (image : Located) (open_stores : List OpenStore) (jumps : List ℕ) : Type 0 where
+  pub stores_go : (most : Option ℕ) (w : World) (run : IsWorldOf image most w) → All HasBytes run.inputs → (found : Fetched) →
+      fetched_by image.regions w ≡ Some found →
+      All (GoesAsListed image.regions open_stores w.machine.cpu.pc) (pointed_bytes found.instr w.machine.cpu.registers)
+  pub runs_end : (most : Option ℕ) (w : World) (run : IsWorldOf image most w) → All HasBytes run.inputs → (e : End) →
+      turn_at image.regions most w ≡ Stop e → EndsAsListed open_stores jumps w.machine.cpu.pc e
+
+abbrev pub StoresAreThoseOfWatchedRuns : Type 0
+StoresAreThoseOfWatchedRuns = (image : Located) (addresses : List ℕ) (open_stores : List OpenStore) (jumps : List ℕ) →
+    HasBytes (memory_of image.chunks) → AreStoresOf image addresses open_stores jumps → WatchedRunsGoAsListed image open_stores jumps

@@ -10,7 +10,7 @@ pub loop-place-preserved : goal.loop-place-preserved
 loop-place-preserved c at found h e =
     below_more
     (λ at. (found : Fetched) → entry_in (slice_get c.args.reached.now at) ≡ Some found →
-        EntryFits (λ entry. is_marked c.args.returning.now entry ≡ true) (declared_targets c.args.regions.now at) c.args.table.now at found)
+    EntryFits (λ entry. is_marked c.args.returning.now entry ≡ true) (declared_targets c.args.regions.now at) c.args.table.now at found)
     c.loop-place.place (λ k below found e. c.loop-place.invariant k found below e) (c.if-not-fits_at.ensures refl) at h found e
 
 pub returns : goal.returns
