@@ -2,6 +2,7 @@
 
 use crate::commands::absolute::{ABSOLUTE, AbsoluteArguments};
 use crate::commands::checking::CHECK;
+use crate::commands::comparing::{COMPARE, CompareArguments};
 use crate::commands::explaining::EXPLAIN;
 use crate::commands::extracting::{EXTRACT, ExtractArguments};
 use crate::commands::library::{LIB, LibraryArguments};
@@ -33,6 +34,7 @@ pub enum Request<'a> {
     Map(MapArguments<'a>),
     Extract(ExtractArguments<'a>),
     Absolute(AbsoluteArguments<'a>),
+    Compare(CompareArguments<'a>),
 }
 
 const ABOUT: &str = "Links, locates, verifies and runs 8080 programs from OMF-80 object files";
@@ -43,10 +45,10 @@ hexadecimal, its regions, a line INPUTS, its inputs) and prints the transcript
 of its run. Files have at most 1048576 bytes, a bundle 4194312.
 
 The exit status is 0 if the command is done or the program halted, 1 if the
-verifier refuses the program or cases sees no table for a PCHL, 2 at a fault of
-the arguments or of a file, and for help, 3 if the program stops at an empty
-port, a refused output, a store outside data or a jump outside its declared
-targets, and 4 if its steps are used up.
+verifier refuses the program, cases sees no table for a PCHL or compare finds
+other bytes, 2 at a fault of the arguments or of a file, and for help, 3 if the
+program stops at an empty port, a refused output, a store outside data or a jump
+outside its declared targets, and 4 if its steps are used up.
 
 Example: plm80 locate readings.obj readings.img readings.regions
          plm80 run readings.img readings.regions readings.inputs
@@ -60,8 +62,8 @@ fn main_commands() -> [Syntax<'static>; 6] {
 }
 
 /// The other commands, in the order of the help text.
-fn other_commands() -> [Syntax<'static>; 6] {
-    [LIB, REGIONS, CASES, MAP, EXTRACT, ABSOLUTE]
+fn other_commands() -> [Syntax<'static>; 7] {
+    [LIB, REGIONS, CASES, MAP, EXTRACT, ABSOLUTE, COMPARE]
 }
 
 /// The command of a name.
@@ -171,7 +173,8 @@ fn asked_for<'a>(
         "cases" => Request::Cases(ProgramFiles::of(arguments)),
         "map" => Request::Map(MapArguments::of(arguments)),
         "extract" => Request::Extract(ExtractArguments::of(arguments)),
-        "absolute" => Request::Absolute(AbsoluteArguments::of(arguments)),
+        "absolute" => Request::Absolute(AbsoluteArguments::of(alloc, arguments)?),
+        "compare" => Request::Compare(CompareArguments::of(arguments)),
         _ => return Ok(None),
     };
     Ok(Some(request))
