@@ -35,7 +35,8 @@ const SHOWN: usize = 8;
 /// dump, and then one such as `SAME 2046 OF 2048`.
 ///
 /// # Errors
-/// `PastMemory` exactly where the dump goes past FFFF; `Memory` only where memory ran out.
+/// `EmptyFile` exactly where the dump has no bytes, `PastMemory` exactly where it goes past FFFF; `Memory` only where memory ran
+/// out.
 pub fn compare(
     alloc: Global,
     image: &Image,
@@ -47,11 +48,35 @@ pub fn compare(
         AreDifferences (bytes_over fill image.now.chunks first (length dump.now)) dump.now first c.ranges.items) }
     ensures text { IfOk result (λ c. c.text.items
         ≡ comparison_text (bytes_over fill image.now.chunks first (length dump.now)) dump.now first c.ranges.items) }
+    ensures empty { IsErrOf result RomFault.EmptyFile ↔ (length dump.now ≡ 0) }
     ensures past { IsErrOf result RomFault.PastMemory ↔ (65536 < first + length dump.now) }
 {
+    if dump.is_empty() {
+        return Err(RomFault::EmptyFile);
+    }
     if dump.len() > 65536 - usize::from(first) {
         return Err(RomFault::PastMemory);
     }
+    match compare_in_memory(alloc, image, first, dump, fill) {
+        Ok(comparison) => Ok(comparison),
+        Err(_) => Err(RomFault::Memory),
+    }
+}
+
+/// Compares them where the dump lies in memory.
+fn compare_in_memory(
+    alloc: Global,
+    image: &Image,
+    first: u16,
+    dump: &[u8],
+    fill: u8,
+) -> Result<Comparison, RomFault>
+    requires { first + length dump.now ≤ 65536 }
+    ensures ranges { IfOk result (λ c.
+        AreDifferences (bytes_over fill image.now.chunks first (length dump.now)) dump.now first c.ranges.items) }
+    ensures text { IfOk result (λ c. c.text.items
+        ≡ comparison_text (bytes_over fill image.now.chunks first (length dump.now)) dump.now first c.ranges.items) }
+{
     let bytes = bytes_over(alloc, image, first, dump.len() as u32, fill)?;
     Ok(compare_bytes(alloc, first, &bytes, dump)?)
 }

@@ -1,7 +1,7 @@
 use Rattle.std.proofs.Common.{◌∙◌, ap, length, List, ℕ}
 use Rattle.std.proofs.lemmas.List.FromFn.{length-map-range_with_len}
 use Rattle.rom80.specs.Rom.{byte_or}
-use Rattle.rom80.proofs.comparing.compare.Goals as goal
+use Rattle.rom80.proofs.comparing.compare_in_memory.Goals as goal
 
 pub compare_bytes-requires-clause-same : goal.compare_bytes-requires-clause-same
 compare_bytes-requires-clause-same c =
