@@ -55,15 +55,20 @@ Example: plm80 locate readings.obj readings.img readings.regions
 
 Faults and what to do: docs/FAULTS.md (installed: share/doc/plm80), man plm80.";
 
-/// The commands of files and of located programs, in the order of the help text. (Two functions make the commands, since one
-/// proof of all their texts is more than the prover takes.)
+/// The commands of files and of located programs, in the order of the help text. (Several functions make the commands, since
+/// one proof of all their texts is more than the prover takes.)
 fn main_commands() -> [Syntax<'static>; 6] {
     [LINK, LOCATE, RUN, LIST, CHECK, EXPLAIN]
 }
 
 /// The other commands, in the order of the help text.
-fn other_commands() -> [Syntax<'static>; 7] {
-    [LIB, REGIONS, CASES, MAP, EXTRACT, ABSOLUTE, COMPARE]
+fn other_commands() -> [Syntax<'static>; 6] {
+    [LIB, REGIONS, CASES, MAP, EXTRACT, ABSOLUTE]
+}
+
+/// The commands that came last, in the order of the help text.
+fn further_commands() -> [Syntax<'static>; 1] {
+    [COMPARE]
 }
 
 /// The command of a name.
@@ -74,6 +79,11 @@ fn command_of(name: &str) -> Option<Syntax<'static>> {
         }
     }
     for command in other_commands() {
+        if command.name == name {
+            return Some(command);
+        }
+    }
+    for command in further_commands() {
         if command.name == name {
             return Some(command);
         }
@@ -138,6 +148,9 @@ fn program<'a>(alloc: Global) -> Result<Command<'a>, AllocError> {
         program = command.add_to(alloc, program)?;
     }
     for command in other_commands() {
+        program = command.add_to(alloc, program)?;
+    }
+    for command in further_commands() {
         program = command.add_to(alloc, program)?;
     }
     Ok(program)
