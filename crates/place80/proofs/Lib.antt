@@ -13,3 +13,4 @@ pub mod ImageFileLemmas
 pub mod LaidOut
 pub mod FitLemmas
 pub mod LocatedRegions
+mod RestartLemmas

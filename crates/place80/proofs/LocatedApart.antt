@@ -18,21 +18,21 @@ use Rattle.place80.specs.Locating.{range_at, located_code, located_stack, locate
 use Rattle.place80.proofs.LocatedDisjoint.{EndsInMemory, find_none}
 
 -- 1 where the range holds the address, and else 0
-abbrev holds : ℕ → Range → ℕ
+abbrev pub holds : ℕ → Range → ℕ
 holds address range = cond (in_range range address) 1 0
 
-held_more : (address : ℕ) (range : Range) (ranges : List Range)
+pub held_more : (address : ℕ) (range : Range) (ranges : List Range)
     → held address (range ∷ ranges) ≡ holds address range + held address ranges
 held_more address range ranges = sum_by-cons (holds address) range ranges
 
-held_append : (address : ℕ) (xs ys : List Range) → held address (xs ++ ys) ≡ held address xs + held address ys
+pub held_append : (address : ℕ) (xs ys : List Range) → held address (xs ++ ys) ≡ held address xs + held address ys
 held_append address xs ys = sum_by-append (holds address) xs ys
 
 pub empty_holds : (address : ℕ) (range : Range) → nat_lt 0 range.length ≡ false → in_range range address ≡ false
 empty_holds address range empty = grind (arith, nat_tests, empty)
 
 -- to leave out empty ranges leaves out no address
-held_filled : (address : ℕ) (ranges : List Range) → held address (filled ranges) ≡ held address ranges
+pub held_filled : (address : ℕ) (ranges : List Range) → held address (filled ranges) ≡ held address ranges
 held_filled address [] = refl
 held_filled address (r ∷ rs) = elim (cases_Bool (nat_lt 0 r.length)) [
   | inl e ↦
@@ -47,7 +47,7 @@ held_filled address (r ∷ rs) = elim (cases_Bool (nat_lt 0 r.length)) [
 ]
 
 -- how often an address is held by the segments that pass a test
-abbrev held_where : ℕ → (Placed → Bool) → List Placed → ℕ
+abbrev pub held_where : ℕ → (Placed → Bool) → List Placed → ℕ
 held_where address test segments = held address (map range_at (filter test segments))
 
 held_if : (address : ℕ) (b : Bool) (p : Placed) (ps : List Placed) →
@@ -64,7 +64,7 @@ one_of_three id n = elim (cases_Bool (id == 1)) [
 ]
 
 -- code, stacks and data are all segments
-held_in_three : (address : ℕ) (segments : List Placed) →
+pub held_in_three : (address : ℕ) (segments : List Placed) →
     held_where address (λ p. p.id == 1) segments + held_where address (λ p. p.id == 3) segments + held_where address
     (λ p. not (p.id == 1 || p.id == 3)) segments
     ≡ held address (map range_at segments)
@@ -79,7 +79,7 @@ held_in_three address (p ∷ ps) =
     omega (arith, code, stack, other, rest, one, whole)
 
 -- the one stack holds no more than all of them
-held_stack : (address : ℕ) (segments : List Placed)
+pub held_stack : (address : ℕ) (segments : List Placed)
     → holds address (located_stack segments) ≤ held_where address (λ p. p.id == 3) segments
 held_stack address [] =
     let none : holds address (range_at (nowhere 3)) ≡ 0 =
@@ -129,7 +129,7 @@ share_then_overlap p q address above below other_above other_below =
     (lt-ltb p.base (q.base + q.length) (omega arith)))
     (lt-ltb q.base (p.base + p.length) (omega arith))
 
-not_in : (p q : Placed) (address : ℕ) → EndsInMemory p → EndsInMemory q → overlaps p q ≡ false
+pub not_in : (p q : Placed) (address : ℕ) → EndsInMemory p → EndsInMemory q → overlaps p q ≡ false
     → in_range (range_at p) address ≡ true → in_range (range_at q) address ≡ false
 not_in p q address ends other_ends apart inside = elim (cases_Bool (in_range (range_at q) address)) [
   | inl e ↦
@@ -156,7 +156,7 @@ pub none_of_both : {A : Type 0} (a b : Option A) → option_or a b ≡ None → 
 none_of_both None b none = (refl, none)
 none_of_both (Some x) b none = absurd cc
 
-held_once : (address : ℕ) (segments : List Placed) → All EndsInMemory segments
+pub held_once : (address : ℕ) (segments : List Placed) → All EndsInMemory segments
     → find (λ pq. overlaps pq.0 pq.1) (pairs segments) ≡ None →
     held address (map range_at segments) ≤ 1
 held_once address [] ends none = omega arith

@@ -4,3 +4,4 @@ pub mod Locating
 pub mod ImageFile
 pub mod LayoutLaws
 pub mod LocatedLaws
+pub mod Restart

@@ -5,6 +5,7 @@
 //! | [`layout`], [`Layout`], [`Placed`] | the segments of a program at their places |
 //! | [`place_of`] | the address of an offset in one of them: where a public name lies |
 //! | [`locate`], [`Options`], [`PlaceFault`] | a program made an image, where its segments go, and why it can't be located |
+//! | [`locate_with_restart`] | the same with a jump to the program's start at address 0 |
 //! | [`write_image`], [`read_image`], [`ImageFault`] | an image as an object file, and why bytes are no image |
 //! | [`Image`], [`Chunk`] | a located program, which stands in `image80` |
 //! | [`Regions`], [`Range`], [`Case`], [`RegionMap`] | its regions, which stand there too |
@@ -27,6 +28,7 @@ mod outside;
 mod overlap;
 mod place_fault;
 mod placed_segments;
+mod restarting;
 
 pub use addresses::place_of;
 pub use image_fault::ImageFault;
@@ -40,3 +42,4 @@ pub use locating::locate;
 pub use options::Options;
 pub use place_fault::PlaceFault;
 pub use placed_segments::{Layout, Placed};
+pub use restarting::locate_with_restart;

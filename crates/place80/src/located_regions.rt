@@ -23,7 +23,7 @@ pub(crate) fn located_regions(alloc: Global, segments: &[Placed]) -> Result<Regi
 }
 
 /// The ranges of CODE, without an empty one.
-fn code_ranges(alloc: Global, segments: &[Placed]) -> Result<Vec<Range>, AllocError>
+pub(crate) fn code_ranges(alloc: Global, segments: &[Placed]) -> Result<Vec<Range>, AllocError>
     requires { AllByRecursion (λ p. p.length < 65536) segments.now }
     ensures { IfOk result (λ ranges. ranges.items ≡ located_code segments.now) }
 {
@@ -37,7 +37,7 @@ fn code_ranges(alloc: Global, segments: &[Placed]) -> Result<Vec<Range>, AllocEr
 }
 
 /// The ranges of DATA, MEMORY and all commons, without the empty ones.
-fn data_ranges(alloc: Global, segments: &[Placed]) -> Result<Vec<Range>, AllocError>
+pub(crate) fn data_ranges(alloc: Global, segments: &[Placed]) -> Result<Vec<Range>, AllocError>
     requires { AllByRecursion (λ p. p.length < 65536) segments.now }
     ensures { IfOk result (λ ranges. ranges.items ≡ located_data segments.now) }
 {
@@ -68,7 +68,7 @@ fn push_filled(ranges: &mut Vec<Range>, range: Range) -> Result<(), AllocError>
 }
 
 /// The range of STACK.
-fn stack_range(segments: &[Placed]) -> Range
+pub(crate) fn stack_range(segments: &[Placed]) -> Range
     requires { AllByRecursion (λ p. p.length < 65536) segments.now }
     ensures { result ≡ located_stack segments.now }
 {

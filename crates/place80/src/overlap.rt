@@ -39,7 +39,7 @@ fn first_later(placed: Placed, others: &[Placed]) -> Option<u8>
 }
 
 /// The first absolute content with its first segment that share an address.
-fn first_over_absolute(contents: &[Content], segments: &[Placed]) -> Option<(u8, u8)>
+pub(crate) fn first_over_absolute(contents: &[Content], segments: &[Placed]) -> Option<(u8, u8)>
     ensures { result ≡ first_shared (with_each segments.now (absolute_places contents.now)) }
 {
     for content in contents {
@@ -63,7 +63,7 @@ fn first_over_content(content: &Content, segments: &[Placed]) -> Option<u8>
 }
 
 /// The first segment that shares an address with the `length` bytes from `base` on.
-fn first_over(base: u64, length: u64, segments: &[Placed]) -> Option<u8>
+pub(crate) fn first_over(base: u64, length: u64, segments: &[Placed]) -> Option<u8>
     requires { base + length < 18446744073709551616 }
     ensures { result ≡ first_over (record { id = 0; base = base; length = length }) segments.now }
 {

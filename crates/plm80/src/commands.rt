@@ -4,6 +4,7 @@ mod absolute;
 mod arguments;
 mod check_text;
 mod checking;
+mod comparing;
 mod explain_text;
 mod explaining;
 mod extracting;
@@ -72,8 +73,9 @@ fn perform(rt: &HostRuntime, request: Request<'_>) -> Result<u8, Reported> {
         Request::Cases(files) => suggesting::suggest_for_files(rt, files),
         Request::Map(arguments) => mapping::map_file(rt, arguments),
         Request::Extract(arguments) => extracting::extract_file(rt, arguments),
-        Request::Absolute(arguments) => absolute::write_absolute(rt, arguments),
+        Request::Absolute(arguments) => absolute::write_absolute(rt, &arguments),
         Request::Stores(files) => stores::list_stores(rt, files),
+        Request::Compare(arguments) => comparing::compare_files(rt, arguments),
     }
 }
 

@@ -1,1 +1,2 @@
 mod ChunkLemmas
+pub mod CompareLemmas

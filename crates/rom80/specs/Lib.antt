@@ -1,2 +1,3 @@
 pub mod Rom
 pub mod RomLaws
+pub mod Compare

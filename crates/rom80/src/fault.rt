@@ -10,6 +10,12 @@ pub enum RomFault {
     /// Out of memory.
     #[error("Memory")]
     Memory,
+    /// A file of bytes has none.
+    #[error("EmptyFile")]
+    EmptyFile,
+    /// An address is one of two dumps.
+    #[error("DumpsOverlap")]
+    DumpsOverlap,
 }
 
 impl From<AllocError> for RomFault {

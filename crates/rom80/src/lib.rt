@@ -1,20 +1,27 @@
-//! The bytes of a read-only memory: an image's bytes over a range, for a PROM programmer, and the image of bytes that were read
-//! from one.
+//! The bytes of a read-only memory: an image's bytes over a range, for a PROM programmer, the image of bytes that were read
+//! from some, and where an image and such bytes differ.
 //!
 //! | Item | What it is |
 //! |---|---|
 //! | [`bytes_over`] | the bytes of an image's memory over a range |
-//! | [`image_of_bytes`] | the image whose memory is bytes from an address on |
-//! | [`no_regions`] | the regions of such an image, which have no address |
+//! | [`sum_text`] | the line with the sum of bytes |
+//! | [`Dumps`] | dumps of read-only memories, each at its address, and the image of them |
+//! | [`compare`], [`Comparison`], [`Difference`] | where an image and a dump differ |
+//! | [`no_regions`] | the regions of an image of dumps, which have no address |
 //! | [`RomFault`] | why there are none |
 //! | [`laws`] | what holds of the definitions alone |
 #![tactic(auto)]
 
+mod comparing;
+mod dumps;
 mod extracting;
 mod fault;
 pub mod laws;
+mod memory;
 mod placing;
 
-pub use extracting::bytes_over;
+pub use comparing::{Comparison, Difference, compare};
+pub use dumps::Dumps;
+pub use extracting::{bytes_over, sum_text};
 pub use fault::RomFault;
-pub use placing::{image_of_bytes, no_regions};
+pub use placing::no_regions;

@@ -1,51 +1,14 @@
-//! The image of bytes.
+//! The chunks of bytes.
 
-ghost use Rattle.std.specs.Prelude.{◌≡◌, ◌≤◌, ◌+◌, ◌<◌, ◌↔◌, ◌++◌, [], ℕ, length, IfOk, OnOk, IsErrOf};
-ghost use Rattle.image80.specs.Image.{byte_at};
+ghost use Rattle.std.specs.Prelude.{◌≡◌, ◌≤◌, ◌+◌, ◌<◌, ◌++◌, [], length, IfOk, OnOk};
 ghost use Rattle.image80.specs.Regions.{Arranges};
-ghost use Rattle.rom80.specs.Rom.{chunks_at, chunks_of, byte_among};
+ghost use Rattle.rom80.specs.Rom.{chunks_at, chunks_of};
 
-use crate::fault::RomFault;
-use crate::laws::chunks_hold_their_bytes;
-use image80::{Chunk, Image, Range, Regions};
-use omf_core::Name;
+use image80::{Chunk, Range, Regions};
 use std::alloc::{AllocError, Global};
 
 /// The bytes that one content record carries at most.
 const CONTENT: usize = 65531;
-
-/// The image of this name whose memory has the bytes from the address `first` on, and 0 everywhere else. It starts at `start`, in
-/// a chunk of the first 65531 bytes and, where there are more, another one of the others. Its regions have no address: whoever
-/// runs the image owes it others.
-///
-/// # Errors
-/// `PastMemory` exactly where the bytes go past FFFF; `Memory` only where memory ran out.
-pub fn image_of_bytes(
-    alloc: Global,
-    name: Name,
-    first: u16,
-    start: u16,
-    bytes: &[u8],
-) -> Result<Image, RomFault>
-    ensures memory { IfOk result (λ image. (address : ℕ) → byte_at image.chunks address ≡ byte_among first bytes.now address) }
-    ensures chunks { IfOk result (λ image. image.chunks ≡ chunks_of first bytes.now) }
-    ensures name { IfOk result (λ image. image.name ≡ name) }
-    ensures start { IfOk result (λ image. image.start ≡ start) }
-    ensures regions { IfOk result (λ image. Arranges [] (record { first = 0; length = 0 }) [] image.regions) }
-    ensures past { IsErrOf result RomFault.PastMemory ↔ (65536 < first + length bytes.now) }
-{
-    if bytes.len() > 65536 - usize::from(first) {
-        return Err(RomFault::PastMemory);
-    }
-    chunks_hold_their_bytes();
-    let chunks = chunks_of(alloc, first, bytes)?;
-    Ok(Image {
-        name,
-        chunks,
-        regions: no_regions(alloc),
-        start,
-    })
-}
 
 /// Regions that have no address, for an image whose regions don't matter.
 pub fn no_regions(alloc: Global) -> Regions
@@ -59,7 +22,7 @@ pub fn no_regions(alloc: Global) -> Regions
 }
 
 /// The chunks of bytes from an address on.
-fn chunks_of(alloc: Global, first: u16, bytes: &[u8]) -> Result<Vec<Chunk>, AllocError>
+pub(crate) fn chunks_of(alloc: Global, first: u16, bytes: &[u8]) -> Result<Vec<Chunk>, AllocError>
     requires { first + length bytes.now ≤ 65536 }
     ensures { IfOk result (λ chunks. chunks.items ≡ chunks_of first bytes.now) }
 {

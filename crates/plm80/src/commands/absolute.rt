@@ -8,27 +8,30 @@ use crate::commands::number_text::word_of_digits;
 use crate::commands::syntax::{Argument, Kind, Syntax};
 use clap::ArgMatches;
 use image80::Image;
-use omf_core::Name;
 use place80::write_image;
-use rom80::{RomFault, image_of_bytes};
+use rom80::{Dumps, RomFault};
+use std::alloc::{AllocError, Global};
 
 /// The arguments of `absolute`.
-#[derive(Clone, Copy)]
+#[derive(Drop)]
 pub struct AbsoluteArguments<'a> {
     bytes: &'a str,
     image: &'a str,
     first: &'a str,
     start: &'a str,
     name: &'a str,
+    /// Further dumps, each as `hhhh=FILE`.
+    further: Vec<&'a str>,
 }
 
 const ABOUT: &str = "Writes an image of raw bytes, such as a PROM's";
 
 const AFTER_HELP: &str = "\
 BIN has the bytes of the addresses from FIRST on, up to FFFF at most, and nothing
-else. FIRST and START are one to four hexadecimal digits in either case, without
-h or 0x. You write the regions of the image by hand, as docs/USING.md shows in
-'Absolute firmware'.
+else. Each --rom names another PROM by its address, an equals sign and its file,
+as --rom 1000=high.bin; no two may share an address. Addresses are one to four
+hexadecimal digits in either case, without h or 0x. You write the regions of the
+image by hand, as docs/USING.md shows in 'Absolute firmware'.
 
 Example: plm80 absolute rom.bin rom.img --first 0 --start 0 --name ROM
 
@@ -65,48 +68,104 @@ pub const ABSOLUTE: Syntax<'static> = Syntax {
             kind: Kind::Required("NAME"),
             help: "The name of the image's module",
         },
+        Argument {
+            name: "rom",
+            kind: Kind::PathsAt("ADDRESS=FILE"),
+            help: "Another file of bytes, and the address of the first",
+        },
     ],
 };
 
 impl<'a> AbsoluteArguments<'a> {
     /// The arguments as clap has read them.
-    pub fn of(matches: &ArgMatches<'a>) -> AbsoluteArguments<'a> {
-        AbsoluteArguments {
+    pub fn of(alloc: Global, matches: &ArgMatches<'a>) -> Result<AbsoluteArguments<'a>, AllocError> {
+        Ok(AbsoluteArguments {
             bytes: path_of(matches, "BIN"),
             image: path_of(matches, "IMAGE"),
             first: path_of(matches, "first"),
             start: path_of(matches, "start"),
             name: path_of(matches, "name"),
-        }
+            further: Vec::from_slice(alloc, matches.get_strs("rom").unwrap_or(&[]))?,
+        })
     }
 }
 
-/// Writes the image of the bytes. No file is created or changed before every other fault is excluded.
-pub fn write_absolute(rt: &HostRuntime, arguments: AbsoluteArguments<'_>) -> Result<u8, Reported> {
-    let (Some(first), Some(start)) = (
-        word_of_digits(arguments.first),
-        word_of_digits(arguments.start),
-    ) else {
-        return Err(report(rt, "BadNumber"));
-    };
-    let name = name_of(rt, arguments.name)?;
-    let image = read_bytes(rt, arguments.bytes, name, first, start)?;
-    write_file(rt, arguments.image, &image)
+/// A file of bytes, and the address of the first of them.
+#[derive(Clone, Copy)]
+struct RomFile<'a> {
+    first: u16,
+    path: &'a str,
 }
 
-/// The image of the bytes that the file of this path has.
-fn read_bytes(
+/// Writes the image of the bytes. No file is created or changed before every other fault is excluded.
+pub fn write_absolute(rt: &HostRuntime, arguments: &AbsoluteArguments<'_>) -> Result<u8, Reported> {
+    let Some(start) = word_of_digits(arguments.start) else {
+        return Err(report(rt, "BadNumber"));
+    };
+    let files = files_of(rt, arguments)?;
+    let name = name_of(rt, arguments.name)?;
+    let dumps = read_dumps(rt, &files)?;
+    write_file(rt, arguments.image, &dumps.into_image(rt.alloc(), name, start))
+}
+
+/// The files of the arguments with their addresses, in order.
+fn files_of<'a>(
     rt: &HostRuntime,
-    path: &str,
-    name: Name,
-    first: u16,
-    start: u16,
-) -> Result<Image, Reported> {
-    let bytes = read_whole(rt, path)?;
-    match image_of_bytes(rt.alloc(), name, first, start, &bytes) {
-        Ok(image) => Ok(image),
+    arguments: &AbsoluteArguments<'a>,
+) -> Result<Vec<RomFile<'a>>, Reported> {
+    let mut files = Vec::new(rt.alloc());
+    add_file(rt, &mut files, file_at(arguments.first, arguments.bytes))?;
+    for further in &arguments.further {
+        add_file(rt, &mut files, file_of(further))?;
+    }
+    Ok(files)
+}
+
+/// Adds a file; there is none where its address is no number of its form.
+fn add_file<'a>(
+    rt: &HostRuntime,
+    files: &mut Vec<RomFile<'a>>,
+    file: Option<RomFile<'a>>,
+) -> Result<(), Reported> {
+    let Some(file) = file else {
+        return Err(report(rt, "BadNumber"));
+    };
+    match files.push(file) {
+        Ok(()) => Ok(()),
+        Err(_) => Err(report_memory(rt)),
+    }
+}
+
+/// The file that an address, an equals sign and a path name.
+fn file_of(text: &str) -> Option<RomFile<'_>> {
+    let (first, path) = text.split_once('=')?;
+    file_at(first, path)
+}
+
+/// The file of this path, at the address that the digits write.
+fn file_at<'a>(first: &str, path: &'a str) -> Option<RomFile<'a>> {
+    Some(RomFile {
+        first: word_of_digits(first)?,
+        path,
+    })
+}
+
+/// The dumps that the files hold. Each file is looked at before the next one is opened.
+fn read_dumps(rt: &HostRuntime, files: &[RomFile<'_>]) -> Result<Dumps, Reported> {
+    let mut dumps = Dumps::new(rt.alloc());
+    for file in files {
+        add_dump(rt, &mut dumps, *file)?;
+    }
+    Ok(dumps)
+}
+
+/// Adds the dump that a file holds.
+fn add_dump(rt: &HostRuntime, dumps: &mut Dumps, file: RomFile<'_>) -> Result<(), Reported> {
+    let bytes = read_whole(rt, file.path)?;
+    match dumps.add(rt.alloc(), file.first, &bytes) {
+        Ok(()) => Ok(()),
         Err(RomFault::Memory) => Err(report_memory(rt)),
-        Err(fault) => Err(report_file(rt, path, fault)),
+        Err(fault) => Err(report_file(rt, file.path, fault)),
     }
 }
 

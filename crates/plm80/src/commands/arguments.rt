@@ -2,6 +2,7 @@
 
 use crate::commands::absolute::{ABSOLUTE, AbsoluteArguments};
 use crate::commands::checking::CHECK;
+use crate::commands::comparing::{COMPARE, CompareArguments};
 use crate::commands::explaining::EXPLAIN;
 use crate::commands::extracting::{EXTRACT, ExtractArguments};
 use crate::commands::library::{LIB, LibraryArguments};
@@ -35,6 +36,7 @@ pub enum Request<'a> {
     Extract(ExtractArguments<'a>),
     Absolute(AbsoluteArguments<'a>),
     Stores(ProgramFiles<'a>),
+    Compare(CompareArguments<'a>),
 }
 
 const ABOUT: &str = "Links, locates, verifies and runs 8080 programs from OMF-80 object files";
@@ -45,18 +47,18 @@ hexadecimal, its regions, a line INPUTS, its inputs) and prints the transcript
 of its run. Files have at most 1048576 bytes, a bundle 4194312.
 
 The exit status is 0 if the command is done or the program halted, 1 if the
-verifier refuses the program, stores lists something or cases sees no table for
-a PCHL, 2 at a fault of the arguments or of a file, and for help, 3 if the
-program stops at an empty port, a refused output, a store outside data or a jump
-outside its declared targets, and 4 if its steps are used up.
+verifier refuses the program, or as the help of stores, cases and compare says,
+2 at a fault of the arguments or of a file, and for help, 3 if the program stops
+at an empty port, a refused output, a store outside data or a jump outside its
+declared targets, and 4 if its steps are used up.
 
 Example: plm80 locate readings.obj readings.img readings.regions
          plm80 run readings.img readings.regions readings.inputs
 
 Faults and what to do: docs/FAULTS.md (installed: share/doc/plm80), man plm80.";
 
-/// The commands of files and of located programs, in the order of the help text. (Several functions make the commands, since one
-/// proof of all their texts is more than the prover takes.)
+/// The commands of files and of located programs, in the order of the help text. (Several functions make the commands, since
+/// one proof of all their texts is more than the prover takes.)
 fn main_commands() -> [Syntax<'static>; 6] {
     [LINK, LOCATE, RUN, LIST, CHECK, EXPLAIN]
 }
@@ -66,9 +68,9 @@ fn other_commands() -> [Syntax<'static>; 6] {
     [LIB, REGIONS, CASES, MAP, EXTRACT, ABSOLUTE]
 }
 
-/// The commands of programs on a board, in the order of the help text.
-fn board_commands() -> [Syntax<'static>; 1] {
-    [STORES]
+/// The commands that came last, in the order of the help text.
+fn further_commands() -> [Syntax<'static>; 2] {
+    [STORES, COMPARE]
 }
 
 /// The command of a name.
@@ -83,7 +85,7 @@ fn command_of(name: &str) -> Option<Syntax<'static>> {
             return Some(command);
         }
     }
-    for command in board_commands() {
+    for command in further_commands() {
         if command.name == name {
             return Some(command);
         }
@@ -150,7 +152,7 @@ fn program<'a>(alloc: Global) -> Result<Command<'a>, AllocError> {
     for command in other_commands() {
         program = command.add_to(alloc, program)?;
     }
-    for command in board_commands() {
+    for command in further_commands() {
         program = command.add_to(alloc, program)?;
     }
     Ok(program)
@@ -186,8 +188,9 @@ fn asked_for<'a>(
         "cases" => Request::Cases(ProgramFiles::of(arguments)),
         "map" => Request::Map(MapArguments::of(arguments)),
         "extract" => Request::Extract(ExtractArguments::of(arguments)),
-        "absolute" => Request::Absolute(AbsoluteArguments::of(arguments)),
+        "absolute" => Request::Absolute(AbsoluteArguments::of(alloc, arguments)?),
         "stores" => Request::Stores(ProgramFiles::of(arguments)),
+        "compare" => Request::Compare(CompareArguments::of(arguments)),
         _ => return Ok(None),
     };
     Ok(Some(request))

@@ -1,13 +1,13 @@
 //! `plm80 extract`: the bytes of an image's memory over a range, as they are.
 
 use crate::commands::arguments::path_of;
-use crate::commands::fault_line::{Reported, report};
-use crate::commands::files::{read_whole, replace};
-use crate::commands::number_text::word_of_digits;
+use crate::commands::fault_line::{Reported, report, report_memory};
+use crate::commands::files::{print, read_whole, replace};
+use crate::commands::number_text::{byte_of_digits, length_of_digits, word_of_digits};
 use crate::commands::program_files::{IMAGE, image_of};
 use crate::commands::syntax::{Argument, Kind, Syntax};
 use clap::ArgMatches;
-use rom80::{bytes_over, no_regions};
+use rom80::{bytes_over, no_regions, sum_text};
 
 /// The arguments of `extract`.
 #[derive(Clone, Copy)]
@@ -16,15 +16,19 @@ pub struct ExtractArguments<'a> {
     out: &'a str,
     first: &'a str,
     length: &'a str,
+    fill: &'a str,
+    sum: bool,
 }
 
 const ABOUT: &str = "Writes the raw bytes of an image over a range";
 
 const AFTER_HELP: &str = "\
 OUT gets the bytes of the addresses from FIRST on, as many as LENGTH says, and
-nothing else, as a PROM programmer takes them; 00 where the image has none. FIRST
-and LENGTH are one to four hexadecimal digits in either case, without h or 0x, and
-the range ends at FFFF at the latest.
+nothing else, as a PROM programmer takes them; FILL where the image has none, as
+FF in an erased PROM. FIRST is one to four hexadecimal digits, LENGTH one to five,
+so that 10000 is all of memory, and FILL two, in either case, without h or 0x. The
+range ends at FFFF at the latest. --sum prints SUM and the sum of the bytes modulo
+65536, as SUM 1A2B.
 
 Example: plm80 extract readings.img readings.bin --first 3000 --length 0800
 
@@ -52,7 +56,20 @@ pub const EXTRACT: Syntax<'static> = Syntax {
             kind: Kind::Required("LENGTH"),
             help: "The number of bytes",
         },
+        FILL,
+        Argument {
+            name: "sum",
+            kind: Kind::Flag,
+            help: "Print the sum of the bytes",
+        },
     ],
+};
+
+/// The byte where an image has none.
+pub const FILL: Argument<'static> = Argument {
+    name: "fill",
+    kind: Kind::Number("FILL"),
+    help: "The byte where the image has none [default: 00]",
 };
 
 impl<'a> ExtractArguments<'a> {
@@ -63,29 +80,68 @@ impl<'a> ExtractArguments<'a> {
             out: path_of(matches, "OUT"),
             first: path_of(matches, "first"),
             length: path_of(matches, "length"),
+            fill: fill_of(matches),
+            sum: matches.get_flag("sum"),
         }
     }
 }
 
-/// Writes the bytes of the range. No file is created or changed before every other fault is excluded.
+/// The text of the byte where an image has none.
+pub fn fill_of<'a>(matches: &ArgMatches<'a>) -> &'a str {
+    matches.get_str(FILL.name).unwrap_or("00")
+}
+
+/// The bytes of an image that are asked for.
+#[derive(Clone, Copy)]
+struct Extent {
+    first: u16,
+    length: u32,
+    fill: u8,
+}
+
+/// Writes the bytes of the range, and prints their sum where it is asked for. No file is created or changed before every other
+/// fault is excluded.
 pub fn extract_file(rt: &HostRuntime, arguments: ExtractArguments<'_>) -> Result<u8, Reported> {
-    let (Some(first), Some(length)) = (
-        word_of_digits(arguments.first),
-        word_of_digits(arguments.length),
-    ) else {
+    let Some(extent) = extent_of(arguments) else {
         return Err(report(rt, "BadNumber"));
     };
-    let bytes = extracted(rt, arguments.image, first, length)?;
+    let bytes = extracted(rt, arguments.image, extent)?;
     replace(rt, arguments.out, &bytes)?;
+    if arguments.sum {
+        print_sum(rt, &bytes)?;
+    }
     Ok(0)
 }
 
+/// The numbers of the arguments; `None` where one of them has another form.
+fn extent_of(arguments: ExtractArguments<'_>) -> Option<Extent> {
+    Some(Extent {
+        first: word_of_digits(arguments.first)?,
+        length: length_of_digits(arguments.length)?,
+        fill: byte_of_digits(arguments.fill)?,
+    })
+}
+
 /// The bytes over the range of the image that the file of this path holds.
-fn extracted(rt: &HostRuntime, path: &str, first: u16, length: u16) -> Result<Vec<u8>, Reported> {
+fn extracted(rt: &HostRuntime, path: &str, extent: Extent) -> Result<Vec<u8>, Reported> {
     let file = read_whole(rt, path)?;
     let image = image_of(rt, path, &file, no_regions(rt.alloc()))?;
-    match bytes_over(rt.alloc(), &image, first, length) {
+    match bytes_over(
+        rt.alloc(),
+        &image,
+        extent.first,
+        extent.length,
+        extent.fill,
+    ) {
         Ok(bytes) => Ok(bytes),
         Err(fault) => Err(report(rt, fault)),
+    }
+}
+
+/// Prints the sum of the bytes.
+fn print_sum(rt: &HostRuntime, bytes: &[u8]) -> Result<(), Reported> {
+    match sum_text(rt.alloc(), bytes) {
+        Ok(text) => print(rt, &text),
+        Err(_) => Err(report_memory(rt)),
     }
 }

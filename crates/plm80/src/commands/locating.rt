@@ -12,7 +12,7 @@ use crate::commands::syntax::{Argument, Kind, Syntax};
 use clap::ArgMatches;
 use image80::{Image, write_regions};
 use omf_module::Module;
-use place80::{Options, locate, write_image};
+use place80::{Options, PlaceFault, locate, locate_with_restart, write_image};
 use std::alloc::{AllocError, Global};
 
 /// The arguments of `locate`.
@@ -22,6 +22,7 @@ pub struct LocateArguments<'a> {
     image: &'a str,
     regions: &'a str,
     options: LocateTexts<'a>,
+    restart: bool,
 }
 
 const ABOUT: &str = "Places a module in memory: writes its image and its regions";
@@ -34,6 +35,9 @@ Segments are placed in the order CODE, STACK, named commons, unnamed common,
 DATA, MEMORY. One with a base is placed there; any other begins where the one
 before it ends, rounded up to a multiple of 100h if it is paged. Relocations add
 the base of their segment, those to STACK the address after its last byte.
+
+--restart puts a JMP to the program's start at address 0, where the processor
+begins; nothing else may have the addresses 0000 to 0002.
 
 Example: plm80 locate readings.obj readings.img readings.regions --data 4000
 
@@ -67,6 +71,11 @@ pub const LOCATE: Syntax<'static> = Syntax {
         MEMORY_BASE,
         STACK_SIZE,
         MEMORY_SIZE,
+        Argument {
+            name: "restart",
+            kind: Kind::Flag,
+            help: "Put a JMP to the start at address 0",
+        },
     ],
 };
 
@@ -78,6 +87,7 @@ impl<'a> LocateArguments<'a> {
             image: path_of(matches, "IMAGE"),
             regions: path_of(matches, "REGIONS"),
             options: LocateTexts::of(matches),
+            restart: matches.get_flag("restart"),
         }
     }
 }
@@ -88,18 +98,36 @@ pub fn locate_file(rt: &HostRuntime, arguments: LocateArguments<'_>) -> Result<u
     let Some(options) = arguments.options.numbers() else {
         return Err(report(rt, "BadNumber"));
     };
-    let image = located(rt, arguments.object, &options)?;
+    let image = located(rt, arguments.object, &options, arguments.restart)?;
     write_files(rt, arguments, &image)?;
     Ok(0)
 }
 
-/// The one module of the object file of this path at its places, as an image.
-fn located(rt: &HostRuntime, path: &str, options: &Options) -> Result<Image, Reported> {
+/// The one module of the object file of this path at its places, as an image, with a restart where one is asked for.
+fn located(
+    rt: &HostRuntime,
+    path: &str,
+    options: &Options,
+    restart: bool,
+) -> Result<Image, Reported> {
     let modules = read_modules(rt, path)?;
     let program = one_module(rt, path, &modules)?;
-    match locate(rt.alloc(), program, options) {
+    match located_module(rt.alloc(), program, options, restart) {
         Ok(image) => Ok(image),
         Err(fault) => Err(report(rt, fault)),
+    }
+}
+
+fn located_module(
+    alloc: Global,
+    program: &Module,
+    options: &Options,
+    restart: bool,
+) -> Result<Image, PlaceFault> {
+    if restart {
+        locate_with_restart(alloc, program, options)
+    } else {
+        locate(alloc, program, options)
     }
 }
 

@@ -83,7 +83,8 @@ impl<'a> Argument<'a> {
                 matches.get_str(self.name) == Some(path)
             }
             Kind::Paths => matches.get_strs(self.name).unwrap_or(&[]).contains(&path),
-            Kind::Required(_) | Kind::Number(_) | Kind::Count(_) => false,
+            Kind::PathsAt(_) => is_among(matches.get_strs(self.name).unwrap_or(&[]), path),
+            Kind::Required(_) | Kind::Number(_) | Kind::Count(_) | Kind::Flag => false,
         }
     }
 
@@ -92,10 +93,26 @@ impl<'a> Argument<'a> {
         match self.kind {
             Kind::Path | Kind::Written => format!(in alloc; "<{}>", self.name),
             Kind::Paths => format!(in alloc; "<{}>...", self.name),
-            Kind::Required(value) | Kind::WrittenOption(value) | Kind::Number(value) => {
+            Kind::Required(value)
+            | Kind::WrittenOption(value)
+            | Kind::Number(value)
+            | Kind::PathsAt(value) => {
                 format!(in alloc; "--{} <{value}>", self.name)
             }
+            Kind::Flag => format!(in alloc; "--{}", self.name),
             Kind::Count(_) => format!(in alloc; "--{} <N>", self.name),
         }
     }
+}
+
+/// Whether the path is that of one of these values, each a number, an equals sign and a path.
+fn is_among(values: &[&str], path: &str) -> bool {
+    for value in values {
+        if let Some((_, of_value)) = value.split_once('=')
+            && of_value == path
+        {
+            return true;
+        }
+    }
+    false
 }

@@ -38,6 +38,11 @@ pub enum Kind<'a> {
     Number(&'a str),
     /// An option with a number N and this default.
     Count(&'a str),
+    /// An option without a value.
+    Flag,
+    /// An option that may be given more than once, whose values are each a number, an equals sign and the path of a file to
+    /// read; the help text calls one by this word.
+    PathsAt(&'a str),
 }
 
 impl<'a> Syntax<'a> {
@@ -69,6 +74,8 @@ impl<'a> Argument<'a> {
             }
             Kind::Number(value) => option(arg, self.name, value),
             Kind::Count(default) => option(arg, self.name, "N").default_value(default),
+            Kind::Flag => arg.long(self.name).action(ArgAction::SetTrue),
+            Kind::PathsAt(value) => option(arg, self.name, value).action(ArgAction::Append),
         }
     }
 }

@@ -1,0 +1,128 @@
+//! A program at its places with a jump to its start at address 0.
+
+ghost use Rattle.std.specs.Prelude.{◌≡◌, ◌⊎◌, ◌∷◌, ◌++◌, [], None, Some, IfOk, IfErr, OnOk};
+ghost use Rattle.place80.specs.Layout.{layout_of};
+ghost use Rattle.place80.specs.Locating.{Fit, located_chunks, program_start};
+ghost use Rattle.place80.specs.PlaceFault.{first_over, first_shared, with_each, absolute_places};
+ghost use Rattle.place80.specs.Restart.{restart_place, restart_chunk, restart_over, restart_fault, HoldsProgramAndRestart, ArrangesWithRestart};
+ghost use Rattle.place80.specs.declared.place_fault.PlaceFault.TheVariants.{Memory};
+
+use crate::laying_out::layout;
+use crate::located_regions::{code_ranges, data_ranges, stack_range};
+use crate::locating::locate;
+use crate::options::Options;
+use crate::overlap::{first_over, first_over_absolute};
+use crate::place_fault::PlaceFault;
+use crate::placed_segments::Placed;
+use decode80::{Instr, encode};
+use image80::{Chunk, Image, Range, Regions};
+use omf_body::segment_id::ABSOLUTE;
+use omf_module::Module;
+use std::alloc::{AllocError, Global};
+
+/// The program's image at its places, as `locate` makes it, with a JMP to its start at address 0, where the processor begins:
+/// the control RESTART0 of LOCATE. Its memory is that of `locate` but for these three bytes, and they are code, too; its start
+/// is still the program's.
+///
+/// # Errors
+/// Those of `locate`; and then `Overlap` of 0 and the first segment that has one of the addresses 0 to 2, or of 0 and 0 if an
+/// absolute content has one. `Memory` only where memory ran out.
+pub fn locate_with_restart(
+    alloc: Global,
+    program: &Module,
+    options: &Options,
+) -> Result<Image, PlaceFault>
+    ensures name { IfOk result (λ image. image.name ≡ program.now.name) }
+    ensures chunks { IfOk result (λ image.
+        image.chunks ≡ located_chunks options.now program.now ++ restart_chunk image.start ∷ []) }
+    ensures memory { IfOk result (λ image. HoldsProgramAndRestart options.now program.now image.start image.chunks) }
+    ensures regions { IfOk result (λ image. ArrangesWithRestart (layout_of options.now program.now) image.regions) }
+    ensures start { IfOk result (λ image. Some image.start ≡ program_start options.now program.now) }
+    ensures none { OnOk result (restart_fault options.now program.now ≡ None) }
+    ensures fault { IfErr result (λ fault. (fault ≡ Memory) ⊎ (restart_fault options.now program.now ≡ Some fault)) }
+{
+    let image = locate(alloc, program, options)?;
+    // It has no other fault, since it can be located.
+    let Ok(layout) = layout(alloc, program, options) else {
+        return Err(PlaceFault::Memory);
+    };
+    match restart_over(program, &layout.segments) {
+        Some((first, second)) => Err(PlaceFault::Overlap(first, second)),
+        None => Ok(with_restart(alloc, image, &layout.segments)?),
+    }
+}
+
+/// The first segment that has one of the restart's addresses, or else an absolute content that has one, with the restart, which
+/// counts as absolute content.
+fn restart_over(program: &Module, segments: &[Placed]) -> Option<(u8, u8)>
+    ensures { result ≡ restart_over program.now segments.now }
+{
+    match first_over(0, 3, segments) {
+        Some(id) => Some((ABSOLUTE, id)),
+        None => over_contents(program),
+    }
+}
+
+/// An absolute content that has one of the restart's addresses.
+fn over_contents(program: &Module) -> Option<(u8, u8)>
+    ensures { result ≡ first_shared (with_each (restart_place ∷ []) (absolute_places program.now.contents)) }
+{
+    let restart = Placed {
+        id: ABSOLUTE,
+        base: 0,
+        length: 3,
+    };
+    first_over_absolute(program.contents(), [restart].as_slice())
+}
+
+/// The image with the restart, whose segments are these.
+fn with_restart(alloc: Global, image: Image, segments: &[Placed]) -> Result<Image, AllocError>
+    requires fit { Fit segments.now }
+    requires apart { first_over restart_place segments.now ≡ None }
+    ensures name { IfOk result (λ made. made.name ≡ image.name) }
+    ensures chunks { IfOk result (λ made. made.chunks ≡ image.chunks ++ restart_chunk image.start ∷ []) }
+    ensures regions { IfOk result (λ made. ArrangesWithRestart segments.now made.regions) }
+    ensures start { IfOk result (λ made. made.start ≡ image.start) }
+{
+    let regions = regions_with_restart(alloc, segments)?;
+    let Image {
+        name,
+        mut chunks,
+        regions: _,
+        start,
+    } = image;
+    chunks.push(chunk_of_restart(alloc, start)?)?;
+    Ok(Image {
+        name,
+        chunks,
+        regions,
+        start,
+    })
+}
+
+/// The chunk of the restart: a JMP to the start.
+fn chunk_of_restart(alloc: Global, start: u16) -> Result<Chunk, AllocError>
+    ensures { IfOk result (λ chunk. chunk ≡ restart_chunk start) }
+{
+    let (bytes, _) = encode(Instr::Jmp(start));
+    Ok(Chunk {
+        address: 0,
+        bytes: Vec::from_slice(alloc, &bytes)?,
+    })
+}
+
+/// The regions of the segments, with the restart among the code.
+fn regions_with_restart(alloc: Global, segments: &[Placed]) -> Result<Regions, AllocError>
+    requires fit { Fit segments.now }
+    requires apart { first_over restart_place segments.now ≡ None }
+    ensures { IfOk result (ArrangesWithRestart segments.now) }
+{
+    let mut code = code_ranges(alloc, segments)?;
+    code.push(Range {
+        first: 0,
+        length: 3,
+    })?;
+    let stack = stack_range(segments);
+    let data_ranges = data_ranges(alloc, segments)?;
+    Ok(Regions::from_disjoint(alloc, code, stack, data_ranges))
+}

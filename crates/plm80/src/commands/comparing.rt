@@ -1,0 +1,98 @@
+//! `plm80 compare`: where an image and a dump differ.
+
+use crate::commands::arguments::path_of;
+use crate::commands::extracting::{FILL, fill_of};
+use crate::commands::fault_line::{Reported, report, report_file, report_memory};
+use crate::commands::files::{print, read_whole};
+use crate::commands::number_text::{byte_of_digits, word_of_digits};
+use crate::commands::program_files::{IMAGE, image_of};
+use crate::commands::syntax::{Argument, Kind, Syntax};
+use clap::ArgMatches;
+use rom80::{Comparison, RomFault, compare, no_regions};
+
+/// The arguments of `compare`.
+#[derive(Clone, Copy)]
+pub struct CompareArguments<'a> {
+    image: &'a str,
+    dump: &'a str,
+    first: &'a str,
+    fill: &'a str,
+}
+
+const ABOUT: &str = "Prints where an image and a dump of a PROM differ";
+
+const AFTER_HELP: &str = "\
+DUMP has the bytes of the addresses from FIRST on. Each range of addresses at
+which the image has other bytes is a line: its first address, its length, and up
+to eight bytes of the image and of the dump, as in DIFFERS 0123 0002 3E05 3E07,
+all in hexadecimal. The last line counts the bytes that are the same, as in SAME
+2046 OF 2048. FILL, two hexadecimal digits, stands where the image has no byte.
+
+The exit status is 0 if all bytes are the same, 1 if some differ.
+
+Example: plm80 compare readings.img readings.bin --first 3000 --fill FF
+
+Faults and what to do: docs/FAULTS.md (installed: share/doc/plm80), man plm80.";
+
+/// `compare` and its arguments.
+pub const COMPARE: Syntax<'static> = Syntax {
+    name: "compare",
+    about: ABOUT,
+    after_help: AFTER_HELP,
+    arguments: &[
+        IMAGE,
+        Argument {
+            name: "DUMP",
+            kind: Kind::Path,
+            help: "The bytes that were read from a PROM",
+        },
+        Argument {
+            name: "first",
+            kind: Kind::Required("FIRST"),
+            help: "The address of the first byte",
+        },
+        FILL,
+    ],
+};
+
+impl<'a> CompareArguments<'a> {
+    /// The arguments as clap has read them.
+    pub fn of(matches: &ArgMatches<'a>) -> CompareArguments<'a> {
+        CompareArguments {
+            image: path_of(matches, IMAGE.name),
+            dump: path_of(matches, "DUMP"),
+            first: path_of(matches, "first"),
+            fill: fill_of(matches),
+        }
+    }
+}
+
+/// Prints where the image and the dump differ; the status is 1 where they do.
+pub fn compare_files(rt: &HostRuntime, arguments: CompareArguments<'_>) -> Result<u8, Reported> {
+    let (Some(first), Some(fill)) = (
+        word_of_digits(arguments.first),
+        byte_of_digits(arguments.fill),
+    ) else {
+        return Err(report(rt, "BadNumber"));
+    };
+    let comparison = compared(rt, arguments, first, fill)?;
+    print(rt, &comparison.text)?;
+    Ok(if comparison.ranges.is_empty() { 0 } else { 1 })
+}
+
+/// What the comparison of the files gives. Both are read before one is looked at.
+fn compared(
+    rt: &HostRuntime,
+    arguments: CompareArguments<'_>,
+    first: u16,
+    fill: u8,
+) -> Result<Comparison, Reported> {
+    let file = read_whole(rt, arguments.image)?;
+    let dump = read_whole(rt, arguments.dump)?;
+    let image = image_of(rt, arguments.image, &file, no_regions(rt.alloc()))?;
+    match compare(rt.alloc(), &image, first, &dump, fill) {
+        Ok(comparison) => Ok(comparison),
+        Err(RomFault::Memory) => Err(report_memory(rt)),
+        Err(fault) => Err(report_file(rt, arguments.dump, fault)),
+    }
+}

@@ -1,0 +1,7 @@
+-- the sum of the bytes so far
+use Rattle.std.proofs.Common.{◌≡◌, ◌%◌, take}
+use Rattle.std.specs.List.{sum}
+use Rattle.rom80.proofs.extracting.sum_of.Given as goal
+
+abbrev pub invariant-loop-byte : goal.invariant-loop-byte
+invariant-loop-byte l = l.sum ≡ sum (take l.byte-index l.bytes) % 65536
