@@ -4,6 +4,7 @@ use crate::commands::absolute::{ABSOLUTE, AbsoluteArguments};
 use crate::commands::checking::CHECK;
 use crate::commands::explaining::EXPLAIN;
 use crate::commands::extracting::{EXTRACT, ExtractArguments};
+use crate::commands::inputs_writing::{INPUTS, InputsArguments};
 use crate::commands::library::{LIB, LibraryArguments};
 use crate::commands::linking::{LINK, LinkArguments};
 use crate::commands::listing::LIST;
@@ -12,7 +13,7 @@ use crate::commands::mapping::{MAP, MapArguments};
 use crate::commands::migrating::{REGIONS, RegionsArguments};
 use crate::commands::program_files::ProgramFiles;
 use crate::commands::running::{RUN, RunArguments};
-use crate::commands::suggesting::CASES;
+use crate::commands::suggesting::{CASES, CasesArguments};
 use crate::commands::syntax::Syntax;
 use clap::error::ErrorKind;
 use clap::{ArgMatches, Command, Error};
@@ -29,10 +30,11 @@ pub enum Request<'a> {
     Explain(ProgramFiles<'a>),
     Library(LibraryArguments<'a>),
     Regions(RegionsArguments<'a>),
-    Cases(ProgramFiles<'a>),
+    Cases(CasesArguments<'a>),
     Map(MapArguments<'a>),
     Extract(ExtractArguments<'a>),
     Absolute(AbsoluteArguments<'a>),
+    Inputs(InputsArguments<'a>),
 }
 
 const ABOUT: &str = "Links, locates, verifies and runs 8080 programs from OMF-80 object files";
@@ -53,8 +55,8 @@ Example: plm80 locate readings.obj readings.img readings.regions
 
 Faults and what to do: docs/FAULTS.md (installed: share/doc/plm80), man plm80.";
 
-/// The commands of files and of located programs, in the order of the help text. (Two functions make the commands, since one
-/// proof of all their texts is more than the prover takes.)
+/// The commands of files and of located programs, in the order of the help text. (Several functions make the commands, since
+/// one proof of all their texts is more than the prover takes.)
 fn main_commands() -> [Syntax<'static>; 6] {
     [LINK, LOCATE, RUN, LIST, CHECK, EXPLAIN]
 }
@@ -62,6 +64,11 @@ fn main_commands() -> [Syntax<'static>; 6] {
 /// The other commands, in the order of the help text.
 fn other_commands() -> [Syntax<'static>; 6] {
     [LIB, REGIONS, CASES, MAP, EXTRACT, ABSOLUTE]
+}
+
+/// The commands that came last, in the order of the help text.
+fn further_commands() -> [Syntax<'static>; 1] {
+    [INPUTS]
 }
 
 /// The command of a name.
@@ -72,6 +79,11 @@ fn command_of(name: &str) -> Option<Syntax<'static>> {
         }
     }
     for command in other_commands() {
+        if command.name == name {
+            return Some(command);
+        }
+    }
+    for command in further_commands() {
         if command.name == name {
             return Some(command);
         }
@@ -138,6 +150,9 @@ fn program<'a>(alloc: Global) -> Result<Command<'a>, AllocError> {
     for command in other_commands() {
         program = command.add_to(alloc, program)?;
     }
+    for command in further_commands() {
+        program = command.add_to(alloc, program)?;
+    }
     Ok(program)
 }
 
@@ -168,10 +183,11 @@ fn asked_for<'a>(
         "explain" => Request::Explain(ProgramFiles::of(arguments)),
         "lib" => Request::Library(LibraryArguments::of(alloc, arguments)?),
         "regions" => Request::Regions(RegionsArguments::of(arguments)),
-        "cases" => Request::Cases(ProgramFiles::of(arguments)),
+        "cases" => Request::Cases(CasesArguments::of(arguments)),
         "map" => Request::Map(MapArguments::of(arguments)),
         "extract" => Request::Extract(ExtractArguments::of(arguments)),
         "absolute" => Request::Absolute(AbsoluteArguments::of(arguments)),
+        "inputs" => Request::Inputs(InputsArguments::of(alloc, arguments)?),
         _ => return Ok(None),
     };
     Ok(Some(request))

@@ -83,7 +83,7 @@ impl<'a> Argument<'a> {
                 matches.get_str(self.name) == Some(path)
             }
             Kind::Paths => matches.get_strs(self.name).unwrap_or(&[]).contains(&path),
-            Kind::Required(_) | Kind::Number(_) | Kind::Count(_) => false,
+            Kind::Words | Kind::Replaced(_) | Kind::Required(_) | Kind::Number(_) | Kind::Count(_) => false,
         }
     }
 
@@ -91,8 +91,11 @@ impl<'a> Argument<'a> {
     fn shown(&self, alloc: Global) -> Result<String, AllocError> {
         match self.kind {
             Kind::Path | Kind::Written => format!(in alloc; "<{}>", self.name),
-            Kind::Paths => format!(in alloc; "<{}>...", self.name),
-            Kind::Required(value) | Kind::WrittenOption(value) | Kind::Number(value) => {
+            Kind::Paths | Kind::Words => format!(in alloc; "<{}>...", self.name),
+            Kind::Required(value)
+            | Kind::WrittenOption(value)
+            | Kind::Replaced(value)
+            | Kind::Number(value) => {
                 format!(in alloc; "--{} <{value}>", self.name)
             }
             Kind::Count(_) => format!(in alloc; "--{} <N>", self.name),
