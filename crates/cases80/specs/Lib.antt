@@ -1,1 +1,2 @@
 pub mod Suggested
+pub mod Added

@@ -4,11 +4,14 @@
 //! |---|---|
 //! | [`suggest_cases`] | the cases that the tables of an image suggest |
 //! | [`Suggestions`] | these cases, and the PCHLs for which no table is seen |
+//! | [`regions_with_cases`] | the text of regions to which cases are added |
 #![tactic(auto)]
 
+mod adding;
 mod suggesting;
 mod table;
 mod trail;
 mod walk;
 
+pub use adding::regions_with_cases;
 pub use suggesting::{Suggestions, suggest_cases};

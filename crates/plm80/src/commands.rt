@@ -11,6 +11,7 @@ mod extracting;
 mod fault_line;
 mod file_fault;
 mod files;
+mod inputs_writing;
 mod library;
 mod link_feed;
 mod linking;
@@ -70,12 +71,13 @@ fn perform(rt: &HostRuntime, request: Request<'_>) -> Result<u8, Reported> {
         Request::Explain(files) => explaining::explain_files(rt, files),
         Request::Library(arguments) => library::write_library_file(rt, &arguments),
         Request::Regions(arguments) => migrating::migrate_file(rt, arguments),
-        Request::Cases(files) => suggesting::suggest_for_files(rt, files),
+        Request::Cases(arguments) => suggesting::suggest_for_files(rt, arguments),
         Request::Map(arguments) => mapping::map_file(rt, arguments),
         Request::Extract(arguments) => extracting::extract_file(rt, arguments),
         Request::Absolute(arguments) => absolute::write_absolute(rt, &arguments),
         Request::Stores(files) => stores::list_stores(rt, files),
         Request::Compare(arguments) => comparing::compare_files(rt, arguments),
+        Request::Inputs(arguments) => inputs_writing::write_inputs_file(rt, &arguments),
     }
 }
 

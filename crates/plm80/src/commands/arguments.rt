@@ -5,6 +5,7 @@ use crate::commands::checking::CHECK;
 use crate::commands::comparing::{COMPARE, CompareArguments};
 use crate::commands::explaining::EXPLAIN;
 use crate::commands::extracting::{EXTRACT, ExtractArguments};
+use crate::commands::inputs_writing::{INPUTS, InputsArguments};
 use crate::commands::library::{LIB, LibraryArguments};
 use crate::commands::linking::{LINK, LinkArguments};
 use crate::commands::listing::LIST;
@@ -14,7 +15,7 @@ use crate::commands::migrating::{REGIONS, RegionsArguments};
 use crate::commands::program_files::ProgramFiles;
 use crate::commands::running::{RUN, RunArguments};
 use crate::commands::stores::STORES;
-use crate::commands::suggesting::CASES;
+use crate::commands::suggesting::{CASES, CasesArguments};
 use crate::commands::syntax::Syntax;
 use clap::error::ErrorKind;
 use clap::{ArgMatches, Command, Error};
@@ -31,12 +32,13 @@ pub enum Request<'a> {
     Explain(ProgramFiles<'a>),
     Library(LibraryArguments<'a>),
     Regions(RegionsArguments<'a>),
-    Cases(ProgramFiles<'a>),
+    Cases(CasesArguments<'a>),
     Map(MapArguments<'a>),
     Extract(ExtractArguments<'a>),
     Absolute(AbsoluteArguments<'a>),
     Stores(ProgramFiles<'a>),
     Compare(CompareArguments<'a>),
+    Inputs(InputsArguments<'a>),
 }
 
 const ABOUT: &str = "Links, locates, verifies and runs 8080 programs from OMF-80 object files";
@@ -69,8 +71,8 @@ fn other_commands() -> [Syntax<'static>; 6] {
 }
 
 /// The commands that came last, in the order of the help text.
-fn further_commands() -> [Syntax<'static>; 2] {
-    [STORES, COMPARE]
+fn further_commands() -> [Syntax<'static>; 3] {
+    [STORES, COMPARE, INPUTS]
 }
 
 /// The command of a name.
@@ -185,12 +187,13 @@ fn asked_for<'a>(
         "explain" => Request::Explain(ProgramFiles::of(arguments)),
         "lib" => Request::Library(LibraryArguments::of(alloc, arguments)?),
         "regions" => Request::Regions(RegionsArguments::of(arguments)),
-        "cases" => Request::Cases(ProgramFiles::of(arguments)),
+        "cases" => Request::Cases(CasesArguments::of(arguments)),
         "map" => Request::Map(MapArguments::of(arguments)),
         "extract" => Request::Extract(ExtractArguments::of(arguments)),
         "absolute" => Request::Absolute(AbsoluteArguments::of(alloc, arguments)?),
         "stores" => Request::Stores(ProgramFiles::of(arguments)),
         "compare" => Request::Compare(CompareArguments::of(arguments)),
+        "inputs" => Request::Inputs(InputsArguments::of(alloc, arguments)?),
         _ => return Ok(None),
     };
     Ok(Some(request))

@@ -84,7 +84,12 @@ impl<'a> Argument<'a> {
             }
             Kind::Paths => matches.get_strs(self.name).unwrap_or(&[]).contains(&path),
             Kind::PathsAt(_) => is_among(matches.get_strs(self.name).unwrap_or(&[]), path),
-            Kind::Required(_) | Kind::Number(_) | Kind::Count(_) | Kind::Flag => false,
+            Kind::Words
+            | Kind::Replaced(_)
+            | Kind::Required(_)
+            | Kind::Number(_)
+            | Kind::Count(_)
+            | Kind::Flag => false,
         }
     }
 
@@ -92,13 +97,12 @@ impl<'a> Argument<'a> {
     fn shown(&self, alloc: Global) -> Result<String, AllocError> {
         match self.kind {
             Kind::Path | Kind::Written => format!(in alloc; "<{}>", self.name),
-            Kind::Paths => format!(in alloc; "<{}>...", self.name),
+            Kind::Paths | Kind::Words => format!(in alloc; "<{}>...", self.name),
             Kind::Required(value)
             | Kind::WrittenOption(value)
+            | Kind::Replaced(value)
             | Kind::Number(value)
-            | Kind::PathsAt(value) => {
-                format!(in alloc; "--{} <{value}>", self.name)
-            }
+            | Kind::PathsAt(value) => { format!(in alloc; "--{} <{value}>", self.name) }
             Kind::Flag => format!(in alloc; "--{}", self.name),
             Kind::Count(_) => format!(in alloc; "--{} <N>", self.name),
         }

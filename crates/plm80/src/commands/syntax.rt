@@ -27,10 +27,15 @@ pub enum Kind<'a> {
     Path,
     /// The paths of one or more files to read.
     Paths,
+    /// One or more words, none of which is a path.
+    Words,
     /// The path of a file to write, which is required. No other argument of the command may have this path.
     Written,
     /// An option that is required, whose value is such a path.
     WrittenOption(&'a str),
+    /// An option whose value is the path of a file to write, which may be that of a file to read. The help text calls it by this
+    /// word.
+    Replaced(&'a str),
     /// An option that is required, whose value the help text calls by this word. Any argument after the option is its value.
     Required(&'a str),
     /// An option with a number, which the help text calls by this word. Any argument after the option is its value, and
@@ -68,11 +73,11 @@ impl<'a> Argument<'a> {
         let arg = Arg::new(alloc, self.name).help(self.help);
         match self.kind {
             Kind::Path | Kind::Written => arg.required(true),
-            Kind::Paths => arg.required(true).num_args(1..).action(ArgAction::Append),
+            Kind::Paths | Kind::Words => arg.required(true).num_args(1..).action(ArgAction::Append),
             Kind::Required(value) | Kind::WrittenOption(value) => {
                 option(arg, self.name, value).required(true)
             }
-            Kind::Number(value) => option(arg, self.name, value),
+            Kind::Number(value) | Kind::Replaced(value) => option(arg, self.name, value),
             Kind::Count(default) => option(arg, self.name, "N").default_value(default),
             Kind::Flag => arg.long(self.name).action(ArgAction::SetTrue),
             Kind::PathsAt(value) => option(arg, self.name, value).action(ArgAction::Append),

@@ -1,0 +1,5 @@
+pub mod DigitLemmas
+pub mod CommaLemmas
+pub mod WordLemmas
+pub mod TextLemmas
+pub mod SpellsLemmas
