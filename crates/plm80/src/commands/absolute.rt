@@ -78,7 +78,10 @@ pub const ABSOLUTE: Syntax<'static> = Syntax {
 
 impl<'a> AbsoluteArguments<'a> {
     /// The arguments as clap has read them.
-    pub fn of(alloc: Global, matches: &ArgMatches<'a>) -> Result<AbsoluteArguments<'a>, AllocError> {
+    pub fn of(
+        alloc: Global,
+        matches: &ArgMatches<'a>,
+    ) -> Result<AbsoluteArguments<'a>, AllocError> {
         Ok(AbsoluteArguments {
             bytes: path_of(matches, "BIN"),
             image: path_of(matches, "IMAGE"),
@@ -105,7 +108,11 @@ pub fn write_absolute(rt: &HostRuntime, arguments: &AbsoluteArguments<'_>) -> Re
     let files = files_of(rt, arguments)?;
     let name = name_of(rt, arguments.name)?;
     let dumps = read_dumps(rt, &files)?;
-    write_file(rt, arguments.image, &dumps.into_image(rt.alloc(), name, start))
+    write_file(
+        rt,
+        arguments.image,
+        &dumps.into_image(rt.alloc(), name, start),
+    )
 }
 
 /// The files of the arguments with their addresses, in order.

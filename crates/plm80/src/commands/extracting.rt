@@ -126,13 +126,7 @@ fn extent_of(arguments: ExtractArguments<'_>) -> Option<Extent> {
 fn extracted(rt: &HostRuntime, path: &str, extent: Extent) -> Result<Vec<u8>, Reported> {
     let file = read_whole(rt, path)?;
     let image = image_of(rt, path, &file, no_regions(rt.alloc()))?;
-    match bytes_over(
-        rt.alloc(),
-        &image,
-        extent.first,
-        extent.length,
-        extent.fill,
-    ) {
+    match bytes_over(rt.alloc(), &image, extent.first, extent.length, extent.fill) {
         Ok(bytes) => Ok(bytes),
         Err(fault) => Err(report(rt, fault)),
     }

@@ -96,9 +96,7 @@ impl<'a> Argument<'a> {
             Kind::Required(value)
             | Kind::WrittenOption(value)
             | Kind::Number(value)
-            | Kind::PathsAt(value) => {
-                format!(in alloc; "--{} <{value}>", self.name)
-            }
+            | Kind::PathsAt(value) => { format!(in alloc; "--{} <{value}>", self.name) }
             Kind::Flag => format!(in alloc; "--{}", self.name),
             Kind::Count(_) => format!(in alloc; "--{} <N>", self.name),
         }
