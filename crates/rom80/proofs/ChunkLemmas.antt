@@ -95,11 +95,11 @@ pub covered-chunks : (chunks : List PlacedBytes) (first : ℕ) (bytes : List ℕ
     is_covered (chunks ++ chunks_of first bytes) address ≡ (is_covered chunks address || inside first (length bytes) address)
 covered-chunks chunks first bytes address =
     let low : is_covered (chunks_at first (take 65531 bytes)) address ≡ inside first (min 65531 (length bytes)) address =
-        covered-at first (take 65531 bytes) address ∙ ap (λ (n : ℕ). inside first n address) (length-take 65531 bytes) in
+    covered-at first (take 65531 bytes) address ∙ ap (λ (n : ℕ). inside first n address) (length-take 65531 bytes) in
     let high : is_covered (chunks_at (first + 65531) (drop 65531 bytes)) address ≡ inside (first + 65531) (length bytes - 65531) address =
-        covered-at (first + 65531) (drop 65531 bytes) address ∙ ap (λ (n : ℕ). inside (first + 65531) n address) (length-drop 65531 bytes) in
+    covered-at (first + 65531) (drop 65531 bytes) address ∙ ap (λ (n : ℕ). inside (first + 65531) n address) (length-drop 65531 bytes) in
     let both : is_covered (chunks_of first bytes) address ≡ (is_covered (chunks_at first (take 65531 bytes)) address || is_covered (chunks_at (first + 65531) (drop 65531 bytes)) address) =
-        list_any-append (λ (c : PlacedBytes). covers c address) (chunks_at first (take 65531 bytes)) (chunks_at (first + 65531) (drop 65531 bytes)) in
+    list_any-append (λ (c : PlacedBytes). covers c address) (chunks_at first (take 65531 bytes)) (chunks_at (first + 65531) (drop 65531 bytes)) in
     list_any-append (λ (c : PlacedBytes). covers c address) chunks (chunks_of first bytes)
     ∙ ap (λ (b : Bool). is_covered chunks address || b) (both ∙ ap (λ (b : Bool). b || is_covered (chunks_at (first + 65531) (drop 65531 bytes)) address) low ∙ ap (λ (b : Bool). inside first (min 65531 (length bytes)) address || b) high ∙ two_parts first (length bytes) address _ _ _ refl refl refl)
 

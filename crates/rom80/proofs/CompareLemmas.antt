@@ -107,9 +107,10 @@ run-more first at run address short = grind (arith, nat_tests)
 
 module _ (image dump : List ℕ) (first at run : ℕ) (ranges : List Difference) (so_far : RangesSoFar image dump first at run ranges) where
   closed : AllPairs (λ (d e : Difference). d.first + d.length < e.first) (ranges ++ run_of (first + at) run)
-  closed = elim (nat_lt 0 run) as (λ b. AllPairs (λ (d e : Difference). d.first + d.length < e.first) (ranges ++ (if b then record { first = first + at - run; length = run } ∷ [] else [])))
-      [ true ↦ all_pairs_push (λ (d e : Difference). d.first + d.length < e.first) ranges (record { first = first + at - run; length = run }) so_far.apart (λ k d below. (all-at (Before first (first + at - run)) ranges k d below so_far.within).1)
-      | false ↦ rw (append-nil ranges) so_far.apart ]
+  closed = elim (nat_lt 0 run) as (λ b. AllPairs (λ (d e : Difference). d.first + d.length < e.first) (ranges ++ (if b then record { first = first + at - run; length = run } ∷ [] else []))) [
+    | true ↦ all_pairs_push (λ (d e : Difference). d.first + d.length < e.first) ranges (record { first = first + at - run; length = run }) so_far.apart (λ k d below. (all-at (Before first (first + at - run)) ranges k d below so_far.within).1)
+    | false ↦ rw (append-nil ranges) so_far.apart
+  ]
 
   same_step : (slice_index image at == slice_index dump at) ≡ true → RangesSoFar image dump first (at + 1) 0 (ranges ++ run_of (first + at) run)
   same_step same = record {
@@ -166,8 +167,8 @@ pub all_within : (image dump : List ℕ) (first at run stop : ℕ) (ranges more 
 all_within image dump first at run stop ranges more so_far past is stops =
     let short = so_far.short in
     let made : AllByRecursion (LieWithin first (length dump)) (ranges ++ run_of (first + at) run) =
-        all-more (LieWithin first (length dump)) (first + at) run ranges (all-weaker (Before first (first + at - run)) (LieWithin first (length dump)) ranges (λ d w. record { begins = w.0; ends = omega (arith, w.1, past) }) so_far.within)
-        (λ more. record { begins = omega arith; ends = omega (arith, past) }) in
+    all-more (LieWithin first (length dump)) (first + at) run ranges (all-weaker (Before first (first + at - run)) (LieWithin first (length dump)) ranges (λ d w. record { begins = w.0; ends = omega (arith, w.1, past) }) so_far.within)
+    (λ more. record { begins = omega arith; ends = omega (arith, past) }) in
     rw (is, stops) made
 
 -- the same bytes among one more

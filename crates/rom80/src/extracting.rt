@@ -31,10 +31,7 @@ pub fn bytes_over(
         return Err(RomFault::PastMemory);
     }
     let memory = memory_of(alloc, &image.chunks, fill)?;
-    Ok(Vec::from_slice(
-        alloc,
-        &memory[usize::from(first)..end as usize],
-    )?)
+    Ok(Vec::from_slice(alloc, &memory[usize::from(first)..end as usize])?)
 }
 
 /// The line with the sum of the bytes modulo 65536, such as `SUM 1A2B`: what stands on the sticker of an EPROM.
