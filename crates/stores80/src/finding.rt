@@ -32,7 +32,7 @@ use widening80::{Flow, propose};
 /// there, and then nothing is promised, of the other stores either. That a listed store can leave data isn't said. (The stores are MOV M,r, MVI M, INR M, DCR M and STAX: Intel 8080 Microcomputer Systems
 /// User's Manual, chapter 4.)
 ///
-/// Each address is looked at a bounded number of times, whatever the image.
+/// Each address is visited a bounded number of times, whatever the image.
 ///
 /// # Example
 /// ```
@@ -106,7 +106,7 @@ fn pairs_of(
     Ok(wide)
 }
 
-/// Anything, at so many addresses.
+/// Anything, at `count` addresses.
 fn anything(alloc: Global, count: usize) -> Result<Vec<Option<Pairs>>, AllocError>
     ensures { IfOk result (λ table. (at : ℕ) → at < count → pairs_at table.items at ≡ Some anything) }
 {
