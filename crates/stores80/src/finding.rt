@@ -4,12 +4,14 @@ ghost use Rattle.std.specs.Prelude.{◌≡◌, ◌<◌, ◌≤◌, ℕ, Some, If
 ghost use Rattle.flow80.specs.Rows.{AreRows};
 ghost use Rattle.verify80.specs.Looking.{code_of};
 ghost use Rattle.reach80.specs.Reached.{AreReached};
+ghost use Rattle.spans80.specs.Bytes.{HasBytes};
 ghost use Rattle.spans80.specs.Pairs.{anything};
 ghost use Rattle.fitting80.specs.Fitting.{pairs_at};
 ghost use Rattle.fitting80.specs.Runs.{RunsKeepTo};
-ghost use Rattle.stores80.specs.Stores.{AreStoresOf};
+ghost use Rattle.stores80.specs.Stores.{AreStoresOf, WatchedRunsGoAsListed};
 ghost use Rattle.stores80.specs.Listing.{AreKnown};
 
+use crate::laws::watched_runs_go_as_listed;
 use crate::listing::{Kind, addresses_of, open_stores};
 use crate::stores::Stores;
 use decode80::Fetched;
@@ -44,10 +46,14 @@ use widening80::{Flow, propose};
 /// # Errors
 /// `AllocError` only where memory runs out.
 pub fn find_stores(alloc: Global, vouched: &Vouched) -> Result<Stores, AllocError>
-    ensures { IfOk result (λ stores.
+    ensures listed { IfOk result (λ stores.
         AreStoresOf vouched.now.image stores.addresses.items stores.open.items stores.jumps.items) }
+    ensures watched { IfOk result (λ stores. WatchedRunsGoAsListed vouched.now.image stores.open.items stores.jumps.items) }
 {
     runs_of(vouched);
+    watched_runs_go_as_listed();
+    let memory = vouched.image().memory(alloc)?;
+    are_bytes(&memory);
     let image = vouched.image();
     let found = find_reached(alloc, vouched)?;
     let reached = found.instructions();
@@ -61,6 +67,11 @@ pub fn find_stores(alloc: Global, vouched: &Vouched) -> Result<Stores, AllocErro
         jumps,
     })
 }
+
+/// Bytes are below 256. (It carries a law, and does nothing.)
+fn are_bytes(memory: &[u8])
+    ensures { HasBytes memory.now }
+{}
 
 /// What is known of a vouched image's runs. (It carries laws, and does nothing.)
 fn runs_of(vouched: &Vouched)
