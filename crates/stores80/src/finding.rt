@@ -2,6 +2,7 @@
 
 ghost use Rattle.std.specs.Prelude.{◌≡◌, ◌<◌, ◌≤◌, ℕ, Some, IfOk, length};
 ghost use Rattle.flow80.specs.Rows.{AreRows};
+ghost use Rattle.image80.specs.Image.{memory_of};
 ghost use Rattle.verify80.specs.Looking.{code_of};
 ghost use Rattle.reach80.specs.Reached.{AreReached};
 ghost use Rattle.spans80.specs.Bytes.{HasBytes};
@@ -52,9 +53,8 @@ pub fn find_stores(alloc: Global, vouched: &Vouched) -> Result<Stores, AllocErro
 {
     runs_of(vouched);
     watched_runs_go_as_listed();
-    let memory = vouched.image().memory(alloc)?;
-    are_bytes(&memory);
     let image = vouched.image();
+    holds_bytes(alloc, image)?;
     let found = find_reached(alloc, vouched)?;
     let reached = found.instructions();
     let table = pairs_of(alloc, image, vouched.rows(), reached)?;
@@ -68,7 +68,19 @@ pub fn find_stores(alloc: Global, vouched: &Vouched) -> Result<Stores, AllocErro
     })
 }
 
-/// Bytes are below 256. (It carries a law, and does nothing.)
+/// An image's memory holds bytes. (It carries this fact alone.)
+///
+/// # Errors
+/// `AllocError` where memory runs out.
+fn holds_bytes(alloc: Global, image: &Image) -> Result<(), AllocError>
+    ensures { IfOk result (λ made. HasBytes (memory_of image.now.chunks)) }
+{
+    let memory = image.memory(alloc)?;
+    are_bytes(&memory);
+    Ok(())
+}
+
+/// Bytes are below 256. (It carries this fact alone.)
 fn are_bytes(memory: &[u8])
     ensures { HasBytes memory.now }
 {}

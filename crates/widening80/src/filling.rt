@@ -117,7 +117,12 @@ impl Filling {
     }
 
     /// Joins pairs with those at an address; if these grow, they have to be followed from there.
-    pub fn join(&mut self, ends: Option<&DataEnds>, at: u16, pairs: Pairs) -> Result<(), AllocError> {
+    pub fn join(
+        &mut self,
+        ends: Option<&DataEnds>,
+        at: u16,
+        pairs: Pairs,
+    ) -> Result<(), AllocError> {
         let old = self.at(at);
         match old {
             None => self.set(at, pairs),
