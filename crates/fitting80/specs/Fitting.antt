@@ -26,7 +26,7 @@ pub record Has (table : List (Option Pairs)) (at : ℕ) (words : Pairs) : Type 0
   pub there : pairs_at table at ≡ Some pairs
   pub inside : AreInside words pairs
 
--- the pairs at an address fit the instruction there, where these procedures return
+-- the pairs at an address fit the instruction there, if these procedures return
 pub record EntryFits (returning : ℕ → Type 0) (targets : List ℕ) (table : List (Option Pairs)) (at : ℕ) (found : Fetched) : Type 0 where
   pub pairs : Pairs
   pub there : pairs_at table at ≡ Some pairs

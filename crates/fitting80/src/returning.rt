@@ -22,7 +22,7 @@ pub fn mark_returning(alloc: Global, rows: &[ProcRow]) -> Result<Vec<bool>, Allo
     Ok(marks)
 }
 
-/// So many marks, none of which is set.
+/// `count` marks, none of them set.
 fn unmarked(alloc: Global, count: usize) -> Result<Vec<bool>, AllocError>
     ensures { IfOk result (λ marks. length marks.items ≡ count) }
 {

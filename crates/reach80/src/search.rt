@@ -109,6 +109,7 @@ impl Search {
             Effect::Call(to) => self.enter(code, to),
         }
     }
+
     /// Follows each address in the queue, and those that this adds.
     ///
     /// # Errors

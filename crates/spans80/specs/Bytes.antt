@@ -61,12 +61,12 @@ abbrev pub MemoryKeepsItsLength : Type 0
 MemoryKeepsItsLength = (regions : Areas) (refused : Bool) (m after : Machine) → step_of regions refused m ≡ Next after →
     length after.memory ≡ length m.memory
 
--- so each machine of each run of an image of bytes holds bytes, where those that wait at the ports are bytes
+-- so each machine of each run of an image of bytes holds bytes, if those that wait at the ports are bytes
 abbrev pub RunsHoldBytes : Type 0
 RunsHoldBytes = (image : Located) (most : Option ℕ) (w : World) (run : IsWorldOf image most w) →
     HasBytes (memory_of image.chunks) → All HasBytes run.inputs → HoldsBytes w.machine
 
--- and its stack pointer and program counter are addresses, where the image starts at one
+-- and its stack pointer and program counter are addresses, if the image starts at one
 abbrev pub RunsHaveAddresses : Type 0
 RunsHaveAddresses = (image : Located) (most : Option ℕ) (w : World) (run : IsWorldOf image most w) →
     HasBytes (memory_of image.chunks) → All HasBytes run.inputs → IsWord image.start → HasAddresses w.machine.cpu

@@ -36,7 +36,7 @@ byte_alone n = record { first = n; last = n }
 abbrev pub hull : Span → Span → Span
 hull s t = record { first = min s.first t.first; last = max s.last t.last }
 
--- one more, and one less: anything, where a number may wrap
+-- one more, and one less: anything, if a number may wrap
 abbrev pub next_span : Span → Span
 next_span s = if nat_lt s.last 65535 then record { first = (s.first + 1) % 65536; last = s.last + 1 } else any_word
 
@@ -49,7 +49,7 @@ next_byte s = if nat_lt s.last 255 then record { first = (s.first + 1) % 256; la
 abbrev pub previous_byte : ByteSpan → ByteSpan
 previous_byte s = if nat_lt 0 s.first then record { first = s.first - 1; last = s.last - 1 } else any_byte
 
--- the sums of a word of one and a word of the other: where none of them wraps or all do, from the least to the greatest
+-- the sums of a word of one and a word of the other: if none of them wraps or all do, from the least to the greatest; else anything
 abbrev pub sum_span : Span → Span → Span
 sum_span s t =
     if nat_lt (s.last + t.last) 65536 && nat_lt (s.first + t.first) 65536

@@ -125,7 +125,7 @@ impl Pairs {
     }
 }
 
-/// What the pairs may be after an instruction that goes on, where this is what they may be before it.
+/// What the pairs may be after an instruction that goes on, given what they may be before it.
 ///
 /// A pair that comes from memory or from the stack may be anything, and so may a half that comes from there or from A. Sums
 /// and counts are followed until they could wrap.

@@ -34,7 +34,7 @@ impl ByteSpan {
         }
     }
 
-    /// What becomes of these bytes by adding 1: any byte, where one of them may wrap.
+    /// What becomes of these bytes by adding 1: any byte, if one of them may wrap.
     pub fn next(self) -> ByteSpan
         ensures { result ≡ next_byte self }
     {
@@ -48,7 +48,7 @@ impl ByteSpan {
         }
     }
 
-    /// What becomes of these bytes by subtracting 1: any byte, where one of them may wrap.
+    /// What becomes of these bytes by subtracting 1: any byte, if one of them may wrap.
     pub fn previous(self) -> ByteSpan
         ensures { result ≡ previous_byte self }
     {
@@ -100,7 +100,7 @@ impl Span {
         }
     }
 
-    /// What becomes of these words by adding 1, as INX does: any word, where one of them may wrap.
+    /// What becomes of these words by adding 1, as INX does: any word, if one of them may wrap.
     pub(crate) fn next(self) -> Span
         ensures { result ≡ next_span self }
     {
@@ -114,7 +114,7 @@ impl Span {
         }
     }
 
-    /// What becomes of these words by subtracting 1, as DCX does: any word, where one of them may wrap.
+    /// What becomes of these words by subtracting 1, as DCX does: any word, if one of them may wrap.
     pub(crate) fn previous(self) -> Span
         ensures { result ≡ previous_span self }
     {
@@ -128,7 +128,7 @@ impl Span {
         }
     }
 
-    /// The sums of one of these words and one of the others, as DAD makes them: any word, where some wrap and others don't.
+    /// The sums of one of these words and one of the others, as DAD makes them: any word, if some wrap and others don't.
     pub(crate) fn plus(self, other: Span) -> Span
         ensures { result ≡ sum_span self other }
     {

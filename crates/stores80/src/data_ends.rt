@@ -28,7 +28,7 @@ pub(crate) fn data_ends(alloc: Global, regions: &Regions) -> Result<Vec<u32>, Al
     Ok(ends)
 }
 
-/// The end from an address on, where this is the end from the next one on.
+/// The end from an address on, given the end from the next one on.
 fn end_from(regions: &Regions, map: &RegionMap, address: u32, end: u32) -> u32
     requires address { address < 65536 }
     requires maps { Maps regions.now map.now }
@@ -42,7 +42,7 @@ fn end_from(regions: &Regions, map: &RegionMap, address: u32, end: u32) -> u32
     }
 }
 
-/// So many zeros.
+/// `count` zeros.
 fn zeros(alloc: Global, count: usize) -> Result<Vec<u32>, AllocError>
     ensures { IfOk result (λ words. length words.items ≡ count) }
 {

@@ -2,14 +2,17 @@
 
 ghost use Rattle.std.specs.Prelude.{◌≡◌, ◌<◌, ◌≤◌, ℕ, Some, IfOk, length};
 ghost use Rattle.flow80.specs.Rows.{AreRows};
+ghost use Rattle.image80.specs.Image.{memory_of};
 ghost use Rattle.verify80.specs.Looking.{code_of};
 ghost use Rattle.reach80.specs.Reached.{AreReached};
+ghost use Rattle.spans80.specs.Bytes.{HasBytes};
 ghost use Rattle.spans80.specs.Pairs.{anything};
 ghost use Rattle.fitting80.specs.Fitting.{pairs_at};
 ghost use Rattle.fitting80.specs.Runs.{RunsKeepTo};
-ghost use Rattle.stores80.specs.Stores.{AreStoresOf};
+ghost use Rattle.stores80.specs.Stores.{AreStoresOf, WatchedRunsGoAsListed};
 ghost use Rattle.stores80.specs.Listing.{AreKnown};
 
+use crate::laws::watched_runs_go_as_listed;
 use crate::listing::{Kind, addresses_of, open_stores};
 use crate::stores::Stores;
 use decode80::Fetched;
@@ -28,11 +31,11 @@ use widening80::{Flow, propose};
 /// On a board, where nothing stops a store outside data, this is what the promise of [`loader80::vouch`] still needs: whatever
 /// bytes are in the registers, in memory outside the code and at the ports, if only SP is at the stack's top before the first
 /// step, each store of an address that isn't listed as open goes to data, and each that is goes to an address of its span. So a
-/// run ends at a store only if that is listed, and at a PCHL outside its targets only at one of the listed ones. That a listed
-/// store can leave data isn't said. (The stores are MOV M,r, MVI M, INR M, DCR M and STAX: Intel 8080 Microcomputer Systems
+/// run ends at a store only if that is listed, and at a PCHL outside its targets only at one of the listed ones. A board goes on
+/// there, and then nothing is promised, of the other stores either. That a listed store can leave data isn't said. (The stores are MOV M,r, MVI M, INR M, DCR M and STAX: Intel 8080 Microcomputer Systems
 /// User's Manual, chapter 4.)
 ///
-/// Each address is looked at a bounded number of times, whatever the image.
+/// Each address is visited a bounded number of times, whatever the image.
 ///
 /// # Example
 /// ```
@@ -44,11 +47,14 @@ use widening80::{Flow, propose};
 /// # Errors
 /// `AllocError` only where memory runs out.
 pub fn find_stores(alloc: Global, vouched: &Vouched) -> Result<Stores, AllocError>
-    ensures { IfOk result (λ stores.
+    ensures listed { IfOk result (λ stores.
         AreStoresOf vouched.now.image stores.addresses.items stores.open.items stores.jumps.items) }
+    ensures watched { IfOk result (λ stores. WatchedRunsGoAsListed vouched.now.image stores.open.items stores.jumps.items) }
 {
     runs_of(vouched);
+    watched_runs_go_as_listed();
     let image = vouched.image();
+    holds_bytes(alloc, image)?;
     let found = find_reached(alloc, vouched)?;
     let reached = found.instructions();
     let table = pairs_of(alloc, image, vouched.rows(), reached)?;
@@ -61,6 +67,23 @@ pub fn find_stores(alloc: Global, vouched: &Vouched) -> Result<Stores, AllocErro
         jumps,
     })
 }
+
+/// An image's memory holds bytes. (It carries this fact alone.)
+///
+/// # Errors
+/// `AllocError` where memory runs out.
+fn holds_bytes(alloc: Global, image: &Image) -> Result<(), AllocError>
+    ensures { IfOk result (λ made. HasBytes (memory_of image.now.chunks)) }
+{
+    let memory = image.memory(alloc)?;
+    are_bytes(&memory);
+    Ok(())
+}
+
+/// Bytes are below 256. (It carries this fact alone.)
+fn are_bytes(memory: &[u8])
+    ensures { HasBytes memory.now }
+{}
 
 /// What is known of a vouched image's runs. (It carries laws, and does nothing.)
 fn runs_of(vouched: &Vouched)
@@ -106,7 +129,7 @@ fn pairs_of(
     Ok(wide)
 }
 
-/// Anything, at so many addresses.
+/// Anything, at `count` addresses.
 fn anything(alloc: Global, count: usize) -> Result<Vec<Option<Pairs>>, AllocError>
     ensures { IfOk result (λ table. (at : ℕ) → at < count → pairs_at table.items at ≡ Some anything) }
 {

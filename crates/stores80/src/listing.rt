@@ -70,7 +70,7 @@ fn is_kind_at(kind: Kind, reached: &[Option<Fetched>], at: usize) -> bool
     }
 }
 
-/// The stores that aren't shown to stay in data, where this is what the pairs may be at each address.
+/// The stores that aren't shown to stay in data, given what the pairs may be at each address.
 ///
 /// # Errors
 /// `AllocError` where memory runs out.

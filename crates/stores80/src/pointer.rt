@@ -6,7 +6,7 @@ ghost use Rattle.stores80.specs.Pointers.{pointer_span};
 use decode80::{IndexPair, Instr};
 use spans80::{Pairs, Span};
 
-/// Where an instruction may store by a pair, where this is what the pairs may be; `None` if it stores by none.
+/// Where an instruction may store by a pair, given what the pairs may be; `None` if it stores by none.
 pub(crate) fn pointer_span(instr: Instr, pairs: Pairs) -> Option<Span>
     ensures { result ≡ pointer_span instr pairs }
 {

@@ -1,6 +1,6 @@
 //! How far data goes on from an address.
 
-use image80::Regions;
+use image80::{RegionMap, Regions};
 use std::alloc::{AllocError, Global};
 
 /// For each address of data the first and the last address of the data around it, without a gap; for each other address all of
@@ -14,37 +14,32 @@ pub(crate) struct DataEnds {
 impl DataEnds {
     /// The ends of a program's data.
     pub fn new(alloc: Global, regions: &Regions) -> Result<DataEnds, AllocError> {
-        let mut is_data = vec![in alloc; false; 65_536]?;
-        for range in regions.data_ranges() {
-            for offset in 0..range.length {
-                mark(&mut is_data, range.first.wrapping_add(offset));
-            }
-        }
+        let map = RegionMap::new(alloc, regions)?;
         let mut ends = DataEnds {
             first: vec![in alloc; 0; 65_536]?,
             last: vec![in alloc; u16::MAX; 65_536]?,
         };
-        ends.fill(&is_data);
+        ends.fill(&map);
         Ok(ends)
     }
 
     /// Notes the ends of each address of data.
-    fn fill(&mut self, is_data: &[bool]) {
+    fn fill(&mut self, map: &RegionMap) {
         let mut first = 0;
         let mut last = u16::MAX;
         for address in 0..65_536_u32 {
             let up = address as u16;
             let down = u16::MAX - up;
-            if !is_set(is_data, up.wrapping_sub(1)) {
+            if up > 0 && !map.is_data(up - 1) {
                 first = up;
             }
-            if is_set(is_data, up) {
+            if map.is_data(up) {
                 put(&mut self.first, up, first);
             }
-            if !is_set(is_data, down.wrapping_add(1)) {
+            if down < u16::MAX && !map.is_data(down + 1) {
                 last = down;
             }
-            if is_set(is_data, down) {
+            if map.is_data(down) {
                 put(&mut self.last, down, last);
             }
         }
@@ -64,19 +59,6 @@ impl DataEnds {
             Some(last) => *last,
             None => u16::MAX,
         }
-    }
-}
-
-fn mark(marks: &mut [bool], address: u16) {
-    if let Some(place) = marks.get_mut(usize::from(address)) {
-        *place = true;
-    }
-}
-
-fn is_set(marks: &[bool], address: u16) -> bool {
-    match marks.get(usize::from(address)) {
-        Some(marked) => *marked,
-        None => false,
     }
 }
 

@@ -59,7 +59,7 @@ impl Filling {
     pub fn follow(
         &mut self,
         flow: Flow<'_>,
-        ends: &DataEnds,
+        ends: Option<&DataEnds>,
         at: u16,
         found: Fetched,
         pairs: Pairs,
@@ -92,7 +92,7 @@ impl Filling {
     /// Joins the same pairs at each of these addresses.
     fn join_each(
         &mut self,
-        ends: &DataEnds,
+        ends: Option<&DataEnds>,
         addresses: &[u16],
         pairs: Pairs,
     ) -> Result<(), AllocError> {
@@ -106,7 +106,7 @@ impl Filling {
     fn come_back(
         &mut self,
         flow: Flow<'_>,
-        ends: &DataEnds,
+        ends: Option<&DataEnds>,
         callee: u16,
         next: u16,
     ) -> Result<(), AllocError> {
@@ -117,7 +117,12 @@ impl Filling {
     }
 
     /// Joins pairs with those at an address; if these grow, they have to be followed from there.
-    pub fn join(&mut self, ends: &DataEnds, at: u16, pairs: Pairs) -> Result<(), AllocError> {
+    pub fn join(
+        &mut self,
+        ends: Option<&DataEnds>,
+        at: u16,
+        pairs: Pairs,
+    ) -> Result<(), AllocError> {
         let old = self.at(at);
         match old {
             None => self.set(at, pairs),
@@ -157,7 +162,7 @@ impl Filling {
 }
 
 /// Pairs that have grown so often, with others.
-fn grown(ends: &DataEnds, growths: u8, old: Pairs, pairs: Pairs) -> Pairs {
+fn grown(ends: Option<&DataEnds>, growths: u8, old: Pairs, pairs: Pairs) -> Pairs {
     Pairs {
         bc: grown_span(ends, growths, old.bc, pairs.bc),
         de: grown_span(ends, growths, old.de, pairs.de),
@@ -166,9 +171,12 @@ fn grown(ends: &DataEnds, growths: u8, old: Pairs, pairs: Pairs) -> Pairs {
 }
 
 /// A span with the words of both: after some growths an end that moves goes on to the end of the data there, and then to that of
-/// memory.
-fn grown_span(ends: &DataEnds, growths: u8, old: Span, span: Span) -> Span {
+/// memory; without these ends it is the smallest one.
+fn grown_span(ends: Option<&DataEnds>, growths: u8, old: Span, span: Span) -> Span {
     let hull = old.hull(span);
+    let Some(ends) = ends else {
+        return hull;
+    };
     if growths < JOINS {
         return hull;
     }

@@ -21,7 +21,7 @@ const NARROWINGS: u32 = 3;
 pub fn propose(alloc: Global, flow: Flow<'_>) -> Result<Vec<Option<Pairs>>, AllocError> {
     let ends = DataEnds::new(alloc, flow.regions)?;
     let mut filling = Filling::new(alloc)?;
-    filling.join(&ends, flow.start, Pairs::ANY)?;
+    filling.join(Some(&ends), flow.start, Pairs::ANY)?;
     for _ in 0..VISITS * 65_536 {
         let Some(at) = filling.next_waiting() else {
             break;
@@ -29,7 +29,7 @@ pub fn propose(alloc: Global, flow: Flow<'_>) -> Result<Vec<Option<Pairs>>, Allo
         follow_from(&mut filling, flow, &ends, at)?;
     }
     for _ in 0..NARROWINGS {
-        filling = narrowed(alloc, flow, &ends, &filling)?;
+        filling = narrowed(alloc, flow, &filling)?;
     }
     Ok(filling.into_table())
 }
@@ -42,24 +42,21 @@ fn follow_from(
     at: u16,
 ) -> Result<(), AllocError> {
     match (filling.at(at), flow.at(at)) {
-        (Some(pairs), Some(found)) => filling.follow(flow, ends, at, found, pairs),
+        (Some(pairs), Some(found)) => filling.follow(flow, Some(ends), at, found, pairs),
         _ => Ok(()),
     }
 }
 
-/// The table that follows from another, where each address gets no more than what leads to it.
-fn narrowed(
-    alloc: Global,
-    flow: Flow<'_>,
-    ends: &DataEnds,
-    wide: &Filling,
-) -> Result<Filling, AllocError> {
+/// The table that follows from another, with no more at an address than what leads to it.
+///
+/// Nothing is widened here: if the other table fits, so does this one, which lies inside it.
+fn narrowed(alloc: Global, flow: Flow<'_>, wide: &Filling) -> Result<Filling, AllocError> {
     let mut narrow = Filling::new(alloc)?;
-    narrow.join(ends, flow.start, Pairs::ANY)?;
+    narrow.join(None, flow.start, Pairs::ANY)?;
     for address in 0..65_536_u32 {
         let at = address as u16;
         if let (Some(pairs), Some(found)) = (wide.at(at), flow.at(at)) {
-            narrow.follow(flow, ends, at, found, pairs)?;
+            narrow.follow(flow, None, at, found, pairs)?;
         }
     }
     Ok(narrow)
