@@ -21,5 +21,6 @@ length_value-lt digits h =
 pub byte_value-lt : (digits : List ℕ) → IsByteText digits → word_value digits < 256
 byte_value-lt digits h =
     let below : word_value digits < 16 ^ length digits = digits_value-lt 16 digits h.0.1 in
-    let two : 16 ^ length digits ≤ 16 ^ 2 = pow-le-pow_right (omega arith) (omega (arith, h.1)) in
+    let few : length digits ≤ 2 = omega (arith, h.1) in
+    let two : 16 ^ length digits ≤ 16 ^ 2 = pow-le-pow_right (omega arith) few in
     omega arith

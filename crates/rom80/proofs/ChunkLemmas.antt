@@ -1,13 +1,12 @@
 -- The memory of the chunks of bytes.
-use Rattle.std.specs.Prelude.{◌≡◌, ◌↔◌, ℕ, ◌+◌, ◌-◌, ◌<◌, ◌≤◌, min, nat_le, nat_lt, ◌&&◌, ◌||◌, if◌then◌else◌, Bool, true, false, None, Some, List, [], ◌∷◌, ◌++◌, length, map, take, drop, slice_index, refl}
-use Rattle.std.specs.List.{list_any, range_with_len}
+use Rattle.std.specs.Prelude.{◌≡◌, ◌↔◌, ℕ, ◌+◌, ◌-◌, ◌<◌, ◌≤◌, min, nat_le, ◌||◌, if◌then◌else◌, Bool, true, false, None, Some, List, [], ◌∷◌, ◌++◌, length, take, drop, slice_index, refl}
 use Rattle.std.specs.Option.{option_map_or}
 use Rattle.std.proofs.Common.{cond, ◌∙◌, ap, sym, arith, get_or, append-nil, append_assoc, ext_get_or, get_or-take, get_or-drop, length-take, length-drop, take_all}
 use Rattle.std.proofs.lemmas.List.Folds.{list_any-append}
 use Rattle.std.proofs.lemmas.Bool.Decides.{nat_tests}
 use Rattle.std.proofs.lemmas.List.{drop_all, take_more}
 use Rattle.std.proofs.lemmas.List.FromFn.{length-map-range_with_len, get_or-map-range_with_len}
-use Rattle.image80.specs.Image.{PlacedBytes, covers, byte_of, byte_at, last_over}
+use Rattle.image80.specs.Image.{PlacedBytes, covers, byte_of, last_over}
 use Rattle.image80.specs.Memory.{last_over-snoc}
 use Rattle.image80.specs.Placing.{Holds}
 use Rattle.rom80.specs.Rom.{byte_or, bytes_over, chunks_at, chunks_of, byte_among, is_among as inside, is_covered, ShareAnAddress}

@@ -1,5 +1,5 @@
 -- The ranges of addresses at which bytes differ, as far as the bytes have been compared.
-use Rattle.std.specs.Prelude.{◌≡◌, ◌≢◌, ℕ, zero, suc, ◌+◌, ◌-◌, ◌<◌, ◌≤◌, ◌==◌, nat_le, nat_lt, ◌&&◌, ◌||◌, not, if◌then◌else◌, Bool, true, false, List, [], ◌∷◌, ◌++◌, length, filter, slice_index, refl}
+use Rattle.std.specs.Prelude.{◌≡◌, ◌≢◌, ℕ, zero, suc, ◌+◌, ◌-◌, ◌<◌, ◌≤◌, ◌==◌, nat_lt, ◌&&◌, ◌||◌, not, if◌then◌else◌, Bool, true, false, List, [], ◌∷◌, ◌++◌, length, filter, slice_index, refl}
 use Rattle.std.specs.List.{AllByRecursion, AllPairs, list_any, range_with_len}
 use Rattle.std.proofs.Common.{cond, subst, append-nil, ◌∙◌, ap, sym, arith, get_or, length-append}
 use Rattle.std.proofs.lemmas.Bool.Decides.{nat_tests}
@@ -8,7 +8,7 @@ use Rattle.std.proofs.lemmas.List.Folds.{list_any-append}
 use Rattle.std.proofs.lemmas.List.Quantifiers.{all_pairs_push}
 use Rattle.rom80.specs.declared.comparing.Difference.{Difference}
 use Rattle.rom80.specs.Rom.{is_among}
-use Rattle.rom80.specs.Compare.{AreDifferences, LieWithin, differs_at, in_difference, run_of}
+use Rattle.rom80.specs.Compare.{AreDifferences, LieWithin, in_difference, run_of}
 
 or-false : (x : Bool) → (x || false) ≡ x
 or-false true = refl

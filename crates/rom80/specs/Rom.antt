@@ -1,7 +1,7 @@
 -- The bytes of an image's memory over a range, and the chunks of bytes from an address on.
 -- (8080 Object Module Formats, content record: its bytes stand at successive addresses. That there are 65531 of them at most
 -- follows from the length of a record, a word: of 65535 bytes one is the checksum, and three are the segment and the offset.)
-use Rattle.std.specs.Prelude.{◌≡◌, ℕ, ◌+◌, ◌-◌, ◌<◌, ◌%◌, nat_le, nat_lt, ◌&&◌, ◌||◌, Bool, true, if◌then◌else◌, List, [], ◌∷◌, ◌++◌, codes, length, map, take, drop, slice_index}
+use Rattle.std.specs.Prelude.{◌≡◌, ℕ, ◌+◌, ◌-◌, ◌<◌, ◌%◌, nat_le, nat_lt, ◌&&◌, Bool, true, if◌then◌else◌, List, [], ◌∷◌, ◌++◌, codes, length, map, take, drop, slice_index}
 use Rattle.std.specs.List.{list_any, range_with_len, sum}
 use Rattle.std.specs.Option.{option_map_or}
 use Rattle.decode80.specs.Text.{word_text}

@@ -1,4 +1,4 @@
-use Rattle.std.proofs.Common.{arith, ◌≡◌, ◌≤◌, ◌+◌}
+use Rattle.std.proofs.Common.{arith}
 use Rattle.rom80.proofs.CompareLemmas.{count_more, count_no_more}
 use Rattle.rom80.proofs.comparing.count_same.Goals as goal
 use Rattle.rom80.proofs.comparing.count_same.Goals.{then-bytes-at, else-bytes-at}

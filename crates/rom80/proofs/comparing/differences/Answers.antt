@@ -1,4 +1,4 @@
-use Rattle.std.proofs.Common.{◌≡◌, ◌≤◌, ◌+◌, arith, length, rules, ap, ◌∙◌, Vec, Global}
+use Rattle.std.proofs.Common.{arith, ap, ◌∙◌, Vec, Global}
 use Rattle.rom80.specs.declared.comparing.Difference.{Difference}
 use Rattle.rom80.proofs.CompareLemmas.{same_steps, differ_steps, all_differences, all_within}
 use Rattle.rom80.proofs.comparing.differences.Goals as goal

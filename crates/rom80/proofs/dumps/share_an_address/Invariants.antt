@@ -1,5 +1,5 @@
 -- none of the chunks so far covers one of the addresses
-use Rattle.std.proofs.Common.{◌≡◌, take}
+use Rattle.std.proofs.Common.{take}
 use Rattle.rom80.specs.Rom.{ShareAnAddress}
 use Rattle.rom80.proofs.dumps.share_an_address.Given as goal
 

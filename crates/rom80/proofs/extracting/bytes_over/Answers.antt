@@ -1,4 +1,4 @@
-use Rattle.std.proofs.Common.{rules, ◌≡◌, ◌∙◌, arith, drop, take, ap, sym, ℕ, List}
+use Rattle.std.proofs.Common.{rules, ◌≡◌, ◌∙◌, arith, drop, take, ap, List}
 use Rattle.image80.specs.Image.{Located, PlacedBytes}
 use Rattle.rom80.specs.Rom.{byte_or}
 use Rattle.rom80.proofs.ChunkLemmas.{memory_part}

@@ -1,6 +1,4 @@
-use Rattle.std.proofs.Common.{◌≡◌, ◌∙◌, ap, subst, length, get_or, List, ◌≤◌, ◌<◌, ℕ, slice_index}
-use Rattle.image80.specs.Image.{PlacedBytes}
-use Rattle.rom80.specs.Rom.{byte_or}
+use Rattle.std.proofs.Common.{◌∙◌}
 use Rattle.rom80.proofs.ChunkLemmas.{placed-more, placed-all}
 use Rattle.rom80.proofs.memory.memory_of.Goals as goal
 
