@@ -1,0 +1,4 @@
+pub mod WalkLemmas
+pub mod RowLemmas
+pub mod SearchLemmas
+pub mod CallLemmas
