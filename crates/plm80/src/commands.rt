@@ -2,6 +2,8 @@
 
 mod absolute;
 mod arguments;
+mod calling;
+mod calls_text;
 mod check_text;
 mod checking;
 mod explain_text;
@@ -74,6 +76,7 @@ fn perform(rt: &HostRuntime, request: Request<'_>) -> Result<u8, Reported> {
         Request::Extract(arguments) => extracting::extract_file(rt, arguments),
         Request::Absolute(arguments) => absolute::write_absolute(rt, arguments),
         Request::Inputs(arguments) => inputs_writing::write_inputs_file(rt, &arguments),
+        Request::Calls(arguments) => calling::show_calls(rt, arguments),
     }
 }
 

@@ -1,6 +1,7 @@
 //! The command line, read by clap.
 
 use crate::commands::absolute::{ABSOLUTE, AbsoluteArguments};
+use crate::commands::calling::{CALLS, CallsArguments};
 use crate::commands::checking::CHECK;
 use crate::commands::explaining::EXPLAIN;
 use crate::commands::extracting::{EXTRACT, ExtractArguments};
@@ -35,6 +36,7 @@ pub enum Request<'a> {
     Extract(ExtractArguments<'a>),
     Absolute(AbsoluteArguments<'a>),
     Inputs(InputsArguments<'a>),
+    Calls(CallsArguments<'a>),
 }
 
 const ABOUT: &str = "Links, locates, verifies and runs 8080 programs from OMF-80 object files";
@@ -67,8 +69,8 @@ fn other_commands() -> [Syntax<'static>; 6] {
 }
 
 /// The commands that came last, in the order of the help text.
-fn further_commands() -> [Syntax<'static>; 1] {
-    [INPUTS]
+fn further_commands() -> [Syntax<'static>; 2] {
+    [INPUTS, CALLS]
 }
 
 /// The command of a name.
@@ -188,6 +190,7 @@ fn asked_for<'a>(
         "extract" => Request::Extract(ExtractArguments::of(arguments)),
         "absolute" => Request::Absolute(AbsoluteArguments::of(arguments)),
         "inputs" => Request::Inputs(InputsArguments::of(alloc, arguments)?),
+        "calls" => Request::Calls(CallsArguments::of(arguments)),
         _ => return Ok(None),
     };
     Ok(Some(request))

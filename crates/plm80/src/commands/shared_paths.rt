@@ -83,7 +83,12 @@ impl<'a> Argument<'a> {
                 matches.get_str(self.name) == Some(path)
             }
             Kind::Paths => matches.get_strs(self.name).unwrap_or(&[]).contains(&path),
-            Kind::Words | Kind::Replaced(_) | Kind::Required(_) | Kind::Number(_) | Kind::Count(_) => false,
+            Kind::Words
+            | Kind::Replaced(_)
+            | Kind::Required(_)
+            | Kind::Number(_)
+            | Kind::Count(_)
+            | Kind::Flag => false,
         }
     }
 
@@ -95,9 +100,8 @@ impl<'a> Argument<'a> {
             Kind::Required(value)
             | Kind::WrittenOption(value)
             | Kind::Replaced(value)
-            | Kind::Number(value) => {
-                format!(in alloc; "--{} <{value}>", self.name)
-            }
+            | Kind::Number(value) => { format!(in alloc; "--{} <{value}>", self.name) }
+            Kind::Flag => format!(in alloc; "--{}", self.name),
             Kind::Count(_) => format!(in alloc; "--{} <N>", self.name),
         }
     }

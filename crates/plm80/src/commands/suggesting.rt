@@ -59,10 +59,7 @@ impl<'a> CasesArguments<'a> {
 
 /// Prints the CASE lines, writes the regions with them if a file is named, and reports each PCHL for which no table is seen; gives
 /// status 1 where there is one.
-pub fn suggest_for_files(
-    rt: &HostRuntime,
-    arguments: CasesArguments<'_>,
-) -> Result<u8, Reported> {
+pub fn suggest_for_files(rt: &HostRuntime, arguments: CasesArguments<'_>) -> Result<u8, Reported> {
     let image = arguments.files.read(rt)?;
     let Ok((suggestions, text)) = suggested(rt.alloc(), &image) else {
         return Err(report_memory(rt));

@@ -43,6 +43,8 @@ pub enum Kind<'a> {
     Number(&'a str),
     /// An option with a number N and this default.
     Count(&'a str),
+    /// An option without a value.
+    Flag,
 }
 
 impl<'a> Syntax<'a> {
@@ -74,6 +76,7 @@ impl<'a> Argument<'a> {
             }
             Kind::Number(value) | Kind::Replaced(value) => option(arg, self.name, value),
             Kind::Count(default) => option(arg, self.name, "N").default_value(default),
+            Kind::Flag => arg.long(self.name).action(ArgAction::SetTrue),
         }
     }
 }
