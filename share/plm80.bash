@@ -11,7 +11,7 @@ _plm80() {
             ;;
     esac
     if [[ $COMP_CWORD -eq 1 ]]; then
-        COMPREPLY=($(compgen -W 'link locate run list check explain lib regions cases map extract absolute help -h --help -V --version' -- "$word"))
+        COMPREPLY=($(compgen -W 'link locate run list check explain lib regions cases map extract absolute inputs calls help -h --help -V --version' -- "$word"))
         return
     fi
     case ${COMP_WORDS[1]} in
@@ -20,9 +20,11 @@ _plm80() {
         run) options='--steps --outputs -h --help' ;;
         extract) options='--first --length -h --help' ;;
         absolute) options='--first --start --name -h --help' ;;
-        list | check | explain | lib | regions | cases) options='-h --help' ;;
+        list | check | explain | lib | regions | inputs) options='-h --help' ;;
+        cases) options='--out -h --help' ;;
+        calls) options='--dot -h --help' ;;
         help)
-            [[ $COMP_CWORD -eq 2 ]] && COMPREPLY=($(compgen -W 'link locate run list check explain lib regions cases map extract absolute help' -- "$word"))
+            [[ $COMP_CWORD -eq 2 ]] && COMPREPLY=($(compgen -W 'link locate run list check explain lib regions cases map extract absolute inputs calls help' -- "$word"))
             return
             ;;
         *) return ;;
