@@ -11,7 +11,7 @@ _plm80() {
             ;;
     esac
     if [[ $COMP_CWORD -eq 1 ]]; then
-        COMPREPLY=($(compgen -W 'link locate run list check explain lib regions cases map extract absolute stores compare help -h --help -V --version' -- "$word"))
+        COMPREPLY=($(compgen -W 'link locate run list check explain lib regions cases map extract absolute stores compare inputs calls help -h --help -V --version' -- "$word"))
         return
     fi
     case ${COMP_WORDS[1]} in
@@ -22,9 +22,11 @@ _plm80() {
         extract) options='--first --length --fill --sum -h --help' ;;
         absolute) options='--first --start --name --rom -h --help' ;;
         compare) options='--first --fill -h --help' ;;
-        list | check | explain | lib | regions | cases | stores) options='-h --help' ;;
+        list | check | explain | lib | regions | stores | inputs) options='-h --help' ;;
+        cases) options='--out -h --help' ;;
+        calls) options='--dot -h --help' ;;
         help)
-            [[ $COMP_CWORD -eq 2 ]] && COMPREPLY=($(compgen -W 'link locate run list check explain lib regions cases map extract absolute stores compare help' -- "$word"))
+            [[ $COMP_CWORD -eq 2 ]] && COMPREPLY=($(compgen -W 'link locate run list check explain lib regions cases map extract absolute stores compare inputs calls help' -- "$word"))
             return
             ;;
         *) return ;;

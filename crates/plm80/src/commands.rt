@@ -2,6 +2,8 @@
 
 mod absolute;
 mod arguments;
+mod calling;
+mod calls_text;
 mod check_text;
 mod checking;
 mod comparing;
@@ -78,6 +80,7 @@ fn perform(rt: &HostRuntime, request: Request<'_>) -> Result<u8, Reported> {
         Request::Stores(files) => stores::list_stores(rt, files),
         Request::Compare(arguments) => comparing::compare_files(rt, arguments),
         Request::Inputs(arguments) => inputs_writing::write_inputs_file(rt, &arguments),
+        Request::Calls(arguments) => calling::show_calls(rt, arguments),
     }
 }
 

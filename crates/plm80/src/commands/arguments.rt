@@ -1,6 +1,7 @@
 //! The command line, read by clap.
 
 use crate::commands::absolute::{ABSOLUTE, AbsoluteArguments};
+use crate::commands::calling::{CALLS, CallsArguments};
 use crate::commands::checking::CHECK;
 use crate::commands::comparing::{COMPARE, CompareArguments};
 use crate::commands::explaining::EXPLAIN;
@@ -39,6 +40,7 @@ pub enum Request<'a> {
     Stores(ProgramFiles<'a>),
     Compare(CompareArguments<'a>),
     Inputs(InputsArguments<'a>),
+    Calls(CallsArguments<'a>),
 }
 
 const ABOUT: &str = "Links, locates, verifies and runs 8080 programs from OMF-80 object files";
@@ -71,8 +73,8 @@ fn other_commands() -> [Syntax<'static>; 6] {
 }
 
 /// The commands that came last, in the order of the help text.
-fn further_commands() -> [Syntax<'static>; 3] {
-    [STORES, COMPARE, INPUTS]
+fn further_commands() -> [Syntax<'static>; 4] {
+    [STORES, COMPARE, INPUTS, CALLS]
 }
 
 /// The command of a name.
@@ -194,6 +196,7 @@ fn asked_for<'a>(
         "stores" => Request::Stores(ProgramFiles::of(arguments)),
         "compare" => Request::Compare(CompareArguments::of(arguments)),
         "inputs" => Request::Inputs(InputsArguments::of(alloc, arguments)?),
+        "calls" => Request::Calls(CallsArguments::of(arguments)),
         _ => return Ok(None),
     };
     Ok(Some(request))

@@ -54,7 +54,7 @@ pub fn accepted(alloc: Global, vouched: &Vouched) -> Result<(String, u8), AllocE
 }
 
 /// The text of a refusal, and status 1; want of memory is no answer about the image.
-fn refused(alloc: Global, refusal: Refusal) -> Result<(String, u8), AllocError> {
+pub fn refused(alloc: Global, refusal: Refusal) -> Result<(String, u8), AllocError> {
     match refusal {
         Refusal::Memory => Err(AllocError),
         _ => Ok((refusal_text(alloc, refusal)?, 1)),
