@@ -2,6 +2,7 @@
 //! program's tests.
 
 use crate::pushing::{IMAGE, INPUTS, REGIONS};
+use calls80::{Procedure, find_calls};
 use image80::{Image, read_regions};
 use loader80::{ProcRow, Vouched, read_inputs, run, vouch};
 use machine80::{End, FlatBus, ListPorts, PagedBus, Ports};
@@ -50,6 +51,10 @@ fn what_a_vouched_image_reaches(rt: HostRuntime) -> Result<(), Fail> {
     let stores = find_stores(rt.alloc(), &vouched)?;
     assert!(rt; stores.addresses.is_empty());
     assert!(rt; stores.open.is_empty());
+    let calls = find_calls(rt.alloc(), &vouched, Procedure::Main)?;
+    assert_eq!(rt; calls.len(), 1);
+    assert_eq!(rt; calls[0].depth, 2);
+    assert_eq!(rt; calls[0].target, 0x300B);
     Ok(())
 }
 
