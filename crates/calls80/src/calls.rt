@@ -32,14 +32,6 @@ pub struct Call {
 /// The calls of a procedure of a vouched image, by address: exactly those of its walks, with the depth of the walk there. There are
 /// none if the image has no such procedure.
 ///
-/// # Example
-/// ```
-/// let calls = find_calls(rt.alloc(), &vouched, Procedure::Main)?;
-/// assert_eq!(rt; calls.len(), 1);
-/// assert_eq!(rt; calls[0].depth, 2);
-/// assert_eq!(rt; calls[0].target, 0x300B);
-/// ```
-///
 /// # Errors
 /// `AllocError` where memory runs out.
 pub fn find_calls(
