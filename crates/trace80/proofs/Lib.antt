@@ -1,0 +1,4 @@
+mod GoingOnLemmas
+mod StepLemmas
+mod LineLemmas
+mod TraceLemmas

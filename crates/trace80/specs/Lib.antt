@@ -1,0 +1,4 @@
+pub mod GoingOn
+pub mod Lines
+pub mod Traces
+pub mod Finished
