@@ -23,10 +23,13 @@ pub mod number_text;
 mod object_files;
 mod pieces;
 mod program_files;
+mod run_files;
 mod running;
 mod shared_paths;
 mod suggesting;
 mod syntax;
+mod tracing;
+mod watching;
 
 use arguments::{Request, read_arguments};
 use fault_line::{Reported, report, report_memory};
@@ -72,6 +75,7 @@ fn perform(rt: &HostRuntime, request: Request<'_>) -> Result<u8, Reported> {
         Request::Map(arguments) => mapping::map_file(rt, arguments),
         Request::Extract(arguments) => extracting::extract_file(rt, arguments),
         Request::Absolute(arguments) => absolute::write_absolute(rt, arguments),
+        Request::Trace(arguments) => tracing::trace_files(rt, arguments),
     }
 }
 

@@ -2,3 +2,4 @@ mod GoingOnLemmas
 mod StepLemmas
 mod LineLemmas
 mod TraceLemmas
+mod CountLemmas

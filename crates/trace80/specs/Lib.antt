@@ -2,3 +2,4 @@ pub mod GoingOn
 pub mod Lines
 pub mod Traces
 pub mod Finished
+pub mod Counts

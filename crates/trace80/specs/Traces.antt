@@ -29,6 +29,12 @@ abbrev pub last_number : Option End → (steps : ℕ) → ℕ
 last_number None steps = steps
 last_number (Some e) steps = steps - 1
 
+-- a run of at most so many steps ends so
+pub record EndsSo (regions : Areas) (most : Option ℕ) (start : World) (limit : ℕ) (ended : Ended) : Type 0 where
+  pub last : Machine
+  pub run : IsRun regions most start limit ended.steps last ended.end
+  pub cpu : ended.cpu ≡ last.cpu
+
 -- the lines came to the end of the run, which is this
 pub record CameToEnd (regions : Areas) (most : Option ℕ) (start : World) (limit from count : ℕ) (ended : Ended) : Type 0 where
   pub last : Machine

@@ -4,10 +4,12 @@
 //! |---|---|
 //! | [`write_lines`], [`Limits`], [`Span`], [`TraceFault`] | the lines of some of a run's instructions, written as they come |
 //! | [`finish`], [`Finished`] | a run to its end, with what it leaves |
+//! | [`count_steps`], [`Counts`] | how often a run begins the instruction at each address |
 //! | [`memory_bytes`] | the bytes of a memory |
 //! | [`laws`] | a run goes on from where it was stopped, as a contract |
 #![tactic(auto)]
 
+mod counting;
 mod fault;
 mod finishing;
 pub mod laws;
@@ -17,6 +19,7 @@ mod memory;
 mod stepping;
 mod tracing;
 
+pub use counting::{Counts, count_steps};
 pub use fault::TraceFault;
 pub use finishing::{Finished, finish};
 pub use limits::{Limits, Span};

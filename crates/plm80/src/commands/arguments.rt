@@ -14,6 +14,7 @@ use crate::commands::program_files::ProgramFiles;
 use crate::commands::running::{RUN, RunArguments};
 use crate::commands::suggesting::CASES;
 use crate::commands::syntax::Syntax;
+use crate::commands::tracing::{TRACE, TraceArguments};
 use clap::error::ErrorKind;
 use clap::{ArgMatches, Command, Error};
 use std::alloc::{AllocError, Global};
@@ -33,6 +34,7 @@ pub enum Request<'a> {
     Map(MapArguments<'a>),
     Extract(ExtractArguments<'a>),
     Absolute(AbsoluteArguments<'a>),
+    Trace(TraceArguments<'a>),
 }
 
 const ABOUT: &str = "Links, locates, verifies and runs 8080 programs from OMF-80 object files";
@@ -60,8 +62,8 @@ fn main_commands() -> [Syntax<'static>; 6] {
 }
 
 /// The other commands, in the order of the help text.
-fn other_commands() -> [Syntax<'static>; 6] {
-    [LIB, REGIONS, CASES, MAP, EXTRACT, ABSOLUTE]
+fn other_commands() -> [Syntax<'static>; 7] {
+    [LIB, REGIONS, CASES, MAP, EXTRACT, ABSOLUTE, TRACE]
 }
 
 /// The command of a name.
@@ -172,6 +174,7 @@ fn asked_for<'a>(
         "map" => Request::Map(MapArguments::of(arguments)),
         "extract" => Request::Extract(ExtractArguments::of(arguments)),
         "absolute" => Request::Absolute(AbsoluteArguments::of(arguments)),
+        "trace" => Request::Trace(TraceArguments::of(arguments)),
         _ => return Ok(None),
     };
     Ok(Some(request))

@@ -31,6 +31,8 @@ pub enum Kind<'a> {
     Written,
     /// An option that is required, whose value is such a path.
     WrittenOption(&'a str),
+    /// An option whose value is such a path, which the help text calls by this word.
+    WrittenIfGiven(&'a str),
     /// An option that is required, whose value the help text calls by this word. Any argument after the option is its value.
     Required(&'a str),
     /// An option with a number, which the help text calls by this word. Any argument after the option is its value, and
@@ -67,7 +69,7 @@ impl<'a> Argument<'a> {
             Kind::Required(value) | Kind::WrittenOption(value) => {
                 option(arg, self.name, value).required(true)
             }
-            Kind::Number(value) => option(arg, self.name, value),
+            Kind::Number(value) | Kind::WrittenIfGiven(value) => option(arg, self.name, value),
             Kind::Count(default) => option(arg, self.name, "N").default_value(default),
         }
     }
