@@ -1,5 +1,5 @@
 -- A program that a table of frames fits never goes wrong.
-use Rattle.std.specs.Prelude.{◌≡◌, ℕ, zero, suc, ◌+◌, ◌-◌, ◌*◌, ◌%◌, ◌<◌, ◌≤◌, Bool, true, false, not, ◌&&◌, List, [], ◌∷◌, Option, None, Some, All, length, slice_index_or, refl, if◌then◌else◌}
+use Rattle.std.specs.Prelude.{◌≡◌, ℕ, zero, suc, ◌+◌, ◌-◌, ◌*◌, ◌%◌, ◌<◌, ◌≤◌, Bool, true, false, not, ◌&&◌, List, [], ◌∷◌, Option, None, Some, Ok, All, length, slice_index_or, refl, if◌then◌else◌}
 use Rattle.std.specs.List.{list_all, range_with_len}
 use Rattle.std.proofs.Common.{◌∙◌, ap, sym, subst, arith, cond}
 use Rattle.std.proofs.lemmas.List.{length-map}
@@ -20,11 +20,13 @@ use Rattle.machine80.specs.Cpu.{hl_of}
 use Rattle.machine80.specs.Ports.{next_input}
 use Rattle.machine80.specs.Effects.{stack_bytes, pointed_bytes, target}
 use Rattle.machine80.specs.Step.{Machine, Turn, Next, Stop, fetch, guard, guarded, execute, turn_of, leads_outside, proceeded, with_input, step_on, first_outside, ends_at}
+use Rattle.machine80.specs.Run.{world_of}
 use Rattle.machine80.specs.World.{World, world_at, world_at_start, turn_at, next_world, following, world_after, places_then, places_after, refuses, returns, IsJustBelow, IsWorldOf, fetched_by, IsNewest, IsProperEnd, NeverGoesWrong}
 use Rattle.bounds80.specs.declared.procedure.Procedure.TheVariants.{Main}
-use Rattle.flow80.specs.Fitting.{Table, Fits, IsFitted}
+use Rattle.flow80.specs.Fitting.{Table, Has, Fits, IsFitted}
 use Rattle.verify80.specs.Looking.{code_of, is_declared}
 use Rattle.verify80.specs.LookLaws.{IsAdmitted, LooksFindWhatIsAdmitted}
+use Rattle.soundness80.specs.Starts.{IsStart, IsWorldFrom, NeverGoesWrongFromPowerOn}
 use Rattle.soundness80.proofs.StackLemmas.{pointer}
 use Rattle.soundness80.proofs.StoreLemmas.{Ground}
 use Rattle.soundness80.proofs.FetchLemmas.{fetch_here}
@@ -65,7 +67,7 @@ abbrev world_or : World → Option World → World
 world_or otherwise None = otherwise
 world_or otherwise (Some w) = w
 
-world_in : {w v : World} → Some w ≡ Some v → w ≡ v
+pub world_in : {w v : World} → Some w ≡ Some v → w ≡ v
 world_in {w} h = ap (world_or w) h
 
 -- an end of an instruction that is executed
@@ -103,20 +105,22 @@ full image = length-map (range_with_len 0 65536) (byte_at image.chunks) ∙ rang
 -- the instruction at a watched world is the image's
 module _ (image : Located) (table : Table) (most : ℕ) (rules : Ground image.regions) (fits : Fits (code_of image) table) (printed : table.bound Main ≡ most) (within : most ≤ image.regions.stack.length)
     (changes : ChangesByPlaces) (returns_law : ReturnsByPlaces) (looks : LooksFindWhatIsAdmitted) (fetches : FetchReadsCodeAlone) where
-  record Finds (w : World) : Type 0 where
-    found : Fetched
-    fetched : fetched_by image.regions w ≡ Some found
-    declared : found.instr ≡ Pchl → is_declared image.regions w.machine.cpu.pc ≡ true
-    stores : list_all (in_data image.regions) (direct_bytes found.instr) ≡ true
-    safe : Safe image table most w found.instr found.next
+  pub record Finds (w : World) : Type 0 where
+    pub found : Fetched
+    pub looked : (code_of image).look w.machine.cpu.pc ≡ Ok found
+    pub fetched : fetched_by image.regions w ≡ Some found
+    pub declared : found.instr ≡ Pchl → is_declared image.regions w.machine.cpu.pc ≡ true
+    pub stores : list_all (in_data image.regions) (direct_bytes found.instr) ≡ true
+    pub safe : Safe image table most w found.instr found.next
 
-  finds : (w : World) → Watched image table most w → Finds w
+  pub finds : (w : World) → Watched image table most w → Finds w
   finds w s =
       let fit = fits.frames s.procedure w.machine.cpu.pc s.frame s.there in
       let admitted : IsAdmitted image.regions (memory_of image.chunks) w.machine.cpu.pc fit.found =
       (looks image.regions (memory_of image.chunks) w.machine.cpu.pc fit.found).0 fit.moving.looked in
       record {
         found = fit.found;
+        looked = fit.moving.looked;
         fetched = fetch_here fetches image w.machine.memory w.machine.cpu.pc fit.found s.code admitted.fetched;
         declared = admitted.declared;
         stores = admitted.stores;
@@ -127,45 +131,55 @@ module _ (image : Located) (table : Table) (most : ℕ) (rules : Ground image.re
   turn_there : (limit : Option ℕ) (w : World) (f : Finds w) → turn_at image.regions limit w ≡ guarded image.regions (guard image.regions f.found.instr w.machine.cpu) (refuses limit w.machine.outputs) f.found w.machine
   turn_there limit w f = ap (λ (o : Option Fetched). step_on image.regions (refuses limit w.machine.outputs) o w.machine) f.fetched
 
-  -- the next world is watched too
-  turned : (w after : World) (f : Finds w) (t : Turn) (places : List ℕ) → places ≡ places_after f.found.instr f.found.next w.machine.cpu.registers.flags w.places →
-      ((m : Machine) → t ≡ Next m → Watched image table most (record { machine = m; places = places_after f.found.instr f.found.next w.machine.cpu.registers.flags w.places })) →
-      world_after t places ≡ Some after → Watched image table most after
-  turned w after f (Next m) places same watched h =
-      subst (λ (x : World). Watched image table most x) (world_in h)
-      (subst (λ (ps : List ℕ). Watched image table most (record { machine = m; places = ps })) (sym same) (watched m refl))
-  turned w after f (Stop e) places same watched h = cc
+  -- what holds of the machine that an instruction leaves holds of the next world
+  turned : (P : World → Type 0) (w after : World) (f : Finds w) (t : Turn) (places : List ℕ) → places ≡ places_after f.found.instr f.found.next w.machine.cpu.registers.flags w.places →
+      ((m : Machine) → t ≡ Next m → P (record { machine = m; places = places_after f.found.instr f.found.next w.machine.cpu.registers.flags w.places })) →
+      world_after t places ≡ Some after → P after
+  turned P w after f (Next m) places same holds h =
+      subst P (world_in h)
+      (subst (λ (ps : List ℕ). P (record { machine = m; places = ps })) (sym same) (holds m refl))
+  turned P w after f (Stop e) places same holds h = cc
 
-  guarded_turn : (limit : Option ℕ) (w after : World) (f : Finds w) (g : Option End) (places : List ℕ) → guard image.regions f.found.instr w.machine.cpu ≡ g →
+  guarded_turn : (P : World → Type 0) (limit : Option ℕ) (w after : World) (f : Finds w) (g : Option End) (places : List ℕ) → guard image.regions f.found.instr w.machine.cpu ≡ g →
       places ≡ places_after f.found.instr f.found.next w.machine.cpu.registers.flags w.places →
-      world_after (guarded image.regions g (refuses limit w.machine.outputs) f.found w.machine) places ≡ Some after → Watched image table most after
-  guarded_turn limit w after f (Some e) places pass same h = cc
-  guarded_turn limit w after f None places pass same h =
-      turned w after f (execute image.regions (refuses limit w.machine.outputs) f.found.instr f.found.next w.machine) places same (λ m e. f.safe.goes_on (refuses limit w.machine.outputs) m pass e) h
+      ((m : Machine) → guard image.regions f.found.instr w.machine.cpu ≡ None → execute image.regions (refuses limit w.machine.outputs) f.found.instr f.found.next w.machine ≡ Next m →
+      P (record { machine = m; places = places_after f.found.instr f.found.next w.machine.cpu.registers.flags w.places })) →
+      world_after (guarded image.regions g (refuses limit w.machine.outputs) f.found w.machine) places ≡ Some after → P after
+  guarded_turn P limit w after f (Some e) places pass same holds h = cc
+  guarded_turn P limit w after f None places pass same holds h =
+      turned P w after f (execute image.regions (refuses limit w.machine.outputs) f.found.instr f.found.next w.machine) places same (λ m e. holds m pass e) h
 
+  pub leads_on : (P : World → Type 0) (limit : Option ℕ) (w after : World) (f : Finds w) →
+      ((m : Machine) → guard image.regions f.found.instr w.machine.cpu ≡ None → execute image.regions (refuses limit w.machine.outputs) f.found.instr f.found.next w.machine ≡ Next m →
+      P (record { machine = m; places = places_after f.found.instr f.found.next w.machine.cpu.registers.flags w.places })) →
+      next_world image.regions limit w ≡ Some after → P after
+  leads_on P limit w after f holds h =
+      let places : List ℕ = places_then (fetch image.regions w.machine.memory w.machine.cpu.pc) w.machine.cpu.registers.flags w.places in
+      guarded_turn P limit w after f (guard image.regions f.found.instr w.machine.cpu) places refl
+      (ap (λ (o : Option Fetched). places_then o w.machine.cpu.registers.flags w.places) f.fetched) holds
+      (ap (λ (t : Turn). world_after t places) (sym (turn_there limit w f)) ∙ h)
+
+  -- the next world is watched too
   stays_watched : (limit : Option ℕ) (w after : World) → Watched image table most w → next_world image.regions limit w ≡ Some after → Watched image table most after
   stays_watched limit w after s h =
       let f : Finds w = finds w s in
-      let places : List ℕ = places_then (fetch image.regions w.machine.memory w.machine.cpu.pc) w.machine.cpu.registers.flags w.places in
-      guarded_turn limit w after f (guard image.regions f.found.instr w.machine.cpu) places refl
-      (ap (λ (o : Option Fetched). places_then o w.machine.cpu.registers.flags w.places) f.fetched)
-      (ap (λ (t : Turn). world_after t places) (sym (turn_there limit w f)) ∙ h)
+      leads_on (Watched image table most) limit w after f (λ m pass e. f.safe.goes_on (refuses limit w.machine.outputs) m pass e) h
 
   followed : (limit : Option ℕ) (w : World) (o : Option World) → ((v : World) → o ≡ Some v → Watched image table most v) → following image.regions limit o ≡ Some w → Watched image table most w
   followed limit w None before h = cc
   followed limit w (Some v) before h = stays_watched limit v w (before v refl) h
 
-  -- the start is watched
-  begins_watched : (inputs : List (List ℕ)) (outputs : List (ℕ × ℕ)) → Watched image table most (world_at_start image inputs outputs)
-  begins_watched inputs outputs =
-      arrived image table most (world_at_start image inputs outputs).machine [] Main main_frame 0 0 (record {
-        has = fits.start;
-        pointer = (let e : (image.regions.stack.first + image.regions.stack.length) % 65536 ≡ pointer (image.regions.stack.first + image.regions.stack.length) (0 + 0) = ap (λ n. n % 65536) (let d : image.regions.stack.first + image.regions.stack.length ≡ image.regions.stack.first + image.regions.stack.length - 2 * (0 + 0) = omega arith in d) in e);
+  -- a start is watched
+  begins_watched : (start : Machine) → IsStart image start → Watched image table most (world_of start)
+  begins_watched start is =
+      arrived image table most start [] Main main_frame 0 0 (record {
+        has = subst (λ a. Has table Main a main_frame) (sym is.pc) fits.start;
+        pointer = is.sp ∙ (let e : (image.regions.stack.first + image.regions.stack.length) % 65536 ≡ pointer (image.regions.stack.first + image.regions.stack.length) (0 + 0) = ap (λ n. n % 65536) (let d : image.regions.stack.first + image.regions.stack.length ≡ image.regions.stack.first + image.regions.stack.length - 2 * (0 + 0) = omega arith in d) in e);
         words = λ i own. absurd (let e : Any ≡ Own = own in cc);
         pairs = λ pair own. absurd (none_known pair own);
         chain = in_main Main 0 0 0 [] (record { procedure = refl; ground = refl; none = refl }) (record { fits = omega (arith, printed) });
-        code = record { bytes = λ a here. refl };
-        size = full image;
+        code = record { bytes = λ a here. sym (is.code a here) };
+        size = is.whole;
       })
     where
       none_known : (pair : FramePair) → pair_in unknown pair ≡ Own → ⊥
@@ -173,15 +187,15 @@ module _ (image : Located) (table : Table) (most : ℕ) (rules : Ground image.re
       none_known De own = let e : Any ≡ Own = own in cc
       none_known Hl own = let e : Any ≡ Own = own in cc
 
-  always_watched : (inputs : List (List ℕ)) (outputs : List (ℕ × ℕ)) (limit : Option ℕ) (n : ℕ) (w : World) → world_at image.regions limit (world_at_start image inputs outputs) n ≡ Some w → Watched image table most w
-  always_watched inputs outputs limit zero w h = subst (λ (x : World). Watched image table most x) (world_in h) (begins_watched inputs outputs)
-  always_watched inputs outputs limit (suc n) w h =
-      followed limit w (world_at image.regions limit (world_at_start image inputs outputs) n) (always_watched inputs outputs limit n) h
+  always_watched : (start : Machine) → IsStart image start → (limit : Option ℕ) (n : ℕ) (w : World) → world_at image.regions limit (world_of start) n ≡ Some w → Watched image table most w
+  always_watched start is limit zero w h = subst (λ (x : World). Watched image table most x) (world_in h) (begins_watched start is)
+  always_watched start is limit (suc n) w h =
+      followed limit w (world_at image.regions limit (world_of start) n) (always_watched start is limit n) h
 
-  watched_of : (limit : Option ℕ) (w : World) → IsWorldOf image limit w → Watched image table most w
-  watched_of limit w at = always_watched at.inputs at.outputs limit at.steps w at.is
+  pub watched_from : (start : Machine) → IsStart image start → (limit : Option ℕ) (w : World) → IsWorldFrom image start limit w → Watched image table most w
+  watched_from start is limit w at = always_watched start is limit at.steps w at.is
 
-  same_found : (w : World) (f : Finds w) (found : Fetched) → fetched_by image.regions w ≡ Some found → f.found ≡ found
+  pub same_found : (w : World) (f : Finds w) (found : Fetched) → fetched_by image.regions w ≡ Some found → f.found ≡ found
   same_found w f found fetched = let there = f.fetched in cc (there, fetched)
 
   -- the guard finds a store through a pair alone
@@ -192,27 +206,46 @@ module _ (image : Located) (table : Table) (most : ℕ) (rules : Ground image.re
       ap (λ (o : Option ℕ). ends_at o Stack (ends_at (first_outside (in_data image.regions) (direct_bytes f.found.instr)) Direct last_one)) f.safe.touches.inside
       ∙ ap (λ (o : Option ℕ). ends_at o Direct last_one) direct
 
-  pub never_goes_wrong : NeverGoesWrong image most
+  pub never_goes_wrong : NeverGoesWrongFromPowerOn image most
   never_goes_wrong = record {
-    fetches_and_stores = λ limit w at.
-        let f = finds w (watched_of limit w at) in
+    fetches_and_stores = λ start is limit w at.
+        let f = finds w (watched_from start is limit w at) in
         record { found = f.found; fetched = f.fetched; direct = all_pass (in_data image.regions) (direct_bytes f.found.instr) f.stores; declared = f.declared };
-    returning = λ limit w found at fetched taken.
-        let f = finds w (watched_of limit w at) in
+    returning = λ start is limit w found at fetched taken.
+        let f = finds w (watched_from start is limit w at) in
         let same = same_found w f found fetched in
         subst (λ (x : Fetched). returns x.instr w.machine.cpu.registers.flags ≡ true → IsNewest (target x.instr x.next w.machine.memory w.machine.cpu) w.places) same f.safe.returning taken;
-    stack = λ limit w found at fetched.
-        let f = finds w (watched_of limit w at) in
+    stack = λ start is limit w found at fetched.
+        let f = finds w (watched_from start is limit w at) in
         let same = same_found w f found fetched in
         subst (λ (x : Fetched). All (IsJustBelow ((image.regions.stack.first + image.regions.stack.length) % 65536) most) (stack_bytes x.instr w.machine.cpu)) same f.safe.touches.below;
-    ends = λ limit w e at stops.
-        let f = finds w (watched_of limit w at) in
+    ends = λ start is limit w e at stops.
+        let f = finds w (watched_from start is limit w at) in
         guarded_ends image.regions (first_outside (in_data image.regions) (pointed_bytes f.found.instr w.machine.cpu.registers)) (refuses limit w.machine.outputs) f.found w.machine e
         (ap (λ (o : Option End). guarded image.regions o (refuses limit w.machine.outputs) f.found w.machine) (sym (passes_guard w f)) ∙ sym (turn_there limit w f) ∙ stops);
   }
 
--- an image that is fitted never goes wrong
-pub fitted_never_goes_wrong : ChangesByPlaces → ReturnsByPlaces → LooksFindWhatIsAdmitted → FetchReadsCodeAlone → (image : Located) (bytes : ℕ) → Ground image.regions → IsFitted (code_of image) bytes →
-    bytes ≤ image.regions.stack.length → NeverGoesWrong image bytes
-fitted_never_goes_wrong changes returns_law looks fetches image bytes ground fitted enough =
+-- an image that is fitted never goes wrong from power-on
+pub fitted_never_goes_wrong_from_power_on : ChangesByPlaces → ReturnsByPlaces → LooksFindWhatIsAdmitted → FetchReadsCodeAlone → (image : Located) (bytes : ℕ) → Ground image.regions → IsFitted (code_of image) bytes →
+    bytes ≤ image.regions.stack.length → NeverGoesWrongFromPowerOn image bytes
+fitted_never_goes_wrong_from_power_on changes returns_law looks fetches image bytes ground fitted enough =
     never_goes_wrong image fitted.table bytes ground fitted.fits fitted.printed enough changes returns_law looks fetches
+
+-- the machine on which a run of an image begins with all else 0 is one from power-on
+pub own_start : (image : Located) (inputs : List (List ℕ)) (outputs : List (ℕ × ℕ)) → IsStart image (world_at_start image inputs outputs).machine
+own_start image inputs outputs = record { pc = refl; sp = refl; whole = full image; code = λ a here. refl }
+
+-- so an image that never goes wrong from power-on never goes wrong
+pub from_power_on : (image : Located) (bytes : ℕ) → NeverGoesWrongFromPowerOn image bytes → NeverGoesWrong image bytes
+from_power_on image bytes never = record {
+  fetches_and_stores = λ limit w at. never.fetches_and_stores (begun limit w at) (own_start image at.inputs at.outputs) limit w (from limit w at);
+  returning = λ limit w found at. never.returning (begun limit w at) (own_start image at.inputs at.outputs) limit w found (from limit w at);
+  stack = λ limit w found at. never.stack (begun limit w at) (own_start image at.inputs at.outputs) limit w found (from limit w at);
+  ends = λ limit w e at. never.ends (begun limit w at) (own_start image at.inputs at.outputs) limit w e (from limit w at);
+}
+  where
+    begun : (limit : Option ℕ) (w : World) → IsWorldOf image limit w → Machine
+    begun limit w at = (world_at_start image at.inputs at.outputs).machine
+
+    from : (limit : Option ℕ) (w : World) (at : IsWorldOf image limit w) → IsWorldFrom image (begun limit w at) limit w
+    from limit w at = record { steps = at.steps; is = at.is }

@@ -7,3 +7,6 @@ pub mod StepLemmas
 pub mod ArriveLemmas
 pub mod SafeLemmas
 pub mod Headline
+pub mod WalkLemmas
+pub mod WalkStepLemmas
+pub mod Along

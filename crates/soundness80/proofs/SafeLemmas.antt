@@ -1,10 +1,7 @@
 -- Each step of a watched world is safe, and leads to a watched world.
-use Rattle.std.specs.Prelude.{◌≡◌, ◌≢◌, ℕ, ◌+◌, ◌-◌, ◌*◌, ◌/◌, ◌%◌, ◌≤◌, Bool, true, false, not, ◌==◌, nat_eq, List, [], ◌∷◌, ◌++◌, Contains, is_some, Option, Some, None, Result, Ok, Err, drop, length, slice_index, refl, if◌then◌else◌}
+use Rattle.std.specs.Prelude.{◌≡◌, ◌≢◌, ℕ, ◌+◌, ◌-◌, ◌*◌, ◌/◌, ◌%◌, ◌≤◌, Bool, true, false, ◌==◌, List, [], ◌∷◌, ◌++◌, Contains, Option, Some, None, Result, Ok, Err, drop, length, slice_index, refl, if◌then◌else◌}
 use Rattle.std.proofs.Common.{◌∙◌, ap, sym, subst, arith, inl, inr, true≢false}
 use Rattle.std.specs.Cmp.{unsigned_Decides}
-use Rattle.std.specs.List.{list_any}
-use Rattle.std.specs.Option.{option_map_or}
-use Rattle.std.proofs.lemmas.Map.Views.{Contains-from_any}
 use Rattle.decode80.specs.declared.condition.Condition.{Condition}
 use Rattle.decode80.specs.declared.restart.Restart.{Restart}
 use Rattle.decode80.specs.declared.pair.Pair.TheVariants.{Bc as PairBc, De as PairDe, Hl as PairHl, Sp}
@@ -36,8 +33,7 @@ use Rattle.machine80.specs.Flags.{holds}
 use Rattle.machine80.specs.Cpu.{word, hl_of, high_of, low_of, with_stack_pair}
 use Rattle.machine80.specs.Ports.{next_input, without_next}
 use Rattle.machine80.specs.Effects.{stack_bytes, stored, changed, target, word_in, pushed_bytes, popped_bytes, push_bytes}
-use Rattle.machine80.specs.declared.end.End.TheVariants.{JumpOutside}
-use Rattle.machine80.specs.Step.{Machine, Turn, Next, Stop, guard, execute, turn_of, jump_end, proceeded, with_input}
+use Rattle.machine80.specs.Step.{Machine, Next, guard, execute, proceeded, with_input}
 use Rattle.machine80.specs.World.{World, places_after, returns, IsNewest}
 use Rattle.bounds80.specs.declared.procedure.Procedure.{Procedure}
 use Rattle.bounds80.specs.declared.procedure.Procedure.TheVariants.{Main, Entry}
@@ -48,19 +44,8 @@ use Rattle.soundness80.proofs.StackLemmas.{pointer, stack_word, Touches, touches
 use Rattle.soundness80.proofs.StoreLemmas.{Ground, is_plain, StoresData, same_memory, plain_stores, SameCode}
 use Rattle.soundness80.proofs.PairLemmas.{pair_value, BringsPair, change_by, plain_pairs}
 use Rattle.soundness80.proofs.ChainLemmas.{Chain, in_main, in_call, chain_room, callee_room, Watched, arrived}
-use Rattle.soundness80.proofs.StepLemmas.{plain_effect, plain_frame, plain_step}
+use Rattle.soundness80.proofs.StepLemmas.{plain_effect, plain_frame, plain_step, machine_in, unless_ok, jumped}
 use Rattle.soundness80.proofs.ArriveLemmas.{stack_within, top_is, has_height, has_wants, stays_there, pushes, PopsTo, pops_to, here_height, pops, popped_word, swaps, calls_there, touches_push, touches_pop, ReturnsTo, returns_to}
-
-unless_ok : (fault : Option FrameFault) (move moves : Moves) → unless fault move ≡ Ok moves → (fault ≡ None) × (moves ≡ move)
-unless_ok None move moves is = (refl, cc)
-unless_ok (Some fault) move moves is = absurd (cc)
-
-abbrev machine_of : Machine → Turn → Machine
-machine_of otherwise (Next m) = m
-machine_of otherwise (Stop e) = otherwise
-
-machine_in : (m n : Machine) → Next m ≡ Next n → m ≡ n
-machine_in m n h = ap (machine_of m) h
 
 -- where a frame's move leads in the table
 pub record Leads (image : Located) (table : Table) (p : Procedure) (at : ℕ) (f : StackFrame) (next : ℕ) (moves : Moves) : Type 0 where
@@ -471,24 +456,15 @@ module _ (image : Located) (table : Table) (most : ℕ) (rules : Ground image.re
         by false = same_there (after false) next on refl refl refl (λ pair. refl)
 
   -- PCHL goes to one of the targets that are declared for its address, where the frame is the same
-  jumped : (targets : Option (List ℕ)) → is_some targets ≡ true → ((to : ℕ) → Contains (option_map_or (λ ts. ts) targets []) to → Has table s.procedure to s.frame) →
-      (to : ℕ) (after m : Machine) → turn_of (jump_end targets to) after ≡ Next m → (after ≡ m) × (Has table s.procedure to s.frame)
-  jumped None declared leads to after m h = absurd (true≢false (sym declared))
-  jumped (Some targets) declared leads to after m h = by (list_any (λ target. target == to) targets) refl h
-    where
-      by : (b : Bool) → list_any (λ target. target == to) targets ≡ b → turn_of (if not b then Some (JumpOutside to) else None) after ≡ Next m → (after ≡ m) × (Has table s.procedure to s.frame)
-      by true is h = (machine_in after m h, leads to (Contains-from_any {eq = λ x y. nat_eq y x} (λ x y same. sym ((unsigned_Decides y x).0 same)) to targets is))
-      by false is h = absurd (cc)
-
   case_safe : (next : ℕ) → is_declared image.regions w.machine.cpu.pc ≡ true → ((to : ℕ) → Contains (declared_targets image.regions w.machine.cpu.pc) to → Has table s.procedure to s.frame) →
       Safe image table most w Pchl next
   case_safe next declared leads = record {
     touches = no_touch;
     returning = λ taken. absurd (true≢false (sym taken));
     goes_on = λ refused m pass h.
-        let went = jumped (targets_at image.regions w.machine.cpu.pc) declared leads (hl_of w.machine.cpu.registers) (proceeded Pchl next w.machine) m h in
+        let went = jumped (targets_at image.regions w.machine.cpu.pc) declared (hl_of w.machine.cpu.registers) (proceeded Pchl next w.machine) m h in
         subst (λ (x : Machine). Watched image table most (record { machine = x; places = w.places })) went.0
-        (same_there (proceeded Pchl next w.machine) (hl_of w.machine.cpu.registers) went.1 refl refl refl (λ pair. refl));
+        (same_there (proceeded Pchl next w.machine) (hl_of w.machine.cpu.registers) (leads (hl_of w.machine.cpu.registers) went.1) refl refl refl (λ pair. refl));
   }
 
   halt_safe : (next : ℕ) → Safe image table most w Hlt next

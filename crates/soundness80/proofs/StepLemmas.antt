@@ -1,5 +1,10 @@
 -- What an instruction that leaves the stack alone does, to a frame and to the machine.
-use Rattle.std.specs.Prelude.{◌≡◌, ℕ, Bool, true, false, List, [], refl}
+use Rattle.std.specs.Prelude.{◌≡◌, ℕ, Bool, true, false, not, ◌==◌, nat_eq, List, [], Contains, is_some, Option, None, Some, Ok, refl, if◌then◌else◌}
+use Rattle.std.specs.Cmp.{unsigned_Decides}
+use Rattle.std.specs.List.{list_any}
+use Rattle.std.specs.Option.{option_map_or}
+use Rattle.std.proofs.Common.{ap, sym, true≢false}
+use Rattle.std.proofs.lemmas.Map.Views.{Contains-from_any}
 use Rattle.decode80.specs.declared.register.Register.{Register}
 use Rattle.decode80.specs.declared.register.Register.TheVariants.{A, B, C, D, E, H, L}
 use Rattle.decode80.specs.declared.pair.Pair.TheVariants.{Bc as PairBc, De as PairDe, Hl as PairHl, Sp}
@@ -8,10 +13,13 @@ use Rattle.decode80.specs.declared.instr.Instr.TheVariants.{Mov, Load, Mvi, Lxi,
 use Rattle.frames80.specs.declared.effect.Effect.TheVariants.{Change as Changes}
 use Rattle.frames80.specs.StackFrame.{StackFrame}
 use Rattle.frames80.specs.Effects.{effect_of, written}
-use Rattle.frames80.specs.Moves.{changed as changed_frame}
+use Rattle.frames80.specs.Moves.{changed as changed_frame, unless}
+use Rattle.frames80.specs.declared.fault.FrameFault.{FrameFault}
+use Rattle.frames80.specs.declared.moves.Moves.{Moves}
 use Rattle.machine80.specs.Effects.{stack_bytes, changed, target}
 use Rattle.image80.specs.Regions.{Areas}
-use Rattle.machine80.specs.Step.{Machine, Next, execute, proceeded}
+use Rattle.machine80.specs.declared.end.End.TheVariants.{JumpOutside}
+use Rattle.machine80.specs.Step.{Machine, Turn, Next, Stop, execute, turn_of, jump_end, proceeded}
 use Rattle.machine80.specs.World.{places_after, returns}
 use Rattle.soundness80.proofs.StoreLemmas.{is_plain}
 use Rattle.soundness80.proofs.PairLemmas.{change_by}
@@ -117,3 +125,25 @@ plain_step (Dcx PairBc) next m calls plain = record { executes = λ regions refu
 plain_step (Dcx PairDe) next m calls plain = record { executes = λ regions refused. refl; goes = refl; pointer = refl; places = refl; stays = refl; touches = refl }
 plain_step (Dcx PairHl) next m calls plain = record { executes = λ regions refused. refl; goes = refl; pointer = refl; places = refl; stays = refl; touches = refl }
 plain_step i next m calls plain = record { executes = λ regions refused. refl; goes = refl; pointer = refl; places = refl; stays = refl; touches = refl }
+
+-- what a fault and a turn leave
+pub unless_ok : (fault : Option FrameFault) (move moves : Moves) → unless fault move ≡ Ok moves → (fault ≡ None) × (moves ≡ move)
+unless_ok None move moves is = (refl, cc)
+unless_ok (Some fault) move moves is = absurd (cc)
+
+abbrev machine_of : Machine → Turn → Machine
+machine_of otherwise (Next m) = m
+machine_of otherwise (Stop e) = otherwise
+
+pub machine_in : (m n : Machine) → Next m ≡ Next n → m ≡ n
+machine_in m n h = ap (machine_of m) h
+
+-- a PCHL that goes on goes to one of the targets that are declared for its address
+pub jumped : (targets : Option (List ℕ)) → is_some targets ≡ true → (to : ℕ) (after m : Machine) → turn_of (jump_end targets to) after ≡ Next m →
+    (after ≡ m) × Contains (option_map_or (λ ts. ts) targets []) to
+jumped None declared to after m h = absurd (true≢false (sym declared))
+jumped (Some targets) declared to after m h = by (list_any (λ target. target == to) targets) refl h
+  where
+    by : (b : Bool) → list_any (λ target. target == to) targets ≡ b → turn_of (if not b then Some (JumpOutside to) else None) after ≡ Next m → (after ≡ m) × Contains targets to
+    by true is h = (machine_in after m h, Contains-from_any {eq = λ x y. nat_eq y x} (λ x y same. sym ((unsigned_Decides y x).0 same)) to targets is)
+    by false is h = absurd (cc)

@@ -1,0 +1,66 @@
+//! The addresses of a vouched image that its procedures come to.
+
+ghost use Rattle.std.specs.Prelude.{◌≡◌, IfOk};
+ghost use Rattle.verify80.specs.Looking.{code_of};
+ghost use Rattle.reach80.specs.Reached.{AreReached};
+
+use crate::search::explore;
+use decode80::Fetched;
+use flow80::fitting_tables_cover_walks;
+use loader80::Vouched;
+use std::alloc::{AllocError, Global};
+use std::marker::Model;
+use verify80::ImageCode;
+
+/// The instruction at each address that a walk of an image's procedures comes to.
+#[derive(Drop)]
+pub struct Reached {
+    table: Vec<Option<Fetched>>,
+}
+
+impl Model for Reached {
+    ghost use Rattle.std.specs.Prelude.{◌≡◌, List, Option, length};
+    ghost use Rattle.decode80.specs.declared.fetching.Fetched.{Fetched};
+
+    ghost Value = { List (Option Fetched) };
+
+    ghost view = { λ r. r.table.items };
+
+    ghost invariant = { λ r. length r.table.items ≡ 65536 };
+}
+
+impl Reached {
+    ghost use Rattle.std.specs.Prelude.{◌≡◌};
+    ghost use Rattle.reach80.specs.Reached.{found_at};
+
+    /// The instruction at an address and the address after it; `None` if no walk comes to the address.
+    pub fn at(&self, address: u16) -> Option<Fetched>
+        ensures { result ≡ found_at self.now address }
+    {
+        self.table[usize::from(address)]
+    }
+}
+
+/// Goes over an image along all walks of its procedures, from its start on.
+///
+/// A walk goes on behind a call only if the procedure that is called returns, and after a PCHL at its declared targets. So each
+/// step of each run of the image is at one of these addresses; that a run comes to each of them isn't said. The time grows with
+/// the number of instructions that are reached.
+///
+/// # Example
+/// ```
+/// let reached = find_reached(rt.alloc(), &vouched)?;
+/// assert_eq!(rt; reached.at(0x0100).is_some(), true);
+/// ```
+///
+/// # Errors
+/// `AllocError` where memory runs out.
+pub fn find_reached(alloc: Global, vouched: &Vouched) -> Result<Reached, AllocError>
+    ensures { IfOk result (AreReached (code_of vouched.now.image)) }
+{
+    fitting_tables_cover_walks();
+    let rows = vouched.rows();
+    let code = ImageCode::new(alloc, vouched.image())?;
+    let table = explore(alloc, &code, rows)?;
+    Ok(Reached { table })
+}
