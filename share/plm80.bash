@@ -6,23 +6,24 @@ _plm80() {
     COMPREPLY=()
     case $before in
         --name | --code | --stack | --common | --data | --memory | --stack-size | --memory-size | --steps | --outputs | --first | \
-            --length | --start)
+            --length | --start | --last | --from | --count)
             return
             ;;
     esac
     if [[ $COMP_CWORD -eq 1 ]]; then
-        COMPREPLY=($(compgen -W 'link locate run list check explain lib regions cases map extract absolute help -h --help -V --version' -- "$word"))
+        COMPREPLY=($(compgen -W 'link locate run list check explain lib regions cases map extract absolute trace help -h --help -V --version' -- "$word"))
         return
     fi
     case ${COMP_WORDS[1]} in
         link) options='--name --out -h --help' ;;
         locate | map) options='--code --stack --common --data --memory --stack-size --memory-size -h --help' ;;
-        run) options='--steps --outputs -h --help' ;;
+        run) options='--steps --outputs --last --dump -h --help' ;;
+        trace) options='--from --count --steps --outputs -h --help' ;;
         extract) options='--first --length -h --help' ;;
         absolute) options='--first --start --name -h --help' ;;
         list | check | explain | lib | regions | cases) options='-h --help' ;;
         help)
-            [[ $COMP_CWORD -eq 2 ]] && COMPREPLY=($(compgen -W 'link locate run list check explain lib regions cases map extract absolute help' -- "$word"))
+            [[ $COMP_CWORD -eq 2 ]] && COMPREPLY=($(compgen -W 'link locate run list check explain lib regions cases map extract absolute trace help' -- "$word"))
             return
             ;;
         *) return ;;
