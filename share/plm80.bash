@@ -6,19 +6,20 @@ _plm80() {
     COMPREPLY=()
     case $before in
         --name | --code | --stack | --common | --data | --memory | --stack-size | --memory-size | --steps | --outputs | --first | \
-            --length | --start | --fill)
+            --length | --start | --fill | --last | --from | --count)
             return
             ;;
     esac
     if [[ $COMP_CWORD -eq 1 ]]; then
-        COMPREPLY=($(compgen -W 'link locate run list check explain lib regions cases map extract absolute stores compare inputs calls help -h --help -V --version' -- "$word"))
+        COMPREPLY=($(compgen -W 'link locate run list check explain lib regions cases map extract absolute trace stores calls compare inputs help -h --help -V --version' -- "$word"))
         return
     fi
     case ${COMP_WORDS[1]} in
         link) options='--name --out -h --help' ;;
         locate) options='--code --stack --common --data --memory --stack-size --memory-size --restart -h --help' ;;
         map) options='--code --stack --common --data --memory --stack-size --memory-size -h --help' ;;
-        run) options='--steps --outputs -h --help' ;;
+        run) options='--steps --outputs --last --dump -h --help' ;;
+        trace) options='--from --count --steps --outputs -h --help' ;;
         extract) options='--first --length --fill --sum -h --help' ;;
         absolute) options='--first --start --name --rom -h --help' ;;
         compare) options='--first --fill -h --help' ;;
@@ -26,7 +27,7 @@ _plm80() {
         cases) options='--out -h --help' ;;
         calls) options='--dot -h --help' ;;
         help)
-            [[ $COMP_CWORD -eq 2 ]] && COMPREPLY=($(compgen -W 'link locate run list check explain lib regions cases map extract absolute stores compare inputs calls help' -- "$word"))
+            [[ $COMP_CWORD -eq 2 ]] && COMPREPLY=($(compgen -W 'link locate run list check explain lib regions cases map extract absolute trace stores calls compare inputs help' -- "$word"))
             return
             ;;
         *) return ;;

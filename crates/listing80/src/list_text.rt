@@ -138,8 +138,13 @@ fn instruction_in(bytes: [u8; 3], left: usize) -> Option<(Instr, usize)>
     }
 }
 
-/// Appends the columns before the text of a line: address and bytes.
-fn append_columns(at: u16, bytes: &[u8], text: &mut Vec<u8>) -> Result<(), AllocError>
+/// Appends the columns before the text of a line: the address, and the digits of the bytes filled with spaces to six places.
+///
+/// There must be three bytes at most.
+///
+/// # Errors
+/// `AllocError` only if memory runs out.
+pub fn append_columns(at: u16, bytes: &[u8], text: &mut Vec<u8>) -> Result<(), AllocError>
     requires { length bytes.now ≤ 3 }
     ensures { OnOk result (text.new.items ≡ text.old.items ++ columns at bytes.now) }
 {

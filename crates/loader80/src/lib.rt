@@ -5,6 +5,7 @@
 //! | [`vouch`], [`Vouched`], [`run`] | an image is checked, and runs |
 //! | [`Refusal`], [`ProcRow`] | why the verifier refuses an image; what it says of a procedure |
 //! | [`refusal_text`] | the line that is printed of a refusal |
+//! | [`front_text`], [`ending_text`] | a run's transcript but for its last line; that line |
 //! | [`session`] | three inputs to the transcript of a run |
 //! | [`answer_texts`] | the same of three texts that were read |
 //! | [`Source`], [`Sink`] | what gives and takes bytes, and counts the calls that failed |
@@ -36,7 +37,7 @@ pub use replies::{Outcome, Reply, SessionTexts, answer_texts};
 pub use running::{Ended, run};
 pub use sessions::{TEXT_LIMIT, session};
 pub use stream::{Failed, Sink, Source};
-pub use transcript::refusal_text;
+pub use transcript::{ending_text, front_text, refusal_text};
 pub use verify80::{ProcRow, Refusal};
 pub use vouched::{Vouched, vouch};
 pub use whole::{ReadAllFault, read_all, write_all};

@@ -1,7 +1,8 @@
 //! What is printed of a run, and of an image that is refused.
 ghost use Rattle.std.specs.Prelude.{◌≡◌, ◌++◌, IfOk, OnOk, string_bytes};
+ghost use Rattle.std.specs.List.{flat_map};
 ghost use Rattle.decode80.specs.Text.{byte_text, word_text};
-ghost use Rattle.loader80.specs.TranscriptText.{after_steps, end_line, output_line, refusal_line, transcript};
+ghost use Rattle.loader80.specs.TranscriptText.{after_steps, end_line, output_line, refusal_line, stack_line, transcript};
 
 use crate::digits::{ByteDigits, WordDigits};
 use machine80::End;
@@ -20,11 +21,44 @@ pub fn transcript_text(
 ) -> Result<String, AllocError>
     ensures { IfOk result (λ text. string_bytes text ≡ transcript stack_bytes outputs.now «end» at steps) }
 {
+    let mut text = front_text(alloc, stack_bytes, outputs)?;
+    append_end(&mut text, end, at, steps)?;
+    Ok(text)
+}
+
+/// The transcript of a run but for its last line: a line for the bytes of stack, and one for each output.
+///
+/// # Errors
+/// `AllocError` only if memory runs out.
+pub fn front_text(
+    alloc: Global,
+    stack_bytes: u64,
+    outputs: &[(u8, u8)],
+) -> Result<String, AllocError>
+    ensures { IfOk result (λ text. string_bytes text ≡ stack_line stack_bytes ++ flat_map output_line outputs.now) }
+{
     let mut text = String::new(alloc);
     writeln!(text, "STACK {stack_bytes}")?;
     for output in outputs {
         append_output(&mut text, *output)?;
     }
+    Ok(text)
+}
+
+/// The last line of a transcript: how the run ended, where the program counter is `at` and so many steps were made. Of the ends
+/// that a vouched image never has, it is empty.
+///
+/// # Errors
+/// `AllocError` only if memory runs out.
+pub fn ending_text(
+    alloc: Global,
+    end: Option<End>,
+    at: u16,
+    steps: u64,
+) -> Result<String, AllocError>
+    ensures { IfOk result (λ text. string_bytes text ≡ end_line «end» at steps) }
+{
+    let mut text = String::new(alloc);
     append_end(&mut text, end, at, steps)?;
     Ok(text)
 }

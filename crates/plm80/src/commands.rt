@@ -27,11 +27,14 @@ pub mod number_text;
 mod object_files;
 mod pieces;
 mod program_files;
+mod run_files;
 mod running;
 mod shared_paths;
 mod stores;
 mod suggesting;
 mod syntax;
+mod tracing;
+mod watching;
 
 use arguments::{Request, read_arguments};
 use fault_line::{Reported, report, report_memory};
@@ -81,6 +84,7 @@ fn perform(rt: &HostRuntime, request: Request<'_>) -> Result<u8, Reported> {
         Request::Compare(arguments) => comparing::compare_files(rt, arguments),
         Request::Inputs(arguments) => inputs_writing::write_inputs_file(rt, &arguments),
         Request::Calls(arguments) => calling::show_calls(rt, arguments),
+        Request::Trace(arguments) => tracing::trace_files(rt, arguments),
     }
 }
 

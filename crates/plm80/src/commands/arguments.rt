@@ -18,6 +18,7 @@ use crate::commands::running::{RUN, RunArguments};
 use crate::commands::stores::STORES;
 use crate::commands::suggesting::{CASES, CasesArguments};
 use crate::commands::syntax::Syntax;
+use crate::commands::tracing::{TRACE, TraceArguments};
 use clap::error::ErrorKind;
 use clap::{ArgMatches, Command, Error};
 use std::alloc::{AllocError, Global};
@@ -41,6 +42,7 @@ pub enum Request<'a> {
     Compare(CompareArguments<'a>),
     Inputs(InputsArguments<'a>),
     Calls(CallsArguments<'a>),
+    Trace(TraceArguments<'a>),
 }
 
 const ABOUT: &str = "Links, locates, verifies and runs 8080 programs from OMF-80 object files";
@@ -73,8 +75,8 @@ fn other_commands() -> [Syntax<'static>; 6] {
 }
 
 /// The commands that came last, in the order of the help text.
-fn further_commands() -> [Syntax<'static>; 4] {
-    [STORES, COMPARE, INPUTS, CALLS]
+fn further_commands() -> [Syntax<'static>; 5] {
+    [TRACE, STORES, CALLS, COMPARE, INPUTS]
 }
 
 /// The command of a name.
@@ -197,6 +199,7 @@ fn asked_for<'a>(
         "compare" => Request::Compare(CompareArguments::of(arguments)),
         "inputs" => Request::Inputs(InputsArguments::of(alloc, arguments)?),
         "calls" => Request::Calls(CallsArguments::of(arguments)),
+        "trace" => Request::Trace(TraceArguments::of(arguments)),
         _ => return Ok(None),
     };
     Ok(Some(request))

@@ -51,7 +51,7 @@ impl<'a> ProgramFiles<'a> {
 }
 
 /// The regions that the file's text spells.
-fn regions_of(rt: &HostRuntime, path: &str, text: &[u8]) -> Result<Regions, Reported> {
+pub fn regions_of(rt: &HostRuntime, path: &str, text: &[u8]) -> Result<Regions, Reported> {
     match read_regions(rt.alloc(), text) {
         Ok(regions) => Ok(regions),
         Err(RegionsFault::Memory) => Err(report_memory(rt)),

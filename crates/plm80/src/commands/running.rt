@@ -5,10 +5,13 @@ use crate::commands::fault_line::{Reported, report, report_file};
 use crate::commands::files::LateFile;
 use crate::commands::number_text::count_of_digits;
 use crate::commands::program_files::{IMAGE, REGIONS};
+use crate::commands::run_files::{INPUTS, LimitTexts, OUTPUTS, RunFiles, STEPS};
 use crate::commands::syntax::{Argument, Kind, Syntax};
+use crate::commands::watching::{Watch, watch_run};
 use crate::status_of;
 use clap::ArgMatches;
 use loader80::{Outcome, Reading, SessionFault, Writing, session};
+use trace80::Limits;
 
 /// The arguments of `run`.
 #[derive(Clone, Copy)]
@@ -16,8 +19,10 @@ pub struct RunArguments<'a> {
     image: &'a str,
     regions: &'a str,
     inputs: &'a str,
-    steps: &'a str,
-    outputs: &'a str,
+    files: RunFiles<'a>,
+    limits: LimitTexts<'a>,
+    last: &'a str,
+    dump: Option<&'a str>,
 }
 
 const ABOUT: &str = "Verifies an image and runs it: prints the transcript, or the refusal";
@@ -29,7 +34,10 @@ digits, as in 02 41FF; an empty file is no input.
 
 The transcript is printed when the run has ended: a line for the bytes of stack
 that the program needs, a line for each byte that it writes to a port, and a
-line for how it ended and after how many steps.
+line for how it ended and after how many steps. --last prints the last N
+instructions before that line, as trace does but for the number: the last one is
+the one that ended the run, or the next one if the steps were used up. --dump
+writes the memory that the run leaves, 65536 bytes.
 
 Example: plm80 run readings.img readings.regions readings.inputs --steps 5000
 
@@ -43,20 +51,18 @@ pub const RUN: Syntax<'static> = Syntax {
     arguments: &[
         IMAGE,
         REGIONS,
+        INPUTS,
+        STEPS,
+        OUTPUTS,
         Argument {
-            name: "INPUTS",
-            kind: Kind::Path,
-            help: "The text of the bytes that it reads from ports",
+            name: "last",
+            kind: Kind::Count("0"),
+            help: "Instructions to print before the last line, at most",
         },
         Argument {
-            name: "steps",
-            kind: Kind::Count("1000000"),
-            help: "Steps at most; a step is one instruction",
-        },
-        Argument {
-            name: "outputs",
-            kind: Kind::Count("65536"),
-            help: "Outputs at most; the next one is refused",
+            name: "dump",
+            kind: Kind::WrittenIfGiven("OUT"),
+            help: "The file to write the memory at the end to",
         },
     ],
 };
@@ -67,9 +73,11 @@ impl<'a> RunArguments<'a> {
         RunArguments {
             image: path_of(matches, IMAGE.name),
             regions: path_of(matches, REGIONS.name),
-            inputs: path_of(matches, "INPUTS"),
-            steps: matches.get_str("steps").unwrap_or(""),
-            outputs: matches.get_str("outputs").unwrap_or(""),
+            inputs: path_of(matches, INPUTS.name),
+            files: RunFiles::of(matches),
+            limits: LimitTexts::of(matches),
+            last: matches.get_str("last").unwrap_or(""),
+            dump: matches.get_str("dump"),
         }
     }
 
@@ -109,23 +117,29 @@ impl<'a> RunArguments<'a> {
     }
 }
 
-/// Runs a session on the files, and gives the exit status.
+/// Runs the image of the files, and gives the exit status: a session, where nothing but its transcript is asked for.
 pub fn run_files(rt: &HostRuntime, arguments: RunArguments<'_>) -> Result<u8, Reported> {
-    let (Some(steps), Some(outputs)) = (
-        count_of_digits(arguments.steps),
-        count_of_digits(arguments.outputs),
-    ) else {
+    let (Some(limits), Some(last)) = (arguments.limits.numbers(), count_of_digits(arguments.last))
+    else {
         return Err(report(rt, "BadNumber"));
     };
-    arguments.status_after(rt, session_of(rt, arguments, steps, outputs as usize))
+    if last == 0 && arguments.dump.is_none() {
+        return arguments.status_after(rt, session_of(rt, arguments, limits));
+    }
+    let watch = Watch {
+        files: arguments.files,
+        limits,
+        last,
+        dump: arguments.dump,
+    };
+    watch_run(rt, watch)
 }
 
 /// The answer of a session on the files, with its transcript on standard output.
 fn session_of(
     rt: &HostRuntime,
     arguments: RunArguments<'_>,
-    steps: u64,
-    outputs: usize,
+    limits: Limits,
 ) -> Result<Outcome, SessionFault> {
     let mut image = Reading::new(LateFile::new(rt, arguments.image));
     let mut regions = Reading::new(LateFile::new(rt, arguments.regions));
@@ -137,7 +151,7 @@ fn session_of(
         &mut regions,
         &mut inputs,
         &mut out,
-        steps,
-        outputs,
+        limits.steps,
+        limits.outputs,
     )
 }

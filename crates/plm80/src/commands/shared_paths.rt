@@ -71,7 +71,9 @@ impl<'a> Argument<'a> {
     /// The path that is given here, where it is that of a file to write.
     fn path_to_write<'m>(&self, matches: &ArgMatches<'m>) -> Option<&'m str> {
         match self.kind {
-            Kind::Written | Kind::WrittenOption(_) => matches.get_str(self.name),
+            Kind::Written | Kind::WrittenOption(_) | Kind::WrittenIfGiven(_) => {
+                matches.get_str(self.name)
+            }
             _ => None,
         }
     }
@@ -79,7 +81,7 @@ impl<'a> Argument<'a> {
     /// Whether the path is given here.
     fn has_path(&self, matches: &ArgMatches<'_>, path: &str) -> bool {
         match self.kind {
-            Kind::Path | Kind::Written | Kind::WrittenOption(_) => {
+            Kind::Path | Kind::Written | Kind::WrittenOption(_) | Kind::WrittenIfGiven(_) => {
                 matches.get_str(self.name) == Some(path)
             }
             Kind::Paths => matches.get_strs(self.name).unwrap_or(&[]).contains(&path),
@@ -100,6 +102,7 @@ impl<'a> Argument<'a> {
             Kind::Paths | Kind::Words => format!(in alloc; "<{}>...", self.name),
             Kind::Required(value)
             | Kind::WrittenOption(value)
+            | Kind::WrittenIfGiven(value)
             | Kind::Replaced(value)
             | Kind::Number(value)
             | Kind::PathsAt(value) => { format!(in alloc; "--{} <{value}>", self.name) }

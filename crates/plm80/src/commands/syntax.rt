@@ -33,6 +33,8 @@ pub enum Kind<'a> {
     Written,
     /// An option that is required, whose value is such a path.
     WrittenOption(&'a str),
+    /// An option whose value is such a path, which the help text calls by this word.
+    WrittenIfGiven(&'a str),
     /// An option whose value is the path of a file to write, which may be that of a file to read. The help text calls it by this
     /// word.
     Replaced(&'a str),
@@ -77,7 +79,9 @@ impl<'a> Argument<'a> {
             Kind::Required(value) | Kind::WrittenOption(value) => {
                 option(arg, self.name, value).required(true)
             }
-            Kind::Number(value) | Kind::Replaced(value) => option(arg, self.name, value),
+            Kind::Number(value) | Kind::WrittenIfGiven(value) | Kind::Replaced(value) => {
+                option(arg, self.name, value)
+            }
             Kind::Count(default) => option(arg, self.name, "N").default_value(default),
             Kind::Flag => arg.long(self.name).action(ArgAction::SetTrue),
             Kind::PathsAt(value) => option(arg, self.name, value).action(ArgAction::Append),

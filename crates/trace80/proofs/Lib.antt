@@ -1,0 +1,5 @@
+mod GoingOnLemmas
+mod StepLemmas
+mod LineLemmas
+mod TraceLemmas
+mod CountLemmas

@@ -1,0 +1,5 @@
+pub mod GoingOn
+pub mod Lines
+pub mod Traces
+pub mod Finished
+pub mod Counts

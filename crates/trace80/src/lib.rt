@@ -1,0 +1,27 @@
+//! A run of a vouched image, seen step by step: the lines of its instructions, and the memory that it leaves.
+//!
+//! | Item | What it is |
+//! |---|---|
+//! | [`write_lines`], [`Limits`], [`Span`], [`TraceFault`] | the lines of some of a run's instructions, written as they come |
+//! | [`finish`], [`Finished`] | a run to its end, with what it leaves |
+//! | [`count_steps`], [`Counts`] | how often a run begins the instruction at each address |
+//! | [`memory_bytes`] | the bytes of a memory |
+//! | [`laws`] | a run goes on from where it was stopped, as a contract |
+#![tactic(auto)]
+
+mod counting;
+mod fault;
+mod finishing;
+pub mod laws;
+mod limits;
+mod line;
+mod memory;
+mod stepping;
+mod tracing;
+
+pub use counting::{Counts, count_steps};
+pub use fault::TraceFault;
+pub use finishing::{Finished, finish};
+pub use limits::{Limits, Span};
+pub use memory::memory_bytes;
+pub use tracing::write_lines;
