@@ -11,7 +11,7 @@ _plm80() {
             ;;
     esac
     if [[ $COMP_CWORD -eq 1 ]]; then
-        COMPREPLY=($(compgen -W 'link locate run list check explain lib regions cases map extract absolute trace help -h --help -V --version' -- "$word"))
+        COMPREPLY=($(compgen -W 'link locate run list check explain lib regions cases map extract absolute trace cover help -h --help -V --version' -- "$word"))
         return
     fi
     case ${COMP_WORDS[1]} in
@@ -19,11 +19,12 @@ _plm80() {
         locate | map) options='--code --stack --common --data --memory --stack-size --memory-size -h --help' ;;
         run) options='--steps --outputs --last --dump -h --help' ;;
         trace) options='--from --count --steps --outputs -h --help' ;;
+        cover) options='--steps --outputs -h --help' ;;
         extract) options='--first --length -h --help' ;;
         absolute) options='--first --start --name -h --help' ;;
         list | check | explain | lib | regions | cases) options='-h --help' ;;
         help)
-            [[ $COMP_CWORD -eq 2 ]] && COMPREPLY=($(compgen -W 'link locate run list check explain lib regions cases map extract absolute trace help' -- "$word"))
+            [[ $COMP_CWORD -eq 2 ]] && COMPREPLY=($(compgen -W 'link locate run list check explain lib regions cases map extract absolute trace cover help' -- "$word"))
             return
             ;;
         *) return ;;

@@ -4,6 +4,7 @@ mod absolute;
 mod arguments;
 mod check_text;
 mod checking;
+mod covering;
 mod explain_text;
 mod explaining;
 mod extracting;
@@ -76,6 +77,7 @@ fn perform(rt: &HostRuntime, request: Request<'_>) -> Result<u8, Reported> {
         Request::Extract(arguments) => extracting::extract_file(rt, arguments),
         Request::Absolute(arguments) => absolute::write_absolute(rt, arguments),
         Request::Trace(arguments) => tracing::trace_files(rt, arguments),
+        Request::Cover(arguments) => covering::cover_files(rt, arguments),
     }
 }
 

@@ -2,6 +2,7 @@
 
 use crate::commands::absolute::{ABSOLUTE, AbsoluteArguments};
 use crate::commands::checking::CHECK;
+use crate::commands::covering::{COVER, CoverArguments};
 use crate::commands::explaining::EXPLAIN;
 use crate::commands::extracting::{EXTRACT, ExtractArguments};
 use crate::commands::library::{LIB, LibraryArguments};
@@ -35,6 +36,7 @@ pub enum Request<'a> {
     Extract(ExtractArguments<'a>),
     Absolute(AbsoluteArguments<'a>),
     Trace(TraceArguments<'a>),
+    Cover(CoverArguments<'a>),
 }
 
 const ABOUT: &str = "Links, locates, verifies and runs 8080 programs from OMF-80 object files";
@@ -62,8 +64,8 @@ fn main_commands() -> [Syntax<'static>; 6] {
 }
 
 /// The other commands, in the order of the help text.
-fn other_commands() -> [Syntax<'static>; 7] {
-    [LIB, REGIONS, CASES, MAP, EXTRACT, ABSOLUTE, TRACE]
+fn other_commands() -> [Syntax<'static>; 8] {
+    [LIB, REGIONS, CASES, MAP, EXTRACT, ABSOLUTE, TRACE, COVER]
 }
 
 /// The command of a name.
@@ -175,6 +177,7 @@ fn asked_for<'a>(
         "extract" => Request::Extract(ExtractArguments::of(arguments)),
         "absolute" => Request::Absolute(AbsoluteArguments::of(arguments)),
         "trace" => Request::Trace(TraceArguments::of(arguments)),
+        "cover" => Request::Cover(CoverArguments::of(arguments)),
         _ => return Ok(None),
     };
     Ok(Some(request))
