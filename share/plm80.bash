@@ -11,7 +11,7 @@ _plm80() {
             ;;
     esac
     if [[ $COMP_CWORD -eq 1 ]]; then
-        COMPREPLY=($(compgen -W 'link locate run list check explain lib regions cases map extract absolute trace stores calls compare inputs help -h --help -V --version' -- "$word"))
+        COMPREPLY=($(compgen -W 'link locate run list check explain lib regions cases map extract absolute trace cover stores calls compare inputs help -h --help -V --version' -- "$word"))
         return
     fi
     case ${COMP_WORDS[1]} in
@@ -20,6 +20,7 @@ _plm80() {
         map) options='--code --stack --common --data --memory --stack-size --memory-size -h --help' ;;
         run) options='--steps --outputs --last --dump -h --help' ;;
         trace) options='--from --count --steps --outputs -h --help' ;;
+        cover) options='--steps --outputs -h --help' ;;
         extract) options='--first --length --fill --sum -h --help' ;;
         absolute) options='--first --start --name --rom -h --help' ;;
         compare) options='--first --fill -h --help' ;;
@@ -27,7 +28,7 @@ _plm80() {
         cases) options='--out -h --help' ;;
         calls) options='--dot -h --help' ;;
         help)
-            [[ $COMP_CWORD -eq 2 ]] && COMPREPLY=($(compgen -W 'link locate run list check explain lib regions cases map extract absolute trace stores calls compare inputs help' -- "$word"))
+            [[ $COMP_CWORD -eq 2 ]] && COMPREPLY=($(compgen -W 'link locate run list check explain lib regions cases map extract absolute trace cover stores calls compare inputs help' -- "$word"))
             return
             ;;
         *) return ;;

@@ -7,6 +7,7 @@ mod calls_text;
 mod check_text;
 mod checking;
 mod comparing;
+mod covering;
 mod explain_text;
 mod explaining;
 mod extracting;
@@ -85,6 +86,7 @@ fn perform(rt: &HostRuntime, request: Request<'_>) -> Result<u8, Reported> {
         Request::Inputs(arguments) => inputs_writing::write_inputs_file(rt, &arguments),
         Request::Calls(arguments) => calling::show_calls(rt, arguments),
         Request::Trace(arguments) => tracing::trace_files(rt, arguments),
+        Request::Cover(arguments) => covering::cover_files(rt, arguments),
     }
 }
 

@@ -4,6 +4,7 @@ use crate::commands::absolute::{ABSOLUTE, AbsoluteArguments};
 use crate::commands::calling::{CALLS, CallsArguments};
 use crate::commands::checking::CHECK;
 use crate::commands::comparing::{COMPARE, CompareArguments};
+use crate::commands::covering::{COVER, CoverArguments};
 use crate::commands::explaining::EXPLAIN;
 use crate::commands::extracting::{EXTRACT, ExtractArguments};
 use crate::commands::inputs_writing::{INPUTS, InputsArguments};
@@ -43,6 +44,7 @@ pub enum Request<'a> {
     Inputs(InputsArguments<'a>),
     Calls(CallsArguments<'a>),
     Trace(TraceArguments<'a>),
+    Cover(CoverArguments<'a>),
 }
 
 const ABOUT: &str = "Links, locates, verifies and runs 8080 programs from OMF-80 object files";
@@ -75,8 +77,8 @@ fn other_commands() -> [Syntax<'static>; 6] {
 }
 
 /// The commands that came last, in the order of the help text.
-fn further_commands() -> [Syntax<'static>; 5] {
-    [TRACE, STORES, CALLS, COMPARE, INPUTS]
+fn further_commands() -> [Syntax<'static>; 6] {
+    [TRACE, COVER, STORES, CALLS, COMPARE, INPUTS]
 }
 
 /// The command of a name.
@@ -200,6 +202,7 @@ fn asked_for<'a>(
         "inputs" => Request::Inputs(InputsArguments::of(alloc, arguments)?),
         "calls" => Request::Calls(CallsArguments::of(arguments)),
         "trace" => Request::Trace(TraceArguments::of(arguments)),
+        "cover" => Request::Cover(CoverArguments::of(arguments)),
         _ => return Ok(None),
     };
     Ok(Some(request))

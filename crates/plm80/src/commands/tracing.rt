@@ -27,8 +27,9 @@ const AFTER_HELP: &str = "\
 Each instruction has a line: the number of the steps before it, the instruction
 as list prints it, and the registers before it, F being the flags byte. IN and
 OUT show the byte, as in IN 02=41; an IN for which no byte waits shows none. The
-lines begin after K steps, and are printed as they come. If the run ends before
-they are N, run's last line follows, and the exit status is run's; else it is 0.
+lines begin after --from steps, and are printed as they come. If the run ends
+before they are as many as --count says, run's last line follows, and the exit
+status is run's; else it is 0.
 
 Example: plm80 trace readings.img readings.regions readings.inputs --count 20
 
