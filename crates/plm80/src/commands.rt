@@ -1,55 +1,26 @@
 //! The commands of the program, done with files. Tests show what they print.
 
-mod absolute;
 mod arguments;
-mod calling;
-mod calls_text;
-mod check_text;
-mod checking;
-mod comparing;
-mod covering;
-mod explain_text;
-mod explaining;
-mod extracting;
-mod fault_line;
-mod file_fault;
-mod files;
-mod inputs_writing;
-mod library;
-mod link_feed;
-mod linking;
-mod listing;
-mod locate_options;
-mod locating;
-mod mapping;
-mod migrating;
-mod name_text;
-pub mod number_text;
-mod object_files;
-mod pieces;
-mod program_files;
-mod run_files;
-mod running;
-mod shared_paths;
-mod stores;
-mod suggesting;
-mod syntax;
-mod tracing;
-mod watching;
 
 use arguments::{Request, read_arguments};
-use fault_line::{Reported, report, report_memory};
-use std::fmt::Display;
+use console80::{Console, Reported};
+use image_commands::{
+    check_files, explain_files, list_files, list_stores, migrate_file, show_calls,
+    suggest_for_files,
+};
+use object_commands::{link_files, locate_file, map_file, write_library_file};
+use rom_commands::{compare_files, extract_file, write_absolute};
+use run_commands::{cover_files, run_files, trace_files, write_inputs_file};
 use std::process::ExitCode;
 
-/// Does the command, and gives the exit status: 1 where an image is refused, 2 at a fault, 3 or 4 as a run ends, and else 0. A
-/// fault is one line on standard error; clap's errors and help are printed there too.
+/// Does the command, and gives the exit status: 1 if an image is refused, 2 at a fault, 3 or 4 as a run ends, and else 0. A fault is
+/// one line on standard error, with words below it if they are asked for; clap's errors and help are printed there too.
 pub fn run_command(rt: &HostRuntime, arguments: &[String]) -> ExitCode {
-    let request = match read_arguments(rt.alloc(), arguments) {
-        Ok(request) => request,
+    let (request, why) = match read_arguments(rt.alloc(), arguments) {
+        Ok(asked) => asked,
         Err(error) => return print_error(rt, &error),
     };
-    match perform(rt, request) {
+    match perform(Console::new(rt, why), request) {
         Ok(status) => ExitCode::from(status),
         Err(Reported) => ExitCode::from(2),
     }
@@ -60,40 +31,34 @@ pub fn refuse_arguments(rt: &HostRuntime) -> ExitCode {
     print_error(rt, &arguments::no_text(rt.alloc()))
 }
 
-/// Prints a fault on standard error, and gives its exit status.
-pub fn fail(rt: &HostRuntime, fault: impl Display + Drop) -> ExitCode {
-    let Reported = report(rt, fault);
-    ExitCode::from(2)
-}
-
 /// Does what is asked for, and gives the exit status.
-fn perform(rt: &HostRuntime, request: Request<'_>) -> Result<u8, Reported> {
+fn perform(console: Console<'_>, request: Request<'_>) -> Result<u8, Reported> {
     match request {
-        Request::Link(arguments) => linking::link_files(rt, &arguments),
-        Request::Locate(arguments) => locating::locate_file(rt, arguments),
-        Request::Run(arguments) => running::run_files(rt, arguments),
-        Request::List(files) => listing::list_files(rt, files),
-        Request::Check(files) => checking::check_files(rt, files),
-        Request::Explain(files) => explaining::explain_files(rt, files),
-        Request::Library(arguments) => library::write_library_file(rt, &arguments),
-        Request::Regions(arguments) => migrating::migrate_file(rt, arguments),
-        Request::Cases(arguments) => suggesting::suggest_for_files(rt, arguments),
-        Request::Map(arguments) => mapping::map_file(rt, arguments),
-        Request::Extract(arguments) => extracting::extract_file(rt, arguments),
-        Request::Absolute(arguments) => absolute::write_absolute(rt, &arguments),
-        Request::Stores(files) => stores::list_stores(rt, files),
-        Request::Compare(arguments) => comparing::compare_files(rt, arguments),
-        Request::Inputs(arguments) => inputs_writing::write_inputs_file(rt, &arguments),
-        Request::Calls(arguments) => calling::show_calls(rt, arguments),
-        Request::Trace(arguments) => tracing::trace_files(rt, arguments),
-        Request::Cover(arguments) => covering::cover_files(rt, arguments),
+        Request::Link(arguments) => link_files(console, &arguments),
+        Request::Locate(arguments) => locate_file(console, arguments),
+        Request::Run(arguments) => run_files(console, arguments),
+        Request::List(arguments) => list_files(console, arguments),
+        Request::Check(files) => check_files(console, files),
+        Request::Explain(files) => explain_files(console, files),
+        Request::Library(arguments) => write_library_file(console, &arguments),
+        Request::Regions(arguments) => migrate_file(console, arguments),
+        Request::Cases(arguments) => suggest_for_files(console, arguments),
+        Request::Map(arguments) => map_file(console, arguments),
+        Request::Extract(arguments) => extract_file(console, arguments),
+        Request::Absolute(arguments) => write_absolute(console, &arguments),
+        Request::Stores(files) => list_stores(console, files),
+        Request::Compare(arguments) => compare_files(console, arguments),
+        Request::Inputs(arguments) => write_inputs_file(console, &arguments),
+        Request::Calls(arguments) => show_calls(console, arguments),
+        Request::Trace(arguments) => trace_files(console, arguments),
+        Request::Cover(arguments) => cover_files(console, arguments),
     }
 }
 
 /// Prints an error of clap, which may be a help text, on standard error, and gives the exit status.
 fn print_error(rt: &HostRuntime, error: &clap::Error) -> ExitCode {
     if error.kind() == clap::error::ErrorKind::OutOfMemory {
-        let Reported = report_memory(rt);
+        let Reported = Console::new(rt, false).report_memory();
         return ExitCode::from(2);
     }
     let _ = eprint!(rt; "{error}");

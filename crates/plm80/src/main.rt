@@ -6,12 +6,15 @@
 //! | `commands` | the commands of the command line, with their arguments |
 #![tactic(auto)]
 
+mod bundle_words;
 mod commands;
 
 pub use bundle80::{BUNDLE_LIMIT, BundleFault, bundle};
-use commands::{fail, refuse_arguments, run_command};
+use bundle_words::{CopiedReader, explain_bundle};
+use commands::{refuse_arguments, run_command};
+use console80::{Console, NotedWriter, Reported};
 use loader80::{Reading, SessionFault, Writing};
-use machine80::End;
+use run_commands::status_of;
 use std::alloc::AllocError;
 use std::env;
 use std::io::ErrorKind;
@@ -23,12 +26,12 @@ const STEPS: u64 = 1_000_000;
 /// The outputs that a bundle's run keeps at most.
 const OUTPUTS: usize = 65_536;
 
-/// Without arguments, runs the bundle on standard input and writes its transcript to standard output; with arguments, does the
-/// command that they name.
+/// Without arguments, or with `--why` alone, runs the bundle on standard input and writes its transcript to standard output; with
+/// arguments, does the command that they name.
 ///
-/// The exit status is 0 where the run halted or a command is done, 1 where the image is refused, 2 at a fault, 3 where the
-/// run ended at a port, a store outside data or a jump outside its declared targets, and 4 where its steps were used up. A fault
-/// is one line on standard error.
+/// The exit status is 0 if the run halted or a command is done, 1 if the image is refused, 2 at a fault, 3 if the run ended at a
+/// port, a store outside data or a jump outside its declared targets, and 4 if its steps were used up. A fault is one line on
+/// standard error; with `--why` words about it follow.
 fn main(rt: HostRuntime) -> ExitCode {
     let arguments = match env::args(&rt) {
         Ok(arguments) => arguments.collect::<Vec<String>>(rt.alloc()),
@@ -36,28 +39,36 @@ fn main(rt: HostRuntime) -> ExitCode {
         Err(_) => return refuse_arguments(&rt),
     };
     match arguments {
-        Ok(arguments) if arguments.len() > 1 => run_command(&rt, &arguments),
-        Ok(_) => run_bundle(&rt),
-        Err(AllocError) => fail(&rt, SessionFault::Memory),
+        Ok(arguments) => run(&rt, &arguments),
+        Err(AllocError) => {
+            let Reported = Console::new(&rt, false).report_memory();
+            ExitCode::from(2)
+        }
+    }
+}
+
+/// Does what the arguments ask for, the first of which is the program's own name.
+fn run(rt: &HostRuntime, arguments: &[String]) -> ExitCode {
+    match arguments {
+        [] | [_] => run_bundle(Console::new(rt, false)),
+        [_, why] if why.as_str() == "--why" => run_bundle(Console::new(rt, true)),
+        _ => run_command(rt, arguments),
     }
 }
 
 /// Runs the bundle on standard input, and gives the exit status.
-fn run_bundle(rt: &HostRuntime) -> ExitCode {
-    let mut input = Reading::new(rt.stdin());
-    let mut out = Writing::new(rt.stdout());
-    match bundle(rt.alloc(), &mut input, &mut out, STEPS, OUTPUTS) {
+fn run_bundle(console: Console<'_>) -> ExitCode {
+    let mut copied = CopiedReader::new(console, console.runtime().stdin());
+    let mut output = NotedWriter::new(console.runtime().stdout());
+    let mut input = Reading::new(&mut copied);
+    let mut out = Writing::new(&mut output);
+    match bundle(console.alloc(), &mut input, &mut out, STEPS, OUTPUTS) {
         Ok(outcome) => ExitCode::from(status_of(outcome.end)),
         Err(BundleFault::Session(SessionFault::Refused(_))) => ExitCode::from(1),
-        Err(fault) => fail(rt, fault),
-    }
-}
-
-/// The exit status of a run that ended so.
-fn status_of(end: Option<End>) -> u8 {
-    match end {
-        Some(End::Halt) => 0,
-        Some(_) => 3,
-        None => 4,
+        Err(fault) => {
+            let Reported = console.report(fault);
+            explain_bundle(console, fault, &copied, output.failure());
+            ExitCode::from(2)
+        }
     }
 }

@@ -1,27 +1,21 @@
 //! The command line, read by clap.
 
-use crate::commands::absolute::{ABSOLUTE, AbsoluteArguments};
-use crate::commands::calling::{CALLS, CallsArguments};
-use crate::commands::checking::CHECK;
-use crate::commands::comparing::{COMPARE, CompareArguments};
-use crate::commands::covering::{COVER, CoverArguments};
-use crate::commands::explaining::EXPLAIN;
-use crate::commands::extracting::{EXTRACT, ExtractArguments};
-use crate::commands::inputs_writing::{INPUTS, InputsArguments};
-use crate::commands::library::{LIB, LibraryArguments};
-use crate::commands::linking::{LINK, LinkArguments};
-use crate::commands::listing::LIST;
-use crate::commands::locating::{LOCATE, LocateArguments};
-use crate::commands::mapping::{MAP, MapArguments};
-use crate::commands::migrating::{REGIONS, RegionsArguments};
-use crate::commands::program_files::ProgramFiles;
-use crate::commands::running::{RUN, RunArguments};
-use crate::commands::stores::STORES;
-use crate::commands::suggesting::{CASES, CasesArguments};
-use crate::commands::syntax::Syntax;
-use crate::commands::tracing::{TRACE, TraceArguments};
 use clap::error::ErrorKind;
 use clap::{ArgMatches, Command, Error};
+use console80::{ProgramFiles, Syntax, WHY};
+use image_commands::{
+    CALLS, CASES, CHECK, CallsArguments, CasesArguments, EXPLAIN, LIST, ListArguments, REGIONS,
+    RegionsArguments, STORES,
+};
+use object_commands::{
+    LIB, LINK, LOCATE, LibraryArguments, LinkArguments, LocateArguments, MAP, MapArguments,
+};
+use rom_commands::{
+    ABSOLUTE, AbsoluteArguments, COMPARE, CompareArguments, EXTRACT, ExtractArguments,
+};
+use run_commands::{
+    COVER, CoverArguments, INPUTS, InputsArguments, RUN, RunArguments, TRACE, TraceArguments,
+};
 use std::alloc::{AllocError, Global};
 
 /// A command with its arguments.
@@ -30,7 +24,7 @@ pub enum Request<'a> {
     Link(LinkArguments<'a>),
     Locate(LocateArguments<'a>),
     Run(RunArguments<'a>),
-    List(ProgramFiles<'a>),
+    List(ListArguments<'a>),
     Check(ProgramFiles<'a>),
     Explain(ProgramFiles<'a>),
     Library(LibraryArguments<'a>),
@@ -52,7 +46,8 @@ const ABOUT: &str = "Links, locates, verifies and runs 8080 programs from OMF-80
 const AFTER_HELP: &str = "\
 Without arguments it reads a bundle from standard input (an image in
 hexadecimal, its regions, a line INPUTS, its inputs) and prints the transcript
-of its run. Files have at most 1048576 bytes, a bundle 4194312.
+of its run; with --why alone it says below a fault what is wrong. Files have at
+most 1048576 bytes, a bundle 4194312.
 
 The exit status is 0 if the command is done or the program halted, 1 if the
 verifier refuses the program, or as the help of stores, cases and compare says,
@@ -104,13 +99,24 @@ fn command_of(name: &str) -> Option<Syntax<'static>> {
 /// What `--version` prints: the program's version, and the toolchain by which it was proved.
 const VERSION: &str = "1.0 (rattle-kit-13f logic dac8208d650f15bf)";
 
-/// The command of a command line, whose first argument is the program's own name.
-pub fn read_arguments<'a>(alloc: Global, arguments: &'a [String]) -> Result<Request<'a>, Error> {
+/// The command of a command line, whose first argument is the program's own name, and whether its faults are explained.
+pub fn read_arguments<'a>(
+    alloc: Global,
+    arguments: &'a [String],
+) -> Result<(Request<'a>, bool), Error> {
     let matches = matches_of(alloc, arguments)?;
     refuse_shared_paths(alloc, &matches)?;
     match asked_for(alloc, &matches)? {
-        Some(request) => Ok(request),
+        Some(request) => Ok((request, is_explained(&matches))),
         None => Err(refusal(alloc, ErrorKind::MissingSubcommand, "no command")),
+    }
+}
+
+/// Whether the faults of the command are explained.
+fn is_explained(matches: &ArgMatches<'_>) -> bool {
+    match matches.subcommand() {
+        Some((_, arguments)) => arguments.get_flag(WHY.name),
+        None => false,
     }
 }
 
@@ -188,7 +194,7 @@ fn asked_for<'a>(
         "link" => Request::Link(LinkArguments::of(alloc, arguments)?),
         "locate" => Request::Locate(LocateArguments::of(arguments)),
         "run" => Request::Run(RunArguments::of(arguments)),
-        "list" => Request::List(ProgramFiles::of(arguments)),
+        "list" => Request::List(ListArguments::of(arguments)),
         "check" => Request::Check(ProgramFiles::of(arguments)),
         "explain" => Request::Explain(ProgramFiles::of(arguments)),
         "lib" => Request::Library(LibraryArguments::of(alloc, arguments)?),
@@ -206,9 +212,4 @@ fn asked_for<'a>(
         _ => return Ok(None),
     };
     Ok(Some(request))
-}
-
-/// The text of an argument that clap requires.
-pub fn path_of<'a>(matches: &ArgMatches<'a>, name: &str) -> &'a str {
-    matches.get_str(name).unwrap_or("")
 }

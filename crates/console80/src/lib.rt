@@ -1,0 +1,42 @@
+//! What the commands of `plm80` share: their arguments, their files, and their faults, each a line on standard error.
+//!
+//! | Item | What it is |
+//! |---|---|
+//! | [`Console`] | what a command runs on: reports faults, reads and writes files, prints |
+//! | [`Syntax`], [`Argument`], [`Kind`] | a command and its arguments, as tables for clap |
+//! | [`OptionText`] | an option with its value; a [`Console`] reads it as a number or a name |
+//! | [`ProgramFiles`] | the image and the regions that several commands read |
+//! | [`read_link_file`], [`read_object_file`], [`LinkFile`] | object files and libraries, read in pieces |
+//! | [`LateFile`], [`NotedWriter`] | a file that is opened when it is read; a writer that keeps why it failed |
+#![tactic(auto)]
+
+mod console;
+mod file_fault;
+mod files;
+mod keeping;
+mod line_words;
+mod link_feed;
+mod number_text;
+mod object_files;
+mod options;
+mod pieces;
+mod program_files;
+mod replacing;
+mod shared_paths;
+mod syntax;
+mod vouching;
+
+pub use console::{Console, Reported};
+pub use file_fault::FileFault;
+pub use files::{LateFile, NotedWriter};
+pub use link_feed::{LinkFeed, LinkFile, read_link_file, read_object_file};
+pub use number_text::{byte_of_digits, count_of_digits, length_of_digits, word_of_digits};
+pub use object_files::{append_modules, read_modules};
+pub use options::OptionText;
+pub use pieces::{TakePieces, read_in_pieces};
+pub use program_files::{
+    IMAGE, PROGRAM_FILES, ProgramFiles, REGIONS, explain_regions, image_of, regions_of, report_regions,
+};
+pub use replacing::NewFile;
+pub use syntax::{Argument, Kind, Syntax, WHY, path_of};
+pub use vouching::{refused, vouch_for};

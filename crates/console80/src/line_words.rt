@@ -1,0 +1,78 @@
+//! What is wrong with a line of a text, in words.
+
+use crate::console::Console;
+
+/// The end of a text in CP/M, and the Ctrl-Z of other systems.
+const CONTROL_Z: u8 = 0x1A;
+
+/// A line without its line feed, and whether it has one.
+#[derive(Clone, Copy)]
+struct Line<'a> {
+    bytes: &'a [u8],
+    is_ended: bool,
+}
+
+impl<'a> Console<'a> {
+    /// Says what is wrong with the line of this number, counted from 1, if it has one of the forms that occur most: each in a line
+    /// of its own.
+    pub fn explain_line(self, text: &[u8], number: usize) {
+        if let Some(line) = line_of(text, number) {
+            self.explain_form(line);
+        }
+    }
+
+    fn explain_form(self, line: Line<'_>) {
+        if line.bytes.ends_with(b"\r") {
+            self.explain("the line ends in CR LF: write LF alone");
+        }
+        if line.bytes.contains(&CONTROL_Z) {
+            self.explain("the line has a Ctrl-Z (1A)");
+        }
+        if !line.is_ended {
+            self.explain("the line has no line feed at its end");
+        }
+        self.explain_words(without_return(line.bytes));
+    }
+
+    fn explain_words(self, line: &[u8]) {
+        if line.ends_with(b" ") || line.ends_with(b"\t") {
+            self.explain("the line ends in a blank");
+        }
+        if line.iter().any(|byte| byte.is_ascii_lowercase()) {
+            self.explain("the line has lower case: digits are 0 to 9 and A to F");
+        }
+        if has_odd_digits(line) {
+            self.explain("the line has an odd number of digits");
+        }
+    }
+}
+
+/// The line of this number, counted from 1; `None` if the text has no such line.
+fn line_of(text: &[u8], number: usize) -> Option<Line<'_>> {
+    let line = text
+        .split_inclusive(|byte| *byte == b'\n')
+        .nth(number.checked_sub(1)?)?;
+    match line.strip_suffix(b"\n") {
+        Some(bytes) => Some(Line {
+            bytes,
+            is_ended: true,
+        }),
+        None => Some(Line {
+            bytes: line,
+            is_ended: false,
+        }),
+    }
+}
+
+/// The line without a carriage return at its end.
+fn without_return(line: &[u8]) -> &[u8] {
+    line.strip_suffix(b"\r").unwrap_or(line)
+}
+
+/// Whether the last word of the line is of hexadecimal digits, an odd number of them.
+fn has_odd_digits(line: &[u8]) -> bool {
+    match line.rsplit(|byte| *byte == b' ').next() {
+        Some(word) => word.len() % 2 == 1 && word.iter().all(|byte| byte.is_ascii_hexdigit()),
+        None => false,
+    }
+}

@@ -1,0 +1,107 @@
+//! A command for clap: its name, its help text and its arguments, as a table.
+
+use clap::{Arg, ArgAction, ArgMatches, Command};
+use std::alloc::{AllocError, Global};
+
+/// A command of the program.
+#[derive(Clone, Copy)]
+pub struct Syntax<'a> {
+    pub name: &'a str,
+    pub about: &'a str,
+    pub after_help: &'a str,
+    pub arguments: &'a [Argument<'a>],
+}
+
+/// An argument of a command.
+#[derive(Clone, Copy)]
+pub struct Argument<'a> {
+    pub name: &'a str,
+    pub kind: Kind<'a>,
+    pub help: &'a str,
+}
+
+/// What an argument is.
+#[derive(Clone, Copy)]
+pub enum Kind<'a> {
+    /// The path of a file to read, which is required.
+    Path,
+    /// The paths of one or more files to read.
+    Paths,
+    /// One or more words, none of which is a path.
+    Words,
+    /// The path of a file to write, which is required. No other argument of the command may have this path.
+    Written,
+    /// An option that is required, whose value is such a path.
+    WrittenOption(&'a str),
+    /// An option whose value is such a path, which the help text calls by this word.
+    WrittenIfGiven(&'a str),
+    /// An option whose value is the path of a file to write, which may be that of a file to read. The help text calls it by this
+    /// word.
+    Replaced(&'a str),
+    /// An option that is required, whose value the help text calls by this word. Any argument after the option is its value.
+    Required(&'a str),
+    /// An option with a number, which the help text calls by this word. Any argument after the option is its value, and
+    /// the program reads it.
+    Number(&'a str),
+    /// An option with a number N and this default.
+    Count(&'a str),
+    /// An option without a value.
+    Flag,
+    /// An option that may be given more than once, whose values are each a number, an equals sign and the path of a file to
+    /// read; the help text calls one by this word.
+    PathsAt(&'a str),
+}
+
+impl<'a> Syntax<'a> {
+    /// The program with this command.
+    pub fn add_to(&self, alloc: Global, program: Command<'a>) -> Result<Command<'a>, AllocError> {
+        program.subcommand(self.command(alloc)?)
+    }
+
+    /// The command with its arguments, for clap.
+    pub fn command(&self, alloc: Global) -> Result<Command<'a>, AllocError> {
+        let mut command = Command::new(alloc, self.name)
+            .about(self.about)
+            .after_help(self.after_help);
+        for argument in self.arguments {
+            command = command.arg(argument.arg(alloc))?;
+        }
+        command.arg(WHY.arg(alloc))
+    }
+}
+
+/// The option by which faults are explained, which every command has.
+pub const WHY: Argument<'static> = Argument {
+    name: "why",
+    kind: Kind::Flag,
+    help: "Say below a fault what is wrong, in words",
+};
+
+/// The text of an argument that clap requires.
+pub fn path_of<'a>(matches: &ArgMatches<'a>, name: &str) -> &'a str {
+    matches.get_str(name).unwrap_or("")
+}
+
+impl<'a> Argument<'a> {
+    fn arg(&self, alloc: Global) -> Arg<'a> {
+        let arg = Arg::new(alloc, self.name).help(self.help);
+        match self.kind {
+            Kind::Path | Kind::Written => arg.required(true),
+            Kind::Paths | Kind::Words => arg.required(true).num_args(1..).action(ArgAction::Append),
+            Kind::Required(value) | Kind::WrittenOption(value) => {
+                option(arg, self.name, value).required(true)
+            }
+            Kind::Number(value) | Kind::WrittenIfGiven(value) | Kind::Replaced(value) => {
+                option(arg, self.name, value)
+            }
+            Kind::Count(default) => option(arg, self.name, "N").default_value(default),
+            Kind::Flag => arg.long(self.name).action(ArgAction::SetTrue),
+            Kind::PathsAt(value) => option(arg, self.name, value).action(ArgAction::Append),
+        }
+    }
+}
+
+/// An option of this name, whose value the help text calls by this word, whatever it begins with.
+fn option<'a>(arg: Arg<'a>, name: &'a str, value: &'a str) -> Arg<'a> {
+    arg.long(name).value_name(value).allow_hyphen_values(true)
+}

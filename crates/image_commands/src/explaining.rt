@@ -1,0 +1,122 @@
+//! `plm80 explain`: why the verifier refuses a located program, shown by ways through its procedures.
+
+use console80::{Console, PROGRAM_FILES, ProgramFiles, Reported, Syntax};
+use crate::check_text::append_rows;
+use crate::checking::accepted;
+use crate::explain_text::{chain_text, explanation_text};
+use explain80::{Unexplained, explain, find_chain, measure};
+use image80::Image;
+use loader80::{Refusal, refusal_text, vouch};
+use std::alloc::{AllocError, Global};
+
+/// The most points that are followed, and words of their frames, together.
+const LIMIT: usize = 4_000_000;
+
+const ABOUT: &str = "Verifies an image as check does, and shows why it is refused";
+
+const AFTER_HELP: &str = "\
+The first line is check's, and the exit status too. Then come the calls that
+lead to the procedure of the fault, and the way through it: a line for each
+instruction, as list prints it, with the words that the procedure has on the
+stack before it, bottom to top. RET is its own return address, .. any word;
+BC=RET, DE=RET or HL=RET is a pair that holds its return address; TAKEN n counts
+words that it has taken from beneath its return address. Where two ways
+disagree, both are shown, under ONE WAY and ANOTHER. Of a program that is
+accepted, or whose stack is too small, it shows the chain of calls that needs
+most: the bytes that each procedure HAS on the stack, and two more for each
+call. Where the stack is too small, check's line for each procedure comes first.
+
+Example: plm80 explain readings.img readings.regions
+
+Faults and what to do: docs/FAULTS.md (installed: share/doc/plm80), man plm80.";
+
+/// `explain` and its arguments.
+pub const EXPLAIN: Syntax<'static> = Syntax {
+    name: "explain",
+    about: ABOUT,
+    after_help: AFTER_HELP,
+    arguments: PROGRAM_FILES,
+};
+
+/// Prints the report on the image, or its refusal and what shows it, and gives the exit status.
+pub fn explain_files(console: Console<'_>, files: ProgramFiles<'_>) -> Result<u8, Reported> {
+    let image = files.read(console)?;
+    let Ok((text, status)) = explained(console.alloc(), image) else {
+        return Err(console.report_memory());
+    };
+    console.print(text.as_slice())?;
+    Ok(status)
+}
+
+/// What is printed of an image, and the exit status.
+fn explained(alloc: Global, image: Image) -> Result<(Vec<u8>, u8), AllocError> {
+    match vouch(alloc, image) {
+        Ok(vouched) => {
+            let (report, status) = accepted(alloc, &vouched)?;
+            let mut text = report.into_bytes();
+            append_chain(alloc, &mut text, vouched.image(), vouched.stack_bytes())?;
+            Ok((text, status))
+        }
+        Err((_, Refusal::Memory)) => Err(AllocError),
+        Err((image, refusal)) => Ok((refused(alloc, &image, refusal)?, 1)),
+    }
+}
+
+/// The refusal of an image, and what shows it.
+fn refused(alloc: Global, image: &Image, refusal: Refusal) -> Result<Vec<u8>, AllocError> {
+    if let Refusal::StackTooSmall(need, _) = refusal {
+        return overrun(alloc, image, refusal, need);
+    }
+    let mut text = refusal_text(alloc, refusal)?.into_bytes();
+    match explain(alloc, image, refusal, LIMIT) {
+        Ok(explanation) => {
+            let shown = explanation_text(alloc, image, &explanation)?;
+            text.extend_from_slice(shown.as_slice())?;
+        }
+        Err(fault) => append_why(&mut text, fault)?,
+    }
+    Ok(text)
+}
+
+/// The refusal of an image whose stack is too small, its procedures, and the chain of calls that needs most.
+fn overrun(
+    alloc: Global,
+    image: &Image,
+    refusal: Refusal,
+    need: u64,
+) -> Result<Vec<u8>, AllocError> {
+    // Nothing but its stack is wrong: where it can't be measured now, memory has run out.
+    let Ok(report) = measure(alloc, image) else {
+        return Err(AllocError);
+    };
+    let mut text = refusal_text(alloc, refusal)?;
+    append_rows(&mut text, &report.procedures)?;
+    let mut text = text.into_bytes();
+    append_chain(alloc, &mut text, image, need)?;
+    Ok(text)
+}
+
+/// Appends the chain of calls that comes to so many bytes of stack.
+fn append_chain(
+    alloc: Global,
+    text: &mut Vec<u8>,
+    image: &Image,
+    bytes: u64,
+) -> Result<(), AllocError> {
+    match find_chain(alloc, image, bytes, LIMIT) {
+        Ok(chain) => {
+            let shown = chain_text(alloc, image, &chain)?;
+            text.extend_from_slice(shown.as_slice())
+        }
+        Err(fault) => append_why(text, fault),
+    }
+}
+
+/// Appends why nothing is shown.
+fn append_why(text: &mut Vec<u8>, fault: Unexplained) -> Result<(), AllocError> {
+    match fault {
+        Unexplained::Memory => Err(AllocError),
+        Unexplained::Limit => text.extend_from_slice(b"TOO MANY WAYS TO SHOW\n".as_slice()),
+        Unexplained::NotShown => Ok(()),
+    }
+}

@@ -1,0 +1,31 @@
+//! The commands that look at a located program without a run: `list`, `check`, `explain`, `regions`, `cases`, `stores` and `calls`.
+//!
+//! | Item | What it is |
+//! |---|---|
+//! | [`list_files`] | `list`: its instructions |
+//! | [`check_files`] | `check`: the verifier's report, or its refusal |
+//! | [`explain_files`] | `explain`: why it is refused, shown by ways through its procedures |
+//! | [`migrate_file`] | `regions`: its regions as a text of version 2 |
+//! | [`suggest_for_files`] | `cases`: the CASE lines that its tables suggest |
+//! | [`list_stores`] | `stores`: its stores that may leave data, and its jumps by PCHL |
+//! | [`show_calls`] | `calls`: which procedure calls which, and how deep |
+#![tactic(auto)]
+
+mod calling;
+mod calls_text;
+mod check_text;
+mod checking;
+mod explain_text;
+mod explaining;
+mod listing;
+mod migrating;
+mod stores;
+mod suggesting;
+
+pub use calling::{CALLS, CallsArguments, show_calls};
+pub use checking::{CHECK, check_files};
+pub use explaining::{EXPLAIN, explain_files};
+pub use listing::{LIST, ListArguments, list_files};
+pub use migrating::{REGIONS, RegionsArguments, migrate_file};
+pub use stores::{STORES, list_stores};
+pub use suggesting::{CASES, CasesArguments, suggest_for_files};

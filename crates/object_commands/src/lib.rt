@@ -1,0 +1,20 @@
+//! The commands for object files and libraries: `link`, `locate`, `lib` and `map`.
+//!
+//! | Item | What it is |
+//! |---|---|
+//! | [`link_files`] | `link`: the modules of object files, and what they need of libraries, linked into one |
+//! | [`locate_file`] | `locate`: a module at its places, as an image and its regions |
+//! | [`write_library_file`] | `lib`: a library of the modules of object files |
+//! | [`map_file`] | `map`: where LOCATE would put a module's segments and public names |
+#![tactic(auto)]
+
+mod library;
+mod linking;
+mod locate_options;
+mod locating;
+mod mapping;
+
+pub use library::{LIB, LibraryArguments, write_library_file};
+pub use linking::{LINK, LinkArguments, link_files};
+pub use locating::{LOCATE, LocateArguments, locate_file};
+pub use mapping::{MAP, MapArguments, map_file};

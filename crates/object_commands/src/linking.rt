@@ -1,0 +1,215 @@
+//! `plm80 link`: the modules of object files, and what they need of libraries, linked into one.
+
+use console80::{Argument, Console, Kind, LateFile, LinkFile, OptionText, Reported, Syntax, append_modules, path_of, read_link_file};
+use clap::ArgMatches;
+use link80::{Chosen, Linked, link};
+use loader80::Reading;
+use omf_core::Name;
+use omf_library::Library;
+use omf_module::{Module, write_file};
+use std::alloc::{AllocError, Global};
+use std::fmt::Write;
+use std::slice;
+
+/// The arguments of `link`.
+#[derive(Drop)]
+pub struct LinkArguments<'a> {
+    name: OptionText<'a>,
+    out: &'a str,
+    files: Vec<&'a str>,
+}
+
+const ABOUT: &str = "Links modules of object files and libraries into one";
+
+const AFTER_HELP: &str = "\
+A file whose first byte is 2C is a library, any other an object file. All
+modules of the object files are linked, in order, and after them the library
+modules that declare a name which is needed: of several, the first one.
+
+It prints TAKEN and a name for each module that is taken from a library, and
+UNRESOLVED and a name for each name that no module declares. The object file is
+written only if there is no fault.
+
+Example: plm80 link --name CONTROL --out linked.obj main.obj routines.lib
+
+Faults and what to do: docs/FAULTS.md (installed: share/doc/plm80), man plm80.";
+
+/// `link` and its arguments.
+pub const LINK: Syntax<'static> = Syntax {
+    name: "link",
+    about: ABOUT,
+    after_help: AFTER_HELP,
+    arguments: &[
+        Argument {
+            name: "name",
+            kind: Kind::Required("NAME"),
+            help: "The name of the linked module",
+        },
+        Argument {
+            name: "out",
+            kind: Kind::WrittenOption("OUT"),
+            help: "The object file to write",
+        },
+        Argument {
+            name: "FILE",
+            kind: Kind::Paths,
+            help: "The object files and libraries to read",
+        },
+    ],
+};
+
+impl<'a> LinkArguments<'a> {
+    /// The arguments as clap has read them.
+    pub fn of(alloc: Global, matches: &ArgMatches<'a>) -> Result<LinkArguments<'a>, AllocError> {
+        Ok(LinkArguments {
+            name: OptionText::of(matches, "name"),
+            out: path_of(matches, "out"),
+            files: Vec::from_slice(alloc, matches.get_strs("FILE").unwrap_or(&[]))?,
+        })
+    }
+}
+
+/// The modules of object files, and libraries, each in the order of their files.
+#[derive(Drop)]
+struct LinkFiles {
+    roots: Vec<Module>,
+    libraries: Vec<Library>,
+}
+
+/// Links the modules of the files, writes the linked one and prints which were taken and which names are unresolved. No file
+/// is created or changed before every other fault is excluded.
+pub fn link_files(console: Console<'_>, arguments: &LinkArguments<'_>) -> Result<u8, Reported> {
+    let name = console.name(arguments.name)?;
+    link_named(console, arguments, &name)
+}
+
+/// Links them into a module of this name.
+fn link_named(
+    console: Console<'_>,
+    arguments: &LinkArguments<'_>,
+    name: &Name,
+) -> Result<u8, Reported> {
+    let files = read_files(console, &arguments.files)?;
+    link_read(console, arguments.out, name, &files)
+}
+
+/// Links what was read, and writes the linked module to the file of this path.
+fn link_read(console: Console<'_>, path: &str, name: &Name, files: &LinkFiles) -> Result<u8, Reported> {
+    let linked = linked(console, name, files)?;
+    write_linked(console, path, &linked, &files.libraries)
+}
+
+/// Writes the linked module, and prints what was taken and what is unresolved.
+fn write_linked(
+    console: Console<'_>,
+    path: &str,
+    linked: &Linked,
+    libraries: &[Library],
+) -> Result<u8, Reported> {
+    match outputs_of(console.alloc(), linked, libraries) {
+        Ok((object, lines)) => write_outputs(console, path, &object, &lines),
+        Err(AllocError) => Err(console.report_memory()),
+    }
+}
+
+/// Writes the object file, and then prints the lines.
+fn write_outputs(console: Console<'_>, path: &str, object: &[u8], lines: &str) -> Result<u8, Reported> {
+    console.replace(path, object)?;
+    console.print(lines.as_bytes())?;
+    Ok(0)
+}
+
+/// What the files of these paths have. Each file is looked at before the next one is opened.
+fn read_files(console: Console<'_>, paths: &[&str]) -> Result<LinkFiles, Reported> {
+    let mut files = LinkFiles {
+        roots: Vec::new(console.alloc()),
+        libraries: Vec::new(console.alloc()),
+    };
+    for path in paths {
+        files.add(console, path)?;
+    }
+    Ok(files)
+}
+
+impl LinkFiles {
+    /// Adds what the file of this path has.
+    fn add(&mut self, console: Console<'_>, path: &str) -> Result<(), Reported> {
+        match read_file(console, path)? {
+            LinkFile::Modules(mut modules) => append_modules(console, &mut self.roots, &mut modules),
+            LinkFile::Library(library) => self.add_library(console, library),
+        }
+    }
+
+    fn add_library(&mut self, console: Console<'_>, library: Library) -> Result<(), Reported> {
+        match self.libraries.push(library) {
+            Ok(()) => Ok(()),
+            Err(_) => Err(console.report_memory()),
+        }
+    }
+}
+
+/// What the file of this path has.
+fn read_file(console: Console<'_>, path: &str) -> Result<LinkFile, Reported> {
+    let mut late = LateFile::new(console.runtime(), path);
+    let mut source = Reading::new(&mut late);
+    match read_link_file(console.alloc(), &mut source) {
+        Ok(file) => Ok(file),
+        Err(fault) => Err(fault.report(console, path, late.failure())),
+    }
+}
+
+/// What the files are linked into.
+fn linked(console: Console<'_>, name: &Name, files: &LinkFiles) -> Result<Linked, Reported> {
+    match link(console.alloc(), name, &files.roots, &files.libraries) {
+        Ok(linked) => Ok(linked),
+        Err(fault) => Err(console.report(fault)),
+    }
+}
+
+/// The linked object file, and the lines that are printed.
+fn outputs_of(
+    alloc: Global,
+    linked: &Linked,
+    libraries: &[Library],
+) -> Result<(Vec<u8>, String), AllocError> {
+    let lines = lines_of(alloc, linked, libraries)?;
+    let mut object = Vec::new(alloc);
+    write_file(alloc, slice::from_ref(&linked.module), &mut object)?;
+    Ok((object, lines))
+}
+
+/// A line for each module that was taken, and one for each name that is unresolved.
+fn lines_of(alloc: Global, linked: &Linked, libraries: &[Library]) -> Result<String, AllocError> {
+    let mut lines = String::new(alloc);
+    append_taken(&mut lines, &linked.taken, libraries)?;
+    append_unresolved(&mut lines, &linked.unresolved)?;
+    Ok(lines)
+}
+
+/// Appends a line for each module that was taken.
+fn append_taken(
+    lines: &mut String,
+    taken: &[Chosen],
+    libraries: &[Library],
+) -> Result<(), AllocError> {
+    for chosen in taken {
+        if let Some(name) = name_at(libraries, *chosen) {
+            writeln!(lines, "TAKEN {name}")?;
+        }
+    }
+    Ok(())
+}
+
+/// The name of the module at a place in the libraries.
+fn name_at(libraries: &[Library], place: Chosen) -> Option<&Name> {
+    let library = libraries.get(place.library)?;
+    Some(library.modules.get(place.module)?.name())
+}
+
+/// Appends a line for each name that no module declares.
+fn append_unresolved(lines: &mut String, names: &[Name]) -> Result<(), AllocError> {
+    for name in names {
+        writeln!(lines, "UNRESOLVED {name}")?;
+    }
+    Ok(())
+}

@@ -1,0 +1,111 @@
+//! What is wrong with a bundle, in words.
+
+ghost use Rattle.std.specs.Io.{ReadsAtMost};
+
+use bundle80::BundleFault;
+use console80::{Console, explain_regions};
+use loader80::SessionFault;
+use std::io;
+use std::io::{ErrorKind, Read};
+
+/// The line between the regions and the inputs.
+const INPUTS: &[u8] = b"INPUTS\n";
+
+/// A reader that keeps what came of it, if faults are explained, and why a read failed.
+#[derive(Drop)]
+pub struct CopiedReader<'a, R> {
+    console: Console<'a>,
+    inner: R,
+    copy: Vec<u8>,
+    failure: Option<ErrorKind>,
+}
+
+impl<'a, R: Read> CopiedReader<'a, R> {
+    /// The reader, of which nothing has come.
+    pub fn new(console: Console<'a>, inner: R) -> CopiedReader<'a, R> {
+        CopiedReader {
+            console,
+            inner,
+            copy: Vec::new(console.alloc()),
+            failure: None,
+        }
+    }
+}
+
+impl<'a, R: Read> Read for CopiedReader<'a, R> {
+    fn read(&mut self, buffer: &mut [u8]) -> io::Result<usize> {
+        match self.inner.read(buffer) {
+            Ok(count) => {
+                if self.console.explains() {
+                    // Without memory for the copy nothing is explained.
+                    let _ = self.copy.extend_from_slice(&buffer[..count]);
+                }
+                Ok(count)
+            }
+            Err(error) => {
+                self.failure = Some(error.kind());
+                Err(error)
+            }
+        }
+    }
+}
+
+/// Says what is wrong with the bundle that was read, whose fault was reported.
+pub fn explain_bundle<R: Read>(
+    console: Console<'_>,
+    fault: BundleFault,
+    bundle: &CopiedReader<'_, R>,
+    output: Option<ErrorKind>,
+) {
+    match fault {
+        BundleFault::Session(SessionFault::Read(_)) => console.explain_failure(bundle.failure),
+        BundleFault::Session(SessionFault::Write) => console.explain_failure(output),
+        BundleFault::Session(SessionFault::Regions(fault)) => {
+            explain_regions(console, after_line(&bundle.copy), fault);
+        }
+        BundleFault::Session(SessionFault::Inputs(number)) => {
+            console.explain_line(after_inputs_line(&bundle.copy), number);
+        }
+        BundleFault::BadBundle => explain_parts(console, &bundle.copy),
+        BundleFault::Session(_) => {}
+    }
+}
+
+/// Says why a text has not the parts of a bundle.
+fn explain_parts(console: Console<'_>, text: &[u8]) {
+    console.explain_line(text, 1);
+    if begins_with_digits(after_line(text)) {
+        console.explain("the hexadecimal is on several lines: write the image on one line");
+    }
+    if after_inputs_line(text).is_empty() && !text.ends_with(INPUTS) {
+        console.explain("there is no line INPUTS");
+    }
+}
+
+/// What follows the first line.
+fn after_line(text: &[u8]) -> &[u8] {
+    match text.iter().position(|byte| *byte == b'\n') {
+        Some(place) => text.get(place + 1..).unwrap_or(b""),
+        None => b"",
+    }
+}
+
+/// Whether the text begins with two hexadecimal digits.
+fn begins_with_digits(text: &[u8]) -> bool {
+    match text {
+        [high, low, ..] => high.is_ascii_hexdigit() && low.is_ascii_hexdigit(),
+        _ => false,
+    }
+}
+
+/// What follows the first line `INPUTS`.
+fn after_inputs_line(text: &[u8]) -> &[u8] {
+    let mut rest = text;
+    while !rest.is_empty() {
+        if let Some(inputs) = rest.strip_prefix(INPUTS) {
+            return inputs;
+        }
+        rest = after_line(rest);
+    }
+    rest
+}
