@@ -11,22 +11,23 @@ _plm80() {
             ;;
     esac
     if [[ $COMP_CWORD -eq 1 ]]; then
-        COMPREPLY=($(compgen -W 'link locate run list check explain lib regions cases map extract absolute trace cover stores calls compare inputs help -h --help -V --version' -- "$word"))
+        COMPREPLY=($(compgen -W 'link locate run list check explain lib regions cases map extract absolute trace cover stores calls compare inputs help --why -h --help -V --version' -- "$word"))
         return
     fi
     case ${COMP_WORDS[1]} in
-        link) options='--name --out -h --help' ;;
-        locate) options='--code --stack --common --data --memory --stack-size --memory-size --restart -h --help' ;;
-        map) options='--code --stack --common --data --memory --stack-size --memory-size -h --help' ;;
-        run) options='--steps --outputs --last --dump -h --help' ;;
-        trace) options='--from --count --steps --outputs -h --help' ;;
-        cover) options='--steps --outputs -h --help' ;;
-        extract) options='--first --length --fill --sum -h --help' ;;
-        absolute) options='--first --start --name --rom -h --help' ;;
-        compare) options='--first --fill -h --help' ;;
+        link) options='--name --out --why -h --help' ;;
+        locate) options='--code --stack --common --data --memory --stack-size --memory-size --restart --why -h --help' ;;
+        map) options='--code --stack --common --data --memory --stack-size --memory-size --why -h --help' ;;
+        run) options='--steps --outputs --last --dump --why -h --help' ;;
+        trace) options='--from --count --steps --outputs --why -h --help' ;;
+        cover) options='--steps --outputs --why -h --help' ;;
+        extract) options='--first --length --fill --sum --why -h --help' ;;
+        absolute) options='--first --start --name --rom --why -h --help' ;;
+        compare) options='--first --fill --why -h --help' ;;
         list | check | explain | lib | regions | stores | inputs) options='-h --help' ;;
-        cases) options='--out -h --help' ;;
-        calls) options='--dot -h --help' ;;
+        list) options='--reached --why -h --help' ;;
+        cases) options='--out --why -h --help' ;;
+        calls) options='--dot --why -h --help' ;;
         help)
             [[ $COMP_CWORD -eq 2 ]] && COMPREPLY=($(compgen -W 'link locate run list check explain lib regions cases map extract absolute trace cover stores calls compare inputs help' -- "$word"))
             return

@@ -35,7 +35,8 @@ pub use object_files::{append_modules, read_modules};
 pub use options::OptionText;
 pub use pieces::{TakePieces, read_in_pieces};
 pub use program_files::{
-    IMAGE, PROGRAM_FILES, ProgramFiles, REGIONS, explain_regions, image_of, regions_of, report_regions,
+    IMAGE, PROGRAM_FILES, ProgramFiles, REGIONS, explain_regions, image_of, regions_of,
+    report_regions,
 };
 pub use replacing::NewFile;
 pub use syntax::{Argument, Kind, Syntax, WHY, path_of};

@@ -1,8 +1,8 @@
 //! `plm80 calls`: the calls of a located program, or its refusal.
 
-use console80::{Argument, Console, IMAGE, Kind, ProgramFiles, REGIONS, Reported, Syntax, refused};
 use crate::calls_text::{CallGraph, graph_text, list_text};
 use clap::ArgMatches;
+use console80::{Argument, Console, IMAGE, Kind, ProgramFiles, REGIONS, Reported, Syntax, refused};
 use image80::Image;
 use loader80::{Vouched, vouch};
 use std::alloc::{AllocError, Global};

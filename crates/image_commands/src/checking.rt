@@ -1,7 +1,7 @@
 //! `plm80 check`: the verifier's report on a located program, or its refusal.
 
-use console80::{Console, PROGRAM_FILES, ProgramFiles, Reported, Syntax, refused};
 use crate::check_text::report_text;
+use console80::{Console, PROGRAM_FILES, ProgramFiles, Reported, Syntax, refused};
 use image80::Image;
 use loader80::{Vouched, vouch};
 use std::alloc::{AllocError, Global};

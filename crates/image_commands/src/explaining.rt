@@ -1,9 +1,9 @@
 //! `plm80 explain`: why the verifier refuses a located program, shown by ways through its procedures.
 
-use console80::{Console, PROGRAM_FILES, ProgramFiles, Reported, Syntax};
 use crate::check_text::append_rows;
 use crate::checking::accepted;
 use crate::explain_text::{chain_text, explanation_text};
+use console80::{Console, PROGRAM_FILES, ProgramFiles, Reported, Syntax};
 use explain80::{Unexplained, explain, find_chain, measure};
 use image80::Image;
 use loader80::{Refusal, refusal_text, vouch};

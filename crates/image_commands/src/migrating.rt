@@ -1,7 +1,7 @@
 //! `plm80 regions`: a regions text as one of version 2.
 
-use console80::{Argument, Console, Kind, Reported, Syntax, path_of, report_regions};
 use clap::ArgMatches;
+use console80::{Argument, Console, Kind, Reported, Syntax, path_of, report_regions};
 use image80::migrate_regions;
 
 /// The arguments of `regions`.

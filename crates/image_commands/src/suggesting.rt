@@ -1,8 +1,8 @@
 //! `plm80 cases`: the CASE lines that the tables of an image suggest.
 
-use console80::{Argument, Console, IMAGE, Kind, ProgramFiles, REGIONS, Reported, Syntax};
 use cases80::{Suggestions, regions_with_cases, suggest_cases};
 use clap::ArgMatches;
+use console80::{Argument, Console, IMAGE, Kind, ProgramFiles, REGIONS, Reported, Syntax};
 use image80::{Case, Image, RegionsFault, case_lines};
 use loader80::TEXT_LIMIT;
 use std::alloc::{AllocError, Global};
@@ -56,7 +56,10 @@ impl<'a> CasesArguments<'a> {
 
 /// Prints the CASE lines, writes the regions with them if a file is named, and reports each PCHL for which no table is seen; gives
 /// status 1 where there is one.
-pub fn suggest_for_files(console: Console<'_>, arguments: CasesArguments<'_>) -> Result<u8, Reported> {
+pub fn suggest_for_files(
+    console: Console<'_>,
+    arguments: CasesArguments<'_>,
+) -> Result<u8, Reported> {
     let image = arguments.files.read(console)?;
     let Ok((suggestions, text)) = suggested(console.alloc(), &image) else {
         return Err(console.report_memory());

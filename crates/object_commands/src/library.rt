@@ -1,7 +1,7 @@
 //! `plm80 lib`: a library of the modules of object files.
 
-use console80::{Argument, Console, Kind, Reported, Syntax, append_modules, path_of, read_modules};
 use clap::ArgMatches;
+use console80::{Argument, Console, Kind, Reported, Syntax, append_modules, path_of, read_modules};
 use omf_library::{LibraryPutFault, write_library};
 use omf_module::Module;
 use std::alloc::{AllocError, Global};

@@ -1,7 +1,10 @@
 //! `plm80 link`: the modules of object files, and what they need of libraries, linked into one.
 
-use console80::{Argument, Console, Kind, LateFile, LinkFile, OptionText, Reported, Syntax, append_modules, path_of, read_link_file};
 use clap::ArgMatches;
+use console80::{
+    Argument, Console, Kind, LateFile, LinkFile, OptionText, Reported, Syntax, append_modules,
+    path_of, read_link_file,
+};
 use link80::{Chosen, Linked, link};
 use loader80::Reading;
 use omf_core::Name;
@@ -94,7 +97,12 @@ fn link_named(
 }
 
 /// Links what was read, and writes the linked module to the file of this path.
-fn link_read(console: Console<'_>, path: &str, name: &Name, files: &LinkFiles) -> Result<u8, Reported> {
+fn link_read(
+    console: Console<'_>,
+    path: &str,
+    name: &Name,
+    files: &LinkFiles,
+) -> Result<u8, Reported> {
     let linked = linked(console, name, files)?;
     write_linked(console, path, &linked, &files.libraries)
 }
@@ -113,7 +121,12 @@ fn write_linked(
 }
 
 /// Writes the object file, and then prints the lines.
-fn write_outputs(console: Console<'_>, path: &str, object: &[u8], lines: &str) -> Result<u8, Reported> {
+fn write_outputs(
+    console: Console<'_>,
+    path: &str,
+    object: &[u8],
+    lines: &str,
+) -> Result<u8, Reported> {
     console.replace(path, object)?;
     console.print(lines.as_bytes())?;
     Ok(0)
@@ -135,7 +148,11 @@ impl LinkFiles {
     /// Adds what the file of this path has.
     fn add(&mut self, console: Console<'_>, path: &str) -> Result<(), Reported> {
         match read_file(console, path)? {
-            LinkFile::Modules(mut modules) => append_modules(console, &mut self.roots, &mut modules),
+            LinkFile::Modules(mut modules) => append_modules(
+                console,
+                &mut self.roots,
+                &mut modules,
+            ),
             LinkFile::Library(library) => self.add_library(console, library),
         }
     }

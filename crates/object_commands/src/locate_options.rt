@@ -1,7 +1,7 @@
 //! The options of LOCATE, which `locate` and `map` take.
 
-use console80::{Argument, Console, Kind, OptionText, Reported};
 use clap::ArgMatches;
+use console80::{Argument, Console, Kind, OptionText, Reported};
 use place80::Options;
 
 /// The base of CODE.

@@ -1,11 +1,11 @@
 //! `plm80 locate`: an object file's one module at its places, as an image and its regions.
 
-use console80::{Argument, Console, Kind, NewFile, Reported, Syntax, path_of, read_modules};
 use crate::locate_options::{
     CODE_BASE, COMMON_BASE, DATA_BASE, LocateTexts, MEMORY_BASE, MEMORY_SIZE, STACK_BASE,
     STACK_SIZE,
 };
 use clap::ArgMatches;
+use console80::{Argument, Console, Kind, NewFile, Reported, Syntax, path_of, read_modules};
 use image80::{Image, write_regions};
 use omf_module::Module;
 use place80::{Options, PlaceFault, locate, locate_with_restart, write_image};

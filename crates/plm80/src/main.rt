@@ -9,8 +9,8 @@
 mod bundle_words;
 mod commands;
 
-pub use bundle80::{BUNDLE_LIMIT, BundleFault, bundle};
 use bundle_words::{CopiedReader, explain_bundle};
+pub use bundle80::{BUNDLE_LIMIT, BundleFault, bundle};
 use commands::{refuse_arguments, run_command};
 use console80::{Console, NotedWriter, Reported};
 use loader80::{Reading, SessionFault, Writing};

@@ -1,7 +1,7 @@
 //! `plm80 absolute`: the image of bytes as they are.
 
-use console80::{Argument, Console, Kind, OptionText, Reported, Syntax, path_of, word_of_digits};
 use clap::ArgMatches;
+use console80::{Argument, Console, Kind, OptionText, Reported, Syntax, path_of, word_of_digits};
 use image80::Image;
 use place80::write_image;
 use rom80::{Dumps, RomFault};
@@ -99,7 +99,10 @@ struct RomFile<'a> {
 }
 
 /// Writes the image of the bytes. No file is created or changed before every other fault is excluded.
-pub fn write_absolute(console: Console<'_>, arguments: &AbsoluteArguments<'_>) -> Result<u8, Reported> {
+pub fn write_absolute(
+    console: Console<'_>,
+    arguments: &AbsoluteArguments<'_>,
+) -> Result<u8, Reported> {
     let start = console.word(arguments.start)?;
     let files = files_of(console, arguments)?;
     let name = console.name(arguments.name)?;

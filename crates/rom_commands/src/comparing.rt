@@ -1,8 +1,8 @@
 //! `plm80 compare`: where an image and a dump differ.
 
-use console80::{Argument, Console, IMAGE, Kind, OptionText, Reported, Syntax, image_of, path_of};
 use crate::extracting::{FILL, fill_of};
 use clap::ArgMatches;
+use console80::{Argument, Console, IMAGE, Kind, OptionText, Reported, Syntax, image_of, path_of};
 use rom80::{Comparison, RomFault, compare, no_regions};
 
 /// The arguments of `compare`.
@@ -63,7 +63,10 @@ impl<'a> CompareArguments<'a> {
 }
 
 /// Prints where the image and the dump differ; the status is 1 where they do.
-pub fn compare_files(console: Console<'_>, arguments: CompareArguments<'_>) -> Result<u8, Reported> {
+pub fn compare_files(
+    console: Console<'_>,
+    arguments: CompareArguments<'_>,
+) -> Result<u8, Reported> {
     let first = console.word(arguments.first)?;
     let fill = console.byte(arguments.fill)?;
     let comparison = compared(console, arguments, first, fill)?;

@@ -1,7 +1,7 @@
 //! `plm80 extract`: the bytes of an image's memory over a range, as they are.
 
-use console80::{Argument, Console, IMAGE, Kind, OptionText, Reported, Syntax, image_of, path_of};
 use clap::ArgMatches;
+use console80::{Argument, Console, IMAGE, Kind, OptionText, Reported, Syntax, image_of, path_of};
 use rom80::{bytes_over, no_regions, sum_text};
 
 /// The arguments of `extract`.
@@ -119,7 +119,13 @@ fn extent_of(console: Console<'_>, arguments: ExtractArguments<'_>) -> Result<Ex
 fn extracted(console: Console<'_>, path: &str, extent: Extent) -> Result<Vec<u8>, Reported> {
     let file = console.read_whole(path)?;
     let image = image_of(console, path, &file, no_regions(console.alloc()))?;
-    match bytes_over(console.alloc(), &image, extent.first, extent.length, extent.fill) {
+    match bytes_over(
+        console.alloc(),
+        &image,
+        extent.first,
+        extent.length,
+        extent.fill,
+    ) {
         Ok(bytes) => Ok(bytes),
         Err(fault) => Err(console.report(fault)),
     }

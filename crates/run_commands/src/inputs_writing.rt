@@ -1,7 +1,7 @@
 //! `plm80 inputs`: the text of a run's inputs, from words.
 
-use console80::{Argument, Console, Kind, Reported, Syntax, path_of};
 use clap::ArgMatches;
+use console80::{Argument, Console, Kind, Reported, Syntax, path_of};
 use inputs80::{LengthFault, WordFault, WordInputs};
 use std::alloc::{AllocError, Global};
 

@@ -1,8 +1,10 @@
 //! The image, its regions and the inputs of its run, and how far it runs: what several commands that run it take.
 
-use console80::{Argument, Console, IMAGE, Kind, OptionText, REGIONS, Reported, image_of, path_of, regions_of};
 use crate::status_of;
 use clap::ArgMatches;
+use console80::{
+    Argument, Console, IMAGE, Kind, OptionText, REGIONS, Reported, image_of, path_of, regions_of,
+};
 use image80::Image;
 use loader80::{Ended, InputsFault, SessionFault, ending_text, read_inputs};
 use machine80::Inputs;

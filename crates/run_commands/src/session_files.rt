@@ -82,9 +82,7 @@ fn report_session(
         }
         SessionFault::Write => console.report_output(failures.output),
         SessionFault::Image(_) => console.report_file(files.image_path(), fault),
-        SessionFault::Regions(_) | SessionFault::Inputs(_) => {
-            report_text(console, files, fault)
-        }
+        SessionFault::Regions(_) | SessionFault::Inputs(_) => { report_text(console, files, fault) }
         SessionFault::Memory | SessionFault::Refused(_) => console.report(fault),
     }
 }

@@ -1,10 +1,10 @@
 //! `plm80 trace`: the instructions of a located program's run, a line each.
 
-use console80::{Argument, Console, IMAGE, Kind, NotedWriter, OptionText, REGIONS, Reported, Syntax, vouch_for};
-use crate::run_files::{
-    INPUTS, LimitTexts, OUTPUTS, RunFiles, STEPS, print_ending, report_lines,
-};
+use crate::run_files::{INPUTS, LimitTexts, OUTPUTS, RunFiles, STEPS, print_ending, report_lines};
 use clap::ArgMatches;
+use console80::{
+    Argument, Console, IMAGE, Kind, NotedWriter, OptionText, REGIONS, Reported, Syntax, vouch_for,
+};
 use loader80::{Vouched, Writing};
 use machine80::Inputs;
 use trace80::{Limits, Span, write_lines};
@@ -98,7 +98,15 @@ fn print_lines(
 ) -> Result<u8, Reported> {
     let mut output = NotedWriter::new(console.runtime().stdout());
     let mut out = Writing::new(&mut output);
-    match write_lines(console.alloc(), vouched, inputs, limits, span, true, &mut out) {
+    match write_lines(
+        console.alloc(),
+        vouched,
+        inputs,
+        limits,
+        span,
+        true,
+        &mut out,
+    ) {
         Ok(None) => Ok(0),
         Ok(Some(ended)) => print_ending(console, &ended),
         Err(fault) => Err(report_lines(console, fault, output.failure())),

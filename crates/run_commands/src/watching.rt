@@ -1,7 +1,7 @@
 //! `plm80 run` with `--last` or `--dump`: a run, its last instructions, and the memory that it leaves.
 
-use console80::{Console, NotedWriter, Reported, vouch_for};
 use crate::run_files::{RunFiles, RunTexts, print_ending, report_lines};
+use console80::{Console, NotedWriter, Reported, vouch_for};
 use loader80::{Vouched, Writing, front_text};
 use machine80::Inputs;
 use trace80::{Finished, Limits, Span, finish, memory_bytes, write_lines};
@@ -60,8 +60,16 @@ fn print_run(
 }
 
 /// Prints the transcript but for its last line.
-fn print_front(console: Console<'_>, vouched: &Vouched, finished: &Finished) -> Result<(), Reported> {
-    match front_text(console.alloc(), vouched.stack_bytes(), finished.ports.outputs()) {
+fn print_front(
+    console: Console<'_>,
+    vouched: &Vouched,
+    finished: &Finished,
+) -> Result<(), Reported> {
+    match front_text(
+        console.alloc(),
+        vouched.stack_bytes(),
+        finished.ports.outputs(),
+    ) {
         Ok(text) => console.print(text.as_bytes()),
         Err(_) => Err(console.report_memory()),
     }
