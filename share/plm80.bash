@@ -24,7 +24,7 @@ _plm80() {
         extract) options='--first --length --fill --sum --why -h --help' ;;
         absolute) options='--first --start --name --rom --why -h --help' ;;
         compare) options='--first --fill --why -h --help' ;;
-        list | check | explain | lib | regions | stores | inputs) options='-h --help' ;;
+        check | explain | lib | regions | stores | inputs) options='--why -h --help' ;;
         list) options='--reached --why -h --help' ;;
         cases) options='--out --why -h --help' ;;
         calls) options='--dot --why -h --help' ;;

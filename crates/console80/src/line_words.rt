@@ -34,12 +34,18 @@ impl<'a> Console<'a> {
         self.explain_words(without_return(line.bytes));
     }
 
+    /// Says that the line of this number has letters of lower case, in a text whose digits and words are of upper case.
+    pub fn explain_lower_case(self, text: &[u8], number: usize) {
+        if let Some(line) = line_of(text, number)
+            && line.bytes.iter().any(|byte| byte.is_ascii_lowercase())
+        {
+            self.explain("the line has lower case: digits and words are of upper case");
+        }
+    }
+
     fn explain_words(self, line: &[u8]) {
         if line.ends_with(b" ") || line.ends_with(b"\t") {
             self.explain("the line ends in a blank");
-        }
-        if line.iter().any(|byte| byte.is_ascii_lowercase()) {
-            self.explain("the line has lower case: digits are 0 to 9 and A to F");
         }
         if has_odd_digits(line) {
             self.explain("the line has an odd number of digits");
@@ -69,10 +75,12 @@ fn without_return(line: &[u8]) -> &[u8] {
     line.strip_suffix(b"\r").unwrap_or(line)
 }
 
-/// Whether the last word of the line is of hexadecimal digits, an odd number of them.
+/// Whether a word of the line is of hexadecimal digits, an odd number of them.
 fn has_odd_digits(line: &[u8]) -> bool {
-    match line.rsplit(|byte| *byte == b' ').next() {
-        Some(word) => word.len() % 2 == 1 && word.iter().all(|byte| byte.is_ascii_hexdigit()),
-        None => false,
+    for word in line.split(|byte| *byte == b' ') {
+        if word.len() % 2 == 1 && word.iter().all(|byte| byte.is_ascii_hexdigit()) {
+            return true;
+        }
     }
+    false
 }

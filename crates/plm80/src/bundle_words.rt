@@ -61,6 +61,7 @@ pub fn explain_bundle<R: Read>(
         BundleFault::Session(SessionFault::Read(_)) => console.explain_failure(bundle.failure),
         BundleFault::Session(SessionFault::Write) => console.explain_failure(output),
         BundleFault::Session(SessionFault::Regions(fault)) => {
+            explain_second_line(console, &bundle.copy);
             explain_regions(console, after_line(&bundle.copy), fault);
         }
         BundleFault::Session(SessionFault::Inputs(number)) => {
@@ -74,11 +75,16 @@ pub fn explain_bundle<R: Read>(
 /// Says why a text has not the parts of a bundle.
 fn explain_parts(console: Console<'_>, text: &[u8]) {
     console.explain_line(text, 1);
-    if begins_with_digits(after_line(text)) {
-        console.explain("the hexadecimal is on several lines: write the image on one line");
-    }
+    explain_second_line(console, text);
     if after_inputs_line(text).is_empty() && !text.ends_with(INPUTS) {
         console.explain("there is no line INPUTS");
+    }
+}
+
+/// Says that the image goes on behind the first line, if it does.
+fn explain_second_line(console: Console<'_>, text: &[u8]) {
+    if begins_with_digits(after_line(text)) {
+        console.explain("the hexadecimal is on several lines: write the image on one line");
     }
 }
 
