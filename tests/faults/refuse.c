@@ -1,9 +1,10 @@
-// Preloaded into a program, refuses or shortens one of its calls: REFUSE is allocation, read, write, short-read or
-// short-write, and AT the number of the call among its kind, from 1. Where CALLS is given, the file of this name gets the
-// numbers of the allocations, reads and writes that were made.
+// Preloaded into a program, refuses or shortens one of its calls: REFUSE is allocation, read, write, open, sync, rename, short-read or
+// short-write, and AT the number of the call among its kind, from 1. If CALLS is given, the file of this name gets the numbers of the
+// allocations, reads, writes, opens, syncs and renames that were made.
 
 #include <errno.h>
 #include <fcntl.h>
+#include <stdarg.h>
 #include <stdio.h>
 #include <stdlib.h>
 #include <string.h>
@@ -15,8 +16,8 @@ void *__libc_malloc(size_t size);
 void *__libc_calloc(size_t count, size_t size);
 void *__libc_realloc(void *old, size_t size);
 
-enum kind { ALLOCATION, READ, WRITE, KINDS };
-static const char *const names[KINDS] = {"allocation", "read", "write"};
+enum kind { ALLOCATION, READ, WRITE, OPEN, SYNC, RENAME, KINDS };
+static const char *const names[KINDS] = {"allocation", "read", "write", "open", "sync", "rename"};
 
 static unsigned long made[KINDS], at;
 static enum kind chosen = KINDS;
@@ -34,8 +35,8 @@ __attribute__((constructor)) static void choose(void) {
 __attribute__((destructor)) static void tell(void) {
     const char *file = getenv("CALLS");
     if (!file) return;
-    int out = open(file, O_WRONLY | O_CREAT | O_TRUNC, 0666);
-    dprintf(out, "%lu %lu %lu\n", made[ALLOCATION], made[READ], made[WRITE]);
+    int out = syscall(SYS_openat, AT_FDCWD, file, O_WRONLY | O_CREAT | O_TRUNC, 0666);
+    dprintf(out, "%lu %lu %lu %lu %lu %lu\n", made[ALLOCATION], made[READ], made[WRITE], made[OPEN], made[SYNC], made[RENAME]);
     close(out);
 }
 
@@ -80,4 +81,31 @@ ssize_t write(int file, const void *bytes, size_t count) {
 
 ssize_t __write(int file, const void *bytes, size_t count) {
     return write(file, bytes, count);
+}
+
+// Refuses a call, or makes it.
+#define UNLESS_REFUSED(kind, call) (is_chosen(kind) ? (errno = EIO, -1) : (call))
+
+int open(const char *path, int flags, ...) {
+    va_list further;
+    va_start(further, flags);
+    mode_t mode = flags & O_CREAT ? va_arg(further, mode_t) : 0;
+    va_end(further);
+    return UNLESS_REFUSED(OPEN, syscall(SYS_openat, AT_FDCWD, path, flags, mode));
+}
+
+int open64(const char *path, int flags, ...) {
+    va_list further;
+    va_start(further, flags);
+    mode_t mode = flags & O_CREAT ? va_arg(further, mode_t) : 0;
+    va_end(further);
+    return UNLESS_REFUSED(OPEN, syscall(SYS_openat, AT_FDCWD, path, flags, mode));
+}
+
+int fsync(int file) {
+    return UNLESS_REFUSED(SYNC, syscall(SYS_fsync, file));
+}
+
+int rename(const char *from, const char *to) {
+    return UNLESS_REFUSED(RENAME, syscall(SYS_renameat2, AT_FDCWD, from, AT_FDCWD, to, 0));
 }
