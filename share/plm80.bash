@@ -11,7 +11,7 @@ _plm80() {
             ;;
     esac
     if [[ $COMP_CWORD -eq 1 ]]; then
-        COMPREPLY=($(compgen -W 'link locate run list check explain lib regions cases map extract absolute trace cover stores calls compare inputs help --why -h --help -V --version' -- "$word"))
+        COMPREPLY=($(compgen -W 'link locate run list check explain lib regions cases map extract absolute trace cover stores calls compare inputs help -h --help -V --version' -- "$word"))
         return
     fi
     case ${COMP_WORDS[1]} in

@@ -17,11 +17,29 @@ impl<'a> Console<'a> {
     /// of its own.
     pub fn explain_line(self, text: &[u8], number: usize) {
         if let Some(line) = line_of(text, number) {
-            self.explain_form(line);
+            self.explain_end(line);
+            self.explain_digits(line);
         }
     }
 
-    fn explain_form(self, line: Line<'_>) {
+    /// As [`Console::explain_line`], in a text whose words and digits are of upper case.
+    pub fn explain_upper_line(self, text: &[u8], number: usize) {
+        if let Some(line) = line_of(text, number) {
+            self.explain_end(line);
+            self.explain_digits(line);
+            self.explain_case(line);
+        }
+    }
+
+    /// As [`Console::explain_upper_line`], of the first line, whose digit stands alone.
+    pub fn explain_version(self, text: &[u8]) {
+        if let Some(line) = line_of(text, 1) {
+            self.explain_end(line);
+            self.explain_case(line);
+        }
+    }
+
+    fn explain_end(self, line: Line<'_>) {
         if line.bytes.ends_with(b"\r") {
             self.explain("the line ends in CR LF: write LF alone");
         }
@@ -31,24 +49,22 @@ impl<'a> Console<'a> {
         if !line.is_ended {
             self.explain("the line has no line feed at its end");
         }
-        self.explain_words(without_return(line.bytes));
-    }
-
-    /// Says that the line of this number has letters of lower case, in a text whose digits and words are of upper case.
-    pub fn explain_lower_case(self, text: &[u8], number: usize) {
-        if let Some(line) = line_of(text, number)
-            && line.bytes.iter().any(|byte| byte.is_ascii_lowercase())
+        if without_return(line.bytes).ends_with(b" ")
+            || without_return(line.bytes).ends_with(b"\t")
         {
-            self.explain("the line has lower case: digits and words are of upper case");
-        }
-    }
-
-    fn explain_words(self, line: &[u8]) {
-        if line.ends_with(b" ") || line.ends_with(b"\t") {
             self.explain("the line ends in a blank");
         }
-        if has_odd_digits(line) {
+    }
+
+    fn explain_digits(self, line: Line<'_>) {
+        if has_odd_digits(without_return(line.bytes)) {
             self.explain("the line has an odd number of digits");
+        }
+    }
+
+    fn explain_case(self, line: Line<'_>) {
+        if line.bytes.iter().any(|byte| byte.is_ascii_lowercase()) {
+            self.explain("the line has lower case: digits and words are of upper case");
         }
     }
 }

@@ -83,13 +83,11 @@ pub fn report_regions(
 
 /// Says what is wrong with the line of the regions that the fault names.
 pub fn explain_regions(console: Console<'_>, text: &[u8], fault: RegionsFault) {
-    let number = match fault {
-        RegionsFault::BadVersion => 1,
-        RegionsFault::BadLine(number) => number,
-        _ => return,
-    };
-    console.explain_line(text, number);
-    console.explain_lower_case(text, number);
+    match fault {
+        RegionsFault::BadVersion => console.explain_version(text),
+        RegionsFault::BadLine(number) => console.explain_upper_line(text, number),
+        _ => {}
+    }
 }
 
 /// The image that the file's bytes spell, with these regions.
