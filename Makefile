@@ -1,15 +1,17 @@
 # plm80: LINK, LOCATE and a verifying loader for 8080 programs.
 #
 #   make run       proves every crate, shows its progress, builds plm80 and runs it on the stored examples
-#   make try       shows the transcript of a stored example within a minute or two: plm80 is built without any proof. ARGS=".." does a command, as in make try ARGS="check a.img a.regions"
-#   make install   builds plm80 as `make run` does, and installs it with its manual page, FAULTS.md and its completion for bash: make install PREFIX=/usr/local
+#   make try       shows the transcript of a stored example within a minute or two: plm80 is built without any proof, and kept as out/plm80 until a source changes. ARGS=".." does a command, as in make try ARGS="check a.img a.regions"
+#   make install   builds plm80 as `make run` does, and installs it with its manual page, its documents and its completion for bash: make install PREFIX=/usr/local
+#   make uninstall takes away what make install installed, with the same PREFIX
+#   make package   builds plm80 as `make run` does, and makes a Debian package of what make install installs and of the examples, in out/; a tarball, if there is no dpkg-deb
 #   make test      proves every crate from nothing and runs every test
 #   make commands  builds plm80 and runs the tests of its commands alone
 #   make faults    runs the tests, and plm80 on the examples, refusing one allocation, read or write at a time
 #   make bench     builds plm80 and prints million steps per second and host instructions per step of five programs, its start-up, and what it takes to verify programs, to link modules and to read libraries
 #   make help      prints this
 
-.PHONY: help run try install test commands faults bench build need-rt need-python3 need-cc
+.PHONY: help run try install install-files uninstall package package-files test commands faults bench build need-rt need-python3 need-cc need-prefix
 
 PREFIX = /usr/local
 PROGRAM = crates/plm80/out/plm80
@@ -37,17 +39,34 @@ run: build
 
 try: need-rt
 ifdef ARGS
-	@tools/try $(ARGS)
+	@tools/try $(ARGS); echo "status $$?"
 else
 	@echo "plm80 < examples/echo.bundle, built without any proof (make run proves it):"
-	@cd crates/plm80 && rt try < ../../examples/echo.bundle 2>&1 | sed '/^checked: /,$$d'
+	@tools/try < examples/echo.bundle; echo "status $$?"
 endif
 
-install: build
-	install -D -m 755 $(PROGRAM) $(DESTDIR)$(PREFIX)/bin/plm80
-	install -D -m 644 share/plm80.1 $(DESTDIR)$(PREFIX)/share/man/man1/plm80.1
-	install -D -m 644 docs/FAULTS.md $(DESTDIR)$(PREFIX)/share/doc/plm80/FAULTS.md
-	install -D -m 644 share/plm80.bash $(DESTDIR)$(PREFIX)/share/bash-completion/completions/plm80
+need-prefix:
+	@mkdir -p "$(DESTDIR)$(PREFIX)" 2> /dev/null; test -w "$(DESTDIR)$(PREFIX)" || { echo "$(DESTDIR)$(PREFIX) can't be written: make install PREFIX=\$$HOME/.local" && exit 1; }
+
+install: need-prefix build install-files
+
+# (What there is to install, of a program that is built.)
+install-files:
+	install -D -m 755 $(PROGRAM) "$(DESTDIR)$(PREFIX)/bin/plm80"
+	install -D -m 644 share/plm80.1 "$(DESTDIR)$(PREFIX)/share/man/man1/plm80.1"
+	install -d "$(DESTDIR)$(PREFIX)/share/doc/plm80"
+	install -m 644 README.md docs/*.md "$(DESTDIR)$(PREFIX)/share/doc/plm80"
+	install -D -m 644 share/plm80.bash "$(DESTDIR)$(PREFIX)/share/bash-completion/completions/plm80"
+
+uninstall:
+	rm -f "$(DESTDIR)$(PREFIX)/bin/plm80" "$(DESTDIR)$(PREFIX)/share/man/man1/plm80.1"
+	rm -rf "$(DESTDIR)$(PREFIX)/share/doc/plm80"
+	rm -f "$(DESTDIR)$(PREFIX)/share/bash-completion/completions/plm80"
+
+package: build package-files
+
+package-files:
+	@tools/package $(PROGRAM)
 
 # (rt ci has built the program that it proved. The prover's allocator keeps what it frees: that takes a few percent less time.)
 test: need-rt need-python3
@@ -62,6 +81,7 @@ test: need-rt need-python3
 	@tests/commands/stored $(PROGRAM)
 	@tests/commands/completion $(PROGRAM)
 	@tests/commands/faults
+	@tests/package/run $(PROGRAM)
 	@if command -v cc > /dev/null; then tests/faults/run $(PROGRAM) program; else echo "faults: passed over without a C compiler"; fi
 
 commands: need-python3 build
