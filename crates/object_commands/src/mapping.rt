@@ -20,10 +20,11 @@ pub struct MapArguments<'a> {
 const ABOUT: &str = "Prints where a module's segments and public names would be placed";
 
 const AFTER_HELP: &str = "\
-The options are those of locate, and so are the faults; no file is written. Each
-segment has a line: its name, its first address and its length, and behind them
-the name of a named common, as in COMMON 3100 0010 TABLE. Then come the public
-names by address, as in 3040 LIMIT. All numbers are hexadecimal.
+Give the same options as to locate, but for --restart; the faults are the same,
+and no file is written. Each segment has a line: its name, its first address and
+its length, and behind them the name of a named common, as in COMMON 3100 0010
+TABLE. Then come the public names by address, as in 3040 LIMIT. All numbers are
+hexadecimal.
 
 Example: plm80 map control.obj --data 4000
 

@@ -26,7 +26,7 @@ BIN has the bytes of the addresses from FIRST on, up to FFFF at most, and nothin
 else. Each --rom names another PROM by its address, an equals sign and its file,
 as --rom 1000=high.bin; no two may share an address. Addresses are one to four
 hexadecimal digits in either case, without h or 0x. You write the regions of the
-image by hand, as docs/USING.md shows in 'Absolute firmware'.
+image by hand, as docs/FIRMWARE.md shows in 'Absolute firmware'.
 
 Example: plm80 absolute rom.bin rom.img --first 0 --start 0 --name ROM
 

@@ -11,7 +11,7 @@
 
 mod covering;
 mod inputs_writing;
-mod run_files;
+mod run_arguments;
 mod running;
 mod session_files;
 mod tracing;

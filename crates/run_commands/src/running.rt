@@ -1,6 +1,6 @@
 //! `plm80 run`: the transcript of a located program's run.
 
-use crate::run_files::{INPUTS, LimitTexts, OUTPUTS, RunFiles, STEPS};
+use crate::run_arguments::{INPUTS, LimitTexts, OUTPUTS, RunFiles, STEPS};
 use crate::session_files::run_session;
 use crate::watching::{Watch, watch_run};
 use clap::ArgMatches;

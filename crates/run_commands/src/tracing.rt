@@ -1,6 +1,8 @@
 //! `plm80 trace`: the instructions of a located program's run, a line each.
 
-use crate::run_files::{INPUTS, LimitTexts, OUTPUTS, RunFiles, STEPS, print_ending, report_lines};
+use crate::run_arguments::{
+    INPUTS, LimitTexts, OUTPUTS, RunFiles, STEPS, print_ending, report_lines,
+};
 use clap::ArgMatches;
 use console80::{
     Argument, Console, IMAGE, Kind, NotedWriter, OptionText, REGIONS, Reported, Syntax, vouch_for,

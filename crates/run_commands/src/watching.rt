@@ -1,6 +1,6 @@
 //! `plm80 run` with `--last` or `--dump`: a run, its last instructions, and the memory that it leaves.
 
-use crate::run_files::{RunFiles, RunTexts, print_ending, report_lines};
+use crate::run_arguments::{RunFiles, RunTexts, print_ending, report_lines};
 use console80::{Console, NotedWriter, Reported, vouch_for};
 use loader80::{Vouched, Writing, front_text};
 use machine80::Inputs;
