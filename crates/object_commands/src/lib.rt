@@ -1,4 +1,4 @@
-//! The commands for object files and libraries: `link`, `locate`, `lib` and `map`.
+//! The commands for object files and libraries: `link`, `locate`, `lib`, `map` and `module`.
 //!
 //! | Item | What it is |
 //! |---|---|
@@ -6,14 +6,17 @@
 //! | [`locate_file`] | `locate`: a module at its places, as an image and its regions |
 //! | [`write_library_file`] | `lib`: a library of the modules of object files |
 //! | [`map_file`] | `map`: where LOCATE would put a module's segments and public names |
+//! | [`describe_file`] | `module`: what an object file holds, module by module |
 #![tactic(auto)]
 
+mod describing;
 mod library;
 mod linking;
 mod locate_options;
 mod locating;
 mod mapping;
 
+pub use describing::{MODULE, ModuleArguments, describe_file};
 pub use library::{LIB, LibraryArguments, write_library_file};
 pub use linking::{LINK, LinkArguments, link_files};
 pub use locating::{LOCATE, LocateArguments, locate_file};

@@ -8,7 +8,8 @@ use image_commands::{
     RegionsArguments, STORES,
 };
 use object_commands::{
-    LIB, LINK, LOCATE, LibraryArguments, LinkArguments, LocateArguments, MAP, MapArguments,
+    LIB, LINK, LOCATE, LibraryArguments, LinkArguments, LocateArguments, MAP, MODULE, MapArguments,
+    ModuleArguments,
 };
 use rom_commands::{
     ABSOLUTE, AbsoluteArguments, COMPARE, CompareArguments, EXTRACT, ExtractArguments,
@@ -39,6 +40,7 @@ pub enum Request<'a> {
     Calls(CallsArguments<'a>),
     Trace(TraceArguments<'a>),
     Cover(CoverArguments<'a>),
+    Module(ModuleArguments<'a>),
 }
 
 const ABOUT: &str = "Links, locates, verifies and runs 8080 programs from OMF-80 object files";
@@ -72,8 +74,8 @@ fn other_commands() -> [Syntax<'static>; 6] {
 }
 
 /// The commands that came last, in the order of the help text.
-fn further_commands() -> [Syntax<'static>; 6] {
-    [TRACE, COVER, STORES, CALLS, COMPARE, INPUTS]
+fn further_commands() -> [Syntax<'static>; 7] {
+    [TRACE, COVER, STORES, CALLS, COMPARE, INPUTS, MODULE]
 }
 
 /// The command of a name.
@@ -209,6 +211,7 @@ fn asked_for<'a>(
         "calls" => Request::Calls(CallsArguments::of(arguments)),
         "trace" => Request::Trace(TraceArguments::of(arguments)),
         "cover" => Request::Cover(CoverArguments::of(arguments)),
+        "module" => Request::Module(ModuleArguments::of(arguments)),
         _ => return Ok(None),
     };
     Ok(Some(request))

@@ -1,0 +1,10 @@
+-- the lines so far, and those of the items that are left
+use Rattle.std.proofs.Common.{◌≡◌, ◌++◌, drop}
+use Rattle.std.specs.List.{flat_map}
+use Rattle.module80.specs.ModuleText.{segment_line}
+use Rattle.module80.proofs.module_text.append_segments.Given as goal
+
+abbrev pub invariant-loop-pair : goal.invariant-loop-pair
+invariant-loop-pair l =
+    l.text.items ++ flat_map (segment_line l.commons) (drop l.pair-index l.segments)
+    ≡ l.initial.text.items ++ flat_map (segment_line l.commons) l.segments

@@ -1,0 +1,65 @@
+-- What a module holds, line by line.
+-- (8080 Object Module Formats: the header, named commons, public declarations, external names, content and end records. The form of
+-- the lines is this project's own.)
+use Rattle.std.specs.Prelude.{ℕ, ◌%◌, ◌==◌, Bool, if◌then◌else◌, Option, Some, None, List, [], ◌∷◌, ◌++◌, length, codes, find}
+use Rattle.std.specs.List.{flat_map}
+use Rattle.std.specs.Option.{option_map_or}
+use Rattle.decode80.specs.Text.{word_text}
+use Rattle.omf_parts.specs.declared.segment.Segment.{Segment}
+use Rattle.omf_parts.specs.declared.symbols.Common.{Common}
+use Rattle.omf_parts.specs.declared.symbols.Public.{Public}
+use Rattle.omf_parts.specs.Contents.{ContentValue}
+use Rattle.omf_parts.specs.Modules.{ModuleValue}
+
+-- the word of a segment
+abbrev pub segment_word : ℕ → List ℕ
+segment_word id =
+    if id == 0 then codes "ABSOLUTE"
+    else if id == 1 then codes "CODE"
+    else if id == 2 then codes "DATA"
+    else if id == 3 then codes "STACK"
+    else if id == 4 then codes "MEMORY"
+    else codes "COMMON"
+
+-- a blank and the name of the common of this id, if it has one
+abbrev pub common_part : List Common → ℕ → List ℕ
+common_part commons id = option_map_or (λ c. 32 ∷ c.name) (find (λ c. c.id == id) commons) []
+
+-- a place in a segment: its word and the offset
+abbrev pub place_part : (id offset : ℕ) → List ℕ
+place_part id offset = segment_word id ++ 32 ∷ word_text offset
+
+abbrev pub paged_part : Bool → List ℕ
+paged_part paged = if paged then codes " PAGED" else []
+
+-- the line of a segment of the header: its word, its length, whether it is paged, and the name of a named common
+abbrev pub segment_line : List Common → ℕ × Segment → List ℕ
+segment_line commons entry =
+    place_part entry.0 entry.1.length ++ (paged_part entry.1.paged ++ (common_part commons entry.0 ++ 10 ∷ []))
+
+-- the line of a public name: its place, and the name
+abbrev pub public_line : List Common → Public → List ℕ
+public_line commons public =
+    codes "PUBLIC " ++ (place_part public.segment public.offset ++ (common_part commons public.segment ++ 32 ∷ (public.name ++ 10 ∷ [])))
+
+-- the line of an external name
+abbrev pub external_line : List ℕ → List ℕ
+external_line name = codes "NEEDS " ++ (name ++ 10 ∷ [])
+
+-- the line of a content: its place and the number of its bytes, which are fewer than 65,536
+abbrev pub content_line : List Common → ContentValue → List ℕ
+content_line commons content =
+    codes "CONTENT " ++ (place_part content.segment content.offset
+    ++ 32 ∷ (word_text (length content.bytes % 65536) ++ (common_part commons content.segment ++ 10 ∷ [])))
+
+-- the line of the start, if there is one
+abbrev pub start_line : List Common → Option (ℕ × ℕ) → List ℕ
+start_line commons None = []
+start_line commons (Some place) = codes "START " ++ (place_part place.0 place.1 ++ (common_part commons place.0 ++ 10 ∷ []))
+
+-- all lines of a module
+unfoldable pub module_text : ModuleValue → List ℕ
+module_text m =
+    codes "MODULE " ++ (m.name ++ 10 ∷ (flat_map (segment_line m.commons) m.segments
+    ++ (flat_map (public_line m.commons) m.publics ++ (flat_map external_line m.externals
+    ++ (flat_map (content_line m.commons) m.contents ++ start_line m.commons m.start)))))
