@@ -57,9 +57,18 @@ abbrev pub start_line : List Common → Option (ℕ × ℕ) → List ℕ
 start_line commons None = []
 start_line commons (Some place) = codes "START " ++ (place_part place.0 place.1 ++ (common_part commons place.0 ++ 10 ∷ []))
 
+-- the line of a module's name
+abbrev pub name_line : List ℕ → List ℕ
+name_line name = codes "MODULE " ++ (name ++ 10 ∷ [])
+
+-- the lines of its name, of its segments and of the names that it declares
+abbrev pub declared_text : ModuleValue → List ℕ
+declared_text m = name_line m.name ++ (flat_map (segment_line m.commons) m.segments ++ flat_map (public_line m.commons) m.publics)
+
+-- the lines of the names that it needs, of its contents and of its start
+abbrev pub defined_text : ModuleValue → List ℕ
+defined_text m = flat_map external_line m.externals ++ (flat_map (content_line m.commons) m.contents ++ start_line m.commons m.start)
+
 -- all lines of a module
-unfoldable pub module_text : ModuleValue → List ℕ
-module_text m =
-    codes "MODULE " ++ (m.name ++ 10 ∷ (flat_map (segment_line m.commons) m.segments
-    ++ (flat_map (public_line m.commons) m.publics ++ (flat_map external_line m.externals
-    ++ (flat_map (content_line m.commons) m.contents ++ start_line m.commons m.start)))))
+abbrev pub module_text : ModuleValue → List ℕ
+module_text m = declared_text m ++ defined_text m

@@ -31,7 +31,8 @@ pub(crate) fn append_segment(
         text.extend_from_slice(b" PAGED".as_slice())?;
     }
     append_common(text, commons, id)?;
-    text.push(b'\n')
+    text.push(b'\n')?;
+    Ok(())
 }
 
 /// Appends the line of a public name.
@@ -47,7 +48,8 @@ pub(crate) fn append_public(
     append_common(text, commons, public.segment)?;
     text.push(b' ')?;
     text.extend_from_slice(public.name.bytes())?;
-    text.push(b'\n')
+    text.push(b'\n')?;
+    Ok(())
 }
 
 /// Appends the line of an external name.
@@ -56,7 +58,8 @@ pub(crate) fn append_external(text: &mut Vec<u8>, name: &Name) -> Result<(), All
 {
     text.extend_from_slice(b"NEEDS ".as_slice())?;
     text.extend_from_slice(name.bytes())?;
-    text.push(b'\n')
+    text.push(b'\n')?;
+    Ok(())
 }
 
 /// Appends the line of a content.
@@ -72,7 +75,8 @@ pub(crate) fn append_content(
     text.push(b' ')?;
     text.extend_from_slice(&word_digits((content.bytes.len() % 65536) as u16))?;
     append_common(text, commons, content.segment)?;
-    text.push(b'\n')
+    text.push(b'\n')?;
+    Ok(())
 }
 
 /// Appends a place in a segment: its word and the offset.

@@ -4,6 +4,9 @@ ghost use Rattle.std.specs.Prelude.{◌≡◌, ◌++◌, OnOk};
 ghost use Rattle.std.specs.List.{flat_map};
 ghost use Rattle.module80.specs.ModuleText.{
   module_text,
+  declared_text,
+  defined_text,
+  name_line,
   segment_line,
   public_line,
   external_line,
@@ -26,16 +29,38 @@ use std::alloc::AllocError;
 /// # Errors
 /// `AllocError` only if memory runs out; the text may then have some of the lines.
 pub fn append_module_text(text: &mut Vec<u8>, module: &Module) -> Result<(), AllocError>
-    ensures { OnOk result (text.new.items ≡ text.old.items ++ module_text module.now) }
+    ensures { OnOk result (text.new.items ≡ text.old.items ++ module_text «module».now) }
 {
-    text.extend_from_slice(b"MODULE ".as_slice())?;
-    text.extend_from_slice(module.name().bytes())?;
-    text.push(b'\n')?;
+    append_declared(text, module)?;
+    append_defined(text, module)
+}
+
+/// Appends the lines of its name, of its segments and of the names that it declares.
+fn append_declared(text: &mut Vec<u8>, module: &Module) -> Result<(), AllocError>
+    ensures { OnOk result (text.new.items ≡ text.old.items ++ declared_text «module».now) }
+{
+    append_name(text, module.name())?;
     append_segments(text, module.commons(), module.segments())?;
-    append_publics(text, module.commons(), module.publics())?;
+    append_publics(text, module.commons(), module.publics())
+}
+
+/// Appends the lines of the names that it needs, of its contents and of its start.
+fn append_defined(text: &mut Vec<u8>, module: &Module) -> Result<(), AllocError>
+    ensures { OnOk result (text.new.items ≡ text.old.items ++ defined_text «module».now) }
+{
     append_externals(text, module.externals())?;
     append_contents(text, module.commons(), module.contents())?;
     append_start(text, module.commons(), module.start())
+}
+
+/// Appends the line of a module's name.
+fn append_name(text: &mut Vec<u8>, name: &Name) -> Result<(), AllocError>
+    ensures { OnOk result (text.new.items ≡ text.old.items ++ name_line name.now) }
+{
+    text.extend_from_slice(b"MODULE ".as_slice())?;
+    text.extend_from_slice(name.bytes())?;
+    text.push(b'\n')?;
+    Ok(())
 }
 
 fn append_segments(
@@ -45,8 +70,8 @@ fn append_segments(
 ) -> Result<(), AllocError>
     ensures { OnOk result (text.new.items ≡ text.old.items ++ flat_map (segment_line commons.now) segments.now) }
 {
-    for (id, segment) in segments {
-        append_segment(text, commons, *id, *segment)?;
+    for entry in segments {
+        append_segment(text, commons, entry.0, entry.1)?;
     }
     Ok(())
 }
@@ -100,5 +125,6 @@ fn append_start(
     text.extend_from_slice(b"START ".as_slice())?;
     append_place(text, segment, offset)?;
     append_common(text, commons, segment)?;
-    text.push(b'\n')
+    text.push(b'\n')?;
+    Ok(())
 }

@@ -4,7 +4,7 @@ use Rattle.std.specs.List.{flat_map}
 use Rattle.module80.specs.ModuleText.{segment_line}
 use Rattle.module80.proofs.module_text.append_segments.Given as goal
 
-abbrev pub invariant-loop-pair : goal.invariant-loop-pair
-invariant-loop-pair l =
-    l.text.items ++ flat_map (segment_line l.commons) (drop l.pair-index l.segments)
+abbrev pub invariant-loop-entry : goal.invariant-loop-entry
+invariant-loop-entry l =
+    l.text.items ++ flat_map (segment_line l.commons) (drop l.entry-index l.segments)
     ≡ l.initial.text.items ++ flat_map (segment_line l.commons) l.segments
