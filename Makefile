@@ -79,9 +79,11 @@ test: need-rt need-python3
 	@tests/commands/sums $(PROGRAM)
 	@tests/commands/explained $(PROGRAM)
 	@tests/commands/stored $(PROGRAM)
+	@tests/commands/replaced $(PROGRAM)
 	@tests/commands/completion $(PROGRAM)
 	@tests/commands/faults
 	@tests/package/run $(PROGRAM)
+	@tests/package/try
 	@if command -v cc > /dev/null; then tests/faults/run $(PROGRAM) program; else echo "faults: passed over without a C compiler"; fi
 
 commands: need-python3 build
@@ -91,6 +93,7 @@ commands: need-python3 build
 	@tests/commands/sums $(PROGRAM)
 	@tests/commands/explained $(PROGRAM)
 	@tests/commands/stored $(PROGRAM)
+	@tests/commands/replaced $(PROGRAM)
 	@tests/commands/completion $(PROGRAM)
 	@tests/commands/faults
 

@@ -56,19 +56,32 @@ impl<'a> Console<'a> {
         self.settle(file, draft)
     }
 
-    /// Replaces two files. Neither is changed before both are written, unless it is written in place.
+    /// Replaces two files. Neither is changed before both are written, unless both are written in place.
     pub fn replace_both(self, first: NewFile<'_>, second: NewFile<'_>) -> Result<(), Reported> {
         let first_draft = self.draft(first)?;
         match self.draft(second) {
-            Ok(second_draft) => {
-                if let Err(reported) = self.settle(first, first_draft) {
-                    self.drop_draft(second_draft);
-                    return Err(reported);
-                }
-                self.settle(second, second_draft)
-            }
+            // What is written in place may fail as it is written, so it comes first.
+            Ok(Draft::InPlace) => self.settle_both(second, Draft::InPlace, first, first_draft),
+            Ok(second_draft) => self.settle_both(first, first_draft, second, second_draft),
             Err(reported) => {
                 self.drop_draft(first_draft);
+                Err(reported)
+            }
+        }
+    }
+
+    /// Puts both drafts in their places, the second one only after the first.
+    fn settle_both(
+        self,
+        first: NewFile<'_>,
+        first_draft: Draft,
+        second: NewFile<'_>,
+        second_draft: Draft,
+    ) -> Result<(), Reported> {
+        match self.settle(first, first_draft) {
+            Ok(()) => self.settle(second, second_draft),
+            Err(reported) => {
+                self.drop_draft(second_draft);
                 Err(reported)
             }
         }
