@@ -29,6 +29,12 @@ pub(crate) enum Draft {
     InPlace,
 }
 
+impl Draft {
+    fn is_in_place(&self) -> bool {
+        matches!(self, Draft::InPlace)
+    }
+}
+
 /// Why there is no draft.
 #[derive(Clone, Copy)]
 enum DraftFault {
@@ -60,8 +66,6 @@ impl<'a> Console<'a> {
     pub fn replace_both(self, first: NewFile<'_>, second: NewFile<'_>) -> Result<(), Reported> {
         let first_draft = self.draft(first)?;
         match self.draft(second) {
-            // What is written in place may fail as it is written, so it comes first.
-            Ok(Draft::InPlace) => self.settle_both(second, Draft::InPlace, first, first_draft),
             Ok(second_draft) => self.settle_both(first, first_draft, second, second_draft),
             Err(reported) => {
                 self.drop_draft(first_draft);
@@ -70,8 +74,23 @@ impl<'a> Console<'a> {
         }
     }
 
-    /// Puts both drafts in their places, the second one only after the first.
+    /// Puts both drafts in their places: first one that is written in place, since that may fail as it is written.
     fn settle_both(
+        self,
+        first: NewFile<'_>,
+        first_draft: Draft,
+        second: NewFile<'_>,
+        second_draft: Draft,
+    ) -> Result<(), Reported> {
+        if second_draft.is_in_place() && !first_draft.is_in_place() {
+            self.settle_in_order(second, second_draft, first, first_draft)
+        } else {
+            self.settle_in_order(first, first_draft, second, second_draft)
+        }
+    }
+
+    /// Puts the first draft in its place, and then the second one.
+    fn settle_in_order(
         self,
         first: NewFile<'_>,
         first_draft: Draft,
