@@ -106,12 +106,12 @@ fn begins_with_digits(text: &[u8]) -> bool {
 
 /// What follows the first line `INPUTS`.
 fn after_inputs_line(text: &[u8]) -> &[u8] {
-    let mut rest = text;
-    while !rest.is_empty() {
-        if let Some(inputs) = rest.strip_prefix(INPUTS) {
-            return inputs;
+    let mut place = 0usize;
+    for line in text.split_inclusive(|byte| *byte == b'\n') {
+        place = place.saturating_add(line.len());
+        if line == INPUTS {
+            return text.get(place..).unwrap_or(b"");
         }
-        rest = after_line(rest);
     }
-    rest
+    b""
 }
