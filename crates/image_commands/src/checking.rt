@@ -1,10 +1,8 @@
 //! `plm80 check`: the verifier's report on a located program, or its refusal.
 
-use crate::check_text::report_text;
-use console80::{Console, PROGRAM_FILES, ProgramFiles, Reported, Syntax, refused};
-use image80::Image;
-use loader80::{Vouched, vouch};
-use std::alloc::{AllocError, Global};
+use console80::{Console, PROGRAM_FILES, ProgramFiles, Reported, Syntax, vouch_for};
+use loader80::Vouched;
+use report80::report_text;
 
 const ABOUT: &str = "Verifies an image: prints a report, or the refusal";
 
@@ -30,22 +28,16 @@ pub const CHECK: Syntax<'static> = Syntax {
 /// Prints the report on the image, or its refusal, and gives the exit status.
 pub fn check_files(console: Console<'_>, files: ProgramFiles<'_>) -> Result<u8, Reported> {
     let image = files.read(console)?;
-    let Ok((text, status)) = verdict(console.alloc(), image) else {
-        return Err(console.report_memory());
-    };
-    console.print(text.as_bytes())?;
-    Ok(status)
-}
-
-/// What is printed of an image, and the exit status.
-fn verdict(alloc: Global, image: Image) -> Result<(String, u8), AllocError> {
-    match vouch(alloc, image) {
-        Ok(vouched) => accepted(alloc, &vouched),
-        Err((_, refusal)) => refused(alloc, refusal),
+    match vouch_for(console, image)? {
+        Ok(vouched) => print_report(console, &vouched),
+        Err(status) => Ok(status),
     }
 }
 
-/// The report on a program that is accepted, and status 0.
-pub fn accepted(alloc: Global, vouched: &Vouched) -> Result<(String, u8), AllocError> {
-    Ok((report_text(alloc, vouched)?, 0))
+fn print_report(console: Console<'_>, vouched: &Vouched) -> Result<u8, Reported> {
+    let Ok(text) = report_text(console.alloc(), vouched) else {
+        return Err(console.report_memory());
+    };
+    console.print(&text)?;
+    Ok(0)
 }

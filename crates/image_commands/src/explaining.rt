@@ -1,12 +1,11 @@
 //! `plm80 explain`: why the verifier refuses a located program, shown by ways through its procedures.
 
-use crate::check_text::append_rows;
-use crate::checking::accepted;
 use crate::explain_text::{chain_text, explanation_text};
 use console80::{Console, PROGRAM_FILES, ProgramFiles, Reported, Syntax};
 use explain80::{Unexplained, explain, find_chain, measure};
 use image80::Image;
 use loader80::{Refusal, refusal_text, vouch};
+use report80::{append_rows, report_text};
 use std::alloc::{AllocError, Global};
 
 /// The most points that are followed, and words of their frames, together.
@@ -52,10 +51,9 @@ pub fn explain_files(console: Console<'_>, files: ProgramFiles<'_>) -> Result<u8
 fn explained(alloc: Global, image: Image) -> Result<(Vec<u8>, u8), AllocError> {
     match vouch(alloc, image) {
         Ok(vouched) => {
-            let (report, status) = accepted(alloc, &vouched)?;
-            let mut text = report.into_bytes();
+            let mut text = report_text(alloc, &vouched)?;
             append_chain(alloc, &mut text, vouched.image(), vouched.stack_bytes())?;
-            Ok((text, status))
+            Ok((text, 0))
         }
         Err((_, Refusal::Memory)) => Err(AllocError),
         Err((image, refusal)) => Ok((refused(alloc, &image, refusal)?, 1)),
@@ -89,9 +87,8 @@ fn overrun(
     let Ok(report) = measure(alloc, image) else {
         return Err(AllocError);
     };
-    let mut text = refusal_text(alloc, refusal)?;
-    append_rows(&mut text, &report.procedures)?;
-    let mut text = text.into_bytes();
+    let mut text = refusal_text(alloc, refusal)?.into_bytes();
+    append_rows(alloc, &mut text, &report.procedures)?;
     append_chain(alloc, &mut text, image, need)?;
     Ok(text)
 }

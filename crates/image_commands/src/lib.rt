@@ -13,7 +13,6 @@
 
 mod calling;
 mod calls_text;
-mod check_text;
 mod checking;
 mod explain_text;
 mod explaining;
