@@ -1,0 +1,10 @@
+//! Where the code of a module lies in a dump of a read-only memory, and what its segments and externals are there.
+//!
+//! | Item | What it is |
+//! |---|---|
+//! | [`Candidates`] | the values that a target may have |
+#![tactic(auto)]
+
+mod candidates;
+
+pub use candidates::Candidates;

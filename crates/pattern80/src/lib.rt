@@ -1,0 +1,14 @@
+//! The code of a module of object files as a pattern: each byte that its contents define in CODE, as a byte of a value that
+//! isn't known yet plus an addend.
+//!
+//! | Item | What it is |
+//! |---|---|
+//! | [`CodeByte`], [`Half`] | a byte of the code: half of the word that is a target's value plus an addend |
+//! | [`number_of`] | the number by which a target's value goes |
+#![tactic(auto)]
+
+mod code_byte;
+mod number;
+
+pub use code_byte::{CodeByte, Half};
+pub use number::number_of;
