@@ -25,7 +25,7 @@ impl Candidates {
             (is_candidate self word && is_half half addend byte word) ≡ false) }
     {
         match half {
-            Half::Low => self.with_low(byte.wrapping_sub(addend as u8)),
+            Half::Low => self.with_low(byte.wrapping_sub((addend % 256) as u8)),
             Half::High => self.within(u16::from_be_bytes([byte, 0]).wrapping_sub(addend)),
         }
     }
@@ -72,7 +72,7 @@ fn low_in_window(first: u16, more: u8, low: u8) -> Option<Candidates>
     ensures none { IfNone result ((word : ℕ) → word < 65536 →
         (is_in_window first more word && (word % 256 == low)) ≡ false) }
 {
-    let after = low.wrapping_sub(first as u8);
+    let after = low.wrapping_sub((first % 256) as u8);
     if after <= more {
         Some(Candidates::Window(first.wrapping_add(u16::from(after)), 0))
     } else {

@@ -6,5 +6,8 @@
 #![tactic(auto)]
 
 mod candidates;
+mod dump;
+mod solving;
 
 pub use candidates::Candidates;
+pub use dump::byte_at;
