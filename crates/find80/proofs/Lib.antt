@@ -1,1 +1,2 @@
-
+pub mod SolveLemmas
+pub mod LiesLemmas

@@ -1,9 +1,9 @@
 -- Where the bytes of a module's code lie in a dump.
 use Rattle.std.specs.Prelude.{◌≡◌, ℕ, ◌+◌, ◌-◌, ◌%◌, ◌<◌, ◌==◌, Bool, true, false, not, ◌&&◌, ◌||◌, nat_le, nat_lt, if◌then◌else◌, Option, Some, None, List, length, slice_index, slice_index_or}
-use Rattle.std.specs.List.{AllByRecursion, list_all}
+use Rattle.std.specs.List.{AllByRecursion, AllPairs, list_all, list_any}
 use Rattle.std.specs.Option.{option_map_or}
 use Rattle.pattern80.specs.declared.code_byte.CodeByte.{CodeByte}
-use Rattle.pattern80.specs.CodeBytes.{number_of, byte_by}
+use Rattle.pattern80.specs.CodeBytes.{number_of, byte_by, is_low}
 use Rattle.find80.specs.declared.candidates.Candidates.{Candidates}
 use Rattle.find80.specs.declared.candidates.Candidates.TheVariants.{Any}
 use Rattle.find80.specs.Candidates.{is_candidate, is_half}
@@ -65,3 +65,20 @@ pub record HasNone (first : ℕ) (dump : List ℕ) (code : List CodeByte) (addre
 -- every target of the code has a number below this one
 abbrev pub AreBelow : (count : ℕ) → List CodeByte → Type 0
 AreBelow count code = AllByRecursion (λ b. number_of b.target < count) code
+
+-- a byte outside fixups: the low half of absolute 0 plus an addend
+abbrev pub is_plain : CodeByte → Bool
+is_plain b = is_low b.half && number_of b.target == 0
+
+-- if the byte is one of those, the dump has it
+abbrev pub fits_if_plain : (first : ℕ) → (dump : List ℕ) → (address : ℕ) → CodeByte → Bool
+fits_if_plain first dump address b = not (is_plain b) || fits first dump address b 0
+
+-- the places before an address are in the list, in ascending order
+abbrev pub is_listed : List ℕ → ℕ → Bool
+is_listed places address = list_any (λ p. p == address) places
+
+pub record ArePlaces (first : ℕ) (dump : List ℕ) (code : List CodeByte) (stop : ℕ) (places : List ℕ) : Type 0 where
+  pub lies : (address : ℕ) → is_listed places address ≡ true → (address < stop) × LiesAt first dump code address
+  pub all : (address : ℕ) → address < stop → LiesAt first dump code address → is_listed places address ≡ true
+  pub ascending : AllPairs (λ (p q : ℕ). p < q) places

@@ -7,6 +7,7 @@
 
 mod candidates;
 mod dump;
+mod sieve;
 mod solving;
 
 pub use candidates::Candidates;

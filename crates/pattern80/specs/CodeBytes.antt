@@ -1,6 +1,6 @@
 -- The bytes of a module's code where each target has a value.
 -- (8080 Object Module Formats: relocation, intersegment and external reference records.)
-use Rattle.std.specs.Prelude.{ℕ, ◌+◌, ◌/◌, ◌%◌}
+use Rattle.std.specs.Prelude.{ℕ, ◌+◌, ◌/◌, ◌%◌, Bool, true, false}
 use Rattle.omf_parts.specs.declared.fixup.Target.{Target}
 use Rattle.omf_parts.specs.declared.fixup.Target.TheVariants as target
 use Rattle.pattern80.specs.declared.code_byte.Half.{Half}
@@ -20,3 +20,7 @@ half_of High word = word / 256 % 256
 -- the byte, where the values go by their numbers
 abbrev pub byte_by : (value : ℕ → ℕ) → CodeByte → ℕ
 byte_by value b = half_of b.half ((value (number_of b.target) + b.addend) % 65536)
+
+abbrev pub is_low : Half → Bool
+is_low Low = true
+is_low High = false
