@@ -1,2 +1,4 @@
 pub mod SolveLemmas
 pub mod LiesLemmas
+pub mod SieveLemmas
+pub mod PlaceLemmas

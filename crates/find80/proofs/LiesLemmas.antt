@@ -135,22 +135,48 @@ lies_plain first dump code address h = go code h.lies.bytes
         one true e = subst (λ (x : ℕ). fits first dump address b x ≡ true) (plain-here b h.value h.lies.absolute e) (has_fits first dump address b h.value k.0)
         one false e = refl
 
+-- the dump has each of these bytes
+abbrev HasAll : (first : ℕ) (dump : List ℕ) (address : ℕ) (value : ℕ → ℕ) → List CodeByte → Type 0
+HasAll first dump address value bs = AllByRecursion (λ (b : CodeByte). dump_byte first dump ((address + b.offset) % 65536) ≡ Some (byte_by value b)) bs
+
+abbrev not_plain : List CodeByte → List CodeByte
+not_plain bs = filter (λ b. not (is_plain b)) bs
+
+keep-others : (first : ℕ) (dump : List ℕ) (address : ℕ) (value : ℕ → ℕ) (bs : List CodeByte)
+    → HasAll first dump address value bs → HasAll first dump address value (not_plain bs)
+keep-others first dump address value [] k = tt
+keep-others first dump address value (b ∷ bs) k = one (is_plain b) refl (keep-others first dump address value bs k.1)
+  where
+    one : (t : Bool) → is_plain b ≡ t → HasAll first dump address value (not_plain bs) → HasAll first dump address value (not_plain (b ∷ bs))
+    one true e rest = rw e rest
+    one false e rest = rw e (k.0, rest)
+
 -- and so do the others
 pub lies_others : (first : ℕ) (dump : List ℕ) (code : List CodeByte) (address : ℕ) → LiesAt first dump code address
     → LiesAt first dump (filter (λ b. not (is_plain b)) code) address
 lies_others first dump code address h = record {
   value = h.value;
-  lies = record { absolute = h.lies.absolute; here = h.lies.here; bytes = go code h.lies.bytes };
+  lies = record { absolute = h.lies.absolute; here = h.lies.here; bytes = keep-others first dump address h.value code h.lies.bytes };
 }
+
+join-others : (first : ℕ) (dump : List ℕ) (address : ℕ) (value : ℕ → ℕ) (bs : List CodeByte) → value 0 ≡ 0
+    → list_all (fits_if_plain first dump address) bs ≡ true
+    → HasAll first dump address value (not_plain bs) → HasAll first dump address value bs
+join-others first dump address value [] z p k = tt
+join-others first dump address value (b ∷ bs) z p k = one (is_plain b) refl (and_parts _ _ p) k (λ q r. join-others first dump address value bs z q r)
   where
-    go : (bs : List CodeByte) → AllByRecursion (λ (b : CodeByte). dump_byte first dump ((address + b.offset) % 65536) ≡ Some (byte_by h.value b)) bs
-        → AllByRecursion (λ (b : CodeByte). dump_byte first dump ((address + b.offset) % 65536) ≡ Some (byte_by h.value b)) (filter (λ b. not (is_plain b)) bs)
-    go [] k = tt
-    go (b ∷ bs) k = one (is_plain b) refl
-      where
-        one : (t : Bool) → is_plain b ≡ t → AllByRecursion (λ (b : CodeByte). dump_byte first dump ((address + b.offset) % 65536) ≡ Some (byte_by h.value b)) (filter (λ b. not (is_plain b)) (b ∷ bs))
-        one true e = rw e (go bs k.1)
-        one false e = rw e (k.0, go bs k.1)
+    one : (t : Bool) → is_plain b ≡ t → (fits_if_plain first dump address b ≡ true) × (list_all (fits_if_plain first dump address) bs ≡ true)
+        → HasAll first dump address value (not_plain (b ∷ bs))
+        → (list_all (fits_if_plain first dump address) bs ≡ true → HasAll first dump address value (not_plain bs) → HasAll first dump address value bs)
+        → HasAll first dump address value (b ∷ bs)
+    one true e parts k rest =
+        let fit : fits first dump address b 0 ≡ true = ap (λ (t : Bool). not t || fits first dump address b 0) (sym e) ∙ parts.0 in
+        (from_fits (dump_byte first dump ((address + b.offset) % 65536)) b value
+            (subst (λ (x : ℕ). fits first dump address b x ≡ true) (sym (plain-here b value z e)) fit),
+         rest parts.1 (rw e at k))
+    one false e parts k rest =
+        let all = rw e at k in
+        (all.0, rest parts.1 all.1)
 
 -- together they say that the code lies there
 pub parts_lie : (first : ℕ) (dump : List ℕ) (code : List CodeByte) (address : ℕ)
@@ -158,32 +184,14 @@ pub parts_lie : (first : ℕ) (dump : List ℕ) (code : List CodeByte) (address 
     → LiesAt first dump (filter (λ b. not (is_plain b)) code) address → LiesAt first dump code address
 parts_lie first dump code address plain h = record {
   value = h.value;
-  lies = record { absolute = h.lies.absolute; here = h.lies.here; bytes = go code plain h.lies.bytes };
+  lies = record { absolute = h.lies.absolute; here = h.lies.here; bytes = join-others first dump address h.value code h.lies.absolute plain h.lies.bytes };
 }
-  where
-    go : (bs : List CodeByte) → list_all (fits_if_plain first dump address) bs ≡ true
-        → AllByRecursion (λ (b : CodeByte). dump_byte first dump ((address + b.offset) % 65536) ≡ Some (byte_by h.value b)) (filter (λ b. not (is_plain b)) bs)
-        → AllByRecursion (λ (b : CodeByte). dump_byte first dump ((address + b.offset) % 65536) ≡ Some (byte_by h.value b)) bs
-    go [] p k = tt
-    go (b ∷ bs) p k = one (is_plain b) refl
-      where
-        parts : (fits_if_plain first dump address b ≡ true) × (list_all (fits_if_plain first dump address) bs ≡ true)
-        parts = and_parts _ _ p
-        one : (t : Bool) → is_plain b ≡ t → AllByRecursion (λ (b : CodeByte). dump_byte first dump ((address + b.offset) % 65536) ≡ Some (byte_by h.value b)) (b ∷ bs)
-        one true e =
-            let fit : fits first dump address b 0 ≡ true = ap (λ (t : Bool). not t || fits first dump address b 0) (sym e) ∙ parts.0 in
-            (from_fits (dump_byte first dump ((address + b.offset) % 65536)) b h.value
-                (subst (λ (x : ℕ). fits first dump address b x ≡ true) (sym (plain-here b h.value h.lies.absolute e)) fit),
-             go bs parts.1 (rw e at k))
-        one false e =
-            let all = rw e at k in
-            (all.0, go bs parts.1 all.1)
 
 -- of a list that is below a count
 pub below_filter : (count : ℕ) (p : CodeByte → Bool) (code : List CodeByte) → AreBelow count code → AreBelow count (filter p code)
 below_filter count p [] h = tt
-below_filter count p (b ∷ bs) h = one (p b) refl
+below_filter count p (b ∷ bs) h = one (p b) refl (below_filter count p bs h.1)
   where
-    one : (t : Bool) → p b ≡ t → AreBelow count (filter p (b ∷ bs))
-    one true e = rw e (h.0, below_filter count p bs h.1)
-    one false e = rw e (below_filter count p bs h.1)
+    one : (t : Bool) → p b ≡ t → AreBelow count (filter p bs) → AreBelow count (filter p (b ∷ bs))
+    one true e rest = rw e (h.0, rest)
+    one false e rest = rw e rest

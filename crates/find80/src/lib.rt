@@ -7,8 +7,10 @@
 
 mod candidates;
 mod dump;
+mod listing;
 mod sieve;
 mod solving;
 
 pub use candidates::Candidates;
 pub use dump::byte_at;
+pub use listing::places;

@@ -28,11 +28,26 @@ pub(crate) fn is_plain(byte: &CodeByte) -> bool
 fn ring_of(alloc: Global, first: u16, dump: &[u8]) -> Result<Vec<u16>, AllocError>
     ensures { IfOk result (λ ring. IsRing first dump.now ring.items) }
 {
-    let mut ring = vec![in alloc; NO_BYTE; 2 * ADDRESSES]?;
+    let mut ring = empty_ring(alloc, 2 * ADDRESSES)?;
     for at in 0..2 * ADDRESSES {
         ring[at] = entry_at(first, dump, (at % ADDRESSES) as u16);
     }
     Ok(ring)
+}
+
+/// Entries of no bytes.
+fn empty_ring(alloc: Global, count: usize) -> Result<Vec<u16>, AllocError>
+    ensures { IfOk result (λ ring. length ring.items ≡ count) }
+{
+    Ok(vec![in alloc; NO_BYTE; count]?)
+}
+
+/// All addresses.
+fn all_addresses(alloc: Global, count: usize) -> Result<Vec<bool>, AllocError>
+    ensures whole { IfOk result (λ alive. length alive.items ≡ count) }
+    ensures each { IfOk result (λ alive. (a : ℕ) → a < count → slice_index_or alive.items a false ≡ true) }
+{
+    Ok(vec![in alloc; true; count]?)
 }
 
 /// The byte at an address, or `NO_BYTE`.
@@ -55,13 +70,29 @@ pub(crate) fn sieve(
     ensures { IfOk result (λ alive. AreSieved first dump.now code.now alive.items) }
 {
     let ring = ring_of(alloc, first, dump)?;
-    let mut alive = vec![in alloc; true; ADDRESSES]?;
+    let mut alive = all_addresses(alloc, ADDRESSES)?;
     for byte in code {
-        if is_plain(byte) && !drop_others(&mut alive, &ring, usize::from(byte.offset), byte.addend % 256) {
-            break;
+        if !sieve_by(&mut alive, &ring, *byte) {
+            return Ok(alive);
         }
     }
     Ok(alive)
+}
+
+/// Drops each address at which the dump hasn't this byte, if it is one outside fixups, and answers whether any may be left.
+fn sieve_by(alive: &mut Vec<bool>, ring: &[u16], byte: CodeByte) -> bool
+    requires all { length alive.old.items ≡ 65536 }
+    requires ring { length ring.now ≡ 131072 }
+    ensures whole { length alive.new.items ≡ 65536 }
+    ensures each { (first : ℕ) (dump : List ℕ) → IsRing first dump ring.now → (a : ℕ) → a < 65536 →
+        slice_index_or alive.new.items a false ≡ (slice_index_or alive.old.items a false && fits_if_plain first dump a byte) }
+    ensures none { result ≡ false → (a : ℕ) → a < 65536 → slice_index_or alive.new.items a false ≡ false }
+{
+    if is_plain(&byte) {
+        drop_others(alive, ring, usize::from(byte.offset), byte.addend % 256)
+    } else {
+        true
+    }
 }
 
 /// Drops each address after which by so many the ring has another entry, and answers whether any is left.
