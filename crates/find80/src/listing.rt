@@ -5,7 +5,7 @@ ghost use Rattle.find80.specs.Places.{AreBelow, ArePlaces, LiesAt, is_plain};
 
 use crate::candidates::Candidates;
 use crate::sieve::{is_plain, sieve};
-use crate::solving::solve;
+use crate::solving::lies_at;
 use pattern80::CodeByte;
 use std::alloc::{AllocError, Global};
 
@@ -33,7 +33,7 @@ pub fn places(
     let mut table = vec![in alloc; Candidates::Any; count]?;
     let mut places = Vec::new(alloc);
     for at in 0..65536usize {
-        if alive[at] && solve(first, dump, at as u16, &rest, &mut table) {
+        if alive[at] && lies_at(first, dump, at as u16, &rest, &mut table) {
             places.push(at as u16)?;
         }
     }

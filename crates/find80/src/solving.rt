@@ -4,7 +4,7 @@ ghost use Rattle.std.specs.Prelude.{◌≡◌, ℕ, ◌<◌, ◌≤◌, ◌&&◌
 ghost use Rattle.pattern80.specs.CodeBytes.{number_of};
 ghost use Rattle.find80.specs.declared.candidates.Candidates.TheVariants.{Any};
 ghost use Rattle.find80.specs.Candidates.{is_candidate};
-ghost use Rattle.find80.specs.Places.{Describes, HasNone, AreBelow, in_table, fits, fits_for};
+ghost use Rattle.find80.specs.Places.{Describes, LiesAt, HasNone, AreBelow, in_table, fits, fits_for};
 
 use crate::candidates::Candidates;
 use crate::dump::byte_at;
@@ -32,6 +32,23 @@ pub(crate) fn solve(
         }
     }
     true
+}
+
+/// Whether there are values with which the dump has all these bytes with CODE at the address.
+pub(crate) fn lies_at(
+    first: u16,
+    dump: &[u8],
+    address: u16,
+    code: &[CodeByte],
+    table: &mut Vec<Candidates>,
+) -> bool
+    requires two { 2 ≤ length table.old.items }
+    requires below { AreBelow (length table.old.items) code.now }
+    ensures whole { length table.new.items ≡ length table.old.items }
+    ensures yes { result ≡ true → LiesAt first dump.now code.now address }
+    ensures no { result ≡ false → LiesAt first dump.now code.now address → ⊥ }
+{
+    solve(first, dump, address, code, table)
 }
 
 /// Every word for each value, but for absolute bytes and CODE, whose values are known.
