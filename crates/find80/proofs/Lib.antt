@@ -2,3 +2,4 @@ pub mod SolveLemmas
 pub mod LiesLemmas
 pub mod SieveLemmas
 pub mod PlaceLemmas
+pub mod WordLemmas

@@ -10,7 +10,9 @@ mod dump;
 mod listing;
 mod sieve;
 mod solving;
+mod words;
 
 pub use candidates::Candidates;
 pub use dump::byte_at;
 pub use listing::places;
+pub use words::{Word, words_at};

@@ -4,11 +4,11 @@
 //! | Item | What it is |
 //! |---|---|
 //! | [`CodeByte`], [`Half`] | a byte of the code: half of the word that is a target's value plus an addend |
-//! | [`number_of`] | the number by which a target's value goes |
+//! | [`number_of`], [`target_of`] | the number by which a target's value goes, and the target of a number |
 #![tactic(auto)]
 
 mod code_byte;
 mod number;
 
 pub use code_byte::{CodeByte, Half};
-pub use number::number_of;
+pub use number::{number_of, target_of};

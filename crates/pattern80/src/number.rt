@@ -1,4 +1,4 @@
-ghost use Rattle.std.specs.Prelude.{◌≡◌};
+ghost use Rattle.std.specs.Prelude.{◌≡◌, ◌<◌};
 ghost use Rattle.pattern80.specs.CodeBytes.{number_of};
 
 use omf_parts::Target;
@@ -10,5 +10,17 @@ pub fn number_of(target: Target) -> usize
     match target {
         Target::Segment(id) => usize::from(id),
         Target::External(index) => 256 + usize::from(index),
+    }
+}
+
+/// The target of a number.
+pub fn target_of(number: usize) -> Target
+    requires { number < 65792 }
+    ensures { number_of result ≡ number }
+{
+    if number < 256 {
+        Target::Segment(number as u8)
+    } else {
+        Target::External((number - 256) as u16)
     }
 }
