@@ -40,10 +40,28 @@ pub fn words_at(
     ensures none { IfOk result (λ found. IfNone found (LiesAt first dump.now code.now address → ⊥)) }
 {
     let mut table = any_table(alloc, count)?;
-    if !solve(first, dump, address, code, &mut table) {
+    words_by(alloc, first, dump, code, address, &mut table)
+}
+
+/// The words of the targets, found in a table of their candidates.
+fn words_by(
+    alloc: Global,
+    first: u16,
+    dump: &[u8],
+    code: &[CodeByte],
+    address: u16,
+    table: &mut [Candidates],
+) -> Result<Option<Vec<Word>>, AllocError>
+    requires two { 2 ≤ length table.old }
+    requires few { length table.old ≤ 65792 }
+    requires below { AreBelow (length table.old) code.now }
+    ensures some { IfOk result (λ found. IfSome found (λ words. AreOnlyWords first dump.now code.now address (length table.old) words.items)) }
+    ensures none { IfOk result (λ found. IfNone found (LiesAt first dump.now code.now address → ⊥)) }
+{
+    if !solve(first, dump, address, code, table) {
         return Ok(None);
     }
-    let words = single_words(alloc, &table)?;
+    let words = single_words(alloc, table)?;
     Ok(Some(words))
 }
 
