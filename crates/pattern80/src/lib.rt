@@ -9,6 +9,8 @@
 
 mod code_byte;
 mod number;
+mod resolving;
 
 pub use code_byte::{CodeByte, Half};
 pub use number::{number_of, target_of};
+pub use resolving::{Resolved, resolve};
