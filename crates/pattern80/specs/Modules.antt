@@ -1,7 +1,7 @@
 -- The bytes that the contents of a module define in CODE, each as a half of a value plus an addend.
 -- (8080 Object Module Formats: content, relocation, intersegment reference and external reference records; ISIS-II User's
 -- Guide, LOCATE: of two contents over a byte the later one stands.)
-use Rattle.std.specs.Prelude.{◌≡◌, ℕ, suc, ◌+◌, ◌-◌, ◌*◌, ◌%◌, ◌==◌, nat_eq, nat_le, nat_lt, Bool, ◌&&◌, if◌then◌else◌, Option, Some, None, List, [], ◌∷◌, length, map, filter, filter_map, find, take, slice_index, slice_index_or}
+use Rattle.std.specs.Prelude.{◌≡◌, ℕ, suc, ◌+◌, ◌-◌, ◌*◌, ◌%◌, ◌==◌, nat_eq, nat_le, nat_lt, Bool, ◌&&◌, if◌then◌else◌, Option, Some, None, List, [], ◌∷◌, length, map, filter, filter_map, find, take, slice_index, slice_index_or, ◌≤◌, IsTrue}
 use Rattle.std.specs.List.{last_or, list_any, range_with_len}
 use Rattle.std.specs.Option.{option_map_or}
 use Rattle.std.specs.Cmp.Lexicographic.{pointwise}
@@ -13,8 +13,8 @@ use Rattle.omf_parts.specs.declared.fixup.Target.TheVariants as target
 use Rattle.omf_parts.specs.Contents.{ContentValue, offsets_by}
 use Rattle.omf_parts.specs.Segments.{code_id, segment_in}
 use Rattle.omf_parts.specs.Modules.{ModuleValue}
-use Rattle.omf_relocation.specs.ImageByte.{name_at}
-use Rattle.omf_relocation.specs.Patches.{word_in_bytes}
+use Rattle.omf_relocation.specs.ImageByte.{name_at, patch_with}
+use Rattle.omf_relocation.specs.Patches.{word_in_bytes, is_inside_bytes}
 use Rattle.pattern80.specs.declared.code_byte.Half.TheVariants as half
 use Rattle.pattern80.specs.declared.code_byte.CodeByte.{CodeByte}
 use Rattle.pattern80.specs.declared.resolving.Resolved.{Resolved}
@@ -83,3 +83,8 @@ code_length m = (segment_in m.segments code_id).length
 -- all of them, in ascending order of offsets
 abbrev pub code_bytes : ModuleValue → List CodeByte
 code_bytes m = filter_map (code_byte_at m) (range_with_len 0 (code_length m))
+
+-- a fixup lies in a content
+pub record IsWithin (c : ContentValue) (f : Fixup) : Type 0 where
+  pub begin : c.offset ≤ f.offset
+  pub inside : IsTrue (is_inside_bytes (length c.bytes) (patch_with (λ _. 0) c.offset f))

@@ -9,6 +9,7 @@
 
 mod code_byte;
 mod number;
+mod reading;
 mod resolving;
 
 pub use code_byte::{CodeByte, Half};

@@ -19,14 +19,14 @@ pub struct Resolved {
 
 /// What a target of a fixup in the module stands for. A segment stands for its base; an external that the module itself declares
 /// for the public's place, and another one for the word of the first external of that name.
-pub fn resolve(module: &Module, target: Target) -> Resolved
-    requires { IsTrue (has_target module.now.commons (length module.now.externals) target) }
-    ensures { result ≡ resolved module.now target }
+pub fn resolve(source: &Module, target: Target) -> Resolved
+    requires { IsTrue (has_target source.now.commons (length source.now.externals) target) }
+    ensures { result ≡ resolved source.now target }
 {
     match target {
         Target::Segment(_) => Resolved { target, addend: 0 },
         Target::External(index) => {
-            resolve_external(module.publics(), module.externals(), index)
+            resolve_external(source.publics(), source.externals(), index)
         }
     }
 }

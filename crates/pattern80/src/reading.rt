@@ -1,0 +1,102 @@
+//! The bytes of a module's code.
+
+ghost use Rattle.omf_body.specs.declared.field.Field.TheVariants as field;
+ghost use Rattle.omf_relocation.specs.Patches.{word_in_bytes};
+ghost use Rattle.std.specs.Prelude.{◌==◌, ◌||◌, ◌≡◌, ℕ, ◌<◌, ◌≤◌, ◌+◌, ◌-◌, ◌&&◌, if◌then◌else◌, Some, None, List, length, slice_index_or, filter_map, IsTrue, IfOk};
+ghost use Rattle.std.specs.List.{range_with_len};
+ghost use Rattle.omf_parts.specs.Rules.{has_target};
+ghost use Rattle.omf_relocation.specs.SoundModules.{HasItsFixups, LiesIn};
+ghost use Rattle.pattern80.specs.Modules.{code_bytes, code_length, covers, has_byte, fixup_byte, byte_in, plain_byte, field_byte, IsWithin};
+
+use crate::code_byte::{CodeByte, Half};
+use crate::resolving::{Resolved, resolve};
+use omf_parts::{Content, Field, Fixup, Module, Target};
+use std::alloc::{AllocError, Global};
+
+/// Writes a fixup's bytes to their offsets.
+fn place_fixup(table: &mut [Option<CodeByte>], source: &Module, content: &Content, fixup: Fixup)
+    requires short { length table.old ≤ 65535 }
+    requires fits { content.now.offset + length content.now.bytes ≤ length table.old }
+    requires within { IsWithin content.now fixup }
+    requires target { IsTrue (has_target source.now.commons (length source.now.externals) fixup.target) }
+    ensures whole { length table.new ≡ length table.old }
+    ensures each { (o : ℕ) → o < length table.old → slice_index_or table.new o None ≡
+        (if covers o content.now && has_byte content.now (o - content.now.offset) fixup
+        then Some (fixup_byte source.now content.now (o - content.now.offset) fixup) else slice_index_or table.old o None) }
+{
+    let resolved = resolve(source, fixup.target);
+    match fixup.field {
+        Field::Low => place_low(table, content, fixup.offset, resolved),
+        Field::High => place_high(table, content, fixup.offset, resolved),
+        Field::Both => place_both(table, content, fixup.offset, resolved),
+    }
+}
+
+/// Writes the byte of a fixup of a low byte.
+fn place_low(table: &mut [Option<CodeByte>], content: &Content, offset: u16, resolved: Resolved)
+    requires fits { content.now.offset + length content.now.bytes ≤ length table.old }
+    requires begin { content.now.offset ≤ offset }
+    requires within { offset < content.now.offset + length content.now.bytes }
+    ensures whole { length table.new ≡ length table.old }
+    ensures each { (o : ℕ) → o < length table.old → slice_index_or table.new o None ≡
+        (if o == offset then Some (field_byte field.Low resolved content.now (offset - content.now.offset) (o - content.now.offset)) else slice_index_or table.old o None) }
+{
+    let byte = content.bytes[usize::from(offset - content.offset)];
+    table[usize::from(offset)] = Some(CodeByte {
+        offset,
+        half: Half::Low,
+        target: resolved.target,
+        addend: resolved.addend.wrapping_add(u16::from(byte)),
+    });
+}
+
+/// Writes the byte of a fixup of a high byte.
+fn place_high(table: &mut [Option<CodeByte>], content: &Content, offset: u16, resolved: Resolved)
+    requires fits { content.now.offset + length content.now.bytes ≤ length table.old }
+    requires begin { content.now.offset ≤ offset }
+    requires within { offset < content.now.offset + length content.now.bytes }
+    ensures whole { length table.new ≡ length table.old }
+    ensures each { (o : ℕ) → o < length table.old → slice_index_or table.new o None ≡
+        (if o == offset then Some (field_byte field.High resolved content.now (offset - content.now.offset) (o - content.now.offset)) else slice_index_or table.old o None) }
+{
+    let byte = content.bytes[usize::from(offset - content.offset)];
+    table[usize::from(offset)] = Some(CodeByte {
+        offset,
+        half: Half::High,
+        target: resolved.target,
+        addend: resolved.addend.wrapping_add(u16::from(byte) * 256),
+    });
+}
+
+/// Writes the bytes of a fixup of a word.
+fn place_both(table: &mut [Option<CodeByte>], content: &Content, offset: u16, resolved: Resolved)
+    requires short { length table.old ≤ 65535 }
+    requires fits { content.now.offset + length content.now.bytes ≤ length table.old }
+    requires begin { content.now.offset ≤ offset }
+    requires within { offset + 1 < content.now.offset + length content.now.bytes }
+    ensures whole { length table.new ≡ length table.old }
+    ensures each { (o : ℕ) → o < length table.old → slice_index_or table.new o None ≡
+        (if o == offset || o == offset + 1 then Some (field_byte field.Both resolved content.now (offset - content.now.offset) (o - content.now.offset)) else slice_index_or table.old o None) }
+{
+    let addend = resolved.addend.wrapping_add(word_at(&content.bytes, usize::from(offset - content.offset)));
+    table[usize::from(offset)] = Some(CodeByte {
+        offset,
+        half: Half::Low,
+        target: resolved.target,
+        addend,
+    });
+    table[usize::from(offset) + 1] = Some(CodeByte {
+        offset: offset + 1,
+        half: Half::High,
+        target: resolved.target,
+        addend,
+    });
+}
+
+/// A word in the bytes, low byte first.
+fn word_at(bytes: &[u8], at: usize) -> u16
+    requires { at + 1 < length bytes.now }
+    ensures { result ≡ word_in_bytes bytes.now at }
+{
+    u16::from_le_bytes([bytes[at], bytes[at + 1]])
+}
