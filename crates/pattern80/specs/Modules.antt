@@ -88,3 +88,8 @@ code_bytes m = filter_map (code_byte_at m) (range_with_len 0 (code_length m))
 pub record IsWithin (c : ContentValue) (f : Fixup) : Type 0 where
   pub begin : c.offset ≤ f.offset
   pub inside : IsTrue (is_inside_bytes (length c.bytes) (patch_with (λ _. 0) c.offset f))
+
+-- of each offset in CODE the byte there
+pub record IsTable (m : ModuleValue) (table : List (Option CodeByte)) : Type 0 where
+  pub whole : length table ≡ code_length m
+  pub each : (o : ℕ) → o < code_length m → slice_index_or table o None ≡ code_byte_at m o
