@@ -2,8 +2,9 @@
 
 ghost use Rattle.omf_body.specs.declared.field.Field.TheVariants as field;
 ghost use Rattle.omf_relocation.specs.Patches.{word_in_bytes};
-ghost use Rattle.std.specs.Prelude.{◌==◌, ◌||◌, ◌≡◌, ℕ, ◌<◌, ◌≤◌, ◌+◌, ◌-◌, ◌&&◌, if◌then◌else◌, Some, None, List, length, slice_index_or, filter_map, IsTrue, IfOk};
+ghost use Rattle.std.specs.Prelude.{◌==◌, ◌||◌, ◌≡◌, ℕ, ◌<◌, ◌≤◌, ◌+◌, ◌-◌, ◌&&◌, if◌then◌else◌, Option, Some, None, List, length, slice_index_or, filter_map, IsTrue, IfOk};
 ghost use Rattle.std.specs.List.{range_with_len};
+ghost use Rattle.pattern80.specs.declared.code_byte.CodeByte.{CodeByte};
 ghost use Rattle.omf_parts.specs.Rules.{has_target};
 ghost use Rattle.omf_relocation.specs.SoundModules.{HasItsFixups, LiesIn};
 ghost use Rattle.pattern80.specs.Modules.{code_bytes, code_length, covers, has_byte, fixup_byte, byte_in, plain_byte, field_byte, IsWithin, IsTable};
@@ -83,9 +84,27 @@ fn place(table: &mut [Option<CodeByte>], source: &Module, content: &Content)
         (if covers o content.now then Some (byte_in source.now o content.now) else slice_index_or table.old o None) }
 {
     place_plain(table, content);
-    let count = content.fixups.len();
-    for done in 0..count {
-        place_fixup(table, source, content, content.fixups[count - 1 - done]);
+    place_fixups(table, source, content, &content.fixups);
+}
+
+/// Writes the bytes of the content's fixups over its others.
+fn place_fixups(
+    table: &mut [Option<CodeByte>],
+    source: &Module,
+    content: &Content,
+    fixups: &[Fixup],
+)
+    requires short { length table.old ≤ 65535 }
+    requires fits { content.now.offset + length content.now.bytes ≤ length table.old }
+    requires same { fixups.now ≡ content.now.fixups }
+    requires fixups { HasItsFixups source.now content.now }
+    ensures whole { length table.new ≡ length table.old }
+    ensures each { (first : Option CodeByte) (o : ℕ) → o < length table.old →
+        slice_index_or table.old o None ≡ (if covers o content.now then Some (plain_byte content.now (o - content.now.offset)) else first) →
+        slice_index_or table.new o None ≡ (if covers o content.now then Some (byte_in source.now o content.now) else first) }
+{
+    for done in 0..fixups.len() {
+        place_fixup(table, source, content, fixups[fixups.len() - 1 - done]);
     }
 }
 
