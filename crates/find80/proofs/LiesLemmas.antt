@@ -1,18 +1,16 @@
 -- What a table of the words that each value may be says of where code lies.
-use Rattle.std.specs.Prelude.{◌≡◌, ℕ, zero, suc, ◌+◌, ◌-◌, ◌/◌, ◌%◌, ◌<◌, ◌≤◌, ◌==◌, ◌&&◌, ◌||◌, not, if◌then◌else◌, nat_lt, Bool, true, false, Option, Some, None, List, [], ◌∷◌, length, filter, slice_index_or, IsTrue}
+use Rattle.std.specs.Prelude.{◌≡◌, ℕ, zero, suc, ◌+◌, ◌%◌, ◌<◌, ◌≤◌, ◌==◌, ◌||◌, not, Bool, true, false, Option, Some, None, List, [], ◌∷◌, length, filter, slice_index_or}
 use Rattle.std.specs.List.{AllByRecursion, list_all}
 use Rattle.std.specs.Option.{option_map_or}
-use Rattle.std.proofs.Common.{refl, sym, ◌∙◌, ap, subst, arith, get_or, take}
-use Rattle.std.proofs.lemmas.Bool.{and_parts, and_from, and_left, eq-eqb, eqb-true, eqb-false, ne_eqb, leb-true, both_ways, true≢false}
+use Rattle.std.proofs.Common.{refl, sym, ◌∙◌, ap, subst, arith}
+use Rattle.std.proofs.lemmas.Bool.{and_parts, and_from, eq-eqb, eqb-true, ne_eqb, true≢false}
 use Rattle.std.proofs.lemmas.Bool.Decides.{nat_tests}
-use Rattle.pattern80.specs.declared.code_byte.Half.{Half}
-use Rattle.pattern80.specs.declared.code_byte.Half.TheVariants as half
 use Rattle.pattern80.specs.declared.code_byte.CodeByte.{CodeByte}
 use Rattle.pattern80.specs.CodeBytes.{number_of, byte_by, half_of, is_low}
 use Rattle.find80.specs.declared.candidates.Candidates.{Candidates}
 use Rattle.find80.specs.declared.candidates.Candidates.TheVariants.{Any, Low, Window}
-use Rattle.find80.specs.Candidates.{is_candidate, is_half, is_in_window}
-use Rattle.find80.specs.Places.{dump_byte, LiesWith, LiesAt, fits, is_known, fits_for, allows, in_table, Describes, HasNone, AreBelow, is_plain, fits_if_plain}
+use Rattle.find80.specs.Candidates.{is_candidate, is_half}
+use Rattle.find80.specs.Places.{dump_byte, LiesWith, LiesAt, fits, is_known, fits_for, allows, Describes, HasNone, AreBelow, is_plain, fits_if_plain}
 
 -- a word only counts modulo 65536
 reduced : (x a : ℕ) → (x % 65536 + a) % 65536 ≡ (x + a) % 65536
@@ -61,9 +59,10 @@ all_have first dump address count value [] below h = tt
 all_have first dump address count value (b ∷ code) below h =
     let n = number_of b.target in
     let mine = and_parts _ _ (h n below.0) in
-    let fit : fits first dump address b (value n % 65536) ≡ true = ap (λ (t : Bool). not t || fits first dump address b (value n % 65536)) (sym (eq-eqb n n refl)) ∙ mine.0 in
-    (from_fits (dump_byte first dump ((address + b.offset) % 65536)) b value fit,
-     all_have first dump address count value code below.1 (λ k lt. (and_parts _ _ (h k lt)).1))
+    let fit : fits first dump address b (value n % 65536) ≡ true = ap (λ (t : Bool). not t || fits first dump address b (value n % 65536)) (sym (eq-eqb n n refl)) ∙ mine.0 in (
+      from_fits (dump_byte first dump ((address + b.offset) % 65536)) b value fit,
+      all_have first dump address count value code below.1 (λ k lt. (and_parts _ _ (h k lt)).1),
+    )
 
 pub allowed_lies : (first : ℕ) (dump : List ℕ) (code : List CodeByte) (address count : ℕ) (value : ℕ → ℕ) → AreBelow count code
     → value 0 ≡ 0 → value 1 ≡ address
@@ -170,10 +169,11 @@ join-others first dump address value (b ∷ bs) z p k = one (is_plain b) refl (a
         → (list_all (fits_if_plain first dump address) bs ≡ true → HasAll first dump address value (not_plain bs) → HasAll first dump address value bs)
         → HasAll first dump address value (b ∷ bs)
     one true e parts k rest =
-        let fit : fits first dump address b 0 ≡ true = ap (λ (t : Bool). not t || fits first dump address b 0) (sym e) ∙ parts.0 in
-        (from_fits (dump_byte first dump ((address + b.offset) % 65536)) b value
-            (subst (λ (x : ℕ). fits first dump address b x ≡ true) (sym (plain-here b value z e)) fit),
-         rest parts.1 (rw e at k))
+        let fit : fits first dump address b 0 ≡ true = ap (λ (t : Bool). not t || fits first dump address b 0) (sym e) ∙ parts.0 in (
+          from_fits (dump_byte first dump ((address + b.offset) % 65536)) b value
+              (subst (λ (x : ℕ). fits first dump address b x ≡ true) (sym (plain-here b value z e)) fit),
+          rest parts.1 (rw e at k),
+        )
     one false e parts k rest =
         let all = rw e at k in
         (all.0, rest parts.1 all.1)

@@ -1,16 +1,15 @@
 -- The places before an address, as the next one is looked at.
-use Rattle.std.specs.Prelude.{◌≡◌, ◌≢◌, ℕ, zero, suc, ◌+◌, ◌<◌, ◌≤◌, ◌==◌, ◌&&◌, ◌||◌, not, Bool, true, false, List, [], ◌∷◌, ◌++◌, length, filter, slice_index_or}
-use Rattle.std.specs.List.{AllByRecursion, AllPairs, list_all, list_any}
+use Rattle.std.specs.Prelude.{◌≡◌, ℕ, zero, suc, ◌+◌, ◌<◌, ◌==◌, ◌||◌, not, Bool, true, false, List, [], ◌∷◌, ◌++◌, length, filter, slice_index_or}
+use Rattle.std.specs.List.{list_any}
 use Rattle.std.proofs.Common.{refl, sym, ◌∙◌, ap, subst, arith, get_or, ◌⊎◌, inl, inr}
 use Rattle.std.proofs.lemmas.Bool.{eqb-true, eq-eqb, or_cases, true≢false, cases_lt}
 use Rattle.std.proofs.lemmas.List.Recursion.{or_at}
 use Rattle.std.proofs.lemmas.List.Folds.{list_any-append}
 use Rattle.std.proofs.lemmas.List.Quantifiers.{all_pairs_push}
 use Rattle.pattern80.specs.declared.code_byte.CodeByte.{CodeByte}
-use Rattle.find80.specs.declared.candidates.Candidates.{Candidates}
-use Rattle.find80.specs.Places.{LiesAt, is_plain, fits_if_plain, AreBelow, ArePlaces, is_listed, Describes, HasNone}
+use Rattle.find80.specs.Places.{LiesAt, is_plain, AreBelow, ArePlaces, is_listed}
 use Rattle.find80.specs.Sieve.{AreSieved}
-use Rattle.find80.proofs.LiesLemmas.{described_lies, none_lies, lies_plain, lies_others, parts_lie, below_filter}
+use Rattle.find80.proofs.LiesLemmas.{lies_plain, lies_others, parts_lie, below_filter}
 
 before_or_here : (at a : ℕ) → a < at + 1 → (a < at) ⊎ (at ≡ a)
 before_or_here at a lt = elim (cases_lt a at) [ inl k ↦ inl k | inr k ↦ inr (omega arith) ]

@@ -1,15 +1,13 @@
 -- The entries of a dump by address, and the addresses that are left.
-use Rattle.std.specs.Prelude.{◌≡◌, ◌≢◌, ℕ, zero, suc, ◌+◌, ◌-◌, ◌/◌, ◌%◌, ◌<◌, ◌≤◌, ◌==◌, ◌&&◌, ◌||◌, not, Bool, true, false, Option, Some, None, List, [], ◌∷◌, length, slice_index, slice_index_or}
-use Rattle.std.specs.List.{list_all}
+use Rattle.std.specs.Prelude.{◌≡◌, ◌≢◌, ℕ, ◌+◌, ◌%◌, ◌<◌, ◌==◌, ◌&&◌, ◌||◌, not, Bool, true, false, Option, Some, None, List, length, slice_index, slice_index_or}
 use Rattle.std.specs.Option.{option_map_or}
-use Rattle.std.proofs.Common.{refl, sym, ◌∙◌, ap, subst, arith, get_or, take, below_more, get_or-set_other, get_or-set_same, set}
-use Rattle.std.proofs.lemmas.Bool.{and_parts, and_from, eqb-true, eq-eqb, ne_eqb, cases_Bool}
+use Rattle.std.proofs.Common.{refl, sym, ◌∙◌, ap, arith, get_or, take, below_more, get_or-set_other, get_or-set_same, set}
+use Rattle.std.proofs.lemmas.Bool.{and_parts, ne_eqb}
 use Rattle.std.proofs.lemmas.List.Folds.{list_all_more}
 use Rattle.pattern80.specs.declared.code_byte.Half.{Half}
 use Rattle.pattern80.specs.declared.code_byte.Half.TheVariants as half
 use Rattle.pattern80.specs.declared.code_byte.CodeByte.{CodeByte}
 use Rattle.pattern80.specs.CodeBytes.{number_of, half_of, is_low}
-use Rattle.find80.specs.Candidates.{is_half}
 use Rattle.find80.specs.Places.{dump_byte, fits, is_plain, fits_if_plain}
 use Rattle.find80.specs.Sieve.{entry_at, IsRing, AreSieved}
 use Rattle.find80.proofs.SolveLemmas.{iff_bool, all_first}

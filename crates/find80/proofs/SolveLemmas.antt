@@ -1,8 +1,8 @@
 -- Bytes that are checked one after another.
-use Rattle.std.specs.Prelude.{◌≡◌, ℕ, zero, suc, ◌+◌, ◌<◌, ◌==◌, ◌&&◌, ◌||◌, not, Bool, true, false, List, [], ◌∷◌, length}
+use Rattle.std.specs.Prelude.{◌≡◌, ℕ, zero, suc, ◌+◌, ◌<◌, ◌&&◌, Bool, true, false, List, [], ◌∷◌, length}
 use Rattle.std.specs.List.{AllByRecursion, list_all}
-use Rattle.std.proofs.Common.{refl, sym, ◌∙◌, ap, arith, get_or, take}
-use Rattle.std.proofs.lemmas.Bool.{and_parts, and_from, and_left, eq-eqb, both_ways}
+use Rattle.std.proofs.Common.{refl, sym, ◌∙◌, arith, get_or, take}
+use Rattle.std.proofs.lemmas.Bool.{and_parts, and_from}
 use Rattle.std.proofs.lemmas.List.Folds.{list_all_more}
 use Rattle.omf_parts.specs.declared.fixup.Target.TheVariants as target
 use Rattle.pattern80.specs.declared.code_byte.Half.TheVariants as half
@@ -30,10 +30,10 @@ pub all_fail : {A : Type 0} (known : Bool) (p : A → Bool) (xs : List A) (i : �
     → ((known && list_all p (take i xs)) && p (get_or xs i d)) ≡ false → (known && list_all p xs) ≡ false
 all_fail known p xs i d lt h = iff_bool _ false
     (λ e. let parts = and_parts known (list_all p xs) e in
-        let before = all_first p xs i parts.1 in
-        let more = all_first p xs (i + 1) parts.1 in
-        let here = and_parts _ _ (sym (list_all_more p xs i d lt) ∙ more) in
-        sym h ∙ and_from _ _ (and_from _ _ parts.0 before) here.1)
+    let before = all_first p xs i parts.1 in
+    let more = all_first p xs (i + 1) parts.1 in
+    let here = and_parts _ _ (sym (list_all_more p xs i d lt) ∙ more) in
+    sym h ∙ and_from _ _ (and_from _ _ parts.0 before) here.1)
     (λ e. grind arith)
 
 -- what holds of each holds at an index

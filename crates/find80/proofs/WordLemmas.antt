@@ -1,16 +1,13 @@
 -- The values that have one candidate are those that can have one word only.
-use Rattle.std.specs.Prelude.{◌≡◌, ◌≢◌, ◌↔◌, ℕ, zero, suc, ◌+◌, ◌-◌, ◌%◌, ◌<◌, ◌≤◌, ◌==◌, ◌&&◌, ◌||◌, not, if◌then◌else◌, nat_le, nat_lt, Bool, true, false, List, [], ◌∷◌, ◌++◌, length, slice_index_or}
-use Rattle.std.specs.List.{AllByRecursion, list_all, list_any}
-use Rattle.std.proofs.Common.{refl, sym, ◌∙◌, ap, subst, arith, get_or, cond}
-use Rattle.std.proofs.lemmas.Bool.{and_parts, and_from, eqb-true, eqb-false, eq-eqb, ne_eqb, leb-true, le-leb, true≢false, lt-ltb}
-use Rattle.std.proofs.lemmas.Bool.Decides.{nat_tests}
+use Rattle.std.specs.Prelude.{◌≡◌, ℕ, zero, suc, ◌+◌, ◌-◌, ◌%◌, ◌<◌, ◌≤◌, ◌==◌, ◌&&◌, if◌then◌else◌, nat_le, nat_lt, Bool, true, false, List, length, slice_index_or}
+use Rattle.std.proofs.Common.{refl, sym, ◌∙◌, ap, arith}
+use Rattle.std.proofs.lemmas.Bool.{and_parts, and_from, eqb-true, eq-eqb, ne_eqb, leb-true, le-leb, true≢false, lt-ltb}
 use Rattle.pattern80.specs.declared.code_byte.CodeByte.{CodeByte}
-use Rattle.pattern80.specs.CodeBytes.{number_of}
 use Rattle.find80.specs.declared.candidates.Candidates.{Candidates}
 use Rattle.find80.specs.declared.candidates.Candidates.TheVariants.{Any, Low, Window}
 use Rattle.find80.specs.declared.words.Word.{Word}
-use Rattle.find80.specs.Candidates.{is_candidate, is_in_window}
-use Rattle.find80.specs.Places.{LiesWith, LiesAt, IsOnly, AreBelow, Describes, in_table, allows, is_known}
+use Rattle.find80.specs.Candidates.{is_candidate}
+use Rattle.find80.specs.Places.{LiesWith, LiesAt, IsOnly, AreBelow, Describes, allows}
 use Rattle.find80.specs.Words.{has_word, AreOnlyWords, is_single, AreSingle}
 use Rattle.find80.proofs.LiesLemmas.{lies_allowed, allowed_lies}
 
@@ -72,6 +69,7 @@ module _ (first : ℕ) (dump : List ℕ) (code : List CodeByte) (address count :
     where
       at_other : (n : ℕ) → n < number → changed n ≡ value n
       at_other n l = ap (λ (t : Bool). if t then word else value n) (ne_eqb n number (λ e. omega arith))
+
       one : (n : ℕ) (t : Bool) → (n == number) ≡ t → allows first dump code address n (changed n % 65536) ≡ true
       one n true e =
           let is : n ≡ number = eqb-true _ _ e in
@@ -96,17 +94,19 @@ pub only_words : (first : ℕ) (dump : List ℕ) (code : List CodeByte) (address
 only_words first dump code address count table words lt below whole h lies single = record {
   lies = lies;
   each = λ number word two less. (
-    (λ e. let s = is-single number word e in
-        (single-below (slice_index_or table number Any) word s,
-         λ value with. single_only (slice_index_or table number Any) word (value number % 65536) (omega arith) s
-             (h.each number (value number % 65536) (omega arith) (omega arith) ∙ lies_allowed first dump code address value lt with number))),
+    (λ e. let s = is-single number word e in (
+      single-below (slice_index_or table number Any) word s,
+      λ value with. single_only (slice_index_or table number Any) word (value number % 65536) (omega arith) s
+          (h.each number (value number % 65536) (omega arith) (omega arith) ∙ lies_allowed first dump code address value lt with number),
+    )),
     (λ p. single.each number word ∙ and_from _ _ (le-leb 2 number two) (and_from _ _ (lt-ltb number count less)
         (only_single (slice_index_or table number Any) word (λ x lx cand.
-            other_word first dump code address count lt below lies.value lies.lies number x two lx
-                (sym (h.each number x (omega arith) lx) ∙ cand) word p.1)))));
+        other_word first dump code address count lt below lies.value lies.lies number x two lx
+        (sym (h.each number x (omega arith) lx) ∙ cand) word p.1)))),
+  );
 }
   where
     is-single : (number word : ℕ) → has_word words number word ≡ true → is_single (slice_index_or table number Any) word ≡ true
     is-single number word e =
         (and_parts (nat_lt number count) (is_single (slice_index_or table number Any) word)
-            (and_parts (nat_le 2 number) (nat_lt number count && is_single (slice_index_or table number Any) word) (sym (single.each number word) ∙ e)).1).1
+        (and_parts (nat_le 2 number) (nat_lt number count && is_single (slice_index_or table number Any) word) (sym (single.each number word) ∙ e)).1).1

@@ -1,9 +1,9 @@
 -- The entries of a dump by address, and the addresses that are left.
-use Rattle.std.specs.Prelude.{◌≡◌, ℕ, ◌+◌, ◌%◌, ◌<◌, ◌==◌, ◌&&◌, Bool, true, false, List, length, slice_index, slice_index_or}
+use Rattle.std.specs.Prelude.{◌≡◌, ℕ, ◌+◌, ◌%◌, ◌<◌, ◌==◌, ◌&&◌, Bool, false, List, length, slice_index, slice_index_or}
 use Rattle.std.specs.List.{list_all}
 use Rattle.std.specs.Option.{option_map_or}
 use Rattle.pattern80.specs.declared.code_byte.CodeByte.{CodeByte}
-use Rattle.find80.specs.Places.{dump_byte, LiesAt, fits_if_plain}
+use Rattle.find80.specs.Places.{dump_byte, fits_if_plain}
 
 -- the byte at an address, or 256
 abbrev pub entry_at : (first : ℕ) → (dump : List ℕ) → (address : ℕ) → ℕ

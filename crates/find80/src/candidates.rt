@@ -39,13 +39,7 @@ impl Candidates {
     {
         match self {
             Candidates::Any => Some(Candidates::Low(low)),
-            Candidates::Low(other) => {
-                if other == low {
-                    Some(self)
-                } else {
-                    None
-                }
-            }
+            Candidates::Low(other) => { if other == low { Some(self) } else { None } }
             Candidates::Window(first, more) => low_in_window(first, more, low),
         }
     }

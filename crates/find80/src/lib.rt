@@ -2,7 +2,10 @@
 //!
 //! | Item | What it is |
 //! |---|---|
-//! | [`Candidates`] | the values that a target may have |
+//! | [`places`] | the addresses at which the code of a module lies in a dump |
+//! | [`words_at`], [`Word`] | the words of its targets at one of them |
+//! | [`Candidates`] | the words that a target may have |
+//! | [`byte_at`] | the byte at an address where a dump stands |
 #![tactic(auto)]
 
 mod candidates;

@@ -7,8 +7,8 @@ ghost use Rattle.find80.specs.Places.{dump_byte, is_plain, fits_if_plain, fits};
 ghost use Rattle.find80.specs.Sieve.{IsRing, AreSieved, IsSievedBy, entry_at};
 
 use crate::dump::byte_at;
-use pattern80::{CodeByte, Half};
 use omf_parts::Target;
+use pattern80::{CodeByte, Half};
 use std::alloc::{AllocError, Global};
 
 /// An entry where the dump has no byte.

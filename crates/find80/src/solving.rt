@@ -65,13 +65,7 @@ fn begin(address: u16, table: &mut [Candidates])
 }
 
 /// Drops the words with which the dump doesn't have this byte, and answers whether any are left.
-fn narrow(
-    first: u16,
-    dump: &[u8],
-    address: u16,
-    byte: CodeByte,
-    table: &mut [Candidates],
-) -> bool
+fn narrow(first: u16, dump: &[u8], address: u16, byte: CodeByte, table: &mut [Candidates]) -> bool
     requires { number_of byte.target < length table.old }
     ensures whole { length table.new ≡ length table.old }
     ensures yes { result ≡ true → (number word : ℕ) → number < length table.old → word < 65536 →

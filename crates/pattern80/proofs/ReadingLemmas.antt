@@ -50,7 +50,7 @@ choose false has here more rest new old before a b e = a ∙ b
 
 pub place_more : (m : ModuleValue) (c : ContentValue) (xs : List Fixup) (done o : ℕ) (d : Fixup) (new old before : Option CodeByte) → done < length xs
     → new ≡ (if covers o c && has_byte c (o - c.offset) (get_or xs (length xs - 1 - done) d)
-        then Some (fixup_byte m c (o - c.offset) (get_or xs (length xs - 1 - done) d)) else old)
+    then Some (fixup_byte m c (o - c.offset) (get_or xs (length xs - 1 - done) d)) else old)
     → old ≡ (if covers o c then Some (byte_by_fixups m c (o - c.offset) (drop (length xs - done) xs)) else before)
     → new ≡ (if covers o c then Some (byte_by_fixups m c (o - c.offset) (drop (length xs - (done + 1)) xs)) else before)
 place_more m c xs done o d new old before lt a b =
@@ -58,9 +58,9 @@ place_more m c xs done o d new old before lt a b =
     let jk : length xs - (done + 1) ≡ j = omega arith in
     let next : suc j ≡ length xs - done = omega arith in
     let cut : drop (length xs - (done + 1)) xs ≡ get_or xs j d ∷ drop (length xs - done) xs =
-        ap (λ (k : ℕ). drop k xs) jk ∙ (drop-cons xs j d (omega arith) ∙ ap (λ (k : ℕ). get_or xs j d ∷ drop k xs) next) in
+    ap (λ (k : ℕ). drop k xs) jk ∙ (drop-cons xs j d (omega arith) ∙ ap (λ (k : ℕ). get_or xs j d ∷ drop k xs) next) in
     choose (covers o c) (has_byte c (o - c.offset) (get_or xs j d)) (fixup_byte m c (o - c.offset) (get_or xs j d)) _ (byte_by_fixups m c (o - c.offset) (drop (length xs - done) xs)) new old before a b
-        (ap (λ (fs : List Fixup). byte_by_fixups m c (o - c.offset) fs) cut ∙ one_more m c (o - c.offset) (get_or xs j d) (drop (length xs - done) xs))
+    (ap (λ (fs : List Fixup). byte_by_fixups m c (o - c.offset) fs) cut ∙ one_more m c (o - c.offset) (get_or xs j d) (drop (length xs - done) xs))
 
 -- a table read from the front
 cons_same : (f : ℕ → Option CodeByte) (a b : Option CodeByte) (l k : List CodeByte) → a ≡ b → l ≡ k → cons_option a l ≡ cons_option b k

@@ -192,7 +192,10 @@ fn place_both(table: &mut [Option<CodeByte>], content: &Content, offset: u16, re
     ensures each { (o : ℕ) → o < length table.old → slice_index_or table.new o None ≡
         (if o == offset || o == offset + 1 then Some (field_byte field.Both resolved content.now (offset - content.now.offset) (o - content.now.offset)) else slice_index_or table.old o None) }
 {
-    let addend = resolved.addend.wrapping_add(word_at(&content.bytes, usize::from(offset - content.offset)));
+    let addend = resolved.addend.wrapping_add(word_at(
+        &content.bytes,
+        usize::from(offset - content.offset),
+    ));
     table[usize::from(offset)] = Some(CodeByte {
         offset,
         half: Half::Low,

@@ -25,9 +25,7 @@ pub fn resolve(source: &Module, target: Target) -> Resolved
 {
     match target {
         Target::Segment(_) => Resolved { target, addend: 0 },
-        Target::External(index) => {
-            resolve_external(source.publics(), source.externals(), index)
-        }
+        Target::External(index) => { resolve_external(source.publics(), source.externals(), index) }
     }
 }
 

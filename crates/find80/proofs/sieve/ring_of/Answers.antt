@@ -1,4 +1,4 @@
-use Rattle.std.proofs.Common.{arith, ◌%◌, ℕ, length, length-set, ◌∙◌}
+use Rattle.std.proofs.Common.{arith, ◌%◌, ℕ, length-set, ◌∙◌}
 use Rattle.find80.specs.Sieve.{entry_at}
 use Rattle.find80.proofs.SieveLemmas.{entries_more}
 use Rattle.find80.proofs.sieve.ring_of.Goals as goal

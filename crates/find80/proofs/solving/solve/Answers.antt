@@ -1,4 +1,4 @@
-use Rattle.std.proofs.Common.{◌≡◌, ◌&&◌, ◌||◌, ◌==◌, not, false, ℕ, Bool, ap, sym, ◌∙◌, arith, get_or, eq-eqb, ◌<◌, length, refl}
+use Rattle.std.proofs.Common.{◌&&◌, ◌||◌, ◌==◌, not, Bool, ap, sym, ◌∙◌, arith, get_or, eq-eqb, ◌<◌, length, refl}
 use Rattle.pattern80.specs.CodeBytes.{number_of}
 use Rattle.pattern80.specs.declared.code_byte.CodeByte.{CodeByte}
 use Rattle.find80.specs.Places.{is_known, in_table, fits_for, fits}

@@ -14,7 +14,7 @@ place_fixup-requires-clause-within c =
     let same = c.requires.same in
     let few : length c.args.fixups.now - 1 - c.loop-done.done < length c.args.content.now.fixups = omega (arith, ap (λ (xs : List Fixup). length xs) same, c.loop-done-test.true) in
     subst (λ (xs : List Fixup). IsWithin c.args.content.now (get_or xs (length c.args.fixups.now - 1 - c.loop-done.done) some_fixup)) (sym same)
-        (within_at c.args.source.now c.args.content.now (length c.args.fixups.now - 1 - c.loop-done.done) some_fixup c.requires.fixups few)
+    (within_at c.args.source.now c.args.content.now (length c.args.fixups.now - 1 - c.loop-done.done) some_fixup c.requires.fixups few)
 
 pub loop-done-preserved : goal.loop-done-preserved
 loop-done-preserved c = record {
