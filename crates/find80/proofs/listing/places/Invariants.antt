@@ -1,0 +1,10 @@
+-- the places so far
+use Rattle.std.proofs.Common.{◌≡◌, length}
+use Rattle.find80.specs.Places.{ArePlaces}
+use Rattle.find80.proofs.listing.places.Given as goal
+
+abbrev pub invariant-loop-at : goal.invariant-loop-at
+invariant-loop-at l = record {
+  whole : length l.table.items ≡ l.count;
+  places : ArePlaces l.first l.dump l.code l.at l.places.items;
+}

@@ -1,0 +1,4 @@
+pub mod Candidates
+pub mod Places
+pub mod Sieve
+pub mod Words

@@ -1,0 +1,23 @@
+-- The entries of a dump by address, and the addresses that are left.
+use Rattle.std.specs.Prelude.{◌≡◌, ℕ, ◌+◌, ◌%◌, ◌<◌, ◌==◌, ◌&&◌, Bool, false, List, length, slice_index, slice_index_or}
+use Rattle.std.specs.List.{list_all}
+use Rattle.std.specs.Option.{option_map_or}
+use Rattle.pattern80.specs.declared.code_byte.CodeByte.{CodeByte}
+use Rattle.find80.specs.Places.{dump_byte, fits_if_plain}
+
+-- the byte at an address, or 256
+abbrev pub entry_at : (first : ℕ) → (dump : List ℕ) → (address : ℕ) → ℕ
+entry_at first dump address = option_map_or (λ byte. byte) (dump_byte first dump address) 256
+
+-- the entries of all addresses, twice
+pub record IsRing (first : ℕ) (dump ring : List ℕ) : Type 0 where
+  pub whole : length ring ≡ 131072
+  pub each : (at : ℕ) → at < 131072 → slice_index ring at ≡ entry_at first dump (at % 65536)
+
+abbrev pub IsSievedBy : (ring : List ℕ) (offset entry : ℕ) (old new : Bool) (a : ℕ) → Type 0
+IsSievedBy ring offset entry old new a = new ≡ (old && (slice_index ring (a + offset) == entry))
+
+-- of each address whether the dump has all bytes outside fixups with CODE there
+pub record AreSieved (first : ℕ) (dump : List ℕ) (code : List CodeByte) (alive : List Bool) : Type 0 where
+  pub whole : length alive ≡ 65536
+  pub each : (address : ℕ) → address < 65536 → slice_index_or alive address false ≡ list_all (fits_if_plain first dump address) code

@@ -1,0 +1,29 @@
+-- The values of targets that a dump leaves only one word for.
+use Rattle.std.specs.Prelude.{◌≡◌, ◌↔◌, ℕ, ◌%◌, ◌<◌, ◌≤◌, ◌==◌, ◌&&◌, nat_le, nat_lt, Bool, true, false, List, slice_index_or}
+use Rattle.std.specs.List.{list_any}
+use Rattle.pattern80.specs.declared.code_byte.CodeByte.{CodeByte}
+use Rattle.pattern80.specs.CodeBytes.{number_of}
+use Rattle.find80.specs.declared.candidates.Candidates.{Candidates}
+use Rattle.find80.specs.declared.candidates.Candidates.TheVariants.{Any, Low, Window}
+use Rattle.find80.specs.declared.words.Word.{Word}
+use Rattle.find80.specs.Places.{LiesAt, IsOnly}
+
+-- the value with this number has this word
+abbrev pub has_word : List Word → (number word : ℕ) → Bool
+has_word words number word = list_any (λ w. number_of w.target == number && w.word == word) words
+
+-- The words are those of the values that have only one.
+pub record AreOnlyWords (first : ℕ) (dump : List ℕ) (code : List CodeByte) (address count : ℕ) (words : List Word) : Type 0 where
+  pub lies : LiesAt first dump code address
+  pub each : (number word : ℕ) → 2 ≤ number → number < count →
+      (has_word words number word ≡ true) ↔ ((word < 65536) × IsOnly first dump code address number word)
+
+-- this word is the only candidate
+abbrev pub is_single : Candidates → ℕ → Bool
+is_single Any word = false
+is_single (Low low) word = false
+is_single (Window first more) word = more == 0 && first % 65536 == word
+
+-- the single ones of a table, from 2 up to a number
+pub record AreSingle (table : List Candidates) (stop : ℕ) (words : List Word) : Type 0 where
+  pub each : (number word : ℕ) → has_word words number word ≡ (nat_le 2 number && (nat_lt number stop && is_single (slice_index_or table number Any) word))

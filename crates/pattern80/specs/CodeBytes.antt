@@ -1,0 +1,26 @@
+-- The bytes of a module's code where each target has a value.
+-- (8080 Object Module Formats: relocation, intersegment and external reference records.)
+use Rattle.std.specs.Prelude.{ℕ, ◌+◌, ◌/◌, ◌%◌, Bool, true, false}
+use Rattle.omf_parts.specs.declared.fixup.Target.{Target}
+use Rattle.omf_parts.specs.declared.fixup.Target.TheVariants as target
+use Rattle.pattern80.specs.declared.code_byte.Half.{Half}
+use Rattle.pattern80.specs.declared.code_byte.Half.TheVariants.{Low, High}
+use Rattle.pattern80.specs.declared.code_byte.CodeByte.{CodeByte}
+
+-- the number by which a target's value goes: the id of a segment, and 256 plus the index of an external
+abbrev pub number_of : Target → ℕ
+number_of (target.Segment id) = id
+number_of (target.External index) = 256 + index
+
+-- a half of a word
+abbrev pub half_of : Half → ℕ → ℕ
+half_of Low word = word % 256
+half_of High word = word / 256 % 256
+
+-- the byte, where the values go by their numbers
+abbrev pub byte_by : (value : ℕ → ℕ) → CodeByte → ℕ
+byte_by value b = half_of b.half ((value (number_of b.target) + b.addend) % 65536)
+
+abbrev pub is_low : Half → Bool
+is_low Low = true
+is_low High = false
