@@ -44,11 +44,12 @@ struct Visited {
 }
 
 impl Visited {
-    ghost use Rattle.std.specs.Prelude.{[], replicate, false};
+    ghost use Rattle.std.specs.Prelude.{[], false, All};
 
     /// None is entered.
     fn new(alloc: Global) -> Result<Visited, AllocError>
-        ensures marks { IfOk result (λ visited. visited.marks.items ≡ replicate 65536 false) }
+        ensures size { IfOk result (λ visited. length visited.marks.items ≡ 65536) }
+        ensures marks { IfOk result (λ visited. All (λ mark. mark ≡ false) visited.marks.items) }
         ensures order { IfOk result (λ visited. visited.order.items ≡ []) }
     {
         Ok(Visited {
