@@ -1,13 +1,18 @@
 -- A walk over the addresses that a program may come to.
-use Rattle.std.proofs.Common.{◌≡◌, ◌<◌, ◌≤◌, ◌+◌, ◌⊎◌, inl, inr, ℕ, Bool, true, false, List, [], ◌∷◌, ◌++◌, All, Contains, length, get_or, set, refl, sym, ◌∙◌, ap, subst, true≢false, arith}
+use Rattle.std.proofs.Common.{◌≡◌, ◌<◌, ◌≤◌, ◌+◌, ◌⊎◌, inl, inr, ℕ, zero, suc, Bool, true, false, List, [], ◌∷◌, ◌++◌, All, Contains, length, get_or, set, refl, sym, ◌∙◌, ap, subst, true≢false, arith}
 use Rattle.std.specs.Prelude.{nat_lt}
 use Rattle.std.proofs.lemmas.Bool.{cases_eq}
 use Rattle.std.proofs.lemmas.Bool.Decides.{nat_tests}
 use Rattle.std.proofs.lemmas.List.{get_or-append-add, get_or-set_other, get_or-set_same, get_or_append_left, get_or_default, get_or_past, length-append, length-set}
 use Rattle.std.proofs.lemmas.List.Elements.{All-append, All-nil, Contains-append_left, Contains-get_or, Contains-push}
 use Rattle.std.proofs.Math.Seq.{get_or-append_seam}
-use Rattle.image80.specs.Image.{Located}
-use Rattle.cases80.specs.Reach.{AreReached, Enters, IsMarked, IsWalk, MayReach, leads_to}
+use Rattle.std.specs.Prelude.{Ok, Err}
+use Rattle.decode80.specs.declared.fetching.Fetched.{Fetched}
+use Rattle.decode80.specs.declared.fetching.FetchFault.{FetchFault}
+use Rattle.verify80.specs.Looking.{declared_targets}
+use Rattle.verify80.specs.LookLaws.{fetch_at}
+use Rattle.image80.specs.Image.{Located, memory_of}
+use Rattle.cases80.specs.Reach.{AreReached, Enters, IsMarked, IsWalk, MayReach, falls_to, given, leads_from, leads_to, target_of, targets_of}
 use Rattle.cases80.specs.Reach.MayReach.{begins, goes_on}
 
 -- none is entered
@@ -21,20 +26,21 @@ enters_none marks order size = record {
   walk = λ image is all. is;
 }
 
+-- what holds of one holds of each of a list of it alone
+pub all_one : (P : ℕ → Type 0) (x : ℕ) → P x → All P (x ∷ [])
+all_one P x p zero d inside = p
+all_one P x p (suc k) d inside = absurd (omega (arith, inside))
+
 -- one is entered that was before
 pub enters_again : (marks : List Bool) (order : List ℕ) (at : ℕ) → length marks ≡ 65536 → IsMarked marks at → Enters marks order (at ∷ []) marks order
 enters_again marks order at size is = record {
   size = size;
-  marked = one (IsMarked marks) at is;
+  marked = all_one (IsMarked marks) at is;
   kept = λ at is. is;
   longer = omega arith;
   same = λ k inside. refl;
   walk = λ image is all. is;
 }
-  where
-    one : (P : ℕ → Type 0) (x : ℕ) → P x → All P (x ∷ [])
-    one P x p zero d inside = p
-    one P x p (suc k) d inside = absurd (omega (arith, inside))
 
 -- one is entered that wasn't
 module _ (marks : List Bool) (order : List ℕ) (at : ℕ) (size : length marks ≡ 65536) (below : at < 65536) where
@@ -110,6 +116,16 @@ enters_both m o xs m' o' ys m'' o'' a b = record {
 
     right : (P : ℕ → Type 0) → All P (xs ++ ys) → All P ys
     right P all k d inside = subst P (get_or-append-add xs ys k d) (all (length xs + k) d (omega (arith, inside, length-append xs ys)))
+
+-- where what was fetched leads, and where nothing was
+pub leads_found : (image : Located) (at : ℕ) (found : Fetched) → fetch_at image.regions (memory_of image.chunks) at ≡ Ok found →
+    leads_to image at ≡ given (target_of found.instr) ++ (given (falls_to found.instr found.next) ++ targets_of found.instr (declared_targets image.regions at))
+unfolding leads_to
+leads_found image at found is = ap (λ r. leads_from r (declared_targets image.regions at)) is
+
+pub leads_none : (image : Located) (at : ℕ) (fault : FetchFault) → fetch_at image.regions (memory_of image.chunks) at ≡ Err fault → leads_to image at ≡ []
+unfolding leads_to
+leads_none image at fault is = ap (λ r. leads_from r (declared_targets image.regions at)) is
 
 -- nothing is marked yet
 pub walk_none : (image : Located) (marks : List Bool) → All (λ mark. mark ≡ false) marks → length marks ≡ 65536 → IsWalk image marks []

@@ -106,7 +106,8 @@ impl Visited {
         };
         self.enter_given(target_of(found.instr))?;
         self.enter_given(falls_to(found))?;
-        self.enter_each(targets_of(code, found.instr, at))
+        self.enter_each(targets_of(code, found.instr, at))?;
+        Ok(())
     }
 }
 
