@@ -1,2 +1,3 @@
 mod TableLemmas
 mod SuggestedLemmas
+mod ReachLemmas

@@ -1,2 +1,3 @@
 pub mod Suggested
 pub mod Added
+pub mod Reach

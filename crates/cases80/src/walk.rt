@@ -1,5 +1,6 @@
 //! The addresses that a program may reach.
 
+use crate::leads::{falls_to, target_of};
 use crate::table::word_at;
 use crate::trail::Trail;
 use decode80::{Fetched, Instr, ahead, fetch};
@@ -99,17 +100,16 @@ impl Walk {
     /// Marks an instruction, and enters the addresses that it leads to.
     fn visit(&mut self, image: &Image, place: Place, found: Fetched) -> Result<(), AllocError> {
         self.take(place.at, found.next);
-        match found.instr {
-            Instr::Ret | Instr::Hlt => Ok(()),
-            Instr::Jmp(target) => self.enter(target, Trail::unknown()),
-            Instr::Pchl => self.jump(image, place),
-            instr => {
-                if let Some(target) = target_of(instr) {
-                    self.enter(target, Trail::unknown())?;
-                }
-                self.enter(found.next, place.trail.after(instr))
-            }
+        if found.instr == Instr::Pchl {
+            self.jump(image, place)?;
         }
+        if let Some(target) = target_of(found.instr) {
+            self.enter(target, Trail::unknown())?;
+        }
+        if let Some(next) = falls_to(found) {
+            self.enter(next, place.trail.after(found.instr))?;
+        }
+        Ok(())
     }
 
     /// Enters the declared targets of a PCHL, or notes its table.
@@ -162,14 +162,5 @@ pub(crate) fn is_marked(marks: &[bool], address: u16) -> bool {
     match marks.get(usize::from(address)) {
         Some(marked) => *marked,
         None => false,
-    }
-}
-
-/// The address that an instruction may go to, other than the next.
-fn target_of(instr: Instr) -> Option<u16> {
-    match instr {
-        Instr::JumpIf(_, target) | Instr::Call(target) | Instr::CallIf(_, target) => Some(target),
-        Instr::Rst(number) => Some(number.address()),
-        _ => None,
     }
 }

@@ -1,0 +1,76 @@
+-- The addresses that a program may come to, whatever its frames: along each branch, behind each call whether it returns or not,
+-- and from a PCHL to the targets that are declared for it. (Intel 8080 Microcomputer Systems User's Manual: the jumps, calls and
+-- returns. That a call is gone on behind whatever its callee does is this project's own.)
+use Rattle.std.specs.Prelude.{◌≡◌, ◌<◌, ◌≤◌, ◌*◌, ◌↔◌, ℕ, Bool, true, false, List, [], ◌∷◌, ◌++◌, All, Contains, Option, None, Some, Result, Ok, Err, length, get_or, if◌then◌else◌}
+use Rattle.decode80.specs.declared.fetching.Fetched.{Fetched}
+use Rattle.decode80.specs.declared.fetching.FetchFault.{FetchFault}
+use Rattle.decode80.specs.declared.instr.Instr.{Instr}
+use Rattle.decode80.specs.declared.instr.Instr.TheVariants.{Jmp, JumpIf, Call, CallIf, Rst, Ret, Pchl, Hlt}
+use Rattle.decode80.specs.Restart.{restart_number}
+use Rattle.image80.specs.Image.{Located, memory_of}
+use Rattle.verify80.specs.Looking.{declared_targets, is_pchl}
+use Rattle.verify80.specs.LookLaws.{fetch_at}
+
+-- the address behind an instruction, unless it never goes on there
+abbrev pub falls_to : Instr → (next : ℕ) → Option ℕ
+falls_to (Jmp _) next = None
+falls_to Ret next = None
+falls_to Pchl next = None
+falls_to Hlt next = None
+falls_to _ next = Some next
+
+-- the address that an instruction names to go to
+abbrev pub target_of : Instr → Option ℕ
+target_of (Jmp to) = Some to
+target_of (JumpIf _ to) = Some to
+target_of (Call to) = Some to
+target_of (CallIf _ to) = Some to
+target_of (Rst number) = Some (8 * restart_number number)
+target_of _ = None
+
+-- an address or none, as a list
+abbrev pub given : Option ℕ → List ℕ
+given None = []
+given (Some address) = address ∷ []
+
+-- the declared targets of an instruction: none unless it is a PCHL
+abbrev pub targets_of : Instr → List ℕ → List ℕ
+targets_of instr targets = if is_pchl instr then targets else []
+
+-- the addresses that what was fetched leads to
+abbrev pub leads_from : Result Fetched FetchFault → (targets : List ℕ) → List ℕ
+leads_from (Err _) targets = []
+leads_from (Ok found) targets = given (target_of found.instr) ++ (given (falls_to found.instr found.next) ++ targets_of found.instr targets)
+
+-- the addresses that the instruction at an address leads to; none if the code has none there
+unfoldable pub leads_to : Located → ℕ → List ℕ
+leads_to image at = leads_from (fetch_at image.regions (memory_of image.chunks) at) (declared_targets image.regions at)
+
+-- the program may come to an address
+pub data MayReach (image : Located) : ℕ → Type 0 where
+  begins : (at : ℕ) → at ≡ image.start → MayReach image at
+  goes_on : (at to : ℕ) → MayReach image at → Contains (leads_to image at) to → MayReach image to
+
+-- an address is marked in a table
+abbrev pub IsMarked : List Bool → ℕ → Type 0
+IsMarked marks at = get_or marks at false ≡ true
+
+-- exactly the addresses are marked that the program may come to
+pub record AreReached (image : Located) (marks : List Bool) : Type 0 where
+  pub size : length marks ≡ 65536
+  pub exact : (at : ℕ) → IsMarked marks at ↔ MayReach image at
+
+-- a walk so far: what is marked may be reached, and is what is listed
+pub record IsWalk (image : Located) (marks : List Bool) (order : List ℕ) : Type 0 where
+  pub may : (at : ℕ) → IsMarked marks at → MayReach image at
+  pub listed : (at : ℕ) → IsMarked marks at → Contains order at
+  pub marked : (k : ℕ) → k < length order → IsMarked marks (get_or order k 0)
+
+-- addresses are entered: they are marked, nothing that was marked or listed is lost, and a walk stays one
+pub record Enters (marks : List Bool) (order : List ℕ) (to : List ℕ) (marks' : List Bool) (order' : List ℕ) : Type 0 where
+  pub size : length marks' ≡ 65536
+  pub marked : All (IsMarked marks') to
+  pub kept : (at : ℕ) → IsMarked marks at → IsMarked marks' at
+  pub longer : length order ≤ length order'
+  pub same : (k : ℕ) → k < length order → get_or order' k 0 ≡ get_or order k 0
+  pub walk : (image : Located) → IsWalk image marks order → All (MayReach image) to → IsWalk image marks' order'

@@ -1,0 +1,122 @@
+//! The addresses that a program may come to, along the cases that its regions have.
+
+ghost use Rattle.std.specs.Prelude.{◌≡◌, IfOk, OnOk, length};
+ghost use Rattle.cases80.specs.Reach.{AreReached, Enters, given, leads_to, targets_of};
+ghost use Rattle.verify80.specs.Looking.{declared_targets};
+
+use crate::leads::{falls_to, target_of};
+use bounds80::table;
+use decode80::{Instr, fetch};
+use flow80::Code;
+use std::alloc::{AllocError, Global};
+use verify80::ImageCode;
+
+/// How many addresses there are.
+const ADDRESSES: usize = 65_536;
+
+/// For each address whether the program may come to it from its start: along each branch, behind each call whether it returns or
+/// not, and from a PCHL to the targets that the regions have for it. It goes on from those addresses alone at which an instruction
+/// stands whose bytes are all code; an address without one may be marked, and leads nowhere.
+///
+/// # Errors
+/// `AllocError` only where memory runs out.
+pub fn find_reachable(alloc: Global, code: &ImageCode<'_>) -> Result<Vec<bool>, AllocError>
+    ensures { IfOk result (λ marks. AreReached code.now marks.items) }
+{
+    let mut visited = Visited::new(alloc)?;
+    visited.enter(code.start())?;
+    let mut number = 0;
+    while number < visited.order.len() {
+        let at = visited.order[number];
+        visited.follow(code, at)?;
+        number += 1;
+    }
+    Ok(visited.marks)
+}
+
+/// The addresses that were entered.
+#[derive(Drop)]
+struct Visited {
+    /// For each address whether it was entered.
+    marks: Vec<bool>,
+    /// These addresses as they were entered, each once.
+    order: Vec<u16>,
+}
+
+impl Visited {
+    ghost use Rattle.std.specs.Prelude.{[], false, All};
+
+    /// None is entered.
+    fn new(alloc: Global) -> Result<Visited, AllocError>
+        ensures size { IfOk result (λ visited. length visited.marks.items ≡ 65536) }
+        ensures marks { IfOk result (λ visited. All (λ mark. mark ≡ false) visited.marks.items) }
+        ensures order { IfOk result (λ visited. visited.order.items ≡ []) }
+    {
+        Ok(Visited {
+            marks: table(alloc, false, ADDRESSES)?,
+            order: Vec::new(alloc),
+        })
+    }
+
+    ghost use Rattle.std.specs.Prelude.{◌∷◌};
+
+    /// Enters an address, unless it was entered before.
+    fn enter(&mut self, at: u16) -> Result<(), AllocError>
+        requires { length self.old.marks.items ≡ 65536 }
+        ensures { OnOk result (Enters self.old.marks.items self.old.order.items (at ∷ []) self.new.marks.items self.new.order.items) }
+    {
+        let index = usize::from(at);
+        if !self.marks[index] {
+            self.order.push(at)?;
+            self.marks[index] = true;
+        }
+        Ok(())
+    }
+
+    /// Enters an address, if there is one.
+    fn enter_given(&mut self, at: Option<u16>) -> Result<(), AllocError>
+        requires { length self.old.marks.items ≡ 65536 }
+        ensures { OnOk result (Enters self.old.marks.items self.old.order.items (given at) self.new.marks.items self.new.order.items) }
+    {
+        match at {
+            Some(at) => self.enter(at),
+            None => Ok(()),
+        }
+    }
+
+    /// Enters each of the addresses.
+    fn enter_each(&mut self, addresses: &[u16]) -> Result<(), AllocError>
+        requires { length self.old.marks.items ≡ 65536 }
+        ensures { OnOk result (Enters self.old.marks.items self.old.order.items addresses.now self.new.marks.items self.new.order.items) }
+    {
+        for at in addresses {
+            self.enter(*at)?;
+        }
+        Ok(())
+    }
+
+    /// Enters the addresses that the instruction at an address leads to.
+    #[tactic(auto, unfolding(crate::specs::Reach::leads_to))]
+    fn follow(&mut self, code: &ImageCode<'_>, at: u16) -> Result<(), AllocError>
+        requires { length self.old.marks.items ≡ 65536 }
+        ensures { OnOk result (Enters self.old.marks.items self.old.order.items (leads_to code.now at) self.new.marks.items self.new.order.items) }
+    {
+        let Ok(found) = fetch(at, code) else {
+            return Ok(());
+        };
+        self.enter_given(target_of(found.instr))?;
+        self.enter_given(falls_to(found))?;
+        self.enter_each(targets_of(code, found.instr, at))?;
+        Ok(())
+    }
+}
+
+/// The targets that are declared for the instruction at an address: none unless it is a PCHL.
+fn targets_of<'a>(code: &'a ImageCode<'_>, instr: Instr, at: u16) -> &'a [u16]
+    ensures { result.now ≡ targets_of instr (declared_targets code.now.regions at) }
+{
+    match instr {
+        Instr::Pchl => code.targets(at),
+        _ => &[],
+    }
+}
