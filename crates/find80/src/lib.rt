@@ -3,6 +3,7 @@
 //! | Item | What it is |
 //! |---|---|
 //! | [`places`] | the addresses at which the code of a module lies in a dump |
+//! | [`count_of`] | how many numbers the targets of the code have |
 //! | [`words_at`], [`Word`] | the words of its targets at one of them |
 //! | [`Candidates`] | the words that a target may have |
 //! | [`byte_at`] | the byte at an address where a dump stands |
@@ -17,5 +18,5 @@ mod words;
 
 pub use candidates::Candidates;
 pub use dump::byte_at;
-pub use listing::places;
+pub use listing::{count_of, places};
 pub use words::{Word, words_at};

@@ -1,11 +1,13 @@
 //! The addresses at which a module's code lies.
 
 ghost use Rattle.std.specs.Prelude.{◌≡◌, ℕ, ◌<◌, ◌≤◌, ◌+◌, ◌++◌, ◌∷◌, [], not, true, false, filter, List, length, IfOk, OnOk};
+ghost use Rattle.pattern80.specs.CodeBytes.{number_of};
 ghost use Rattle.find80.specs.Places.{AreBelow, ArePlaces, LiesAt, is_plain};
 
 use crate::candidates::Candidates;
 use crate::sieve::{is_plain, sieve};
 use crate::solving::lies_at;
+use omf_parts::Target;
 use pattern80::CodeByte;
 use std::alloc::{AllocError, Global};
 
@@ -38,6 +40,30 @@ pub fn places(
         }
     }
     Ok(places)
+}
+
+/// One more than the greatest number of a target in the code, and at least 2, for absolute bytes and CODE.
+pub fn count_of(code: &[CodeByte]) -> usize
+    ensures two { 2 ≤ result }
+    ensures few { result ≤ 65792 }
+    ensures below { AreBelow result code.now }
+{
+    let mut count = 2;
+    for byte in code {
+        count = count.max(after(byte.target));
+    }
+    count
+}
+
+/// One more than the number of a target.
+fn after(target: Target) -> usize
+    ensures above { number_of target < result }
+    ensures few { result ≤ 65792 }
+{
+    match target {
+        Target::Segment(id) => usize::from(id) + 1,
+        Target::External(index) => 257 + usize::from(index),
+    }
 }
 
 /// The bytes that aren't outside fixups.
