@@ -1,4 +1,4 @@
-//! The commands for object files and libraries: `link`, `locate`, `lib`, `map` and `module`.
+//! The commands for object files and libraries: `link`, `locate`, `lib`, `map`, `module` and `find`.
 //!
 //! | Item | What it is |
 //! |---|---|
@@ -7,9 +7,12 @@
 //! | [`write_library_file`] | `lib`: a library of the modules of object files |
 //! | [`map_file`] | `map`: where LOCATE would put a module's segments and public names |
 //! | [`describe_file`] | `module`: what an object file holds, module by module |
+//! | [`find_modules`] | `find`: where modules lie in a dump of a PROM |
 #![tactic(auto)]
 
 mod describing;
+mod finding;
+mod found_text;
 mod library;
 mod linking;
 mod locate_options;
@@ -17,6 +20,7 @@ mod locating;
 mod mapping;
 
 pub use describing::{MODULE, ModuleArguments, describe_file};
+pub use finding::{FIND, FindArguments, find_modules};
 pub use library::{LIB, LibraryArguments, write_library_file};
 pub use linking::{LINK, LinkArguments, link_files};
 pub use locating::{LOCATE, LocateArguments, locate_file};

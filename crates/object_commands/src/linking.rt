@@ -166,7 +166,7 @@ impl LinkFiles {
 }
 
 /// What the file of this path has.
-fn read_file(console: Console<'_>, path: &str) -> Result<LinkFile, Reported> {
+pub(crate) fn read_file(console: Console<'_>, path: &str) -> Result<LinkFile, Reported> {
     let mut late = LateFile::new(console.runtime(), path);
     let mut source = Reading::new(&mut late);
     match read_link_file(console.alloc(), &mut source) {

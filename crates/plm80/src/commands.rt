@@ -8,7 +8,9 @@ use image_commands::{
     check_files, explain_files, list_files, list_stores, migrate_file, show_calls,
     suggest_for_files,
 };
-use object_commands::{describe_file, link_files, locate_file, map_file, write_library_file};
+use object_commands::{
+    describe_file, find_modules, link_files, locate_file, map_file, write_library_file,
+};
 use rom_commands::{compare_files, extract_file, write_absolute};
 use run_commands::{cover_files, run_files, trace_files, write_inputs_file};
 use std::process::ExitCode;
@@ -53,6 +55,7 @@ fn perform(console: Console<'_>, request: Request<'_>) -> Result<u8, Reported> {
         Request::Trace(arguments) => trace_files(console, arguments),
         Request::Cover(arguments) => cover_files(console, arguments),
         Request::Module(arguments) => describe_file(console, arguments),
+        Request::Find(arguments) => find_modules(console, &arguments),
     }
 }
 

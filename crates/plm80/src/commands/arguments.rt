@@ -8,8 +8,8 @@ use image_commands::{
     RegionsArguments, STORES,
 };
 use object_commands::{
-    LIB, LINK, LOCATE, LibraryArguments, LinkArguments, LocateArguments, MAP, MODULE, MapArguments,
-    ModuleArguments,
+    FIND, FindArguments, LIB, LINK, LOCATE, LibraryArguments, LinkArguments, LocateArguments, MAP,
+    MODULE, MapArguments, ModuleArguments,
 };
 use rom_commands::{
     ABSOLUTE, AbsoluteArguments, COMPARE, CompareArguments, EXTRACT, ExtractArguments,
@@ -41,6 +41,7 @@ pub enum Request<'a> {
     Trace(TraceArguments<'a>),
     Cover(CoverArguments<'a>),
     Module(ModuleArguments<'a>),
+    Find(FindArguments<'a>),
 }
 
 const ABOUT: &str = "Links, locates, verifies and runs 8080 programs from OMF-80 object files";
@@ -74,8 +75,8 @@ fn other_commands() -> [Syntax<'static>; 6] {
 }
 
 /// The commands that came last, in the order of the help text.
-fn further_commands() -> [Syntax<'static>; 7] {
-    [TRACE, COVER, STORES, CALLS, COMPARE, INPUTS, MODULE]
+fn further_commands() -> [Syntax<'static>; 8] {
+    [TRACE, COVER, STORES, CALLS, COMPARE, INPUTS, MODULE, FIND]
 }
 
 /// The command of a name.
@@ -212,6 +213,7 @@ fn asked_for<'a>(
         "trace" => Request::Trace(TraceArguments::of(arguments)),
         "cover" => Request::Cover(CoverArguments::of(arguments)),
         "module" => Request::Module(ModuleArguments::of(arguments)),
+        "find" => Request::Find(FindArguments::of(alloc, arguments)?),
         _ => return Ok(None),
     };
     Ok(Some(request))
