@@ -19,10 +19,10 @@ held-cons address range ranges = sum_by-cons (λ r. cond (in_range r address) 1 
 pub in_range_is : (range : Range) (address : ℕ) → range.first ≤ address → address < range.first + range.length → in_range range address ≡ true
 in_range_is range address above below = grind (arith, common_steps)
 
-in_range_not : (range : Range) (address : ℕ) → address < range.first → in_range range address ≡ false
+pub in_range_not : (range : Range) (address : ℕ) → address < range.first → in_range range address ≡ false
 in_range_not range address below = grind (arith, common_steps)
 
-in_range_below : (range : Range) (address : ℕ) → in_range range address ≡ true → address < range.first + range.length
+pub in_range_below : (range : Range) (address : ℕ) → in_range range address ≡ true → address < range.first + range.length
 in_range_below range address inside = grind (arith, common_steps)
 
 in_range_empty : (range : Range) (address : ℕ) → range.length ≡ 0 → in_range range address ≡ false

@@ -7,6 +7,7 @@ pub mod SameCases
 pub mod SeenLemmas
 pub mod CasesLemmas
 pub mod DisjointLemmas
+pub mod RangeLemmas
 pub mod RegionsLemmas
 pub mod TextLemmas
 pub mod ReadingLemmas

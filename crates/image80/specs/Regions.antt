@@ -47,6 +47,12 @@ AreDisjoint ranges = (address : ℕ) → held address ranges ≤ 1
 abbrev pub IsByAddress : List Range → Type 0
 IsByAddress ranges = AllPairs (λ a b. a.first < b.first) ranges
 
+-- ranges by address, none of them empty, of which no two share an address
+pub record AreApart (ranges : List Range) : Type 0 where
+  pub by_address : IsByAddress ranges
+  pub filled : All (λ range. 0 < range.length) ranges
+  pub disjoint : AreDisjoint ranges
+
 -- the rules of regions: code and data by address, none of these ranges empty, all in memory, and
 -- no address in two of them; and the cases by address
 pub record AreRegions (areas : Areas) : Type 0 where

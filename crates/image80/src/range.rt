@@ -1,5 +1,6 @@
 ghost use Rattle.std.specs.Prelude.{◌≡◌};
 ghost use Rattle.image80.specs.Range.{in_range, in_ranges};
+ghost use Rattle.image80.specs.Regions.{AreApart};
 
 /// Consecutive addresses: `length` of them from `first` on.
 ///
@@ -23,10 +24,23 @@ impl Range {
 /// Whether one of the ranges contains the address. Most programs have one range of a kind.
 #[inline]
 pub(crate) fn in_ranges(ranges: &[Range], address: u16) -> bool
+    requires { AreApart ranges.now }
     ensures { result ≡ in_ranges ranges.now address }
 {
     match ranges {
         [only] => only.contains(address),
-        _ => ranges.iter().any(|range| range.contains(address)),
+        _ => in_many_ranges(ranges, address),
+    }
+}
+
+/// The same for any number of ranges. The time grows with the logarithm of their number.
+#[inline(never)]
+fn in_many_ranges(ranges: &[Range], address: u16) -> bool
+    requires { AreApart ranges.now }
+    ensures { result ≡ in_ranges ranges.now address }
+{
+    match ranges.binary_search_by_key(&address, |range| range.first) {
+        Ok(_) => true,
+        Err(place) => place > 0 && ranges[place - 1].contains(address),
     }
 }
