@@ -6,7 +6,8 @@ use Rattle.std.proofs.lemmas.List.{length-map}
 use Rattle.frames80.specs.declared.word.Word.{Word}
 use Rattle.frames80.specs.StackFrame.{StackFrame, entry_frame}
 use Rattle.interned80.specs.declared.kept.Kept.{Kept}
-use Rattle.interned80.specs.Frames.{frame_at, IsFrame, StayNumbered}
+use Rattle.interned80.specs.Frames.{frame_at, IsFrame, IsLesserFrame, StayNumbered}
+use Rattle.frames80.specs.Places.{Covers}
 use Rattle.interned80.specs.Stacks.{IsStack, StacksStay}
 use Rattle.interned80.specs.Kept.{pairs_of, frame_of, frames_of, AreKept}
 use Rattle.interned80.proofs.ListLemmas.{slice_get-append, slice_get-push}
@@ -94,3 +95,11 @@ numbered_stays old new i s h = slice_get_within new i (frame_at old i) (s.stays 
 
 pub numbered_on : (one two three : List StackFrame) → StayNumbered one two → StayNumbered two three → StayNumbered one three
 numbered_on one two three s t = record { stays = λ i frame e. t.stays i frame (s.stays i frame e) }
+
+-- a number that is answered has a frame that covers
+pub IsLesserFrame-result : {E : Type 0} (r : Result ℕ E) (stacks : List (List Word)) (kept : List Kept) (last : Kept) (frame : StackFrame) → IfOk r (λ id. slice_get kept id ≡ Some last) →
+    Covers (frame_of stacks last) frame → IfOk r (λ id. IsLesserFrame (frames_of stacks kept) id frame)
+IsLesserFrame-result (Ok id) stacks kept last frame e covers =
+    let is = IsFrame-kept stacks kept id last (frame_of stacks last) e refl in
+    record { there = is.there; covers = subst (λ (f : StackFrame). Covers f frame) (sym is.is) covers }
+IsLesserFrame-result (Err err) stacks kept last frame e covers = e

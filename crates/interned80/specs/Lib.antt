@@ -4,3 +4,4 @@ pub mod Admitted
 pub mod Stacks
 pub mod Kept
 pub mod Meets
+pub mod Lesser

@@ -4,11 +4,12 @@ ghost use Rattle.std.specs.Prelude.{◌≡◌, ◌≤◌, ◌<◌, [], true, fal
 ghost use Rattle.frames80.specs.StackFrame.{entry_frame, main_frame};
 ghost use Rattle.frames80.specs.Moves.{changed, moves_of};
 ghost use Rattle.frames80.specs.Calls.{agree, depth_of, merged, returned, room};
-ghost use Rattle.interned80.specs.Frames.{frame_at, IsFrame, StayNumbered};
+ghost use Rattle.interned80.specs.Frames.{frame_at, IsFrame, IsLesserFrame, StayNumbered};
 ghost use Rattle.interned80.specs.Admitted.{move_of};
 
 use crate::changes::change_frame;
 use crate::fault::MeetFault;
+use crate::forgetting::{Asked, forget_word, forget_words};
 use crate::frame_id::FrameId;
 use crate::kept::{Kept, keep, kept_at};
 use crate::meets::meet_frames;
@@ -148,6 +149,28 @@ impl Frames {
             return Ok(one);
         }
         Ok(keep(&mut self.kept, met)?)
+    }
+
+    /// The number of a frame of which what isn't asked for may be forgotten: it has the same counts, and the return address only
+    /// where the frame has it.
+    ///
+    /// # Errors
+    /// `AllocError` where memory runs out.
+    pub fn forget(&mut self, frame: FrameId, asked: Asked<'_>) -> Result<FrameId, AllocError>
+        requires { frame < length self.old }
+        ensures lesser { IfOk result (λ id. IsLesserFrame self.new id (frame_at self.old frame)) }
+        ensures stays { StayNumbered self.old self.new }
+    {
+        let kept = kept_at(&self.kept, frame);
+        let words = forget_words(&mut self.stacks, kept.words, asked.heights)?;
+        let lesser = Kept {
+            taken: kept.taken,
+            words,
+            bc: forget_word(kept.bc, asked.bc),
+            de: forget_word(kept.de, asked.de),
+            hl: forget_word(kept.hl, asked.hl),
+        };
+        keep(&mut self.kept, lesser)
     }
 
     /// How many words beneath the procedure's own a frame has taken. It takes no memory.

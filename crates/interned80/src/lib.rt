@@ -6,21 +6,25 @@
 //! |---|---|
 //! | [`Frames`] | the frames by number, and what becomes of them |
 //! | [`FrameId`] | the number of a frame |
+//! | [`Asked`] | which of a frame's words and pairs are asked for |
 //! | [`MeetFault`] | why two frames have none in common |
 #![tactic(auto)]
 
 mod changes;
 mod fault;
+mod forgetting;
 mod frame_id;
 mod frames;
 mod kept;
 mod link;
 mod meets;
+mod owns;
 mod refusal;
 mod stacks;
 #[cfg(test)]
 mod tests;
 
 pub use fault::MeetFault;
+pub use forgetting::Asked;
 pub use frame_id::FrameId;
 pub use frames::Frames;

@@ -122,7 +122,7 @@ fn tops(stacks: &Stacks, one: u32, other: u32) -> Option<(Link, Link)>
 ///
 /// # Errors
 /// `AllocError` where memory runs out.
-fn push_all(stacks: &mut Stacks, below: u32, words: Vec<Word>) -> Result<u32, AllocError>
+pub(crate) fn push_all(stacks: &mut Stacks, below: u32, words: Vec<Word>) -> Result<u32, AllocError>
     requires { below < length stacks.old }
     ensures pushed { IfOk result (λ number. IsStack stacks.new number (words.items ++ words_at stacks.old below)) }
     ensures stays { StacksStay stacks.old stacks.new }

@@ -5,6 +5,7 @@ ghost use Rattle.frames80.specs.Calls.{room};
 ghost use Rattle.interned80.specs.Stacks.{words_at, IsLink, IsStack, StacksStay};
 
 use crate::link::Link;
+use crate::owns::Owns;
 use frames80::{Role, Word};
 use indexmap::IndexSet;
 use std::alloc::{AllocError, Global};
@@ -19,6 +20,7 @@ pub(crate) const EMPTY: u32 = 0;
 pub(crate) struct Stacks {
     /// Each distinct link once, in order of first sight.
     links: IndexSet<Link>,
+    owns: Owns,
 }
 
 impl Model for Stacks {
@@ -40,6 +42,7 @@ impl Stacks {
     {
         Stacks {
             links: IndexSet::new(alloc),
+            owns: Owns::new(alloc),
         }
     }
 
@@ -70,6 +73,11 @@ impl Stacks {
             Some(link) => link.height,
             None => 0,
         }
+    }
+
+    /// How many of its words are the return address.
+    pub(crate) fn owns(&self, number: u32) -> u32 {
+        self.owns.get(number)
     }
 
     /// How many of its words a callee may take.
@@ -126,6 +134,8 @@ impl Stacks {
             height: height + 1,
         };
         let (index, _) = self.links.insert_full(link)?;
-        Ok(index as u32 + 1)
+        let number = index as u32 + 1;
+        self.owns.note(number, word, below)?;
+        Ok(number)
     }
 }

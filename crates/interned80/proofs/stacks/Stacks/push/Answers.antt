@@ -29,3 +29,15 @@ returns-clause-stays c =
     let link : Link = record { below = c.args.below; word = c.args.word; height = c.height-height.result + 1 } in
     let high = ap (λ n. n + 1) c.height-height.ensures in
     stays-inserted c.self.inside.links.keys c.insert_full.new.self.keys c.args.self.now link c.self.view_is c.requires high c.in_ok-index.ensures.keys
+
+pub invariant_of-self-in_err-note : goal.invariant_of-self-in_err-note
+invariant_of-self-in_err-note c =
+    let link : Link = record { below = c.args.below; word = c.args.word; height = c.height-height.result + 1 } in
+    let high = ap (λ n. n + 1) c.height-height.ensures in
+    AreLinks-inserted c.self.inside.links.keys c.insert_full.new.self.keys c.args.self.now link c.self.view_is c.requires high c.in_ok-index.ensures.keys c.self.invariant
+
+pub returns-in_err-note-clause-stays : goal.returns-in_err-note-clause-stays
+returns-in_err-note-clause-stays c =
+    let link : Link = record { below = c.args.below; word = c.args.word; height = c.height-height.result + 1 } in
+    let high = ap (λ n. n + 1) c.height-height.ensures in
+    stays-inserted c.self.inside.links.keys c.insert_full.new.self.keys c.args.self.now link c.self.view_is c.requires high c.in_ok-index.ensures.keys
