@@ -20,12 +20,12 @@ use Rattle.flow80.specs.Points.{Point}
 use Rattle.bounds80.specs.Chains.{IsModest}
 use Rattle.flow80.specs.Graph.{HasDepth, HasCall, IsGraph}
 use Rattle.flow80.specs.Shown.{Shows, Whole, FrameLaws}
-use Rattle.flow80.specs.Known.{Known, IsWithin, IsSmall, HasPoint, IsClosed, IsFilled}
+use Rattle.flow80.specs.Known.{Known, is_exact, IsWithin, IsSmall, HasPoint, IsClosed, IsFilled}
 use Rattle.flow80.specs.Survey.{depth_at, call_at, IsDepthAt, IsCallAt, IsSurvey}
 use Rattle.flow80.proofs.MoveLemmas.{moved_is, called_along}
 use Rattle.flow80.proofs.FitLemmas.{covers_walks, found_same, moves_there}
 use Rattle.flow80.proofs.KnownTable.{known_table, known_closes, found_stands}
-use Rattle.flow80.proofs.ShownLemmas.{calls_along}
+use Rattle.flow80.proofs.ShownLemmas.{asks_whole, calls_along}
 use Rattle.flow80.proofs.Slices.{within}
 
 pub all_from : {X : Type 0} (P : X → Type 0) (xs : List X) → ((x : X) → Contains xs x → P x) → All P xs
@@ -44,7 +44,7 @@ has_walk laws code known filled p at f walk =
 
 -- a walk at each point of the table, with its counts
 pub walk_at : (code : Code) (known : Known) → IsFilled code known → (i : ℕ) (point : Point) → slice_get known.points i ≡ Some point → Shows code point.procedure point.at point.frame Whole
-walk_at code known filled i point there = (filled.stands.points i point there).by Whole tt
+walk_at code known filled i point there = (filled.stands.points i point there).by Whole (asks_whole (is_exact known.forgets)) tt
 
 -- the depth goes by the counts
 pub depth_same : (role : Role) (f g : StackFrame) → SameCounts f g → depth_of role f ≡ depth_of role g
@@ -79,7 +79,7 @@ pub call_along : FrameLaws → (code : Code) (known : Known) → IsFilled code k
     Calls code point.procedure point.at point.frame target next → (w : StackFrame) → Covers point.frame w → Calls code point.procedure point.at w target next
 call_along laws code known filled i point there target next call w covers =
     subst (λ n. Calls code point.procedure point.at w target n) (sym call.after)
-    (calls_along laws code point.procedure point.at point.frame call.found call.moves
+    (calls_along laws (is_exact known.forgets) code point.procedure point.at point.frame call.found call.moves
     (record { shown = filled.stands.points i point there; looked = call.moving.looked; moved = call.moving.moved }) target call.call w covers)
 
 call_shown : FrameLaws → (code : Code) (known : Known) → IsFilled code known → (c : CallSite) → IsCallAt code known c → HasCall code c.caller c.at c.depth c.target

@@ -1,5 +1,5 @@
 -- What is known stays shown, small and on its way to its end when a point is added, a frame changes or a return is seen.
-use Rattle.std.specs.Prelude.{◌≡◌, ◌≢◌, ◌⊎◌, ◌≤◌, ◌<◌, ◌+◌, ◌*◌, ◌-◌, ℕ, zero, suc, true, false, List, [], ◌∷◌, ◌++◌, length, sum_by, count_by, Option, Some, None, slice_get, slice_set, is_none, cond, Ok, Err, refl}
+use Rattle.std.specs.Prelude.{◌≡◌, ◌≢◌, ◌⊎◌, ◌≤◌, ◌<◌, ◌+◌, ◌*◌, ◌-◌, ℕ, zero, suc, Bool, true, false, List, [], ◌∷◌, ◌++◌, length, sum_by, count_by, Option, Some, None, slice_get, slice_set, is_none, cond, Ok, Err, refl}
 use Rattle.std.proofs.Common.{ap, sym, ◌∙◌, subst, arith, inl, inr, true≢false}
 use Rattle.std.proofs.lemmas.List.Sums.{sum_by-cons, sum_by_push}
 use Rattle.frames80.specs.declared.word.Word.{Word}
@@ -16,20 +16,20 @@ use Rattle.flow80.specs.Faults.{most_points, Many, Differ}
 use Rattle.flow80.specs.Rows.{ReturnsWith}
 use Rattle.flow80.specs.Points.{Point, AreApart, IsPointAt, IsNoPoint, with_frame}
 use Rattle.flow80.specs.Shown.{Whole, Shows, IsShown, FrameLaws}
-use Rattle.flow80.specs.Known.{Known, exit_of, IsWithin, IsSmall, Stands, owns_word, owns, weight, Flows}
+use Rattle.flow80.specs.Known.{Known, is_exact, exit_of, IsWithin, IsSmall, Stands, owns_word, owns, weight, Flows}
 use Rattle.flow80.proofs.Slices.{IsLast, grown, length_grown, IsOther, changed_at, length_changed, sum_changed}
-use Rattle.flow80.proofs.ShownLemmas.{covers_self, counts_agree, met_other, shown_merged, differ}
+use Rattle.flow80.proofs.ShownLemmas.{asks_whole, shown_lesser, covers_self, counts_agree, met_other, shown_merged, differ}
 
 -- a point is added
 abbrev pub added : Known → Point → Known
 added known point = record known { points = known.points ++ point ∷ [] }
 
-pub stands_added : (code : Code) (known : Known) (new : Point) → Stands code known → IsShown code new.procedure new.at new.frame → Stands code (added known new)
-stands_added code known new stands shown = record { points = λ i point is. by i point (grown known.points new i point is); exits = stands.exits }
+pub stands_added : (exact : Bool) (code : Code) (known : Known) (new : Point) → Stands exact code known → IsShown exact code new.procedure new.at new.frame → Stands exact code (added known new)
+stands_added exact code known new stands shown = record { mode = stands.mode; points = λ i point is. by i point (grown known.points new i point is); exits = stands.exits }
   where
-    by : (i : ℕ) (point : Point) → (slice_get known.points i ≡ Some point) ⊎ IsLast known.points new i point → IsShown code point.procedure point.at point.frame
+    by : (i : ℕ) (point : Point) → (slice_get known.points i ≡ Some point) ⊎ IsLast known.points new i point → IsShown exact code point.procedure point.at point.frame
     by i point (inl before) = stands.points i point before
-    by i point (inr last) = subst (λ (p : Point). IsShown code p.procedure p.at p.frame) (sym last.is) shown
+    by i point (inr last) = subst (λ (p : Point). IsShown exact code p.procedure p.at p.frame) (sym last.is) shown
 
 within_more : (n m : ℕ) (f : StackFrame) → n ≤ m → IsWithin n f → IsWithin m f
 within_more n m f more is = record { taken = let t = is.taken in omega arith; words = let w = is.words in omega arith }
@@ -93,12 +93,12 @@ goes_added known new room fits =
 abbrev pub replaced : Known → ℕ → StackFrame → Point → Known
 replaced known at frame point = record known { points = slice_set known.points at (with_frame frame point) }
 
-pub stands_replaced : (code : Code) (known : Known) (at : ℕ) (frame : StackFrame) (point : Point) → Stands code known → IsShown code point.procedure point.at frame →
-    Stands code (replaced known at frame point)
-stands_replaced code known at frame point stands shown = record { points = λ i p is. by i p (changed_at known.points at (with_frame frame point) i p is); exits = stands.exits }
+pub stands_replaced : (exact : Bool) (code : Code) (known : Known) (at : ℕ) (frame : StackFrame) (point : Point) → Stands exact code known → IsShown exact code point.procedure point.at frame →
+    Stands exact code (replaced known at frame point)
+stands_replaced exact code known at frame point stands shown = record { mode = stands.mode; points = λ i p is. by i p (changed_at known.points at (with_frame frame point) i p is); exits = stands.exits }
   where
-    by : (i : ℕ) (p : Point) → ((i ≡ at) × (p ≡ with_frame frame point)) ⊎ IsOther known.points at i p → IsShown code p.procedure p.at p.frame
-    by i p (inl here) = subst (λ (q : Point). IsShown code q.procedure q.at q.frame) (sym here.1) shown
+    by : (i : ℕ) (p : Point) → ((i ≡ at) × (p ≡ with_frame frame point)) ⊎ IsOther known.points at i p → IsShown exact code p.procedure p.at p.frame
+    by i p (inl here) = subst (λ (q : Point). IsShown exact code q.procedure q.at q.frame) (sym here.1) shown
     by i p (inr other) = stands.points i p other.before
 
 pub small_replaced : (known : Known) (at : ℕ) (frame : StackFrame) (point : Point) → IsSmall known → slice_get known.points at ≡ Some point →
@@ -222,8 +222,8 @@ exit_after (x ∷ exits) (suc entry) taken (suc other) seen is = by (exit_after 
     by (inl here) = inl (ap suc here.0, here.1)
     by (inr before) = inr before
 
-pub stands_exit : (code : Code) (known : Known) (entry taken : ℕ) → Stands code known → ReturnsWith code (Entry entry) taken → Stands code (with_exit known entry taken)
-stands_exit code known entry taken stands returns = record { points = stands.points; exits = λ other seen is. by other seen (exit_after known.exits entry taken other seen is) }
+pub stands_exit : (exact : Bool) (code : Code) (known : Known) (entry taken : ℕ) → Stands exact code known → ReturnsWith code (Entry entry) taken → Stands exact code (with_exit known entry taken)
+stands_exit exact code known entry taken stands returns = record { mode = stands.mode; points = stands.points; exits = λ other seen is. by other seen (exit_after known.exits entry taken other seen is) }
   where
     by : (other seen : ℕ) → ((other ≡ entry) × (seen ≡ taken)) ⊎ (exit_of known.exits other ≡ Some seen) → ReturnsWith code (Entry other) seen
     by other seen (inl here) = subst (λ n. ReturnsWith code (Entry other) n) (sym here.1) (subst (λ n. ReturnsWith code (Entry n) taken) (sym here.0) returns)
@@ -259,9 +259,9 @@ picked (p ∷ ps) new (suc n) = by (picked ps new n)
     by (inr past) = inr (record { past = let h = past.past in omega arith; is = past.is })
 
 -- more points than are looked at
-pub many : (code : Code) (known : Known) (new : Point) → Stands code known → IsSmall known → length known.points ≡ most_points → IsShown code new.procedure new.at new.frame →
+pub many : (exact : Bool) (code : Code) (known : Known) (new : Point) → Stands exact code known → IsSmall known → length known.points ≡ most_points → IsShown exact code new.procedure new.at new.frame →
     IsNoPoint known.points new.procedure new.at → Many code (most_points + 1)
-many code known new stands small full shown none = record {
+many exact code known new stands small full shown none = record {
   procedure = λ n. (pick known.points new n).procedure;
   at = λ n. (pick known.points new n).at;
   frame = λ n. (seen n).frame;
@@ -270,12 +270,12 @@ many code known new stands small full shown none = record {
 }
   where
     seen_by : (n : ℕ) → (slice_get known.points n ≡ Some (pick known.points new n)) ⊎ IsPast known.points new n →
-        IsShown code (pick known.points new n).procedure (pick known.points new n).at (pick known.points new n).frame
+        IsShown exact code (pick known.points new n).procedure (pick known.points new n).at (pick known.points new n).frame
     seen_by n (inl there) = stands.points n (pick known.points new n) there
-    seen_by n (inr past) = subst (λ (p : Point). IsShown code p.procedure p.at p.frame) (sym past.is) shown
+    seen_by n (inr past) = subst (λ (p : Point). IsShown exact code p.procedure p.at p.frame) (sym past.is) shown
 
     seen : (n : ℕ) → Shows code (pick known.points new n).procedure (pick known.points new n).at (pick known.points new n).frame Whole
-    seen n = (seen_by n (picked known.points new n)).by Whole tt
+    seen n = (seen_by n (picked known.points new n)).by Whole (asks_whole exact) tt
 
     apart : (n m : ℕ) → n < most_points + 1 → m < most_points + 1 → (pick known.points new n).procedure ≡ (pick known.points new m).procedure →
         (pick known.points new n).at ≡ (pick known.points new m).at → (slice_get known.points n ≡ Some (pick known.points new n)) ⊎ IsPast known.points new n →
@@ -287,16 +287,30 @@ many code known new stands small full shown none = record {
         absurd (none.none m (pick known.points new m) other (sym p ∙ ap (λ (x : Point). x.procedure) one.is) (sym at ∙ ap (λ (x : Point). x.at) one.is))
     apart n m n_few m_few p at (inr one) (inr other) = let a = one.past in let b = other.past in omega arith
 
--- what comes of a frame that leads to a point, case by case
-pub flows_added : (known : Known) (p : Procedure) (to : ℕ) (g : StackFrame) → IsSmall known → length known.points < most_points → IsWithin (length known.points + 1) g →
-    IsNoPoint known.points p to → Flows known (added known (record { procedure = p; at = to; frame = g })) p to g (Ok true)
-flows_added known p to g small room fits none = record {
-  small = small_added known (record { procedure = p; at = to; frame = g }) small room fits none;
-  more = let e = length_grown known.points (record { procedure = p; at = to; frame = g }) in omega arith;
-  stands = λ code stands shown. stands_added code known (record { procedure = p; at = to; frame = g }) stands shown;
-  goes = record { same = λ e. absurd (true≢false e); less = λ _. goes_added known (record { procedure = p; at = to; frame = g }) room fits };
+-- a frame of the same counts is within as many points
+within_counts : (n : ℕ) (k g : StackFrame) → SameCounts k g → IsWithin n g → IsWithin n k
+within_counts n k g same is = record { taken = let t = is.taken in let s = same.taken in omega arith; words = let w = is.words in let s = same.words in omega arith }
+
+-- what is kept of a shown frame is shown
+shown_kept : (exact : Bool) (code : Code) (p : Procedure) (to : ℕ) (g k : StackFrame) (forgets : Bool) → exact ≡ is_exact forgets → Covers k g → (forgets ≡ false → k ≡ g) →
+    IsShown exact code p to g → IsShown exact code p to k
+shown_kept exact code p to g k true mode covers same shown =
+    subst (λ e. IsShown e code p to k) (sym mode) (shown_lesser code p to g k covers (subst (λ e. IsShown e code p to g) mode shown))
+shown_kept exact code p to g k false mode covers same shown = subst (IsShown exact code p to) (sym (same refl)) shown
+
+-- what comes of a frame that leads to a point, case by case; a new point has what is kept of the frame
+pub flows_added : (known : Known) (p : Procedure) (to : ℕ) (g k : StackFrame) → Covers k g → (known.forgets ≡ false → k ≡ g) → IsSmall known → length known.points < most_points →
+    IsWithin (length known.points + 1) g → IsNoPoint known.points p to → Flows known (added known (record { procedure = p; at = to; frame = k })) p to g (Ok true)
+flows_added known p to g k covers same small room fits none = record {
+  small = small_added known (record { procedure = p; at = to; frame = k }) small room within none;
+  more = let e = length_grown known.points (record { procedure = p; at = to; frame = k }) in omega arith;
+  stands = λ exact code stands shown. stands_added exact code known (record { procedure = p; at = to; frame = k }) stands (shown_kept exact code p to g k known.forgets stands.mode covers same shown);
+  goes = record { same = λ e. absurd (true≢false e); less = λ _. goes_added known (record { procedure = p; at = to; frame = k }) room within };
   has = λ e. absurd (true≢false e);
 }
+  where
+    within : IsWithin (length known.points + 1) k
+    within = within_counts (length known.points + 1) k g covers.counts fits
 
 pub flows_too_many : (known new : Known) (p : Procedure) (to : ℕ) (g : StackFrame) → IsSmall known → most_points ≤ length known.points →
     IsNoPoint known.points p to → Flows known new p to g (Err TooManyPoints)
@@ -305,7 +319,7 @@ flows_too_many known new p to g small full none = record {
   more = tt;
   goes = tt;
   has = tt;
-  stands = λ code stands shown. many code known (record { procedure = p; at = to; frame = g }) stands small (let few = small.points in omega arith) shown none;
+  stands = λ exact code stands shown. many exact code known (record { procedure = p; at = to; frame = g }) stands small (let few = small.points in omega arith) shown none;
 }
 
 -- a frame that changes nothing where it is met is covered
@@ -320,7 +334,7 @@ pub flows_same : FrameLaws → (known : Known) (p : Procedure) (to i : ℕ) (g :
 flows_same laws known p to i g at small same unchanged = record {
   small = small;
   more = omega arith;
-  stands = λ code stands shown. stands;
+  stands = λ exact code stands shown. stands;
   goes = record { same = λ _. refl; less = λ e. absurd (true≢false (sym e)) };
   has = λ _. record {
     number = i;
@@ -335,18 +349,18 @@ flows_same laws known p to i g at small same unchanged = record {
 merged_counts : FrameLaws → (f g : StackFrame) → agree f g ≡ true → SameCounts (merged f g) f
 merged_counts laws f g same = ((laws.covered f f (covers_self f)).meet g same).counts
 
-shown_there : (code : Code) (point : Point) (p : Procedure) (to : ℕ) (g : StackFrame) → point.procedure ≡ p → point.at ≡ to → IsShown code p to g → IsShown code point.procedure point.at g
-shown_there code point p to g procedure address shown =
-    subst (λ (q : Procedure). IsShown code q point.at g) (sym procedure) (subst (λ a. IsShown code p a g) (sym address) shown)
+shown_there : (exact : Bool) (code : Code) (point : Point) (p : Procedure) (to : ℕ) (g : StackFrame) → point.procedure ≡ p → point.at ≡ to → IsShown exact code p to g → IsShown exact code point.procedure point.at g
+shown_there exact code point p to g procedure address shown =
+    subst (λ (q : Procedure). IsShown exact code q point.at g) (sym procedure) (subst (λ a. IsShown exact code p a g) (sym address) shown)
 
 pub flows_replaced : FrameLaws → (known : Known) (p : Procedure) (to i : ℕ) (g : StackFrame) → (at : IsPointAt known.points p to i) → IsSmall known →
     agree at.point.frame g ≡ true → (merged at.point.frame g ≢ at.point.frame) → Flows known (replaced known i (merged at.point.frame g) at.point) p to g (Ok true)
 flows_replaced laws known p to i g at small same changed = record {
   small = small_replaced known i (merged at.point.frame g) at.point small at.stands (merged_counts laws at.point.frame g same);
   more = let e = length_changed known.points i (with_frame (merged at.point.frame g) at.point) in omega arith;
-  stands = λ code stands shown. stands_replaced code known i (merged at.point.frame g) at.point stands
-      (shown_merged laws code at.point.procedure at.point.at at.point.frame g (stands.points i at.point at.stands)
-      (shown_there code at.point p to g at.in_procedure at.at_address shown) same);
+  stands = λ exact code stands shown. stands_replaced exact code known i (merged at.point.frame g) at.point stands
+      (shown_merged laws exact code at.point.procedure at.point.at at.point.frame g (stands.points i at.point at.stands)
+      (shown_there exact code at.point p to g at.in_procedure at.at_address shown) same);
   goes = record { same = λ e. absurd (true≢false e); less = λ _. goes_replaced known i (merged at.point.frame g) at.point at.stands (owns_met at.point.frame g (counts_agree at.point.frame g same) changed) };
   has = λ e. absurd (true≢false e);
 }
@@ -358,7 +372,7 @@ flows_differ known new p to i g at apart = record {
   more = tt;
   goes = tt;
   has = tt;
-  stands = λ code stands shown.
+  stands = λ exact code stands shown.
       subst (λ a. Differ code a) at.at_address
-      (differ code at.point.procedure at.point.at at.point.frame g (stands.points i at.point at.stands) (shown_there code at.point p to g at.in_procedure at.at_address shown) apart);
+      (differ exact code at.point.procedure at.point.at at.point.frame g (stands.points i at.point at.stands) (shown_there exact code at.point p to g at.in_procedure at.at_address shown) apart);
 }

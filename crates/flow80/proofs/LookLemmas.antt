@@ -1,6 +1,6 @@
 -- Many looks, one after another.
 use Rattle.std.specs.Prelude.{◌≡◌, ◌<◌, ◌≤◌, ◌+◌, ◌⊎◌, ◌||◌, ℕ, zero, suc, Bool, true, false, [], length, replicate, Some, None, Ok, Err, slice_get, refl}
-use Rattle.std.proofs.Common.{ap, sym, subst, arith, inl, inr}
+use Rattle.std.proofs.Common.{ap, sym, subst, arith, inl, inr, true≢false}
 use Rattle.flow80.specs.declared.refusal.Refusal.{Refusal}
 use Rattle.flow80.specs.Code.{Code}
 use Rattle.frames80.specs.StackFrame.{StackFrame, main_frame}
@@ -8,7 +8,7 @@ use Rattle.bounds80.specs.declared.procedure.Procedure.{Procedure}
 use Rattle.bounds80.specs.declared.procedure.Procedure.TheVariants.{Main}
 use Rattle.flow80.specs.Points.{Point}
 use Rattle.flow80.specs.Shown.{IsShown}
-use Rattle.flow80.specs.Known.{Known, nothing_known, exit_of, IsSmall, Stands, HasPoint, Flows, Goes, Ongoing, Looks, Sweeps, AreClosed, AllClosed, weight}
+use Rattle.flow80.specs.Known.{Known, is_exact, nothing_known, exit_of, IsSmall, Stands, HasPoint, Flows, Goes, Ongoing, Looks, Sweeps, AreClosed, AllClosed, weight}
 use Rattle.flow80.proofs.Slices.{within}
 use Rattle.flow80.proofs.StepLemmas.{goes_then, first_false, second_false}
 
@@ -26,18 +26,18 @@ pub ongoing_more : (code : Code) (old mid new : Known) (one other : Bool) → On
 ongoing_more code old mid new one other first second = record {
   small = second.small;
   more = let a = first.more in let b = second.more in omega arith;
-  stands = λ stands. second.stands (first.stands stands);
+  stands = λ exact stands. second.stands exact (first.stands exact stands);
   goes = goes_then old mid new one other first.goes second.goes;
 }
 
-pub ongoing_flow : (code : Code) (old new : Known) (p : Procedure) (to : ℕ) (g : StackFrame) (changed : Bool) → IsShown code p to g → Flows old new p to g (Ok changed) → Ongoing code old new changed
-ongoing_flow code old new p to g changed shown flows = record { small = flows.small; more = flows.more; stands = λ stands. flows.stands code stands shown; goes = flows.goes }
+pub ongoing_flow : (code : Code) (old new : Known) (p : Procedure) (to : ℕ) (g : StackFrame) (changed : Bool) → ((exact : Bool) → IsShown exact code p to g) → Flows old new p to g (Ok changed) → Ongoing code old new changed
+ongoing_flow code old new p to g changed shown flows = record { small = flows.small; more = flows.more; stands = λ exact stands. flows.stands exact code stands (shown exact); goes = flows.goes }
 
-pub flow_refused : (code : Code) (old new last : Known) (p : Procedure) (to : ℕ) (g : StackFrame) (refusal : Refusal) → IsShown code p to g → Flows old new p to g (Err refusal) → Looks code old last (Err refusal)
-flow_refused code old new last p to g refusal shown flows = record { ongoing = tt; refused = λ stands. flows.stands code stands shown }
+pub flow_refused : (code : Code) (old new last : Known) (p : Procedure) (to : ℕ) (g : StackFrame) (refusal : Refusal) → ((exact : Bool) → IsShown exact code p to g) → Flows old new p to g (Err refusal) → Looks code old last (Err refusal)
+flow_refused code old new last p to g refusal shown flows = record { ongoing = tt; refused = λ exact stands. flows.stands exact code stands (shown exact) }
 
 pub more_refused : (code : Code) (old mid new : Known) (one : Bool) (refusal : Refusal) → Ongoing code old mid one → Looks code mid new (Err refusal) → (last : Known) → Looks code old last (Err refusal)
-more_refused code old mid new one refusal first looks last = record { ongoing = tt; refused = λ stands. looks.refused (first.stands stands) }
+more_refused code old mid new one refusal first looks last = record { ongoing = tt; refused = λ exact stands. looks.refused exact (first.stands exact stands) }
 
 -- where the start and a pass change nothing the table is closed
 pub all_closed : (code : Code) (old mid new : Known) (begun passed : Bool) → Flows old mid Main code.start main_frame (Ok begun) → Ongoing code mid new passed →
@@ -58,7 +58,7 @@ no_more old new false goes = let same = ap weight (goes.same refl) in omega arit
 pub sweeps_done : (code : Code) (old drained new : Known) (some changed : Bool) → Ongoing code old drained some → Ongoing code drained new changed → Sweeps code old new (Ok changed)
 sweeps_done code old drained new some changed first second = record {
   small = second.small;
-  stands = λ stands. second.stands (first.stands stands);
+  stands = λ exact stands. second.stands exact (first.stands exact stands);
   no_more = let a = no_more old drained some first.goes in let b = no_more drained new changed second.goes in omega arith;
   less = λ is. let a = no_more old drained some first.goes in let b = second.goes.less is in omega arith;
 }
@@ -75,12 +75,19 @@ none_known (suc n) (suc entry) taken is = none_known n entry taken is
 no_points : {B : Type 0} (i : ℕ) (point : Point) → slice_get [] i ≡ Some point → B
 no_points i point is = absurd (let e : None ≡ Some point = is in cc)
 
-pub nothing_stands : (code : Code) (known : Known) → known ≡ nothing_known → Stands code known
-nothing_stands code known is = subst (Stands code) (sym is) (record { points = λ i point there. no_points i point there; exits = λ entry taken seen. absurd (none_known 65536 entry taken seen) })
+pub nothing_stands : (exact : Bool) (code : Code) (known : Known) (forgets : Bool) → known ≡ nothing_known forgets → exact ≡ is_exact forgets → Stands exact code known
+nothing_stands exact code known forgets is mode = subst (Stands exact code) (sym is) (record { mode = mode; points = λ i point there. no_points i point there; exits = λ entry taken seen. absurd (none_known 65536 entry taken seen) })
 
-pub nothing_small : (known : Known) → known ≡ nothing_known → IsSmall known
-nothing_small known is = subst IsSmall (sym is) (record {
+pub nothing_small : (known : Known) (forgets : Bool) → known ≡ nothing_known forgets → IsSmall known
+nothing_small known forgets is = subst IsSmall (sym is) (record {
   points = omega arith;
   frames = λ i point there. no_points i point there;
   apart = record { apart = λ i j a b one other p at. no_points i a one };
 })
+
+-- what is asked of frames tells whether they forget
+pub same_mode : (one other : Bool) → is_exact one ≡ is_exact other → one ≡ other
+same_mode true true same = refl
+same_mode true false same = absurd (true≢false (sym same))
+same_mode false true same = absurd (true≢false same)
+same_mode false false same = refl

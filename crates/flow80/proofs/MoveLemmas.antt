@@ -1,17 +1,19 @@
 -- What becomes of frames with the same counts at one instruction, by its effect.
-use Rattle.std.specs.Prelude.{◌≡◌, ℕ, List, Option, Some, None, Ok, Err, refl}
+use Rattle.std.specs.Prelude.{◌≡◌, ◌≢◌, ℕ, Bool, true, false, List, Option, Some, None, Ok, Err, refl, if◌then◌else◌}
 use Rattle.std.proofs.Common.{ap, sym, ◌∙◌}
 use Rattle.frames80.specs.declared.word.Word.{Word}
 use Rattle.frames80.specs.declared.word.Word.TheVariants.{Own, Any}
 use Rattle.frames80.specs.declared.role.Role.{Role}
+use Rattle.frames80.specs.declared.role.Role.TheVariants.{Main, Entry}
 use Rattle.frames80.specs.declared.fault.FrameFault.{FrameFault}
+use Rattle.frames80.specs.declared.fault.FrameFault.TheVariants.{ReturnNotOwn}
 use Rattle.frames80.specs.declared.effect.Change.{Change}
 use Rattle.frames80.specs.declared.effect.Change.TheVariants.{Keep}
 use Rattle.frames80.specs.declared.effect.Effect.{Effect}
 use Rattle.frames80.specs.declared.effect.Effect.TheVariants.{Change as Changes, Halt, Jump, JumpIf, Case, Call, CallIf, Return, ReturnIf, Refuse}
 use Rattle.frames80.specs.declared.moves.Moves.{Moves}
 use Rattle.frames80.specs.StackFrame.{StackFrame}
-use Rattle.frames80.specs.Moves.{moves_of, changed, change_fault, return_fault, unless}
+use Rattle.frames80.specs.Moves.{moves_of, changed, change_fault, return_fault, is_own_alone, unless}
 use Rattle.frames80.specs.Places.{InWord, word_at, Covers}
 use Rattle.interned80.specs.Admitted.{move_of}
 use Rattle.flow80.specs.Walks.{LeadsTo, called, returning}
@@ -179,3 +181,30 @@ pub refused_along : FrameLaws → (role : Role) (effect : Effect) (f w : StackFr
     moves_of role effect f ≡ Err fault → moves_of role effect w ≡ Err fault
 refused_along laws role effect f w fault covers answer is =
     moves_err role effect w fault (refused_fault laws role effect f w fault covers answer (refused_is role effect f fault is))
+
+-- the counts refuse all but a word that isn't the return address
+own_refused : (role : Role) (xs ys : List Word) (fault : FrameFault) → fault ≢ ReturnNotOwn → return_fault role xs ≡ Some fault → return_fault role ys ≡ Some fault
+own_refused (Main top) xs ys fault apart some = some
+own_refused Entry xs ys fault apart some = absurd (apart (not_own (is_own_alone xs) some))
+  where
+    not_own : (alone : Bool) → (if alone then None else Some ReturnNotOwn) ≡ Some fault → fault ≡ ReturnNotOwn
+    not_own true is = absurd (let e : None ≡ Some fault = is in cc)
+    not_own false is = cc
+
+counted_fault : FrameLaws → (role : Role) (effect : Effect) (f w : StackFrame) (fault : FrameFault) → Covers f w → fault ≢ ReturnNotOwn →
+    fault_of role effect f ≡ Some fault → fault_of role effect w ≡ Some fault
+counted_fault laws role (Changes change) f w fault covers apart some = sym ((laws.counts f w covers.counts).fault role change) ∙ some
+counted_fault laws role Halt f w fault covers apart some = some
+counted_fault laws role (Jump to) f w fault covers apart some = some
+counted_fault laws role (JumpIf to) f w fault covers apart some = some
+counted_fault laws role Case f w fault covers apart some = some
+counted_fault laws role (Call to) f w fault covers apart some = some
+counted_fault laws role (CallIf to) f w fault covers apart some = some
+counted_fault laws role Return f w fault covers apart some = own_refused role f.words w.words fault apart some
+counted_fault laws role ReturnIf f w fault covers apart some = own_refused role f.words w.words fault apart some
+counted_fault laws role (Refuse found) f w fault covers apart some = some
+
+pub refused_by_counts : FrameLaws → (role : Role) (effect : Effect) (f w : StackFrame) (fault : FrameFault) → Covers f w → fault ≢ ReturnNotOwn →
+    moves_of role effect f ≡ Err fault → moves_of role effect w ≡ Err fault
+refused_by_counts laws role effect f w fault covers apart is =
+    moves_err role effect w fault (counted_fault laws role effect f w fault covers apart (refused_is role effect f fault is))

@@ -22,15 +22,14 @@ use Rattle.flow80.specs.declared.refusal.Refusal.TheVariants.{ShortArguments}
 use Rattle.flow80.specs.declared.site.Site.{Site}
 use Rattle.flow80.specs.Code.{Code}
 use Rattle.flow80.specs.Walks.{Walk, Moving, Calls, called, role_of}
-use Rattle.flow80.specs.Faults.{HoldsAnyway as Refused}
 use Rattle.flow80.specs.Points.{Point, IsPointAt, IsNoPoint}
 use Rattle.bounds80.specs.Chains.{slot_of, bytes_of}
 use Rattle.flow80.specs.Shown.{Whole, FrameLaws}
-use Rattle.flow80.specs.Known.{Known, Stands, IsShort}
+use Rattle.flow80.specs.Known.{Known, Refused, Stands, IsShort}
 use Rattle.flow80.specs.Survey.{IsSeen, IsCallOf, noted, IsMoveAt, IsEntered, TakesAt, AreWants, AreMarked, depth_at, call_at, IsDepthAt, IsCallAt, IsSurvey, row_of, IsRowIn, AreListed}
 use Rattle.flow80.proofs.FitLemmas.{found_same}
 use Rattle.flow80.proofs.LookLemmas.{split}
-use Rattle.flow80.proofs.ShownLemmas.{short}
+use Rattle.flow80.proofs.ShownLemmas.{asks_whole, short}
 
 -- one number more below a count
 below_more : {X : Type 0} (count i : ℕ) (point : Point) → (xs : List Point) → slice_get xs count ≡ Some point → (other : Point) → i < count + 1 → slice_get xs i ≡ Some other →
@@ -179,25 +178,25 @@ survey_noted code known wants i depths calls d call seen s = by (called seen.mov
     by (Some target) is (Some c) of = survey_call code known wants i depths calls seen.site seen.moves d target c seen.move seen.depth_is is of.0 of.1 s
 
 -- a caller without the words that its callee wants: one of the callee's walks has taken them
-pub short_here : FrameLaws → (code : Code) (known : Known) (wants : List ℕ) (i : ℕ) (site : Site) (moves : Moves) (target : ℕ) (f : StackFrame) (refusal : Refusal) →
+pub short_here : FrameLaws → (exact : Bool) (code : Code) (known : Known) (wants : List ℕ) (i : ℕ) (site : Site) (moves : Moves) (target : ℕ) (f : StackFrame) (refusal : Refusal) →
     (m : IsMoveAt code known i site moves) → f ≡ m.point.frame → called moves ≡ Some target → AreWants known.points wants (length known.points) →
-    IsShort site.at (room site.role f.words) (bytes_of wants (Entry target)) refusal → Stands code known → Refused code refusal
-short_here laws code known wants i site moves target f refusal m frame call are is stands = elim is [
-  | inl memory ↦ subst (Refused code) (sym memory) tt
-  | inr found ↦ subst (Refused code) (sym found.0) (elim (are.reached (Entry target)) [
+    IsShort site.at (room site.role f.words) (bytes_of wants (Entry target)) refusal → Stands exact code known → Refused exact code refusal
+short_here laws exact code known wants i site moves target f refusal m frame call are is stands = elim is [
+  | inl memory ↦ subst (Refused exact code) (sym memory) tt
+  | inr found ↦ subst (Refused exact code) (sym found.0) (elim (are.reached (Entry target)) [
     | inl none ↦ absurd (omega (arith, none, found.1))
     | inr takes ↦ by_walk takes found.1
   ])
 ]
   where
-    by_walk : TakesAt known.points (Entry target) (bytes_of wants (Entry target)) → room site.role f.words < bytes_of wants (Entry target) → Refused code (ShortArguments site.at)
+    by_walk : TakesAt known.points (Entry target) (bytes_of wants (Entry target)) → room site.role f.words < bytes_of wants (Entry target) → Refused exact code (ShortArguments site.at)
     by_walk takes less =
-        let shown = (stands.points takes.number takes.point takes.there).by Whole tt in
+        let shown = (stands.points takes.number takes.point takes.there).by Whole (asks_whole exact) tt in
         let there = stands.points i m.point m.there in
         let same_room : room site.role f.words ≡ room (role_of code m.point.procedure) m.point.frame.words =
         ap (λ (g : StackFrame). room site.role g.words) frame ∙ ap (λ r. room r m.point.frame.words) m.role in
-        subst (λ a. Refused code (ShortArguments a)) (sym m.address)
-        (short laws code m.point.procedure m.point.at m.point.frame m.found moves (record { shown = there; looked = m.moving.looked; moved = m.moving.moved }) target takes.point.at shown.frame call
+        subst (λ a. Refused exact code (ShortArguments a)) (sym m.address)
+        (short laws exact code m.point.procedure m.point.at m.point.frame m.found moves (record { shown = there; looked = m.moving.looked; moved = m.moving.moved }) target takes.point.at shown.frame call
         (subst (λ (q : Procedure). Walk code q takes.point.at shown.frame) takes.procedure shown.walk)
         (let taken = shown.covers.counts.taken in omega (arith, same_room, less, takes.is, taken)))
 

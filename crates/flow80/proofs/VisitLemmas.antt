@@ -22,43 +22,44 @@ use Rattle.flow80.specs.declared.refusal.Refusal.{Refusal}
 use Rattle.flow80.specs.Refusal.{refusal_of, look_refusal}
 use Rattle.flow80.specs.Code.{Code}
 use Rattle.flow80.specs.Walks.{role_of}
-use Rattle.flow80.specs.Faults.{HoldsAnyway as Refused, LooksWrong}
+use Rattle.flow80.specs.Faults.{LooksWrong}
 use Rattle.flow80.specs.Points.{Point}
 use Rattle.flow80.specs.declared.site.Site.{Site}
 use Rattle.flow80.specs.Survey.{IsMoveAt, EffectIsAt}
-use Rattle.flow80.specs.Shown.{IsShown, FrameLaws}
-use Rattle.flow80.specs.Known.{Known, KnownFrames, IsWithin, Stands, Goes, Carries, Steps, Follows, IsClosed, Visits}
-use Rattle.flow80.proofs.MoveLemmas.{moved_is}
-use Rattle.flow80.proofs.ShownLemmas.{looks_wrong, moves_wrong}
+use Rattle.flow80.specs.Shown.{Asks, IsShown, FrameLaws}
+use Rattle.flow80.specs.Known.{Known, Refused, KnownFrames, IsWithin, Stands, Goes, Carries, Steps, Follows, IsClosed, Visits}
+use Rattle.flow80.proofs.MoveLemmas.{moved_is, query_of}
+use Rattle.flow80.proofs.ShownLemmas.{looks_wrong, moves_wrong, moves_wrong_by_counts}
 
 pub some_at : {A : Type 0} (xs : List A) (i : ℕ) → i < length xs → (x : A) × (slice_get xs i ≡ Some x)
 some_at [] i less = absurd (omega arith)
 some_at (x ∷ xs) zero less = (x, refl)
 some_at (x ∷ xs) (suc i) less = some_at xs i (omega arith)
 
-refused_look : (code : Code) (at : ℕ) (fault : LookFault) → LooksWrong code at fault → Refused code (look_refusal fault at)
-refused_look code at Outside wrong = wrong
-refused_look code at Unused wrong = wrong
-refused_look code at EnablesInterrupts wrong = wrong
-refused_look code at Pchl wrong = wrong
-refused_look code at DirectStore wrong = wrong
+refused_look : (exact : Bool) (code : Code) (at : ℕ) (fault : LookFault) → LooksWrong code at fault → Refused exact code (look_refusal fault at)
+refused_look exact code at Outside wrong = wrong
+refused_look exact code at Unused wrong = wrong
+refused_look exact code at EnablesInterrupts wrong = wrong
+refused_look exact code at Pchl wrong = wrong
+refused_look exact code at DirectStore wrong = wrong
 
-pub look_refused : (code : Code) (known : Known) (i at : ℕ) (point : Point) (fault : LookFault) → slice_get known.points i ≡ Some point → point.at ≡ at →
-    code.look at ≡ Err fault → Stands code known → Refused code (look_refusal fault at)
-look_refused code known i at point fault there address looked stands =
-    refused_look code at fault
-    (looks_wrong code point.procedure at point.frame fault (subst (λ a. IsShown code point.procedure a point.frame) address (stands.points i point there)) looked)
+pub look_refused : (exact : Bool) (code : Code) (known : Known) (i at : ℕ) (point : Point) (fault : LookFault) → slice_get known.points i ≡ Some point → point.at ≡ at →
+    code.look at ≡ Err fault → Stands exact code known → Refused exact code (look_refusal fault at)
+look_refused exact code known i at point fault there address looked stands =
+    refused_look exact code at fault
+    (looks_wrong exact code point.procedure at point.frame fault (subst (λ a. IsShown exact code point.procedure a point.frame) address (stands.points i point there)) looked)
 
 -- what a frame's fault is refused by
-refused_move : FrameLaws → (code : Code) (p : Procedure) (at : ℕ) (f : StackFrame) (found : Fetched) (fault : FrameFault) → IsShown code p at f →
-    code.look at ≡ Ok found → ((fault ≢ Memory) → moves_of (role_of code p) (effect_of found.instr) f ≡ Err fault) → Refused code (refusal_of fault at)
-refused_move laws code p at f found Sphl shown looked moved = moves_wrong laws code p at f found Sphl shown looked (moved (λ e. cc))
-refused_move laws code p at f found StackByByte shown looked moved = moves_wrong laws code p at f found StackByByte shown looked (moved (λ e. cc))
-refused_move laws code p at f found SetsStack shown looked moved = moves_wrong laws code p at f found SetsStack shown looked (moved (λ e. cc))
-refused_move laws code p at f found PopsBelow shown looked moved = moves_wrong laws code p at f found PopsBelow shown looked (moved (λ e. cc))
-refused_move laws code p at f found ReturnNotOwn shown looked moved = moves_wrong laws code p at f found ReturnNotOwn shown looked (moved (λ e. cc))
-refused_move laws code p at f found ReturnFromMain shown looked moved = moves_wrong laws code p at f found ReturnFromMain shown looked (moved (λ e. cc))
-refused_move laws code p at f found Memory shown looked moved = tt
+refused_move : FrameLaws → (exact : Bool) (code : Code) (p : Procedure) (at : ℕ) (f : StackFrame) (found : Fetched) (fault : FrameFault) → IsShown exact code p at f →
+    code.look at ≡ Ok found → ((fault ≢ Memory) → moves_of (role_of code p) (effect_of found.instr) f ≡ Err fault) → Refused exact code (refusal_of fault at)
+refused_move laws exact code p at f found Sphl shown looked moved = moves_wrong_by_counts laws exact code p at f found Sphl shown looked (moved (λ e. cc)) (λ e. cc)
+refused_move laws exact code p at f found StackByByte shown looked moved = moves_wrong_by_counts laws exact code p at f found StackByByte shown looked (moved (λ e. cc)) (λ e. cc)
+refused_move laws exact code p at f found SetsStack shown looked moved = moves_wrong_by_counts laws exact code p at f found SetsStack shown looked (moved (λ e. cc)) (λ e. cc)
+refused_move laws exact code p at f found PopsBelow shown looked moved = moves_wrong_by_counts laws exact code p at f found PopsBelow shown looked (moved (λ e. cc)) (λ e. cc)
+refused_move laws exact code p at f found ReturnNotOwn shown looked moved = λ all. moves_wrong laws exact code p at f found ReturnNotOwn shown looked (moved (λ e. cc))
+    (subst (λ (e : Bool). Asks e (query_of (effect_of found.instr) f)) (sym all) tt)
+refused_move laws exact code p at f found ReturnFromMain shown looked moved = moves_wrong_by_counts laws exact code p at f found ReturnFromMain shown looked (moved (λ e. cc)) (λ e. cc)
+refused_move laws exact code p at f found Memory shown looked moved = tt
 
 -- the point that is looked at
 pub record AtPoint (code : Code) (known : Known) (i : ℕ) (p : Procedure) (at : ℕ) (f : StackFrame) : Type 0 where
@@ -68,16 +69,16 @@ pub record AtPoint (code : Code) (known : Known) (i : ℕ) (p : Procedure) (at :
   pub address : point.at ≡ at
   pub frame : point.frame ≡ f
 
-shown_at : (code : Code) (known : Known) (i : ℕ) (p : Procedure) (at : ℕ) (f : StackFrame) → AtPoint code known i p at f → Stands code known → IsShown code p at f
-shown_at code known i p at f here stands =
-    subst (λ (q : Procedure). IsShown code q at f) here.procedure
-    (subst (λ a. IsShown code here.point.procedure a f) here.address
-    (subst (λ (g : StackFrame). IsShown code here.point.procedure here.point.at g) here.frame (stands.points i here.point here.there)))
+shown_at : (exact : Bool) (code : Code) (known : Known) (i : ℕ) (p : Procedure) (at : ℕ) (f : StackFrame) → AtPoint code known i p at f → Stands exact code known → IsShown exact code p at f
+shown_at exact code known i p at f here stands =
+    subst (λ (q : Procedure). IsShown exact code q at f) here.procedure
+    (subst (λ a. IsShown exact code here.point.procedure a f) here.address
+    (subst (λ (g : StackFrame). IsShown exact code here.point.procedure here.point.at g) here.frame (stands.points i here.point here.there)))
 
-pub move_refused : FrameLaws → (code : Code) (known : Known) (i : ℕ) (p : Procedure) (at : ℕ) (f : StackFrame) (found : Fetched) (fault : FrameFault) →
+pub move_refused : FrameLaws → (exact : Bool) (code : Code) (known : Known) (i : ℕ) (p : Procedure) (at : ℕ) (f : StackFrame) (found : Fetched) (fault : FrameFault) →
     AtPoint code known i p at f → code.look at ≡ Ok found → ((fault ≢ Memory) → moves_of (role_of code p) (effect_of found.instr) f ≡ Err fault) →
-    Stands code known → Refused code (refusal_of fault at)
-move_refused laws code known i p at f found fault here looked moved stands = refused_move laws code p at f found fault (shown_at code known i p at f here stands) looked moved
+    Stands exact code known → Refused exact code (refusal_of fault at)
+move_refused laws exact code known i p at f found fault here looked moved stands = refused_move laws exact code p at f found fault (shown_at exact code known i p at f here stands) looked moved
 
 -- the move at a point
 pub moves_at_point : (code : Code) (known : Known) (i : ℕ) (p : Procedure) (at : ℕ) (f : StackFrame) (found : Fetched) (role : Role) (moves : Moves) (frame : ℕ) →
@@ -120,7 +121,7 @@ visits_follow : (code : Code) (known new : Known) (i : ℕ) (p : Procedure) (at 
 visits_follow code known new i p at targets next role f found moves result here looked same_targets same_next same_role moved steps = record {
   small = steps.small;
   more = steps.more;
-  stands = λ stands. steps.stands code f found stands (record { shown = shown_at code known i p at f here stands; looked = looked; moved = moved_here }) carries same_targets same_next same_role;
+  stands = λ exact stands. steps.stands exact code f found stands (record { shown = shown_at exact code known i p at f here stands; looked = looked; moved = moved_here }) carries same_targets same_next same_role;
   goes = steps.goes;
   closed = by result steps.goes steps.follows;
 }

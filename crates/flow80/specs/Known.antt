@@ -10,29 +10,48 @@ use Rattle.frames80.specs.declared.moves.Moves.TheVariants.{End, On, Jump, Eithe
 use Rattle.frames80.specs.StackFrame.{StackFrame, entry_frame, main_frame}
 use Rattle.frames80.specs.Calls.{returned}
 use Rattle.frames80.specs.Places.{Covers}
+use Rattle.interned80.specs.Frames.{frame_at}
 use Rattle.bounds80.specs.declared.procedure.Procedure.{Procedure}
 use Rattle.bounds80.specs.declared.procedure.Procedure.TheVariants.{Main, Entry}
 use Rattle.flow80.specs.Code.{Code}
 use Rattle.flow80.specs.Walks.{Moving, LeadsTo, called, returning, role_of}
 use Rattle.flow80.specs.declared.refusal.Refusal.{Refusal}
-use Rattle.flow80.specs.declared.refusal.Refusal.TheVariants.{ShortArguments, Memory}
-use Rattle.flow80.specs.Faults.{most_points, HoldsAnyway as Refused}
+use Rattle.flow80.specs.declared.refusal.Refusal.TheVariants.{ReturnNotOwn, ShortArguments, Memory}
+use Rattle.flow80.specs.Faults.{most_points, HoldsAnyway}
 use Rattle.flow80.specs.Rows.{ReturnsWith}
 use Rattle.flow80.specs.Points.{Point, AreApart}
 use Rattle.flow80.specs.Shown.{IsShown, AtMove}
 
+-- whether frames forget what no return asks for
 pub record Known : Type 0 where
   pub points : List Point
   pub exits : List (Option ℕ)
+  pub forgets : Bool
 
 -- what is known, and the frames by number
 pub record KnownFrames : Type 0 where
   pub known : Known
   pub frames : List StackFrame
 
+-- everything is asked of frames that forget nothing
+abbrev pub is_exact : (forgets : Bool) → Bool
+is_exact true = false
+is_exact false = true
+
 -- nothing is known yet
-abbrev pub nothing_known : Known
-nothing_known = record { points = []; exits = replicate 65536 None }
+abbrev pub nothing_known : (forgets : Bool) → Known
+nothing_known forgets = record { points = []; exits = replicate 65536 None; forgets = forgets }
+
+-- a refusal holds; that a word isn't the return address does only where frames forget nothing
+abbrev pub Refused : (exact : Bool) → Code → Refusal → Type 0
+Refused exact code (ReturnNotOwn at) = exact ≡ true → HoldsAnyway code (ReturnNotOwn at)
+Refused exact code refusal = HoldsAnyway code refusal
+
+-- a number has a frame that covers this one, and is this one where nothing is forgotten
+pub record Lessens (forgets : Bool) (frames : List StackFrame) (id : ℕ) (frame : StackFrame) : Type 0 where
+  pub there : id < length frames
+  pub covers : Covers (frame_at frames id) frame
+  pub same : forgets ≡ false → frame_at frames id ≡ frame
 
 -- how many words a procedure takes where it returns, once a return was seen
 abbrev pub known_at : Option (Option ℕ) → Option ℕ
@@ -57,9 +76,10 @@ pub record IsSmall (known : Known) : Type 0 where
   pub frames : (i : ℕ) (point : Point) → slice_get known.points i ≡ Some point → IsWithin (length known.points) point.frame
   pub apart : AreApart known.points
 
--- all of it is shown by walks
-pub record Stands (code : Code) (known : Known) : Type 0 where
-  pub points : (i : ℕ) (point : Point) → slice_get known.points i ≡ Some point → IsShown code point.procedure point.at point.frame
+-- all of it is shown by walks: the counts alone where frames forget
+pub record Stands (exact : Bool) (code : Code) (known : Known) : Type 0 where
+  pub mode : exact ≡ is_exact known.forgets
+  pub points : (i : ℕ) (point : Point) → slice_get known.points i ≡ Some point → IsShown exact code point.procedure point.at point.frame
   pub exits : (entry taken : ℕ) → exit_of known.exits entry ≡ Some taken → ReturnsWith code (Entry entry) taken
 
 -- how far the table is from its end: a measure that falls with each change
@@ -102,8 +122,8 @@ pub record Follows (known : Known) (p : Procedure) (targets : List ℕ) (f : Sta
 pub record Flows (old new : Known) (p : Procedure) (to : ℕ) (g : StackFrame) (result : Result Bool Refusal) : Type 0 where
   pub small : OnOk result (IsSmall new)
   pub more : OnOk result (length old.points ≤ length new.points)
-  pub stands : (code : Code) → Stands code old → IsShown code p to g →
-      MatchResult result (λ _. Stands code new) (λ refusal. Refused code refusal)
+  pub stands : (exact : Bool) (code : Code) → Stands exact code old → IsShown exact code p to g →
+      MatchResult result (λ _. Stands exact code new) (λ refusal. Refused exact code refusal)
   pub goes : IfOk result (λ changed. Goes old new changed)
   pub has : IfOk result (λ changed. changed ≡ false → HasPoint new p to g)
 
@@ -124,9 +144,9 @@ pub record Steps (old new : Known) (p : Procedure) (at : ℕ) (targets : List �
     (result : Result Bool Refusal) : Type 0 where
   pub small : OnOk result (IsSmall new)
   pub more : OnOk result (length old.points ≤ length new.points)
-  pub stands : (code : Code) (f : StackFrame) (found : Fetched) → Stands code old → AtMove code p at f found moves →
-      Carries moves f → targets ≡ code.targets at → found.next ≡ next → role ≡ role_of code p →
-      MatchResult result (λ _. Stands code new) (λ refusal. Refused code refusal)
+  pub stands : (exact : Bool) (code : Code) (f : StackFrame) (found : Fetched) → Stands exact code old →
+      AtMove exact code p at f found moves → Carries moves f → targets ≡ code.targets at → found.next ≡ next →
+      role ≡ role_of code p → MatchResult result (λ _. Stands exact code new) (λ refusal. Refused exact code refusal)
   pub goes : IfOk result (λ changed. Goes old new changed)
   pub follows : IfOk result (λ changed. changed ≡ false → (f : StackFrame) → Carries moves f → Follows new p targets f next moves)
 
@@ -136,7 +156,8 @@ pub record GoesToFirst (old now : Known) (p : Procedure) (f : StackFrame) (targe
     (changed : Bool) : Type 0 where
   pub small : IsSmall now
   pub more : length old.points ≤ length now.points
-  pub stands : (code : Code) → Stands code old → ((to : ℕ) → Contains targets to → IsShown code p to f) → Stands code now
+  pub stands : (exact : Bool) (code : Code) → Stands exact code old → ((to : ℕ) → Contains targets to → IsShown exact code p to f) →
+      Stands exact code now
   pub goes : Goes old now changed
   pub has : changed ≡ false → (i : ℕ) → i < count → (to : ℕ) → HasPoint now p (slice_index_or targets i to) f
 
@@ -144,8 +165,8 @@ pub record GoesToFirst (old now : Known) (p : Procedure) (f : StackFrame) (targe
 pub record Exits (old new : Known) (p : Procedure) (at taken : ℕ) (result : Result Bool Refusal) : Type 0 where
   pub small : OnOk result (IsSmall new)
   pub more : OnOk result (length old.points ≤ length new.points)
-  pub stands : (code : Code) → Stands code old → (returns : ReturnsWith code p taken) → returns.at ≡ at →
-      MatchResult result (λ _. Stands code new) (λ refusal. Refused code refusal)
+  pub stands : (exact : Bool) (code : Code) → Stands exact code old → (returns : ReturnsWith code p taken) → returns.at ≡ at →
+      MatchResult result (λ _. Stands exact code new) (λ refusal. Refused exact code refusal)
   pub goes : IfOk result (λ changed. Goes old new changed)
   pub has : IfOk result (λ changed. changed ≡ false → (entry : ℕ) → p ≡ Entry entry → exit_of new.exits entry ≡ Some taken)
 
@@ -154,9 +175,9 @@ pub record CallsOut (old new : Known) (p : Procedure) (at next : ℕ) (role : Ro
     (result : Result Bool Refusal) : Type 0 where
   pub small : OnOk result (IsSmall new)
   pub more : OnOk result (length old.points ≤ length new.points)
-  pub stands : (code : Code) (found : Fetched) (moves : Moves) → Stands code old → AtMove code p at g found moves →
-      called moves ≡ Some target → found.next ≡ next → role ≡ role_of code p →
-      MatchResult result (λ _. Stands code new) (λ refusal. Refused code refusal)
+  pub stands : (exact : Bool) (code : Code) (found : Fetched) (moves : Moves) → Stands exact code old →
+      AtMove exact code p at g found moves → called moves ≡ Some target → found.next ≡ next → role ≡ role_of code p →
+      MatchResult result (λ _. Stands exact code new) (λ refusal. Refused exact code refusal)
   pub goes : IfOk result (λ changed. Goes old new changed)
   pub enters : IfOk result (λ changed. changed ≡ false → HasPoint new (Entry target) target entry_frame)
   pub after : IfOk result (λ changed. changed ≡ false → (taken : ℕ) → exit_of new.exits target ≡ Some taken →
@@ -177,7 +198,8 @@ pub record IsClosed (code : Code) (known : Known) (point : Point) : Type 0 where
 pub record Visits (code : Code) (old new : Known) (i : ℕ) (result : Result Bool Refusal) : Type 0 where
   pub small : OnOk result (IsSmall new)
   pub more : OnOk result (length old.points ≤ length new.points)
-  pub stands : Stands code old → MatchResult result (λ _. Stands code new) (λ refusal. Refused code refusal)
+  pub stands : (exact : Bool) → Stands exact code old →
+      MatchResult result (λ _. Stands exact code new) (λ refusal. Refused exact code refusal)
   pub goes : IfOk result (λ changed. Goes old new changed)
   pub closed : IfOk result (λ changed. changed ≡ false → (point : Point) → slice_get new.points i ≡ Some point →
       IsClosed code new point)
@@ -191,19 +213,20 @@ pub record AllClosed (code : Code) (known : Known) : Type 0 where
 pub record Ongoing (code : Code) (old now : Known) (changed : Bool) : Type 0 where
   pub small : IsSmall now
   pub more : length old.points ≤ length now.points
-  pub stands : Stands code old → Stands code now
+  pub stands : (exact : Bool) → Stands exact code old → Stands exact code now
   pub goes : Goes old now changed
 
 -- what comes of many looks
 pub record Looks (code : Code) (old new : Known) (result : Result Bool Refusal) : Type 0 where
   pub ongoing : IfOk result (Ongoing code old new)
-  pub refused : IfErr result (λ refusal. Stands code old → Refused code refusal)
+  pub refused : IfErr result (λ refusal. (exact : Bool) → Stands exact code old → Refused exact code refusal)
 
 -- what comes of a sweep: what was shown stays shown, and the measure doesn't rise; where the last part of it changed something,
 -- it falls
 pub record Sweeps (code : Code) (old new : Known) (result : Result Bool Refusal) : Type 0 where
   pub small : OnOk result (IsSmall new)
-  pub stands : Stands code old → MatchResult result (λ _. Stands code new) (λ refusal. Refused code refusal)
+  pub stands : (exact : Bool) → Stands exact code old →
+      MatchResult result (λ _. Stands exact code new) (λ refusal. Refused exact code refusal)
   pub no_more : OnOk result (weight new ≤ weight old)
   pub less : IfOk result (λ changed. changed ≡ true → weight new < weight old)
 
@@ -214,5 +237,5 @@ pub record AreClosed (code : Code) (known : Known) (count : ℕ) : Type 0 where
 -- the table is filled: small, shown, and closed
 pub record IsFilled (code : Code) (known : Known) : Type 0 where
   pub small : IsSmall known
-  pub stands : Stands code known
+  pub stands : Stands (is_exact known.forgets) code known
   pub closed : AllClosed code known

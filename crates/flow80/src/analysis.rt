@@ -1,12 +1,13 @@
 //! The whole analysis of a program.
 
-ghost use Rattle.std.specs.Prelude.{◌≡◌, IfOk, IfErr};
+ghost use Rattle.std.specs.Prelude.{◌≡◌, IfOk, IfErr, IfSome};
 ghost use Rattle.flow80.specs.Accepted.{IsAccepted, IsMeasured};
 ghost use Rattle.flow80.specs.Faults.{Holds, HoldsAnyway};
-ghost use Rattle.flow80.specs.Known.{IsFilled, nothing_known};
+ghost use Rattle.flow80.specs.Known.{IsFilled, Refused, is_exact, nothing_known};
 
+use crate::asked::AskedPlaces;
 use crate::code::Code;
-use crate::fill::fill;
+use crate::fill::{fill, fill_within};
 use crate::laws::frame_laws;
 use crate::refusal::Refusal;
 use crate::report::Report;
@@ -16,6 +17,9 @@ use crate::table::Table;
 use crate::wants::find_wants;
 use bounds80::Procedure;
 use std::alloc::Global;
+
+/// How many looks a program gets at first, beside those for each of its points.
+const SOON: u64 = 20_000;
 
 /// Goes over every walk of every procedure of a program, and reports on its procedures and its stack. A program of which a
 /// refusal holds isn't accepted, and one of which none holds is refused only where memory runs out.
@@ -43,29 +47,82 @@ pub fn measure<C: Code>(alloc: Global, program: &C) -> Result<Report, Refusal>
     ensures measured { IfOk result (λ r. IsMeasured (C.code program.now) r.procedures.items r.stack_bytes) }
     ensures refused { IfErr result (HoldsAnyway (C.code program.now)) }
 {
-    let mut table = Table::new(alloc, program)?;
+    if let Some(report) = measure_soon(alloc, program)? {
+        return Ok(report);
+    }
+    if let Some(report) = measure_asked(alloc, program)? {
+        return Ok(report);
+    }
+    measure_whole(alloc, program)
+}
+
+/// Measures a program if a few looks at each point are enough.
+fn measure_soon<C: Code>(alloc: Global, program: &C) -> Result<Option<Report>, Refusal>
+    ensures measured { IfOk result (λ r. IfSome r (λ r. IsMeasured (C.code program.now) r.procedures.items r.stack_bytes)) }
+    ensures refused { IfErr result (HoldsAnyway (C.code program.now)) }
+{
+    let mut table = Table::new(alloc, program, None, SOON)?;
     fill_and_report(alloc, program, &mut table)
 }
 
-/// Fills an empty table for a program, and reports on it.
-fn fill_and_report<C: Code>(
+/// Measures a program by frames that have forgotten what no return asks for. It is unanswered if a return has another word, which may
+/// be for what was forgotten.
+fn measure_asked<C: Code>(alloc: Global, program: &C) -> Result<Option<Report>, Refusal>
+    ensures measured { IfOk result (λ r. IfSome r (λ r. IsMeasured (C.code program.now) r.procedures.items r.stack_bytes)) }
+    ensures refused { IfErr result (HoldsAnyway (C.code program.now)) }
+{
+    let asked = AskedPlaces::find(alloc, program)?;
+    let mut table = Table::new(alloc, program, Some(asked), u64::MAX)?;
+    match fill_and_report(alloc, program, &mut table) {
+        Err(Refusal::ReturnNotOwn(_)) => Ok(None),
+        answer => answer,
+    }
+}
+
+/// Measures a program, however many looks it takes.
+fn measure_whole<C: Code>(alloc: Global, program: &C) -> Result<Report, Refusal>
+    ensures measured { IfOk result (λ r. IsMeasured (C.code program.now) r.procedures.items r.stack_bytes) }
+    ensures refused { IfErr result (HoldsAnyway (C.code program.now)) }
+{
+    let mut table = Table::new(alloc, program, None, u64::MAX)?;
+    fill_whole_and_report(alloc, program, &mut table)
+}
+
+/// Fills an empty table for a program and reports on it.
+fn fill_whole_and_report<C: Code>(
     alloc: Global,
     program: &C,
     table: &mut Table,
 ) -> Result<Report, Refusal>
-    requires { table.old.known ≡ nothing_known }
+    requires { table.old.known ≡ nothing_known table.old.known.forgets }
     ensures measured { IfOk result (λ r. IsMeasured (C.code program.now) r.procedures.items r.stack_bytes) }
-    ensures refused { IfErr result (HoldsAnyway (C.code program.now)) }
+    ensures refused { IfErr result (Refused (is_exact table.old.known.forgets) (C.code program.now)) }
 {
     fill(program, table)?;
     report_on(alloc, program, table)
+}
+
+/// Fills an empty table for a program and reports on it, unless it is spent before.
+fn fill_and_report<C: Code>(
+    alloc: Global,
+    program: &C,
+    table: &mut Table,
+) -> Result<Option<Report>, Refusal>
+    requires { table.old.known ≡ nothing_known table.old.known.forgets }
+    ensures measured { IfOk result (λ r. IfSome r (λ r. IsMeasured (C.code program.now) r.procedures.items r.stack_bytes)) }
+    ensures refused { IfErr result (Refused (is_exact table.old.known.forgets) (C.code program.now)) }
+{
+    if !fill_within(program, table)? {
+        return Ok(None);
+    }
+    Ok(Some(report_on(alloc, program, table)?))
 }
 
 /// Reports on a program whose table is filled.
 fn report_on<C: Code>(alloc: Global, program: &C, table: &Table) -> Result<Report, Refusal>
     requires { IsFilled (C.code program.now) table.now.known }
     ensures measured { IfOk result (λ r. IsMeasured (C.code program.now) r.procedures.items r.stack_bytes) }
-    ensures refused { IfErr result (HoldsAnyway (C.code program.now)) }
+    ensures refused { IfErr result (Refused (is_exact table.now.known.forgets) (C.code program.now)) }
 {
     frame_laws();
     let wants = find_wants(alloc, table)?;

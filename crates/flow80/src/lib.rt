@@ -12,8 +12,10 @@
 #![tactic(auto)]
 
 mod analysis;
+mod asked;
 mod callers;
 mod code;
+mod counted;
 mod fill;
 mod fitting;
 mod laws;

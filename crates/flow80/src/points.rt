@@ -4,13 +4,13 @@ ghost use Rattle.std.specs.Prelude.{◌≡◌, ◌≤◌, ◌<◌, [], ◌∷◌
 ghost use Rattle.frames80.specs.StackFrame.{entry_frame, main_frame};
 ghost use Rattle.frames80.specs.Moves.{changed};
 ghost use Rattle.frames80.specs.Calls.{agree, merged, returned, room};
-ghost use Rattle.interned80.specs.Frames.{frame_at, IsFrame, StayNumbered};
+ghost use Rattle.interned80.specs.Frames.{frame_at, IsFrame, IsLesserFrame, StayNumbered};
 ghost use Rattle.flow80.specs.Points.{AreAddresses, AreApart, IsPointAt, IsNoPoint, Reframes};
 
 use crate::numbers::Numbers;
 use bounds80::Procedure;
 use frames80::{CallFault, Change, Role};
-use interned80::{FrameId, Frames, MeetFault};
+use interned80::{Asked, FrameId, Frames, MeetFault};
 use std::alloc::{AllocError, Global};
 use std::marker::Model;
 
@@ -193,6 +193,23 @@ impl Points {
         ensures stays { StayNumbered self.old.frames self.new.frames }
     {
         self.frames.after(frame, role, taken)
+    }
+
+    /// The number of a frame of which what isn't asked for may be forgotten.
+    ///
+    /// # Errors
+    /// `AllocError` where memory runs out.
+    pub(crate) fn forget(
+        &mut self,
+        frame: FrameId,
+        asked: Asked<'_>,
+    ) -> Result<FrameId, AllocError>
+        requires { frame < length self.old.frames }
+        ensures lesser { IfOk result (λ id. IsLesserFrame self.new.frames id (frame_at self.old.frames frame)) }
+        ensures points { self.new.points ≡ self.old.points }
+        ensures stays { StayNumbered self.old.frames self.new.frames }
+    {
+        self.frames.forget(frame, asked)
     }
 
     /// The number of the frame that is known of both; that of the first where the first doesn't change.

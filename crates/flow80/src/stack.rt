@@ -1,8 +1,7 @@
 //! The stack that a program uses.
 
 ghost use Rattle.std.specs.Prelude.{◌≡◌, IfOk, IfErr, length};
-ghost use Rattle.flow80.specs.Faults.{HoldsAnyway};
-ghost use Rattle.flow80.specs.Known.{IsFilled};
+ghost use Rattle.flow80.specs.Known.{IsFilled, Refused, is_exact};
 ghost use Rattle.flow80.specs.Survey.{AreWants, IsBounded};
 
 use crate::code::Code;
@@ -27,7 +26,7 @@ pub(crate) fn bound_stack<C: Code>(
     requires slots { length wants.now ≡ 65537 }
     requires wants { AreWants table.now.known.points wants.now (length table.now.known.points) }
     ensures bounded { IfOk result (IsBounded (C.code program.now) table.now.known wants.now) }
-    ensures refused { IfErr result (HoldsAnyway (C.code program.now)) }
+    ensures refused { IfErr result (Refused (is_exact table.now.known.forgets) (C.code program.now)) }
 {
     frame_laws();
     let graph = find_calls(alloc, program, table, wants)?;

@@ -1,8 +1,7 @@
 //! The depths and the calls of a program, read off its table.
 
 ghost use Rattle.std.specs.Prelude.{◌≡◌, ◌<◌, [], ◌∷◌, ◌++◌, IfOk, IfErr, OnOk, length};
-ghost use Rattle.flow80.specs.Faults.{HoldsAnyway};
-ghost use Rattle.flow80.specs.Known.{Stands};
+ghost use Rattle.flow80.specs.Known.{Refused, Stands, is_exact};
 ghost use Rattle.flow80.specs.Survey.{AreWants, IsSurvey, IsSeen, noted};
 ghost use Rattle.flow80.specs.Walks.{called};
 ghost use Rattle.frames80.specs.StackFrame.{StackFrame};
@@ -38,7 +37,8 @@ pub(crate) fn find_calls<C: Code>(
     ensures surveyed { IfOk result (λ s.
         IsSurvey (C.code program.now) table.now.known wants.now (length table.now.known.points) s.depths.items s.calls.items) }
     ensures refused { IfErr result (λ refusal.
-        Stands (C.code program.now) table.now.known → HoldsAnyway (C.code program.now) refusal) }
+        Stands (is_exact table.now.known.forgets) (C.code program.now) table.now.known →
+        Refused (is_exact table.now.known.forgets) (C.code program.now) refusal) }
 {
     let mut graph = CallGraph {
         depths: Vec::new(alloc),
@@ -80,7 +80,8 @@ fn look_at<C: Code>(
     requires there { point < length table.now.known.points }
     ensures seen { IfOk result (λ seen. IsSeen (C.code program.now) table.now.known wants.now point seen.0 seen.1) }
     ensures refused { IfErr result (λ refusal.
-        Stands (C.code program.now) table.now.known → HoldsAnyway (C.code program.now) refusal) }
+        Stands (is_exact table.now.known.forgets) (C.code program.now) table.now.known →
+        Refused (is_exact table.now.known.forgets) (C.code program.now) refusal) }
 {
     frame_laws();
     let (site, effect) = table.effect_at(program, point)?;

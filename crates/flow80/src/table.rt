@@ -1,19 +1,19 @@
 //! The table of frames while it fills.
 
-ghost use Rattle.std.specs.Prelude.{◌≡◌, ◌+◌, ◌<◌, ◌≤◌, ℕ, List, false, true, Some, None, Ok, Err, IfOk, IfErr, OnOk, IfSome, length, replicate, slice_get};
+ghost use Rattle.std.specs.Prelude.{◌≡◌, ◌+◌, ◌<◌, ◌≤◌, ℕ, Bool, is_some, List, false, true, Some, None, Ok, Err, IfOk, IfErr, OnOk, IfSome, length, replicate, slice_get};
 ghost use Rattle.bounds80.specs.declared.procedure.Procedure.TheVariants.{Main, Entry};
 ghost use Rattle.flow80.specs.Points.{AreAddresses, IsPointAt, IsNoPoint};
-ghost use Rattle.flow80.specs.Known.{IsSmall, IsWithin, Stands, Flows, Exits, CallsOut, Steps, Visits, Looks, Sweeps, AreClosed, AllClosed, IsShort, exit_of, nothing_known};
+ghost use Rattle.flow80.specs.Known.{IsSmall, IsWithin, Stands, Flows, Exits, CallsOut, Steps, Visits, Looks, Sweeps, Lessens, Refused, AreClosed, AllClosed, IsShort, exit_of, nothing_known};
 ghost use Rattle.frames80.specs.declared.moves.Moves.TheVariants.{Either, Case, MaybeCall, MaybeReturn};
 ghost use Rattle.frames80.specs.Calls.{room, returned};
 ghost use Rattle.frames80.specs.Moves.{changed};
 ghost use Rattle.frames80.specs.StackFrame.{entry_frame, main_frame};
 ghost use Rattle.interned80.specs.Admitted.{move_of};
 ghost use Rattle.interned80.specs.Frames.{frame_at, IsFrame, StayNumbered};
-ghost use Rattle.flow80.specs.Faults.{HoldsAnyway};
 ghost use Rattle.flow80.specs.Survey.{EffectIsAt, IsEntered};
 ghost use Rattle.flow80.specs.Walks.{role_of};
 
+use crate::asked::AskedPlaces;
 use crate::callers::Callers;
 use crate::code::Code;
 use crate::laws::frame_laws;
@@ -30,6 +30,9 @@ use std::marker::Model;
 /// The most points that are looked at.
 const MOST_POINTS: usize = 262_144;
 
+/// How many looks each point is worth. Of most programs a point is looked at once or twice.
+const LOOKS_FOR_A_POINT: u64 = 4;
+
 /// What is known so far: the points with their frames, how many words each procedure takes where it returns, once a return of
 /// it was seen, and the points that are still to be looked at.
 #[derive(Drop)]
@@ -38,26 +41,36 @@ pub(crate) struct Table {
     exits: Vec<Option<u32>>,
     callers: Callers,
     pending: Pending,
+    /// What returns ask for, if whatever they don't ask for is forgotten.
+    asked: Option<AskedPlaces>,
+    /// How many points may still be looked at before [`Table::is_spent`].
+    looks: u64,
 }
 
 impl Model for Table {
-    ghost use Rattle.std.specs.Prelude.{◌≡◌, length};
+    ghost use Rattle.std.specs.Prelude.{◌≡◌, is_some, length};
     ghost use Rattle.flow80.specs.Known.{KnownFrames};
 
     ghost Value = { KnownFrames };
 
-    ghost view = { λ t. record { known = record { points = t.points.points; exits = t.exits.items }; frames = t.points.frames } };
+    ghost view = { λ t. record { known = record { points = t.points.points; exits = t.exits.items; forgets = is_some t.asked }; frames = t.points.frames } };
 
     ghost invariant = { λ t. length t.exits.items ≡ 65536 };
 }
 
 impl Table {
-    /// Nothing is known of a program.
+    /// Nothing is known of a program. With what its returns ask for, each frame forgets the rest; and it is spent when so many points
+    /// were looked at, and four more for each point that there is.
     ///
     /// # Errors
     /// `AllocError` where memory runs out.
-    pub(crate) fn new<C: Code>(alloc: Global, program: &C) -> Result<Table, AllocError>
-        ensures { IfOk result (λ table. table.known ≡ nothing_known) }
+    pub(crate) fn new<C: Code>(
+        alloc: Global,
+        program: &C,
+        asked: Option<AskedPlaces>,
+        looks: u64,
+    ) -> Result<Table, AllocError>
+        ensures { IfOk result (λ table. table.known ≡ nothing_known (is_some asked)) }
     {
         let exits = no_exits(alloc)?;
         let callers = Callers::new(alloc)?;
@@ -66,6 +79,8 @@ impl Table {
             exits,
             callers,
             pending: Pending::new(alloc, program)?,
+            asked,
+            looks,
         })
     }
 
@@ -99,9 +114,35 @@ impl Table {
         if number >= MOST_POINTS {
             return Err(Refusal::TooManyPoints);
         }
-        self.points.add(procedure, to, frame)?;
+        let lesser = self.lessen(procedure, to, frame)?;
+        self.points.add(procedure, to, lesser)?;
+        self.looks = self.looks.saturating_add(LOOKS_FOR_A_POINT);
         self.look_again(number, to)?;
         Ok(true)
+    }
+
+    /// A frame that leads to a new point, without what no return asks for.
+    ///
+    /// # Errors
+    /// `AllocError` where memory runs out.
+    fn lessen(
+        &mut self,
+        procedure: Procedure,
+        to: u16,
+        frame: FrameId,
+    ) -> Result<FrameId, AllocError>
+        requires { frame < length self.old.frames }
+        ensures lesser { IfOk result (λ id. Lessens self.old.known.forgets self.new.frames id (frame_at self.old.frames frame)) }
+        ensures known { self.new.known ≡ self.old.known }
+        ensures stays { StayNumbered self.old.frames self.new.frames }
+    {
+        match &mut self.asked {
+            Some(asked) => {
+                asked.look_up(procedure, to)?;
+                self.points.forget(frame, asked.found())
+            }
+            None => Ok(frame),
+        }
     }
 
     /// A point that is there.
@@ -353,8 +394,8 @@ impl Table {
     ) -> Result<(Site, Effect), Refusal>
         requires { point < length self.now.known.points }
         ensures moves { IfOk result (λ r. EffectIsAt (C.code program.now) self.now point r.0 r.1) }
-        ensures refused { IfErr result (λ refusal. Stands (C.code program.now) self.now.known →
-            HoldsAnyway (C.code program.now) refusal) }
+        ensures refused { IfErr result (λ refusal. (exact : Bool) → Stands exact (C.code program.now) self.now.known →
+            Refused exact (C.code program.now) refusal) }
     {
         frame_laws();
         let (procedure, at) = self.points.place(point);
@@ -388,6 +429,7 @@ impl Table {
         requires there { point < length self.old.known.points }
         ensures { Visits (C.code program.now) self.old.known self.new.known point result }
     {
+        self.looks = self.looks.saturating_sub(1);
         let (site, effect) = self.effect_at(program, point)?;
         self.follow(&site, program.targets(site.at), effect)
     }
@@ -401,6 +443,9 @@ impl Table {
         // (The bound is never met: a point is put there only where a frame has changed, which no frame can do for ever. Nothing
         // rests on it, since a pass over all points follows.)
         for _ in 0..u64::MAX {
+            if self.is_spent() {
+                break;
+            }
             let Some(point) = self.next_pending() else {
                 break;
             };
@@ -408,6 +453,11 @@ impl Table {
             changed |= here;
         }
         Ok(changed)
+    }
+
+    /// Whether so many points were looked at as were allowed.
+    pub(crate) fn is_spent(&self) -> bool {
+        self.looks == 0
     }
 
     /// The next point that is to be looked at.

@@ -1,11 +1,11 @@
 use Rattle.std.proofs.Common.{◌≡◌, ◌+◌, false, cond}
-use Rattle.flow80.specs.Known.{IsSmall, Stands, AllClosed, weight}
+use Rattle.flow80.specs.Known.{IsSmall, Stands, is_exact, AllClosed, weight}
 use Rattle.flow80.proofs.fill.fill.Given as goal
 
 abbrev pub invariant-loop-changes : goal.invariant-loop-changes
 invariant-loop-changes g l = record {
   small : IsSmall l.table.known;
-  stands : Stands (g.C.Code.code l.program) l.table.known;
+  stands : Stands (is_exact l.fn.table.known.forgets) (g.C.Code.code l.program) l.table.known;
   closed : l.changes ≡ false → AllClosed (g.C.Code.code l.program) l.table.known;
 }
 

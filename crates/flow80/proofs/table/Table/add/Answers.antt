@@ -1,4 +1,5 @@
 use Rattle.std.proofs.Common.{◌≡◌, ◌<◌, ◌≤◌, ◌∙◌, ap, arith, sym, subst, length, ◌++◌, ◌∷◌, [], Ok, true}
+use Rattle.std.specs.Prelude.{is_some}
 use Rattle.interned80.specs.Frames.{frame_at}
 use Rattle.flow80.specs.Points.{Point}
 use Rattle.flow80.specs.Known.{Known, KnownFrames, Flows}
@@ -16,16 +17,24 @@ returns-then-number-ge-MOST_POINTS-clause-flows c =
 
 pub returns-clause-flows : goal.returns-clause-flows
 returns-clause-flows c =
-    let known = c.args.self.now.known in
-    let frame = frame_at c.args.self.now.frames c.args.frame in
+    let table = c.args.self.now in
+    let known = table.known in
+    let g = frame_at table.frames c.args.frame in
     let count : c.len-number.result ≡ length known.points = c.len-number.ensures.count ∙ ap (λ (t : KnownFrames). length t.known.points) c.self.view_is in
     let not_full = c.if-number-ge-MOST_POINTS.false in
     let few : length known.points < most_points = omega arith in
-    let point : Point = record { procedure = c.args.procedure; at = c.args.to; frame = frame } in
+    let lesser = c.in_ok-lesser.ensures.lesser in
+    let mid = c.lessen.new.self in
+    let k = frame_at mid.frames c.in_ok-lesser.lesser in
+    let point : Point = record { procedure = c.args.procedure; at = c.args.to; frame = k } in
+    let same : mid.known ≡ known = c.in_ok-lesser.ensures.known in
     let grown : c.add.new.self.points ≡ known.points ++ point ∷ [] =
     c.in_ok-add.ensures.added
-    ∙ (λ i. let t = c.self.view_is i in t.known.points ++ record { procedure = c.args.procedure; at = c.args.to; frame = frame_at t.frames c.args.frame } ∷ []) in
+    ∙ (λ i. let t = c.self-2.view_is i in t.known.points ++ record { procedure = c.args.procedure; at = c.args.to; frame = frame_at t.frames c.in_ok-lesser.lesser } ∷ [])
+    ∙ ap (λ (x : Known). x.points ++ point ∷ []) same in
+    let exits : c.self-2.inside.exits.items ≡ known.exits = ap (λ (t : KnownFrames). t.known.exits) c.self-2.view_is ∙ ap (λ (x : Known). x.exits) same in
+    let forgets : is_some c.self-2.inside.asked ≡ known.forgets = ap (λ (t : KnownFrames). t.known.forgets) c.self-2.view_is ∙ ap (λ (x : Known). x.forgets) same in
     let after : c.look_again.new.self.known ≡ added known point =
-    ap (λ (t : KnownFrames). t.known) c.look_again.ensures ∙ (λ i. record { points = grown i; exits = (c.self.view_is i).known.exits }) in
-    subst (λ (k : Known). Flows known k c.args.procedure c.args.to frame (Ok true)) (sym after)
-    (flows_added known c.args.procedure c.args.to frame c.requires.small few c.requires.fits c.requires.new)
+    ap (λ (t : KnownFrames). t.known) c.look_again.ensures ∙ (λ i. record { points = grown i; exits = exits i; forgets = forgets i }) in
+    subst (λ (x : Known). Flows known x c.args.procedure c.args.to g (Ok true)) (sym after)
+    (flows_added known c.args.procedure c.args.to g k lesser.covers lesser.same c.requires.small few c.requires.fits c.requires.new)

@@ -20,7 +20,7 @@ returns-in-Err-clause-refused g c =
     let pt = some_at known.points i c.requires in
     let there : slice_get c.self.inside.points.points i ≡ Some pt.0 = ap (λ (t : KnownFrames). slice_get t.known.points i) c.self.view_is ∙ pt.1 in
     let placed = rw there at c.place-procedure.ensures in
-    rw c.of_look.ensures (look_refused code known i c.place-procedure.result.1 pt.0 c.in-Err.fault pt.1 placed.1 (sym c.look.ensures ∙ c.in-Err.is))
+    rw c.of_look.ensures (λ exact. look_refused exact code known i c.place-procedure.result.1 pt.0 c.in-Err.fault pt.1 placed.1 (sym c.look.ensures ∙ c.in-Err.is))
 
 pub fault_of-requires : goal.fault_of-requires
 fault_of-requires g c =
@@ -47,7 +47,7 @@ returns-in-Some-clause-refused g c =
     let moved =
     subst (λ (e : Effect). moves_of c.role_of-role.result e pt.0.frame ≡ Err c.in-Some.fault) c.effect_of-effect.ensures
     (subst (λ (f : StackFrame). moves_of c.role_of-role.result c.effect_of-effect.result f ≡ Err c.in-Some.fault) is c.in-Some.ensures.refused) in
-    rw c.of.ensures (move_refused c.frame_laws.ensures code known i c.place-procedure.result.0 at pt.0.frame c.in-Ok.found c.in-Some.fault here looked
+    rw c.of.ensures (λ exact. move_refused c.frame_laws.ensures exact code known i c.place-procedure.result.0 at pt.0.frame c.in-Ok.found c.in-Some.fault here looked
     (λ (apart : c.in-Some.fault ≢ Memory). subst (λ (r : Role). moves_of r (effect_of c.in-Ok.found.instr) pt.0.frame ≡ Err c.in-Some.fault) c.role_of-role.ensures moved))
 
 pub returns-clause-moves : goal.returns-clause-moves

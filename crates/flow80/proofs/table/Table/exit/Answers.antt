@@ -1,5 +1,5 @@
 use Rattle.std.proofs.Common.{◌≡◌, ◌≢◌, ◌<◌, ◌∙◌, ap, arith, sym, subst, length, Ok, Err, Some, None, Option, ℕ, true, false, List, get_or}
-use Rattle.std.specs.Prelude.{slice_get, slice_set}
+use Rattle.std.specs.Prelude.{is_some, slice_get, slice_set}
 use Rattle.std.proofs.lemmas.Option.{slice_get_read}
 use Rattle.bounds80.specs.declared.procedure.Procedure.{Procedure}
 use Rattle.bounds80.specs.declared.procedure.Procedure.TheVariants.{Entry}
@@ -25,9 +25,9 @@ returns-in_ok-wake-in-None-clause-exits c =
     let read : slice_get known.exits entry ≡ Some c.index.result.now =
     read_at c.self.inside.exits.items known.exits entry c.from.result c.index.result.now exits c.self.invariant c.from.ensures within c.index.ensures in
     let none : slice_get known.exits entry ≡ Some None = read ∙ ap (λ (o : Option ℕ). Some o) c.in-None.is in
-    let after : record { points = c.self.inside.points.points; exits = slice_set c.self.inside.exits.items c.from-in-None.result (Some c.args.taken) } ≡ with_exit known entry c.args.taken =
-    (λ i. record { points = points i; exits = slice_set (exits i) (c.from-in-None.ensures i) (Some c.args.taken) }) in
-    subst (λ (p : Procedure). Exits known (record { points = c.self.inside.points.points; exits = slice_set c.self.inside.exits.items c.from-in-None.result (Some c.args.taken) }) p c.args.at c.args.taken (Ok true)) (sym c.in-Entry.is)
+    let after : record { points = c.self.inside.points.points; exits = slice_set c.self.inside.exits.items c.from-in-None.result (Some c.args.taken); forgets = is_some c.self.inside.asked } ≡ with_exit known entry c.args.taken =
+    (λ i. record { points = points i; exits = slice_set (exits i) (c.from-in-None.ensures i) (Some c.args.taken); forgets = (c.self.view_is i).known.forgets }) in
+    subst (λ (p : Procedure). Exits known (record { points = c.self.inside.points.points; exits = slice_set c.self.inside.exits.items c.from-in-None.result (Some c.args.taken); forgets = is_some c.self.inside.asked }) p c.args.at c.args.taken (Ok true)) (sym c.in-Entry.is)
     (subst (λ (k : Known). Exits known k (Entry entry) c.args.at c.args.taken (Ok true)) (sym after) (exits_first known entry c.args.at c.args.taken c.requires none))
 
 pub returns-in-Some-clause-exits : goal.returns-in-Some-clause-exits

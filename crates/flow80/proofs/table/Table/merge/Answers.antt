@@ -1,5 +1,5 @@
 use Rattle.std.proofs.Common.{◌≡◌, ◌≢◌, ◌∙◌, ℕ, ap, sym, subst, List, Ok, Err, Some, true, false, true≢false}
-use Rattle.std.specs.Prelude.{slice_get, slice_set}
+use Rattle.std.specs.Prelude.{slice_get, slice_set, is_some}
 use Rattle.std.specs.Cmp.{unsigned_Decides}
 use Rattle.frames80.specs.StackFrame.{StackFrame}
 use Rattle.frames80.specs.Calls.{agree, merged}
@@ -43,8 +43,8 @@ returns-then-eq-clause-flows c =
     let stays = is_at fs c.meet.new.self.frames c.frame-kept.result at.point.frame c.in-Ok.ensures.stays kept in
     let unchanged : merged at.point.frame g ≡ at.point.frame =
     sym (merged_is fs table.frames c.frame-kept.result c.args.frame at.point.frame frames kept) ∙ sym c.in-Ok.ensures.merged.is ∙ ap (frame_at c.meet.new.self.frames) equal ∙ stays.is in
-    let known : record { points = c.meet.new.self.points; exits = c.self.inside.exits.items } ≡ table.known =
-    (λ i. record { points = c.in-Ok.ensures.points i; exits = c.self.inside.exits.items }) ∙ ap (λ (t : KnownFrames). t.known) c.self.view_is in
+    let known : record { points = c.meet.new.self.points; exits = c.self.inside.exits.items; forgets = is_some c.self.inside.asked } ≡ table.known =
+    (λ i. record { points = c.in-Ok.ensures.points i; exits = c.self.inside.exits.items; forgets = is_some c.self.inside.asked }) ∙ ap (λ (t : KnownFrames). t.known) c.self.view_is in
     subst (λ (k : Known). Flows table.known k c.args.procedure c.args.to g (Ok false)) (sym known)
     (flows_same c.frame_laws.ensures table.known c.args.procedure c.args.to c.args.i g at c.requires.small same unchanged)
 
@@ -66,6 +66,6 @@ returns-clause-flows c =
     ∙ ap (λ (ps : List Point). slice_set ps c.args.i (with_frame (frame_at c.meet.new.self.frames c.in-Ok.merged) at.point)) points
     ∙ ap (λ (f : StackFrame). slice_set table.known.points c.args.i (with_frame f at.point)) (c.in-Ok.ensures.merged.is ∙ met) in
     let after : c.look_again.new.self.known ≡ replaced table.known c.args.i (merged at.point.frame g) at.point =
-    ap (λ (t : KnownFrames). t.known) c.look_again.ensures ∙ (λ i. record { points = reframed i; exits = (c.self.view_is i).known.exits }) in
+    ap (λ (t : KnownFrames). t.known) c.look_again.ensures ∙ (λ i. record { points = reframed i; exits = (c.self.view_is i).known.exits; forgets = (c.self.view_is i).known.forgets }) in
     subst (λ (k : Known). Flows table.known k c.args.procedure c.args.to g (Ok true)) (sym after)
     (flows_replaced c.frame_laws.ensures table.known c.args.procedure c.args.to c.args.i g at c.requires.small same changed)

@@ -21,7 +21,7 @@ returns-in_err-begun-clause-sweeps g c =
     let mid = c.drain.new.self.known in
     let new = c.begin.new.self.known in
     let flows = subst (λ (n : ℕ). Flows mid new Main n main_frame (Err c.in_err-begun.field-0.0)) c.start.ensures c.in_err-begun.ensures in
-    let refused = flow_refused code mid new new Main code.start main_frame c.in_err-begun.field-0.0 (shown_start code) flows in
+    let refused = flow_refused code mid new new Main code.start main_frame c.in_err-begun.field-0.0 (λ exact. shown_start exact code) flows in
     rw (p.1, p.2) (sweeps_refused code known new c.in_err-begun.field-0.0 (more_refused code known mid new c.in_ok-drain.field-0 c.in_err-begun.field-0.0 c.in_ok-drain.ensures.ongoing refused new))
 
 pub returns-in_err-passed-clause-sweeps : goal.returns-in_err-passed-clause-sweeps
@@ -33,7 +33,7 @@ returns-in_err-passed-clause-sweeps g c =
     let begun = c.begin.new.self.known in
     let new = c.pass.new.self.known in
     let flows = subst (λ (n : ℕ). Flows mid begun Main n main_frame (Ok c.in_ok-begun.begun)) c.start.ensures c.in_ok-begun.ensures in
-    let second : Ongoing code mid begun c.in_ok-begun.begun = ongoing_flow code mid begun Main code.start main_frame c.in_ok-begun.begun (shown_start code) flows in
+    let second : Ongoing code mid begun c.in_ok-begun.begun = ongoing_flow code mid begun Main code.start main_frame c.in_ok-begun.begun (λ exact. shown_start exact code) flows in
     let both : Ongoing code known begun (c.in_ok-drain.field-0 || c.in_ok-begun.begun) = ongoing_more code known mid begun c.in_ok-drain.field-0 c.in_ok-begun.begun c.in_ok-drain.ensures.ongoing second in
     rw (p.1, p.2) (sweeps_refused code known new c.in_err-passed.field-0.0 (more_refused code known begun new (c.in_ok-drain.field-0 || c.in_ok-begun.begun) c.in_err-passed.field-0.0 both c.in_err-passed.ensures.looks new))
 
@@ -45,7 +45,7 @@ returns-clause-sweeps g c =
     let begun = c.begin.new.self.known in
     let new = c.pass.new.self.known in
     let flows = subst (λ (n : ℕ). Flows mid begun Main n main_frame (Ok c.in_ok-begun.begun)) c.start.ensures c.in_ok-begun.ensures in
-    let second : Ongoing code mid begun c.in_ok-begun.begun = ongoing_flow code mid begun Main code.start main_frame c.in_ok-begun.begun (shown_start code) flows in
+    let second : Ongoing code mid begun c.in_ok-begun.begun = ongoing_flow code mid begun Main code.start main_frame c.in_ok-begun.begun (λ exact. shown_start exact code) flows in
     sweeps_done code known mid new c.in_ok-drain.field-0 (c.in_ok-begun.begun || c.in_ok-passed.passed) c.in_ok-drain.ensures.ongoing
     (ongoing_more code mid begun new c.in_ok-begun.begun c.in_ok-passed.passed second c.in_ok-passed.ensures.looks.ongoing)
 
