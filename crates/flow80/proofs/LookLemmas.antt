@@ -8,7 +8,7 @@ use Rattle.bounds80.specs.declared.procedure.Procedure.{Procedure}
 use Rattle.bounds80.specs.declared.procedure.Procedure.TheVariants.{Main}
 use Rattle.flow80.specs.Points.{Point}
 use Rattle.flow80.specs.Shown.{IsShown}
-use Rattle.flow80.specs.Known.{Known, is_exact, nothing_known, exit_of, IsSmall, Stands, HasPoint, Flows, Goes, Ongoing, Looks, Sweeps, AreClosed, AllClosed, weight}
+use Rattle.flow80.specs.Known.{Known, Visits, is_exact, nothing_known, exit_of, IsSmall, Stands, HasPoint, Flows, Goes, Ongoing, Looks, Sweeps, AreClosed, AllClosed, weight}
 use Rattle.flow80.proofs.Slices.{within}
 use Rattle.flow80.proofs.StepLemmas.{goes_then, first_false, second_false}
 
@@ -91,3 +91,22 @@ same_mode true true same = refl
 same_mode true false same = absurd (true≢false (sym same))
 same_mode false true same = absurd (true≢false same)
 same_mode false false same = refl
+
+-- a look at a point
+pub ongoing_visit : (code : Code) (old new : Known) (i : ℕ) (changed : Bool) → Visits code old new i (Ok changed) → Ongoing code old new changed
+ongoing_visit code old new i changed visits = record { small = visits.small; more = visits.more; stands = visits.stands; goes = visits.goes }
+
+pub visit_refused : (code : Code) (old new last : Known) (i : ℕ) (refusal : Refusal) → Visits code old new i (Err refusal) → Looks code old last (Err refusal)
+visit_refused code old new last i refusal visits = record { ongoing = tt; refused = visits.stands }
+
+-- where a look changes nothing one point more is closed
+pub closed_more : (code : Code) (now new : Known) (count : ℕ) (changed here : Bool) → (changed ≡ false → AreClosed code now count) → Visits code now new count (Ok here) →
+    (changed || here) ≡ false → AreClosed code new (count + 1)
+closed_more code now new count changed here closed visits none =
+    let no_here = second_false changed here none in
+    let same : new ≡ now = visits.goes.same no_here in
+    let before : AreClosed code new count = subst (λ (k : Known). AreClosed code k count) (sym same) (closed (first_false changed here none)) in
+    record { closed = λ i point less there. elim (split i count less) [
+      | inl earlier ↦ before.closed i point earlier there
+      | inr at ↦ visits.closed no_here point (subst (λ n. slice_get new.points n ≡ Some point) at there)
+    ] }

@@ -239,7 +239,7 @@ exits_first known entry at taken small none = record {
 }
 
 -- calls, case by case: the callee's entry first
-entry_shown : FrameLaws → (code : Code) (p : Procedure) (at : ℕ) (f : StackFrame) (found : Fetched) (moves : Moves) → AtMove exact code p at f found moves →
+entry_shown : FrameLaws → (exact : Bool) (code : Code) (p : Procedure) (at : ℕ) (f : StackFrame) (found : Fetched) (moves : Moves) → AtMove exact code p at f found moves →
     (target : ℕ) → called moves ≡ Some target → IsShown exact code (Entry target) target entry_frame
 entry_shown = shown_entry
 
@@ -251,7 +251,7 @@ calls_refused laws old mid new p at next role g target r first = record {
   goes = tt;
   enters = tt;
   after = tt;
-  stands = λ exact code found moves stands move call same_next same_role. first.stands exact code stands (entry_shown laws code p at g found moves move target call);
+  stands = λ exact code found moves stands move call same_next same_role. first.stands exact code stands (entry_shown laws exact code p at g found moves move target call);
 }
 
 pub calls_waiting : FrameLaws → (old mid : Known) (p : Procedure) (at next : ℕ) (role : Role) (g : StackFrame) (target : ℕ) (entered : Bool) →
@@ -259,16 +259,16 @@ pub calls_waiting : FrameLaws → (old mid : Known) (p : Procedure) (at next : �
 calls_waiting laws old mid p at next role g target entered first none = record {
   small = first.small;
   more = first.more;
-  stands = λ exact code found moves stands move call same_next same_role. first.stands exact code stands (entry_shown laws code p at g found moves move target call);
+  stands = λ exact code found moves stands move call same_next same_role. first.stands exact code stands (entry_shown laws exact code p at g found moves move target call);
   goes = first.goes;
   enters = first.has;
   after = λ same taken exit. absurd (none_some (exit_of mid.exits target) taken none exit);
 }
 
-back_shown : FrameLaws → (code : Code) (mid : Known) (p : Procedure) (at next : ℕ) (role : Role) (g : StackFrame) (found : Fetched) (moves : Moves) → AtMove exact code p at g found moves →
+back_shown : FrameLaws → (exact : Bool) (code : Code) (mid : Known) (p : Procedure) (at next : ℕ) (role : Role) (g : StackFrame) (found : Fetched) (moves : Moves) → AtMove exact code p at g found moves →
     (target taken : ℕ) → called moves ≡ Some target → Stands exact code mid → exit_of mid.exits target ≡ Some taken → taken ≤ room role g.words → found.next ≡ next → role ≡ role_of code p →
     IsShown exact code p next (returned taken g)
-back_shown laws code mid p at next role g found moves move target taken call stands exit enough same_next same_role =
+back_shown laws exact code mid p at next role g found moves move target taken call stands exit enough same_next same_role =
     subst (λ n. IsShown exact code p n (returned taken g)) same_next
     (shown_after laws exact code p at g found moves move target taken call (stands.exits target taken exit) (subst (λ (r : Role). taken ≤ room r g.words) same_role enough))
 
@@ -279,8 +279,8 @@ calls_back laws old mid new p at next role g target taken entered x first exit e
   small = second.small;
   more = let a = first.more in let b = second.more in omega arith;
   stands = λ exact code found moves stands move call same_next same_role.
-      let then : Stands exact code mid = first.stands exact code stands (entry_shown laws code p at g found moves move target call) in
-      second.stands exact code then (back_shown laws code mid p at next role g found moves move target taken call then exit enough same_next same_role);
+      let then : Stands exact code mid = first.stands exact code stands (entry_shown laws exact code p at g found moves move target call) in
+      second.stands exact code then (back_shown laws exact code mid p at next role g found moves move target taken call then exit enough same_next same_role);
   goes = goes_then old mid new entered x first.goes second.goes;
   enters = λ same. subst (λ (k : Known). HasPoint k (Entry target) target entry_frame) (sym (second.goes.same (second_false entered x same))) (first.has (first_false entered x same));
   after = λ same seen is.
@@ -299,8 +299,8 @@ calls_back_refused laws old mid new p at next role g target taken entered r firs
   enters = tt;
   after = tt;
   stands = λ exact code found moves stands move call same_next same_role.
-      let then : Stands exact code mid = first.stands exact code stands (entry_shown laws code p at g found moves move target call) in
-      second.stands exact code then (back_shown laws code mid p at next role g found moves move target taken call then exit enough same_next same_role);
+      let then : Stands exact code mid = first.stands exact code stands (entry_shown laws exact code p at g found moves move target call) in
+      second.stands exact code then (back_shown laws exact code mid p at next role g found moves move target taken call then exit enough same_next same_role);
 }
 
 pub calls_short : FrameLaws → (old mid new : Known) (p : Procedure) (at next : ℕ) (role : Role) (g : StackFrame) (target taken : ℕ) (entered : Bool) →
@@ -313,7 +313,7 @@ calls_short laws old mid new p at next role g target taken entered first exit le
   enters = tt;
   after = tt;
   stands = λ exact code found moves stands move call same_next same_role.
-      let then : Stands exact code mid = first.stands exact code stands (entry_shown laws code p at g found moves move target call) in
+      let then : Stands exact code mid = first.stands exact code stands (entry_shown laws exact code p at g found moves move target call) in
       let returns = then.exits target taken exit in
       short laws exact code p at g found moves move target returns.at returns.frame call returns.walk
       (let t = taken_at_return code (Entry target) taken returns in

@@ -429,7 +429,6 @@ impl Table {
         requires there { point < length self.old.known.points }
         ensures { Visits (C.code program.now) self.old.known self.new.known point result }
     {
-        self.looks = self.looks.saturating_sub(1);
         let (site, effect) = self.effect_at(program, point)?;
         self.follow(&site, program.targets(site.at), effect)
     }
@@ -443,9 +442,6 @@ impl Table {
         // (The bound is never met: a point is put there only where a frame has changed, which no frame can do for ever. Nothing
         // rests on it, since a pass over all points follows.)
         for _ in 0..u64::MAX {
-            if self.is_spent() {
-                break;
-            }
             let Some(point) = self.next_pending() else {
                 break;
             };
@@ -460,11 +456,12 @@ impl Table {
         self.looks == 0
     }
 
-    /// The next point that is to be looked at.
+    /// The next point that is to be looked at, unless as many were as are allowed.
     fn next_pending(&mut self) -> Option<usize>
         ensures same { self.new ≡ self.old }
         ensures there { IfSome result (λ point. point < length self.new.known.points) }
     {
+        self.looks = self.looks.checked_sub(1)?;
         match self.pending.take() {
             Some(point) if point < self.points.len() => Some(point),
             _ => None,
