@@ -14,5 +14,6 @@ pub mod KnownTable
 pub mod SurveyLemmas
 pub mod PigeonLemmas
 pub mod GraphLemmas
+pub mod RefusedLemmas
 pub mod AcceptLemmas
 pub mod MeasureLemmas

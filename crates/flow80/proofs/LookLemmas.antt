@@ -106,7 +106,9 @@ closed_more code now new count changed here closed visits none =
     let no_here = second_false changed here none in
     let same : new ≡ now = visits.goes.same no_here in
     let before : AreClosed code new count = subst (λ (k : Known). AreClosed code k count) (sym same) (closed (first_false changed here none)) in
-    record { closed = λ i point less there. elim (split i count less) [
-      | inl earlier ↦ before.closed i point earlier there
-      | inr at ↦ visits.closed no_here point (subst (λ n. slice_get new.points n ≡ Some point) at there)
-    ] }
+    record {
+      closed = λ i point less there. elim (split i count less) [
+        | inl earlier ↦ before.closed i point earlier there
+        | inr at ↦ visits.closed no_here point (subst (λ n. slice_get new.points n ≡ Some point) at there)
+      ];
+    }

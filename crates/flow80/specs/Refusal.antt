@@ -1,5 +1,5 @@
 -- Refusals: their numbers, names and addresses, and those for faults of looks and of frames at an address. (This project's own.)
-use Rattle.std.specs.Prelude.{ℕ, List, Option, Some, None, codes}
+use Rattle.std.specs.Prelude.{ℕ, Bool, true, false, List, Option, Some, None, codes}
 use Rattle.frames80.specs.declared.fault.FrameFault.{FrameFault}
 use Rattle.frames80.specs.declared.fault.FrameFault.TheVariants.{Sphl as FrameSphl, StackByByte as FrameStackByByte, SetsStack as FrameSetsStack, PopsBelow as FramePopsBelow, ReturnNotOwn as FrameReturnNotOwn, ReturnFromMain as FrameReturnFromMain, Memory as FrameMemory}
 use Rattle.flow80.specs.declared.code.LookFault.{LookFault}
@@ -26,6 +26,11 @@ refusal_code (Recursion at) = 15
 refusal_code (StackTooSmall need has) = 16
 refusal_code TooManyPoints = 17
 refusal_code Memory = 18
+
+-- whether a refusal is for a word of a frame, that it isn't the return address
+abbrev pub rests_on_a_word : Refusal → Bool
+rests_on_a_word (ReturnNotOwn at) = true
+rests_on_a_word _ = false
 
 -- the name that is printed
 abbrev pub refusal_name : Refusal → List ℕ

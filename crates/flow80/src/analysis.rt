@@ -73,9 +73,23 @@ fn measure_asked<C: Code>(alloc: Global, program: &C) -> Result<Option<Report>, 
 {
     let asked = AskedPlaces::find(alloc, program)?;
     let mut table = Table::new(alloc, program, Some(asked), u64::MAX)?;
-    match fill_and_report(alloc, program, &mut table) {
-        Err(Refusal::ReturnNotOwn(_)) => Ok(None),
-        answer => answer,
+    fill_asked_and_report(alloc, program, &mut table)
+}
+
+/// Fills an empty table for a program and reports on it, unless a return has another word.
+fn fill_asked_and_report<C: Code>(
+    alloc: Global,
+    program: &C,
+    table: &mut Table,
+) -> Result<Option<Report>, Refusal>
+    requires { table.old.known ≡ nothing_known table.old.known.forgets }
+    ensures measured { IfOk result (λ r. IfSome r (λ r. IsMeasured (C.code program.now) r.procedures.items r.stack_bytes)) }
+    ensures refused { IfErr result (HoldsAnyway (C.code program.now)) }
+{
+    match fill_and_report(alloc, program, table) {
+        Ok(report) => Ok(report),
+        Err(refusal) if refusal.rests_on_a_word() => Ok(None),
+        Err(refusal) => Err(refusal),
     }
 }
 

@@ -233,7 +233,10 @@ impl Search {
             let Some(from) = link else {
                 break;
             };
-            if let Some(number) = self.counted.number(point.procedure, narrow_address(from.item)) {
+            if let Some(number) = self
+                .counted
+                .number(point.procedure, narrow_address(from.item))
+            {
                 self.ask(number, places.block, places.bits)?;
             }
             link = self.counted.case_before(from);
@@ -255,7 +258,13 @@ impl Search {
         let Some(from) = self.counted.point(number) else {
             return Ok(());
         };
-        let origin = origin_of(effect_at(program, from.at), from, to, places.block, places.bits);
+        let origin = origin_of(
+            effect_at(program, from.at),
+            from,
+            to,
+            places.block,
+            places.bits,
+        );
         self.ask(number, places.block, origin.same)?;
         if let Some(moved) = origin.moved {
             self.ask(number, block_of(moved.from), bit(moved.from))?;

@@ -199,11 +199,7 @@ impl Points {
     ///
     /// # Errors
     /// `AllocError` where memory runs out.
-    pub(crate) fn forget(
-        &mut self,
-        frame: FrameId,
-        asked: Asked<'_>,
-    ) -> Result<FrameId, AllocError>
+    pub(crate) fn forget(&mut self, frame: FrameId, asked: Asked<'_>) -> Result<FrameId, AllocError>
         requires { frame < length self.old.frames }
         ensures lesser { IfOk result (λ id. IsLesserFrame self.new.frames id (frame_at self.old.frames frame)) }
         ensures points { self.new.points ≡ self.old.points }

@@ -1,7 +1,7 @@
 //! Why an image is refused.
 
 ghost use Rattle.std.specs.Prelude.{◌≡◌};
-ghost use Rattle.flow80.specs.Refusal.{refusal_code, refusal_name, refusal_address, refusal_of, look_refusal};
+ghost use Rattle.flow80.specs.Refusal.{refusal_code, refusal_name, refusal_address, refusal_of, look_refusal, rests_on_a_word};
 
 use crate::code::LookFault;
 use frames80::FrameFault;
@@ -126,6 +126,13 @@ impl Refusal {
             | Refusal::Recursion(at) => Some(at),
             Refusal::StackTooSmall(_, _) | Refusal::TooManyPoints | Refusal::Memory => None,
         }
+    }
+
+    /// Whether it is for a word of a frame; any other holds by the counts alone.
+    pub(crate) fn rests_on_a_word(&self) -> bool
+        ensures { result ≡ rests_on_a_word self.now }
+    {
+        matches!(self, Refusal::ReturnNotOwn(_))
     }
 
     /// The refusal where no instruction may be executed at an address.

@@ -40,7 +40,7 @@ in_only_range ranges address i d below others false is = in_no_range ranges addr
     order zero (suc i) = inl (inl (omega arith))
     order (suc k) zero = inl (inr (omega arith))
     order (suc k) (suc i) = elim (order k i) [
-      | inl apart ↦ inl (elim apart [ | inl less ↦ inl (omega arith) | inr more ↦ inr (omega arith) ])
+      | inl apart ↦ inl (elim apart [ inl less ↦ inl (omega arith) | inr more ↦ inr (omega arith) ])
       | inr same ↦ inr (ap suc same)
     ]
 
@@ -62,8 +62,8 @@ before_not ranges address k i d apart order below begins true is =
     let some : 0 < (get_or ranges i d).length = apart.filled i d below in
     let past : address < (get_or ranges k d).first + (get_or ranges k d).length = in_range_below (get_or ranges k d) address is in
     let twice : 2 ≤ held (get_or ranges i d).first ranges = held_twice (get_or ranges i d).first ranges k i d order below
-        (in_range_is (get_or ranges k d) (get_or ranges i d).first (omega arith) (omega arith))
-        (in_range_is (get_or ranges i d) (get_or ranges i d).first (omega arith) (omega arith)) in
+    (in_range_is (get_or ranges k d) (get_or ranges i d).first (omega arith) (omega arith))
+    (in_range_is (get_or ranges i d) (get_or ranges i d).first (omega arith) (omega arith)) in
     let once : held (get_or ranges i d).first ranges ≤ 1 = apart.disjoint (get_or ranges i d).first in
     absurd (omega arith)
 

@@ -7,10 +7,16 @@ use Rattle.interned80.specs.Admitted.{move_of}
 use Rattle.interned80.specs.Frames.{frame_at}
 use Rattle.bounds80.specs.declared.graph.CallSite.{CallSite}
 use Rattle.flow80.specs.declared.refusal.Refusal.TheVariants.{ShortArguments}
-use Rattle.flow80.specs.Known.{IsShort}
+use Rattle.flow80.specs.Known.{IsShort, is_exact}
+use Rattle.std.proofs.lemmas.Result.{err_from_is_err_and}
 use Rattle.flow80.specs.Survey.{IsCallOf}
 use Rattle.flow80.proofs.SurveyLemmas.{depth_noted, call_noted, words_enough, short_here}
 use Rattle.flow80.proofs.survey.look_at.Goals as goal
+
+pub returns-in_err-site-clause-refused : goal.returns-in_err-site-clause-refused
+returns-in_err-site-clause-refused g c =
+    let p = err_from_is_err_and c.from_residual.result c.from_residual.ensures.1 in
+    rw (p.1, p.2) (c.in_err-site.ensures.refused (is_exact c.args.table.now.known.forgets))
 
 pub returns-then-room-wanted-clause-refused : goal.returns-then-room-wanted-clause-refused
 returns-then-room-wanted-clause-refused g c =
@@ -20,9 +26,9 @@ returns-then-room-wanted-clause-refused g c =
     let f = frame_at table.frames site.frame in
     let has : c.room.result ≡ room site.role f.words = c.room.ensures ∙ ap (λ (fs : List StackFrame). room site.role (frame_at fs site.frame).words) c.frames-2.ensures in
     let less : room site.role f.words < slice_index c.args.wants.now c.slot.result = omega (arith, has, c.if-room-wanted.true) in
-    short_here c.frame_laws.ensures (g.C.Code.code c.args.program.now) table.known c.args.wants.now c.args.point site (move_of c.in_ok-site.effect f) c.in-Some.target
+    λ stands. short_here c.frame_laws.ensures (is_exact table.known.forgets) (g.C.Code.code c.args.program.now) table.known c.args.wants.now c.args.point site (move_of c.in_ok-site.effect f) c.in-Some.target
     f (ShortArguments site.at) is.move is.framed.is (sym (c.target_of.ensures f) ∙ c.in-Some.is) c.requires.wants
-    (subst (λ n. IsShort site.at (room site.role f.words) (slice_index c.args.wants.now n) (ShortArguments site.at)) c.slot.ensures.is (inr (refl, less)))
+    (subst (λ n. IsShort site.at (room site.role f.words) (slice_index c.args.wants.now n) (ShortArguments site.at)) c.slot.ensures.is (inr (refl, less))) stands
 
 pub returns-in_default-clause-seen : goal.returns-in_default-clause-seen
 returns-in_default-clause-seen g c =
