@@ -8,7 +8,7 @@ use Rattle.std.proofs.lemmas.Cmp.{ranked}
 use Rattle.std.proofs.lemmas.List.Sums.{sum_by-cons}
 use Rattle.image80.specs.declared.range.Range.{Range}
 use Rattle.image80.specs.Range.{in_range, in_ranges}
-use Rattle.image80.specs.Regions.{Areas, AreRegions, AreApart, AreDisjoint, held}
+use Rattle.image80.specs.Regions.{Areas, AreRegions, AreApart, held}
 use Rattle.image80.proofs.DisjointLemmas.{in_range_is, in_range_not, in_range_below, held_twice, held-append}
 
 -- an address in the range at a place is in one of them

@@ -1,10 +1,10 @@
 -- Words of which some are forgotten, place by place.
-use Rattle.std.proofs.Common.{◌≡◌, ◌<◌, ℕ, zero, suc, List, [], ◌∷◌, ◌++◌, length, refl, sym, ap, subst, ◌∙◌, arith}
+use Rattle.std.proofs.Common.{◌≡◌, ◌<◌, ℕ, zero, suc, List, [], ◌∷◌, ◌++◌, length, refl, sym, ap, subst, arith}
 use Rattle.frames80.specs.declared.word.Word.{Word}
 use Rattle.frames80.specs.declared.word.Word.TheVariants.{Own, Any}
 use Rattle.frames80.specs.declared.frame_pair.FramePair.{FramePair}
 use Rattle.frames80.specs.declared.frame_pair.FramePair.TheVariants.{Bc, De, Hl}
-use Rattle.frames80.specs.StackFrame.{StackFrame, Pairs, pair_in}
+use Rattle.frames80.specs.StackFrame.{Pairs, pair_in}
 use Rattle.frames80.specs.Places.{Place, InPair, InWord, word_at, word_from_top, Covers}
 use Rattle.interned80.specs.Stacks.{words_at}
 use Rattle.interned80.specs.Lesser.{IsLesser, IsLesserTop}

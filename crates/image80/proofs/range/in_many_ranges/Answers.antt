@@ -1,8 +1,8 @@
-use Rattle.std.proofs.Common.{◌≡◌, ◌<◌, ◌≤◌, ◌+◌, ℕ, zero, suc, length, get_or, sym, ap, rules, ◌∙◌, subst, refl, arith, true, false}
+use Rattle.std.proofs.Common.{◌≡◌, ◌<◌, ◌≤◌, ℕ, zero, suc, length, sym, rules, ◌∙◌, refl, arith, true, false}
 use Rattle.std.specs.Prelude.{nat_lt, ◌-◌}
 use Rattle.std.proofs.lemmas.List.Sorted.{answers_always}
 use Rattle.image80.specs.declared.range.Range.{Range}
-use Rattle.image80.specs.Range.{in_range, in_ranges}
+use Rattle.image80.specs.Range.{in_ranges}
 use Rattle.image80.proofs.RangeLemmas.{searched, before_place, below_all}
 use Rattle.image80.proofs.range.in_many_ranges.Goals as goal
 

@@ -1,8 +1,4 @@
-use Rattle.std.proofs.Common.{◌≡◌, ◌<◌, ◌++◌, ◌∷◌, [], length, subst, sym, ◌∙◌, List}
-use Rattle.frames80.specs.declared.word.Word.{Word}
 use Rattle.interned80.specs.Stacks.{words_at, IsLink}
-use Rattle.interned80.specs.declared.link.Link.{Link}
-use Rattle.interned80.specs.Lesser.{IsLesserTop}
 use Rattle.interned80.proofs.LesserLemmas.{lesser_self, lesser_on}
 use Rattle.interned80.proofs.forgetting.forget_tops.Goals as goal
 
