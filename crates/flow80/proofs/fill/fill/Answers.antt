@@ -1,4 +1,4 @@
-use Rattle.std.proofs.Common.{◌≡◌, sym, subst, refl, Bool, true≢false}
+use Rattle.std.proofs.Common.{sym, subst, refl, Bool, true≢false}
 use Rattle.std.proofs.lemmas.Result.{err_from_is_err_and}
 use Rattle.flow80.specs.Known.{Stands, is_exact}
 use Rattle.flow80.proofs.LookLemmas.{nothing_stands, nothing_small, same_mode}

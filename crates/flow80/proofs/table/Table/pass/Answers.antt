@@ -1,5 +1,4 @@
 use Rattle.std.proofs.lemmas.Result.{err_from_is_err_and}
-use Rattle.std.proofs.Common.{Ok, Err}
 use Rattle.flow80.proofs.LookLemmas.{ongoing_more, ongoing_visit, visit_refused, more_refused, closed_more}
 use Rattle.flow80.proofs.table.Table.pass.Goals as goal
 
