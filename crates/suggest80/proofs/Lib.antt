@@ -1,1 +1,5 @@
-mod CoverLemmas
+mod RangeLemmas
+mod NameLemmas
+mod SpanLemmas
+mod StackLemmas
+mod WithCasesLemmas
