@@ -1,5 +1,4 @@
 mod RangeLemmas
 mod NameLemmas
-mod SpanLemmas
 mod StackLemmas
 mod WithCasesLemmas

@@ -1,12 +1,11 @@
 -- Ranges that cover what passes a test.
-use Rattle.std.proofs.Common.{◌≡◌, ◌<◌, ◌≤◌, ◌+◌, ◌-◌, ◌⊎◌, inl, inr, ℕ, Bool, true, false, List, [], ◌∷◌, ◌++◌, All, Contains, length, get_or, refl, sym, ◌∙◌, ap, subst, arith, cond, true≢false}
+use Rattle.std.proofs.Common.{◌≡◌, ◌<◌, ◌≤◌, ◌+◌, inl, inr, ℕ, Bool, true, false, List, [], ◌∷◌, ◌++◌, All, Contains, length, get_or, refl, sym, ◌∙◌, ap, subst, arith, cond, true≢false}
 use Rattle.std.specs.Prelude.{◌&&◌, ◌||◌, nat_le, nat_lt, IsPermutation}
-use Rattle.std.specs.List.{list_any, count_by}
 use Rattle.std.proofs.lemmas.Bool.{cases_eq}
 use Rattle.std.proofs.lemmas.Bool.Decides.{nat_tests}
 use Rattle.std.proofs.lemmas.Grind.{common_steps}
-use Rattle.std.proofs.lemmas.List.Elements.{All-nil, All-push, Contains-get_or, Contains-push_cases}
-use Rattle.std.proofs.lemmas.List.{get_or_default, get_or_append_left, length-append}
+use Rattle.std.proofs.lemmas.List.Elements.{All-push, Contains-push_cases}
+use Rattle.std.proofs.lemmas.List.{get_or_append_left, length-append}
 use Rattle.std.proofs.Math.Seq.{get_or-append_seam}
 use Rattle.std.proofs.lemmas.List.Folds.{list_any-append}
 use Rattle.std.proofs.lemmas.List.Sums.{sum_by-append, sum_by-cons}
@@ -37,24 +36,6 @@ held_none address (r ∷ rs) none =
     let parts = either (in_range r address) (in_ranges rs address) none in
     let rest : held address rs ≡ 0 = held_none address rs parts.1 in
     rw (held_first address r rs, parts.0, rest) refl
-
-pub held_few : (b : Bool) → cond b 1 0 ≤ 1
-held_few true = omega arith
-held_few false = omega arith
-
-pub cover_none : (test : ℕ → Bool) → CoversBelow test 0 []
-cover_none test = record {
-  exact = λ address. none address (nat_lt address 0) refl;
-  joined = λ a b has. absurd (omega (arith, has.1));
-  filled = All-nil (λ range. 0 < range.length);
-  in_memory = All-nil IsInMemory;
-  apart = λ address. omega arith;
-  passed = All-nil (IsPassed test 0);
-}
-  where
-    none : (address : ℕ) (b : Bool) → nat_lt address 0 ≡ b → false ≡ (b && test address)
-    none address true is = absurd (grind (arith, nat_tests))
-    none address false is = refl
 
 module _ (test : ℕ → Bool) (limit : ℕ) (ranges : List Range) (cover : CoversBelow test limit ranges) where
   -- the next address doesn't pass
@@ -201,9 +182,6 @@ marks_more test limit marks mark are is = record {
         get_or_append_left marks (mark ∷ []) false address less ∙ are.exact address (omega (arith, less, are.size))
   ];
 }
-
-pub marks_none : (test : ℕ → Bool) → AreMarks test 0 []
-marks_none test = record { size = refl; exact = λ address below. absurd (omega (arith, below)) }
 
 pub covers_below : (test : ℕ → Bool) (ranges : List Range) → CoversBelow test 65536 ranges → Covers test ranges
 covers_below test ranges cover = record { exact = cover.exact; joined = cover.joined }

@@ -1,5 +1,5 @@
 -- The regions that are suggested for an image. (This project's own.)
-use Rattle.std.specs.Prelude.{◌≡◌, ◌≢◌, ℕ, ◌&&◌, ◌||◌, ◌==◌, ◌≤◌, Bool, not, List, Option, length, nat_le, if◌then◌else◌}
+use Rattle.std.specs.Prelude.{◌≡◌, ◌≢◌, ℕ, ◌&&◌, ◌||◌, ◌==◌, Bool, not, List, Option, length, nat_le, if◌then◌else◌}
 use Rattle.image80.specs.declared.range.Range.{Range}
 use Rattle.image80.specs.Case.{DeclaredCase}
 use Rattle.image80.specs.Image.{Located}

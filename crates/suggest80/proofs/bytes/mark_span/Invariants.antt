@@ -1,4 +1,4 @@
-use Rattle.std.specs.Prelude.{◌≡◌, ◌+◌, ◌-◌, ◌≤◌, ◌<◌, ◌||◌, ℕ, length}
+use Rattle.std.specs.Prelude.{◌≡◌, ◌-◌, ◌≤◌, ◌<◌, ◌||◌, ℕ, length}
 use Rattle.suggest80.specs.Bytes.{in_span}
 use Rattle.suggest80.specs.Ranges.{marked}
 use Rattle.suggest80.proofs.bytes.mark_span.Given as goal

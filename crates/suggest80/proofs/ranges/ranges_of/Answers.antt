@@ -1,4 +1,4 @@
-use Rattle.std.proofs.Common.{◌≡◌, ◌+◌, ◌≤◌, ◌<◌, arith, refl, subst, sym}
+use Rattle.std.proofs.Common.{◌+◌, ◌<◌, arith, refl, subst, sym}
 use Rattle.image80.specs.declared.range.Range.{Range}
 use Rattle.suggest80.specs.Ranges.{CoversBelow, marked}
 use Rattle.suggest80.proofs.RangeLemmas.{cover_more}

@@ -1,10 +1,8 @@
-use Rattle.std.proofs.Common.{rules, ◌≡◌, ◌∙◌, ap, refl, subst, sym}
+use Rattle.std.proofs.Common.{◌≡◌, ◌∙◌, ap, refl, subst, sym}
 use Rattle.image80.specs.Case.{AreByAddress}
 use Rattle.image80.specs.Image.{Located}
 use Rattle.image80.specs.Regions.{Areas}
 use Rattle.cases80.specs.Suggested.{AreSuggested}
-use Rattle.suggest80.specs.Bytes.{may_be_code}
-use Rattle.suggest80.specs.Ranges.{Covers}
 use Rattle.suggest80.specs.Suggestion.{Found, IsArranged, IsFound, IsSuggestion, IsWanted, with_regions}
 use Rattle.suggest80.proofs.suggesting.suggest_regions.Goals as goal
 

@@ -1,5 +1,4 @@
-use Rattle.std.proofs.Common.{rules, ◌≡◌, ◌≤◌, Bool, true, false, refl, arith}
-use Rattle.std.specs.Prelude.{nat_le, if◌then◌else◌}
+use Rattle.std.proofs.Common.{rules, refl, arith}
 use Rattle.suggest80.specs.Suggestion.IsWanted.{measured, refused}
 use Rattle.suggest80.proofs.StackLemmas.{least_of, more_of}
 use Rattle.suggest80.proofs.suggesting.wanted_stack.Goals as goal

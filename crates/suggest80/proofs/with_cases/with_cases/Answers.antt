@@ -1,4 +1,4 @@
-use Rattle.std.proofs.Common.{subst, sym}
+use Rattle.std.proofs.Common.{subst}
 use Rattle.image80.specs.RegionsText.{Spells, regions_text}
 use Rattle.suggest80.proofs.WithCasesLemmas.{read_with, text2, text_with}
 use Rattle.suggest80.proofs.with_cases.with_cases.Goals as goal
