@@ -1,4 +1,6 @@
-mod RangeLemmas
+mod CodeLemmas
+mod LawLemmas
 mod NameLemmas
+mod RangeLemmas
 mod StackLemmas
 mod WithCasesLemmas

@@ -4,11 +4,13 @@
 //! |---|---|
 //! | [`suggest_regions`] | gives an image the regions that its bytes suggest |
 //! | [`Advice`], [`Setter`] | what there is to say of them |
+//! | [`laws`] | what holds of the definitions alone |
 #![tactic(auto)]
 
 mod arranging;
 mod bytes;
 mod covered;
+pub mod laws;
 mod names;
 mod ranges;
 mod setters;
