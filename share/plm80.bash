@@ -6,12 +6,12 @@ _plm80() {
     COMPREPLY=()
     case $before in
         --name | --code | --stack | --common | --data | --memory | --stack-size | --memory-size | --steps | --outputs | --first | \
-            --length | --start | --fill | --last | --from | --count)
+            --length | --start | --fill | --last | --from | --count | --rom-range | --ram-range)
             return
             ;;
     esac
     if [[ $COMP_CWORD -eq 1 ]]; then
-        COMPREPLY=($(compgen -W 'link locate run list check explain lib regions cases map extract absolute trace cover stores calls compare inputs module find help -h --help -V --version' -- "$word"))
+        COMPREPLY=($(compgen -W 'link locate run list check explain lib regions cases map extract absolute trace cover stores calls compare inputs module find suggest help -h --help -V --version' -- "$word"))
         return
     fi
     case ${COMP_WORDS[1]} in
@@ -24,13 +24,14 @@ _plm80() {
         extract) options='--first --length --fill --sum --why -h --help' ;;
         absolute) options='--first --start --name --rom --why -h --help' ;;
         compare) options='--first --fill --why -h --help' ;;
+        suggest) options='--rom-range --ram-range --why -h --help' ;;
         find) options='--first --why -h --help' ;;
         check | explain | lib | regions | stores | inputs | module) options='--why -h --help' ;;
         list) options='--reached --why -h --help' ;;
         cases) options='--out --why -h --help' ;;
         calls) options='--dot --why -h --help' ;;
         help)
-            [[ $COMP_CWORD -eq 2 ]] && COMPREPLY=($(compgen -W 'link locate run list check explain lib regions cases map extract absolute trace cover stores calls compare inputs module find help' -- "$word"))
+            [[ $COMP_CWORD -eq 2 ]] && COMPREPLY=($(compgen -W 'link locate run list check explain lib regions cases map extract absolute trace cover stores calls compare inputs module find suggest help' -- "$word"))
             return
             ;;
         *) return ;;

@@ -10,7 +10,17 @@
 //! PCHL
 //! ```
 //!
-//! Others may stand before each of the first three, if they leave the pair, or then HL, as it is.
+//! and as others write it: `LXI H,table` and `DAD` of a pair, once or twice, in place of the first two, and
+//!
+//! ```text
+//! MOV A,M
+//! INX H
+//! MOV H,M
+//! MOV L,A
+//! ```
+//!
+//! in place of the four before the PCHL. Others may stand before each of the first three, if they leave the pair, or then HL, as it
+//! is.
 
 use decode80::{Instr, Pair, Register, StackPair};
 
@@ -30,8 +40,18 @@ pub(crate) struct Trail {
 enum Load {
     /// HL points to no table that is known.
     Nothing,
+    /// LXI has put this word into HL.
+    Base(u16),
+    /// A pair was added to this word, which LXI had put into HL.
+    Indexed(u16),
     /// The address of a table was added to HL.
     Points(u16),
+    /// HL points to a low byte, which is in A.
+    LowInA(u16),
+    /// The low byte is in A, and HL points to the high byte.
+    NextOfA(u16),
+    /// The low byte is in A, and the high byte in H.
+    HighInH(u16),
     /// The low byte is in E.
     Low(u16),
     /// HL points to the high byte.
@@ -72,23 +92,65 @@ impl Trail {
     /// How much of a word is loaded after an instruction.
     fn load_after(self, instr: Instr) -> Load {
         match (self.load, instr) {
-            (_, Instr::Dad(Pair::Bc)) => points(self.bc),
-            (_, Instr::Dad(Pair::De)) => points(self.de),
-            (Load::Points(table), Instr::Load(Register::E)) => Load::Low(table),
+            (_, Instr::Lxi(Pair::Hl, word)) => Load::Base(word),
+            (load, Instr::Dad(Pair::Bc)) => load.added(self.bc),
+            (load, Instr::Dad(Pair::De)) => load.added(self.de),
+            (load, Instr::Load(Register::A)) => load.low_in_a(),
+            (load, Instr::Load(Register::E)) => load.low_in_e(),
+            (Load::LowInA(table), Instr::Inx(Pair::Hl)) => Load::NextOfA(table),
+            (Load::NextOfA(table), Instr::Load(Register::H)) => Load::HighInH(table),
+            (Load::HighInH(table), Instr::Mov(Register::L, Register::A)) => Load::Exchanged(table),
             (Load::Low(table), Instr::Inx(Pair::Hl)) => Load::Next(table),
             (Load::Next(table), Instr::Load(Register::D)) => Load::Word(table),
             (Load::Word(table), Instr::Xchg) => Load::Exchanged(table),
-            (Load::Points(table), _) if !may_change(instr, Pair::Hl) => Load::Points(table),
+            (load, _) if !may_change(instr, Pair::Hl) => load.kept(),
             _ => Load::Nothing,
         }
     }
 }
 
-/// HL points to the table of this address, where it is known.
-fn points(table: Option<u16>) -> Load {
-    match table {
-        Some(table) => Load::Points(table),
-        None => Load::Nothing,
+impl Load {
+    /// The table to a word of which HL points.
+    fn table(self) -> Option<u16> {
+        match self {
+            Load::Indexed(table) | Load::Points(table) | Load::LowInA(table) => Some(table),
+            _ => None,
+        }
+    }
+
+    /// After a pair was added to HL, whose word LXI has put into it, or isn't known.
+    fn added(self, word: Option<u16>) -> Load {
+        match (word, self) {
+            (Some(table), _) => Load::Points(table),
+            (None, Load::Base(table) | Load::Indexed(table)) => Load::Indexed(table),
+            _ => Load::Nothing,
+        }
+    }
+
+    /// After the byte to which HL points was loaded into A.
+    fn low_in_a(self) -> Load {
+        match self.table() {
+            Some(table) => Load::LowInA(table),
+            None => self.kept(),
+        }
+    }
+
+    /// After the byte to which HL points was loaded into E.
+    fn low_in_e(self) -> Load {
+        match self.table() {
+            Some(table) => Load::Low(table),
+            None => self.kept(),
+        }
+    }
+
+    /// After an instruction that leaves HL as it is.
+    fn kept(self) -> Load {
+        match self {
+            Load::Base(word) => Load::Base(word),
+            Load::Indexed(table) => Load::Indexed(table),
+            Load::Points(table) | Load::LowInA(table) => Load::Points(table),
+            _ => Load::Nothing,
+        }
     }
 }
 

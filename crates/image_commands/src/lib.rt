@@ -1,4 +1,4 @@
-//! The commands that look at a located program without a run: `list`, `check`, `explain`, `regions`, `cases`, `stores` and `calls`.
+//! The commands that look at a located program without a run: `list`, `check`, `explain`, `regions`, `cases`, `suggest`, `stores` and `calls`.
 //!
 //! | Item | What it is |
 //! |---|---|
@@ -7,10 +7,12 @@
 //! | [`explain_files`] | `explain`: why it is refused, shown by ways through its procedures |
 //! | [`migrate_file`] | `regions`: its regions as a text of version 2 |
 //! | [`suggest_for_files`] | `cases`: the CASE lines that its tables suggest |
+//! | [`advise_file`] | `suggest`: the regions that its bytes suggest |
 //! | [`list_stores`] | `stores`: its stores that may leave data, and its jumps by PCHL |
 //! | [`show_calls`] | `calls`: which procedure calls which, and how deep |
 #![tactic(auto)]
 
+mod advising;
 mod calling;
 mod calls_text;
 mod checking;
@@ -21,6 +23,7 @@ mod migrating;
 mod stores;
 mod suggesting;
 
+pub use advising::{SUGGEST, SuggestArguments, advise_file};
 pub use calling::{CALLS, CallsArguments, show_calls};
 pub use checking::{CHECK, check_files};
 pub use explaining::{EXPLAIN, explain_files};

@@ -76,7 +76,7 @@ pub fn suggest_for_files(
 }
 
 /// Reports the PCHLs for which no table is seen, and gives the status.
-fn report_tableless(console: Console<'_>, tableless: &[u16]) -> u8 {
+pub(crate) fn report_tableless(console: Console<'_>, tableless: &[u16]) -> u8 {
     for at in tableless {
         let _ = eprintln!(console.runtime(); "plm80: no table is seen for the PCHL at {at:04X}");
     }

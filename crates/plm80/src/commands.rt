@@ -5,7 +5,7 @@ mod arguments;
 use arguments::{Request, read_arguments};
 use console80::{Console, Reported};
 use image_commands::{
-    check_files, explain_files, list_files, list_stores, migrate_file, show_calls,
+    advise_file, check_files, explain_files, list_files, list_stores, migrate_file, show_calls,
     suggest_for_files,
 };
 use object_commands::{
@@ -56,6 +56,7 @@ fn perform(console: Console<'_>, request: Request<'_>) -> Result<u8, Reported> {
         Request::Cover(arguments) => cover_files(console, arguments),
         Request::Module(arguments) => describe_file(console, arguments),
         Request::Find(arguments) => find_modules(console, &arguments),
+        Request::Suggest(arguments) => advise_file(console, &arguments),
     }
 }
 

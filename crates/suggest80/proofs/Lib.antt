@@ -1,1 +1,6 @@
-mod CoverLemmas
+mod CodeLemmas
+mod LawLemmas
+mod NameLemmas
+mod RangeLemmas
+mod StackLemmas
+mod WithCasesLemmas

@@ -1,1 +1,6 @@
+pub mod Ranges
+pub mod Bytes
 pub mod Code
+pub mod Names
+pub mod Stack
+pub mod Suggestion

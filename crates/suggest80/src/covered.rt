@@ -1,10 +1,31 @@
 //! The bytes of the instructions that the program may come to.
 
-ghost use Rattle.std.specs.Prelude.{◌≡◌, ◌<◌, length};
+ghost use Rattle.std.specs.Prelude.{◌≡◌, ◌<◌, length, IfOk};
 ghost use Rattle.suggest80.specs.Code.{is_covered, size_at};
+ghost use Rattle.suggest80.specs.Ranges.{AreMarks};
 
-use decode80::{behind, fetch};
+use decode80::{FetchFault, behind, fetch};
+use std::alloc::{AllocError, Global};
 use verify80::ImageCode;
+
+/// For each address whether it is in an instruction at a marked address.
+///
+/// # Errors
+/// `AllocError` only where memory runs out.
+pub(crate) fn find_covered(
+    alloc: Global,
+    code: &ImageCode<'_>,
+    reached: &[bool],
+) -> Result<Vec<bool>, AllocError>
+    requires { length reached.now ≡ 65536 }
+    ensures { IfOk result (λ marks. AreMarks (is_covered code.now reached.now) 65536 marks.items) }
+{
+    let mut marks = Vec::new(alloc);
+    for address in 0..65_536_u32 {
+        marks.push(is_covered(code, reached, address as u16))?;
+    }
+    Ok(marks)
+}
 
 /// How many bytes the instruction at a marked address has; 0 if the address isn't marked, or the code has no instruction there.
 #[tactic(auto, unfolding(crate::specs::Code::size_at))]
@@ -17,12 +38,13 @@ fn size_at(code: &ImageCode<'_>, reached: &[bool], at: u16) -> u16
     }
     match fetch(at, code) {
         Ok(found) => behind(found.next, at),
-        Err(_) => 0,
+        Err(FetchFault::Unused) => 1,
+        Err(FetchFault::Outside) => 0,
     }
 }
 
 /// Whether an address is in an instruction at a marked address: one that begins there, or one or two addresses before it.
-pub(crate) fn is_covered(code: &ImageCode<'_>, reached: &[bool], address: u16) -> bool
+fn is_covered(code: &ImageCode<'_>, reached: &[bool], address: u16) -> bool
     requires { length reached.now ≡ 65536 }
     ensures { result ≡ is_covered code.now reached.now address }
 {

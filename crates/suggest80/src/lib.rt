@@ -1,11 +1,23 @@
-//! Advice on the regions of an image of which nothing is known but its bytes: its code, as ranges.
+//! Advice on the regions of an image of which nothing is known but its bytes.
 //!
 //! | Item | What it is |
 //! |---|---|
-//! | [`suggest_code`] | the ranges of the bytes of all instructions that the program may come to |
+//! | [`suggest_regions`] | gives an image the regions that its bytes suggest |
+//! | [`Advice`], [`Setter`] | what there is to say of them |
+//! | [`laws`] | what holds of the definitions alone |
 #![tactic(auto)]
 
+mod arranging;
+mod bytes;
 mod covered;
+pub mod laws;
+mod names;
 mod ranges;
+mod setters;
+mod stack;
+mod suggesting;
+mod survey;
+mod with_cases;
 
-pub use ranges::suggest_code;
+pub use setters::Setter;
+pub use suggesting::{Advice, suggest_regions};

@@ -5,7 +5,7 @@ use clap::{ArgMatches, Command, Error};
 use console80::{ProgramFiles, Syntax, WHY};
 use image_commands::{
     CALLS, CASES, CHECK, CallsArguments, CasesArguments, EXPLAIN, LIST, ListArguments, REGIONS,
-    RegionsArguments, STORES,
+    RegionsArguments, STORES, SUGGEST, SuggestArguments,
 };
 use object_commands::{
     FIND, FindArguments, LIB, LINK, LOCATE, LibraryArguments, LinkArguments, LocateArguments, MAP,
@@ -42,6 +42,7 @@ pub enum Request<'a> {
     Cover(CoverArguments<'a>),
     Module(ModuleArguments<'a>),
     Find(FindArguments<'a>),
+    Suggest(SuggestArguments<'a>),
 }
 
 const ABOUT: &str = "Links, locates, verifies and runs 8080 programs from OMF-80 object files";
@@ -75,8 +76,10 @@ fn other_commands() -> [Syntax<'static>; 6] {
 }
 
 /// The commands that came last, in the order of the help text.
-fn further_commands() -> [Syntax<'static>; 8] {
-    [TRACE, COVER, STORES, CALLS, COMPARE, INPUTS, MODULE, FIND]
+fn further_commands() -> [Syntax<'static>; 9] {
+    [
+        TRACE, COVER, STORES, CALLS, COMPARE, INPUTS, MODULE, FIND, SUGGEST,
+    ]
 }
 
 /// The command of a name.
@@ -214,6 +217,7 @@ fn asked_for<'a>(
         "cover" => Request::Cover(CoverArguments::of(arguments)),
         "module" => Request::Module(ModuleArguments::of(arguments)),
         "find" => Request::Find(FindArguments::of(alloc, arguments)?),
+        "suggest" => Request::Suggest(SuggestArguments::of(alloc, arguments)?),
         _ => return Ok(None),
     };
     Ok(Some(request))

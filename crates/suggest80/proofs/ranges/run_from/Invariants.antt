@@ -1,12 +1,12 @@
 use Rattle.std.specs.Prelude.{◌≡◌, ◌+◌, ◌-◌, ◌≤◌, ◌<◌, ℕ, true}
-use Rattle.suggest80.specs.Code.{is_covered}
+use Rattle.suggest80.specs.Ranges.{marked}
 use Rattle.suggest80.proofs.ranges.run_from.Given as goal
 
 abbrev pub invariant-loop-run : goal.invariant-loop-run
 invariant-loop-run l = record {
   inside : l.at + l.run ≤ 65536;
   few : l.run ≤ 65535;
-  all : (address : ℕ) → l.at ≤ address → address < l.at + l.run → is_covered l.code l.reached address ≡ true;
+  all : (address : ℕ) → l.at ≤ address → address < l.at + l.run → marked l.marks address ≡ true;
 }
 
 abbrev pub decreases-loop-run : goal.decreases-loop-run
