@@ -1,8 +1,8 @@
-use Rattle.std.proofs.Common.{◌≡◌, ◌<◌, ◌∙◌, ◌+◌, arith, subst, sym, length, List, ℕ, ap, IfOk, Vec, Global}
+use Rattle.std.proofs.Common.{◌≡◌, ◌∙◌, ◌+◌, arith, subst, List, ℕ, ap, IfOk}
 use Rattle.std.specs.Prelude.{filter_map}
 use Rattle.std.specs.List.{range_with_len}
 use Rattle.pattern80.specs.declared.code_byte.CodeByte.{CodeByte}
-use Rattle.pattern80.specs.Modules.{code_bytes, code_byte_at, code_length}
+use Rattle.pattern80.specs.Modules.{code_bytes, code_byte_at}
 use Rattle.pattern80.proofs.ReadingLemmas.{given}
 use Rattle.pattern80.proofs.reading.code_bytes.Goals as goal
 

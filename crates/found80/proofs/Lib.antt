@@ -1,0 +1,6 @@
+pub mod NameLemmas
+pub mod BaseLemmas
+pub mod ByteLemmas
+pub mod ChunkLemmas
+pub mod LieLemmas
+pub mod WordLemmas

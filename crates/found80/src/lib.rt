@@ -1,0 +1,4 @@
+//! Where modules lie in a dump.
+#![tactic(auto)]
+
+pub mod laws;
