@@ -4,3 +4,4 @@ pub mod ByteLemmas
 pub mod ChunkLemmas
 pub mod LieLemmas
 pub mod WordLemmas
+pub mod FindLemmas
