@@ -5,3 +5,4 @@ pub mod ChunkLemmas
 pub mod LieLemmas
 pub mod WordLemmas
 pub mod FindLemmas
+pub mod LinkLemmas

@@ -3,6 +3,7 @@
 //! nothing.
 
 ghost use Rattle.found80.specs.Laws.{PatternsLieAsModules, PatternPlacesAreModulePlaces, PatternWordsAreModuleWords};
+ghost use Rattle.found80.specs.LinkLaws.{LinkHasTheBytes};
 
 use omf_relocation::laws::{
     commons_are_found_by_name, parts_of_one_start_at_zero, sound_modules_keep_rules,
@@ -32,4 +33,12 @@ pub fn pattern_words_are_module_words()
     sound_modules_keep_rules();
     commons_are_found_by_name();
     parts_of_one_start_at_zero();
+}
+
+/// If each module of a link lies in a dump with bases that go with those of the link, the dump has, at each address that only
+/// contents in CODE cover, the byte that LINK and LOCATE come to.
+pub fn link_of_found_modules_has_the_bytes()
+    ensures { LinkHasTheBytes }
+{
+    sound_modules_keep_rules();
 }
