@@ -1,7 +1,7 @@
 -- The values that have one candidate are those that can have one word only.
 use Rattle.std.specs.Prelude.{◌≡◌, ℕ, zero, suc, ◌+◌, ◌-◌, ◌%◌, ◌<◌, ◌≤◌, ◌==◌, ◌&&◌, if◌then◌else◌, nat_le, nat_lt, Bool, true, false, List, length, slice_index_or}
 use Rattle.std.proofs.Common.{refl, sym, ◌∙◌, ap, arith}
-use Rattle.std.proofs.lemmas.Bool.{and_parts, and_from, eqb-true, eq-eqb, ne_eqb, leb-true, le-leb, true≢false, lt-ltb}
+use Rattle.std.proofs.lemmas.Bool.{and_parts, and_from, eqb-true, eq-eqb, ne_eqb, leb-true, le-leb, true≢false, lt-ltb, ltb-true}
 use Rattle.pattern80.specs.declared.code_byte.CodeByte.{CodeByte}
 use Rattle.find80.specs.declared.candidates.Candidates.{Candidates}
 use Rattle.find80.specs.declared.candidates.Candidates.TheVariants.{Any, Low, Window}
@@ -93,6 +93,8 @@ pub only_words : (first : ℕ) (dump : List ℕ) (code : List CodeByte) (address
     → AreSingle table count words → AreOnlyWords first dump code address count words
 only_words first dump code address count table words lt below whole h lies single = record {
   lies = lies;
+  within = λ number word e. let parts = and_parts (nat_le 2 number) (nat_lt number count && is_single (slice_index_or table number Any) word) (sym (single.each number word) ∙ e) in
+      (leb-true 2 number parts.0, ltb-true number count (and_parts (nat_lt number count) (is_single (slice_index_or table number Any) word) parts.1).0);
   each = λ number word two less. (
     (λ e. let s = is-single number word e in (
       single-below (slice_index_or table number Any) word s,

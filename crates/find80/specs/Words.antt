@@ -12,9 +12,10 @@ use Rattle.find80.specs.Places.{LiesAt, IsOnly}
 abbrev pub has_word : List Word → (number word : ℕ) → Bool
 has_word words number word = list_any (λ w. number_of w.target == number && w.word == word) words
 
--- The words are those of the values that have only one.
+-- The words are those of the values that have only one, but for absolute bytes and CODE.
 pub record AreOnlyWords (first : ℕ) (dump : List ℕ) (code : List CodeByte) (address count : ℕ) (words : List Word) : Type 0 where
   pub lies : LiesAt first dump code address
+  pub within : (number word : ℕ) → has_word words number word ≡ true → (2 ≤ number) × (number < count)
   pub each : (number word : ℕ) → 2 ≤ number → number < count →
       (has_word words number word ≡ true) ↔ ((word < 65536) × IsOnly first dump code address number word)
 

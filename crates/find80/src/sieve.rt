@@ -96,13 +96,13 @@ fn sieve_by(alive: &mut Vec<bool>, ring: &[u16], byte: CodeByte) -> bool
 }
 
 /// Drops each address after which by so many the ring has another entry, and answers whether any is left.
-fn drop_others(alive: &mut Vec<bool>, ring: &[u16], offset: usize, entry: u16) -> bool
-    requires all { length alive.old.items ≡ 65536 }
+fn drop_others(alive: &mut [bool], ring: &[u16], offset: usize, entry: u16) -> bool
+    requires all { length alive.old ≡ 65536 }
     requires ring { length ring.now ≡ 131072 }
     requires near { offset < 65536 }
-    ensures whole { length alive.new.items ≡ 65536 }
-    ensures each { (a : ℕ) → a < 65536 → IsSievedBy ring.now offset entry (slice_index_or alive.old.items a false) (slice_index_or alive.new.items a false) a }
-    ensures none { result ≡ false → (a : ℕ) → a < 65536 → slice_index_or alive.new.items a false ≡ false }
+    ensures whole { length alive.new ≡ 65536 }
+    ensures each { (a : ℕ) → a < 65536 → IsSievedBy ring.now offset entry (slice_index_or alive.old a false) (slice_index_or alive.new a false) a }
+    ensures none { result ≡ false → (a : ℕ) → a < 65536 → slice_index_or alive.new a false ≡ false }
 {
     let mut any = false;
     for at in 0..ADDRESSES {

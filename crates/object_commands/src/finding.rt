@@ -4,7 +4,7 @@ use crate::found_text::{append_external, append_more, append_name_line, append_p
 use crate::linking::read_file;
 use clap::ArgMatches;
 use console80::{Argument, Console, Kind, LinkFile, OptionText, Reported, Syntax, path_of};
-use find80::{count_of, places, words_at};
+use found80::{module_places, module_words};
 use omf_library::Library;
 use omf_module::Module;
 use omf_parts::Target;
@@ -189,11 +189,11 @@ fn look_for(
     if plain_bytes(&code) < FEWEST {
         return Ok(Found::Short);
     }
-    let found = places(alloc, dump.first, &dump.bytes, &code, count_of(&code))?;
+    let found = module_places(alloc, dump.first, &dump.bytes, module)?;
     if found.is_empty() {
         return Ok(Found::Missing);
     }
-    append_places(alloc, dump, module, &code, &found, text)?;
+    append_places(alloc, dump, module, &found, text)?;
     Ok(Found::There)
 }
 
@@ -213,12 +213,11 @@ fn append_places(
     alloc: Global,
     dump: &Dump,
     module: &Module,
-    code: &[CodeByte],
     found: &[u16],
     text: &mut String,
 ) -> Result<(), AllocError> {
     for address in found.iter().take(PLACES) {
-        append_at(alloc, dump, module, code, *address, text)?;
+        append_at(alloc, dump, module, *address, text)?;
     }
     append_more(text, found.len().saturating_sub(PLACES))
 }
@@ -228,12 +227,10 @@ fn append_at(
     alloc: Global,
     dump: &Dump,
     module: &Module,
-    code: &[CodeByte],
     address: u16,
     text: &mut String,
 ) -> Result<(), AllocError> {
-    let count = count_of(code);
-    let Some(words) = words_at(alloc, dump.first, &dump.bytes, code, count, address)? else {
+    let Some(words) = module_words(alloc, dump.first, &dump.bytes, module, address)? else {
         return Ok(());
     };
     append_place(text, module, address, &words)?;

@@ -1,6 +1,6 @@
 //! The lines of a module that is found in a dump.
 
-use find80::Word;
+use found80::Word;
 use omf_module::Module;
 use omf_parts::Target;
 use std::alloc::AllocError;

@@ -1,17 +1,16 @@
 -- The bytes of contents, placed one content and one fixup after another.
-use Rattle.std.specs.Prelude.{◌≡◌, ℕ, zero, suc, ◌+◌, ◌-◌, ◌<◌, ◌≤◌, ◌==◌, ◌&&◌, ◌||◌, not, if◌then◌else◌, Bool, true, false, Option, Some, None, List, [], ◌∷◌, ◌++◌, length, map, filter, filter_map, find, slice_index_or, IsTrue}
-use Rattle.std.specs.List.{cons_option, AllByRecursion, list_all, last_or, range_with_len}
+use Rattle.std.specs.Prelude.{◌≡◌, ℕ, zero, suc, ◌+◌, ◌-◌, ◌<◌, ◌≤◌, ◌&&◌, if◌then◌else◌, Bool, true, false, Option, Some, None, List, [], ◌∷◌, length, map, filter_map, find}
+use Rattle.std.specs.List.{cons_option, AllByRecursion, list_all, range_with_len}
 use Rattle.std.specs.Option.{option_map_or}
-use Rattle.std.proofs.Common.{refl, sym, ◌∙◌, ap, subst, arith, get_or, drop, drop-cons, add-one}
-use Rattle.std.proofs.lemmas.Bool.{and_parts, and_from}
+use Rattle.std.proofs.Common.{refl, sym, ◌∙◌, ap, arith, get_or, drop, drop-cons}
+use Rattle.std.proofs.lemmas.Bool.{and_parts}
 use Rattle.omf_parts.specs.declared.fixup.Fixup.{Fixup}
 use Rattle.omf_parts.specs.Contents.{ContentValue}
 use Rattle.omf_parts.specs.Modules.{ModuleValue}
 use Rattle.omf_relocation.specs.Patches.{is_inside_bytes}
-use Rattle.omf_relocation.specs.ImageByte.{patch_with}
-use Rattle.omf_relocation.specs.SoundModules.{as_patch, HasItsFixups, LiesIn}
+use Rattle.omf_relocation.specs.SoundModules.{as_patch, HasItsFixups}
 use Rattle.pattern80.specs.declared.code_byte.CodeByte.{CodeByte}
-use Rattle.pattern80.specs.Modules.{IsWithin, covers, covers_code, has_byte, fixup_byte, byte_by_fixups, byte_in, plain_byte}
+use Rattle.pattern80.specs.Modules.{IsWithin, covers, has_byte, fixup_byte, byte_by_fixups, plain_byte}
 
 -- what holds of each holds at an index
 pub each_at : {A : Type 0} (P : A → Type 0) (xs : List A) (i : ℕ) (d : A) → AllByRecursion P xs → i < length xs → P (get_or xs i d)

@@ -2,10 +2,10 @@
 
 ghost use Rattle.omf_body.specs.declared.field.Field.TheVariants as field;
 ghost use Rattle.omf_relocation.specs.Patches.{word_in_bytes};
-ghost use Rattle.std.specs.Prelude.{◌==◌, ◌||◌, ◌≡◌, ℕ, ◌<◌, ◌≤◌, ◌+◌, ◌-◌, ◌&&◌, if◌then◌else◌, Option, Some, None, List, length, slice_index_or, filter_map, IsTrue, IfOk};
+ghost use Rattle.std.specs.Prelude.{◌==◌, ◌||◌, ◌≡◌, ℕ, ◌<◌, ◌≤◌, ◌+◌, ◌-◌, ◌&&◌, if◌then◌else◌, Option, Some, None, List, length, slice_index_or, filter_map, IsTrue, IfOk, OnOk};
 ghost use Rattle.std.specs.List.{range_with_len};
 ghost use Rattle.pattern80.specs.declared.code_byte.CodeByte.{CodeByte};
-ghost use Rattle.omf_parts.specs.Rules.{has_target};
+ghost use Rattle.omf_parts.specs.Rules.{IsModule, has_target};
 ghost use Rattle.omf_relocation.specs.SoundModules.{HasItsFixups, LiesIn};
 ghost use Rattle.pattern80.specs.Modules.{code_bytes, code_length, covers, has_byte, fixup_byte, byte_in, plain_byte, field_byte, IsWithin, IsTable};
 
@@ -22,7 +22,9 @@ use std::alloc::{AllocError, Global};
 /// # Errors
 /// `AllocError` only where memory ran out.
 pub fn code_bytes(alloc: Global, source: &Module) -> Result<Vec<CodeByte>, AllocError>
-    ensures { IfOk result (λ bytes. bytes.items ≡ code_bytes source.now) }
+    ensures bytes { IfOk result (λ bytes. bytes.items ≡ code_bytes source.now) }
+    ensures short { OnOk result (code_length source.now ≤ 65535) }
+    ensures rules { OnOk result (IsModule source.now) }
 {
     let table = code_table(alloc, source)?;
     bytes_of(alloc, &table)
@@ -30,7 +32,9 @@ pub fn code_bytes(alloc: Global, source: &Module) -> Result<Vec<CodeByte>, Alloc
 
 /// The byte at each offset in CODE, if a content covers it.
 fn code_table(alloc: Global, source: &Module) -> Result<Vec<Option<CodeByte>>, AllocError>
-    ensures { IfOk result (λ table. IsTable source.now table.items) }
+    ensures table { IfOk result (λ table. IsTable source.now table.items) }
+    ensures short { OnOk result (code_length source.now ≤ 65535) }
+    ensures rules { OnOk result (IsModule source.now) }
 {
     sound_modules_keep_rules();
     let mut table = empty_table(alloc, code_length(source))?;

@@ -5,8 +5,8 @@ use Rattle.find80.proofs.sieve.drop_others.Given as goal
 
 abbrev pub invariant-loop-at : goal.invariant-loop-at
 invariant-loop-at l = record {
-  whole : length l.alive.items ≡ 65536;
-  done : (a : ℕ) → a < l.at → IsSievedBy l.ring l.offset l.entry (slice_index_or l.fn.alive.items a false) (slice_index_or l.alive.items a false) a;
-  rest : (a : ℕ) → l.at ≤ a → slice_index_or l.alive.items a false ≡ slice_index_or l.fn.alive.items a false;
-  none : l.any ≡ false → (a : ℕ) → a < l.at → slice_index_or l.alive.items a false ≡ false;
+  whole : length l.alive ≡ 65536;
+  done : (a : ℕ) → a < l.at → IsSievedBy l.ring l.offset l.entry (slice_index_or l.fn.alive a false) (slice_index_or l.alive a false) a;
+  rest : (a : ℕ) → l.at ≤ a → slice_index_or l.alive a false ≡ slice_index_or l.fn.alive a false;
+  none : l.any ≡ false → (a : ℕ) → a < l.at → slice_index_or l.alive a false ≡ false;
 }

@@ -1,4 +1,4 @@
-use Rattle.std.proofs.Common.{◌≡◌, ◌-◌, ◌<◌, ◌∙◌, arith, subst, sym, length, List, ℕ, get_or, ap}
+use Rattle.std.proofs.Common.{◌-◌, ◌<◌, ◌∙◌, arith, subst, sym, length, List, get_or, ap}
 use Rattle.omf_parts.specs.declared.fixup.Fixup.{Fixup}
 use Rattle.omf_parts.specs.declared.fixup.Target.TheVariants as target
 use Rattle.omf_body.specs.declared.field.Field.TheVariants as field

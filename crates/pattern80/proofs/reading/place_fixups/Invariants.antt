@@ -1,5 +1,5 @@
 -- by the last fixups so far
-use Rattle.std.proofs.Common.{◌≡◌, ℕ, ◌+◌, ◌-◌, ◌<◌, length, slice_index_or, None, Some, Option, drop}
+use Rattle.std.proofs.Common.{◌≡◌, ℕ, ◌-◌, ◌<◌, length, slice_index_or, None, Some, Option, drop}
 use Rattle.std.specs.Prelude.{if◌then◌else◌}
 use Rattle.pattern80.specs.declared.code_byte.CodeByte.{CodeByte}
 use Rattle.pattern80.specs.Modules.{covers, byte_by_fixups, plain_byte}

@@ -1,5 +1,5 @@
 -- the bytes so far
-use Rattle.std.proofs.Common.{◌≡◌, ℕ, ◌+◌, ◌-◌, ◌<◌, ◌≤◌, length, slice_index_or, None, Some}
+use Rattle.std.proofs.Common.{◌≡◌, ℕ, ◌-◌, ◌<◌, length, slice_index_or, None, Some}
 use Rattle.std.specs.Prelude.{nat_le, nat_lt, ◌&&◌, if◌then◌else◌}
 use Rattle.pattern80.specs.Modules.{plain_byte}
 use Rattle.pattern80.proofs.reading.place_plain.Given as goal

@@ -1,0 +1,4 @@
+pub mod Chunks
+pub mod Lies
+pub mod Laws
+pub mod LinkLaws
