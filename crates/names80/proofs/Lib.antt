@@ -1,1 +1,2 @@
 mod NearestLemmas
+mod TextLemmas

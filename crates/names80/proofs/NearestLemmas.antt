@@ -19,7 +19,7 @@ all_weaker P Q weaker [] all = tt
 all_weaker P Q weaker (x ∷ xs) all = (weaker x all.0, all_weaker P Q weaker xs all.1)
 
 -- what none of them passes isn't found
-none_found : (test : Public → Bool) (xs : List Public) → AllByRecursion (λ x. test x ≡ false) xs → find test xs ≡ None
+pub none_found : (test : Public → Bool) (xs : List Public) → AllByRecursion (λ x. test x ≡ false) xs → find test xs ≡ None
 none_found test [] all = refl
 none_found test (x ∷ xs) all = rw (all.0) (none_found test xs all.1)
 

@@ -4,10 +4,20 @@
 //! |---|---|
 //! | [`public_at`] | the first public at an address |
 //! | [`nearest_public`] | the greatest public at or below an address in the same range of code, with the distance |
+//! | [`append_name`], [`append_label`] | the name of an address behind a line; the line of the public at an address |
+//! | [`name_line`], [`name_lines`] | a line, and the lines of a text, with the names of the addresses that stand in them behind |
+//! | [`label_lines`] | lines of instructions, with lines for their names before them |
+//! | [`laws`] | texts without names are as before, as a contract |
 #![tactic(auto)]
 
+mod addresses;
 mod exact;
+pub mod laws;
+mod lines;
+mod naming;
 mod nearest;
 
 pub use exact::public_at;
+pub use lines::{label_lines, name_line, name_lines};
+pub use naming::{append_label, append_name};
 pub use nearest::nearest_public;
