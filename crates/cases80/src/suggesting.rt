@@ -18,7 +18,7 @@ pub struct Suggestions {
 
 /// For each PCHL that no case names and that the program may reach, the case that its table suggests: the table's address is that
 /// of the LXI whose pair is added to HL before a word is loaded through HL and exchanged, and its words are those from there on,
-/// as long as both bytes are code and belong to no instruction that is reached, and the word is an address in the code.
+/// as long as both bytes are code and belong to no instruction that is reached, and an instruction in the code begins at the word.
 ///
 /// What is reached follows each branch, goes on behind each CALL whether it returns or not, and goes to the suggested targets:
 /// more than the verifier's walks do. Nothing rests on it, for a run that jumps elsewhere ends there.

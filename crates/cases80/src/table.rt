@@ -5,7 +5,7 @@ ghost use Rattle.image80.specs.Regions.{in_code};
 ghost use Rattle.cases80.specs.Suggested.{IsSuggested, IsTable, IsWord, is_undeclared};
 
 use crate::walk::is_marked;
-use decode80::Program;
+use decode80::{Program, fetch};
 use image80::{Case, Image};
 use std::alloc::{AllocError, Global};
 use verify80::ImageCode;
@@ -23,8 +23,8 @@ pub(crate) fn is_undeclared(image: &Image, code: &ImageCode<'_>, at: u16) -> boo
     code.is_code(at) && code.byte(at) == PCHL && image.regions.targets(at).is_none()
 }
 
-/// The word at an address, where both of its bytes are code and belong to no instruction that is marked as taken, and the word is
-/// an address in the code.
+/// The word at an address, where both of its bytes are code and belong to no instruction that is marked as taken, and an
+/// instruction in the code begins at the word.
 pub(crate) fn word_at(code: &ImageCode<'_>, taken: &[bool], address: usize) -> Option<u16>
     ensures { IfSome result (IsWord code.now address) }
 {
@@ -36,7 +36,11 @@ pub(crate) fn word_at(code: &ImageCode<'_>, taken: &[bool], address: usize) -> O
         return None;
     }
     let word = u16::from_le_bytes([code.byte(low), code.byte(high)]);
-    if code.is_code(word) { Some(word) } else { None }
+    if code.is_code(word) && fetch(word, code).is_ok() {
+        Some(word)
+    } else {
+        None
+    }
 }
 
 /// Whether an address is code and belongs to no instruction that is marked as taken.

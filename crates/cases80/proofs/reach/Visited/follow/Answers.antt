@@ -1,6 +1,6 @@
 use Rattle.std.proofs.Common.{◌++◌, ◌∙◌, sym, subst}
 use Rattle.verify80.specs.Looking.{declared_targets}
-use Rattle.cases80.specs.Reach.{Enters, falls_to, given, leads_to, target_of, targets_of}
+use Rattle.cases80.specs.Reach.{Enters, falls_to, given, target_of, targets_of}
 use Rattle.cases80.proofs.ReachLemmas.{enters_both, leads_found}
 use Rattle.cases80.proofs.reach.Visited.follow.Goals as goal
 
