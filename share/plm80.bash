@@ -16,20 +16,21 @@ _plm80() {
     fi
     case ${COMP_WORDS[1]} in
         link) options='--name --out --why -h --help' ;;
-        locate) options='--code --stack --common --data --memory --stack-size --memory-size --restart --why -h --help' ;;
+        locate) options='--code --stack --common --data --memory --stack-size --memory-size --restart --publics --why -h --help' ;;
         map) options='--code --stack --common --data --memory --stack-size --memory-size --why -h --help' ;;
-        run) options='--steps --outputs --last --dump --why -h --help' ;;
-        trace) options='--from --count --steps --outputs --why -h --help' ;;
-        cover) options='--steps --outputs --why -h --help' ;;
+        run) options='--steps --outputs --last --dump --names --why -h --help' ;;
+        trace) options='--from --count --steps --outputs --names --why -h --help' ;;
+        cover) options='--steps --outputs --names --why -h --help' ;;
         extract) options='--first --length --fill --sum --why -h --help' ;;
         absolute) options='--first --start --name --rom --why -h --help' ;;
-        compare) options='--first --fill --why -h --help' ;;
+        compare) options='--first --fill --names --why -h --help' ;;
         suggest) options='--rom-range --ram-range --why -h --help' ;;
         find) options='--first --why -h --help' ;;
-        check | explain | lib | regions | stores | inputs | module) options='--why -h --help' ;;
-        list) options='--reached --why -h --help' ;;
+        lib | regions | inputs | module) options='--why -h --help' ;;
+        check | explain | stores) options='--names --why -h --help' ;;
+        list) options='--reached --names --why -h --help' ;;
         cases) options='--out --why -h --help' ;;
-        calls) options='--dot --why -h --help' ;;
+        calls) options='--dot --names --why -h --help' ;;
         help)
             [[ $COMP_CWORD -eq 2 ]] && COMPREPLY=($(compgen -W 'link locate run list check explain lib regions cases map extract absolute trace cover stores calls compare inputs module find suggest help' -- "$word"))
             return

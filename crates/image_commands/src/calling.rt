@@ -2,15 +2,16 @@
 
 use crate::calls_text::{CallGraph, graph_text, list_text};
 use clap::ArgMatches;
-use console80::{Argument, Console, IMAGE, Kind, ProgramFiles, REGIONS, Reported, Syntax, refused};
+use console80::{Argument, Console, IMAGE, Kind, REGIONS, Reported, Syntax};
 use image80::Image;
 use loader80::{Vouched, vouch};
+use naming80::{NAMES, NamedFiles, Names, named_refusal};
 use std::alloc::{AllocError, Global};
 
 /// The arguments of `calls`.
 #[derive(Clone, Copy)]
 pub struct CallsArguments<'a> {
-    files: ProgramFiles<'a>,
+    files: NamedFiles<'a>,
     dot: bool,
 }
 
@@ -22,7 +23,9 @@ its return address (BOUND). Below it is a line for each of its calls: where it
 stands (AT), the bytes that the procedure has on the stack there (DEPTH), what it
 calls, and the bytes that the call needs, its return address included (NEEDS). The
 bound is the greatest depth plus needs. With --dot it is a graph for Graphviz: in
-bold the calls of which the main program's bound is made.
+bold the calls of which the main program's bound is made. --names prints behind
+a procedure its name, as check does, and behind a call that of its target; in a
+graph they stand in the labels.
 
 Example: plm80 calls readings.img readings.regions
 
@@ -41,6 +44,7 @@ pub const CALLS: Syntax<'static> = Syntax {
             kind: Kind::Flag,
             help: "Print a graph for Graphviz",
         },
+        NAMES,
     ],
 };
 
@@ -48,7 +52,7 @@ impl<'a> CallsArguments<'a> {
     /// The arguments as clap has read them.
     pub fn of(matches: &ArgMatches<'a>) -> CallsArguments<'a> {
         CallsArguments {
-            files: ProgramFiles::of(matches),
+            files: NamedFiles::of(matches),
             dot: matches.get_flag("dot"),
         }
     }
@@ -56,28 +60,38 @@ impl<'a> CallsArguments<'a> {
 
 /// Prints the calls of the image, or its refusal, and gives the exit status.
 pub fn show_calls(console: Console<'_>, arguments: CallsArguments<'_>) -> Result<u8, Reported> {
-    let image = arguments.files.read(console)?;
-    let Ok((text, status)) = verdict(console.alloc(), image, arguments.dot) else {
+    let (image, names) = arguments.files.read(console)?;
+    let Ok((text, status)) = verdict(console.alloc(), image, arguments.dot, &names) else {
         return Err(console.report_memory());
     };
-    console.print(text.as_bytes())?;
+    console.print(&text)?;
     Ok(status)
 }
 
 /// What is printed of an image, and the exit status.
-fn verdict(alloc: Global, image: Image, dot: bool) -> Result<(String, u8), AllocError> {
+fn verdict(
+    alloc: Global,
+    image: Image,
+    dot: bool,
+    names: &Names,
+) -> Result<(Vec<u8>, u8), AllocError> {
     match vouch(alloc, image) {
-        Ok(vouched) => Ok((calls_text(alloc, &vouched, dot)?, 0)),
-        Err((_, refusal)) => refused(alloc, refusal),
+        Ok(vouched) => Ok((calls_text(alloc, &vouched, dot, names)?, 0)),
+        Err((image, refusal)) => Ok((named_refusal(alloc, &image, refusal, names)?, 1)),
     }
 }
 
 /// The calls of an image that is accepted, as lines or as a graph.
-fn calls_text(alloc: Global, vouched: &Vouched, dot: bool) -> Result<String, AllocError> {
+fn calls_text(
+    alloc: Global,
+    vouched: &Vouched,
+    dot: bool,
+    names: &Names,
+) -> Result<Vec<u8>, AllocError> {
     let graph = CallGraph::of(alloc, vouched)?;
     if dot {
-        graph_text(alloc, vouched, &graph)
+        graph_text(alloc, vouched, &graph, names)
     } else {
-        list_text(alloc, vouched, &graph)
+        list_text(alloc, vouched, &graph, names)
     }
 }

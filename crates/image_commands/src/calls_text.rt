@@ -1,9 +1,10 @@
 //! The calls of a located program, as lines and as a graph.
 
+use crate::explain_text::{Subject, append_named};
 use calls80::{Call, Procedure, find_calls};
 use loader80::{ProcRow, Vouched};
+use naming80::Names;
 use std::alloc::{AllocError, Global};
-use std::fmt::Write;
 
 /// The calls of a program, procedure by procedure: the main program's first, then by entry.
 #[derive(Drop)]
@@ -63,34 +64,50 @@ pub fn list_text(
     alloc: Global,
     vouched: &Vouched,
     graph: &CallGraph,
-) -> Result<String, AllocError> {
-    let mut text = String::new(alloc);
+    names: &Names,
+) -> Result<Vec<u8>, AllocError> {
+    let mut text = Vec::new(alloc);
+    let subject = Subject {
+        image: vouched.image(),
+        names,
+    };
     for node in &graph.nodes {
-        append_node(&mut text, vouched.rows(), node)?;
+        append_node(alloc, &mut text, vouched.rows(), subject, node)?;
     }
     Ok(text)
 }
 
 /// Appends the lines of a procedure.
-fn append_node(text: &mut String, rows: &[ProcRow], node: &Node) -> Result<(), AllocError> {
-    let name = match node.procedure {
+fn append_node(
+    alloc: Global,
+    text: &mut Vec<u8>,
+    rows: &[ProcRow],
+    subject: Subject<'_>,
+    node: &Node,
+) -> Result<(), AllocError> {
+    let word = match node.procedure {
         Procedure::Main => "MAIN",
         Procedure::Entry(_) => "PROC",
     };
-    writeln!(text, "{name} {:04X} BOUND {}", node.address, node.bound)?;
+    let line = format!(in alloc; "{word} {:04X} BOUND {}", node.address, node.bound)?;
+    append_named(alloc, text, subject, line, node.address)?;
     for call in &node.calls {
-        append_call(text, call, needs(rows, call.target))?;
+        append_call(alloc, text, subject, call, needs(rows, call.target))?;
     }
     Ok(())
 }
 
-/// Appends the line of a call.
-fn append_call(text: &mut String, call: &Call, needs: u64) -> Result<(), AllocError> {
-    writeln!(
-        text,
-        "  AT {:04X} DEPTH {} CALLS {:04X} NEEDS {needs}",
-        call.at, call.depth, call.target
-    )
+/// Appends the line of a call, with the name of its target.
+fn append_call(
+    alloc: Global,
+    text: &mut Vec<u8>,
+    subject: Subject<'_>,
+    call: &Call,
+    needs: u64,
+) -> Result<(), AllocError> {
+    let (at, depth, target) = (call.at, call.depth, call.target);
+    let line = format!(in alloc; "  AT {at:04X} DEPTH {depth} CALLS {target:04X} NEEDS {needs}")?;
+    append_named(alloc, text, subject, line, target)
 }
 
 /// The calls as a graph for Graphviz: a node for each procedure, an edge for each call, and in bold those of which the main
@@ -99,60 +116,94 @@ pub fn graph_text(
     alloc: Global,
     vouched: &Vouched,
     graph: &CallGraph,
-) -> Result<String, AllocError> {
+    names: &Names,
+) -> Result<Vec<u8>, AllocError> {
     let chain = chain_of(alloc, vouched.rows(), graph)?;
-    let mut text = String::new(alloc);
-    writeln!(text, "digraph calls {{")?;
-    writeln!(text, "    node [shape=box];")?;
+    let subject = Subject {
+        image: vouched.image(),
+        names,
+    };
+    let mut text = Vec::new(alloc);
+    text.extend_from_slice(b"digraph calls {\n    node [shape=box];\n".as_slice())?;
     for node in &graph.nodes {
-        append_box(&mut text, node)?;
+        append_box(alloc, &mut text, subject, node)?;
     }
     for node in &graph.nodes {
-        append_edges(&mut text, &chain, node)?;
+        append_edges(alloc, &mut text, &chain, node)?;
     }
-    writeln!(text, "}}")?;
+    text.extend_from_slice(b"}\n".as_slice())?;
     Ok(text)
 }
 
-/// Appends the node of a procedure.
-fn append_box(text: &mut String, node: &Node) -> Result<(), AllocError> {
-    append_name(text, node)?;
-    match node.procedure {
-        Procedure::Main => writeln!(
-            text,
-            " [label=\"MAIN {:04X}\\nBOUND {}\"];",
-            node.address, node.bound
-        ),
-        Procedure::Entry(_) => writeln!(
-            text,
-            " [label=\"{:04X}\\nBOUND {}\"];",
-            node.address, node.bound
-        ),
-    }
+/// Appends the node of a procedure. Its label has the procedure's name.
+fn append_box(
+    alloc: Global,
+    text: &mut Vec<u8>,
+    subject: Subject<'_>,
+    node: &Node,
+) -> Result<(), AllocError> {
+    append_node_name(alloc, text, node)?;
+    let word = match node.procedure {
+        Procedure::Main => "MAIN ",
+        Procedure::Entry(_) => "",
+    };
+    let begin = format!(in alloc; " [label=\"{word}{:04X}", node.address)?;
+    text.extend_from_slice(begin.as_bytes())?;
+    append_escaped_name(alloc, text, subject, node.address)?;
+    let end = format!(in alloc; "\\nBOUND {}\"];\n", node.bound)?;
+    text.extend_from_slice(end.as_bytes())?;
+    Ok(())
 }
 
-/// Appends the name of a procedure's node.
-fn append_name(text: &mut String, node: &Node) -> Result<(), AllocError> {
-    match node.procedure {
-        Procedure::Main => write!(text, "    \"MAIN\""),
-        Procedure::Entry(entry) => write!(text, "    \"{entry:04X}\""),
+/// Appends the name of an address inside a label, where quotes and backslashes follow a backslash.
+fn append_escaped_name(
+    alloc: Global,
+    text: &mut Vec<u8>,
+    subject: Subject<'_>,
+    address: u16,
+) -> Result<(), AllocError> {
+    let mut name = Vec::new(alloc);
+    let image = subject.image;
+    let code = image.regions.code();
+    subject.names.append(alloc, code, address, &mut name)?;
+    for byte in &name {
+        if *byte == b'"' || *byte == b'\\' {
+            text.push(b'\\')?;
+        }
+        text.push(*byte)?;
     }
+    Ok(())
+}
+
+/// Appends what the node of a procedure is called.
+fn append_node_name(alloc: Global, text: &mut Vec<u8>, node: &Node) -> Result<(), AllocError> {
+    let shown = match node.procedure {
+        Procedure::Main => format!(in alloc; "    \"MAIN\"")?,
+        Procedure::Entry(entry) => format!(in alloc; "    \"{entry:04X}\"")?,
+    };
+    text.extend_from_slice(shown.as_bytes())?;
+    Ok(())
 }
 
 /// Appends the edges of a procedure's calls.
-fn append_edges(text: &mut String, chain: &[Link], node: &Node) -> Result<(), AllocError> {
+fn append_edges(
+    alloc: Global,
+    text: &mut Vec<u8>,
+    chain: &[Link],
+    node: &Node,
+) -> Result<(), AllocError> {
     for call in &node.calls {
-        append_name(text, node)?;
+        append_node_name(alloc, text, node)?;
         let style = if is_in(chain, node, call) {
             ", style=bold"
         } else {
             ""
         };
-        writeln!(
-            text,
-            " -> \"{:04X}\" [label=\"{:04X}: {}\"{style}];",
-            call.target, call.at, call.depth
+        let (at, depth, target) = (call.at, call.depth, call.target);
+        let edge = format!(in alloc;
+            " -> \"{target:04X}\" [label=\"{at:04X}: {depth}\"{style}];\n"
         )?;
+        text.extend_from_slice(edge.as_bytes())?;
     }
     Ok(())
 }

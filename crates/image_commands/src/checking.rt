@@ -1,8 +1,10 @@
 //! `plm80 check`: the verifier's report on a located program, or its refusal.
 
-use console80::{Console, PROGRAM_FILES, ProgramFiles, Reported, Syntax, vouch_for};
+use console80::{Console, Reported, Syntax};
 use loader80::Vouched;
+use naming80::{NAMED_FILES, NamedFiles, Names, vouch_with_names};
 use report80::report_text;
+use std::alloc::{AllocError, Global};
 
 const ABOUT: &str = "Verifies an image: prints a report, or the refusal";
 
@@ -13,6 +15,11 @@ from beneath its return address when it returns (TAKES), and at most on any path
 (WANTS); the bytes of stack that it needs below its return address (BOUND); and
 whether it returns (RETURNS or NEVER).
 
+--names prints behind a procedure, and behind a refusal, the name of the address:
+that of the greatest public of the image at or below it in the same range of
+code, and how far it is above it, as in SCALE+22, in hexadecimal. The image has
+names if it was located with --publics.
+
 Example: plm80 check readings.img readings.regions
 
 Faults and what to do: docs/FAULTS.md (installed: share/doc/plm80), man plm80.";
@@ -22,22 +29,32 @@ pub const CHECK: Syntax<'static> = Syntax {
     name: "check",
     about: ABOUT,
     after_help: AFTER_HELP,
-    arguments: PROGRAM_FILES,
+    arguments: NAMED_FILES,
 };
 
 /// Prints the report on the image, or its refusal, and gives the exit status.
-pub fn check_files(console: Console<'_>, files: ProgramFiles<'_>) -> Result<u8, Reported> {
-    let image = files.read(console)?;
-    match vouch_for(console, image)? {
-        Ok(vouched) => print_report(console, &vouched),
+pub fn check_files(console: Console<'_>, files: NamedFiles<'_>) -> Result<u8, Reported> {
+    let (image, names) = files.read(console)?;
+    match vouch_with_names(console, image, &names)? {
+        Ok(vouched) => print_report(console, &vouched, &names),
         Err(status) => Ok(status),
     }
 }
 
-fn print_report(console: Console<'_>, vouched: &Vouched) -> Result<u8, Reported> {
-    let Ok(text) = report_text(console.alloc(), vouched) else {
+fn print_report(console: Console<'_>, vouched: &Vouched, names: &Names) -> Result<u8, Reported> {
+    let Ok(text) = named_report(console.alloc(), vouched, names) else {
         return Err(console.report_memory());
     };
     console.print(&text)?;
     Ok(0)
+}
+
+/// The report, with the names of procedures.
+pub fn named_report(
+    alloc: Global,
+    vouched: &Vouched,
+    names: &Names,
+) -> Result<Vec<u8>, AllocError> {
+    let text = report_text(alloc, vouched)?;
+    names.name(alloc, vouched.image().regions.code(), b"PROC ", text)
 }

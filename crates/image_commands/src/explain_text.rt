@@ -3,6 +3,8 @@
 use explain80::{Call, Chain, Explanation, Frame, Point, Procedure, Route, Word};
 use image80::Image;
 use listing80::instruction_line;
+use loader80::Refusal;
+use naming80::Names;
 use std::alloc::{AllocError, Global};
 
 /// The most instructions in a row that are all shown though they leave the stack as it is.
@@ -14,56 +16,73 @@ const SHOWN: usize = 20;
 /// The column of the bar before a procedure's words.
 const BAR: usize = 22;
 
-/// The calls and the ways of an explanation, line by line.
+/// The image that is explained, and its names.
+#[derive(Clone, Copy)]
+pub struct Subject<'a> {
+    pub image: &'a Image,
+    pub names: &'a Names,
+}
+
+/// The calls and the ways of the explanation of a refusal, line by line.
 ///
 /// # Errors
 /// `AllocError` only where memory runs out.
 pub fn explanation_text(
     alloc: Global,
-    image: &Image,
+    subject: Subject<'_>,
+    refusal: Refusal,
     explanation: &Explanation,
 ) -> Result<Vec<u8>, AllocError> {
     let mut text = Vec::new(alloc);
     match explanation {
-        Explanation::Way(route) => append_route(alloc, &mut text, image, route)?,
+        Explanation::Way(route) => append_route(alloc, &mut text, subject, route)?,
         Explanation::Ways(one, other) => {
-            text.extend_from_slice(b"ONE WAY\n".as_slice())?;
-            append_route(alloc, &mut text, image, one)?;
-            text.extend_from_slice(b"ANOTHER\n".as_slice())?;
-            append_route(alloc, &mut text, image, other)?;
+            let (first, second) = headings(refusal);
+            text.extend_from_slice(first)?;
+            append_route(alloc, &mut text, subject, one)?;
+            text.extend_from_slice(second)?;
+            append_route(alloc, &mut text, subject, other)?;
         }
         Explanation::Ring { calls, ring } => {
-            append_calls(alloc, &mut text, image, calls)?;
+            append_calls(alloc, &mut text, subject, calls)?;
             text.extend_from_slice(b"RING\n".as_slice())?;
-            append_calls(alloc, &mut text, image, ring)?;
+            append_calls(alloc, &mut text, subject, ring)?;
         }
     }
     Ok(text)
+}
+
+/// The lines over two ways: those of a caller and of what it calls, if that takes more words than it was given.
+fn headings(refusal: Refusal) -> (&'static [u8], &'static [u8]) {
+    match refusal {
+        Refusal::ShortArguments(_) => (b"CALLER\n".as_slice(), b"CALLEE\n".as_slice()),
+        _ => (b"ONE WAY\n".as_slice(), b"ANOTHER\n".as_slice()),
+    }
 }
 
 /// Appends the calls that lead to a procedure, and the way through it.
 fn append_route(
     alloc: Global,
     text: &mut Vec<u8>,
-    image: &Image,
+    subject: Subject<'_>,
     route: &Route,
 ) -> Result<(), AllocError> {
-    append_calls(alloc, text, image, &route.calls)?;
-    append_way(alloc, text, image, &route.way)
+    append_calls(alloc, text, subject, &route.calls)?;
+    append_way(alloc, text, subject, &route.way)
 }
 
 /// Appends a line for each call.
 fn append_calls(
     alloc: Global,
     text: &mut Vec<u8>,
-    image: &Image,
+    subject: Subject<'_>,
     calls: &[Call],
 ) -> Result<(), AllocError> {
     for call in calls {
-        let caller = procedure_name(alloc, image, call.caller)?;
+        let caller = procedure_name(alloc, subject.image, call.caller)?;
         let (at, target) = (call.at, call.target);
-        let line = format!(in alloc; "{caller} CALLS {target:04X} AT {at:04X}\n")?;
-        text.extend_from_slice(line.as_bytes())?;
+        let line = format!(in alloc; "{caller} CALLS {target:04X} AT {at:04X}")?;
+        append_named(alloc, text, subject, line, target)?;
     }
     Ok(())
 }
@@ -84,19 +103,39 @@ fn procedure_name(
 ///
 /// # Errors
 /// `AllocError` only where memory runs out.
-pub fn chain_text(alloc: Global, image: &Image, chain: &Chain) -> Result<Vec<u8>, AllocError> {
+pub fn chain_text(
+    alloc: Global,
+    subject: Subject<'_>,
+    chain: &Chain,
+) -> Result<Vec<u8>, AllocError> {
     let mut text = Vec::new(alloc);
     for call in &chain.calls {
-        let caller = procedure_name(alloc, image, call.caller)?;
+        let caller = procedure_name(alloc, subject.image, call.caller)?;
         let (at, depth, target) = (call.at, call.depth, call.target);
-        let line = format!(in alloc; "{caller} AT {at:04X} HAS {depth}, CALLS {target:04X}\n")?;
-        text.extend_from_slice(line.as_bytes())?;
+        let line = format!(in alloc; "{caller} AT {at:04X} HAS {depth}, CALLS {target:04X}")?;
+        append_named(alloc, &mut text, subject, line, target)?;
     }
-    let last = procedure_name(alloc, image, chain.last.procedure)?;
+    let last = procedure_name(alloc, subject.image, chain.last.procedure)?;
     let (at, depth) = (chain.last.at, chain.last.depth);
-    let line = format!(in alloc; "{last} AT {at:04X} HAS {depth}\n")?;
-    text.extend_from_slice(line.as_bytes())?;
+    let line = format!(in alloc; "{last} AT {at:04X} HAS {depth}")?;
+    append_named(alloc, &mut text, subject, line, at)?;
     Ok(text)
+}
+
+/// Appends a line with the name of an address behind it.
+pub fn append_named(
+    alloc: Global,
+    text: &mut Vec<u8>,
+    subject: Subject<'_>,
+    line: String,
+    address: u16,
+) -> Result<(), AllocError> {
+    text.extend_from_slice(line.as_bytes())?;
+    let image = subject.image;
+    let code = image.regions.code();
+    subject.names.append(alloc, code, address, text)?;
+    text.push(b'\n')?;
+    Ok(())
 }
 
 /// Appends a line for each point of a way. In the middle of a long row of instructions that leave the stack as it is they are
@@ -104,7 +143,7 @@ pub fn chain_text(alloc: Global, image: &Image, chain: &Chain) -> Result<Vec<u8>
 fn append_way(
     alloc: Global,
     text: &mut Vec<u8>,
-    image: &Image,
+    subject: Subject<'_>,
     way: &[Point],
 ) -> Result<(), AllocError> {
     let mut from = 0;
@@ -114,7 +153,7 @@ fn append_way(
             None => false,
         };
         if !goes_on {
-            append_run(alloc, text, image, &way[from..at + 1])?;
+            append_run(alloc, text, subject, &way[from..at + 1])?;
             from = at + 1;
         }
     }
@@ -125,28 +164,28 @@ fn append_way(
 fn append_run(
     alloc: Global,
     text: &mut Vec<u8>,
-    image: &Image,
+    subject: Subject<'_>,
     run: &[Point],
 ) -> Result<(), AllocError> {
     if run.len() <= LONG_RUN {
-        return append_points(alloc, text, image, run);
+        return append_points(alloc, text, subject, run);
     }
-    append_points(alloc, text, image, &run[..SHOWN])?;
+    append_points(alloc, text, subject, &run[..SHOWN])?;
     let left_out = run.len() - 2 * SHOWN;
     let line = format!(in alloc; ".. {left_out} instructions that leave the stack as it is ..\n")?;
     text.extend_from_slice(line.as_bytes())?;
-    append_points(alloc, text, image, &run[run.len() - SHOWN..])
+    append_points(alloc, text, subject, &run[run.len() - SHOWN..])
 }
 
 /// Appends a line for each point.
 fn append_points(
     alloc: Global,
     text: &mut Vec<u8>,
-    image: &Image,
+    subject: Subject<'_>,
     points: &[Point],
 ) -> Result<(), AllocError> {
     for point in points {
-        append_instruction(alloc, text, image, point.at)?;
+        append_instruction(alloc, text, subject, point.at)?;
         append_frame(alloc, text, &point.frame)?;
     }
     Ok(())
@@ -156,10 +195,11 @@ fn append_points(
 fn append_instruction(
     alloc: Global,
     text: &mut Vec<u8>,
-    image: &Image,
+    subject: Subject<'_>,
     at: u16,
 ) -> Result<(), AllocError> {
-    let line = line_at(alloc, image, at)?;
+    subject.names.append_label(at, text)?;
+    let line = line_at(alloc, subject.image, at)?;
     text.extend_from_slice(line.trim_ascii_end())?;
     for _ in line.len()..=BAR {
         text.push(b' ')?;

@@ -1,11 +1,13 @@
 //! `plm80 explain`: why the verifier refuses a located program, shown by ways through its procedures.
 
-use crate::explain_text::{chain_text, explanation_text};
-use console80::{Console, PROGRAM_FILES, ProgramFiles, Reported, Syntax};
+use crate::checking::named_report;
+use crate::explain_text::{Subject, chain_text, explanation_text};
+use console80::{Console, Reported, Syntax};
 use explain80::{Unexplained, explain, find_chain, measure};
 use image80::Image;
 use loader80::{Refusal, refusal_text, vouch};
-use report80::{append_rows, report_text};
+use naming80::{NAMED_FILES, NamedFiles, Names, named_refusal};
+use report80::append_rows;
 use std::alloc::{AllocError, Global};
 
 /// The most points that are followed, and words of their frames, together.
@@ -20,10 +22,15 @@ instruction, as list prints it, with the words that the procedure has on the
 stack before it, bottom to top. RET is its own return address, .. any word;
 BC=RET, DE=RET or HL=RET is a pair that holds its return address; TAKEN n counts
 words that it has taken from beneath its return address. Where two ways
-disagree, both are shown, under ONE WAY and ANOTHER. Of a program that is
-accepted, or whose stack is too small, it shows the chain of calls that needs
-most: the bytes that each procedure HAS on the stack, and two more for each
-call. Where the stack is too small, check's line for each procedure comes first.
+disagree, both are shown, under ONE WAY and ANOTHER, and those of a procedure
+that takes more words than its caller pushed under CALLER and CALLEE. Of a
+program that is accepted, or whose stack is too small, it shows the chain of
+calls that needs most: the bytes that each procedure HAS on the stack, and two
+more for each call. Where the stack is too small, check's line for each procedure
+comes first.
+
+--names prints names as check and list do: behind a call that of its target,
+behind the last line of a chain that of the address.
 
 Example: plm80 explain readings.img readings.regions
 
@@ -34,13 +41,13 @@ pub const EXPLAIN: Syntax<'static> = Syntax {
     name: "explain",
     about: ABOUT,
     after_help: AFTER_HELP,
-    arguments: PROGRAM_FILES,
+    arguments: NAMED_FILES,
 };
 
 /// Prints the report on the image, or its refusal and what shows it, and gives the exit status.
-pub fn explain_files(console: Console<'_>, files: ProgramFiles<'_>) -> Result<u8, Reported> {
-    let image = files.read(console)?;
-    let Ok((text, status)) = explained(console.alloc(), image) else {
+pub fn explain_files(console: Console<'_>, files: NamedFiles<'_>) -> Result<u8, Reported> {
+    let (image, names) = files.read(console)?;
+    let Ok((text, status)) = explained(console.alloc(), image, &names) else {
         return Err(console.report_memory());
     };
     console.print(text.as_slice())?;
@@ -48,27 +55,37 @@ pub fn explain_files(console: Console<'_>, files: ProgramFiles<'_>) -> Result<u8
 }
 
 /// What is printed of an image, and the exit status.
-fn explained(alloc: Global, image: Image) -> Result<(Vec<u8>, u8), AllocError> {
+fn explained(alloc: Global, image: Image, names: &Names) -> Result<(Vec<u8>, u8), AllocError> {
     match vouch(alloc, image) {
         Ok(vouched) => {
-            let mut text = report_text(alloc, &vouched)?;
-            append_chain(alloc, &mut text, vouched.image(), vouched.stack_bytes())?;
+            let mut text = named_report(alloc, &vouched, names)?;
+            let subject = Subject {
+                image: vouched.image(),
+                names,
+            };
+            append_chain(alloc, &mut text, subject, vouched.stack_bytes())?;
             Ok((text, 0))
         }
         Err((_, Refusal::Memory)) => Err(AllocError),
-        Err((image, refusal)) => Ok((refused(alloc, &image, refusal)?, 1)),
+        Err((image, refusal)) => {
+            let subject = Subject {
+                image: &image,
+                names,
+            };
+            Ok((refused(alloc, subject, refusal)?, 1))
+        }
     }
 }
 
 /// The refusal of an image, and what shows it.
-fn refused(alloc: Global, image: &Image, refusal: Refusal) -> Result<Vec<u8>, AllocError> {
+fn refused(alloc: Global, subject: Subject<'_>, refusal: Refusal) -> Result<Vec<u8>, AllocError> {
     if let Refusal::StackTooSmall(need, _) = refusal {
-        return overrun(alloc, image, refusal, need);
+        return overrun(alloc, subject, refusal, need);
     }
-    let mut text = refusal_text(alloc, refusal)?.into_bytes();
-    match explain(alloc, image, refusal, LIMIT) {
+    let mut text = named_refusal(alloc, subject.image, refusal, subject.names)?;
+    match explain(alloc, subject.image, refusal, LIMIT) {
         Ok(explanation) => {
-            let shown = explanation_text(alloc, image, &explanation)?;
+            let shown = explanation_text(alloc, subject, refusal, &explanation)?;
             text.extend_from_slice(shown.as_slice())?;
         }
         Err(fault) => append_why(&mut text, fault)?,
@@ -79,17 +96,20 @@ fn refused(alloc: Global, image: &Image, refusal: Refusal) -> Result<Vec<u8>, Al
 /// The refusal of an image whose stack is too small, its procedures, and the chain of calls that needs most.
 fn overrun(
     alloc: Global,
-    image: &Image,
+    subject: Subject<'_>,
     refusal: Refusal,
     need: u64,
 ) -> Result<Vec<u8>, AllocError> {
     // Nothing but its stack is wrong: where it can't be measured now, memory has run out.
-    let Ok(report) = measure(alloc, image) else {
+    let Ok(report) = measure(alloc, subject.image) else {
         return Err(AllocError);
     };
     let mut text = refusal_text(alloc, refusal)?.into_bytes();
     append_rows(alloc, &mut text, &report.procedures)?;
-    append_chain(alloc, &mut text, image, need)?;
+    let image = subject.image;
+    let code = image.regions.code();
+    let mut text = subject.names.name(alloc, code, b"PROC ", text)?;
+    append_chain(alloc, &mut text, subject, need)?;
     Ok(text)
 }
 
@@ -97,12 +117,12 @@ fn overrun(
 fn append_chain(
     alloc: Global,
     text: &mut Vec<u8>,
-    image: &Image,
+    subject: Subject<'_>,
     bytes: u64,
 ) -> Result<(), AllocError> {
-    match find_chain(alloc, image, bytes, LIMIT) {
+    match find_chain(alloc, subject.image, bytes, LIMIT) {
         Ok(chain) => {
-            let shown = chain_text(alloc, image, &chain)?;
+            let shown = chain_text(alloc, subject, &chain)?;
             text.extend_from_slice(shown.as_slice())
         }
         Err(fault) => append_why(text, fault),

@@ -1,18 +1,18 @@
 //! `plm80 list`: the instructions of a located program.
 
 use clap::ArgMatches;
-use console80::{
-    Argument, Console, IMAGE, Kind, ProgramFiles, REGIONS, Reported, Syntax, vouch_for,
-};
+use console80::{Argument, Console, IMAGE, Kind, REGIONS, Reported, Syntax};
 use cover80::list_reached;
 use image80::Image;
 use listing80::listing;
 use loader80::Vouched;
+use naming80::{NAMES, NamedFiles, Names, vouch_with_names};
+use std::alloc::{AllocError, Global};
 
 /// The arguments of `list`.
 #[derive(Clone, Copy)]
 pub struct ListArguments<'a> {
-    files: ProgramFiles<'a>,
+    files: NamedFiles<'a>,
     reached: bool,
 }
 
@@ -27,6 +27,9 @@ With --reached the image is verified first, as by check. Then each instruction t
 which the program may come has a line, and its other code is data, eight bytes a
 line: so a table takes no instruction with it. A refusal is printed alone, and the
 exit status is 1.
+
+--names prints before an instruction, on a line of its own, the name of the first
+public of the image that is at its address.
 
 Example: plm80 list readings.img readings.regions
 
@@ -45,6 +48,7 @@ pub const LIST: Syntax<'static> = Syntax {
             kind: Kind::Flag,
             help: "List the code to which the program may come",
         },
+        NAMES,
     ],
 };
 
@@ -52,7 +56,7 @@ impl<'a> ListArguments<'a> {
     /// The arguments as clap has read them.
     pub fn of(matches: &ArgMatches<'a>) -> ListArguments<'a> {
         ListArguments {
-            files: ProgramFiles::of(matches),
+            files: NamedFiles::of(matches),
             reached: matches.get_flag("reached"),
         }
     }
@@ -60,28 +64,33 @@ impl<'a> ListArguments<'a> {
 
 /// Prints the listing of the image, and gives the exit status.
 pub fn list_files(console: Console<'_>, arguments: ListArguments<'_>) -> Result<u8, Reported> {
-    let image = arguments.files.read(console)?;
+    let (image, names) = arguments.files.read(console)?;
     if !arguments.reached {
-        return print_listing(console, &image);
+        return print_lines(console, named_listing(console.alloc(), &image, &names));
     }
-    match vouch_for(console, image)? {
-        Ok(vouched) => print_reached(console, &vouched),
+    match vouch_with_names(console, image, &names)? {
+        Ok(vouched) => print_lines(console, named_reached(console.alloc(), &vouched, &names)),
         Err(status) => Ok(status),
     }
 }
 
-fn print_listing(console: Console<'_>, image: &Image) -> Result<u8, Reported> {
-    let Ok(text) = listing(console.alloc(), image) else {
+/// Prints the lines, unless memory ran out for them.
+fn print_lines(console: Console<'_>, lines: Result<Vec<u8>, AllocError>) -> Result<u8, Reported> {
+    let Ok(text) = lines else {
         return Err(console.report_memory());
     };
     console.print(&text)?;
     Ok(0)
 }
 
-fn print_reached(console: Console<'_>, vouched: &Vouched) -> Result<u8, Reported> {
-    let Ok(text) = list_reached(console.alloc(), vouched) else {
-        return Err(console.report_memory());
-    };
-    console.print(&text)?;
-    Ok(0)
+/// The listing of the image with its names.
+fn named_listing(alloc: Global, image: &Image, names: &Names) -> Result<Vec<u8>, AllocError> {
+    let text = listing(alloc, image)?;
+    names.label(alloc, false, text)
+}
+
+/// The code to which the program may come, with its names.
+fn named_reached(alloc: Global, vouched: &Vouched, names: &Names) -> Result<Vec<u8>, AllocError> {
+    let text = list_reached(alloc, vouched)?;
+    names.label(alloc, false, text)
 }

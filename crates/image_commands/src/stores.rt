@@ -1,8 +1,9 @@
 //! `plm80 stores`: the stores of a program that may leave its data, and its jumps by PCHL.
 
-use console80::{Console, PROGRAM_FILES, ProgramFiles, Reported, Syntax, refused};
+use console80::{Console, Reported, Syntax};
 use image80::Image;
 use loader80::{Vouched, vouch};
+use naming80::{NAMED_FILES, NamedFiles, Names, named_refusal};
 use std::alloc::{AllocError, Global};
 use stores80::{Stores, find_stores, stores_text};
 
@@ -17,7 +18,8 @@ and the first and the last address that it may have; it may be harmless. A line
 JUMP is for each PCHL. Those that no procedure comes to are left out.
 
 The exit status is 0 if no line follows the first, 1 if one does, or if the
-image is refused: then the refusal is printed alone, as by check.
+image is refused: then the refusal is printed alone, as by check. --names prints
+behind a line the name of its first address, as check does.
 
 Example: plm80 stores readings.img readings.regions
 
@@ -28,13 +30,13 @@ pub const STORES: Syntax<'static> = Syntax {
     name: "stores",
     about: ABOUT,
     after_help: AFTER_HELP,
-    arguments: PROGRAM_FILES,
+    arguments: NAMED_FILES,
 };
 
 /// Prints what is known of the image's stores, or its refusal, and gives the exit status.
-pub fn list_stores(console: Console<'_>, files: ProgramFiles<'_>) -> Result<u8, Reported> {
-    let image = files.read(console)?;
-    let Ok((text, status)) = judged(console.alloc(), image) else {
+pub fn list_stores(console: Console<'_>, files: NamedFiles<'_>) -> Result<u8, Reported> {
+    let (image, names) = files.read(console)?;
+    let Ok((text, status)) = judged(console.alloc(), image, &names) else {
         return Err(console.report_memory());
     };
     console.print(text.as_slice())?;
@@ -42,20 +44,20 @@ pub fn list_stores(console: Console<'_>, files: ProgramFiles<'_>) -> Result<u8, 
 }
 
 /// What is printed of an image, and the exit status.
-fn judged(alloc: Global, image: Image) -> Result<(Vec<u8>, u8), AllocError> {
+fn judged(alloc: Global, image: Image, names: &Names) -> Result<(Vec<u8>, u8), AllocError> {
     match vouch(alloc, image) {
-        Ok(vouched) => stores_of(alloc, &vouched),
-        Err((_, refusal)) => {
-            let (text, status) = refused(alloc, refusal)?;
-            Ok((text.into_bytes(), status))
-        }
+        Ok(vouched) => stores_of(alloc, &vouched, names),
+        Err((image, refusal)) => Ok((named_refusal(alloc, &image, refusal, names)?, 1)),
     }
 }
 
-/// The lines of an image's stores, and the exit status.
-fn stores_of(alloc: Global, vouched: &Vouched) -> Result<(Vec<u8>, u8), AllocError> {
+/// The lines of an image's stores with their names, and the exit status.
+fn stores_of(alloc: Global, vouched: &Vouched, names: &Names) -> Result<(Vec<u8>, u8), AllocError> {
+    let code = vouched.image().regions.code();
     let stores = find_stores(alloc, vouched)?;
     let text = stores_text(alloc, &stores)?;
+    let text = names.name(alloc, code, b"STORE ", text)?;
+    let text = names.name(alloc, code, b"JUMP ", text)?;
     Ok((text, status_of(&stores)))
 }
 

@@ -8,8 +8,9 @@ use clap::ArgMatches;
 use console80::{Argument, Console, Kind, NewFile, Reported, Syntax, path_of, read_modules};
 use image80::{Image, write_regions};
 use omf_module::Module;
-use place80::{Options, PlaceFault, locate, locate_with_restart, write_image};
-use std::alloc::{AllocError, Global};
+use place80::{Options, PlaceFault, layout, locate, locate_with_restart, write_image};
+use publics80::write_image_with_publics;
+use std::alloc::Global;
 
 /// The arguments of `locate`.
 #[derive(Clone, Copy)]
@@ -19,6 +20,7 @@ pub struct LocateArguments<'a> {
     regions: &'a str,
     options: LocateTexts<'a>,
     restart: bool,
+    publics: bool,
 }
 
 const ABOUT: &str = "Places a module in memory: writes its image and its regions";
@@ -34,6 +36,9 @@ the base of their segment, those to STACK the address after its last byte.
 
 --restart puts a JMP to the program's start at address 0, where the processor
 begins; nothing else may have the addresses 0000 to 0002.
+
+--publics keeps the module's public names in the image, each at its address, for
+the commands that take --names.
 
 Example: plm80 locate readings.obj readings.img readings.regions --data 4000
 
@@ -72,6 +77,11 @@ pub const LOCATE: Syntax<'static> = Syntax {
             kind: Kind::Flag,
             help: "Put a JMP to the start at address 0",
         },
+        Argument {
+            name: "publics",
+            kind: Kind::Flag,
+            help: "Keep the public names in the image",
+        },
     ],
 };
 
@@ -84,6 +94,7 @@ impl<'a> LocateArguments<'a> {
             regions: path_of(matches, "REGIONS"),
             options: LocateTexts::of(matches),
             restart: matches.get_flag("restart"),
+            publics: matches.get_flag("publics"),
         }
     }
 }
@@ -92,24 +103,62 @@ impl<'a> LocateArguments<'a> {
 /// other fault is excluded.
 pub fn locate_file(console: Console<'_>, arguments: LocateArguments<'_>) -> Result<u8, Reported> {
     let options = arguments.options.numbers(console)?;
-    let image = located(console, arguments.object, &options, arguments.restart)?;
-    write_files(console, arguments, &image)?;
+    let files = located_files(console, arguments, &options)?;
+    let image = NewFile {
+        path: arguments.image,
+        bytes: &files.image,
+    };
+    let regions = NewFile {
+        path: arguments.regions,
+        bytes: &files.regions,
+    };
+    console.replace_both(image, regions)?;
     Ok(0)
 }
 
-/// The one module of the object file of this path at its places, as an image, with a restart where one is asked for.
-fn located(
+/// The bytes of the two files that `locate` writes.
+#[derive(Drop)]
+struct LocatedFiles {
+    image: Vec<u8>,
+    regions: Vec<u8>,
+}
+
+/// The files of the one module of the object file at its places.
+fn located_files(
     console: Console<'_>,
-    path: &str,
+    arguments: LocateArguments<'_>,
     options: &Options,
-    restart: bool,
-) -> Result<Image, Reported> {
-    let modules = read_modules(console, path)?;
-    let program = one_module(console, path, &modules)?;
-    match located_module(console.alloc(), program, options, restart) {
-        Ok(image) => Ok(image),
+) -> Result<LocatedFiles, Reported> {
+    let modules = read_modules(console, arguments.object)?;
+    let program = one_module(console, arguments.object, &modules)?;
+    match files_of(console.alloc(), program, options, arguments) {
+        Ok(files) => Ok(files),
         Err(fault) => Err(console.report(fault)),
     }
+}
+
+/// The files of a module at its places, with a restart and with its publics if they are asked for.
+fn files_of(
+    alloc: Global,
+    program: &Module,
+    options: &Options,
+    arguments: LocateArguments<'_>,
+) -> Result<LocatedFiles, PlaceFault> {
+    let image = located_module(alloc, program, options, arguments.restart)?;
+    let mut image_bytes = Vec::new(alloc);
+    if arguments.publics {
+        let layout = layout(alloc, program, options)?;
+        let publics = program.publics();
+        write_image_with_publics(alloc, &image, publics, &layout.segments, &mut image_bytes)?;
+    } else {
+        write_image(alloc, &image, &mut image_bytes)?;
+    }
+    let mut regions_text = Vec::new(alloc);
+    write_regions(alloc, &image.regions, &mut regions_text)?;
+    Ok(LocatedFiles {
+        image: image_bytes,
+        regions: regions_text,
+    })
 }
 
 fn located_module(
@@ -135,43 +184,4 @@ pub fn one_module<'a>(
         [module] => Ok(module),
         _ => Err(console.report_file(path, "NotOneModule")),
     }
-}
-
-/// Writes the files of an image.
-fn write_files(
-    console: Console<'_>,
-    arguments: LocateArguments<'_>,
-    image: &Image,
-) -> Result<(), Reported> {
-    let Ok(files) = files_of(console.alloc(), image) else {
-        return Err(console.report_memory());
-    };
-    let image = NewFile {
-        path: arguments.image,
-        bytes: &files.image,
-    };
-    let regions = NewFile {
-        path: arguments.regions,
-        bytes: &files.regions,
-    };
-    console.replace_both(image, regions)
-}
-
-/// The bytes of the two files that `locate` writes.
-#[derive(Drop)]
-struct LocatedFiles {
-    image: Vec<u8>,
-    regions: Vec<u8>,
-}
-
-/// The bytes of the files of an image.
-fn files_of(alloc: Global, image: &Image) -> Result<LocatedFiles, AllocError> {
-    let mut image_bytes = Vec::new(alloc);
-    write_image(alloc, image, &mut image_bytes)?;
-    let mut regions_text = Vec::new(alloc);
-    write_regions(alloc, &image.regions, &mut regions_text)?;
-    Ok(LocatedFiles {
-        image: image_bytes,
-        regions: regions_text,
-    })
 }

@@ -3,6 +3,8 @@
 use crate::extracting::{FILL, fill_of};
 use clap::ArgMatches;
 use console80::{Argument, Console, IMAGE, Kind, OptionText, Reported, Syntax, image_of, path_of};
+use image80::Range;
+use naming80::{NAMES, Names};
 use rom80::{Comparison, RomFault, compare, no_regions};
 
 /// The arguments of `compare`.
@@ -12,6 +14,7 @@ pub struct CompareArguments<'a> {
     dump: &'a str,
     first: OptionText<'a>,
     fill: OptionText<'a>,
+    names: bool,
 }
 
 const ABOUT: &str = "Prints where an image and a dump of a PROM differ";
@@ -22,6 +25,9 @@ which the image has other bytes is a line: its first address, its length, and up
 to eight bytes of the image and of the dump, as in DIFFERS 0123 0002 3E05 3E07,
 all in hexadecimal. The last line counts the bytes that are the same, as in SAME
 2046 OF 2048. FILL, two hexadecimal digits, stands where the image has no byte.
+
+--names prints behind a range the name of its first address, as check does, but
+whatever the regions: that of the greatest public of the image at or below it.
 
 The exit status is 0 if all bytes are the same, 1 if some differ.
 
@@ -47,6 +53,7 @@ pub const COMPARE: Syntax<'static> = Syntax {
             help: "The address of the first byte",
         },
         FILL,
+        NAMES,
     ],
 };
 
@@ -58,6 +65,7 @@ impl<'a> CompareArguments<'a> {
             dump: path_of(matches, "DUMP"),
             first: OptionText::of(matches, "first"),
             fill: fill_of(matches),
+            names: matches.get_flag(NAMES.name),
         }
     }
 }
@@ -69,24 +77,50 @@ pub fn compare_files(
 ) -> Result<u8, Reported> {
     let first = console.word(arguments.first)?;
     let fill = console.byte(arguments.fill)?;
-    let comparison = compared(console, arguments, first, fill)?;
-    console.print(&comparison.text)?;
-    Ok(if comparison.ranges.is_empty() { 0 } else { 1 })
+    let (text, status) = compared(console, arguments, first, fill)?;
+    console.print(&text)?;
+    Ok(status)
 }
 
-/// What the comparison of the files gives. Both are read before one is looked at.
+/// All addresses, but FFFF, and FFFF: where names are sought for the bytes of a memory.
+static MEMORY: [Range; 2] = [
+    Range {
+        first: 0,
+        length: 0xFFFF,
+    },
+    Range {
+        first: 0xFFFF,
+        length: 1,
+    },
+];
+
+/// The lines of the comparison of the files, and the exit status. Both are read before one is looked at.
 fn compared(
     console: Console<'_>,
     arguments: CompareArguments<'_>,
     first: u16,
     fill: u8,
-) -> Result<Comparison, Reported> {
+) -> Result<(Vec<u8>, u8), Reported> {
     let file = console.read_whole(arguments.image)?;
     let dump = console.read_whole(arguments.dump)?;
     let image = image_of(console, arguments.image, &file, no_regions(console.alloc()))?;
+    let names = Names::of(console, arguments.names, arguments.image, &file)?;
     match compare(console.alloc(), &image, first, &dump, fill) {
-        Ok(comparison) => Ok(comparison),
+        Ok(comparison) => named(console, comparison, &names),
         Err(RomFault::Memory) => Err(console.report_memory()),
         Err(fault) => Err(console.report_file(arguments.dump, fault)),
+    }
+}
+
+/// The lines of a comparison with names, and the exit status.
+fn named(
+    console: Console<'_>,
+    comparison: Comparison,
+    names: &Names,
+) -> Result<(Vec<u8>, u8), Reported> {
+    let status = if comparison.ranges.is_empty() { 0 } else { 1 };
+    match names.name(console.alloc(), &MEMORY, b"DIFFERS ", comparison.text) {
+        Ok(text) => Ok((text, status)),
+        Err(_) => Err(console.report_memory()),
     }
 }

@@ -2,10 +2,11 @@
 
 use crate::run_arguments::{INPUTS, LimitTexts, OUTPUTS, RunFiles, STEPS};
 use clap::ArgMatches;
-use console80::{Console, IMAGE, REGIONS, Reported, Syntax, vouch_for};
+use console80::{Console, IMAGE, REGIONS, Reported, Syntax};
 use cover80::cover;
 use loader80::Vouched;
 use machine80::Inputs;
+use naming80::{NAMES, Names, vouch_with_names};
 use std::alloc::{AllocError, Global};
 use trace80::{Limits, count_steps};
 
@@ -14,6 +15,7 @@ use trace80::{Limits, count_steps};
 pub struct CoverArguments<'a> {
     files: RunFiles<'a>,
     limits: LimitTexts<'a>,
+    names: bool,
 }
 
 const ABOUT: &str = "Verifies an image and runs it: prints how often it began each instruction";
@@ -23,7 +25,7 @@ Each instruction that the program may come to has a line, as list prints it,
 with the number of times that the run began it, or - if it never did. Its other
 code is data, eight bytes a line. The last line has the number of instructions
 that were begun, and that of all. How the run ends doesn't count: the exit
-status is 0, or 1 if the image is refused.
+status is 0, or 1 if the image is refused. --names prints names as list does.
 
 Example: plm80 cover readings.img readings.regions readings.inputs
 
@@ -34,7 +36,7 @@ pub const COVER: Syntax<'static> = Syntax {
     name: "cover",
     about: ABOUT,
     after_help: AFTER_HELP,
-    arguments: &[IMAGE, REGIONS, INPUTS, STEPS, OUTPUTS],
+    arguments: &[IMAGE, REGIONS, INPUTS, STEPS, OUTPUTS, NAMES],
 };
 
 impl<'a> CoverArguments<'a> {
@@ -43,6 +45,7 @@ impl<'a> CoverArguments<'a> {
         CoverArguments {
             files: RunFiles::of(matches),
             limits: LimitTexts::of(matches),
+            names: matches.get_flag(NAMES.name),
         }
     }
 }
@@ -50,10 +53,11 @@ impl<'a> CoverArguments<'a> {
 /// Prints the code with the counts of the run, and gives the exit status.
 pub fn cover_files(console: Console<'_>, arguments: CoverArguments<'_>) -> Result<u8, Reported> {
     let limits = arguments.limits.numbers(console)?;
-    let texts = arguments.files.read(console)?;
+    let texts = arguments.files.read(console, arguments.names)?;
     let inputs = arguments.files.inputs_of(console, &texts.inputs)?;
-    match vouch_for(console, texts.image)? {
-        Ok(vouched) => print_cover(console, &vouched, inputs, limits),
+    let names = texts.names;
+    match vouch_with_names(console, texts.image, &names)? {
+        Ok(vouched) => print_cover(console, &vouched, inputs, limits, &names),
         Err(status) => Ok(status),
     }
 }
@@ -64,8 +68,9 @@ fn print_cover(
     vouched: &Vouched,
     inputs: Inputs,
     limits: Limits,
+    names: &Names,
 ) -> Result<u8, Reported> {
-    let Ok(text) = covered(console.alloc(), vouched, inputs, limits) else {
+    let Ok(text) = covered(console.alloc(), vouched, inputs, limits, names) else {
         return Err(console.report_memory());
     };
     console.print(&text)?;
@@ -78,7 +83,9 @@ fn covered(
     vouched: &Vouched,
     inputs: Inputs,
     limits: Limits,
+    names: &Names,
 ) -> Result<Vec<u8>, AllocError> {
     let counts = count_steps(alloc, vouched, inputs, limits)?;
-    cover(alloc, vouched, &counts.steps)
+    let text = cover(alloc, vouched, &counts.steps)?;
+    names.label(alloc, false, text)
 }

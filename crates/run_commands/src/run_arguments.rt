@@ -3,13 +3,16 @@
 use crate::status_of;
 use clap::ArgMatches;
 use console80::{
-    Argument, Console, IMAGE, Kind, OptionText, REGIONS, Reported, image_of, path_of, regions_of,
+    Argument, Console, IMAGE, Kind, NotedWriter, OptionText, REGIONS, Reported, image_of, path_of,
+    regions_of,
 };
 use image80::Image;
-use loader80::{Ended, InputsFault, SessionFault, ending_text, read_inputs};
+use loader80::{Ended, InputsFault, SessionFault, Vouched, Writing, ending_text, read_inputs};
 use machine80::Inputs;
+use naming80::Names;
+use std::alloc::{AllocError, Global};
 use std::io::ErrorKind;
-use trace80::{Limits, TraceFault};
+use trace80::{Limits, Span, TraceFault, write_lines};
 
 /// The paths of an image, of its regions and of the inputs of its run.
 #[derive(Clone, Copy)]
@@ -45,6 +48,8 @@ pub const OUTPUTS: Argument<'static> = Argument {
 pub struct RunTexts {
     pub image: Image,
     pub inputs: Vec<u8>,
+    /// The names of its addresses, if they are asked for.
+    pub names: Names,
 }
 
 impl<'a> RunFiles<'a> {
@@ -72,15 +77,20 @@ impl<'a> RunFiles<'a> {
         self.inputs
     }
 
-    /// The image with its regions and the text of its inputs, as the files have them. All three are read before one is looked
-    /// at, and they are looked at in the order of `run`.
-    pub fn read(self, console: Console<'_>) -> Result<RunTexts, Reported> {
+    /// The image with its regions, the text of its inputs, and its names if they are asked for, as the files have them. All three
+    /// files are read before one is looked at, and they are looked at in the order of `run`.
+    pub fn read(self, console: Console<'_>, names: bool) -> Result<RunTexts, Reported> {
         let bytes = console.read_whole(self.image)?;
         let text = console.read_whole(self.regions)?;
         let inputs = console.read_whole(self.inputs)?;
         let regions = regions_of(console, self.regions, &text)?;
         let image = image_of(console, self.image, &bytes, regions)?;
-        Ok(RunTexts { image, inputs })
+        let names = Names::of(console, names, self.image, &bytes)?;
+        Ok(RunTexts {
+            image,
+            inputs,
+            names,
+        })
     }
 
     /// The inputs that the text of their file spells.
@@ -122,21 +132,107 @@ impl<'a> LimitTexts<'a> {
     }
 }
 
-/// Prints the line of how a run ended, and gives the exit status.
-pub fn print_ending(console: Console<'_>, ended: &Ended) -> Result<u8, Reported> {
-    let Ok(text) = ending_text(console.alloc(), ended.end, ended.cpu.pc(), ended.steps) else {
+/// The instructions of a run whose lines are printed.
+#[derive(Clone, Copy)]
+pub struct Traced<'a> {
+    pub vouched: &'a Vouched,
+    pub names: &'a Names,
+    pub limits: Limits,
+    pub span: Span,
+    pub numbered: bool,
+}
+
+/// Prints the lines of instructions, as they come or, with their names, when there are no more; and gives how the run ended, if it
+/// did among them or before.
+pub fn print_lines(
+    console: Console<'_>,
+    traced: Traced<'_>,
+    inputs: Inputs,
+) -> Result<Option<Ended>, Reported> {
+    if !traced.names.is_empty() {
+        return print_named(console, traced, inputs);
+    }
+    let mut output = NotedWriter::new(console.runtime().stdout());
+    let mut out = Writing::new(&mut output);
+    match write_lines(
+        console.alloc(),
+        traced.vouched,
+        inputs,
+        traced.limits,
+        traced.span,
+        traced.numbered,
+        &mut out,
+    ) {
+        Ok(ended) => Ok(ended),
+        Err(fault) => Err(report_lines(console, fault, output.failure())),
+    }
+}
+
+/// Prints the lines with their names.
+fn print_named(
+    console: Console<'_>,
+    traced: Traced<'_>,
+    inputs: Inputs,
+) -> Result<Option<Ended>, Reported> {
+    let Ok((lines, ended)) = named_lines(console.alloc(), traced, inputs) else {
         return Err(console.report_memory());
     };
-    console.print(text.as_bytes())?;
+    console.print(&lines)?;
+    Ok(ended)
+}
+
+/// The lines with their names. They are written to memory, which fails only if it runs out.
+fn named_lines(
+    alloc: Global,
+    traced: Traced<'_>,
+    inputs: Inputs,
+) -> Result<(Vec<u8>, Option<Ended>), AllocError> {
+    let mut lines = Vec::new(alloc);
+    let mut out = Writing::new(&mut lines);
+    match write_lines(
+        alloc,
+        traced.vouched,
+        inputs,
+        traced.limits,
+        traced.span,
+        traced.numbered,
+        &mut out,
+    ) {
+        Ok(ended) => Ok((traced.names.label(alloc, traced.numbered, lines)?, ended)),
+        Err(_) => Err(AllocError),
+    }
+}
+
+/// Prints the line of how a run ended, with the name of its address, and gives the exit status.
+pub fn print_ending(
+    console: Console<'_>,
+    vouched: &Vouched,
+    ended: &Ended,
+    names: &Names,
+) -> Result<u8, Reported> {
+    let Ok(text) = named_ending(console.alloc(), vouched, ended, names) else {
+        return Err(console.report_memory());
+    };
+    console.print(&text)?;
     Ok(status_of(ended.end))
 }
 
+/// The line of how a run ended, with the name of its address.
+fn named_ending(
+    alloc: Global,
+    vouched: &Vouched,
+    ended: &Ended,
+    names: &Names,
+) -> Result<Vec<u8>, AllocError> {
+    let code = vouched.image().regions.code();
+    let text = ending_text(alloc, ended.end, ended.cpu.pc(), ended.steps)?.into_bytes();
+    let text = names.name(alloc, code, b"HALT ", text)?;
+    let text = names.name(alloc, code, b"STORE ", text)?;
+    names.name(alloc, code, b"JUMP ", text)
+}
+
 /// Reports why not all lines of a run were printed.
-pub fn report_lines(
-    console: Console<'_>,
-    fault: TraceFault,
-    failure: Option<ErrorKind>,
-) -> Reported {
+fn report_lines(console: Console<'_>, fault: TraceFault, failure: Option<ErrorKind>) -> Reported {
     match fault {
         TraceFault::Write => console.report_output(failure),
         TraceFault::Memory => console.report_memory(),

@@ -5,6 +5,7 @@ use crate::session_files::run_session;
 use crate::watching::{Watch, watch_run};
 use clap::ArgMatches;
 use console80::{Argument, Console, IMAGE, Kind, OptionText, REGIONS, Reported, Syntax};
+use naming80::NAMES;
 
 /// The arguments of `run`.
 #[derive(Clone, Copy)]
@@ -13,6 +14,7 @@ pub struct RunArguments<'a> {
     limits: LimitTexts<'a>,
     last: OptionText<'a>,
     dump: Option<&'a str>,
+    names: bool,
 }
 
 const ABOUT: &str = "Verifies an image and runs it: prints the transcript, or the refusal";
@@ -27,7 +29,9 @@ that the program needs, a line for each byte that it writes to a port, and a
 line for how it ended and after how many steps. --last prints the last N
 instructions before that line, as trace does but for the number: the last one is
 the one that ended the run, or the next one if the steps were used up. --dump
-writes the memory that the run leaves, 65536 bytes.
+writes the memory that the run leaves, 65536 bytes. --names prints names as
+check and list do: before an instruction the one at its address, behind the last
+line that of its address.
 
 Example: plm80 run readings.img readings.regions readings.inputs --steps 5000
 
@@ -54,6 +58,7 @@ pub const RUN: Syntax<'static> = Syntax {
             kind: Kind::WrittenIfGiven("OUT"),
             help: "The file to write the memory at the end to",
         },
+        NAMES,
     ],
 };
 
@@ -65,6 +70,7 @@ impl<'a> RunArguments<'a> {
             limits: LimitTexts::of(matches),
             last: OptionText::of(matches, "last"),
             dump: matches.get_str("dump"),
+            names: matches.get_flag(NAMES.name),
         }
     }
 }
@@ -73,7 +79,7 @@ impl<'a> RunArguments<'a> {
 pub fn run_files(console: Console<'_>, arguments: RunArguments<'_>) -> Result<u8, Reported> {
     let limits = arguments.limits.numbers(console)?;
     let last = console.count(arguments.last)?;
-    if last == 0 && arguments.dump.is_none() {
+    if last == 0 && arguments.dump.is_none() && !arguments.names {
         return run_session(console, arguments.files, limits);
     }
     let watch = Watch {
@@ -81,6 +87,7 @@ pub fn run_files(console: Console<'_>, arguments: RunArguments<'_>) -> Result<u8
         limits,
         last,
         dump: arguments.dump,
+        names: arguments.names,
     };
     watch_run(console, watch)
 }

@@ -1,15 +1,14 @@
 //! `plm80 trace`: the instructions of a located program's run, a line each.
 
 use crate::run_arguments::{
-    INPUTS, LimitTexts, OUTPUTS, RunFiles, STEPS, print_ending, report_lines,
+    INPUTS, LimitTexts, OUTPUTS, RunFiles, STEPS, Traced, print_ending, print_lines,
 };
 use clap::ArgMatches;
-use console80::{
-    Argument, Console, IMAGE, Kind, NotedWriter, OptionText, REGIONS, Reported, Syntax, vouch_for,
-};
-use loader80::{Vouched, Writing};
+use console80::{Argument, Console, IMAGE, Kind, OptionText, REGIONS, Reported, Syntax};
+use loader80::Vouched;
 use machine80::Inputs;
-use trace80::{Limits, Span, write_lines};
+use naming80::{NAMES, Names, vouch_with_names};
+use trace80::{Limits, Span};
 
 /// The arguments of `trace`.
 #[derive(Clone, Copy)]
@@ -18,6 +17,7 @@ pub struct TraceArguments<'a> {
     limits: LimitTexts<'a>,
     from: OptionText<'a>,
     count: OptionText<'a>,
+    names: bool,
 }
 
 const ABOUT: &str = "Verifies an image and runs it: prints its instructions, with the registers";
@@ -29,6 +29,9 @@ OUT show the byte, as in IN 02=41; an IN for which no byte waits shows none. The
 lines begin after --from steps, and are printed as they come. If the run ends
 before they are as many as --count says, run's last line follows, and the exit
 status is run's; else it is 0.
+
+--names prints names as run does; the lines are then printed when there are no
+more.
 
 Example: plm80 trace readings.img readings.regions readings.inputs --count 20
 
@@ -55,6 +58,7 @@ pub const TRACE: Syntax<'static> = Syntax {
         },
         STEPS,
         OUTPUTS,
+        NAMES,
     ],
 };
 
@@ -66,6 +70,7 @@ impl<'a> TraceArguments<'a> {
             limits: LimitTexts::of(matches),
             from: OptionText::of(matches, "from"),
             count: OptionText::of(matches, "count"),
+            names: matches.get_flag(NAMES.name),
         }
     }
 
@@ -82,35 +87,33 @@ impl<'a> TraceArguments<'a> {
 pub fn trace_files(console: Console<'_>, arguments: TraceArguments<'_>) -> Result<u8, Reported> {
     let limits = arguments.limits.numbers(console)?;
     let span = arguments.span(console)?;
-    let texts = arguments.files.read(console)?;
+    let texts = arguments.files.read(console, arguments.names)?;
     let inputs = arguments.files.inputs_of(console, &texts.inputs)?;
-    match vouch_for(console, texts.image)? {
-        Ok(vouched) => print_lines(console, &vouched, inputs, limits, span),
+    let names = texts.names;
+    match vouch_with_names(console, texts.image, &names)? {
+        Ok(vouched) => print_trace(console, &vouched, inputs, limits, span, &names),
         Err(status) => Ok(status),
     }
 }
 
 /// Prints the lines of the run, and how it ended if they come so far.
-fn print_lines(
+fn print_trace(
     console: Console<'_>,
     vouched: &Vouched,
     inputs: Inputs,
     limits: Limits,
     span: Span,
+    names: &Names,
 ) -> Result<u8, Reported> {
-    let mut output = NotedWriter::new(console.runtime().stdout());
-    let mut out = Writing::new(&mut output);
-    match write_lines(
-        console.alloc(),
+    let traced = Traced {
         vouched,
-        inputs,
+        names,
         limits,
         span,
-        true,
-        &mut out,
-    ) {
-        Ok(None) => Ok(0),
-        Ok(Some(ended)) => print_ending(console, &ended),
-        Err(fault) => Err(report_lines(console, fault, output.failure())),
+        numbered: true,
+    };
+    match print_lines(console, traced, inputs)? {
+        None => Ok(0),
+        Some(ended) => print_ending(console, vouched, &ended, names),
     }
 }

@@ -1,10 +1,11 @@
 //! `plm80 run` with `--last` or `--dump`: a run, its last instructions, and the memory that it leaves.
 
-use crate::run_arguments::{RunFiles, RunTexts, print_ending, report_lines};
-use console80::{Console, NotedWriter, Reported, vouch_for};
-use loader80::{Vouched, Writing, front_text};
+use crate::run_arguments::{RunFiles, RunTexts, Traced, print_ending, print_lines};
+use console80::{Console, Reported};
+use loader80::{Vouched, front_text};
 use machine80::Inputs;
-use trace80::{Finished, Limits, Span, finish, memory_bytes, write_lines};
+use naming80::{Names, vouch_with_names};
+use trace80::{Finished, Limits, Span, finish, memory_bytes};
 
 /// What is seen of a run beside its transcript.
 #[derive(Clone, Copy)]
@@ -15,16 +16,22 @@ pub struct Watch<'a> {
     pub last: u64,
     /// The file that its memory is written to, if one is given.
     pub dump: Option<&'a str>,
+    /// Whether names are printed.
+    pub names: bool,
 }
 
 /// Runs the image of the files, prints its transcript with its last instructions, writes its memory, and gives the exit status.
 pub fn watch_run(console: Console<'_>, watch: Watch<'_>) -> Result<u8, Reported> {
-    let RunTexts { image, inputs } = watch.files.read(console)?;
+    let RunTexts {
+        image,
+        inputs,
+        names,
+    } = watch.files.read(console, watch.names)?;
     // The image runs twice if its last instructions are shown.
     let first = watch.files.inputs_of(console, &inputs)?;
     let second = watch.files.inputs_of(console, &inputs)?;
-    match vouch_for(console, image)? {
-        Ok(vouched) => run_watched(console, &vouched, first, second, watch),
+    match vouch_with_names(console, image, &names)? {
+        Ok(vouched) => run_watched(console, &vouched, first, second, watch, &names),
         Err(status) => Ok(status),
     }
 }
@@ -36,11 +43,12 @@ fn run_watched(
     first: Inputs,
     second: Inputs,
     watch: Watch<'_>,
+    names: &Names,
 ) -> Result<u8, Reported> {
     let Ok(finished) = finish(console.alloc(), vouched, first, watch.limits) else {
         return Err(console.report_memory());
     };
-    print_run(console, vouched, &finished, second, watch)
+    print_run(console, vouched, &finished, second, watch, names)
 }
 
 /// Prints the transcript of the run; its memory is written before the last line.
@@ -50,13 +58,14 @@ fn print_run(
     finished: &Finished,
     inputs: Inputs,
     watch: Watch<'_>,
+    names: &Names,
 ) -> Result<u8, Reported> {
     print_front(console, vouched, finished)?;
-    print_last(console, vouched, finished, inputs, watch)?;
+    print_last(console, vouched, finished, inputs, watch, names)?;
     if let Some(path) = watch.dump {
         write_memory(console, finished, path)?;
     }
-    print_ending(console, &finished.ended)
+    print_ending(console, vouched, &finished.ended, names)
 }
 
 /// Prints the transcript but for its last line.
@@ -82,25 +91,20 @@ fn print_last(
     finished: &Finished,
     inputs: Inputs,
     watch: Watch<'_>,
+    names: &Names,
 ) -> Result<(), Reported> {
     if watch.last == 0 {
         return Ok(());
     }
-    let span = Span::last_of(&finished.ended, watch.last);
-    let mut output = NotedWriter::new(console.runtime().stdout());
-    let mut out = Writing::new(&mut output);
-    match write_lines(
-        console.alloc(),
+    let traced = Traced {
         vouched,
-        inputs,
-        watch.limits,
-        span,
-        false,
-        &mut out,
-    ) {
-        Ok(_) => Ok(()),
-        Err(fault) => Err(report_lines(console, fault, output.failure())),
-    }
+        names,
+        limits: watch.limits,
+        span: Span::last_of(&finished.ended, watch.last),
+        numbered: false,
+    };
+    print_lines(console, traced, inputs)?;
+    Ok(())
 }
 
 /// Writes the memory that the run leaves to the file of this path.

@@ -2,11 +2,12 @@
 
 use clap::error::ErrorKind;
 use clap::{ArgMatches, Command, Error};
-use console80::{ProgramFiles, Syntax, WHY};
+use console80::{Syntax, WHY};
 use image_commands::{
     CALLS, CASES, CHECK, CallsArguments, CasesArguments, EXPLAIN, LIST, ListArguments, REGIONS,
     RegionsArguments, STORES, SUGGEST, SuggestArguments,
 };
+use naming80::NamedFiles;
 use object_commands::{
     FIND, FindArguments, LIB, LINK, LOCATE, LibraryArguments, LinkArguments, LocateArguments, MAP,
     MODULE, MapArguments, ModuleArguments,
@@ -26,15 +27,15 @@ pub enum Request<'a> {
     Locate(LocateArguments<'a>),
     Run(RunArguments<'a>),
     List(ListArguments<'a>),
-    Check(ProgramFiles<'a>),
-    Explain(ProgramFiles<'a>),
+    Check(NamedFiles<'a>),
+    Explain(NamedFiles<'a>),
     Library(LibraryArguments<'a>),
     Regions(RegionsArguments<'a>),
     Cases(CasesArguments<'a>),
     Map(MapArguments<'a>),
     Extract(ExtractArguments<'a>),
     Absolute(AbsoluteArguments<'a>),
-    Stores(ProgramFiles<'a>),
+    Stores(NamedFiles<'a>),
     Compare(CompareArguments<'a>),
     Inputs(InputsArguments<'a>),
     Calls(CallsArguments<'a>),
@@ -201,15 +202,15 @@ fn asked_for<'a>(
         "locate" => Request::Locate(LocateArguments::of(arguments)),
         "run" => Request::Run(RunArguments::of(arguments)),
         "list" => Request::List(ListArguments::of(arguments)),
-        "check" => Request::Check(ProgramFiles::of(arguments)),
-        "explain" => Request::Explain(ProgramFiles::of(arguments)),
+        "check" => Request::Check(NamedFiles::of(arguments)),
+        "explain" => Request::Explain(NamedFiles::of(arguments)),
         "lib" => Request::Library(LibraryArguments::of(alloc, arguments)?),
         "regions" => Request::Regions(RegionsArguments::of(arguments)),
         "cases" => Request::Cases(CasesArguments::of(arguments)),
         "map" => Request::Map(MapArguments::of(arguments)),
         "extract" => Request::Extract(ExtractArguments::of(arguments)),
         "absolute" => Request::Absolute(AbsoluteArguments::of(alloc, arguments)?),
-        "stores" => Request::Stores(ProgramFiles::of(arguments)),
+        "stores" => Request::Stores(NamedFiles::of(arguments)),
         "compare" => Request::Compare(CompareArguments::of(arguments)),
         "inputs" => Request::Inputs(InputsArguments::of(alloc, arguments)?),
         "calls" => Request::Calls(CallsArguments::of(arguments)),

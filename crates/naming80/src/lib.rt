@@ -1,0 +1,17 @@
+//! What the commands that print names of addresses share.
+//!
+//! | Item | What it is |
+//! |---|---|
+//! | [`NAMES`] | the option by which names are printed |
+//! | [`NamedFiles`], [`NAMED_FILES`] | the image, its regions and its names, which several commands read |
+//! | [`Names`] | the names of an image's addresses, put into texts |
+//! | [`vouch_with_names`], [`named_refusal`] | an image that is verified, or its refusal with a name |
+#![tactic(auto)]
+
+mod named_files;
+mod names;
+mod refusing;
+
+pub use named_files::{NAMED_FILES, NAMES, NamedFiles};
+pub use names::Names;
+pub use refusing::{named_refusal, vouch_with_names};
