@@ -1,0 +1,5 @@
+pub mod PlaceLemmas
+pub mod LayoutLemmas
+pub mod LinkedLemmas
+pub mod InPlaceLemmas
+pub mod RebuiltLemmas
