@@ -1,6 +1,6 @@
 -- Where contents of the one module that is located lie: in their placed segments, which share no address.
-use Rattle.std.proofs.Common.{◌≡◌, ℕ, suc, ◌+◌, ◌-◌, ◌%◌, ◌<◌, ◌≤◌, Bool, true, false, cond, ◌&&◌, ◌||◌, List, [], ◌∷◌, length, map, refl, sym, ap, subst, ◌∙◌, arith, inl, inr, eqb-true, eq-eqb, true≢false}
-use Rattle.std.specs.Prelude.{◌==◌, nat_lt, nat_le, Option, None, Some, find, unwrap_or, All, AllPairs, IsTrue}
+use Rattle.std.proofs.Common.{◌≡◌, ℕ, suc, ◌+◌, ◌-◌, ◌%◌, ◌<◌, ◌≤◌, Bool, true, false, cond, ◌||◌, List, [], ◌∷◌, length, map, refl, sym, ap, subst, ◌∙◌, arith, inl, inr, eqb-true, eq-eqb, true≢false}
+use Rattle.std.specs.Prelude.{◌==◌, nat_lt, nat_le, None, Some, find, unwrap_or, All, AllPairs, IsTrue}
 use Rattle.std.specs.List.{AllByRecursion, list_any}
 use Rattle.std.proofs.lemmas.Bool.{cases_Bool, and_parts, and_from, ltb-true, lt-ltb, le-leb}
 use Rattle.std.proofs.lemmas.List.FromFn.{length-map-range_with_len}
@@ -10,7 +10,6 @@ use Rattle.omf_parts.specs.Segments.{has_segment, has_common_id}
 use Rattle.omf_parts.specs.Modules.{ModuleValue}
 use Rattle.omf_parts.specs.Rules.{each_after, is_new_common}
 use Rattle.omf_relocation.specs.Patches.{byte_with}
-use Rattle.omf_relocation.specs.Place.{place_in}
 use Rattle.omf_relocation.specs.ImageByte.{patch_of, ByteChunk, chunk_of, chunk_covers, distance}
 use Rattle.place80.specs.declared.options.Options.{Options}
 use Rattle.place80.specs.declared.placed_segments.Placed.{Placed}

@@ -1,6 +1,6 @@
 -- Of the contents of modules that are linked and located only ones in CODE cover an address that one in CODE covers.
-use Rattle.std.proofs.Common.{◌≡◌, ℕ, ◌+◌, ◌%◌, ◌<◌, ◌≤◌, Bool, true, false, cond, ◌&&◌, ◌||◌, List, [], ◌∷◌, ◌++◌, length, map, refl, sym, ap, subst, ◌∙◌, arith, inl, inr, eqb-true, true≢false}
-use Rattle.std.specs.Prelude.{◌==◌, nat_eq, nat_le, Option, None, Some, find, option_map, unwrap_or, if◌then◌else◌, IsTrue, ◌↔◌}
+use Rattle.std.proofs.Common.{◌≡◌, ℕ, ◌+◌, ◌%◌, ◌≤◌, Bool, true, false, cond, ◌&&◌, ◌||◌, List, [], ◌∷◌, ◌++◌, length, map, refl, sym, ap, subst, ◌∙◌, arith, inl, inr, eqb-true, true≢false}
+use Rattle.std.specs.Prelude.{◌==◌, nat_eq, Option, None, Some, find, unwrap_or, if◌then◌else◌}
 use Rattle.std.specs.List.{AllByRecursion, list_any, flat_map, enumerate_from}
 use Rattle.std.specs.Option.{option_or, option_map_or}
 use Rattle.std.specs.Cmp.Lexicographic.{pointwise}
@@ -10,12 +10,12 @@ use Rattle.std.proofs.lemmas.List.{append-nil}
 use Rattle.omf_parts.specs.declared.symbols.Common.{Common}
 use Rattle.omf_parts.specs.Contents.{ContentValue}
 use Rattle.omf_parts.specs.Laws.{SegmentsAreKept}
-use Rattle.omf_parts.specs.Segments.{has_segment, has_common_id, is_fixed_id, segment_in, empty_segment}
+use Rattle.omf_parts.specs.Segments.{has_common_id, is_fixed_id, segment_in, empty_segment}
 use Rattle.omf_parts.specs.declared.segment.Segment.{Segment}
-use Rattle.omf_parts.specs.Modules.{ModuleValue, made_of, segment_of}
-use Rattle.omf_parts.specs.Rules.{IsModule, end_of, keeps_rules, is_sound, each_after, is_new_entry}
+use Rattle.omf_parts.specs.Modules.{ModuleValue, made_of}
+use Rattle.omf_parts.specs.Rules.{is_sound, each_after, is_new_entry}
 use Rattle.omf_relocation.specs.Place.{Bases, common_name}
-use Rattle.omf_relocation.specs.ImageByte.{ByteChunk, chunk_of, chunk_covers, chunks_of, image_byte}
+use Rattle.omf_relocation.specs.ImageByte.{ByteChunk, chunk_of, chunk_covers, image_byte}
 use Rattle.omf_relocation.specs.HighReferences.{any_loses_low_byte}
 use Rattle.omf_relocation.specs.SoundModules.{LiesIn, RulesOf, SoundModulesKeepRules, CommonsByName, PartsOfOneStartAtZero}
 use Rattle.link80.specs.Linked.{linked, linked_parts, linked_contents, linked_content, linked_commons, linked_id, numbered_common, common_names, id_of}
@@ -23,14 +23,14 @@ use Rattle.link80.specs.LinkLaws.{LinkedChunksAreTheModules, LinkedBytesAreTheMo
 use Rattle.place80.specs.declared.options.Options.{Options}
 use Rattle.place80.specs.declared.place_fault.PlaceFault.{PlaceFault}
 use Rattle.place80.specs.declared.place_fault.PlaceFault.TheVariants.{HighNotPaged}
-use Rattle.place80.specs.Layout.{own_segment, placed_in, layout_of, program_bases}
+use Rattle.place80.specs.Layout.{placed_in, layout_of, program_bases}
 use Rattle.place80.specs.LayoutLaws.{Fit, NoFaultWhereSegmentsFit}
 use Rattle.place80.specs.PlaceFault.{unresolved, no_start, layout_fault, high_not_paged, start_not_code, locate_fault}
 use Rattle.place80.specs.Locating.{HoldsProgram}
 use Rattle.image80.specs.Image.{Located, PlacedBytes, byte_at}
 use Rattle.build80.specs.Built.{linked_bases, HoldsModules}
 use Rattle.find80.specs.Places.{dump_byte}
-use Rattle.found80.specs.Chunks.{is_code, is_covered}
+use Rattle.found80.specs.Chunks.{is_code}
 use Rattle.found80.specs.LinkLaws.{LinkHasTheBytes, OnlyCodeCovers}
 use Rattle.rebuilt80.specs.Rebuilt.{AreRebuilt, is_in_code}
 use Rattle.rebuilt80.proofs.PlaceLemmas.{ModuleLaws}
@@ -38,9 +38,6 @@ use Rattle.rebuilt80.proofs.InPlaceLemmas.{Held, IsIn, code_contents, alone_cont
 use Rattle.rebuilt80.proofs.LinkedLemmas.{of_each, any_gives}
 
 -- ---- a content is in CODE exactly if it is in the linked module
-
-fixed_code : is_fixed_id 1 ≡ true
-fixed_code = refl
 
 code_stays : (modules : List ModuleValue) (e : ℕ × ModuleValue) (c : ContentValue) → is_code c ≡ true → is_code (linked_content modules e c) ≡ true
 code_stays modules e c code =

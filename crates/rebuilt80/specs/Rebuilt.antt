@@ -1,7 +1,7 @@
 -- Modules that lie in a dump with the bases that their linked module is located with, and the image of it.
 -- (ISIS-II User's Guide: LINK lays the parts of CODE one after another, LOCATE gives segments bases and refuses those that overlap;
 -- of two contents over a byte the later one stands.)
-use Rattle.std.specs.Prelude.{◌≡◌, ℕ, ◌%◌, Bool, true, ◌&&◌, None, Some, List}
+use Rattle.std.specs.Prelude.{◌≡◌, ℕ, ◌%◌, Bool, true, ◌&&◌, Some, List}
 use Rattle.std.specs.List.{AllByRecursion, list_any, enumerate_from}
 use Rattle.omf_parts.specs.Modules.{ModuleValue}
 use Rattle.omf_parts.specs.Rules.{IsModule}
