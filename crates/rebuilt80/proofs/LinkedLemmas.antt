@@ -1,5 +1,5 @@
 -- What holds of the contents of a linked module, said of those of its modules.
-use Rattle.std.specs.Prelude.{◌≡◌, Bool, true, false, ◌&&◌, List, [], ◌∷◌, ◌++◌, map}
+use Rattle.std.specs.Prelude.{◌≡◌, Bool, true, ◌&&◌, List, [], ◌∷◌, ◌++◌, map}
 use Rattle.std.specs.List.{AllByRecursion, flat_map, list_any}
 use Rattle.std.proofs.Common.{sym, ap, inl, inr}
 use Rattle.std.proofs.lemmas.Bool.{and_parts, or_cases, true≢false}
