@@ -43,7 +43,7 @@ impl Walk {
     ) -> Result<Walk, AllocError> {
         let mut walk = Walk::new(alloc)?;
         walk.enter(image.start, Trail::unknown())?;
-        // (The bound is never met: each address is reached once, and each table has at most 32768 words.)
+        // The bound is never met: each address is reached once, and each table has at most 32768 words.
         for _ in 0..u64::MAX {
             if !walk.go_on(image, code)? {
                 break;

@@ -45,7 +45,7 @@ impl Search {
             → ByRing code at shown)) }
     {
         let known = self.known_calls(alloc)?;
-        // (All calls at one address have one callee, so what is reached from it is found once.)
+        // All calls at one address have one callee, so what is reached from it is found once.
         let mut reached = Vec::new(alloc);
         for number in 0..self.calls.len() {
             let call = known[number];

@@ -196,7 +196,7 @@ impl Search {
     /// # Errors
     /// `AllocError` where memory runs out.
     fn go_back<C: Code>(&mut self, program: &C) -> Result<(), AllocError> {
-        // (The bound is never met: each place of a point is asked for once.)
+        // The bound is never met: each place of a point is asked for once.
         for _ in 0..u64::MAX {
             let Some(places) = self.left.pop() else {
                 break;
@@ -286,7 +286,7 @@ impl Search {
     /// # Errors
     /// `AllocError` where memory runs out.
     fn go_forth<C: Code>(&mut self, program: &C) -> Result<(), AllocError> {
-        // (The bound is never met: another word comes to each place of a point once, and as often as it is noted above.)
+        // The bound is never met: another word comes to each place of a point once, and as often as it is noted above.
         for _ in 0..u64::MAX {
             let Some(places) = self.others.pop() else {
                 break;

@@ -123,7 +123,7 @@ impl Counted {
             left: Vec::new(alloc),
         };
         counted.reach(Procedure::Main, program.start(), 0, 0, NONE)?;
-        // (The bound is never met: each point is put there once, and once more where its callee's return is seen.)
+        // The bound is never met: each point is put there once, and once more where its callee's return is seen.
         for _ in 0..u64::MAX {
             let Some(number) = counted.left.pop() else {
                 break;

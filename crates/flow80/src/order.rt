@@ -42,7 +42,7 @@ struct Search {
 pub(crate) fn rank_addresses<C: Code>(alloc: Global, program: &C) -> Result<Vec<u32>, AllocError> {
     let mut search = Search::new(alloc)?;
     search.roots.push(program.start())?;
-    // (The bound is never met: a root is added by a call that is seen, and each address is seen once.)
+    // The bound is never met: a root is added by a call that is seen, and each address is seen once.
     for _ in 0..u64::MAX {
         let Some(root) = search.roots.pop() else {
             break;
@@ -93,7 +93,7 @@ impl Search {
     /// # Errors
     /// `AllocError` where memory runs out.
     fn go_through<C: Code>(&mut self, program: &C) -> Result<(), AllocError> {
-        // (The bound is never met: each address is entered once, and has as many ways on as it has targets.)
+        // The bound is never met: each address is entered once, and has as many ways on as it has targets.
         for _ in 0..u64::MAX {
             let Some(step) = self.path.pop() else {
                 break;

@@ -116,7 +116,8 @@ impl Table {
         }
         let lesser = self.lessen(procedure, to, frame)?;
         self.points.add(procedure, to, lesser)?;
-        self.looks = self.looks.saturating_add(LOOKS_FOR_A_POINT);
+        // A table that is spent stays so.
+        self.looks = self.looks.saturating_add(self.looks.min(LOOKS_FOR_A_POINT));
         self.look_again(number, to)?;
         Ok(true)
     }
@@ -378,7 +379,7 @@ impl Table {
                 let taken = self.points.frames().taken(site.frame);
                 self.return_if(site, taken)
             }
-            // (What is refused in every frame isn't followed.)
+            // What is refused in every frame isn't followed.
             Effect::Halt | Effect::Refuse(_) => Ok(false),
         }
     }

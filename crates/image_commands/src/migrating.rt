@@ -35,7 +35,7 @@ pub const REGIONS: Syntax<'static> = Syntax {
         },
         Argument {
             name: "NEW",
-            // (It may be OLD itself, whose regions it has.)
+            // It may be OLD itself, whose regions it has.
             kind: Kind::Path,
             help: "The file to write its text of version 2 to",
         },

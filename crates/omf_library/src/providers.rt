@@ -37,7 +37,7 @@ impl<'a> Providers<'a> {
         let mut providers = Providers {
             places: IndexMap::new(alloc),
         };
-        // (From the last module to the first, so that of several that declare a name the first is kept.)
+        // From the last module to the first, so that of several that declare a name the first is kept.
         let mut place = modules.len();
         while 0 < place {
             place -= 1;
