@@ -4,8 +4,6 @@ use Rattle.std.specs.Prelude.{ℕ, ◌==◌, Bool, true, not, ◌&&◌, nat_le, 
 use Rattle.omf_core.specs.Name.{is_name, name_spelling}
 use Rattle.omf_body.specs.declared.fault.FieldFault.{FieldFault}
 use Rattle.omf_body.specs.declared.fault.FieldFault.TheVariants.{BadBody}
-use Rattle.omf_body.specs.declared.entries.TheConstants.{ANY_BYTE}
-use Rattle.omf_body.specs.declared.segment_id.TheConstants.{FIRST_COMMON, LAST_COMMON}
 use Rattle.omf_body.specs.declared.entries.SegmentEntry.{SegmentEntry}
 use Rattle.omf_body.specs.declared.entries.CommonEntry.{CommonEntry}
 use Rattle.omf_body.specs.declared.entries.PublicEntry.{PublicEntry}
@@ -32,12 +30,12 @@ segment_layout = record { bytes = segment_bytes; is_sound = λ e. true; read = r
 
 -- alignment 3 is any byte; with any other one the part starts at a multiple of 256
 abbrev pub is_paged : SegmentEntry → Bool
-is_paged e = not (e.alignment == ANY_BYTE)
+is_paged e = not (e.alignment == 3)
 
 -- ---- a named common: id and name; the id is looked at first
 
 abbrev pub is_common_id : ℕ → Bool
-is_common_id id = nat_le FIRST_COMMON id && nat_le id LAST_COMMON
+is_common_id id = nat_le 6 id && nat_le id 254
 
 abbrev pub common_bytes : CommonEntry → List ℕ
 common_bytes e = e.id ∷ name_spelling e.name

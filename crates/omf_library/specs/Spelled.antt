@@ -3,6 +3,8 @@
 -- library dictionary records. That the last three may stand in any order and number, and the faults, are this project's.)
 use Rattle.std.specs.Prelude.{◌≡◌, ℕ, ◌≤◌, ◌<◌, ◌==◌, Bool, true, false, ◌&&◌, ◌||◌, not, nat_le, if◌then◌else◌, Option, Some, None, List, [], ◌∷◌, length, drop, IsTrue}
 use Rattle.std.specs.List.{list_all}
+use Rattle.omf_core.specs.declared.kind.RecordKind.TheVariants as kind
+use Rattle.omf_core.specs.Kind.{kind_byte}
 use Rattle.omf_core.specs.declared.fault.RecordFault.{RecordFault}
 use Rattle.omf_core.specs.Record.{SpellsRecord, fault_at, word_at}
 use Rattle.omf_core.specs.Records.{RecordValue, SpellsRecords}
@@ -19,7 +21,7 @@ use Rattle.omf_library.specs.Fault.{of_module}
 
 -- a library header record has the number of modules as its first word
 abbrev pub is_library_header : ℕ → List ℕ → Bool
-is_library_header kind body = kind == 0x2C && nat_le 2 (length body)
+is_library_header byte body = byte == kind_byte kind.LibraryHeader && nat_le 2 (length body)
 
 -- The bytes up to place `first` are a library header that says how many modules there are.
 pub record BeginsLibrary (bytes : List ℕ) (first said : ℕ) : Type 0 where
@@ -31,7 +33,8 @@ pub record BeginsLibrary (bytes : List ℕ) (first said : ℕ) : Type 0 where
 
 -- records of the index: library module locations, library module names, library dictionary
 abbrev pub is_index_kind : ℕ → Bool
-is_index_kind kind = kind == 0x26 || kind == 0x28 || kind == 0x2A
+is_index_kind byte =
+    byte == kind_byte kind.LibraryModuleLocations || byte == kind_byte kind.LibraryModuleNames || byte == kind_byte kind.LibraryDictionary
 
 -- The bytes from place `from` up to place `to` are index records, whatever they hold.
 pub record SpellsIndex (bytes : List ℕ) (from to : ℕ) (records : List RecordValue) : Type 0 where
@@ -67,13 +70,13 @@ pub data FaultsLibraryHeader (bytes : List ℕ) : LibraryFault → Type 0 where
 
 -- a record by which the library goes on: of the index, or a module header where no index record stands before it
 abbrev pub goes_on : Bool → ℕ → Bool
-goes_on indexed kind = is_index_kind kind || (not indexed && kind == 0x02)
+goes_on indexed byte = is_index_kind byte || (not indexed && byte == kind_byte kind.ModuleHeader)
 
 -- what another record comes to: the end of a library of as many modules as its header says, or a fault
 abbrev pub fault_of_record : ℕ → ℕ → ℕ → ℕ → Option LibraryFault
-fault_of_record at said found kind =
-    if kind == 0x0E then (if said == found then None else Some (CountDiffers said found))
-    else Some (Module (fault_by at (cause.UnknownKind kind)))
+fault_of_record at said found byte =
+    if byte == kind_byte kind.EndOfFile then (if said == found then None else Some (CountDiffers said found))
+    else Some (Module (fault_by at (cause.UnknownKind byte)))
 
 -- After a header that says how many modules there are, as many modules as were found, and index records or none, the library
 -- neither goes on nor ends at a place.
@@ -81,7 +84,7 @@ pub data FaultsAt (bytes : List ℕ) (at said found : ℕ) (indexed : Bool) : Li
   no_byte : length bytes ≤ at → FaultsAt bytes at said found indexed (NoEnd at)
   no_record : (fault : RecordFault) → at < length bytes → fault_at (drop at bytes) at ≡ Some fault
       → FaultsAt bytes at said found indexed (Module (fault_by at (cause.Record fault)))
-  in_module : (next : ℕ) (body : List ℕ) (fault : ModuleFault) → indexed ≡ false → SpellsRecord bytes at next 0x02 body
+  in_module : (next : ℕ) (body : List ℕ) (fault : ModuleFault) → indexed ≡ false → SpellsRecord bytes at next (kind_byte kind.ModuleHeader) body
       → FaultsModule bytes at fault
       → FaultsAt bytes at said found indexed (of_module fault)
   at_record : (next kind : ℕ) (body : List ℕ) (fault : LibraryFault) → SpellsRecord bytes at next kind body

@@ -1,6 +1,8 @@
 -- A library whose last bytes are still to come, as far as it is read. (It says no more than the definitions of a library and of
 -- its whole modules.)
 use Rattle.std.specs.Prelude.{◌≡◌, ◌≢◌, ℕ, ◌+◌, ◌-◌, ◌<◌, ◌≤◌, Bool, false, true, List, [], ◌++◌, length, All, Some}
+use Rattle.omf_core.specs.declared.kind.RecordKind.TheVariants as kind
+use Rattle.omf_core.specs.Kind.{kind_byte}
 use Rattle.omf_core.specs.declared.fault.RecordFault.TheVariants.{Truncated}
 use Rattle.omf_core.specs.Record.{SpellsRecord}
 use Rattle.omf_core.specs.Records.{RecordValue}
@@ -79,15 +81,15 @@ pub record Extends (old new : List ModuleValue) : Type 0 where
   pub is : new ≡ old ++ added
 
 -- a record that is no module header stands at a place
-pub record OtherRecord (bytes : List ℕ) (at after kind : ℕ) : Type 0 where
+pub record OtherRecord (bytes : List ℕ) (at after byte : ℕ) : Type 0 where
   pub body : List ℕ
-  pub spelled : SpellsRecord bytes at after kind body
-  pub other : kind ≢ 0x02
+  pub spelled : SpellsRecord bytes at after byte body
+  pub other : byte ≢ kind_byte kind.ModuleHeader
 
 pub record HeaderStands (bytes : List ℕ) (at : ℕ) : Type 0 where
   pub next : ℕ
   pub body : List ℕ
-  pub spelled : SpellsRecord bytes at next 0x02 body
+  pub spelled : SpellsRecord bytes at next (kind_byte kind.ModuleHeader) body
 
 -- what stands where a module may begin
 abbrev pub StandsAt : List ℕ → UnfinishedModule → Standing → Type 0
@@ -112,7 +114,7 @@ abbrev pub LeadsTo : ℕ → ℕ → ℕ → ℕ → Progress → Type 0
 LeadsTo said after found kind Header = ⊥
 LeadsTo said after found kind (Modules n) = ⊥
 LeadsTo said after found kind (Index n at) = (is_index_kind kind ≡ true) × (n ≡ said) × (at ≡ after)
-LeadsTo said after found kind Ended = (kind ≡ 0x0E) × (said ≡ found)
+LeadsTo said after found byte Ended = (byte ≡ kind_byte kind.EndOfFile) × (said ≡ found)
 
 -- or that it is none of these
 pub record LeadsNowhere (at said found kind : ℕ) (fault : LibraryFault) : Type 0 where

@@ -2,6 +2,8 @@
 -- dictionary, end of file. (8080 Object Module Formats, library file; the order of its index records is this project's.)
 use Rattle.std.specs.Prelude.{ℕ, ◌+◌, ◌/◌, ◌%◌, ◌||◌, Bool, nat_lt, List, [], ◌∷◌, ◌++◌, length}
 use Rattle.std.specs.List.{flat_map, AllByRecursion}
+use Rattle.omf_core.specs.declared.kind.RecordKind.TheVariants as kind
+use Rattle.omf_core.specs.Kind.{kind_byte}
 use Rattle.omf_core.specs.Name.{name_spelling}
 use Rattle.omf_core.specs.Record.{spelling}
 use Rattle.omf_core.specs.Records.{RecordValue, spellings}
@@ -45,14 +47,14 @@ dictionary_body ms = flat_map public_names ms
 
 abbrev pub index_records : List ModuleValue → List RecordValue
 index_records ms =
-    record { kind = 0x28; body = names_body ms }
-    ∷ record { kind = 0x26; body = locations_body ms }
-    ∷ record { kind = 0x2A; body = dictionary_body ms }
+    record { kind = kind_byte kind.LibraryModuleNames; body = names_body ms }
+    ∷ record { kind = kind_byte kind.LibraryModuleLocations; body = locations_body ms }
+    ∷ record { kind = kind_byte kind.LibraryDictionary; body = dictionary_body ms }
     ∷ []
 
 -- the bytes of a library
 unfoldable pub library_bytes : List ModuleValue → List ℕ
-library_bytes ms = spelling 0x2C (header_body ms) ++ flat_map module_bytes ms ++ spellings (index_records ms) ++ spelling 0x0E []
+library_bytes ms = spelling (kind_byte kind.LibraryHeader) (header_body ms) ++ flat_map module_bytes ms ++ spellings (index_records ms) ++ spelling (kind_byte kind.EndOfFile) []
 
 -- More modules than a word counts, a body that no record carries, or a place whose block is no word. (No block is greater
 -- than that of the index.)

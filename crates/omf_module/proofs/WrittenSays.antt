@@ -6,8 +6,6 @@ use Rattle.omf_core.specs.Name.{is_name}
 use Rattle.std.proofs.lemmas.Bool.{and_parts}
 use Rattle.std.proofs.lemmas.List.{append-nil}
 use Rattle.std.proofs.lemmas.List.Folds.{list_all-map}
-use Rattle.omf_body.specs.declared.entries.TheConstants.{ANY_BYTE}
-use Rattle.omf_module.specs.declared.writing.TheConstants.{PAGED}
 use Rattle.omf_parts.specs.declared.segment.Segment.{Segment}
 use Rattle.omf_parts.specs.Segments.{has_segment}
 use Rattle.omf_parts.specs.Modules.{ModuleValue}
@@ -23,17 +21,17 @@ use Rattle.omf_module.proofs.WrittenPasses.{Passes, commons_pass, publics_pass, 
 
 -- ---- each list
 
-paged_again : (paged : Bool) → not ((if paged then PAGED else ANY_BYTE) == ANY_BYTE) ≡ paged
+paged_again : (paged : Bool) → not ((if paged then 2 else 3) == 3) ≡ paged
 paged_again true = refl
 paged_again false = refl
 
 segments_again : (segments : List (ℕ × Segment))
-    → map (λ e. (e.id, record { length = e.length; paged = not (e.alignment == ANY_BYTE) })) (map segment_entry segments)
+    → map (λ e. (e.id, record { length = e.length; paged = not (e.alignment == 3) })) (map segment_entry segments)
     ≡ segments
 segments_again [] = refl
 segments_again (s ∷ ss) =
     ap (λ (p : Bool). (s.0, record { length = s.1.length; paged = p }) ∷ map
-    (λ e. (e.id, record { length = e.length; paged = not (e.alignment == ANY_BYTE) })) (map segment_entry ss))
+    (λ e. (e.id, record { length = e.length; paged = not (e.alignment == 3) })) (map segment_entry ss))
     (paged_again s.1.paged)
     ∙ ap (λ (rest : List (ℕ × Segment)). s ∷ rest) (segments_again ss)
 

@@ -3,7 +3,6 @@
 -- (8080 Object Module Formats; the order of the records is this project's.)
 use Rattle.std.specs.Prelude.{ℕ, ◌==◌, if◌then◌else◌, Option, option_map, List, [], ◌∷◌, ◌++◌, map}
 use Rattle.std.specs.List.{flat_map}
-use Rattle.omf_body.specs.declared.entries.TheConstants.{ANY_BYTE}
 use Rattle.omf_body.specs.declared.entries.SegmentEntry.{SegmentEntry}
 use Rattle.omf_body.specs.declared.field.Field.{Field}
 use Rattle.omf_body.specs.declared.body.Place.{Place}
@@ -13,7 +12,6 @@ use Rattle.omf_body.specs.declared.body.Body.{Body}
 use Rattle.omf_body.specs.declared.body.Body.TheVariants.{ModuleHeader, ModuleEnd, Content, EndOfFile, PublicDeclarations, ExternalNames, ExternalReferences, Relocation, IntersegmentReferences, NamedCommons}
 use Rattle.omf_body.specs.Bodies.{record_bytes}
 use Rattle.omf_body.specs.Writing.{end_filling}
-use Rattle.omf_module.specs.declared.writing.TheConstants.{PAGED}
 use Rattle.omf_parts.specs.declared.segment.Segment.{Segment}
 use Rattle.omf_parts.specs.declared.symbols.Common.{Common}
 use Rattle.omf_parts.specs.declared.symbols.Public.{Public}
@@ -23,9 +21,9 @@ use Rattle.omf_parts.specs.declared.fixup.Target.TheVariants as target
 use Rattle.omf_parts.specs.Contents.{ContentValue}
 use Rattle.omf_parts.specs.Modules.{ModuleValue}
 
--- a paged part starts at a multiple of 256
+-- alignment 2: a part starts at a multiple of 256; alignment 3: at any byte
 abbrev pub segment_entry : ℕ × Segment → SegmentEntry
-segment_entry e = record { id = e.0; length = e.1.length; alignment = if e.1.paged then PAGED else ANY_BYTE }
+segment_entry e = record { id = e.0; length = e.1.length; alignment = if e.1.paged then 2 else 3 }
 
 abbrev pub header_body : ModuleValue → HeaderBody
 header_body m = record { name = m.name; translator = 0; version = 0; segments = map segment_entry m.segments }
