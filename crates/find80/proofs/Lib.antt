@@ -1,4 +1,5 @@
 pub mod SolveLemmas
+pub mod ClearLemmas
 pub mod LiesLemmas
 pub mod SieveLemmas
 pub mod PlaceLemmas

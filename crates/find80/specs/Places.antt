@@ -1,5 +1,5 @@
 -- Where the bytes of a module's code lie in a dump.
-use Rattle.std.specs.Prelude.{◌≡◌, ℕ, ◌+◌, ◌-◌, ◌%◌, ◌<◌, ◌==◌, Bool, true, false, not, ◌&&◌, ◌||◌, nat_le, nat_lt, if◌then◌else◌, Option, Some, None, List, length, slice_index, slice_index_or}
+use Rattle.std.specs.Prelude.{◌≡◌, ℕ, ◌+◌, ◌-◌, ◌%◌, ◌<◌, ◌≤◌, ◌==◌, Bool, true, false, not, ◌&&◌, ◌||◌, nat_le, nat_lt, if◌then◌else◌, Option, Some, None, List, length, slice_index, slice_index_or}
 use Rattle.std.specs.List.{AllByRecursion, AllPairs, list_all, list_any}
 use Rattle.std.specs.Option.{option_map_or}
 use Rattle.pattern80.specs.declared.code_byte.CodeByte.{CodeByte}
@@ -56,6 +56,11 @@ in_table table number word = is_candidate (slice_index_or table number Any) word
 pub record Describes (first : ℕ) (dump : List ℕ) (code : List CodeByte) (address : ℕ) (table : List Candidates) : Type 0 where
   pub each : (number word : ℕ) → number < length table → word < 65536 →
       in_table table number word ≡ allows first dump code address number word
+
+-- every value but those of absolute bytes, of CODE and of these bytes may be every word
+abbrev pub IsClearBut : List CodeByte → List Candidates → Type 0
+IsClearBut code table =
+    (number : ℕ) → 2 ≤ number → list_all (λ b. not (number_of b.target == number)) code ≡ true → slice_index_or table number Any ≡ Any
 
 -- there is no word that the value with some number may be
 pub record HasNone (first : ℕ) (dump : List ℕ) (code : List CodeByte) (address : ℕ) : Type 0 where

@@ -6,7 +6,7 @@ ghost use Rattle.find80.specs.Places.{AreBelow, ArePlaces, LiesAt, is_plain};
 
 use crate::candidates::Candidates;
 use crate::sieve::{is_plain, sieve};
-use crate::solving::lies_at;
+use crate::solving::{any_table, lies_at};
 use omf_parts::Target;
 use pattern80::CodeByte;
 use std::alloc::{AllocError, Global};
@@ -32,7 +32,7 @@ pub fn places(
 {
     let alive = sieve(alloc, first, dump, code)?;
     let rest = bytes_in_fixups(alloc, code)?;
-    let mut table = vec![in alloc; Candidates::Any; count]?;
+    let mut table = any_table(alloc, count)?;
     let mut places = Vec::new(alloc);
     for at in 0..65536usize {
         if alive[at] && lies_at(first, dump, at as u16, &rest, &mut table) {
