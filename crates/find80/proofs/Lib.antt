@@ -1,5 +1,4 @@
 pub mod SolveLemmas
-pub mod ClearLemmas
 pub mod LiesLemmas
 pub mod SieveLemmas
 pub mod PlaceLemmas
