@@ -1,5 +1,5 @@
 -- The entries of a dump by address, and the addresses that are left.
-use Rattle.std.specs.Prelude.{◌≡◌, ◌≢◌, ℕ, ◌+◌, ◌%◌, ◌<◌, ◌==◌, ◌&&◌, ◌||◌, not, Bool, true, false, Option, Some, None, List, length, slice_index}
+use Rattle.std.specs.Prelude.{◌≡◌, ◌≢◌, ℕ, ◌+◌, ◌%◌, ◌<◌, ◌≤◌, [], ◌∷◌, ◌==◌, ◌&&◌, ◌||◌, not, Bool, true, false, Option, Some, None, List, length, slice_index}
 use Rattle.std.specs.List.{list_all}
 use Rattle.std.specs.Option.{option_map_or}
 use Rattle.std.proofs.Common.{refl, sym, ◌∙◌, ap, arith, get_or, take, below_more, get_or-set_other, get_or-set_same, set}
@@ -10,6 +10,8 @@ use Rattle.pattern80.specs.declared.code_byte.Half.TheVariants as half
 use Rattle.pattern80.specs.declared.code_byte.CodeByte.{CodeByte}
 use Rattle.pattern80.specs.CodeBytes.{number_of, half_of, is_low}
 use Rattle.find80.specs.Places.{dump_byte, fits, is_plain, fits_if_plain}
+use Rattle.find80.specs.Candidates.{is_half}
+use Rattle.find80.specs.Runs.{AreFrom, AreUpTo, IsOneRun}
 use Rattle.find80.specs.Sieve.{entry_at, IsRing}
 use Rattle.find80.proofs.SolveLemmas.{iff_bool, all_first}
 
@@ -64,3 +66,16 @@ pub sieved_out : (p : CodeByte → Bool) (code : List CodeByte) (k : ℕ) (first
 sieved_out p code k true new h none = none ∙ iff_bool false (list_all p code) (λ e. elim (true≢false (sym e)) [ ])
     (λ e. elim (true≢false (sym (all_first p code k e) ∙ (sym h ∙ none))) [ ])
 sieved_out p code k false new h none = none
+
+-- what fits at the first address of a block fits at each, if the dump has the same bytes there
+fits-same : (first : ℕ) (dump : List ℕ) (from to : ℕ) (b : CodeByte) → dump_byte first dump ((to + b.offset) % 65536) ≡ dump_byte first dump ((from + b.offset) % 65536)
+    → fits_if_plain first dump from b ≡ fits_if_plain first dump to b
+fits-same first dump from to b e = ap (λ (o : Option ℕ). not (is_plain b) || option_map_or (λ d. is_half b.half b.addend d 0) o false) (sym e)
+
+pub run_fits : (first : ℕ) (dump : List ℕ) (low high start a : ℕ) (code : List CodeByte) → AreFrom low code → AreUpTo high code
+    → IsOneRun first dump low high start → start ≤ a → a < start + 1024
+    → list_all (fits_if_plain first dump start) code ≡ list_all (fits_if_plain first dump a) code
+run_fits first dump low high start a [] above below run from to = refl
+run_fits first dump low high start a (b ∷ bs) above below run from to =
+    ap (λ (t : Bool). t && list_all (fits_if_plain first dump start) bs) (fits-same first dump start a b (run a b.offset from to above.0 below.0))
+    ∙ ap (λ (t : Bool). fits_if_plain first dump a b && t) (run_fits first dump low high start a bs above.1 below.1 run from to)

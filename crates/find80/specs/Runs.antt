@@ -15,6 +15,11 @@ pub record IsRepeated (first : ℕ) (dump : List ℕ) (low high address : ℕ) :
   pub same : (offset : ℕ) → low ≤ offset → offset ≤ high
       → dump_byte first dump ((address + offset) % 65536) ≡ dump_byte first dump ((address - 1 + offset) % 65536)
 
+-- at each of these offsets after each of 1,024 addresses the dump has the byte that it has there after the first of them
+abbrev pub IsOneRun : (first : ℕ) (dump : List ℕ) (low high start : ℕ) → Type 0
+IsOneRun first dump low high start = (address offset : ℕ) → start ≤ address → address < start + 1024 → low ≤ offset → offset ≤ high
+    → dump_byte first dump ((address + offset) % 65536) ≡ dump_byte first dump ((start + offset) % 65536)
+
 -- the bytes have offsets from one to another
 abbrev pub AreFrom : (low : ℕ) → List CodeByte → Type 0
 AreFrom low code = AllByRecursion (λ b. low ≤ b.offset) code

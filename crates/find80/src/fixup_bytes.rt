@@ -71,7 +71,7 @@ fn is_free(byte: &CodeByte) -> bool
 }
 
 /// An offset that none of the bytes has a lower one than.
-fn least_offset(code: &[CodeByte]) -> u16
+pub(crate) fn least_offset(code: &[CodeByte]) -> u16
     ensures { AreFrom result code.now }
 {
     let mut low = u16::MAX;
@@ -82,7 +82,7 @@ fn least_offset(code: &[CodeByte]) -> u16
 }
 
 /// An offset that none of the bytes has a higher one than.
-fn greatest_offset(code: &[CodeByte]) -> u16
+pub(crate) fn greatest_offset(code: &[CodeByte]) -> u16
     ensures { AreUpTo result code.now }
 {
     let mut high = 0;

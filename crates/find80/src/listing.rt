@@ -32,9 +32,9 @@ pub fn places(
     requires below { AreBelow count code.now }
     ensures { IfOk result (λ places. ArePlaces first dump.now code.now 65536 places.items) }
 {
-    let alive = sieve(alloc, first, dump, code)?;
-    let bytes = fixup_bytes(alloc, code)?;
     let starts = run_starts(alloc, first, dump)?;
+    let alive = sieve(alloc, first, dump, code, &starts)?;
+    let bytes = fixup_bytes(alloc, code)?;
     let mut table = any_table(alloc, count)?;
     let mut places = Vec::new(alloc);
     let mut before = None;

@@ -2,7 +2,7 @@
 
 ghost use Rattle.std.specs.Prelude.{◌≡◌, ◌≢◌, ℕ, ◌+◌, ◌-◌, ◌%◌, ◌<◌, ◌≤◌, true, length, slice_index, List, IfOk};
 ghost use Rattle.find80.specs.Places.{dump_byte};
-ghost use Rattle.find80.specs.Runs.{AreRunStarts, IsRepeated};
+ghost use Rattle.find80.specs.Runs.{AreRunStarts, IsRepeated, IsOneRun};
 
 use crate::dump::byte_at;
 use std::alloc::{AllocError, Global};
@@ -60,4 +60,14 @@ pub(crate) fn is_repeated(starts: &[u32], low: u16, high: u16, address: u16) -> 
 {
     let start = starts[usize::from(address) + usize::from(high)] as usize;
     0 < address && start < usize::from(address) + usize::from(low)
+}
+
+/// Whether the dump has, at each offset from `low` to `high` after each of the 1,024 addresses from `start` on, the byte that it has
+/// there after the first of them.
+pub(crate) fn is_one_run(starts: &[u32], low: u16, high: u16, start: usize) -> bool
+    requires all { length starts.now ≡ 131072 }
+    requires block { start + 1024 ≤ 65536 }
+    ensures { result ≡ true → (first : ℕ) (dump : List ℕ) → AreRunStarts first dump 131072 starts.now → IsOneRun first dump low high start }
+{
+    starts[start + 1023 + usize::from(high)] as usize <= start + usize::from(low)
 }

@@ -3,9 +3,12 @@
 ghost use Rattle.std.specs.Prelude.{◌≡◌, ℕ, ◌+◌, ◌%◌, ◌<◌, ◌≤◌, ◌&&◌, true, false, List, length, slice_index_or, IfOk};
 ghost use Rattle.std.specs.List.{list_all};
 ghost use Rattle.find80.specs.Places.{is_plain, fits_if_plain};
+ghost use Rattle.find80.specs.Runs.{AreRunStarts};
 ghost use Rattle.find80.specs.Sieve.{IsRing, AreRings, AreSieved, IsSievedBy, entry_at};
 
 use crate::dump::byte_at;
+use crate::fixup_bytes::{greatest_offset, least_offset};
+use crate::runs::is_one_run;
 use omf_parts::Target;
 use pattern80::{CodeByte, Half};
 use std::alloc::{AllocError, Global};
@@ -59,22 +62,99 @@ fn entry_at(first: u16, dump: &[u8], fill: u8, address: u16) -> u8
     }
 }
 
-/// For each address whether the dump has all bytes outside fixups with CODE there.
+/// For each address whether the dump has all bytes outside fixups with CODE there. It takes the runs of the dump.
 pub(crate) fn sieve(
     alloc: Global,
     first: u16,
     dump: &[u8],
     code: &[CodeByte],
+    starts: &[u32],
 ) -> Result<Vec<bool>, AllocError>
+    requires { AreRunStarts first dump.now 131072 starts.now }
     ensures { IfOk result (λ alive. AreSieved first dump.now code.now alive.items) }
 {
     let zeros = ring_of(alloc, first, dump, 0)?;
     let ones = ring_of(alloc, first, dump, 255)?;
     let mut alive = all_addresses(alloc, ADDRESSES)?;
+    let low = least_offset(code);
+    let high = greatest_offset(code);
     for block in 0..ADDRESSES / BLOCK {
-        sieve_block(&mut alive, &zeros, &ones, block * BLOCK, code);
+        let start = block * BLOCK;
+        let is_run = is_one_run(starts, low, high, start);
+        sieve_next(&mut alive, &zeros, &ones, first, dump, code, start, is_run);
     }
     Ok(alive)
+}
+
+/// Drops each address of a block, none of which is dropped yet, at which the dump hasn't all bytes outside fixups: by the first of
+/// them, if the dump has the same bytes for all of them.
+fn sieve_next(
+    alive: &mut [bool],
+    zeros: &[u8],
+    ones: &[u8],
+    first: u16,
+    dump: &[u8],
+    code: &[CodeByte],
+    start: usize,
+    is_run: bool,
+)
+    requires all { length alive.old ≡ 65536 }
+    requires rings { AreRings first dump.now zeros.now ones.now }
+    requires block { start + 1024 ≤ 65536 }
+    requires new { (a : ℕ) → start ≤ a → a < start + 1024 → slice_index_or alive.old a false ≡ true }
+    requires run { is_run ≡ true → (a : ℕ) → start ≤ a → a < start + 1024 →
+        list_all (fits_if_plain first dump.now start) code.now ≡ list_all (fits_if_plain first dump.now a) code.now }
+    ensures whole { length alive.new ≡ 65536 }
+    ensures each { (a : ℕ) → start ≤ a → a < start + 1024 →
+        slice_index_or alive.new a false ≡ list_all (fits_if_plain first dump.now a) code.now }
+    ensures before { (a : ℕ) → a < start → slice_index_or alive.new a false ≡ slice_index_or alive.old a false }
+    ensures after { (a : ℕ) → start + 1024 ≤ a → slice_index_or alive.new a false ≡ slice_index_or alive.old a false }
+{
+    if is_run {
+        let keep = has_plain(first, dump, start as u16, code);
+        fill_block(alive, start, keep);
+    } else {
+        sieve_block(alive, zeros, ones, start, code);
+    }
+}
+
+/// Whether the dump has all bytes outside fixups with CODE at the address.
+fn has_plain(first: u16, dump: &[u8], address: u16, code: &[CodeByte]) -> bool
+    ensures { result ≡ list_all (fits_if_plain first dump.now address) code.now }
+{
+    for byte in code {
+        if !fits_if_plain(first, dump, address, *byte) {
+            return false;
+        }
+    }
+    true
+}
+
+/// Whether the dump has this byte with CODE at the address, if it is one outside fixups.
+fn fits_if_plain(first: u16, dump: &[u8], address: u16, byte: CodeByte) -> bool
+    ensures { result ≡ fits_if_plain first dump.now address byte }
+{
+    if !is_plain(&byte) {
+        return true;
+    }
+    match byte_at(first, dump, address.wrapping_add(byte.offset)) {
+        Some(found) => u16::from(found) == byte.addend % 256,
+        None => false,
+    }
+}
+
+/// Keeps or drops all addresses of a block.
+fn fill_block(alive: &mut [bool], start: usize, keep: bool)
+    requires all { length alive.old ≡ 65536 }
+    requires block { start + 1024 ≤ 65536 }
+    ensures whole { length alive.new ≡ 65536 }
+    ensures each { (a : ℕ) → start ≤ a → a < start + 1024 → slice_index_or alive.new a false ≡ keep }
+    ensures before { (a : ℕ) → a < start → slice_index_or alive.new a false ≡ slice_index_or alive.old a false }
+    ensures after { (a : ℕ) → start + 1024 ≤ a → slice_index_or alive.new a false ≡ slice_index_or alive.old a false }
+{
+    for at in start..start + BLOCK {
+        alive[at] = keep;
+    }
 }
 
 /// Drops each address of a block at which the dump hasn't all bytes outside fixups, until none is left.
