@@ -6,6 +6,7 @@ use Rattle.omf_relocation.specs.Place.{Bases}
 use Rattle.omf_relocation.specs.ImageByte.{image_byte}
 use Rattle.select80.specs.declared.chosen.Chosen.{Chosen}
 use Rattle.link80.specs.declared.fault.LinkFault.{LinkFault}
+use Rattle.link80.specs.declared.fault.LinkFault.TheVariants as linking
 use Rattle.link80.specs.Linked.{linked, starts}
 use Rattle.link80.specs.LinkFault.{link_fault}
 use Rattle.link80.specs.Selection.{IsSelection, modules_with, CannotBeLinked}
@@ -13,11 +14,12 @@ use Rattle.image80.specs.Image.{Located, byte_at}
 use Rattle.place80.specs.declared.options.Options.{Options}
 use Rattle.place80.specs.declared.placed_segments.Placed.{Placed}
 use Rattle.place80.specs.declared.place_fault.PlaceFault.{PlaceFault}
+use Rattle.place80.specs.declared.place_fault.PlaceFault.TheVariants as locating
 use Rattle.place80.specs.Layout.{layout_of, program_bases}
-use Rattle.place80.specs.Locating.{ArrangesSegments}
+use Rattle.place80.specs.Locating.{ArrangesSegments, located_chunks}
 use Rattle.place80.specs.PlaceFault.{locate_fault, start_place}
 use Rattle.build80.specs.declared.fault.BuildFault.{BuildFault}
-use Rattle.build80.specs.declared.fault.BuildFault.TheVariants.{Link, Place}
+use Rattle.build80.specs.declared.fault.BuildFault.TheVariants.{Link, Place, Memory}
 
 -- the linked segments at their places, and the bases that these give
 abbrev pub linked_layout : Options → List ℕ → List ModuleValue → List Placed
@@ -34,6 +36,10 @@ pub record HoldsModules (options : Options) (name : List ℕ) (modules : List Mo
   pub regions : ArrangesSegments (linked_layout options name modules) image.regions
   pub begin : Some image.start
       ≡ option_map (start_place (linked_bases options name modules) (linked name modules)) (slice_get (starts modules) 0)
+
+-- The image has a chunk for each content of the modules, in their order, with the bytes that it has where it is placed.
+abbrev pub HasTheirContents : (options : Options) (name : List ℕ) (modules : List ModuleValue) (image : Located) → Type 0
+HasTheirContents options name modules image = image.chunks ≡ located_chunks options (linked name modules)
 
 -- nothing forbids to link the modules, nor to locate what they are linked into
 pub record HasNoFault (options : Options) (name : List ℕ) (modules : List ModuleValue) : Type 0 where
@@ -54,3 +60,23 @@ pub data CannotBeBuilt (options : Options) (name : List ℕ) (roots : List Modul
 abbrev pub build_fault_code : BuildFault → ℕ
 build_fault_code (Link fault) = 1
 build_fault_code (Place fault) = 2
+build_fault_code Memory = 3
+
+-- the fault that one of LINK is, and one of LOCATE
+abbrev pub from_link : LinkFault → BuildFault
+from_link linking.Memory = Memory
+from_link (linking.DuplicatePublic name) = Link (linking.DuplicatePublic name)
+from_link (linking.SegmentTooLong id) = Link (linking.SegmentTooLong id)
+from_link linking.TwoMains = Link linking.TwoMains
+from_link linking.HighNotPaged = Link linking.HighNotPaged
+from_link linking.TooManyCommons = Link linking.TooManyCommons
+from_link linking.TooManyExternals = Link linking.TooManyExternals
+
+abbrev pub from_place : PlaceFault → BuildFault
+from_place locating.Memory = Memory
+from_place (locating.Unresolved name) = Place (locating.Unresolved name)
+from_place locating.NoStart = Place locating.NoStart
+from_place (locating.OutsideMemory id) = Place (locating.OutsideMemory id)
+from_place (locating.Overlap one other) = Place (locating.Overlap one other)
+from_place locating.HighNotPaged = Place locating.HighNotPaged
+from_place locating.StartNotCode = Place locating.StartNotCode

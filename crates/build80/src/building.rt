@@ -1,10 +1,10 @@
 //! Modules are linked, and the linked module is located.
 
 ghost use Rattle.std.specs.Prelude.{◌≢◌, IfOk, IfErr};
-ghost use Rattle.link80.specs.declared.fault.LinkFault.TheVariants as link_fault;
-ghost use Rattle.place80.specs.declared.place_fault.PlaceFault.TheVariants as place_fault;
+ghost use Rattle.link80.specs.declared.fault.LinkFault.TheVariants as linking;
+ghost use Rattle.place80.specs.declared.place_fault.PlaceFault.TheVariants as locating;
 ghost use Rattle.link80.specs.Selection.{IsSelection, modules_with};
-ghost use Rattle.build80.specs.Built.{HoldsModules, HasNoFault, CannotBeBuilt};
+ghost use Rattle.build80.specs.Built.{HasTheirContents, HoldsModules, HasNoFault, CannotBeBuilt};
 
 use crate::fault::BuildFault;
 use link80::laws::linking_keeps_bytes;
@@ -38,8 +38,8 @@ pub struct Built {
 /// ```
 ///
 /// # Errors
-/// `Link` with the fault of [`link`](link80::link), which comes first, or `Place` with that of [`locate`](place80::locate). Their
-/// `Memory` comes only where memory ran out.
+/// `Link` with the fault of [`link`](link80::link), which comes first, or `Place` with that of [`locate`](place80::locate); `Memory`
+/// only where memory ran out.
 pub fn build(
     alloc: Global,
     name: &Name,
@@ -52,8 +52,10 @@ pub fn build(
         (modules_with roots.now libraries.now built.taken.items) built.image) }
     ensures no_fault { IfOk result (λ built. HasNoFault options.now name.now
         (modules_with roots.now libraries.now built.taken.items)) }
-    ensures fault { IfErr result (λ fault. fault ≢ BuildFault.Link link_fault.Memory
-        → fault ≢ BuildFault.Place place_fault.Memory
+    ensures chunks { IfOk result (λ built. HasTheirContents options.now name.now
+        (modules_with roots.now libraries.now built.taken.items) built.image) }
+    ensures own_memory { IfErr result (λ fault. (fault ≢ BuildFault.Link linking.Memory) × (fault ≢ BuildFault.Place locating.Memory)) }
+    ensures fault { IfErr result (λ fault. fault ≢ BuildFault.Memory
         → CannotBeBuilt options.now name.now roots.now libraries.now fault) }
 {
     linking_keeps_bytes();

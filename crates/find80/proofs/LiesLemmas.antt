@@ -141,23 +141,6 @@ HasAll first dump address value bs = AllByRecursion (λ (b : CodeByte). dump_byt
 abbrev not_plain : List CodeByte → List CodeByte
 not_plain bs = filter (λ b. not (is_plain b)) bs
 
-keep-others : (first : ℕ) (dump : List ℕ) (address : ℕ) (value : ℕ → ℕ) (bs : List CodeByte)
-    → HasAll first dump address value bs → HasAll first dump address value (not_plain bs)
-keep-others first dump address value [] k = tt
-keep-others first dump address value (b ∷ bs) k = one (is_plain b) refl (keep-others first dump address value bs k.1)
-  where
-    one : (t : Bool) → is_plain b ≡ t → HasAll first dump address value (not_plain bs) → HasAll first dump address value (not_plain (b ∷ bs))
-    one true e rest = rw e rest
-    one false e rest = rw e (k.0, rest)
-
--- and so do the others
-pub lies_others : (first : ℕ) (dump : List ℕ) (code : List CodeByte) (address : ℕ) → LiesAt first dump code address
-    → LiesAt first dump (filter (λ b. not (is_plain b)) code) address
-lies_others first dump code address h = record {
-  value = h.value;
-  lies = record { absolute = h.lies.absolute; here = h.lies.here; bytes = keep-others first dump address h.value code h.lies.bytes };
-}
-
 join-others : (first : ℕ) (dump : List ℕ) (address : ℕ) (value : ℕ → ℕ) (bs : List CodeByte) → value 0 ≡ 0
     → list_all (fits_if_plain first dump address) bs ≡ true
     → HasAll first dump address value (not_plain bs) → HasAll first dump address value bs

@@ -1,15 +1,17 @@
 -- The places before an address, as the next one is looked at.
-use Rattle.std.specs.Prelude.{◌≡◌, ℕ, zero, suc, ◌+◌, ◌<◌, ◌==◌, ◌||◌, not, Bool, true, false, List, [], ◌∷◌, ◌++◌, length, filter, slice_index_or}
+use Rattle.std.specs.Prelude.{◌≡◌, ℕ, zero, suc, ◌+◌, ◌-◌, ◌<◌, ◌==◌, ◌||◌, Bool, true, false, Option, Some, None, IfSome, List, [], ◌∷◌, ◌++◌, length, filter, slice_index_or}
 use Rattle.std.specs.List.{list_any}
-use Rattle.std.proofs.Common.{refl, sym, ◌∙◌, ap, subst, arith, get_or, ◌⊎◌, inl, inr}
+use Rattle.std.proofs.Common.{append-nil, refl, sym, ◌∙◌, ap, subst, arith, get_or, ◌⊎◌, inl, inr}
 use Rattle.std.proofs.lemmas.Bool.{eqb-true, eq-eqb, or_cases, true≢false, cases_lt}
 use Rattle.std.proofs.lemmas.List.Recursion.{or_at}
 use Rattle.std.proofs.lemmas.List.Folds.{list_any-append}
 use Rattle.std.proofs.lemmas.List.Quantifiers.{all_pairs_push}
 use Rattle.pattern80.specs.declared.code_byte.CodeByte.{CodeByte}
-use Rattle.find80.specs.Places.{LiesAt, is_plain, AreBelow, ArePlaces, is_listed}
+use Rattle.find80.specs.Runs.{IsAnswer, IsAnswerBefore}
+use Rattle.find80.specs.Places.{LiesAt, place_of, is_free, is_known_fixup, ArePlaces, is_listed}
 use Rattle.find80.specs.Sieve.{AreSieved}
-use Rattle.find80.proofs.LiesLemmas.{lies_plain, lies_others, parts_lie, below_filter}
+use Rattle.find80.proofs.LiesLemmas.{lies_plain, parts_lie}
+use Rattle.find80.proofs.RepeatLemmas.{lies_some, rest_lies}
 
 before_or_here : (at a : ℕ) → a < at + 1 → (a < at) ⊎ (at ≡ a)
 before_or_here at a lt = elim (cases_lt a at) [ inl k ↦ inl k | inr k ↦ inr (omega arith) ]
@@ -72,17 +74,40 @@ module _ (first : ℕ) (dump : List ℕ) (code : List CodeByte) (at : ℕ) (lt :
   pub sieved_away : slice_index_or alive at false ≡ false → LiesAt first dump code at → ⊥
   sieved_away e l = true≢false (sym (lies_plain first dump code at l) ∙ (sym (sieved.each at lt) ∙ e))
 
-  module _ (rest : List CodeByte) (is : rest ≡ filter (λ b. not (is_plain b)) code) where
-    pub none_here : (LiesAt first dump rest at → ⊥) → LiesAt first dump code at → ⊥
-    none_here away l = away (subst (λ (r : List CodeByte). LiesAt first dump r at) (sym is) (lies_others first dump code at l))
+  -- its bytes lie there
+  pub lies_here : slice_index_or alive at false ≡ true → LiesAt first dump (filter is_known_fixup code) at → LiesAt first dump (filter is_free code) at
+      → LiesAt first dump code at
+  lies_here e known free = parts_lie first dump code at (sym (sieved.each at lt) ∙ e) (rest_lies first dump code at known free)
 
-    pub below_rest : (count : ℕ) → AreBelow count code → AreBelow count rest
-    below_rest count below = subst (λ (r : List CodeByte). AreBelow count r) (sym is) (below_filter count (λ b. not (is_plain b)) code below)
+  -- so the answer at it says whether it is the next place
+  module _ (known free : List CodeByte) (is-known : known ≡ filter is_known_fixup code) (is-free : free ≡ filter is_free code) (here : Bool)
+      (is-here : slice_index_or alive at false ≡ here) (places : List ℕ) (h : ArePlaces first dump code at places) where
+    pub next_places : (answer : Option Bool) (new : List ℕ)
+        → IfSome answer (λ _. (here ≡ true) × LiesAt first dump known at)
+        → IfSome answer (λ lies. IsAnswer first dump free at lies)
+        → (answer ≡ None → here ≡ true → LiesAt first dump known at → ⊥)
+        → new ≡ places ++ place_of answer at
+        → ArePlaces first dump code (at + 1) new
+    next_places None new k f none is = subst (λ (l : List ℕ). ArePlaces first dump code (at + 1) l) (sym (is ∙ append-nil places))
+        (not_there first dump code at places h (away here refl))
+      where
+        away : (t : Bool) → here ≡ t → LiesAt first dump code at → ⊥
+        away true e l = none refl e (subst (λ (r : List CodeByte). LiesAt first dump r at) (sym is-known) (lies_some first dump code at is_known_fixup l))
+        away false e l = sieved_away (is-here ∙ e) l
+    next_places (Some true) new k f none is = subst (λ (l : List ℕ). ArePlaces first dump code (at + 1) l) (sym is)
+        (there first dump code at places h (lies_here (is-here ∙ k.0) (subst (λ (r : List CodeByte). LiesAt first dump r at) is-known k.1)
+        (subst (λ (r : List CodeByte). LiesAt first dump r at) is-free (f.yes refl))))
+    next_places (Some false) new k f none is = subst (λ (l : List ℕ). ArePlaces first dump code (at + 1) l) (sym (is ∙ append-nil places))
+        (not_there first dump code at places h (λ l. f.no refl (subst (λ (r : List CodeByte). LiesAt first dump r at) (sym is-free) (lies_some first dump code at is_free l))))
 
-    pub lies_here : slice_index_or alive at false ≡ true → LiesAt first dump rest at → LiesAt first dump code at
-    lies_here e h = parts_lie first dump code at (sym (sieved.each at lt) ∙ e) (subst (λ (r : List CodeByte). LiesAt first dump r at) is h)
+pub before_next : (first : ℕ) (dump : List ℕ) (code free : List CodeByte) (at : ℕ) → free ≡ code → (answer : Option Bool)
+    → IfSome answer (λ lies. IsAnswer first dump free at lies) → IsAnswerBefore first dump code (at + 1) answer
+before_next first dump code free at is None h = tt
+before_next first dump code free at is (Some lies) h = λ one.
+    let same : at ≡ at + 1 - 1 = omega arith in
+    subst (λ (n : ℕ). IsAnswer first dump code n lies) same (subst (λ (l : List CodeByte). IsAnswer first dump l at lies) is h)
 
-same_default : {A : Type 0} (xs : List A) (i : ℕ) (d e : A) → i < length xs → get_or xs i d ≡ get_or xs i e
+pub same_default : {A : Type 0} (xs : List A) (i : ℕ) (d e : A) → i < length xs → get_or xs i d ≡ get_or xs i e
 same_default [] i d e lt = elim lt [ ]
 same_default (x ∷ xs) zero d e lt = refl
 same_default (x ∷ xs) (suc i) d e lt = same_default xs i d e (omega arith)

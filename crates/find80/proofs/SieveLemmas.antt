@@ -1,15 +1,18 @@
 -- The entries of a dump by address, and the addresses that are left.
-use Rattle.std.specs.Prelude.{◌≡◌, ◌≢◌, ℕ, ◌+◌, ◌%◌, ◌<◌, ◌==◌, ◌&&◌, ◌||◌, not, Bool, true, false, Option, Some, None, List, length, slice_index, slice_index_or}
+use Rattle.std.specs.Prelude.{◌≡◌, ◌≢◌, ℕ, ◌+◌, ◌%◌, ◌<◌, ◌≤◌, [], ◌∷◌, ◌==◌, ◌&&◌, ◌||◌, not, Bool, true, false, Option, Some, None, List, length, slice_index}
+use Rattle.std.specs.List.{list_all}
 use Rattle.std.specs.Option.{option_map_or}
 use Rattle.std.proofs.Common.{refl, sym, ◌∙◌, ap, arith, get_or, take, below_more, get_or-set_other, get_or-set_same, set}
-use Rattle.std.proofs.lemmas.Bool.{and_parts, ne_eqb}
+use Rattle.std.proofs.lemmas.Bool.{and_parts, ne_eqb, true≢false}
 use Rattle.std.proofs.lemmas.List.Folds.{list_all_more}
 use Rattle.pattern80.specs.declared.code_byte.Half.{Half}
 use Rattle.pattern80.specs.declared.code_byte.Half.TheVariants as half
 use Rattle.pattern80.specs.declared.code_byte.CodeByte.{CodeByte}
 use Rattle.pattern80.specs.CodeBytes.{number_of, half_of, is_low}
 use Rattle.find80.specs.Places.{dump_byte, fits, is_plain, fits_if_plain}
-use Rattle.find80.specs.Sieve.{entry_at, IsRing, AreSieved}
+use Rattle.find80.specs.Candidates.{is_half}
+use Rattle.find80.specs.Runs.{AreFrom, AreUpTo, IsOneRun}
+use Rattle.find80.specs.Sieve.{entry_at, IsRing}
 use Rattle.find80.proofs.SolveLemmas.{iff_bool, all_first}
 
 pub entries_more : (f : ℕ → ℕ) (ring : List ℕ) (at entry : ℕ) → at < length ring → entry ≡ f at
@@ -22,18 +25,18 @@ low-of : (h : Half) (word : ℕ) → is_low h ≡ true → half_of h word ≡ wo
 low-of half.Low word e = refl
 low-of half.High word e = grind arith
 
-same-entry : (o : Option ℕ) (low : ℕ) → low < 256 → (option_map_or (λ (byte : ℕ). byte) o 256 == low) ≡ option_map_or (λ (d : ℕ). d == low) o false
-same-entry None low lt = ne_eqb 256 low (λ e. omega arith)
-same-entry (Some d) low lt = refl
+same-entry : (o : Option ℕ) (fill low : ℕ) → fill ≢ low → (option_map_or (λ (byte : ℕ). byte) o fill == low) ≡ option_map_or (λ (d : ℕ). d == low) o false
+same-entry None fill low ne = ne_eqb fill low ne
+same-entry (Some d) fill low ne = refl
 
 -- an entry is that of a byte outside fixups exactly if the dump has it
-pub plain_entry : (first : ℕ) (dump ring : List ℕ) (a : ℕ) (b : CodeByte) → a < 65536 → b.offset < 65536 → IsRing first dump ring
-    → is_plain b ≡ true → (slice_index ring (a + b.offset) == b.addend % 256) ≡ fits_if_plain first dump a b
-plain_entry first dump ring a b la lb ring-is plain =
+pub plain_entry : (first : ℕ) (dump : List ℕ) (fill : ℕ) (ring : List ℕ) (a : ℕ) (b : CodeByte) → a < 65536 → b.offset < 65536 → IsRing first dump fill ring
+    → fill ≢ b.addend % 256 → is_plain b ≡ true → (slice_index ring (a + b.offset) == b.addend % 256) ≡ fits_if_plain first dump a b
+plain_entry first dump fill ring a b la lb ring-is ne plain =
     let low = and_parts (is_low b.half) (number_of b.target == 0) plain in
-    let there : slice_index ring (a + b.offset) ≡ entry_at first dump ((a + b.offset) % 65536) = ring-is.each (a + b.offset) (omega arith) in
+    let there : slice_index ring (a + b.offset) ≡ entry_at first dump fill ((a + b.offset) % 65536) = ring-is.each (a + b.offset) (omega arith) in
     let half : half_of b.half ((0 + b.addend) % 65536) ≡ b.addend % 256 = low-of b.half _ low.0 ∙ omega arith in
-    rw there (same-entry (dump_byte first dump ((a + b.offset) % 65536)) (b.addend % 256) (omega arith)
+    rw there (same-entry (dump_byte first dump ((a + b.offset) % 65536)) fill (b.addend % 256) ne
     ∙ ap (λ (x : ℕ). option_map_or (λ (d : ℕ). d == x) (dump_byte first dump ((a + b.offset) % 65536)) false) (sym half)
     ∙ ap (λ (t : Bool). not t || fits first dump a b 0) (sym plain))
 
@@ -48,21 +51,31 @@ pub kept : (old fits : Bool) → fits ≡ true → old ≡ (old && fits)
 kept old fits e = and-true old fits e
 
 -- one more byte
-pub sieved_more : (first : ℕ) (dump : List ℕ) (code : List CodeByte) (i : ℕ) (d : CodeByte) (old new : List Bool) → i < length code
-    → AreSieved first dump (take i code) old → length new ≡ 65536
-    → ((a : ℕ) → a < 65536 → slice_index_or new a false ≡ (slice_index_or old a false && fits_if_plain first dump a (get_or code i d)))
-    → AreSieved first dump (take (i + 1) code) new
-sieved_more first dump code i d old new lt h whole step = record {
-  whole = whole;
-  each = λ a la. step a la ∙ ap (λ (t : Bool). t && fits_if_plain first dump a (get_or code i d)) (h.each a la) ∙ sym (list_all_more (fits_if_plain first dump a) code i d lt);
-}
+pub sieved_more : (p : CodeByte → Bool) (code : List CodeByte) (i : ℕ) (d : CodeByte) (first old new : Bool) → i < length code
+    → old ≡ (first && list_all p (take i code)) → new ≡ (old && p (get_or code i d)) → new ≡ (first && list_all p (take (i + 1) code))
+sieved_more p code i d first old new lt before step =
+    step ∙ (ap (λ (t : Bool). t && p (get_or code i d)) before ∙ (and_again first (list_all p (take i code)) (p (get_or code i d)) ∙ ap (λ (t : Bool). first && t) (sym (list_all_more p code i d lt))))
+  where
+    and_again : (x y z : Bool) → ((x && y) && z) ≡ (x && (y && z))
+    and_again true y z = refl
+    and_again false y z = refl
 
 -- none left
-pub sieved_out : (first : ℕ) (dump : List ℕ) (code : List CodeByte) (k : ℕ) (alive : List Bool)
-    → AreSieved first dump (take k code) alive → ((a : ℕ) → a < 65536 → slice_index_or alive a false ≡ false) → AreSieved first dump code alive
-sieved_out first dump code k alive h none = record {
-  whole = h.whole;
-  each = λ a la. iff_bool _ _
-      (λ e. grind (arith, none a la, e))
-      (λ e. h.each a la ∙ all_first (fits_if_plain first dump a) code k e);
-}
+pub sieved_out : (p : CodeByte → Bool) (code : List CodeByte) (k : ℕ) (first new : Bool)
+    → new ≡ (first && list_all p (take k code)) → new ≡ false → new ≡ (first && list_all p code)
+sieved_out p code k true new h none = none ∙ iff_bool false (list_all p code) (λ e. elim (true≢false (sym e)) [ ])
+    (λ e. elim (true≢false (sym (all_first p code k e) ∙ (sym h ∙ none))) [ ])
+sieved_out p code k false new h none = none
+
+-- what fits at the first address of a block fits at each, if the dump has the same bytes there
+fits-same : (first : ℕ) (dump : List ℕ) (from to : ℕ) (b : CodeByte) → dump_byte first dump ((to + b.offset) % 65536) ≡ dump_byte first dump ((from + b.offset) % 65536)
+    → fits_if_plain first dump from b ≡ fits_if_plain first dump to b
+fits-same first dump from to b e = ap (λ (o : Option ℕ). not (is_plain b) || option_map_or (λ d. is_half b.half b.addend d 0) o false) (sym e)
+
+pub run_fits : (first : ℕ) (dump : List ℕ) (low high start a : ℕ) (code : List CodeByte) → AreFrom low code → AreUpTo high code
+    → IsOneRun first dump low high start → start ≤ a → a < start + 1024
+    → list_all (fits_if_plain first dump start) code ≡ list_all (fits_if_plain first dump a) code
+run_fits first dump low high start a [] above below run from to = refl
+run_fits first dump low high start a (b ∷ bs) above below run from to =
+    ap (λ (t : Bool). t && list_all (fits_if_plain first dump start) bs) (fits-same first dump start a b (run a b.offset from to above.0 below.0))
+    ∙ ap (λ (t : Bool). fits_if_plain first dump a b && t) (run_fits first dump low high start a bs above.1 below.1 run from to)

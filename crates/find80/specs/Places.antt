@@ -1,5 +1,5 @@
 -- Where the bytes of a module's code lie in a dump.
-use Rattle.std.specs.Prelude.{◌≡◌, ℕ, ◌+◌, ◌-◌, ◌%◌, ◌<◌, ◌==◌, Bool, true, false, not, ◌&&◌, ◌||◌, nat_le, nat_lt, if◌then◌else◌, Option, Some, None, List, length, slice_index, slice_index_or}
+use Rattle.std.specs.Prelude.{◌≡◌, ℕ, ◌+◌, ◌-◌, ◌%◌, ◌<◌, ◌≤◌, ◌==◌, Bool, true, false, not, ◌&&◌, ◌||◌, nat_le, nat_lt, if◌then◌else◌, Option, Some, None, List, [], ◌∷◌, length, slice_index, slice_index_or}
 use Rattle.std.specs.List.{AllByRecursion, AllPairs, list_all, list_any}
 use Rattle.std.specs.Option.{option_map_or}
 use Rattle.pattern80.specs.declared.code_byte.CodeByte.{CodeByte}
@@ -57,6 +57,11 @@ pub record Describes (first : ℕ) (dump : List ℕ) (code : List CodeByte) (add
   pub each : (number word : ℕ) → number < length table → word < 65536 →
       in_table table number word ≡ allows first dump code address number word
 
+-- every value but those of absolute bytes, of CODE and of these bytes may be every word
+abbrev pub IsClearBut : List CodeByte → List Candidates → Type 0
+IsClearBut code table =
+    (number : ℕ) → 2 ≤ number → list_all (λ b. not (number_of b.target == number)) code ≡ true → slice_index_or table number Any ≡ Any
+
 -- there is no word that the value with some number may be
 pub record HasNone (first : ℕ) (dump : List ℕ) (code : List CodeByte) (address : ℕ) : Type 0 where
   pub number : ℕ
@@ -70,7 +75,14 @@ AreBelow count code = AllByRecursion (λ b. number_of b.target < count) code
 abbrev pub is_plain : CodeByte → Bool
 is_plain b = is_low b.half && number_of b.target == 0
 
--- if the byte is one of those, the dump has it
+-- a byte in a fixup of another value than that of absolute bytes or of CODE; and one of these two, whose words are known
+abbrev pub is_free : CodeByte → Bool
+is_free b = nat_le 2 (number_of b.target)
+
+abbrev pub is_known_fixup : CodeByte → Bool
+is_known_fixup b = not (is_plain b) && not (is_free b)
+
+-- if the byte is one outside fixups, the dump has it
 abbrev pub fits_if_plain : (first : ℕ) → (dump : List ℕ) → (address : ℕ) → CodeByte → Bool
 fits_if_plain first dump address b = not (is_plain b) || fits first dump address b 0
 
@@ -82,3 +94,9 @@ pub record ArePlaces (first : ℕ) (dump : List ℕ) (code : List CodeByte) (sto
   pub lies : (address : ℕ) → is_listed places address ≡ true → (address < stop) × LiesAt first dump code address
   pub all : (address : ℕ) → address < stop → LiesAt first dump code address → is_listed places address ≡ true
   pub ascending : AllPairs (λ (p q : ℕ). p < q) places
+
+-- the address, if the answer is that the code lies there
+abbrev pub place_of : (answer : Option Bool) → (address : ℕ) → List ℕ
+place_of (Some true) address = address ∷ []
+place_of (Some false) address = []
+place_of None address = []

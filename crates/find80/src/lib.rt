@@ -11,7 +11,10 @@
 
 mod candidates;
 mod dump;
+mod fixup_bytes;
 mod listing;
+mod next;
+mod runs;
 mod sieve;
 mod solving;
 mod words;

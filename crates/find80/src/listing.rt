@@ -1,12 +1,14 @@
 //! The addresses at which a module's code lies.
 
-ghost use Rattle.std.specs.Prelude.{◌≡◌, ℕ, ◌<◌, ◌≤◌, ◌+◌, ◌++◌, ◌∷◌, [], not, true, false, filter, List, length, IfOk, OnOk};
+ghost use Rattle.std.specs.Prelude.{◌≡◌, ◌<◌, ◌≤◌, ◌++◌, IfOk, OnOk};
 ghost use Rattle.pattern80.specs.CodeBytes.{number_of};
-ghost use Rattle.find80.specs.Places.{AreBelow, ArePlaces, LiesAt, is_plain};
+ghost use Rattle.find80.specs.Places.{AreBelow, ArePlaces, place_of};
 
-use crate::candidates::Candidates;
-use crate::sieve::{is_plain, sieve};
-use crate::solving::lies_at;
+use crate::fixup_bytes::fixup_bytes;
+use crate::next::lies_next;
+use crate::runs::run_starts;
+use crate::sieve::sieve;
+use crate::solving::any_table;
 use omf_parts::Target;
 use pattern80::CodeByte;
 use std::alloc::{AllocError, Global};
@@ -15,7 +17,7 @@ use std::alloc::{AllocError, Global};
 /// there are values of its targets with which the dump has all its bytes. The targets have numbers below `count`.
 ///
 /// The time grows with the number of bytes of the code times 65536, in steps of many addresses at once, and with the number of
-/// its bytes in fixups for each address at which the others fit; no bytes make it take longer.
+/// its bytes in fixups for each address at which the others fit, but for those at which the dump repeats the byte before.
 ///
 /// # Errors
 /// `AllocError` only where memory ran out.
@@ -30,16 +32,29 @@ pub fn places(
     requires below { AreBelow count code.now }
     ensures { IfOk result (λ places. ArePlaces first dump.now code.now 65536 places.items) }
 {
-    let alive = sieve(alloc, first, dump, code)?;
-    let rest = bytes_in_fixups(alloc, code)?;
-    let mut table = vec![in alloc; Candidates::Any; count]?;
+    let starts = run_starts(alloc, first, dump)?;
+    let alive = sieve(alloc, first, dump, code, &starts)?;
+    let bytes = fixup_bytes(alloc, code)?;
+    let mut table = any_table(alloc, count)?;
     let mut places = Vec::new(alloc);
+    let mut before = None;
     for at in 0..65536usize {
-        if alive[at] && lies_at(first, dump, at as u16, &rest, &mut table) {
-            places.push(at as u16)?;
-        }
+        before = lies_next(
+            first, dump, at as u16, alive[at], &bytes, &starts, before, &mut table,
+        );
+        push_place(&mut places, at as u16, before)?;
     }
     Ok(places)
+}
+
+/// Appends the address, if the answer is that the code lies there.
+fn push_place(places: &mut Vec<u16>, address: u16, answer: Option<bool>) -> Result<(), AllocError>
+    ensures { OnOk result (places.new.items ≡ places.old.items ++ place_of answer address) }
+{
+    if let Some(true) = answer {
+        places.push(address)?;
+    }
+    Ok(())
 }
 
 /// One more than the greatest number of a target in the code, and at least 2, for absolute bytes and CODE.
@@ -64,17 +79,4 @@ fn after(target: Target) -> usize
         Target::Segment(id) => usize::from(id) + 1,
         Target::External(index) => 257 + usize::from(index),
     }
-}
-
-/// The bytes that aren't outside fixups.
-fn bytes_in_fixups(alloc: Global, code: &[CodeByte]) -> Result<Vec<CodeByte>, AllocError>
-    ensures { IfOk result (λ rest. rest.items ≡ filter (λ b. not (is_plain b)) code.now) }
-{
-    let mut rest = Vec::new(alloc);
-    for byte in code {
-        if !is_plain(byte) {
-            rest.push(*byte)?;
-        }
-    }
-    Ok(rest)
 }

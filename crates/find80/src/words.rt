@@ -3,11 +3,11 @@
 ghost use Rattle.std.specs.Prelude.{◌≡◌, ℕ, ◌<◌, ◌≤◌, ◌+◌, ◌&&◌, ◌==◌, ◌||◌, List, [], length, true, IfOk, OnOk, IfSome, IfNone, slice_index_or};
 ghost use Rattle.pattern80.specs.CodeBytes.{number_of};
 ghost use Rattle.find80.specs.declared.candidates.Candidates.TheVariants.{Any};
-ghost use Rattle.find80.specs.Places.{AreBelow, LiesAt};
+ghost use Rattle.find80.specs.Places.{AreBelow, LiesAt, IsClearBut};
 ghost use Rattle.find80.specs.Words.{AreOnlyWords, AreSingle, has_word, is_single};
 
 use crate::candidates::Candidates;
-use crate::solving::solve;
+use crate::solving::{any_table, solve};
 use omf_parts::Target;
 use pattern80::{CodeByte, target_of};
 use std::alloc::{AllocError, Global};
@@ -55,21 +55,15 @@ fn words_by(
     requires two { 2 ≤ length table.old }
     requires few { length table.old ≤ 65792 }
     requires below { AreBelow (length table.old) code.now }
+    requires clear { IsClearBut [] table.old }
     ensures some { IfOk result (λ found. IfSome found (λ words. AreOnlyWords first dump.now code.now address (length table.old) words.items)) }
     ensures none { IfOk result (λ found. IfNone found (LiesAt first dump.now code.now address → ⊥)) }
 {
-    if !solve(first, dump, address, code, table) {
+    if solve(first, dump, address, code, table) < code.len() {
         return Ok(None);
     }
     let words = single_words(alloc, table)?;
     Ok(Some(words))
-}
-
-/// Every word for so many values.
-fn any_table(alloc: Global, count: usize) -> Result<Vec<Candidates>, AllocError>
-    ensures { IfOk result (λ table. length table.items ≡ count) }
-{
-    Ok(vec![in alloc; Candidates::Any; count]?)
 }
 
 /// The values that have one candidate.

@@ -12,6 +12,7 @@ use crate::name_table::{NameTable, add_name};
 use crate::starts::LaidModules;
 use omf_body::segment_id::{FIRST_COMMON, MEMORY, UNNAMED_COMMON};
 use omf_core::Name;
+use omf_library::NameHashes;
 use omf_parts::{Common, Module};
 use std::alloc::{AllocError, Global};
 use std::marker::Model;
@@ -65,12 +66,28 @@ fn common_names<'a>(
     ensures names { IfOk result (λ names. names.0 ≡ common_names modules.now) }
     ensures copies { IfOk result (λ names. names.1.items ≡ common_names modules.now) }
 {
-    let mut names = NameTable::new(alloc);
+    let mut names = NameTable::new(alloc, common_hashes(modules));
     let mut copies = Vec::new(alloc);
     for number in 0..modules.len() {
         add_commons(alloc, &mut names, &mut copies, modules.get(number))?;
     }
     Ok((names, copies))
+}
+
+/// The hashes of a table of the names of all commons.
+fn common_hashes(modules: &LaidModules<'_>) -> NameHashes {
+    let mut hashes = NameHashes::new();
+    for number in 0..modules.len() {
+        feed_commons(&mut hashes, modules.get(number));
+    }
+    hashes
+}
+
+/// Feeds the names of a module's commons.
+fn feed_commons(hashes: &mut NameHashes, source: &Module) {
+    for common in source.commons() {
+        hashes.feed(&common.name);
+    }
 }
 
 /// Laid modules, and the ids of their named commons in the linked module. A contract sees the modules.

@@ -8,6 +8,7 @@ ghost use Rattle.link80.specs.LinkFault.{duplicate_public};
 use crate::fault::LinkFault;
 use crate::modules::Modules;
 use crate::name_table::NameTable;
+use omf_library::NameHashes;
 use omf_parts::Module;
 use std::alloc::Global;
 
@@ -43,9 +44,25 @@ pub(crate) fn declared_names<'a>(
     ensures once { OnOk result (duplicate_public modules.now ≡ None) }
     ensures fault { IfErr result (λ fault. fault ≢ LinkFault.Memory → duplicate_public modules.now ≡ Some fault) }
 {
-    let mut names = NameTable::new(alloc);
+    let mut names = NameTable::new(alloc, public_hashes(modules));
     for number in 0..modules.len() {
         add_publics(alloc, &mut names, modules.get(number))?;
     }
     Ok(names)
+}
+
+/// The hashes of a table of the names of all publics.
+fn public_hashes(modules: &Modules<'_>) -> NameHashes {
+    let mut hashes = NameHashes::new();
+    for number in 0..modules.len() {
+        feed_publics(&mut hashes, modules.get(number));
+    }
+    hashes
+}
+
+/// Feeds the names of a module's publics.
+fn feed_publics(hashes: &mut NameHashes, source: &Module) {
+    for public in source.publics() {
+        hashes.feed(&public.name);
+    }
 }

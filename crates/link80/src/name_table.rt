@@ -5,13 +5,14 @@ ghost use Rattle.link80.specs.FirstSight.{is_among, number_in, with_name};
 
 use indexmap::IndexSet;
 use omf_core::Name;
+use omf_library::NameHashes;
 use std::alloc::{AllocError, Global};
 use std::marker::Model;
 
 /// Distinct names by number, in order of first sight. A contract sees their list.
 #[derive(Drop)]
 pub(crate) struct NameTable<'a> {
-    names: IndexSet<&'a [u8]>,
+    names: IndexSet<&'a [u8], NameHashes>,
 }
 
 impl<'a> Model for NameTable<'a> {
@@ -23,12 +24,12 @@ impl<'a> Model for NameTable<'a> {
 }
 
 impl<'a> NameTable<'a> {
-    /// No names.
-    pub(crate) fn new(alloc: Global) -> NameTable<'a>
+    /// No names. They are hashed by `hashes`, which should have been fed all that will come.
+    pub(crate) fn new(alloc: Global, hashes: NameHashes) -> NameTable<'a>
         ensures { result ≡ [] }
     {
         NameTable {
-            names: IndexSet::new(alloc),
+            names: IndexSet::with_hasher(alloc, hashes),
         }
     }
 

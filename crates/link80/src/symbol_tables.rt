@@ -13,6 +13,7 @@ use crate::name_table::{NameTable, add_name};
 use crate::reference::Reference;
 use omf_body::segment_id::ABSOLUTE;
 use omf_core::Name;
+use omf_library::NameHashes;
 use omf_parts::{Module, Public, Target};
 use std::alloc::{AllocError, Global};
 use std::marker::Model;
@@ -83,12 +84,28 @@ fn unresolved<'a>(
     ensures names { IfOk result (λ names. names.0 ≡ unresolved joined.now) }
     ensures copies { IfOk result (λ names. names.1.items ≡ unresolved joined.now) }
 {
-    let mut names = NameTable::new(alloc);
+    let mut names = NameTable::new(alloc, external_hashes(joined));
     let mut copies = Vec::new(alloc);
     for number in 0..joined.len() {
         add_undeclared(alloc, &mut names, &mut copies, declared, joined.get(number))?;
     }
     Ok((names, copies))
+}
+
+/// The hashes of a table of the names of all externals.
+fn external_hashes(joined: &JoinedModules<'_>) -> NameHashes {
+    let mut hashes = NameHashes::new();
+    for number in 0..joined.len() {
+        feed_externals(&mut hashes, joined.get(number));
+    }
+    hashes
+}
+
+/// Feeds the names of a module's externals.
+fn feed_externals(hashes: &mut NameHashes, source: &Module) {
+    for name in source.externals() {
+        hashes.feed(name);
+    }
 }
 
 /// A reference to an offset in a segment of the linked module.

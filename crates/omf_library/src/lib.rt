@@ -5,6 +5,7 @@
 //! |---|---|
 //! | [`Library`] | the modules of a library, in order; the first that declares a name |
 //! | [`Providers`] | the first module of a list that declares each name |
+//! | [`NameHashes`] | the hashes of a table's names |
 //! | [`read_library`] | the library that a file holds |
 //! | [`LibraryFeed`] | the library that a file holds which comes in pieces |
 //! | [`write_library`] | modules as a library |
@@ -16,6 +17,7 @@ mod fault;
 mod feed;
 pub mod laws;
 mod library;
+mod name_hashes;
 mod providers;
 mod reading;
 mod unfinished;
@@ -24,6 +26,7 @@ mod writing;
 pub use fault::{LibraryFault, LibraryPutFault};
 pub use feed::LibraryFeed;
 pub use library::Library;
+pub use name_hashes::NameHashes;
 pub use providers::Providers;
 pub use reading::read_library;
 pub use writing::write_library;

@@ -5,6 +5,7 @@ ghost use Rattle.std.specs.Cmp.Lexicographic.{pointwise};
 ghost use Rattle.omf_parts.specs.Modules.{ModuleValue};
 ghost use Rattle.omf_library.specs.Providers.{declares, first_provider, AreProviders, TakesNames};
 
+use crate::name_hashes::NameHashes;
 use indexmap::IndexMap;
 use omf_core::Name;
 use omf_module::Module;
@@ -15,7 +16,7 @@ use std::marker::Model;
 /// copied. A contract sees the names with their places.
 #[derive(Drop)]
 pub struct Providers<'a> {
-    places: IndexMap<&'a [u8], usize>,
+    places: IndexMap<&'a [u8], usize, NameHashes>,
 }
 
 impl<'a> Model for Providers<'a> {
@@ -35,7 +36,7 @@ impl<'a> Providers<'a> {
         ensures { IfOk result (AreProviders (map (λ m. m.now) modules.now)) }
     {
         let mut providers = Providers {
-            places: IndexMap::new(alloc),
+            places: IndexMap::with_hasher(alloc, hashes_of(modules)),
         };
         // From the last module to the first, so that of several that declare a name the first is kept.
         let mut place = modules.len();
@@ -70,5 +71,21 @@ impl<'a> Providers<'a> {
             self.take_name(&public.name, place)?;
         }
         Ok(())
+    }
+}
+
+/// The hashes of a table of the names that these modules declare.
+fn hashes_of(modules: &[&Module]) -> NameHashes {
+    let mut hashes = NameHashes::new();
+    for source in modules {
+        feed_publics(&mut hashes, source);
+    }
+    hashes
+}
+
+/// Feeds the names that a module declares.
+fn feed_publics(hashes: &mut NameHashes, source: &Module) {
+    for public in source.publics() {
+        hashes.feed(&public.name);
     }
 }

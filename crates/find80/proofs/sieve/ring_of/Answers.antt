@@ -6,6 +6,6 @@ use Rattle.find80.proofs.sieve.ring_of.Goals as goal
 pub loop-at-preserved : goal.loop-at-preserved
 loop-at-preserved c = record {
   whole = length-set c.loop-at.ring.items c.loop-at.at c.entry_at.result ∙ c.loop-at.invariant.whole;
-  each = entries_more (λ (k : ℕ). entry_at c.args.first c.args.dump.now (k % 65536)) c.loop-at.ring.items c.loop-at.at c.entry_at.result
+  each = entries_more (λ (k : ℕ). entry_at c.args.first c.args.dump.now c.args.fill (k % 65536)) c.loop-at.ring.items c.loop-at.at c.entry_at.result
       (omega (arith, c.loop-at.invariant.whole, c.loop-at-test.true)) c.entry_at.ensures c.loop-at.invariant.each;
 }

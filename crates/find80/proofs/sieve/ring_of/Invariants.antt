@@ -6,5 +6,5 @@ use Rattle.find80.proofs.sieve.ring_of.Given as goal
 abbrev pub invariant-loop-at : goal.invariant-loop-at
 invariant-loop-at l = record {
   whole : length l.ring.items ≡ 131072;
-  each : (k : ℕ) → k < l.at → slice_index l.ring.items k ≡ entry_at l.first l.dump (k % 65536);
+  each : (k : ℕ) → k < l.at → slice_index l.ring.items k ≡ entry_at l.first l.dump l.fill (k % 65536);
 }

@@ -1,17 +1,20 @@
-use Rattle.std.proofs.Common.{arith, sym, subst, length, ℕ}
+use Rattle.std.proofs.Common.{arith, sym, subst, length, ℕ, ◌≡◌, ◌<◌}
 use Rattle.find80.specs.Places.{AreBelow, LiesAt}
 use Rattle.find80.specs.Words.{AreSingle}
 use Rattle.find80.proofs.LiesLemmas.{described_lies, none_lies}
 use Rattle.find80.proofs.WordLemmas.{only_words}
 use Rattle.find80.proofs.words.words_by.Goals as goal
 
-pub returns-then-not-solve-clause-none : goal.returns-then-not-solve-clause-none
-returns-then-not-solve-clause-none c = none_lies c.args.first c.args.dump.now c.args.code.now c.args.address (omega arith) (c.solve.ensures.no c.if-not-solve.true)
+pub returns-then-solve-code-clause-none : goal.returns-then-solve-code-clause-none
+returns-then-solve-code-clause-none c =
+    let less : c.solve.result < length c.args.code.now = omega (arith, c.if-solve-code.true) in
+    none_lies c.args.first c.args.dump.now c.args.code.now c.args.address (omega arith) (c.solve.ensures.no less)
 
 pub returns-clause-some : goal.returns-clause-some
 returns-clause-some c =
     let whole = c.solve.ensures.whole in
-    let table = c.solve.ensures.yes c.if-not-solve.false in
+    let all : c.solve.result ≡ length c.args.code.now = omega (arith, c.if-solve-code.false, c.solve.ensures.within) in
+    let table = c.solve.ensures.yes all in
     let lies : LiesAt c.args.first c.args.dump.now c.args.code.now c.args.address =
     described_lies c.args.first c.args.dump.now c.args.code.now c.args.address c.solve.new.table (omega arith) (omega (arith, whole, c.requires.two)) table
     (subst (λ (n : ℕ). AreBelow n c.args.code.now) (sym whole) c.requires.below) in
