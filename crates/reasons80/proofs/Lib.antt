@@ -1,0 +1,4 @@
+mod SearchLemmas
+mod EdgeLemmas
+mod ProviderLemmas
+mod ReasonLemmas
