@@ -1,10 +1,11 @@
 -- Parts one after another: their starts, and the end of the last.
-use Rattle.std.specs.Prelude.{◌≡◌, ℕ, suc, ◌+◌, ◌≤◌, ◌<◌, ◌⊎◌, ◌==◌, nat_lt, Bool, true, false, Option, Some, None, option_map, List, [], ◌∷◌, ◌++◌, find, map, drop, slice_get, slice_index, refl}
+use Rattle.std.specs.Prelude.{◌≡◌, ℕ, suc, ◌+◌, ◌≤◌, ◌<◌, ◌⊎◌, ◌==◌, nat_lt, Bool, true, false, Option, Some, None, option_map, List, [], ◌∷◌, ◌++◌, find, map, drop, slice_get, slice_index, slice_index_or, length, refl}
 use Rattle.std.specs.List.{flat_map, enumerate_from}
 use Rattle.std.specs.Option.{option_or}
-use Rattle.std.proofs.Common.{◌∙◌, ap, sym, arith, inl, inr, cond}
+use Rattle.std.proofs.Common.{◌∙◌, ap, sym, arith, inl, inr, cond, append_assoc}
 use Rattle.std.proofs.lemmas.Bool.{cases_Bool, eqb-true, ltb-false}
 use Rattle.std.proofs.lemmas.Bool.Decides.{nat_tests}
+use Rattle.std.proofs.lemmas.List.{drop_more}
 use Rattle.omf_parts.specs.declared.segment.Segment.{Segment}
 use Rattle.omf_parts.specs.declared.symbols.Common.{Common}
 use Rattle.omf_parts.specs.Segments.{segment_in}
@@ -31,6 +32,49 @@ ends_later id before (m ∷ ms) =
     let up : before ≤ rounded s.paged before = above_rounded s.paged before in
     let rest : next ≤ parts_end id next ms = ends_later id next ms in
     omega (arith, up, rest)
+
+-- what is left begins with the one that is read
+pub left_of : {A B : Type 0} (f : A → B) (xs : List A) (i : ℕ) (x : A) → i < length xs → x ≡ slice_index_or xs i x
+    → map f (drop i xs) ≡ f x ∷ map f (drop (i + 1) xs)
+left_of f xs i x inside is = ap (map f) (drop_more xs i x inside) ∙ ap (λ y. f y ∷ map f (drop (i + 1) xs)) (sym is)
+
+pub record Fit (before : ℕ) (s : Segment) : Type 0 where
+  pub first : before ≤ 65535
+  pub start : rounded s.paged before ≤ 65535
+  pub end : rounded s.paged before + s.length ≤ 65535
+
+pub part_fits : (id before total : ℕ) (m : ModuleValue) (next all : List ModuleValue) → all ≡ m ∷ next → parts_end id before all ≡ total
+    → total ≤ 65535 → Fit before (segment_in m.segments id)
+part_fits id before total m next all is ends fits =
+    let s : Segment = segment_in m.segments id in
+    let up = above_rounded s.paged before in
+    let later = ends_later id (rounded s.paged before + s.length) next in
+    let whole : parts_end id (rounded s.paged before + s.length) next ≡ total = sym (ap (parts_end id before) is) ∙ ends in
+    record {
+      first = omega (arith, up, later, whole, fits);
+      start = omega (arith, later, whole, fits);
+      end = omega (arith, later, whole, fits);
+    }
+
+pub record Laid (commons : List Common) (id end : ℕ) (text made : List ℕ) (next all : List ModuleValue) (total : ℕ) : Type 0 where
+  pub lines : text ++ laid_text commons id end next ≡ made
+  pub ends : parts_end id end next ≡ total
+
+pub one_more : (commons : List Common) (id before end total : ℕ) (text after made : List ℕ) (m : ModuleValue) (next all : List ModuleValue)
+    → all ≡ m ∷ next → text ++ laid_text commons id before all ≡ made → parts_end id before all ≡ total →
+    after ≡ text ++ part_line commons id (rounded (segment_in m.segments id).paged before) (segment_in m.segments id) m.name
+    → end ≡ rounded (segment_in m.segments id).paged before + (segment_in m.segments id).length
+    → Laid commons id end after made next all total
+one_more commons id before end total text after made m next all is lines ends grown end_is =
+    let s : Segment = segment_in m.segments id in
+    record {
+      lines =
+          ap (λ t. t ++ laid_text commons id end next) grown
+          ∙ append_assoc text (part_line commons id (rounded s.paged before) s m.name) (laid_text commons id end next)
+          ∙ ap (λ e. text ++ (part_line commons id (rounded s.paged before) s m.name ++ laid_text commons id e next)) end_is
+          ∙ ap (λ l. text ++ laid_text commons id before l) (sym is) ∙ lines;
+      ends = ap (λ e. parts_end id e next) end_is ∙ ap (parts_end id before) (sym is) ∙ ends;
+    }
 
 -- ---- LINK finds no segment too long
 

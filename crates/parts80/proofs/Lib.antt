@@ -1,1 +1,2 @@
 mod LaidLemmas
+mod TextLemmas

@@ -43,11 +43,17 @@ segment_word id =
 abbrev pub name_part : List Common → ℕ → List ℕ
 name_part commons id = option_map_or (λ c. 32 ∷ c.name) (find (λ c. c.id == id) commons) []
 
--- the line of a part: its offset in the linked segment, its length, the segment, the name of a named common, and the module
+-- where a part starts in the linked segment, and its length
+abbrev pub extent_of : (start length : ℕ) → List ℕ
+extent_of start length = codes "PART " ++ (word_text start ++ 32 ∷ (word_text length ++ 32 ∷ []))
+
+-- what it is a part of: the segment, a named common's name, and the module
+abbrev pub owner_of : List Common → ℕ → List ℕ → List ℕ
+owner_of commons id name = segment_word id ++ (name_part commons id ++ 32 ∷ (name ++ 10 ∷ []))
+
+-- the line of a part
 abbrev pub line_of : List Common → (id start : ℕ) → Segment → List ℕ → List ℕ
-line_of commons id start part name =
-    codes "PART " ++ (word_text start ++ 32 ∷ (word_text part.length ++ 32 ∷ (segment_word id
-    ++ (name_part commons id ++ 32 ∷ (name ++ 10 ∷ [])))))
+line_of commons id start part name = extent_of start part.length ++ owner_of commons id name
 
 -- a part has a line if it has bytes or is paged
 abbrev pub part_line : List Common → (id start : ℕ) → Segment → List ℕ → List ℕ
@@ -72,9 +78,13 @@ parts_text modules = flat_map (segment_text modules) (linked_ids modules)
 abbrev pub needs_name : List ℕ → ModuleValue → Bool
 needs_name name m = list_any (λ e. pointwise nat_eq e name) m.externals
 
--- the line of a module that needs an unresolved name
+-- the line of a name and a module that needs it
+abbrev pub line_of_need : (name by : List ℕ) → List ℕ
+line_of_need name by = (codes "UNRESOLVED " ++ name) ++ ((codes " BY " ++ by) ++ 10 ∷ [])
+
+-- a module has a line for a name if it needs it
 abbrev pub needing_line : List ℕ → ModuleValue → List ℕ
-needing_line name m = if needs_name name m then codes "UNRESOLVED " ++ (name ++ (codes " BY " ++ (m.name ++ 10 ∷ []))) else []
+needing_line name m = if needs_name name m then line_of_need name m.name else []
 
 -- the lines of the modules that need it, in their order
 abbrev pub needing_text : List ModuleValue → List ℕ → List ℕ

@@ -2,7 +2,7 @@
 
 ghost use Rattle.std.specs.Prelude.{◌≡◌, ◌++◌, OnOk};
 ghost use Rattle.omf_parts.specs.Segments.{is_used};
-ghost use Rattle.parts80.specs.Parts.{segment_word, name_part, line_of, part_line};
+ghost use Rattle.parts80.specs.Parts.{segment_word, name_part, extent_of, owner_of, line_of, part_line};
 
 use decode80::word_digits;
 use omf_body::segment_id::{CODE, DATA, MEMORY, STACK};
@@ -46,11 +46,31 @@ fn append_line(
 ) -> Result<(), AllocError>
     ensures { OnOk result (text.new.items ≡ text.old.items ++ line_of commons.now id start part name.now) }
 {
+    append_extent(text, start, part.length)?;
+    append_owner(text, commons, id, name)
+}
+
+/// Appends where a part starts, and its length.
+fn append_extent(text: &mut Vec<u8>, start: u16, length: u16) -> Result<(), AllocError>
+    ensures { OnOk result (text.new.items ≡ text.old.items ++ extent_of start length) }
+{
     text.extend_from_slice(b"PART ".as_slice())?;
     text.extend_from_slice(&word_digits(start))?;
     text.push(b' ')?;
-    text.extend_from_slice(&word_digits(part.length))?;
+    text.extend_from_slice(&word_digits(length))?;
     text.push(b' ')?;
+    Ok(())
+}
+
+/// Appends the segment of a part, and its module's name.
+fn append_owner(
+    text: &mut Vec<u8>,
+    commons: &[Common],
+    id: u8,
+    name: &Name,
+) -> Result<(), AllocError>
+    ensures { OnOk result (text.new.items ≡ text.old.items ++ owner_of commons.now id name.now) }
+{
     text.extend_from_slice(word_of(id))?;
     append_name(text, commons, id)?;
     text.push(b' ')?;

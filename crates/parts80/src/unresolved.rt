@@ -2,7 +2,7 @@
 
 ghost use Rattle.std.specs.Prelude.{◌≡◌, ◌++◌, map, OnOk};
 ghost use Rattle.std.specs.List.{flat_map};
-ghost use Rattle.parts80.specs.Parts.{modules_of, IsMade, needs_name, needing_line, needing_text, unresolved_text};
+ghost use Rattle.parts80.specs.Parts.{modules_of, IsMade, needs_name, line_of_need, needing_line, needing_text, unresolved_text};
 
 use crate::modules::linked_modules;
 use link80::Linked;
@@ -63,15 +63,29 @@ fn append_needing_line(
 ) -> Result<(), AllocError>
     ensures { OnOk result (text.new.items ≡ text.old.items ++ needing_line name.now source.now) }
 {
-    if !needs_name(source, name) {
-        return Ok(());
+    if needs_name(source, name) {
+        append_line(text, name, source.name())
+    } else {
+        Ok(())
     }
-    text.extend_from_slice(b"UNRESOLVED ".as_slice())?;
-    text.extend_from_slice(name.bytes())?;
-    text.extend_from_slice(b" BY ".as_slice())?;
-    text.extend_from_slice(source.name().bytes())?;
+}
+
+/// Appends the line of a module that needs a name.
+fn append_line(text: &mut Vec<u8>, name: &Name, by: &Name) -> Result<(), AllocError>
+    ensures { OnOk result (text.new.items ≡ text.old.items ++ line_of_need name.now by.now) }
+{
+    append_named(text, b"UNRESOLVED ".as_slice(), name)?;
+    append_named(text, b" BY ".as_slice(), by)?;
     text.push(b'\n')?;
     Ok(())
+}
+
+/// Appends a word and a name.
+fn append_named(text: &mut Vec<u8>, word: &[u8], name: &Name) -> Result<(), AllocError>
+    ensures { OnOk result (text.new.items ≡ text.old.items ++ (word.now ++ name.now)) }
+{
+    text.extend_from_slice(word)?;
+    text.extend_from_slice(name.bytes())
 }
 
 /// Whether a module has the name as external.

@@ -2,3 +2,4 @@ mod SearchLemmas
 mod EdgeLemmas
 mod ProviderLemmas
 mod ReasonLemmas
+mod LineLemmas

@@ -59,7 +59,7 @@ pub record IsReason (roots : List ModuleValue) (libraries : List (List ModuleVal
 -- the line of a module that was taken: its name, the name that is needed, the module that needs it, and the library's file
 abbrev pub reason_line : (taken name by path : List ℕ) → List ℕ
 reason_line taken name by path =
-    codes "TAKEN " ++ (taken ++ (codes " FOR " ++ (name ++ (codes " BY " ++ (by ++ (codes " FROM " ++ (path ++ 10 ∷ [])))))))
+    (codes "TAKEN " ++ taken) ++ ((codes " FOR " ++ name) ++ ((codes " BY " ++ by) ++ ((codes " FROM " ++ path) ++ 10 ∷ [])))
 
 -- the line of the module at a place; the path of its library is that with the library's number
 pub record IsReasonLine (roots : List ModuleValue) (libraries : List (List ModuleValue)) (taken : List Chosen)
@@ -71,9 +71,9 @@ pub record IsReasonLine (roots : List ModuleValue) (libraries : List (List Modul
   pub reason : IsReason roots libraries taken place name by
   pub line_is : line ≡ reason_line provider.name name by.name (slice_index_or paths place.library [])
 
--- a text with a line for each module that was taken behind it, in order
+-- a text with a line for each of these places behind it, in order
 pub record PrintsReasons (roots : List ModuleValue) (libraries : List (List ModuleValue)) (taken : List Chosen)
-    (paths : List (List ℕ)) (before after : List ℕ) : Type 0 where
+    (paths : List (List ℕ)) (places : List Chosen) (before after : List ℕ) : Type 0 where
   pub lines : List (List ℕ)
-  pub each : AllZip (IsReasonLine roots libraries taken paths) taken lines
+  pub each : AllZip (IsReasonLine roots libraries taken paths) places lines
   pub after_is : after ≡ before ++ concat lines
