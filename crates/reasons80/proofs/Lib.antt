@@ -2,4 +2,6 @@ mod SearchLemmas
 mod EdgeLemmas
 mod ProviderLemmas
 mod ReasonLemmas
+mod ReadLemmas
 mod LineLemmas
+mod TextLemmas

@@ -1,5 +1,5 @@
 -- The first module that declares a name, and the number of its place among those that were taken.
-use Rattle.std.specs.Prelude.{◌≡◌, ℕ, zero, suc, ◌+◌, ◌<◌, ◌≤◌, ◌⊎◌, ◌==◌, ◌&&◌, Bool, true, false, Option, Some, None, option_map, option_and_then, List, [], ◌∷◌, slice_get, Contains, refl}
+use Rattle.std.specs.Prelude.{◌≡◌, ℕ, zero, suc, ◌+◌, ◌<◌, ◌≤◌, ◌⊎◌, ◌==◌, ◌&&◌, ◌||◌, is_some, Bool, true, false, Option, Some, None, option_map, option_and_then, List, [], ◌∷◌, slice_get, Contains, refl}
 use Rattle.std.specs.List.{list_any, position_from}
 use Rattle.std.specs.Option.{option_or}
 use Rattle.std.proofs.Common.{◌∙◌, ap, sym, subst, arith, inl, inr, cond}
@@ -73,6 +73,15 @@ no_first {A} test from (x ∷ xs) none j y at = elim (cases_Bool (test x)) [
         → test y ≡ false
     by fails rest zero here = ap test (sym (same_Some x y here)) ∙ fails
     by fails rest (suc i) here = rest i y here
+
+-- one passes where there is a first
+pub passes_first : {A : Type 0} (test : A → Bool) (from : ℕ) (xs : List A) → is_some (position_from test from xs) ≡ list_any test xs
+passes_first test from [] = refl
+passes_first test from (x ∷ xs) =
+    elim (test x) as (λ b. is_some (cond b (Some from) (position_from test (from + 1) xs)) ≡ (b || list_any test xs)) [
+      | true ↦ refl
+      | false ↦ passes_first test (from + 1) xs
+    ]
 
 -- ---- the first place
 

@@ -14,6 +14,7 @@ use Rattle.reasons80.specs.declared.search.Found.{Found}
 use Rattle.reasons80.specs.Reasons.{IsReachedIn, from_root, from_member, IsDistance, IsAway, root, member, IsSoughtAt, IsReason}
 use Rattle.reasons80.specs.Edges.{target, edges_in}
 use Rattle.reasons80.specs.Search.{found_at, steps_to, LeadInside, IsRight, IsServed, IsComplete}
+use Rattle.reasons80.specs.Searched.{IsSearchedFor}
 use Rattle.reasons80.proofs.EdgeLemmas.{comes_from_module, none_missing_of, edges_ascend, all_at}
 use Rattle.reasons80.proofs.ProviderLemmas.{at_has, target_is, is_target}
 
@@ -417,3 +418,42 @@ module _ (roots : List ModuleValue) (libraries : List (List ModuleValue)) (taken
                 inr (omega (arith, e, its_steps, next),
                 edges_ascend (target roots libraries taken) (modules_with roots libraries taken) w.edge its.j edge its_edge le at_edge its.there)
           ]
+
+-- ---- what is read of the search
+
+pub record Stands (roots : List ModuleValue) (libraries : List (List ModuleValue)) (taken : List Chosen) (modules : List ModuleValue)
+    (edges : List Edge) (found : List (Option Found)) (number : ℕ) : Type 0 where
+  pub place : Chosen
+  pub one : Found
+  pub edge : Edge
+  pub m : ModuleValue
+  pub name : List ℕ
+  pub is_taken : slice_get taken number ≡ Some place
+  pub one_at : found_at found number ≡ Some one
+  pub edge_at : slice_get edges one.edge ≡ Some edge
+  pub by_at : slice_get modules edge.by ≡ Some m
+  pub name_at : slice_get m.externals edge.name ≡ Some name
+  pub reason : IsReason roots libraries taken place name m
+
+pub stands : (roots : List ModuleValue) (libraries : List (List ModuleValue)) (taken : List Chosen) (modules : List ModuleValue)
+    (edges : List Edge) (found : List (Option Found)) (number : ℕ) → IsSearchedFor roots libraries taken modules edges found
+    → number < length taken → Stands roots libraries taken modules edges found number
+stands roots libraries taken modules edges found number s less =
+    let none : Chosen = record { library = 0; «module» = 0 } in
+    let is_taken : slice_get taken number ≡ Some (slice_index_or taken number none) = slice_get-get_or taken number none less in
+    let one = all_found roots libraries taken s.selection found s.complete number (slice_index_or taken number none) is_taken in
+    let b = behind roots libraries taken s.selection found s.complete number one.0 (slice_index_or taken number none) is_taken one.1 in
+    record {
+      place = slice_index_or taken number none;
+      one = one.0;
+      edge = b.edge;
+      m = b.m;
+      name = b.name;
+      is_taken = is_taken;
+      one_at = one.1;
+      edge_at = ap (λ (es : List Edge). slice_get es one.0.edge) s.edges_are ∙ b.there;
+      by_at = ap (λ (ms : List ModuleValue). slice_get ms b.edge.by) s.modules_are ∙ b.is_linked;
+      name_at = b.external;
+      reason = reason_is roots libraries taken s.selection found s.complete number one.0 (slice_index_or taken number none) b.edge b.m
+          b.name is_taken one.1 b.there b.is_linked b.external;
+    }

@@ -38,8 +38,8 @@ pub fn append_reasons(
         text.old.items text.new.items) }
 {
     let searched = Searched::new(alloc, roots, libraries, taken)?;
-    for number in 0..taken.len() {
-        searched.append_reason(text, paths, number)?;
+    for (number, place) in taken.iter().enumerate() {
+        searched.append_reason(text, paths, number, *place)?;
     }
     Ok(())
 }
@@ -117,24 +117,24 @@ impl<'a> Searched<'a> {
         }
     }
 
-    /// Appends the line of the module with this number among those that were taken.
+    /// Appends the line of the module at this place, which has this number among those that were taken.
     fn append_reason(
         &self,
         text: &mut Vec<u8>,
         paths: &[&[u8]],
         number: usize,
+        place: Chosen,
     ) -> Result<(), AllocError>
-        requires { number < length self.now.taken }
-        ensures { OnOk result ((place : Chosen) → slice_get self.now.taken number ≡ Some place
-            → PrintsLine self.now (map (λ p. p.now) paths.now) place text.old.items text.new.items) }
+        requires { slice_get self.now.taken number ≡ Some place }
+        ensures { OnOk result (PrintsLine self.now (map (λ p. p.now) paths.now) place text.old.items text.new.items) }
     {
-        let place = self.taken[number];
         let reason = self.reason(number);
         match module_at(self.libraries, place) {
             Some(provider) => append_line(
                 text,
                 provider.name(),
-                reason,
+                reason.name,
+                reason.by.name(),
                 path_of(paths, place.library),
             ),
             None => unreachable!(),
@@ -164,15 +164,15 @@ fn path_of<'a>(paths: &[&'a [u8]], library: usize) -> &'a [u8]
 fn append_line(
     text: &mut Vec<u8>,
     taken: &Name,
-    reason: Reason<'_>,
+    name: &Name,
+    by: &Name,
     path: &[u8],
 ) -> Result<(), AllocError>
-    ensures { OnOk result (text.new.items ≡ text.old.items
-        ++ reason_line taken.now reason.name.now reason.by.now.name path.now) }
+    ensures { OnOk result (text.new.items ≡ text.old.items ++ reason_line taken.now name.now by.now path.now) }
 {
     append_word(text, b"TAKEN ".as_slice(), taken.bytes())?;
-    append_word(text, b" FOR ".as_slice(), reason.name.bytes())?;
-    append_word(text, b" BY ".as_slice(), reason.by.name().bytes())?;
+    append_word(text, b" FOR ".as_slice(), name.bytes())?;
+    append_word(text, b" BY ".as_slice(), by.bytes())?;
     append_word(text, b" FROM ".as_slice(), path)?;
     text.push(b'\n')?;
     Ok(())
