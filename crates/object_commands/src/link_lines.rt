@@ -43,20 +43,8 @@ pub(crate) fn lines_of(
         append_taken(&mut lines, &linked.taken, &files.libraries)?;
     }
     if wanted.map {
-        append_unresolved(
-            alloc,
-            &mut lines,
-            &files.roots,
-            &files.libraries,
-            linked,
-        )?;
-        append_parts(
-            alloc,
-            &mut lines,
-            &files.roots,
-            &files.libraries,
-            linked,
-        )?;
+        append_unresolved(alloc, &mut lines, &files.roots, &files.libraries, linked)?;
+        append_parts(alloc, &mut lines, &files.roots, &files.libraries, linked)?;
     } else {
         append_names(&mut lines, &linked.unresolved)?;
     }

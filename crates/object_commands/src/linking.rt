@@ -35,8 +35,12 @@ modules of the object files are linked, in order, and after them the library
 modules that declare a name which is needed: of several, the first one.
 
 It prints TAKEN and a name for each module that is taken from a library, and
-UNRESOLVED and a name for each name that no module declares. The object file is
-written only if there is no fault.
+UNRESOLVED and a name for each name that no module declares. With --reasons,
+TAKEN also has the name it is taken FOR, the nearest module BY which that is
+needed, and the library's file. With --map, UNRESOLVED has a line for each
+module that needs the name, and PART lines follow: offset in the linked
+segment, length, segment, and module. The object file is written only if there
+is no fault.
 
 Example: plm80 link --name CONTROL --out linked.obj main.obj routines.lib
 
@@ -61,12 +65,12 @@ pub const LINK: Syntax<'static> = Syntax {
         Argument {
             name: "map",
             kind: Kind::Flag,
-            help: "Print where each module's parts lie, and which need an unresolved name",
+            help: "Print where parts lie, and what needs unresolved names",
         },
         Argument {
             name: "reasons",
             kind: Kind::Flag,
-            help: "Print why each module is taken, and from which library",
+            help: "Print why each module is taken, and from which file",
         },
         Argument {
             name: "FILE",

@@ -173,10 +173,10 @@ pub laid_is : (modules : List ModuleValue) (id : ℕ) → is_laid_out id ≡ tru
 laid_is modules id laid =
     laid_from (linked_commons modules) (starts_from id 0 modules) id 0 0 modules (λ k. ap (slice_index (starts_from id 0 modules)) (zero_plus k))
     ∙ flat_same (laid_line (linked_commons modules) (starts_from id 0 modules) id) (part_text modules id) (λ m.
-      ap (λ n. part_line (linked_commons modules) id n (segment_in m.1.segments id) m.1.name)
-      (sym (ap (λ b. cond b (slice_index (starts_from id 0 modules) m.0) 0) laid))
-      ∙ ap (λ s. part_line (linked_commons modules) id (part_start modules m.0 id) s m.1.name)
-      (sym (is_fixed modules id m.1 laid))) (enumerate_from 0 modules)
+    ap (λ n. part_line (linked_commons modules) id n (segment_in m.1.segments id) m.1.name)
+    (sym (ap (λ b. cond b (slice_index (starts_from id 0 modules) m.0) 0) laid))
+    ∙ ap (λ s. part_line (linked_commons modules) id (part_start modules m.0 id) s m.1.name)
+    (sym (is_fixed modules id m.1 laid))) (enumerate_from 0 modules)
   where
     zero_plus : (k : ℕ) → 0 + k ≡ k
     zero_plus k = omega arith
@@ -194,5 +194,5 @@ joined_is modules id joined =
     unnumbered (λ (m : ModuleValue). part_line (linked_commons modules) id 0 (part_of (linked_commons modules) m id) m.name) 0 modules
     ∙ flat_same (λ (m : ℕ × ModuleValue). part_line (linked_commons modules) id 0 (part_of (linked_commons modules) m.1 id) m.1.name)
     (part_text modules id) (λ m.
-      ap (λ n. part_line (linked_commons modules) id n (part_of (linked_commons modules) m.1 id) m.1.name)
-      (sym (ap (λ b. cond b (slice_index (starts_from id 0 modules) m.0) 0) joined))) (enumerate_from 0 modules)
+    ap (λ n. part_line (linked_commons modules) id n (part_of (linked_commons modules) m.1 id) m.1.name)
+    (sym (ap (λ b. cond b (slice_index (starts_from id 0 modules) m.0) 0) joined))) (enumerate_from 0 modules)

@@ -41,11 +41,7 @@ pub fn append_parts(
 }
 
 /// Appends the lines of the parts of all segments.
-fn append_all(
-    text: &mut Vec<u8>,
-    modules: &[&Module],
-    commons: &[Common],
-) -> Result<(), AllocError>
+fn append_all(text: &mut Vec<u8>, modules: &[&Module], commons: &[Common]) -> Result<(), AllocError>
     requires commons { commons.now ≡ linked_commons (map (λ m. m.now) modules.now) }
     requires no_fault { link_fault (map (λ m. m.now) modules.now) ≡ None }
     ensures { OnOk result (text.new.items ≡ text.old.items ++ parts_text (map (λ m. m.now) modules.now)) }
@@ -110,7 +106,14 @@ fn append_joined(
     ensures { OnOk result (text.new.items ≡ text.old.items ++ joined_text commons.now id (map (λ m. m.now) modules.now)) }
 {
     for source in modules {
-        append_part(text, commons, id, 0, part_of(commons, source, id), source.name())?;
+        append_part(
+            text,
+            commons,
+            id,
+            0,
+            part_of(commons, source, id),
+            source.name(),
+        )?;
     }
     Ok(())
 }

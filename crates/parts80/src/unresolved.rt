@@ -42,11 +42,7 @@ fn append_names(text: &mut Vec<u8>, modules: &[&Module], names: &[Name]) -> Resu
 }
 
 /// Appends the lines of the modules that need a name.
-fn append_needing(
-    text: &mut Vec<u8>,
-    modules: &[&Module],
-    name: &Name,
-) -> Result<(), AllocError>
+fn append_needing(text: &mut Vec<u8>, modules: &[&Module], name: &Name) -> Result<(), AllocError>
     ensures { OnOk result (text.new.items ≡ text.old.items ++ needing_text (map (λ m. m.now) modules.now) name.now) }
 {
     for source in modules {
@@ -56,11 +52,7 @@ fn append_needing(
 }
 
 /// Appends the line of a module, if it needs the name.
-fn append_needing_line(
-    text: &mut Vec<u8>,
-    source: &Module,
-    name: &Name,
-) -> Result<(), AllocError>
+fn append_needing_line(text: &mut Vec<u8>, source: &Module, name: &Name) -> Result<(), AllocError>
     ensures { OnOk result (text.new.items ≡ text.old.items ++ needing_line name.now source.now) }
 {
     if needs_name(source, name) {
@@ -92,8 +84,5 @@ fn append_named(text: &mut Vec<u8>, word: &[u8], name: &Name) -> Result<(), Allo
 fn needs_name(source: &Module, name: &Name) -> bool
     ensures { result ≡ needs_name name.now source.now }
 {
-    source
-        .externals()
-        .iter()
-        .any(|external| *external == *name)
+    source.externals().iter().any(|external| *external == *name)
 }

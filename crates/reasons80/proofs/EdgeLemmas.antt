@@ -139,9 +139,9 @@ name_comes_first : (to : List ℕ → Option ℕ) (by first : ℕ) (n : List ℕ
 name_comes_first to by first n ns None is rest = rest
 name_comes_first to by first n ns (Some e) is rest = (
   all_from (IsBeforeEdge e) (from_names to by (first + 1) ns) (λ k x at.
-    let from = comes_from to by (first + 1) ns k x at in
-    let this = of_edge to by first (to n) e is in
-    inr (this.0 ∙ sym from.by_is, omega (arith, this.1, from.name_is))),
+      let from = comes_from to by (first + 1) ns k x at in
+      let this = of_edge to by first (to n) e is in
+      inr (this.0 ∙ sym from.by_is, omega (arith, this.1, from.name_is))),
   rest,
 )
 
@@ -200,24 +200,27 @@ module _ (to : List ℕ → Option ℕ) where
       let one = none_missing to number 0 k.externals index name t
       (ap (λ (x : ModuleValue). slice_get x.externals index) (same_Some k m there) ∙ external) is in
       let b : number ≡ number + 0 = omega arith in
-      let i : 0 + index ≡ index = omega arith in
-      (one.0, at_left (edges_of to (number, k)) (from_modules (number + 1) ms) one.0 (record { by = number + 0; name = index; to = t })
-      (one.1 ∙ ap (λ x. Some (edge to number x t)) i ∙ ap (λ x. Some (edge to x index t)) b))
+      let i : 0 + index ≡ index = omega arith in (
+        one.0,
+        at_left (edges_of to (number, k)) (from_modules (number + 1) ms) one.0 (record { by = number + 0; name = index; to = t })
+            (one.1 ∙ ap (λ x. Some (edge to number x t)) i ∙ ap (λ x. Some (edge to x index t)) b),
+      )
   none_missing_of number (k ∷ ms) (suc at) m index name t there external is =
       let later = none_missing_of (number + 1) ms at m index name t there external is in
-      let next : number + 1 + at ≡ number + suc at = omega arith in
-      (length (edges_of to (number, k)) + later.0,
-      at_right (edges_of to (number, k)) (from_modules (number + 1) ms) later.0 ∙ later.1
-      ∙ ap (λ b. Some (edge to b index t)) next)
+      let next : number + 1 + at ≡ number + suc at = omega arith in (
+        length (edges_of to (number, k)) + later.0,
+        at_right (edges_of to (number, k)) (from_modules (number + 1) ms) later.0 ∙ later.1
+            ∙ ap (λ b. Some (edge to b index t)) next,
+      )
 
   modules_ascend : (number : ℕ) (ms : List ModuleValue) → Ascend (from_modules number ms)
   modules_ascend number [] = tt
   modules_ascend number (m ∷ ms) =
       ascend_append (edges_of to (number, m)) (from_modules (number + 1) ms) (names_ascend to number 0 m.externals)
       (modules_ascend (number + 1) ms) (λ i j e f at_e at_f.
-        let one = comes_from to number 0 m.externals i e at_e in
-        let two = comes_from_module (number + 1) ms j f at_f in
-        inl (omega (arith, one.by_is, two.by_is)))
+      let one = comes_from to number 0 m.externals i e at_e in
+      let two = comes_from_module (number + 1) ms j f at_f in
+      inl (omega (arith, one.by_is, two.by_is)))
 
 in_order : (es : List Edge) (i j : ℕ) (e f : Edge) → Ascend es → i < j → slice_get es i ≡ Some e → slice_get es j ≡ Some f
     → IsBeforeEdge e f

@@ -37,8 +37,8 @@ prints_more s paths n p before text after so_far at one =
     record {
       lines = so_far.lines ++ one.line ∷ [];
       each = subst (λ (ps : List Chosen). AllZip (IsReasonLine s.roots s.libraries s.taken paths) ps (so_far.lines ++ one.line ∷ []))
-      (sym one_more) (zip_more (IsReasonLine s.roots s.libraries s.taken paths) (take n s.taken) so_far.lines p one.line so_far.each
-      one.is_line);
+          (sym one_more) (zip_more (IsReasonLine s.roots s.libraries s.taken paths) (take n s.taken) so_far.lines p one.line so_far.each
+          one.is_line);
       after_is = one.after_is ∙ ap (λ t. t ++ one.line) so_far.after_is ∙ append_assoc before (concat so_far.lines) one.line
-      ∙ ap (λ t. before ++ t) (sym (concat_more so_far.lines one.line));
+          ∙ ap (λ t. before ++ t) (sym (concat_more so_far.lines one.line));
     }

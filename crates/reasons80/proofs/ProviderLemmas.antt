@@ -167,12 +167,12 @@ is_provider libraries name p found =
       there = ap (option_and_then (λ (ms : List ModuleValue). slice_get ms p.module)) library ∙ first.first.there;
       declares_it = first.first.passes;
       none_before = λ q m before at. option_and_then_some (λ (ms : List ModuleValue). slice_get ms q.module)
-      (slice_get libraries q.library) m at (λ k at_k at_m. elim before [
-        | inl less ↦ first.before q.library k q.module m (omega (arith, less, first.library_is)) at_k at_m
-        | inr same ↦
-            let is_l : first.l ≡ k = same_Some first.l k (sym library ∙ ap (slice_get libraries) (sym same.0) ∙ at_k) in
-            first.first.before q.module m same.1 (ap (λ (x : List ModuleValue). slice_get x q.module) is_l ∙ at_m)
-      ]);
+          (slice_get libraries q.library) m at (λ k at_k at_m. elim before [
+            | inl less ↦ first.before q.library k q.module m (omega (arith, less, first.library_is)) at_k at_m
+            | inr same ↦
+                let is_l : first.l ≡ k = same_Some first.l k (sym library ∙ ap (slice_get libraries) (sym same.0) ∙ at_k) in
+                first.first.before q.module m same.1 (ap (λ (x : List ModuleValue). slice_get x q.module) is_l ∙ at_m)
+          ]);
     }
 
 one_before : (libraries : List (List ModuleValue)) (name : List ℕ) (p q : Chosen) → IsFirstProvider libraries name p
@@ -255,6 +255,6 @@ is_target roots libraries taken name p sought has =
     let number = is_number taken p has in (
       number.0,
       ap (λ b. cond b None (option_and_then (number_of taken) (first_place_from 0 libraries name))) sought.in_no_root
-      ∙ ap (option_and_then (number_of taken)) (provider_is libraries name p sought.first) ∙ number.1,
+          ∙ ap (option_and_then (number_of taken)) (provider_is libraries name p sought.first) ∙ number.1,
       number_is taken p number.0 number.1,
     )

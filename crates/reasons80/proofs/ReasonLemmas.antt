@@ -126,7 +126,6 @@ steps_of roots n d found is = elim (cases_lt n roots) [
 
 module _ (roots : List ModuleValue) (libraries : List (List ModuleValue)) (taken : List Chosen)
     (selection : IsSelection roots libraries taken) where
-
   needed_module : (m : ModuleValue) (p : Chosen) → Needs roots libraries m p → (k : ModuleValue) × (module_at libraries p ≡ Some k)
   needed_module m p needs = (needs.first.provider, needs.first.there)
 
@@ -384,10 +383,13 @@ module _ (roots : List ModuleValue) (libraries : List (List ModuleValue)) (taken
             elim (order other m external.0 needs.name others at_m external.1
             (record { in_no_root = needs.in_no_root; first = needs.first }) (away_steps other others away)) [
               | inl less ↦ inl less
-              | inr equal ↦ inr (equal.0, (elim equal.1 [
-                | inl lower ↦ (let l = lower in omega (arith, l))
-                | inr one ↦ (let o = one.0 in omega (arith, o))
-              ]))
+              | inr equal ↦ inr (
+                equal.0,
+                (elim equal.1 [
+                  | inl lower ↦ (let l = lower in omega (arith, l))
+                  | inr one ↦ (let o = one.0 in omega (arith, o))
+                ]),
+              )
             ];
         first_name = λ other its_name at_other sought.
             elim (order edge.by by other its_name b.distance at_by at_other sought steps) [
@@ -415,8 +417,10 @@ module _ (roots : List ModuleValue) (libraries : List (List ModuleValue)) (taken
             | inr equal ↦
                 let e = equal.0 in
                 let le : w.edge ≤ its.j = (let q = equal.1 in omega (arith, q, ap (λ (f : Found). f.edge) one)) in
-                inr (omega (arith, e, its_steps, next),
-                edges_ascend (target roots libraries taken) (modules_with roots libraries taken) w.edge its.j edge its_edge le at_edge its.there)
+                inr (
+                  omega (arith, e, its_steps, next),
+                  edges_ascend (target roots libraries taken) (modules_with roots libraries taken) w.edge its.j edge its_edge le at_edge its.there,
+                )
           ]
 
 -- ---- what is read of the search

@@ -160,13 +160,13 @@ module _ (roots : ℕ) (edges : List Edge) (round j : ℕ) (found : List (Option
       record {
         right = λ k v is. elim (was roots found edge.to w inside empty k v is) [
           | inl now ↦ record {
-              edge = edge;
-              distance = round;
-              there = ap (λ (x : Found). slice_get edges x.edge) now.1 ∙ at;
-              to_is = sym now.0;
-              by_is = steps_stay roots found edge.to w inside empty edge.by round by_is;
-              next = ap (λ (x : Found). x.steps) now.1;
-            }
+            edge = edge;
+            distance = round;
+            there = ap (λ (x : Found). slice_get edges x.edge) now.1 ∙ at;
+            to_is = sym now.0;
+            by_is = steps_stay roots found edge.to w inside empty edge.by round by_is;
+            next = ap (λ (x : Found). x.steps) now.1;
+          }
           | inr old ↦ right_stays roots found edge.to w inside empty edges k v (s.right k v old)
         ];
         near = λ k v is. elim (was roots found edge.to w inside empty k v is) [
@@ -182,7 +182,7 @@ module _ (roots : ℕ) (edges : List Edge) (round j : ℕ) (found : List (Option
                 record {
                   one = w;
                   there = ap (λ (x : Edge). found_at (followed round j found edge) x.to) (sym same)
-                  ∙ here roots found edge.to w inside empty;
+                      ∙ here roots found edge.to w inside empty;
                   near = inr (ap suc (sym now.0), omega (arith, now.1));
                 }
           ]
@@ -309,8 +309,11 @@ ends roots edges round found s within = record {
 
     below : (n d : ℕ) → steps_to roots found n ≡ Some d → d < suc round
     below n d is = elim (cases_Bool (nat_lt n roots)) [
-      | inl root ↦ omega (arith, same_Some 0 d
-          (sym (ap (λ b. cond b (Some 0) (option_map (λ (f : Found). f.steps) (found_at found (n - roots)))) root) ∙ is))
+      | inl root ↦ omega (
+        arith,
+        same_Some 0 d
+            (sym (ap (λ b. cond b (Some 0) (option_map (λ (f : Found). f.steps) (found_at found (n - roots)))) root) ∙ is),
+      )
       | inr member ↦ by_found (found_at found (n - roots)) d (within (n - roots))
           (sym (ap (λ b. cond b (Some 0) (option_map (λ (f : Found). f.steps) (found_at found (n - roots)))) member) ∙ is)
     ]

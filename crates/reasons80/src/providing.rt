@@ -96,9 +96,7 @@ fn first_place(libraries: &[FirstModules<'_>], name: &[u8]) -> Option<Chosen>
 fn number_of(taken: &[Chosen], place: Chosen) -> Option<usize>
     ensures { result ≡ number_of taken.now place }
 {
-    taken
-        .iter()
-        .position(|other| other.library == place.library && other.module == place.module)
+    taken.iter().position(|other| other.library == place.library && other.module == place.module)
 }
 
 /// The roots, the libraries and what was taken of these.

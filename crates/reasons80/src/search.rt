@@ -36,12 +36,7 @@ pub(crate) fn fewest_steps(
 }
 
 /// Follows all edges from modules that are `round` steps from a root; says whether anything was found.
-fn search_round(
-    roots: usize,
-    edges: &[Edge],
-    round: usize,
-    found: &mut Vec<Option<Found>>,
-) -> bool
+fn search_round(roots: usize, edges: &[Edge], round: usize, found: &mut Vec<Option<Found>>) -> bool
     requires inside { LeadInside edges.now (length found.old.items) }
     requires countable { round < usize.MAX }
     requires searched { IsSearched roots edges.now round 0 found.old.items }

@@ -7,6 +7,6 @@ use Rattle.parts80.proofs.laid.append_laid.Given as goal
 abbrev pub invariant-loop-source : goal.invariant-loop-source
 invariant-loop-source l = record {
   lines : l.text.items ++ laid_text l.commons l.id l.end (map (λ m. m.now) (drop l.source-index l.modules))
-  ≡ l.initial.text.items ++ laid_text l.commons l.id 0 (map (λ m. m.now) l.modules);
+      ≡ l.initial.text.items ++ laid_text l.commons l.id 0 (map (λ m. m.now) l.modules);
   ends : parts_end l.id l.end (map (λ m. m.now) (drop l.source-index l.modules)) ≡ parts_end l.id 0 (map (λ m. m.now) l.modules);
 }
