@@ -1,5 +1,5 @@
 -- Parts one after another: their starts, and the end of the last.
-use Rattle.std.specs.Prelude.{◌≡◌, ℕ, suc, ◌+◌, ◌≤◌, ◌<◌, ◌⊎◌, ◌==◌, nat_lt, Bool, true, false, Option, Some, None, option_map, List, [], ◌∷◌, ◌++◌, find, map, drop, slice_get, slice_index, slice_index_or, length, refl}
+use Rattle.std.specs.Prelude.{◌≡◌, ℕ, suc, ◌+◌, ◌≤◌, ◌<◌, ◌⊎◌, ◌==◌, nat_lt, Bool, true, false, Option, Some, None, option_map, List, [], ◌∷◌, ◌++◌, find, map, drop, slice_index, slice_index_or, length, refl}
 use Rattle.std.specs.List.{flat_map, enumerate_from}
 use Rattle.std.specs.Option.{option_or}
 use Rattle.std.proofs.Common.{◌∙◌, ap, sym, arith, inl, inr, cond, append_assoc}
@@ -13,7 +13,7 @@ use Rattle.omf_parts.specs.Modules.{ModuleValue}
 use Rattle.omf_relocation.specs.Place.{rounded, is_laid_out, starts_from, part_start}
 use Rattle.link80.specs.declared.fault.LinkFault.{LinkFault}
 use Rattle.link80.specs.declared.fault.LinkFault.TheVariants.{SegmentTooLong}
-use Rattle.link80.specs.Linked.{linked_commons, part_of, parts_end, greatest, linked_length}
+use Rattle.link80.specs.Linked.{linked_commons, part_of, parts_end, linked_length}
 use Rattle.link80.specs.LinkFault.{duplicate_public, segment_too_long, two_mains, high_not_paged, too_many_commons, too_many_externals, link_fault}
 use Rattle.parts80.specs.Parts.{part_line, part_text, segment_text}
 use Rattle.parts80.specs.Words.{laid_text, joined_text}

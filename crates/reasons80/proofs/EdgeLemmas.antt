@@ -1,9 +1,9 @@
 -- Edges in order: where each comes from, that none is missing, and that they ascend.
-use Rattle.std.specs.Prelude.{◌≡◌, ℕ, zero, suc, ◌+◌, ◌<◌, ◌≤◌, ◌⊎◌, Option, Some, None, option_map, List, [], ◌∷◌, ◌++◌, length, filter_map, slice_get, Contains, refl}
+use Rattle.std.specs.Prelude.{◌≡◌, ℕ, zero, suc, ◌+◌, ◌<◌, ◌≤◌, ◌⊎◌, Option, Some, None, option_map, List, [], ◌∷◌, ◌++◌, length, filter_map, slice_get, refl}
 use Rattle.std.specs.List.{AllByRecursion, flat_map, enumerate_from, cons_option}
 use Rattle.std.proofs.Common.{◌∙◌, ap, sym, subst, arith, inl, inr}
-use Rattle.std.proofs.lemmas.Bool.{cases_lt, cases_eq}
-use Rattle.std.proofs.lemmas.Option.{none-some, same_Some, slice_get_within}
+use Rattle.std.proofs.lemmas.Bool.{cases_lt}
+use Rattle.std.proofs.lemmas.Option.{none-some, same_Some}
 use Rattle.omf_parts.specs.Modules.{ModuleValue}
 use Rattle.reasons80.specs.declared.edges.Edge.{Edge}
 use Rattle.reasons80.specs.Edges.{edge_of, edges_of, edges_in}

@@ -1,10 +1,9 @@
 -- Lines one after another.
-use Rattle.std.specs.Prelude.{◌≡◌, ℕ, ◌+◌, ◌<◌, Some, List, [], ◌∷◌, ◌++◌, take, slice_get}
+use Rattle.std.specs.Prelude.{◌≡◌, ℕ, ◌+◌, Some, List, [], ◌∷◌, ◌++◌, take, slice_get}
 use Rattle.std.specs.List.{concat, AllZip}
 use Rattle.std.proofs.Common.{◌∙◌, ap, sym, subst, append_assoc, append-nil}
 use Rattle.std.proofs.lemmas.List.{take_more}
 use Rattle.std.proofs.lemmas.Option.{slice_get_within, get_or_from_slice_get}
-use Rattle.omf_parts.specs.Modules.{ModuleValue}
 use Rattle.select80.specs.declared.chosen.Chosen.{Chosen}
 use Rattle.reasons80.specs.Reasons.{IsReasonLine, PrintsReasons}
 use Rattle.reasons80.specs.Searched.{SelectionValue, PrintsLine}

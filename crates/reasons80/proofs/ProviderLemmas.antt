@@ -1,5 +1,5 @@
 -- The first module that declares a name, and the number of its place among those that were taken.
-use Rattle.std.specs.Prelude.{◌≡◌, ℕ, zero, suc, ◌+◌, ◌<◌, ◌≤◌, ◌⊎◌, ◌==◌, ◌&&◌, ◌||◌, is_some, Bool, true, false, Option, Some, None, option_map, option_and_then, List, [], ◌∷◌, slice_get, Contains, refl}
+use Rattle.std.specs.Prelude.{◌≡◌, ℕ, zero, suc, ◌+◌, ◌<◌, ◌==◌, ◌&&◌, ◌||◌, is_some, Bool, true, false, Option, Some, None, option_map, option_and_then, List, [], ◌∷◌, slice_get, Contains, refl}
 use Rattle.std.specs.List.{list_any, position_from}
 use Rattle.std.specs.Option.{option_or}
 use Rattle.std.proofs.Common.{◌∙◌, ap, sym, subst, arith, inl, inr, cond}
@@ -8,7 +8,7 @@ use Rattle.std.proofs.lemmas.Option.{none-some, same_Some, option_and_then_some,
 use Rattle.omf_parts.specs.Modules.{ModuleValue}
 use Rattle.omf_library.specs.Providers.{declares, first_provider}
 use Rattle.select80.specs.declared.chosen.Chosen.{Chosen}
-use Rattle.select80.specs.Selected.{module_at, IsBefore, IsFirstProvider}
+use Rattle.select80.specs.Selected.{IsBefore, IsFirstProvider}
 use Rattle.reasons80.specs.Reasons.{IsSoughtAt}
 use Rattle.reasons80.specs.Edges.{place_of, first_place_from, number_of, target}
 

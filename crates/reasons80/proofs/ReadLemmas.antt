@@ -8,7 +8,7 @@ use Rattle.select80.specs.declared.chosen.Chosen.{Chosen}
 use Rattle.reasons80.specs.declared.edges.Edge.{Edge}
 use Rattle.reasons80.specs.declared.search.Found.{Found}
 use Rattle.reasons80.specs.Reasons.{IsReason}
-use Rattle.reasons80.specs.Searched.{SelectionValue, IsSearchedFor}
+use Rattle.reasons80.specs.Searched.{IsSearchedFor}
 use Rattle.reasons80.proofs.ReasonLemmas.{Stands, stands}
 
 at_map : {A B : Type 0} (f : A → B) (xs : List A) (i : ℕ) (y : B) (d : A) → slice_get (map f xs) i ≡ Some y

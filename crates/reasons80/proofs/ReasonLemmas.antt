@@ -1,19 +1,19 @@
 -- A search that has come to its end gives reasons: what is found are distances, and the edges are the first of the nearest.
-use Rattle.std.specs.Prelude.{◌≡◌, ◌↔◌, ℕ, zero, suc, ◌+◌, ◌-◌, ◌<◌, ◌≤◌, ◌⊎◌, nat_lt, Bool, true, false, Option, Some, None, option_map, option_and_then, List, [], ◌∷◌, ◌++◌, filter_map, length, slice_get, slice_index_or, Contains, refl}
-use Rattle.std.specs.List.{AllByRecursion, cons_option}
+use Rattle.std.specs.Prelude.{◌≡◌, ℕ, zero, suc, ◌+◌, ◌-◌, ◌<◌, ◌≤◌, ◌⊎◌, nat_lt, true, false, Option, Some, None, option_map, List, [], ◌∷◌, ◌++◌, filter_map, length, slice_get, slice_index_or, Contains, refl}
+use Rattle.std.specs.List.{cons_option}
 use Rattle.std.proofs.Common.{◌∙◌, ap, sym, subst, arith, inl, inr, cond}
-use Rattle.std.proofs.lemmas.Bool.{cases_Bool, cases_lt, cases_order, ltb-false}
+use Rattle.std.proofs.lemmas.Bool.{cases_lt, cases_order}
 use Rattle.std.proofs.lemmas.Bool.Decides.{nat_tests}
 use Rattle.std.proofs.lemmas.Option.{none-some, same_Some, slice_get_within, slice_get-get_or, get_or_from_slice_get}
 use Rattle.omf_parts.specs.Modules.{ModuleValue}
 use Rattle.select80.specs.declared.chosen.Chosen.{Chosen}
-use Rattle.select80.specs.Selected.{module_at, IsBefore, IsFirstProvider, Needs, IsChosen, by_root, by_member, AreAscending}
+use Rattle.select80.specs.Selected.{module_at, IsBefore, Needs, IsChosen, by_root, by_member, AreAscending}
 use Rattle.link80.specs.Selection.{IsSelection, modules_with}
 use Rattle.reasons80.specs.declared.edges.Edge.{Edge}
 use Rattle.reasons80.specs.declared.search.Found.{Found}
 use Rattle.reasons80.specs.Reasons.{IsReachedIn, from_root, from_member, IsDistance, IsAway, root, member, IsSoughtAt, IsReason}
 use Rattle.reasons80.specs.Edges.{target, edges_in}
-use Rattle.reasons80.specs.Search.{found_at, steps_to, LeadInside, IsRight, IsServed, IsComplete}
+use Rattle.reasons80.specs.Search.{found_at, steps_to, LeadInside, IsComplete}
 use Rattle.reasons80.specs.Searched.{IsSearchedFor}
 use Rattle.reasons80.proofs.EdgeLemmas.{comes_from_module, none_missing_of, edges_ascend, all_at}
 use Rattle.reasons80.proofs.ProviderLemmas.{at_has, target_is, is_target}

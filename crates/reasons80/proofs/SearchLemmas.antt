@@ -1,14 +1,13 @@
 -- Rounds of the search: an edge is followed, a round ends, the search ends.
-use Rattle.std.specs.Prelude.{◌≡◌, ℕ, zero, suc, ◌+◌, ◌-◌, ◌<◌, ◌≤◌, ◌⊎◌, ◌==◌, ◌&&◌, Bool, true, false, nat_lt, Option, Some, None, option_map, is_none, List, [], ◌∷◌, length, count_by, slice_get, slice_index_or, slice_set, refl}
-use Rattle.std.specs.Option.{option_map_or}
-use Rattle.std.proofs.Common.{◌∙◌, ap, sym, subst, arith, inl, inr, cond, get_or, set}
+use Rattle.std.specs.Prelude.{◌≡◌, ℕ, suc, ◌+◌, ◌-◌, ◌<◌, ◌≤◌, ◌⊎◌, ◌==◌, ◌&&◌, Bool, true, false, nat_lt, Option, Some, None, option_map, is_none, List, length, count_by, slice_get, slice_set, refl}
+use Rattle.std.proofs.Common.{◌∙◌, ap, sym, subst, arith, inl, inr, cond}
 use Rattle.std.proofs.lemmas.Bool.{cases_Bool, cases_eq, cases_lt, eqb-true, and_parts, false≢true}
-use Rattle.std.proofs.lemmas.List.{get_or-set_same, get_or-set_other, get_or_past, length-set}
+use Rattle.std.proofs.lemmas.List.{get_or-set_same, get_or-set_other, length-set}
 use Rattle.std.proofs.lemmas.List.Sums.{sum_by-set}
 use Rattle.std.proofs.lemmas.Option.{none-some, same_Some, slice_get_within}
 use Rattle.reasons80.specs.declared.edges.Edge.{Edge}
 use Rattle.reasons80.specs.declared.search.Found.{Found}
-use Rattle.reasons80.specs.Search.{found_at, steps_to, is_at, is_new, new_found, followed, LeadInside, IsRight, IsServed, IsSearched, IsWithin, IsRound, IsComplete}
+use Rattle.reasons80.specs.Search.{found_at, steps_to, is_at, is_new, new_found, followed, IsRight, IsServed, IsSearched, IsWithin, IsRound, IsComplete}
 
 -- ---- what is found at a number
 

@@ -1,5 +1,5 @@
 -- What the linked modules need, as edges: which one, by which of its names, needs which of those that were taken.
-use Rattle.std.specs.Prelude.{ℕ, ◌+◌, ◌==◌, ◌&&◌, if◌then◌else◌, Option, Some, None, option_map, option_and_then, List, [], ◌∷◌, filter_map}
+use Rattle.std.specs.Prelude.{ℕ, ◌+◌, ◌==◌, ◌&&◌, if◌then◌else◌, Option, None, option_map, option_and_then, List, [], ◌∷◌, filter_map}
 use Rattle.std.specs.List.{flat_map, list_any, enumerate_from, position_from}
 use Rattle.std.specs.Option.{option_or}
 use Rattle.omf_parts.specs.Modules.{ModuleValue}

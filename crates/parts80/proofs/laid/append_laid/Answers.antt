@@ -1,8 +1,7 @@
 use Rattle.std.specs.Prelude.{◌≡◌, ◌++◌, ◌+◌, ℕ, List, drop, map}
-use Rattle.std.proofs.Common.{rules, ◌∙◌, ap, sym, arith}
+use Rattle.std.proofs.Common.{rules, ◌∙◌, ap}
 use Rattle.omf_parts.specs.declared.segment.Segment.{Segment}
 use Rattle.omf_parts.specs.Segments.{segment_in}
-use Rattle.omf_parts.specs.Modules.{ModuleValue}
 use Rattle.omf_relocation.specs.Place.{rounded}
 use Rattle.link80.specs.Linked.{parts_end}
 use Rattle.parts80.specs.Parts.{part_line}

@@ -1,5 +1,5 @@
 -- the lines so far, and those of the modules that are left; and the end of them all
-use Rattle.std.proofs.Common.{◌≡◌, ◌++◌, ◌≤◌, drop, map}
+use Rattle.std.proofs.Common.{◌≡◌, ◌++◌, drop, map}
 use Rattle.link80.specs.Linked.{parts_end}
 use Rattle.parts80.specs.Words.{laid_text}
 use Rattle.parts80.proofs.laid.append_laid.Given as goal

@@ -1,5 +1,5 @@
-use Rattle.std.specs.Prelude.{◌≡◌, ◌++◌, ◌∷◌, [], codes}
-use Rattle.std.proofs.Common.{rules, ◌∙◌, ap, sym}
+use Rattle.std.specs.Prelude.{◌≡◌, ◌++◌, codes}
+use Rattle.std.proofs.Common.{rules}
 use Rattle.decode80.specs.Text.{word_text}
 use Rattle.parts80.proofs.TextLemmas.{grown_by_numbers}
 use Rattle.parts80.proofs.lines.append_extent.Goals as goal

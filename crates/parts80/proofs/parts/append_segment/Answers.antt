@@ -1,7 +1,5 @@
-use Rattle.std.specs.Prelude.{◌≡◌, ◌++◌, ◌∷◌, map, OnOk}
+use Rattle.std.specs.Prelude.{map}
 use Rattle.std.proofs.Common.{rules, ◌∙◌, ap, sym}
-use Rattle.omf_parts.specs.declared.symbols.Common.{Common}
-use Rattle.link80.specs.Linked.{linked_commons}
 use Rattle.parts80.specs.Words.{laid_text, joined_text}
 use Rattle.parts80.proofs.LaidLemmas.{laid_parts_fit, laid_is, joined_is}
 use Rattle.parts80.proofs.parts.append_segment.Goals as goal

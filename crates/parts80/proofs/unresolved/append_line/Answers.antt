@@ -1,5 +1,5 @@
-use Rattle.std.specs.Prelude.{◌≡◌, ◌++◌, ◌∷◌, [], codes}
-use Rattle.std.proofs.Common.{rules, ◌∙◌, ap, sym}
+use Rattle.std.specs.Prelude.{◌++◌, codes}
+use Rattle.std.proofs.Common.{◌∙◌, ap}
 use Rattle.parts80.proofs.TextLemmas.{grown_by_two}
 use Rattle.parts80.proofs.unresolved.append_line.Goals as goal
 

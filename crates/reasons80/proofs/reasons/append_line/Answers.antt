@@ -1,5 +1,5 @@
-use Rattle.std.specs.Prelude.{◌≡◌, ◌++◌, ◌∷◌, [], codes}
-use Rattle.std.proofs.Common.{rules, ◌∙◌, ap, sym}
+use Rattle.std.specs.Prelude.{◌++◌, codes}
+use Rattle.std.proofs.Common.{◌∙◌, ap}
 use Rattle.reasons80.proofs.TextLemmas.{grown_by_four}
 use Rattle.reasons80.proofs.reasons.append_line.Goals as goal
 

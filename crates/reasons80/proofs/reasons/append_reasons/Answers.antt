@@ -1,5 +1,5 @@
-use Rattle.std.specs.Prelude.{◌≡◌, length, map, ℕ, List, Some, slice_get, slice_index_or}
-use Rattle.std.proofs.Common.{rules, ◌∙◌, ap, sym, subst, arith}
+use Rattle.std.specs.Prelude.{◌≡◌, map, Some, slice_get, slice_index_or}
+use Rattle.std.proofs.Common.{subst}
 use Rattle.std.proofs.lemmas.Option.{slice_get-get_or}
 use Rattle.select80.specs.declared.chosen.Chosen.{Chosen}
 use Rattle.reasons80.specs.Searched.{SelectionValue, PrintsLine}

@@ -1,5 +1,5 @@
 -- the search at the beginning of this round, or after the last
-use Rattle.std.specs.Prelude.{◌≡◌, ◌<◌, ◌≤◌, ◌+◌, true, false, if◌then◌else◌, count_by, is_none, length}
+use Rattle.std.specs.Prelude.{◌≡◌, ◌≤◌, ◌+◌, true, false, if◌then◌else◌, count_by, is_none, length}
 use Rattle.reasons80.specs.Search.{IsSearched, IsComplete}
 use Rattle.reasons80.proofs.search.fewest_steps.Given as goal
 

@@ -1,5 +1,4 @@
-use Rattle.std.specs.Prelude.{◌≡◌, is_some}
-use Rattle.std.proofs.Common.{rules, ◌∙◌, ap, sym}
+use Rattle.std.proofs.Common.{rules}
 use Rattle.omf_library.specs.Providers.{declares}
 use Rattle.reasons80.proofs.ProviderLemmas.{passes_first}
 use Rattle.reasons80.proofs.providing.FirstModules.declares.Goals as goal

@@ -1,11 +1,11 @@
-use Rattle.std.specs.Prelude.{◌≡◌, ◌++◌, ◌∷◌, [], ℕ, List, Some, None, length, map, slice_index_or, option_copied, refl}
-use Rattle.std.proofs.Common.{rules, ◌∙◌, ap, sym, subst}
-use Rattle.std.proofs.lemmas.Option.{none-some, same_Some, slice_get_within}
+use Rattle.std.specs.Prelude.{◌≡◌, ◌++◌, [], ℕ, List, Some, map, slice_index_or, option_copied, refl}
+use Rattle.std.proofs.Common.{◌∙◌, ap, sym}
+use Rattle.std.proofs.lemmas.Option.{none-some, slice_get_within}
 use Rattle.std.proofs.lemmas.Result.{on_ok_weaker}
 use Rattle.omf_parts.specs.Modules.{ModuleValue}
 use Rattle.select80.specs.Selected.{module_at}
 use Rattle.reasons80.specs.Reasons.{reason_line}
-use Rattle.reasons80.specs.Searched.{SelectionValue, PrintsLine}
+use Rattle.reasons80.specs.Searched.{SelectionValue}
 use Rattle.reasons80.proofs.reasons.Searched.append_reason.Goals as goal
 
 pub reason-reason-requires : goal.reason-reason-requires

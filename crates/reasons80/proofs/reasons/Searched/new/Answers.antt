@@ -1,7 +1,5 @@
-use Rattle.std.specs.Prelude.{◌≡◌, length, map, ℕ, List}
-use Rattle.std.proofs.Common.{rules, ◌∙◌, ap, sym, subst}
-use Rattle.omf_parts.specs.Modules.{ModuleValue}
-use Rattle.select80.specs.declared.chosen.Chosen.{Chosen}
+use Rattle.std.specs.Prelude.{length, map, List}
+use Rattle.std.proofs.Common.{◌∙◌, ap, sym, subst}
 use Rattle.reasons80.specs.declared.edges.Edge.{Edge}
 use Rattle.reasons80.specs.Edges.{target, edges_in}
 use Rattle.reasons80.specs.Search.{LeadInside}

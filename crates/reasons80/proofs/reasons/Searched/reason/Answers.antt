@@ -1,5 +1,5 @@
-use Rattle.std.specs.Prelude.{◌≡◌, ◌<◌, length, map, Some, ℕ, List, slice_get}
-use Rattle.std.proofs.Common.{rules, ◌∙◌, ap, sym, subst, arith}
+use Rattle.std.specs.Prelude.{◌≡◌, length, Some, ℕ, List, slice_get}
+use Rattle.std.proofs.Common.{rules, ap, subst, arith}
 use Rattle.select80.specs.declared.chosen.Chosen.{Chosen}
 use Rattle.reasons80.specs.Reasons.{IsReason}
 use Rattle.reasons80.specs.Searched.{SelectionValue}
