@@ -14,6 +14,7 @@ mod describing;
 mod finding;
 mod found_text;
 mod library;
+mod link_lines;
 mod linking;
 mod locate_options;
 mod locating;

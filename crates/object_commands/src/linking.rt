@@ -1,17 +1,21 @@
 //! `plm80 link`: the modules of object files, and what they need of libraries, linked into one.
 
+ghost use Rattle.std.specs.Prelude.{IfOk};
+ghost use Rattle.link80.specs.Selection.{IsSelection};
+ghost use Rattle.parts80.specs.Parts.{IsMade};
+
+use crate::link_lines::{LinkLines, lines_of};
 use clap::ArgMatches;
 use console80::{
     Argument, Console, Kind, LateFile, LinkFile, OptionText, Reported, Syntax, append_modules,
     path_of, read_link_file,
 };
-use link80::{Chosen, Linked, link};
+use link80::{Linked, link};
 use loader80::Reading;
 use omf_core::Name;
 use omf_library::Library;
 use omf_module::{Module, write_file};
 use std::alloc::{AllocError, Global};
-use std::fmt::Write;
 use std::slice;
 
 /// The arguments of `link`.
@@ -19,6 +23,7 @@ use std::slice;
 pub struct LinkArguments<'a> {
     name: OptionText<'a>,
     out: &'a str,
+    lines: LinkLines,
     files: Vec<&'a str>,
 }
 
@@ -30,8 +35,12 @@ modules of the object files are linked, in order, and after them the library
 modules that declare a name which is needed: of several, the first one.
 
 It prints TAKEN and a name for each module that is taken from a library, and
-UNRESOLVED and a name for each name that no module declares. The object file is
-written only if there is no fault.
+UNRESOLVED and a name for each name that no module declares. With --reasons,
+TAKEN also has the name it is taken FOR, the nearest module BY which that is
+needed, and the library's file. With --map, UNRESOLVED has a line for each
+module that needs the name, and PART lines follow: offset in the linked
+segment, length, segment, and module. The object file is written only if there
+is no fault.
 
 Example: plm80 link --name CONTROL --out linked.obj main.obj routines.lib
 
@@ -54,6 +63,16 @@ pub const LINK: Syntax<'static> = Syntax {
             help: "The object file to write",
         },
         Argument {
+            name: "map",
+            kind: Kind::Flag,
+            help: "Print where parts lie, and what needs unresolved names",
+        },
+        Argument {
+            name: "reasons",
+            kind: Kind::Flag,
+            help: "Print why each module is taken, and from which file",
+        },
+        Argument {
             name: "FILE",
             kind: Kind::Paths,
             help: "The object files and libraries to read",
@@ -67,16 +86,21 @@ impl<'a> LinkArguments<'a> {
         Ok(LinkArguments {
             name: OptionText::of(matches, "name"),
             out: path_of(matches, "out"),
+            lines: LinkLines {
+                map: matches.get_flag("map"),
+                reasons: matches.get_flag("reasons"),
+            },
             files: Vec::from_slice(alloc, matches.get_strs("FILE").unwrap_or(&[]))?,
         })
     }
 }
 
-/// The modules of object files, and libraries, each in the order of their files.
+/// The modules of object files, and libraries with their paths, each in the order of their files.
 #[derive(Drop)]
-struct LinkFiles {
-    roots: Vec<Module>,
-    libraries: Vec<Library>,
+pub(crate) struct LinkFiles<'a> {
+    pub roots: Vec<Module>,
+    pub libraries: Vec<Library>,
+    pub paths: Vec<&'a [u8]>,
 }
 
 /// Links the modules of the files, writes the linked one and prints which were taken and which names are unresolved. No file
@@ -93,29 +117,32 @@ fn link_named(
     name: &Name,
 ) -> Result<u8, Reported> {
     let files = read_files(console, &arguments.files)?;
-    link_read(console, arguments.out, name, &files)
+    link_read(console, arguments, name, &files)
 }
 
-/// Links what was read, and writes the linked module to the file of this path.
+/// Links what was read, and writes the linked module.
 fn link_read(
     console: Console<'_>,
-    path: &str,
+    arguments: &LinkArguments<'_>,
     name: &Name,
-    files: &LinkFiles,
+    files: &LinkFiles<'_>,
 ) -> Result<u8, Reported> {
     let linked = linked(console, name, files)?;
-    write_linked(console, path, &linked, &files.libraries)
+    write_linked(console, arguments, &linked, files)
 }
 
 /// Writes the linked module, and prints what was taken and what is unresolved.
 fn write_linked(
     console: Console<'_>,
-    path: &str,
+    arguments: &LinkArguments<'_>,
     linked: &Linked,
-    libraries: &[Library],
-) -> Result<u8, Reported> {
-    match outputs_of(console.alloc(), linked, libraries) {
-        Ok((object, lines)) => write_outputs(console, path, &object, &lines),
+    files: &LinkFiles<'_>,
+) -> Result<u8, Reported>
+    requires selection { IsSelection files.now.roots.items files.now.libraries.items linked.now.taken.items }
+    requires made { IsMade files.now.roots.items files.now.libraries.items linked.now }
+{
+    match outputs_of(console.alloc(), arguments.lines, linked, files) {
+        Ok((object, lines)) => write_outputs(console, arguments.out, &object, &lines),
         Err(AllocError) => Err(console.report_memory()),
     }
 }
@@ -125,18 +152,19 @@ fn write_outputs(
     console: Console<'_>,
     path: &str,
     object: &[u8],
-    lines: &str,
+    lines: &[u8],
 ) -> Result<u8, Reported> {
     console.replace(path, object)?;
-    console.print(lines.as_bytes())?;
+    console.print(lines)?;
     Ok(0)
 }
 
 /// What the files of these paths have. Each file is looked at before the next one is opened.
-fn read_files(console: Console<'_>, paths: &[&str]) -> Result<LinkFiles, Reported> {
+fn read_files<'a>(console: Console<'_>, paths: &[&'a str]) -> Result<LinkFiles<'a>, Reported> {
     let mut files = LinkFiles {
         roots: Vec::new(console.alloc()),
         libraries: Vec::new(console.alloc()),
+        paths: Vec::new(console.alloc()),
     };
     for path in paths {
         files.add(console, path)?;
@@ -144,24 +172,35 @@ fn read_files(console: Console<'_>, paths: &[&str]) -> Result<LinkFiles, Reporte
     Ok(files)
 }
 
-impl LinkFiles {
+impl<'a> LinkFiles<'a> {
     /// Adds what the file of this path has.
-    fn add(&mut self, console: Console<'_>, path: &str) -> Result<(), Reported> {
+    fn add(&mut self, console: Console<'_>, path: &'a str) -> Result<(), Reported> {
         match read_file(console, path)? {
             LinkFile::Modules(mut modules) => append_modules(
                 console,
                 &mut self.roots,
                 &mut modules,
             ),
-            LinkFile::Library(library) => self.add_library(console, library),
+            LinkFile::Library(library) => self.add_library(console, library, path),
         }
     }
 
-    fn add_library(&mut self, console: Console<'_>, library: Library) -> Result<(), Reported> {
-        match self.libraries.push(library) {
+    fn add_library(
+        &mut self,
+        console: Console<'_>,
+        library: Library,
+        path: &'a str,
+    ) -> Result<(), Reported> {
+        match self.push_library(library, path) {
             Ok(()) => Ok(()),
             Err(_) => Err(console.report_memory()),
         }
+    }
+
+    fn push_library(&mut self, library: Library, path: &'a str) -> Result<(), AllocError> {
+        self.libraries.push(library)?;
+        self.paths.push(path.as_bytes())?;
+        Ok(())
     }
 }
 
@@ -176,7 +215,10 @@ pub(crate) fn read_file(console: Console<'_>, path: &str) -> Result<LinkFile, Re
 }
 
 /// What the files are linked into.
-fn linked(console: Console<'_>, name: &Name, files: &LinkFiles) -> Result<Linked, Reported> {
+fn linked(console: Console<'_>, name: &Name, files: &LinkFiles<'_>) -> Result<Linked, Reported>
+    ensures selection { IfOk result (λ made. IsSelection files.now.roots.items files.now.libraries.items made.taken.items) }
+    ensures made { IfOk result (λ made. IsMade files.now.roots.items files.now.libraries.items made) }
+{
     match link(console.alloc(), name, &files.roots, &files.libraries) {
         Ok(linked) => Ok(linked),
         Err(fault) => Err(console.report(fault)),
@@ -186,47 +228,15 @@ fn linked(console: Console<'_>, name: &Name, files: &LinkFiles) -> Result<Linked
 /// The linked object file, and the lines that are printed.
 fn outputs_of(
     alloc: Global,
+    wanted: LinkLines,
     linked: &Linked,
-    libraries: &[Library],
-) -> Result<(Vec<u8>, String), AllocError> {
-    let lines = lines_of(alloc, linked, libraries)?;
+    files: &LinkFiles<'_>,
+) -> Result<(Vec<u8>, Vec<u8>), AllocError>
+    requires selection { IsSelection files.now.roots.items files.now.libraries.items linked.now.taken.items }
+    requires made { IsMade files.now.roots.items files.now.libraries.items linked.now }
+{
+    let lines = lines_of(alloc, wanted, linked, files)?;
     let mut object = Vec::new(alloc);
     write_file(alloc, slice::from_ref(&linked.module), &mut object)?;
     Ok((object, lines))
-}
-
-/// A line for each module that was taken, and one for each name that is unresolved.
-fn lines_of(alloc: Global, linked: &Linked, libraries: &[Library]) -> Result<String, AllocError> {
-    let mut lines = String::new(alloc);
-    append_taken(&mut lines, &linked.taken, libraries)?;
-    append_unresolved(&mut lines, &linked.unresolved)?;
-    Ok(lines)
-}
-
-/// Appends a line for each module that was taken.
-fn append_taken(
-    lines: &mut String,
-    taken: &[Chosen],
-    libraries: &[Library],
-) -> Result<(), AllocError> {
-    for chosen in taken {
-        if let Some(name) = name_at(libraries, *chosen) {
-            writeln!(lines, "TAKEN {name}")?;
-        }
-    }
-    Ok(())
-}
-
-/// The name of the module at a place in the libraries.
-fn name_at(libraries: &[Library], place: Chosen) -> Option<&Name> {
-    let library = libraries.get(place.library)?;
-    Some(library.modules.get(place.module)?.name())
-}
-
-/// Appends a line for each name that no module declares.
-fn append_unresolved(lines: &mut String, names: &[Name]) -> Result<(), AllocError> {
-    for name in names {
-        writeln!(lines, "UNRESOLVED {name}")?;
-    }
-    Ok(())
 }

@@ -1,0 +1,2 @@
+mod LaidLemmas
+mod TextLemmas

@@ -1,0 +1,3 @@
+pub mod Parts
+-- what the crate's own functions promise one another: no public contract cites these
+pub mod Words

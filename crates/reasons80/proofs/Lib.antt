@@ -1,0 +1,7 @@
+mod SearchLemmas
+mod EdgeLemmas
+mod ProviderLemmas
+mod ReasonLemmas
+mod ReadLemmas
+mod LineLemmas
+mod TextLemmas
