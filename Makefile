@@ -73,6 +73,7 @@ package-files:
 test: need-rt need-python3
 	@tests/layers/run
 	@tests/examples/run
+	@tools/lemma_files --check
 	MIMALLOC_PURGE_DELAY=-1 rt ci
 	@tests/commands/run $(PROGRAM)
 	@tests/commands/migrated $(PROGRAM)
