@@ -50,12 +50,13 @@ need-prefix:
 
 install: need-prefix build install-files
 
-# (What there is to install, of a program that is built.)
+# What there is to install, of a program that is built. PROVED says what proved it.
 install-files:
 	install -D -m 755 $(PROGRAM) "$(DESTDIR)$(PREFIX)/bin/plm80"
 	install -D -m 644 share/plm80.1 "$(DESTDIR)$(PREFIX)/share/man/man1/plm80.1"
 	install -d "$(DESTDIR)$(PREFIX)/share/doc/plm80"
-	install -m 644 README.md docs/*.md "$(DESTDIR)$(PREFIX)/share/doc/plm80"
+	install -m 644 README.md LICENSE CHANGELOG.md docs/*.md "$(DESTDIR)$(PREFIX)/share/doc/plm80"
+	@tools/proved > "$(DESTDIR)$(PREFIX)/share/doc/plm80/PROVED"
 	install -D -m 644 share/plm80.bash "$(DESTDIR)$(PREFIX)/share/bash-completion/completions/plm80"
 
 uninstall:
@@ -68,10 +69,11 @@ package: build package-files
 package-files:
 	@tools/package $(PROGRAM)
 
-# (rt ci has built the program that it proved. The prover's allocator keeps what it frees: that takes a few percent less time.)
+# rt ci has built the program that it proved. The prover's allocator keeps what it frees: that takes a few percent less time.
 test: need-rt need-python3
 	@tests/layers/run
 	@tests/examples/run
+	@tools/lemma_files --check
 	MIMALLOC_PURGE_DELAY=-1 rt ci
 	@tests/commands/run $(PROGRAM)
 	@tests/commands/migrated $(PROGRAM)

@@ -103,8 +103,8 @@ fn command_of(name: &str) -> Option<Syntax<'static>> {
     None
 }
 
-/// What `--version` prints: the program's version, and the toolchain by which it was proved.
-const VERSION: &str = "1.0 (rattle-kit-13f logic dac8208d650f15bf)";
+/// What `--version` prints.
+const VERSION: &str = "1.1";
 
 /// The command of a command line, whose first argument is the program's own name, and whether its faults are explained.
 pub fn read_arguments<'a>(
