@@ -10,4 +10,5 @@ pub mod RingLemmas
 pub mod KnownLemmas
 pub mod ChainLemmas
 pub mod BoundLemmas
-pub mod ExitLemmas
+pub mod CountLemmas
+pub mod GroupLemmas

@@ -69,10 +69,26 @@ module _ {X : Type 0} where
       by true e = is ∙ ap (λ c. if c then old else old ++ key ∷ []) e
       by false e = absurd (true≢false (sym (sym old_key ∙ added ∙ ap not e)))
 
+pub is_none : (found new : Bool) → new ≡ not found → new ≡ true → found ≡ false
+is_none false new e is = refl
+is_none true new e is = absurd (true≢false (sym is ∙ e))
+
 -- what follows where a call succeeds
 pub on_ok : {X E : Type 0} (r : Result X E) (A B : Type 0) → (A → B) → OnOk r A → OnOk r B
 on_ok (Ok x) A B f h = f h
 on_ok (Err e) A B f h = h
+
+pub on_ok2 : {X F : Type 0} (r : Result X F) (A B C : Type 0) → (A → B → C) → OnOk r A → OnOk r B → OnOk r C
+on_ok2 (Ok x) A B C f a b = f a b
+on_ok2 (Err y) A B C f a b = a
+
+pub on_ok4 : {X F : Type 0} (r : Result X F) (A B C D E : Type 0) → (A → B → C → D → E) → OnOk r A → OnOk r B → OnOk r C → OnOk r D → OnOk r E
+on_ok4 (Ok x) A B C D E f a b c d = f a b c d
+on_ok4 (Err y) A B C D E f a b c d = a
+
+pub if_ok : {X E : Type 0} (r : Result X E) (A B : X → Type 0) → ((x : X) → A x → B x) → IfOk r A → IfOk r B
+if_ok (Ok x) A B f h = f x h
+if_ok (Err e) A B f h = h
 
 pub on_none : {X E : Type 0} (r : Result (Option X) E) (A B : Type 0) → (A → B) → IfOk r (λ o. IfNone o A) → IfOk r (λ o. IfNone o B)
 on_none (Ok None) A B f h = f h

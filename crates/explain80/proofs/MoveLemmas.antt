@@ -23,14 +23,14 @@ use Rattle.explain80.specs.declared.search.Search.{Search}
 use Rattle.explain80.proofs.ListLemmas.{extends-push, extends-same, slice_get-extends, slice_get-last}
 use Rattle.explain80.proofs.SearchLemmas.{has-extends, grows-added}
 
-module _ (code : Code) (points : List Point) (known new : List Exit) (point : Point) (next : ℕ) where
+module _ (code : Code) (points : List Point) (exits : List Exit) (point : Point) (next : ℕ) where
   none_called : (target : ℕ) {X : Type 0} → None ≡ Some target → X
   none_called target e = absurd (none-some target e)
 
   here : (to at : ℕ) (g f : StackFrame) → Has points (point_of point.procedure at f) → to ≡ at → g ≡ f → Has points (point_of point.procedure to g)
   here to at g f h e1 e2 = subst (λ t. Has points (point_of point.procedure t g)) (sym e1) (subst (λ x. Has points (point_of point.procedure at x)) (sym e2) h)
 
-  pub covers-end : CoversMove code points known new point End next
+  pub covers-end : CoversMove code points exits point End next
   covers-end = record {
     on = λ to g e. absurd e;
     enter = λ target e. none_called target e;
@@ -38,7 +38,7 @@ module _ (code : Code) (points : List Point) (known new : List Exit) (point : Po
     return = λ taken e. none_called taken e;
   }
 
-  pub covers-on : (f : StackFrame) → Has points (point_of point.procedure next f) → CoversMove code points known new point (On f) next
+  pub covers-on : (f : StackFrame) → Has points (point_of point.procedure next f) → CoversMove code points exits point (On f) next
   covers-on f h = record {
     on = λ to g e. here to next g f h e.0 e.1;
     enter = λ target e. none_called target e;
@@ -46,7 +46,7 @@ module _ (code : Code) (points : List Point) (known new : List Exit) (point : Po
     return = λ taken e. none_called taken e;
   }
 
-  pub covers-jump : (f : StackFrame) (address : ℕ) → Has points (point_of point.procedure address f) → CoversMove code points known new point (Jump f address) next
+  pub covers-jump : (f : StackFrame) (address : ℕ) → Has points (point_of point.procedure address f) → CoversMove code points exits point (Jump f address) next
   covers-jump f address h = record {
     on = λ to g e. here to address g f h e.0 e.1;
     enter = λ target e. none_called target e;
@@ -54,7 +54,7 @@ module _ (code : Code) (points : List Point) (known new : List Exit) (point : Po
     return = λ taken e. none_called taken e;
   }
 
-  pub covers-either : (f : StackFrame) (address : ℕ) → Has points (point_of point.procedure next f) → Has points (point_of point.procedure address f) → CoversMove code points known new point (Either f address) next
+  pub covers-either : (f : StackFrame) (address : ℕ) → Has points (point_of point.procedure next f) → Has points (point_of point.procedure address f) → CoversMove code points exits point (Either f address) next
   covers-either f address h k = record {
     on = λ to g e. by to g e.0 e.1;
     enter = λ target e. none_called target e;
@@ -66,7 +66,7 @@ module _ (code : Code) (points : List Point) (known new : List Exit) (point : Po
       by to g (inl e) is = here to next g f h e is
       by to g (inr e) is = here to address g f k e is
 
-  pub covers-case : (f : StackFrame) → ((to : ℕ) → Contains (code.targets point.at) to → Has points (point_of point.procedure to f)) → CoversMove code points known new point (Case f) next
+  pub covers-case : (f : StackFrame) → ((to : ℕ) → Contains (code.targets point.at) to → Has points (point_of point.procedure to f)) → CoversMove code points exits point (Case f) next
   covers-case f h = record {
     on = λ to g e. here to to g f (h to e.0) refl e.1;
     enter = λ target e. none_called target e;
@@ -74,14 +74,14 @@ module _ (code : Code) (points : List Point) (known new : List Exit) (point : Po
     return = λ taken e. none_called taken e;
   }
 
-  module _ (target : ℕ) (entered : Has points (point_of (Entry target) target entry_frame)) (back : (taken : ℕ) → HasExit known (Entry target) taken → HasBack code points point.procedure point.frame next taken) where
+  module _ (target : ℕ) (entered : Has points (point_of (Entry target) target entry_frame)) (back : (taken : ℕ) → HasExit exits (Entry target) taken → HasBack code points point.procedure point.frame next taken) where
     entered_at : (to : ℕ) → Some target ≡ Some to → Has points (point_of (Entry to) to entry_frame)
     entered_at to e = subst (λ t. Has points (point_of (Entry t) t entry_frame)) (same_Some target to e) entered
 
-    back_from : (to taken : ℕ) → Some target ≡ Some to → HasExit known (Entry to) taken → HasBack code points point.procedure point.frame next taken
-    back_from to taken e h = back taken (subst (λ t. HasExit known (Entry t) taken) (sym (same_Some target to e)) h)
+    back_from : (to taken : ℕ) → Some target ≡ Some to → HasExit exits (Entry to) taken → HasBack code points point.procedure point.frame next taken
+    back_from to taken e h = back taken (subst (λ t. HasExit exits (Entry t) taken) (sym (same_Some target to e)) h)
 
-    pub covers-call : (f : StackFrame) → CoversMove code points known new point (Call f target) next
+    pub covers-call : (f : StackFrame) → CoversMove code points exits point (Call f target) next
     covers-call f = record {
       on = λ to g e. absurd e;
       enter = λ to e. entered_at to e;
@@ -89,7 +89,7 @@ module _ (code : Code) (points : List Point) (known new : List Exit) (point : Po
       return = λ taken e. none_called taken e;
     }
 
-    pub covers-maybe_call : (f : StackFrame) → Has points (point_of point.procedure next f) → CoversMove code points known new point (MaybeCall f target) next
+    pub covers-maybe_call : (f : StackFrame) → Has points (point_of point.procedure next f) → CoversMove code points exits point (MaybeCall f target) next
     covers-maybe_call f h = record {
       on = λ to g e. here to next g f h e.0 e.1;
       enter = λ to e. entered_at to e;
@@ -97,11 +97,11 @@ module _ (code : Code) (points : List Point) (known new : List Exit) (point : Po
       return = λ taken e. none_called taken e;
     }
 
-  module _ (taken : ℕ) (left : HasExit new point.procedure taken) where
-    left_with : (other : ℕ) → Some taken ≡ Some other → HasExit new point.procedure other
-    left_with other e = subst (HasExit new point.procedure) (same_Some taken other e) left
+  module _ (taken : ℕ) (left : HasExit exits point.procedure taken) where
+    left_with : (other : ℕ) → Some taken ≡ Some other → HasExit exits point.procedure other
+    left_with other e = subst (HasExit exits point.procedure) (same_Some taken other e) left
 
-    pub covers-return : CoversMove code points known new point (Return taken) next
+    pub covers-return : CoversMove code points exits point (Return taken) next
     covers-return = record {
       on = λ to g e. absurd e;
       enter = λ target e. none_called target e;
@@ -109,7 +109,7 @@ module _ (code : Code) (points : List Point) (known new : List Exit) (point : Po
       return = λ other e. left_with other e;
     }
 
-    pub covers-maybe_return : (f : StackFrame) → Has points (point_of point.procedure next f) → CoversMove code points known new point (MaybeReturn f taken) next
+    pub covers-maybe_return : (f : StackFrame) → Has points (point_of point.procedure next f) → CoversMove code points exits point (MaybeReturn f taken) next
     covers-maybe_return f h = record {
       on = λ to g e. here to next g f h e.0 e.1;
       enter = λ target e. none_called target e;
@@ -129,7 +129,7 @@ module _ (code : Code) (points : List Point) (known new : List Exit) (point : Po
       one_next : next ≡ found.next
       one_next = is.after ∙ ap (λ (x : Fetched). x.next) one_fetch
 
-    pub covers-moved : CoversMove code points known new point moves next → Covers code points known new point
+    pub covers-moved : CoversMove code points exits point moves next → Covers code points exits point
     covers-moved c = record {
       on = λ to g e. c.on to g (subst (λ m. LeadsTo m (code.targets point.at) next to g) (sym (one_move e.found e.moves e.moving)) (subst (λ n. LeadsTo e.moves (code.targets point.at) n to g) (sym (one_next e.found e.moves e.moving)) e.leads));
       enter = λ target after e. c.enter target (ap called (one_move e.found e.moves e.moving) ∙ e.call);
@@ -155,7 +155,7 @@ notes-call old new call moves calls e = record {
 
 pub notes-moved : (code : Code) (old new : List CallingPoint) (number : ℕ) (point : Point) (moves : Moves) (next : ℕ) → IsMoving code point moves next → NotesMove old new number moves → NotesCalls code new number point
 notes-moved code old new number point moves next is n = record {
-  noted = λ target after e. n.noted target (ap called (one_move code [] [] [] point next moves is e.found e.moves e.moving) ∙ e.call);
+  noted = λ target after e. n.noted target (ap called (one_move code [] [] point next moves is e.found e.moves e.moving) ∙ e.call);
 }
 
 -- a call that is noted stays so
@@ -209,17 +209,17 @@ back-extends code old new one next taken e was = record { back = λ g after. has
 -- a point that leads on: what is added after it comes from it
 module _ (code : Code) (old new : Search) (h : IsSound code old) where
   pub leads-on : (number : ℕ) (one : Point) (to : ℕ) (f : StackFrame) → slice_get old.points.keys number ≡ Some one → GoesOn code one.procedure one.at one.frame to f →
-      IsAdded old new (point_of one.procedure to f) (GoesOnFrom number) → Grows code old new
+      IsAdded code old new (point_of one.procedure to f) (GoesOnFrom number) → Grows code old new
   leads-on number one to f is on = grows-added code old new h (point_of one.procedure to f) (GoesOnFrom number)
       (record { earlier = slice_get_within old.points.keys number one is; point = one; is = is; there = record { procedure = refl; on = on } })
 
-  pub enters-on : (call : CallingPoint) → IsCalling code old.points.keys call → IsAdded old new (point_of (Entry call.target) call.target entry_frame) (EntersBy call.point) → Grows code old new
+  pub enters-on : (call : CallingPoint) → IsCalling code old.points.keys call → IsAdded code old new (point_of (Entry call.target) call.target entry_frame) (EntersBy call.point) → Grows code old new
   enters-on call c = grows-added code old new h (point_of (Entry call.target) call.target entry_frame) (EntersBy call.point)
       (record { earlier = slice_get_within old.points.keys call.point c.point c.is; point = c.point; is = c.is; there = record { target = call.target; next = call.next; call = c.calls; enter = record { procedure = refl; start = refl; frame = refl } } })
 
   -- where the move of a point leads comes from it
   pub goes-move : (number : ℕ) (one : Point) (moves : Moves) (next to : ℕ) (f : StackFrame) → slice_get old.points.keys number ≡ Some one → IsMovingAt code old.points.keys number moves next → LeadsTo moves (code.targets one.at) next to f →
-      IsAdded old new (point_of one.procedure to f) (GoesOnFrom number) → Grows code old new
+      IsAdded code old new (point_of one.procedure to f) (GoesOnFrom number) → Grows code old new
   goes-move number one moves next to f is m leads =
       let e : m.point ≡ one = same_Some m.point one (sym m.is ∙ is) in
       let moving = subst (λ (p : Point). Moving code p.procedure p.at p.frame m.moving.found moves) e m.moving.moving in
@@ -227,7 +227,7 @@ module _ (code : Code) (old new : Search) (h : IsSound code old) where
 
   -- one target more of those that are declared
   pub goes-case : (number : ℕ) (one : Point) (f : StackFrame) (next k : ℕ) (g : StackFrame) → slice_get old.points.keys number ≡ Some one → IsMovingAt code old.points.keys number (Case f) next → k < length (code.targets one.at) → g ≡ f →
-      IsAdded old new (point_of one.procedure (get_or (code.targets one.at) k 0) g) (GoesOnFrom number) → Grows code old new
+      IsAdded code old new (point_of one.procedure (get_or (code.targets one.at) k 0) g) (GoesOnFrom number) → Grows code old new
   goes-case number one f next k g is m below same = goes-move number one (Case f) next (get_or (code.targets one.at) k 0) g is m (Contains-get_or (code.targets one.at) k 0 below, same)
 
 -- each target is there
@@ -252,7 +252,7 @@ module _ (code : Code) (points : List Point) (number : ℕ) (moves : Moves) (nex
   }
 
 -- what is covered of one point is covered of the point of its number
-pub covers-at : (code : Code) (points old : List Point) (known new : List Exit) (number : ℕ) (one : Point) (moves is_moves : Moves) (next : ℕ) → slice_get old number ≡ Some one → moves ≡ is_moves → CoversMove code points known new one is_moves next →
-    (point : Point) → slice_get old number ≡ Some point → CoversMove code points known new point moves next
-covers-at code points old known new number one moves is_moves next is same c point at =
-    subst (λ (p : Point). CoversMove code points known new p moves next) (same_Some one point (sym is ∙ at)) (subst (λ m. CoversMove code points known new one m next) (sym same) c)
+pub covers-at : (code : Code) (points old : List Point) (exits : List Exit) (number : ℕ) (one : Point) (moves is_moves : Moves) (next : ℕ) → slice_get old number ≡ Some one → moves ≡ is_moves → CoversMove code points exits one is_moves next →
+    (point : Point) → slice_get old number ≡ Some point → CoversMove code points exits point moves next
+covers-at code points old exits number one moves is_moves next is same c point at =
+    subst (λ (p : Point). CoversMove code points exits p moves next) (same_Some one point (sym is ∙ at)) (subst (λ m. CoversMove code points exits one m next) (sym same) c)

@@ -1,6 +1,6 @@
 -- What goes on holding while a search goes on.
-use Rattle.std.proofs.Common.{◌≡◌, ◌+◌, ℕ, ◌⊎◌, inl, inr, List, [], ◌∷◌, ◌++◌, Some, length, slice_get, sym, ◌∙◌, ap, subst, arith}
-use Rattle.std.proofs.lemmas.Option.{none-some, slice_get_within}
+use Rattle.std.proofs.Common.{◌≡◌, ◌≤◌, ◌+◌, ℕ, ◌⊎◌, inl, inr, List, [], ◌∷◌, ◌++◌, Some, length, slice_get, sym, ◌∙◌, ap, subst, arith}
+use Rattle.std.proofs.lemmas.Option.{slice_get_within}
 use Rattle.std.proofs.lemmas.List.{length-append}
 use Rattle.flow80.specs.Code.{Code}
 use Rattle.explain80.specs.declared.point.Point.{Point}
@@ -9,7 +9,8 @@ use Rattle.explain80.specs.declared.origin.Origin.TheVariants.{Begins, GoesOn, E
 use Rattle.explain80.specs.declared.origin.Exit.{Exit}
 use Rattle.explain80.specs.declared.origin.CallingPoint.{CallingPoint}
 use Rattle.explain80.specs.declared.search.Search.{Search}
-use Rattle.explain80.specs.Search.{Has, Before, Comes, IsExit, IsCalling, IsSound, Extends, IsAdded, SamePoints, Grows}
+use Rattle.explain80.specs.Counts.{AreDistinct, weight_of_all}
+use Rattle.explain80.specs.Search.{IsCounted, Has, Before, Comes, IsExit, IsCalling, IsSound, Extends, IsAdded, SamePoints, Grows}
 use Rattle.explain80.proofs.ListLemmas.{slice_get-extends, slice_get-push, extends-same, extends-push, extends-on}
 
 pub has-extends : (old new : List Point) → Extends old new → (point : Point) → Has old point → Has new point
@@ -35,11 +36,13 @@ grows-on code one two three a b = record {
   points = extends-on one.points.keys two.points.keys three.points.keys a.points b.points;
   exits = extends-on one.exits.items two.exits.items three.exits.items a.exits b.exits;
   sound = b.sound;
+  counts = λ h. b.counts (a.counts h);
+  followed = b.followed ∙ a.followed;
 }
 
 module _ (code : Code) (old new : Search) (h : IsSound code old) where
   -- a point is added
-  module _ (point : Point) (origin : Origin) (c : Comes code old.points.keys (length old.points.keys) point origin) (a : IsAdded old new point origin) where
+  module _ (point : Point) (origin : Origin) (c : Comes code old.points.keys (length old.points.keys) point origin) (a : IsAdded code old new point origin) where
     extended : Extends old.points.keys new.points.keys
     extended = by a.points
       where
@@ -80,6 +83,8 @@ module _ (code : Code) (old new : Search) (h : IsSound code old) where
         exits = λ k exit e. exit-extends code old.points.keys new.points.keys extended exit (h.exits k exit (ap (λ xs. slice_get xs k) (sym a.exits) ∙ e));
         calls = λ k call e. calling-extends code old.points.keys new.points.keys extended call (h.calls k call (ap (λ xs. slice_get xs k) (sym a.calls) ∙ e));
       };
+      counts = a.counts;
+      followed = a.followed;
     }
 
   -- a call or an exit is noted
@@ -93,6 +98,12 @@ module _ (code : Code) (old new : Search) (h : IsSound code old) where
     paired-noted : length new.origins.items ≡ length new.points.keys
     paired-noted = ap length s.origins ∙ h.paired ∙ sym (ap length s.points)
 
+    counts-noted : IsCounted code old → IsCounted code new
+    counts-noted c = record {
+      distinct = subst AreDistinct (sym s.points) c.distinct;
+      weight = subst (λ xs. new.weight ≤ weight_of_all code xs) (sym s.points) (subst (λ n. n ≤ weight_of_all code old.points.keys) (sym s.weight) c.weight);
+    }
+
     pub grows-called : (call : CallingPoint) → IsCalling code old.points.keys call → new.exits.items ≡ old.exits.items → new.calls.items ≡ old.calls.items ++ call ∷ [] → Grows code old new
     grows-called call is exits calls = record {
       points = same_points;
@@ -103,23 +114,13 @@ module _ (code : Code) (old new : Search) (h : IsSound code old) where
         exits = λ k exit e. exit-extends code old.points.keys new.points.keys same_points exit (h.exits k exit (ap (λ xs. slice_get xs k) (sym exits) ∙ e));
         calls = λ k one e. by k one (slice_get-push old.calls.items call k one (ap (λ xs. slice_get xs k) (sym calls) ∙ e));
       };
+      counts = counts-noted;
+      followed = s.followed;
     }
       where
         by : (k : ℕ) (one : CallingPoint) → (slice_get old.calls.items k ≡ Some one) ⊎ ((k ≡ length old.calls.items) × (one ≡ call)) → IsCalling code new.points.keys one
         by k one (inl e) = calling-extends code old.points.keys new.points.keys same_points one (h.calls k one e)
         by k one (inr e) = calling-extends code old.points.keys new.points.keys same_points one (subst (IsCalling code old.points.keys) (sym e.1) is)
-
-    pub grows-cleared : new.exits.items ≡ old.exits.items → new.calls.items ≡ [] → Grows code old new
-    grows-cleared exits calls = record {
-      points = same_points;
-      exits = extends-same old.exits.items new.exits.items exits;
-      sound = record {
-        paired = paired-noted;
-        comes = comes-noted;
-        exits = λ k exit e. exit-extends code old.points.keys new.points.keys same_points exit (h.exits k exit (ap (λ xs. slice_get xs k) (sym exits) ∙ e));
-        calls = λ k one e. absurd (none-some one (ap (λ xs. slice_get xs k) (sym calls) ∙ e));
-      };
-    }
 
     pub grows-left : (exit : Exit) → IsExit code old.points.keys exit → new.exits.items ≡ old.exits.items ++ exit ∷ [] → new.calls.items ≡ old.calls.items → Grows code old new
     grows-left exit is exits calls = record {
@@ -131,6 +132,8 @@ module _ (code : Code) (old new : Search) (h : IsSound code old) where
         exits = λ k one e. by k one (slice_get-push old.exits.items exit k one (ap (λ xs. slice_get xs k) (sym exits) ∙ e));
         calls = λ k call e. calling-extends code old.points.keys new.points.keys same_points call (h.calls k call (ap (λ xs. slice_get xs k) (sym calls) ∙ e));
       };
+      counts = counts-noted;
+      followed = s.followed;
     }
       where
         by : (k : ℕ) (one : Exit) → (slice_get old.exits.items k ≡ Some one) ⊎ ((k ≡ length old.exits.items) × (one ≡ exit)) → IsExit code new.points.keys one

@@ -24,7 +24,7 @@ point_writes point = u32 (slot_of point.procedure) ++ u16 point.at ++ frame_writ
 procedure_own : (p : Procedure) → procedure_eq p p ≡ true
 procedure_own p = (unsigned_Decides (slot_of p) (slot_of p)).1 refl
 
-same_slot : (p q : Procedure) → slot_of p ≡ slot_of q → p ≡ q
+pub same_slot : (p q : Procedure) → slot_of p ≡ slot_of q → p ≡ q
 same_slot Main Main e = refl
 same_slot Main (Entry b) e = absurd (suc-ne-zero b (suc-eq-add-one b ∙ sym e))
 same_slot (Entry a) Main e = absurd (suc-ne-zero a (suc-eq-add-one a ∙ e))

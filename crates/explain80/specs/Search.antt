@@ -3,13 +3,13 @@ use Rattle.std.specs.Prelude.{◌≡◌, ◌<◌, ◌≤◌, ◌⊎◌, ◌++◌
 use Rattle.decode80.specs.declared.fetching.Fetched.{Fetched}
 use Rattle.frames80.specs.declared.fault.FrameFault.{FrameFault}
 use Rattle.frames80.specs.declared.moves.Moves.{Moves}
-use Rattle.frames80.specs.StackFrame.{StackFrame, entry_frame}
+use Rattle.frames80.specs.StackFrame.{StackFrame, entry_frame, main_frame}
 use Rattle.frames80.specs.Effects.{effect_of}
 use Rattle.frames80.specs.Moves.{moves_of}
 use Rattle.frames80.specs.Calls.{room, returned}
 use Rattle.frames80.specs.declared.role.Role.{Role}
 use Rattle.bounds80.specs.declared.procedure.Procedure.{Procedure}
-use Rattle.bounds80.specs.declared.procedure.Procedure.TheVariants.{Entry}
+use Rattle.bounds80.specs.declared.procedure.Procedure.TheVariants.{Main, Entry}
 use Rattle.flow80.specs.Code.{Code}
 use Rattle.flow80.specs.Walks.{Begins as BeginsAt, Calls, Enters as EntersAt, GoesOn as GoesOnTo, GoesOnAfter, LeadsTo, Moving, Returns, called, returning, role_of}
 use Rattle.explain80.specs.declared.point.Point.{Point}
@@ -22,6 +22,7 @@ use Rattle.explain80.specs.declared.looked.Looked.TheVariants.{Wrong, Stuck, Mov
 use Rattle.explain80.specs.declared.search.Search.{Search}
 use Rattle.explain80.specs.declared.route.Call.{Call}
 use Rattle.explain80.specs.Ways.{LeadsOn, Follows, Way, Starts, IsCalled, Lead}
+use Rattle.explain80.specs.Counts.{AreDistinct, weight_of_all}
 
 -- the instruction at a point may not be executed with the frame there
 pub record IsStuck (code : Code) (point : Point) (fault : FrameFault) : Type 0 where
@@ -118,18 +119,27 @@ pub record Extends {X : Type 0} (old new : List X) : Type 0 where
   pub more : List X
   pub is : new ≡ old ++ more
 
+-- each point is found once, and the weight is at most that of all
+pub record IsCounted (code : Code) (s : Search) : Type 0 where
+  pub distinct : AreDistinct s.points.keys
+  pub weight : s.weight ≤ weight_of_all code s.points.keys
+
 -- a point has been added with its origin, unless it was there
-pub record IsAdded (old new : Search) (point : Point) (origin : Origin) : Type 0 where
+pub record IsAdded (code : Code) (old new : Search) (point : Point) (origin : Origin) : Type 0 where
   pub points : ((new.points.keys ≡ old.points.keys) × (new.origins.items ≡ old.origins.items))
       ⊎ ((new.points.keys ≡ old.points.keys ++ point ∷ []) × (new.origins.items ≡ old.origins.items ++ origin ∷ []))
   pub there : Has new.points.keys point
   pub exits : new.exits.items ≡ old.exits.items
   pub calls : new.calls.items ≡ old.calls.items
+  pub counts : IsCounted code old → IsCounted code new
+  pub followed : new.followed ≡ old.followed
 
 -- the points are unchanged
 pub record SamePoints (old new : Search) : Type 0 where
   pub points : new.points.keys ≡ old.points.keys
   pub origins : new.origins.items ≡ old.origins.items
+  pub weight : new.weight ≡ old.weight
+  pub followed : new.followed ≡ old.followed
 
 -- the point of this number, of this procedure, leads on
 pub record LeadsFrom (code : Code) (points : List Point) (from : ℕ) (p : Procedure) (to : ℕ) (f : StackFrame) : Type 0 where
@@ -143,6 +153,8 @@ pub record Grows (code : Code) (old new : Search) : Type 0 where
   pub points : Extends old.points.keys new.points.keys
   pub exits : Extends old.exits.items new.exits.items
   pub sound : IsSound code new
+  pub counts : IsCounted code old → IsCounted code new
+  pub followed : new.followed ≡ old.followed
 
 -- an exit of the procedure is there, with so many words taken
 pub record HasExit (exits : List Exit) (p : Procedure) (taken : ℕ) : Type 0 where
@@ -162,25 +174,30 @@ pub record BacksFrom (code : Code) (points new : List Point) (exits : List Exit)
       → exit.procedure ≡ Entry call.target → slice_get points call.point ≡ Some one →
       HasBack code new one.procedure one.frame call.next exit.taken
 
--- where a move leads from a point is there, by the exits that were known before
-pub record CoversMove (code : Code) (points : List Point) (known new : List Exit) (point : Point) (moves : Moves)
+-- each of the calls of a procedure comes back to points that are there after an exit of it
+pub record BacksTo (code : Code) (points new : List Point) (calls : List CallingPoint) (exit : Exit) : Type 0 where
+  pub backs : (k : ℕ) (call : CallingPoint) (one : Point) → slice_get calls k ≡ Some call → exit.procedure ≡ Entry call.target
+      → slice_get points call.point ≡ Some one → HasBack code new one.procedure one.frame call.next exit.taken
+
+-- where a move leads from a point is there, by these exits
+pub record CoversMove (code : Code) (points : List Point) (exits : List Exit) (point : Point) (moves : Moves)
     (after : ℕ) : Type 0 where
   pub on : (to : ℕ) (g : StackFrame) → LeadsTo moves (code.targets point.at) after to g
       → Has points (point_of point.procedure to g)
   pub enter : (target : ℕ) → called moves ≡ Some target → Has points (point_of (Entry target) target entry_frame)
-  pub back : (target taken : ℕ) → called moves ≡ Some target → HasExit known (Entry target) taken
+  pub back : (target taken : ℕ) → called moves ≡ Some target → HasExit exits (Entry target) taken
       → HasBack code points point.procedure point.frame after taken
-  pub return : (taken : ℕ) → returning moves ≡ Some taken → HasExit new point.procedure taken
+  pub return : (taken : ℕ) → returning moves ≡ Some taken → HasExit exits point.procedure taken
 
--- where a point leads is there, by the exits that were known before
-pub record Covers (code : Code) (points : List Point) (known new : List Exit) (point : Point) : Type 0 where
+-- where a point leads is there, by these exits
+pub record Covers (code : Code) (points : List Point) (exits : List Exit) (point : Point) : Type 0 where
   pub on : (to : ℕ) (g : StackFrame) → GoesOnTo code point.procedure point.at point.frame to g
       → Has points (point_of point.procedure to g)
   pub enter : (target next : ℕ) → Calls code point.procedure point.at point.frame target next
       → Has points (point_of (Entry target) target entry_frame)
   pub back : (target next taken : ℕ) → Calls code point.procedure point.at point.frame target next
-      → HasExit known (Entry target) taken → HasBack code points point.procedure point.frame next taken
-  pub return : (taken : ℕ) → Returns code point.procedure point.at point.frame taken → HasExit new point.procedure taken
+      → HasExit exits (Entry target) taken → HasBack code points point.procedure point.frame next taken
+  pub return : (taken : ℕ) → Returns code point.procedure point.at point.frame taken → HasExit exits point.procedure taken
 
 -- a call of the point of this number is noted
 pub record HasCall (calls : List CallingPoint) (number target : ℕ) : Type 0 where
@@ -202,8 +219,27 @@ pub record NotesCalls (code : Code) (calls : List CallingPoint) (number : ℕ) (
 -- the main program begins there, and where each point leads is there, and its call
 pub record IsClosed (code : Code) (points : List Point) (exits : List Exit) (calls : List CallingPoint) : Type 0 where
   pub begin : (p : Procedure) (at : ℕ) (f : StackFrame) → BeginsAt code p at f → Has points (point_of p at f)
-  pub covers : (n : ℕ) (point : Point) → slice_get points n ≡ Some point → Covers code points exits exits point
+  pub covers : (n : ℕ) (point : Point) → slice_get points n ≡ Some point → Covers code points exits point
   pub calls_there : (n : ℕ) (point : Point) → slice_get points n ≡ Some point → NotesCalls code calls n point
+
+-- where the point of this number leads is there, and its call
+pub record IsCovered (code : Code) (s : Search) (number : ℕ) (point : Point) : Type 0 where
+  pub covers : Covers code s.points.keys s.exits.items point
+  pub noted : NotesCalls code s.calls.items number point
+
+-- what was covered still is
+pub record KeepsCovered (code : Code) (old new : Search) : Type 0 where
+  pub kept : (n : ℕ) (point : Point) → slice_get old.points.keys n ≡ Some point → IsCovered code old n point
+      → IsCovered code new n point
+
+-- a search between two points that it follows: each that it has followed is covered, and has one call at most
+pub record IsUnderWay (code : Code) (s : Search) : Type 0 where
+  pub sound : IsSound code s
+  pub counted : IsCounted code s
+  pub begun : Has s.points.keys (point_of Main code.start main_frame)
+  pub calls : length s.calls.items ≤ s.followed
+  pub followed : s.followed ≤ length s.points.keys
+  pub covered : (n : ℕ) (point : Point) → n < s.followed → slice_get s.points.keys n ≡ Some point → IsCovered code s n point
 
 -- the point before in the same procedure, or none at its start
 abbrev pub before_of : Origin → Option ℕ

@@ -1,6 +1,6 @@
 //! The chain of calls that a stack bound adds up.
 
-ghost use Rattle.std.specs.Prelude.{◌≡◌, ◌↔◌, ◌<◌, ◌++◌, ◌∷◌, [], List, Contains, Err, Some, pos, true, length, slice_get, All, IfNone, IfOk, IfSome, OnOk};
+ghost use Rattle.std.specs.Prelude.{◌≡◌, ◌↔◌, ◌<◌, ◌≤◌, ◌++◌, ◌∷◌, [], ℕ, List, Contains, Err, Some, pos, true, length, slice_get, All, IfNone, IfOk, IfSome, OnOk};
 ghost use Rattle.bounds80.specs.Chains.{IsModest, bytes_of};
 ghost use Rattle.bounds80.specs.declared.procedure.Procedure.TheVariants.{Main};
 ghost use Rattle.frames80.specs.Calls.{depth_of};
@@ -8,9 +8,11 @@ ghost use Rattle.flow80.specs.Walks.{role_of as role_in};
 ghost use Rattle.verify80.specs.Looking.{code_of};
 ghost use Rattle.bounds80.specs.declared.graph.Depth.{Depth as DepthSeen};
 ghost use Rattle.explain80.specs.declared.point.Point.{Point as PointSeen};
-ghost use Rattle.explain80.specs.declared.fault.Unexplained.TheVariants.{NotShown};
+ghost use Rattle.explain80.specs.declared.fault.Unexplained.TheVariants.{Limit, NotShown};
+ghost use Rattle.explain80.specs.declared.fault.Stop.TheVariants.{Limit as StopsByLimit};
+ghost use Rattle.explain80.specs.Counts.{ComesToMore, IsHeavy};
 ghost use Rattle.explain80.specs.Chains.{AddsUp, AreDepthsOf, AreGreatestOf, AreSitesOf, CallsAt, ChainsTo, EndsWith, IsNextCall, IsNotTheBound, NoneStands, NoNextCall};
-ghost use Rattle.explain80.specs.Search.{IsClosed, IsSound};
+ghost use Rattle.explain80.specs.Search.{IsClosed, IsSound, IsUnderWay};
 
 use crate::fault::{Stop, Unexplained};
 use crate::looked::{MOST_WORDS, role_of};
@@ -76,8 +78,8 @@ fn site_of(caller: &Point, depth: i64, target: u16) -> CallSite
 /// as `verify` reports it, or as the refusal `StackTooSmall` names it. The limit is that of [`explain`](crate::explain).
 ///
 /// # Errors
-/// `NotShown` where the bound is another number, or a procedure calls itself. `Limit` where the limit was met before, a frame has
-/// more than 1,000,000 words, or there are more than 262,144 calls. `Memory` where memory runs out.
+/// `NotShown` if the bound is another number, or a procedure calls itself. `Limit` only if walks come to points that weigh more than
+/// the limit, or more than 262,144. `Memory` if memory runs out.
 pub fn find_chain(
     alloc: Global,
     image: &Image,
@@ -86,6 +88,7 @@ pub fn find_chain(
 ) -> Result<Chain, Unexplained>
     ensures chain { IfOk result (ChainsTo (code_of image.now) bytes) }
     ensures none { result ≡ Err NotShown → IsNotTheBound (code_of image.now) bytes }
+    ensures limited { result ≡ Err Limit → (n : ℕ) → n ≤ limit → n ≤ 262144 → ComesToMore (code_of image.now) n }
 {
     let code = ImageCode::new(alloc, image)?;
     chain_of(alloc, &code, bytes, limit)
@@ -100,9 +103,10 @@ fn chain_of<C: Code>(
 ) -> Result<Chain, Unexplained>
     ensures chain { IfOk result (ChainsTo (C.code program.now) bytes) }
     ensures none { result ≡ Err NotShown → IsNotTheBound (C.code program.now) bytes }
+    ensures limited { result ≡ Err Limit → (n : ℕ) → n ≤ limit → n ≤ 262144 → ComesToMore (C.code program.now) n }
 {
     let mut search = Search::new(alloc, program)?;
-    if !search.grow(alloc, program, limit)? || !search.is_closed(alloc, program)? {
+    if !search.grow(alloc, program, limit)? {
         return Err(Unexplained::Limit);
     }
     match search.chain_to(alloc, program, bytes)? {
@@ -119,10 +123,11 @@ impl Search {
         program: &C,
         bytes: u64,
     ) -> Result<Option<Chain>, Stop>
-        requires sound { IsSound (C.code program.now) self.now }
+        requires way { IsUnderWay (C.code program.now) self.now }
         requires closed { IsClosed (C.code program.now) self.now.points.keys self.now.exits.items self.now.calls.items }
         ensures chain { IfOk result (λ chain. IfSome chain (ChainsTo (C.code program.now) bytes)) }
         ensures none { IfOk result (λ chain. IfNone chain (IsNotTheBound (C.code program.now) bytes)) }
+        ensures limited { result ≡ Err StopsByLimit → ComesToMore (C.code program.now) 262144 }
     {
         let depths = self.depths(alloc, program)?;
         let sites = self.sites(alloc, program)?;
@@ -142,8 +147,10 @@ impl Search {
 
     /// The depth of each point.
     fn depths<C: Code>(&self, alloc: Global, program: &C) -> Result<Vec<Depth>, Stop>
+        requires { IsSound (C.code program.now) self.now }
         ensures all { IfOk result (λ depths. AreDepthsOf (C.code program.now) self.now.points.keys depths.items) }
         ensures modest { IfOk result (λ depths. All (λ d. IsModest d.depth) depths.items) }
+        ensures limited { result ≡ Err StopsByLimit → ComesToMore (C.code program.now) 262144 }
     {
         let mut depths = Vec::new(alloc);
         for point in self.points.as_slice() {
@@ -160,9 +167,11 @@ impl Search {
         ensures all { IfOk result (λ sites. AreSitesOf (C.code program.now) self.now sites.items) }
         ensures calls { IfOk result (λ sites. All (CallsAt (C.code program.now)) sites.items) }
         ensures modest { IfOk result (λ sites. All (λ s. IsModest s.depth) sites.items) }
+        ensures limited { result ≡ Err StopsByLimit → ComesToMore (C.code program.now) 262144 }
     {
         let mut sites = Vec::new(alloc);
-        for calling in &self.calls {
+        for number in 0..self.calls.len() {
+            let calling = self.calls.get(number);
             let caller = &self.points[calling.point];
             let depth = depth_at(program, caller)?;
             push(&mut sites, site_of(caller, depth, calling.target))?;
@@ -183,6 +192,7 @@ impl Search {
         ensures chain { IfOk result (λ chain. IfSome chain (ChainsTo (C.code program.now) (bytes_of bounds.now Main))) }
         ensures none { IfOk result (λ chain. IfNone chain ((depths : List DepthSeen)
             → AreGreatestOf (C.code program.now) self.now depths sites.now bounds.now → ⊥)) }
+        ensures limited { result ≡ Err StopsByLimit → ComesToMore (C.code program.now) 262144 }
     {
         let likely_points = self.likely_points(alloc, program, bounds)?;
         let likely_calls = likely_calls(alloc, sites, bounds)?;
@@ -212,7 +222,9 @@ impl Search {
         program: &C,
         bounds: &Bounds,
     ) -> Result<Vec<Option<usize>>, Stop>
-        ensures { IfOk result (λ likely. length likely.items ≡ 65537) }
+        requires { IsSound (C.code program.now) self.now }
+        ensures table { IfOk result (λ likely. length likely.items ≡ 65537) }
+        ensures limited { result ≡ Err StopsByLimit → ComesToMore (C.code program.now) 262144 }
     {
         let mut likely = table(alloc, None, SLOTS)?;
         for number in 0..self.points.len() {
@@ -236,7 +248,8 @@ impl Search {
     ) -> Result<Option<Standing>, Stop>
         requires sound { IsSound (C.code program.now) self.now }
         requires table { length likely.now ≡ 65537 }
-        ensures { IfOk result (λ last. IfSome last (EndsWith (C.code program.now) procedure bytes)) }
+        ensures last { IfOk result (λ last. IfSome last (EndsWith (C.code program.now) procedure bytes)) }
+        ensures limited { result ≡ Err StopsByLimit → ComesToMore (C.code program.now) 262144 }
     {
         let named = likely[slot(procedure)];
         match named {
@@ -260,6 +273,7 @@ impl Search {
         ensures last { IfOk result (λ last. IfSome last (EndsWith (C.code program.now) procedure bytes)) }
         ensures none { IfOk result (λ last. IfNone last ((point : PointSeen) → slice_get self.now.points.keys number ≡ Some point
             → point.procedure ≡ procedure → pos bytes ≡ depth_of (role_in (C.code program.now) point.procedure) point.frame → ⊥)) }
+        ensures limited { result ≡ Err StopsByLimit → ComesToMore (C.code program.now) 262144 }
     {
         let point = &self.points[number];
         if is_of(point, procedure) {
@@ -281,6 +295,7 @@ impl Search {
         requires { IsSound (C.code program.now) self.now }
         ensures last { IfOk result (λ last. IfSome last (EndsWith (C.code program.now) procedure bytes)) }
         ensures none { IfOk result (λ last. IfNone last (NoneStands (C.code program.now) self.now.points.keys procedure bytes)) }
+        ensures limited { result ≡ Err StopsByLimit → ComesToMore (C.code program.now) 262144 }
     {
         for number in 0..self.points.len() {
             if let Some(last) = self.last_at(program, number, procedure, bytes)? {
@@ -316,10 +331,11 @@ fn comes_to(depth: i64, bytes: u64) -> bool
 /// The depth of a point.
 ///
 /// # Errors
-/// `Limit` where its frame has more than 1,000,000 words, or as many taken.
+/// `Limit` if its frame has more than 1,000,000 words, or as many taken.
 fn depth_at<C: Code>(program: &C, point: &Point) -> Result<i64, Stop>
     ensures depth { IfOk result (λ d. d ≡ depth_of (role_in (C.code program.now) point.now.procedure) point.now.frame) }
     ensures modest { IfOk result IsModest }
+    ensures limited { result ≡ Err StopsByLimit → IsHeavy (C.code program.now) point.now }
 {
     if point.frame.taken as usize > MOST_WORDS || point.frame.words.len() > MOST_WORDS {
         return Err(Stop::Limit);

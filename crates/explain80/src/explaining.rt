@@ -1,9 +1,10 @@
 //! A refusal is explained.
 
-ghost use Rattle.std.specs.Prelude.{◌≡◌, IfOk, Err};
+ghost use Rattle.std.specs.Prelude.{◌≡◌, ◌≤◌, ℕ, IfOk, Err};
 ghost use Rattle.flow80.specs.Faults.{Holds, Recurs};
 ghost use Rattle.verify80.specs.Looking.{code_of};
-ghost use Rattle.explain80.specs.declared.fault.Unexplained.TheVariants.{NotShown};
+ghost use Rattle.explain80.specs.declared.fault.Unexplained.TheVariants.{Limit, NotShown};
+ghost use Rattle.explain80.specs.Counts.{ComesToMore};
 ghost use Rattle.explain80.specs.Shows.{ByRing, Shows};
 ghost use Rattle.explain80.specs.Sought.{IsNotShown, IsOfNoWay, NoWalksShow, ShowsSought};
 
@@ -16,19 +17,20 @@ use image80::Image;
 use std::alloc::Global;
 use verify80::ImageCode;
 
-/// At how many points and words a search is looked through first.
-const FIRST_SIZE: usize = 1_024;
+/// At which weight a search is looked through first.
+const FIRST_WEIGHT: usize = 1_024;
 
 /// The ways that show a refusal: the walks of the image's program are followed one by one, breadth first, and no frames are
 /// merged.
 ///
 /// For `Recursion` it is the calls that lead back to a procedure. `StackTooSmall` has a chain of calls instead of a way:
-/// [`find_chain`](crate::find_chain). The limit is on the points that are followed and the words of their frames together.
+/// [`find_chain`](crate::find_chain). The limit is on what the points that are found weigh together: each weighs one, one more for
+/// each word of its frame and for each word taken, and as much again for each target that is declared at its address.
 ///
 /// # Errors
-/// `NotShown` where every walk was followed to its end and none shows the refusal, which then doesn't hold; and for
-/// `StackTooSmall`, `TooManyPoints` and `Memory`, which no ways show. `Limit` where the limit was met before. `Memory` where
-/// memory runs out.
+/// `NotShown` if every walk was followed to its end and none shows the refusal, which then doesn't hold; and for
+/// `StackTooSmall`, `TooManyPoints` and `Memory`, which no ways show. `Limit` only if walks come to points that weigh more than the
+/// limit, or more than 1,000,000. `Memory` if memory runs out.
 pub fn explain(
     alloc: Global,
     image: &Image,
@@ -37,6 +39,7 @@ pub fn explain(
 ) -> Result<Explanation, Unexplained>
     ensures shown { IfOk result (Shows (code_of image.now) refusal) }
     ensures none { result ≡ Err NotShown → Holds (code_of image.now) refusal → IsNotShown refusal }
+    ensures limited { result ≡ Err Limit → (n : ℕ) → n ≤ limit → n ≤ 1000000 → ComesToMore (code_of image.now) n }
 {
     let code = ImageCode::new(alloc, image)?;
     explain_code(alloc, &code, refusal, limit)
@@ -51,6 +54,7 @@ fn explain_code<C: Code>(
 ) -> Result<Explanation, Unexplained>
     ensures shown { IfOk result (Shows (C.code program.now) refusal) }
     ensures none { result ≡ Err NotShown → Holds (C.code program.now) refusal → IsNotShown refusal }
+    ensures limited { result ≡ Err Limit → (n : ℕ) → n ≤ limit → n ≤ 1000000 → ComesToMore (C.code program.now) n }
 {
     match Sought::of(refusal) {
         Some(sought) => explain_sought(alloc, program, sought, limit),
@@ -68,6 +72,7 @@ fn explain_wayless<C: Code>(
     requires { IsOfNoWay refusal }
     ensures shown { IfOk result (Shows (C.code program.now) refusal) }
     ensures none { result ≡ Err NotShown → Holds (C.code program.now) refusal → IsNotShown refusal }
+    ensures limited { result ≡ Err Limit → (n : ℕ) → n ≤ limit → n ≤ 1000000 → ComesToMore (C.code program.now) n }
 {
     match refusal {
         Refusal::Recursion(at) => explain_recursion(alloc, program, at, limit),
@@ -84,24 +89,23 @@ fn explain_recursion<C: Code>(
 ) -> Result<Explanation, Unexplained>
     ensures shown { IfOk result (ByRing (C.code program.now) at) }
     ensures none { result ≡ Err NotShown → Recurs (C.code program.now) at → ⊥ }
+    ensures limited { result ≡ Err Limit → (n : ℕ) → n ≤ limit → n ≤ 1000000 → ComesToMore (C.code program.now) n }
 {
     let mut search = Search::new(alloc, program)?;
-    let mut size = FIRST_SIZE;
-    for _ in 0..u64::BITS {
-        let is_whole = search.grow(alloc, program, size)?;
-        let is_closed = is_whole && search.is_closed(alloc, program)?;
+    let mut weight = FIRST_WEIGHT;
+    loop {
+        let is_whole = search.grow(alloc, program, weight)?;
         if let Some(shown) = search.ring(alloc, at)? {
             return Ok(shown);
         }
-        if is_closed {
+        if is_whole {
             return Err(Unexplained::NotShown);
         }
-        if size >= limit {
-            break;
+        if weight >= limit {
+            return Err(Unexplained::Limit);
         }
-        size = size.saturating_mul(2);
+        weight = weight.saturating_mul(2);
     }
-    Err(Unexplained::Limit)
 }
 
 /// The ways that show what is sought.
@@ -113,21 +117,21 @@ fn explain_sought<C: Code>(
 ) -> Result<Explanation, Unexplained>
     ensures shown { IfOk result (ShowsSought (C.code program.now) sought) }
     ensures none { result ≡ Err NotShown → NoWalksShow (C.code program.now) sought.at sought.kind }
+    ensures limited { result ≡ Err Limit → (n : ℕ) → n ≤ limit → n ≤ 1000000 → ComesToMore (C.code program.now) n }
 {
     let mut search = Search::new(alloc, program)?;
-    let mut size = FIRST_SIZE;
-    for _ in 0..u64::BITS {
-        let is_whole = search.grow(alloc, program, size)?;
+    let mut weight = FIRST_WEIGHT;
+    loop {
+        let is_whole = search.grow(alloc, program, weight)?;
         if let Some(evidence) = sought.find(alloc, program, search.points.as_slice())? {
             return Ok(search.show(alloc, evidence)?);
         }
-        if is_whole && search.is_closed(alloc, program)? {
+        if is_whole {
             return Err(Unexplained::NotShown);
         }
-        if size >= limit {
-            break;
+        if weight >= limit {
+            return Err(Unexplained::Limit);
         }
-        size = size.saturating_mul(2);
+        weight = weight.saturating_mul(2);
     }
-    Err(Unexplained::Limit)
 }

@@ -20,7 +20,7 @@ pub enum Unexplained {
 /// Why a search stops before it is done.
 #[derive(Clone, Copy)]
 pub(crate) enum Stop {
-    /// A frame has more words than are followed.
+    /// A frame has more words than are followed, or more were taken.
     Limit,
     /// Out of memory.
     Memory,
@@ -38,10 +38,11 @@ impl From<AllocError> for Stop {
 }
 
 impl From<Stop> for Unexplained {
-    ghost use Rattle.std.specs.Prelude.{◌≢◌};
-    ghost use Rattle.explain80.specs.declared.fault.Unexplained.TheVariants.{NotShown};
+    ghost use Rattle.std.specs.Prelude.{◌≡◌, ◌≢◌};
+    ghost use Rattle.explain80.specs.declared.fault.Stop.TheVariants.{Limit as StopsByLimit};
+    ghost use Rattle.explain80.specs.declared.fault.Unexplained.TheVariants.{Limit, NotShown};
 
-    ghost from_gives = { λ _ fault. fault ≢ NotShown };
+    ghost from_gives = { λ stop fault. (fault ≢ NotShown) × (fault ≡ Limit → stop ≡ StopsByLimit) };
 
     fn from(stop: Stop) -> Unexplained {
         match stop {

@@ -13,12 +13,14 @@
 //! | [`what_is_shown_holds`], [`chains_are_uses`] | what an explanation shows holds of the program, and a chain uses the stack, as contracts |
 #![tactic(auto)]
 
+mod calls;
 mod chain;
 mod evidence;
 mod exits;
 mod explaining;
 mod explanation;
 mod fault;
+mod groups;
 mod laws;
 mod looked;
 mod origin;

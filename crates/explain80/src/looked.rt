@@ -1,7 +1,9 @@
 //! A look at a point.
 
-ghost use Rattle.std.specs.Prelude.{◌≡◌, IfOk};
+ghost use Rattle.std.specs.Prelude.{◌≡◌, ◌<◌, ◌+◌, Err, IfOk, length};
 ghost use Rattle.flow80.specs.Walks.{role_of};
+ghost use Rattle.explain80.specs.declared.fault.Stop.TheVariants.{Limit};
+ghost use Rattle.explain80.specs.Counts.{IsHeavy};
 ghost use Rattle.explain80.specs.Search.{IsBack, IsLooked};
 
 use crate::fault::Stop;
@@ -27,9 +29,10 @@ pub(crate) enum Looked {
 /// A look at a point: what its instruction makes of its frame.
 ///
 /// # Errors
-/// `Limit` where the frame has more than 1,000,000 words, or as many taken; `Memory` where memory runs out.
+/// `Limit` if the frame has more than 1,000,000 words, or as many taken; `Memory` if memory runs out.
 pub(crate) fn look_at<C: Code>(alloc: Global, program: &C, point: &Point) -> Result<Looked, Stop>
-    ensures { IfOk result (IsLooked (C.code program.now) point.now) }
+    ensures looked { IfOk result (IsLooked (C.code program.now) point.now) }
+    ensures limited { result ≡ Err Limit → IsHeavy (C.code program.now) point.now }
 {
     let found = match program.look(point.at) {
         Ok(found) => found,
@@ -59,14 +62,15 @@ pub(crate) fn role_of<C: Code>(program: &C, procedure: Procedure) -> Role
 /// The caller's frame when a callee has returned that took so many words; `None` where the caller has fewer.
 ///
 /// # Errors
-/// `Limit` where the frame has more than 1,000,000 words, or as many taken; `Memory` where memory runs out.
+/// `Limit` if the frame has more than 1,000,000 words, or as many taken; `Memory` if memory runs out.
 pub(crate) fn back(
     alloc: Global,
     frame: &Frame,
     role: Role,
     taken: u32,
 ) -> Result<Option<Frame>, Stop>
-    ensures { IfOk result (λ back. IsBack role taken frame.now back) }
+    ensures back { IfOk result (λ back. IsBack role taken frame.now back) }
+    ensures limited { result ≡ Err Limit → 1000000 < 1 + length frame.now.words + frame.now.taken }
 {
     if frame.taken as usize > MOST_WORDS || frame.words.len() > MOST_WORDS {
         return Err(Stop::Limit);

@@ -1,7 +1,6 @@
 //! Where a point of a search comes from.
 
-ghost use Rattle.std.specs.Prelude.{◌≡◌, ◌↔◌, true};
-ghost use Rattle.bounds80.specs.declared.procedure.Procedure.TheVariants.{Entry};
+ghost use Rattle.std.specs.Prelude.{◌≡◌};
 
 use flow80::Procedure;
 
@@ -35,16 +34,6 @@ impl Exit {
             point,
             procedure,
             taken,
-        }
-    }
-
-    /// Whether the procedure that returns is the one that is entered at an address.
-    pub(crate) fn is_of(self, target: u16) -> bool
-        ensures { (result ≡ true) ↔ (self.procedure ≡ Entry target) }
-    {
-        match self.procedure {
-            Procedure::Main => false,
-            Procedure::Entry(entry) => entry == target,
         }
     }
 }

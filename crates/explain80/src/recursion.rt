@@ -22,7 +22,8 @@ impl Search {
         ensures { IfOk result (λ calls. AreKnown self.now (length self.now.calls.items) calls.items) }
     {
         let mut calls = Vec::new(alloc);
-        for calling in &self.calls {
+        for number in 0..self.calls.len() {
+            let calling = self.calls.get(number);
             let caller = &self.points[calling.point];
             calls.push(Call {
                 caller: caller.procedure,
@@ -52,7 +53,7 @@ impl Search {
             if call.at == at {
                 follow_from(alloc, &known, call, &mut reached)?;
                 if let Some(ring) = ring_by(alloc, &reached, call)? {
-                    let calls = self.calls_to(alloc, self.calls[number].point)?;
+                    let calls = self.calls_to(alloc, self.calls.get(number).point)?;
                     return Ok(Some(Explanation::Ring { calls, ring }));
                 }
             }

@@ -1,13 +1,16 @@
 //! The walks of a program, followed one by one, breadth first.
 
-ghost use Rattle.std.specs.Prelude.{◌≡◌, ◌<◌, ◌++◌, ◌∷◌, [], ℕ, true, Contains, Some, IfOk, OnOk, length, slice_get};
+ghost use Rattle.std.specs.Prelude.{◌≡◌, ◌<◌, ◌≤◌, ◌+◌, ◌++◌, ◌∷◌, [], ℕ, true, false, Contains, Some, Ok, Err, IfOk, OnOk, length, slice_get};
 ghost use Rattle.bounds80.specs.declared.procedure.Procedure.TheVariants.{Main, Entry};
 ghost use Rattle.frames80.specs.StackFrame.{entry_frame, main_frame};
 ghost use Rattle.frames80.specs.declared.moves.Moves.TheVariants.{Case};
 ghost use Rattle.explain80.specs.declared.point.Point.{Point};
 ghost use Rattle.explain80.specs.declared.origin.Origin.TheVariants.{GoesOn, Enters};
-ghost use Rattle.explain80.specs.Search.{BacksFrom, Covers, CoversMove, Extends, Grows, Has, HasBack, HasExit, IsAdded, IsCalling, IsClosed, IsExit, IsMovingAt, IsSound, NotesCalls, NotesMove, SamePoints, point_of};
+ghost use Rattle.explain80.specs.declared.fault.Stop.TheVariants.{Limit};
+ghost use Rattle.explain80.specs.Counts.{ComesToMore, weight_of};
+ghost use Rattle.explain80.specs.Search.{BacksFrom, BacksTo, CoversMove, Grows, Has, HasBack, HasExit, IsAdded, IsCalling, IsClosed, IsCovered, IsExit, IsMovingAt, IsSound, IsUnderWay, KeepsCovered, NotesMove, SamePoints, point_of};
 
+use crate::calls::Calls;
 use crate::exits::Exits;
 use crate::fault::Stop;
 use crate::looked::{Looked, back, look_at, role_of};
@@ -24,11 +27,11 @@ pub(crate) struct Search {
     pub(crate) points: IndexSet<Point>,
     pub(crate) origins: Vec<Origin>,
     pub(crate) exits: Exits,
-    pub(crate) calls: Vec<CallingPoint>,
+    pub(crate) calls: Calls,
     /// How many points have been followed.
     followed: usize,
-    /// The points, and the words of their frames.
-    size: usize,
+    /// What the points weigh together, or the most that a number can say.
+    weight: usize,
 }
 
 impl Search {
@@ -37,16 +40,15 @@ impl Search {
     /// # Errors
     /// `AllocError` where memory runs out.
     pub(crate) fn new<C: Code>(alloc: Global, program: &C) -> Result<Search, AllocError>
-        ensures sound { IfOk result (IsSound (C.code program.now)) }
-        ensures begun { IfOk result (λ search. Has search.points.keys (point_of Main (C.code program.now).start main_frame)) }
+        ensures { IfOk result (IsUnderWay (C.code program.now)) }
     {
         let mut search = Search {
             points: IndexSet::new(alloc),
             origins: Vec::new(alloc),
             exits: Exits::new(alloc)?,
-            calls: Vec::new(alloc),
+            calls: Calls::new(alloc)?,
             followed: 0,
-            size: 0,
+            weight: 0,
         };
         search.begin(alloc, program)?;
         Ok(search)
@@ -57,57 +59,64 @@ impl Search {
         requires { IsSound (C.code program.now) self.old }
         ensures grows { OnOk result (Grows (C.code program.now) self.old self.new) }
         ensures there { OnOk result (Has self.new.points.keys (point_of Main (C.code program.now).start main_frame)) }
+        ensures calls { OnOk result (self.new.calls.items ≡ self.old.calls.items) }
     {
         let start = Point {
             procedure: Procedure::Main,
             at: program.start(),
             frame: Frame::main_entry(alloc)?,
         };
-        self.add(start, Origin::Begins)
+        self.add(program, start, Origin::Begins)
     }
 
-    /// Adds a point where it isn't there yet.
-    fn add(&mut self, point: Point, origin: Origin) -> Result<(), AllocError>
-        ensures { OnOk result (IsAdded self.old self.new point origin) }
+    /// Adds a point if it isn't there yet.
+    fn add<C: Code>(&mut self, program: &C, point: Point, origin: Origin) -> Result<(), AllocError>
+        ensures { OnOk result (IsAdded (C.code program.now) self.old self.new point origin) }
     {
-        let size = point.frame.words.len().saturating_add(1);
+        let weight = weight_of(program, &point);
         let (_, is_new) = self.points.insert_full(point)?;
         if is_new {
             self.origins.push(origin)?;
-            self.size = self.size.saturating_add(size);
+            self.weight = self.weight.saturating_add(weight);
         }
         Ok(())
     }
 
     /// Adds where the instruction of a point leads.
-    fn go_on(
+    fn go_on<C: Code>(
         &mut self,
+        program: &C,
         from: usize,
         procedure: Procedure,
         to: u16,
         frame: Frame,
     ) -> Result<(), AllocError>
-        ensures { OnOk result (IsAdded self.old self.new (point_of procedure to frame) (GoesOn from)) }
+        ensures { OnOk result (IsAdded (C.code program.now) self.old self.new (point_of procedure to frame) (GoesOn from)) }
     {
         let point = Point {
             procedure,
             at: to,
             frame,
         };
-        self.add(point, Origin::GoesOn(from))
+        self.add(program, point, Origin::GoesOn(from))
     }
 
     /// Adds the start of a procedure that is called.
-    fn enter(&mut self, alloc: Global, call: CallingPoint) -> Result<(), AllocError>
-        ensures { OnOk result (IsAdded self.old self.new (point_of (Entry call.target) call.target entry_frame)
-            (Enters call.point)) }
+    fn enter<C: Code>(
+        &mut self,
+        alloc: Global,
+        program: &C,
+        call: CallingPoint,
+    ) -> Result<(), AllocError>
+        ensures { OnOk result (IsAdded (C.code program.now) self.old self.new
+            (point_of (Entry call.target) call.target entry_frame) (Enters call.point)) }
     {
         let start = Point {
             procedure: Procedure::Entry(call.target),
             at: call.target,
             frame: Frame::entry(alloc)?,
         };
-        self.add(start, Origin::Enters(call.point))
+        self.add(program, start, Origin::Enters(call.point))
     }
 
     /// Adds where a call goes on when its callee has returned.
@@ -127,6 +136,7 @@ impl Search {
         ensures calls { OnOk result (self.new.calls.items ≡ self.old.calls.items) }
         ensures back { OnOk result ((one : Point) → slice_get self.old.points.keys call.point ≡ Some one
             → HasBack (C.code program.now) self.new.points.keys one.procedure one.frame call.next exit.taken) }
+        ensures limited { result ≡ Err Limit → ComesToMore (C.code program.now) 1000000 }
     {
         let caller = &self.points[call.point];
         let procedure = caller.procedure;
@@ -143,7 +153,7 @@ impl Search {
             call: call.point,
             exit: exit.point,
         };
-        self.add(point, origin)?;
+        self.add(program, point, origin)?;
         Ok(())
     }
 
@@ -161,8 +171,9 @@ impl Search {
         ensures calls { OnOk result (self.new.calls.items ≡ self.old.calls.items) }
         ensures back { OnOk result (BacksFrom (C.code program.now) self.old.points.keys self.new.points.keys
             self.old.exits.items (length self.old.exits.items) call) }
+        ensures limited { result ≡ Err Limit → ComesToMore (C.code program.now) 1000000 }
     {
-        let exits = self.exits.of(alloc, call.target)?;
+        let exits = self.exits.of(alloc, Procedure::Entry(call.target))?;
         for exit in &exits {
             self.come_back(alloc, program, call, *exit)?;
         }
@@ -179,13 +190,15 @@ impl Search {
         requires sound { IsSound (C.code program.now) self.old }
         requires exit { IsExit (C.code program.now) self.old.points.keys exit }
         ensures grows { OnOk result (Grows (C.code program.now) self.old self.new) }
+        ensures exits { OnOk result (self.new.exits.items ≡ self.old.exits.items) }
         ensures calls { OnOk result (self.new.calls.items ≡ self.old.calls.items) }
+        ensures back { OnOk result (BacksTo (C.code program.now) self.old.points.keys self.new.points.keys
+            self.old.calls.items exit) }
+        ensures limited { result ≡ Err Limit → ComesToMore (C.code program.now) 1000000 }
     {
-        for k in 0..self.calls.len() {
-            let call = self.calls[k];
-            if exit.is_of(call.target) {
-                self.come_back(alloc, program, call, exit)?;
-            }
+        let calls = self.calls.of(alloc, exit.procedure)?;
+        for call in &calls {
+            self.come_back(alloc, program, *call, exit)?;
         }
         Ok(())
     }
@@ -210,53 +223,33 @@ impl Search {
         Ok(())
     }
 
-    /// Follows points in order of first sight until all are followed, or until the points and their words come to a size. Answers
-    /// whether all are.
+    /// Follows points in order of first sight until all are followed, or until those that were found weigh more than so much.
+    /// Answers whether all are.
     ///
     /// # Errors
-    /// `Limit` where a frame has more than 1,000,000 words; `Memory` where memory runs out.
+    /// `Limit` if a frame has more than 1,000,000 words, or as many taken; `Memory` if memory runs out.
     pub(crate) fn grow<C: Code>(
         &mut self,
         alloc: Global,
         program: &C,
-        size: usize,
+        weight: usize,
     ) -> Result<bool, Stop>
-        requires sound { IsSound (C.code program.now) self.old }
-        ensures grows { OnOk result (Grows (C.code program.now) self.old self.new) }
+        requires { IsUnderWay (C.code program.now) self.old }
+        ensures way { OnOk result (IsUnderWay (C.code program.now) self.new) }
+        ensures whole { result ≡ Ok true
+            → IsClosed (C.code program.now) self.new.points.keys self.new.exits.items self.new.calls.items }
+        ensures more { result ≡ Ok false → ComesToMore (C.code program.now) weight }
+        ensures limited { result ≡ Err Limit → ComesToMore (C.code program.now) 1000000 }
     {
-        for _ in 0..u64::MAX {
-            if self.followed >= self.points.len() {
-                return Ok(true);
-            }
-            if self.size >= size {
-                break;
+        while self.followed < self.points.len() {
+            if self.weight > weight {
+                return Ok(false);
             }
             let number = self.followed;
             self.visit(alloc, program, number)?;
             self.followed = number + 1;
         }
-        Ok(false)
-    }
-
-    /// Whether each point leads to points that are there: every point is followed once more, and the calls are noted anew.
-    ///
-    /// # Errors
-    /// `Limit` where a frame has more than 1,000,000 words; `Memory` where memory runs out.
-    pub(crate) fn is_closed<C: Code>(&mut self, alloc: Global, program: &C) -> Result<bool, Stop>
-        requires sound { IsSound (C.code program.now) self.old }
-        requires begun { Has self.old.points.keys (point_of Main (C.code program.now).start main_frame) }
-        ensures grows { OnOk result (Grows (C.code program.now) self.old self.new) }
-        ensures same { IfOk result (λ closed. closed ≡ true → self.new.points.keys ≡ self.old.points.keys) }
-        ensures closed { IfOk result (λ closed. closed ≡ true
-            → IsClosed (C.code program.now) self.new.points.keys self.new.exits.items self.new.calls.items) }
-    {
-        let points = self.points.len();
-        let exits = self.exits.len();
-        self.calls.clear();
-        for number in 0..points {
-            self.visit(alloc, program, number)?;
-        }
-        Ok(self.points.len() == points && self.exits.len() == exits)
+        Ok(true)
     }
 
     /// Adds what a call leads to: its callee's start, and where it goes on after each known exit of the callee.
@@ -269,8 +262,9 @@ impl Search {
         ensures calls { OnOk result (self.new.calls.items ≡ self.old.calls.items ++ call ∷ []) }
         ensures back { OnOk result (BacksFrom (C.code program.now) self.old.points.keys self.new.points.keys
             self.old.exits.items (length self.old.exits.items) call) }
+        ensures limited { result ≡ Err Limit → ComesToMore (C.code program.now) 1000000 }
     {
-        self.enter(alloc, call)?;
+        self.enter(alloc, program, call)?;
         self.note_call(call)?;
         self.come_back_from_each(alloc, program, call)
     }
@@ -282,8 +276,10 @@ impl Search {
         ensures grows { OnOk result (Grows (C.code program.now) self.old self.new) }
         ensures there { OnOk result (HasExit self.new.exits.items exit.procedure exit.taken) }
         ensures calls { OnOk result (self.new.calls.items ≡ self.old.calls.items) }
+        ensures keeps { OnOk result (KeepsCovered (C.code program.now) self.old self.new) }
+        ensures limited { result ≡ Err Limit → ComesToMore (C.code program.now) 1000000 }
     {
-        if self.exits.has(exit) {
+        if self.exits.has(alloc, exit)? {
             return Ok(());
         }
         self.note_exit(exit)?;
@@ -311,7 +307,7 @@ impl Search {
         let at = self.points[number].at;
         let procedure = self.points[number].procedure;
         for to in program.targets(at) {
-            self.go_on(number, procedure, *to, frame.copy(alloc)?)?;
+            self.go_on(program, number, procedure, *to, frame.copy(alloc)?)?;
         }
         Ok(())
     }
@@ -319,16 +315,17 @@ impl Search {
     /// Adds where a point leads.
     ///
     /// # Errors
-    /// `Limit` where a frame has more than 1,000,000 words; `Memory` where memory runs out.
+    /// `Limit` if the frame has more than 1,000,000 words, or as many taken, or that of a caller to which it returns; `Memory` if
+    /// memory runs out.
     fn visit<C: Code>(&mut self, alloc: Global, program: &C, number: usize) -> Result<(), Stop>
         requires sound { IsSound (C.code program.now) self.old }
         requires there { number < length self.old.points.keys }
         ensures grows { OnOk result (Grows (C.code program.now) self.old self.new) }
         ensures covers { OnOk result ((point : Point) → slice_get self.old.points.keys number ≡ Some point
-            → Covers (C.code program.now) self.new.points.keys self.old.exits.items self.new.exits.items point) }
-        ensures more { OnOk result (Extends self.old.calls.items self.new.calls.items) }
-        ensures noted { OnOk result ((point : Point) → slice_get self.old.points.keys number ≡ Some point
-            → NotesCalls (C.code program.now) self.new.calls.items number point) }
+            → IsCovered (C.code program.now) self.new number point) }
+        ensures keeps { OnOk result (KeepsCovered (C.code program.now) self.old self.new) }
+        ensures one { OnOk result (length self.new.calls.items ≤ length self.old.calls.items + 1) }
+        ensures limited { result ≡ Err Limit → ComesToMore (C.code program.now) 1000000 }
     {
         match look_at(alloc, program, &self.points[number])? {
             Looked::Wrong(_) | Looked::Stuck(_) => Ok(()),
@@ -349,18 +346,21 @@ impl Search {
         requires moving { IsMovingAt (C.code program.now) self.old.points.keys number moves next }
         ensures grows { OnOk result (Grows (C.code program.now) self.old self.new) }
         ensures covers { OnOk result ((point : Point) → slice_get self.old.points.keys number ≡ Some point
-            → CoversMove (C.code program.now) self.new.points.keys self.old.exits.items self.new.exits.items point moves next) }
+            → CoversMove (C.code program.now) self.new.points.keys self.new.exits.items point moves next) }
         ensures noted { OnOk result (NotesMove self.old.calls.items self.new.calls.items number moves) }
+        ensures keeps { OnOk result (KeepsCovered (C.code program.now) self.old self.new) }
+        ensures one { OnOk result (length self.new.calls.items ≤ length self.old.calls.items + 1) }
+        ensures limited { result ≡ Err Limit → ComesToMore (C.code program.now) 1000000 }
     {
         let procedure = self.points[number].procedure;
         match moves {
             Moves::End => {}
-            Moves::On(frame) => self.go_on(number, procedure, next, frame)?,
-            Moves::Jump(frame, to) => self.go_on(number, procedure, to, frame)?,
+            Moves::On(frame) => self.go_on(program, number, procedure, next, frame)?,
+            Moves::Jump(frame, to) => self.go_on(program, number, procedure, to, frame)?,
             Moves::Either(frame, to) => {
                 let other = frame.copy(alloc)?;
-                self.go_on(number, procedure, next, frame)?;
-                self.go_on(number, procedure, to, other)?;
+                self.go_on(program, number, procedure, next, frame)?;
+                self.go_on(program, number, procedure, to, other)?;
             }
             Moves::Case(frame) => self.go_to_each(alloc, program, number, &frame, next)?,
             Moves::Call(_frame, target) => {
@@ -368,7 +368,7 @@ impl Search {
                 self.call(alloc, program, call)?;
             }
             Moves::MaybeCall(frame, target) => {
-                self.go_on(number, procedure, next, frame)?;
+                self.go_on(program, number, procedure, next, frame)?;
                 let call = CallingPoint::new(number, target, next);
                 self.call(alloc, program, call)?;
             }
@@ -377,11 +377,23 @@ impl Search {
                 self.leave(alloc, program, exit)?;
             }
             Moves::MaybeReturn(frame, taken) => {
-                self.go_on(number, procedure, next, frame)?;
+                self.go_on(program, number, procedure, next, frame)?;
                 let exit = Exit::new(number, procedure, taken);
                 self.leave(alloc, program, exit)?;
             }
         }
         Ok(())
     }
+}
+
+/// What a point weighs, or the most that a number can say: itself, the words of its frame and the words taken, once more for each
+/// declared target.
+fn weight_of<C: Code>(program: &C, point: &Point) -> usize
+    ensures { result ≤ weight_of (C.code program.now) point.now }
+{
+    let words = point.frame.words.len();
+    let own = words
+        .saturating_add(1)
+        .saturating_add(point.frame.taken as usize);
+    own.saturating_mul(program.targets(point.at).len().saturating_add(1))
 }

@@ -1,7 +1,9 @@
 //! What shows a refusal, and where it is found among the points of a search.
 
-ghost use Rattle.std.specs.Prelude.{◌≡◌, IfOk, IfSome, IfNone};
+ghost use Rattle.std.specs.Prelude.{◌≡◌, Err, IfOk, IfSome, IfNone};
 ghost use Rattle.explain80.specs.declared.sought.Kind.TheVariants.{Fault as KindOfFault, Clash as KindOfClash};
+ghost use Rattle.explain80.specs.declared.fault.Stop.TheVariants.{Limit};
+ghost use Rattle.explain80.specs.Counts.{HasHeavy};
 ghost use Rattle.explain80.specs.Sought.{IsEvidence, IsNoEvidence, IsSoughtFor, IsOfNoWay};
 
 use crate::evidence::{Clash, Fault, Pair, find_clash, find_fault};
@@ -91,7 +93,7 @@ impl Sought {
     /// The first points that show it.
     ///
     /// # Errors
-    /// `Limit` where a frame has more than 1,000,000 words; `Memory` where memory runs out.
+    /// `Limit` if a frame has more than 1,000,000 words, or as many taken; `Memory` if memory runs out.
     pub(crate) fn find<C: Code>(
         self,
         alloc: Global,
@@ -100,6 +102,7 @@ impl Sought {
     ) -> Result<Option<Evidence>, Stop>
         ensures found { IfOk result (λ found. IfSome found (IsEvidence (C.code program.now) points.now self)) }
         ensures none { IfOk result (λ found. IfNone found (IsNoEvidence (C.code program.now) points.now self)) }
+        ensures limited { result ≡ Err Limit → HasHeavy (C.code program.now) points.now }
     {
         Ok(match self.kind {
             Kind::Fault(fault) => {

@@ -10,8 +10,9 @@ use naming80::{NAMED_FILES, NamedFiles, Names, named_refusal};
 use report80::append_rows;
 use std::alloc::{AllocError, Global};
 
-/// The most points that are followed, and words of their frames, together.
-const LIMIT: usize = 4_000_000;
+/// The most that the points that are followed weigh together: a point one, a word of its frame or a word taken one more, and as much
+/// again for each declared target.
+const LIMIT: usize = 500_000;
 
 const ABOUT: &str = "Verifies an image as check does, and shows why it is refused";
 

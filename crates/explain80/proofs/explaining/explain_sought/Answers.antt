@@ -1,15 +1,15 @@
-use Rattle.std.proofs.Common.{sym, subst, ◌∙◌}
-use Rattle.std.specs.Prelude.{IfNone, IfSome}
+use Rattle.std.proofs.Common.{ap, subst, arith}
+use Rattle.std.specs.Prelude.{Err, IfNone, IfSome, Ok}
+use Rattle.explain80.specs.Counts.{HasHeavy}
 use Rattle.explain80.specs.Sought.{IsEvidence, IsNoEvidence}
-use Rattle.explain80.proofs.SearchLemmas.{has-extends}
+use Rattle.explain80.proofs.CountLemmas.{heavy-more, less, unexplained_by}
 use Rattle.explain80.proofs.WayLemmas.{ordered}
 use Rattle.explain80.proofs.EvidenceLemmas.{within}
 use Rattle.explain80.proofs.ClosedLemmas.{no-walks}
 use Rattle.explain80.proofs.explaining.explain_sought.Goals as goal
-use Rattle.explain80.proofs.explaining.explain_sought.Goals.{else-is_whole-via-then-is_whole+in_ok-is_closed+else-branch, else-is_whole-via-else-is_whole}
 
 pub show-requires-clause-ordered : goal.show-requires-clause-ordered
-show-requires-clause-ordered g c = ordered (g.C.Code.code c.args.program.now) c.grow.new.self c.in_ok-is_whole.ensures.grows.sound
+show-requires-clause-ordered g c = ordered (g.C.Code.code c.args.program.now) c.grow.new.self c.in_ok-is_whole.ensures.way.sound
 
 pub show-requires-clause-there : goal.show-requires-clause-there
 show-requires-clause-there g c =
@@ -19,26 +19,28 @@ show-requires-clause-there g c =
     within code c.grow.new.self.points.keys sought.at sought.kind c.in-Some.evidence
     (subst (λ points. IsEvidence code points sought c.in-Some.evidence) c.as_slice.ensures.keys found)
 
-pub is_closed-requires-clause-begun : goal.is_closed-requires-clause-begun
-is_closed-requires-clause-begun g c = has-extends c.loop.search.points.keys c.grow.new.self.points.keys c.in_ok-is_whole.ensures.grows.points _ c.loop.invariant.begun
-
-pub returns-then-branch-clause-none : goal.returns-then-branch-clause-none
-returns-then-branch-clause-none g c = λ e.
+pub returns-then-is_whole-clause-none : goal.returns-then-is_whole-clause-none
+returns-then-is_whole-clause-none g c = λ e.
     let code = g.C.Code.code c.args.program.now in
     let sought = c.args.sought in
-    let new = c.is_closed.new.self in
+    let new = c.grow.new.self in
     let none = subst (λ r. IfNone r (IsNoEvidence code c.as_slice.result.now sought)) c.in_default.is c.in_ok-evidence.ensures.none in
-    no-walks code new.points.keys new.exits.items new.calls.items (c.in_ok-is_closed.ensures.closed c.if-branch.true) sought.at sought.kind
-    (subst (λ points. IsNoEvidence code points sought) (c.as_slice.ensures.keys ∙ sym (c.in_ok-is_closed.ensures.same c.if-branch.true)) none)
+    no-walks code new.points.keys new.exits.items new.calls.items (c.in_ok-is_whole.ensures.whole (ap (λ b. Ok b) c.if-is_whole.true)) sought.at sought.kind
+    (subst (λ points. IsNoEvidence code points sought) c.as_slice.ensures.keys none)
 
-pub loop-preserved : goal.loop-preserved
-loop-preserved g c =
+pub returns-in_err-is_whole-clause-limited : goal.returns-in_err-is_whole-clause-limited
+returns-in_err-is_whole-clause-limited g c = λ e n within most.
+    let stop = unexplained_by c.from_residual-in_err-is_whole.result c.in_err-is_whole.field-0.0 c.from_residual-in_err-is_whole.ensures.1 e in
+    less (g.C.Code.code c.args.program.now) n 1000000 most (c.in_err-is_whole.ensures.limited (ap (λ s. Err s) stop))
+
+pub returns-then-weight-limit-clause-limited : goal.returns-then-weight-limit-clause-limited
+returns-then-weight-limit-clause-limited g c = λ _ n within most.
+    let enough = c.if-weight-limit.true in
+    less (g.C.Code.code c.args.program.now) n c.loop-search.weight (omega (arith, within, enough)) (c.in_ok-is_whole.ensures.more (ap (λ b. Ok b) c.if-is_whole.false))
+
+pub returns-in_err-evidence-clause-limited : goal.returns-in_err-evidence-clause-limited
+returns-in_err-evidence-clause-limited g c = λ e n within most.
     let code = g.C.Code.code c.args.program.now in
-    let grown = c.in_ok-is_whole.ensures.grows in
-    let begun = has-extends c.loop.search.points.keys c.grow.new.self.points.keys grown.points _ c.loop.invariant.begun in
-    elim c.else-is_whole.branch [
-      | else-is_whole-via-then-is_whole+in_ok-is_closed+else-branch w ↦
-          let more = w.in_ok-is_closed.ensures.grows in
-          rw w.search-is (record { sound = more.sound; begun = has-extends c.grow.new.self.points.keys w.is_closed.new.self.points.keys more.points _ begun })
-      | else-is_whole-via-else-is_whole w ↦ rw w.search-is (record { sound = grown.sound; begun = begun })
-    ]
+    let stop = unexplained_by c.from_residual-in_err-evidence.result c.in_err-evidence.field-0.0 c.from_residual-in_err-evidence.ensures.1 e in
+    less code n 1000000 most (heavy-more code c.grow.new.self c.in_ok-is_whole.ensures.way.sound
+    (subst (HasHeavy code) c.as_slice.ensures.keys (c.in_err-evidence.ensures.limited (ap (λ s. Err s) stop))))

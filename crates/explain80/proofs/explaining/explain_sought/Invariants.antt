@@ -1,10 +1,12 @@
-use Rattle.frames80.specs.StackFrame.{main_frame}
-use Rattle.bounds80.specs.declared.procedure.Procedure.TheVariants.{Main}
-use Rattle.explain80.specs.Search.{Has, IsSound, point_of}
+use Rattle.std.specs.Prelude.{◌<◌, ◌-◌}
+use Rattle.explain80.specs.Search.{IsUnderWay}
 use Rattle.explain80.proofs.explaining.explain_sought.Given as goal
 
-abbrev pub invariant-loop : goal.invariant-loop
-invariant-loop g l = record {
-  sound : IsSound (g.C.Code.code l.program) l.search;
-  begun : Has l.search.points.keys (point_of Main ((g.C.Code.code l.program).start) main_frame);
+abbrev pub invariant-loop-search : goal.invariant-loop-search
+invariant-loop-search g l = record {
+  way : IsUnderWay (g.C.Code.code l.program) l.search;
+  some : 0 < l.weight;
 }
+
+abbrev pub decreases-loop-search : goal.decreases-loop-search
+decreases-loop-search g l = l.limit - l.weight

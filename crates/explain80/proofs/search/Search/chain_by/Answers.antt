@@ -14,7 +14,7 @@ returns-in-Some-clause-chain g c =
     let bounds = c.args.bounds.now in
     let last = c.in-Some.last in
     let p = c.loop-calls.procedure in
-    let found = subst (λ r. IfSome r (EndsWith code p c.get-bytes.result)) c.in-Some.is c.in_ok-last.ensures in
+    let found = subst (λ r. IfSome r (EndsWith code p c.get-bytes.result)) c.in-Some.is c.in_ok-last.ensures.last in
     let ends = subst (λ bytes. EndsWith code p bytes last) c.get-bytes.ensures found in
     subst (λ calls. IsChain code Main calls last (pos (bytes_of bounds Main))) (append_nil c.loop-calls.calls.items) (c.loop-calls.invariant.chain [] last (chain-end code p (bytes_of bounds p) last ends))
 

@@ -2,7 +2,7 @@ use Rattle.std.proofs.Common.{◌≡◌, ◌<◌, List, Some, length, slice_get,
 use Rattle.std.proofs.lemmas.Option.{same_Some, slice_get-get_or, slice_get_within}
 use Rattle.explain80.specs.declared.origin.Exit.{Exit}
 use Rattle.explain80.specs.Search.{HasBack}
-use Rattle.explain80.proofs.ListLemmas.{at-contained, one_more, slice_get-extends}
+use Rattle.explain80.proofs.ListLemmas.{at-contained, contains-at, one_more, slice_get-extends}
 use Rattle.explain80.proofs.SearchLemmas.{grows-on}
 use Rattle.explain80.proofs.MoveLemmas.{back-extends}
 use Rattle.explain80.proofs.search.Search.come_back_from_each.Goals as goal
@@ -13,14 +13,14 @@ come_back-requires-clause-exit g c =
     let inv = c.loop-exit.invariant in
     let index = c.loop-exit.exit-index in
     let at = ap (λ (xs : List Exit). slice_get xs index) (sym c.deref-exit-items.ensures.value) ∙ slice_get-get_or c.deref-exit-items.result.now index _ c.loop-exit-test.true in
-    let there = at-contained old.exits.items _ (c.in_ok-exits.ensures.known index _ at).1 in
+    let there = at-contained old.exits.items _ (c.in_ok-exits.ensures.each _ (contains-at c.in_ok-exits.exits.items index _ at)).1 in
     inv.grows.sound.exits there.0 _ (ap (λ (xs : List Exit). slice_get xs there.0) inv.exits ∙ there.1)
 
 pub come_back-requires-clause-callee : goal.come_back-requires-clause-callee
 come_back-requires-clause-callee g c =
     let index = c.loop-exit.exit-index in
     let at = ap (λ (xs : List Exit). slice_get xs index) (sym c.deref-exit-items.ensures.value) ∙ slice_get-get_or c.deref-exit-items.result.now index _ c.loop-exit-test.true in
-    (c.in_ok-exits.ensures.known index _ at).0
+    (c.in_ok-exits.ensures.each _ (contains-at c.in_ok-exits.exits.items index _ at)).0
 
 pub loop-exit-preserved : goal.loop-exit-preserved
 loop-exit-preserved g c =
@@ -50,7 +50,7 @@ returns-clause-back g c =
     let same = c.deref-exit-items.ensures.value in
     record {
       backs = λ k exit one below there inside is.
-          let at = at-contained c.in_ok-exits.exits.items exit (c.in_ok-exits.ensures.all k exit there inside) in
+          let at = at-contained c.in_ok-exits.exits.items exit (c.in_ok-exits.ensures.all exit (contains-at c.args.self.now.exits.items k exit there) inside) in
           let within = slice_get_within c.in_ok-exits.exits.items at.0 exit at.1 in
           let less : at.0 < c.loop-exit.exit-index = omega (arith, within, c.loop-exit-test.false, ap length same) in
           inv.back at.0 exit one less (ap (λ (xs : List Exit). slice_get xs at.0) same ∙ at.1) is;

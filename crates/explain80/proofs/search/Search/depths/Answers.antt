@@ -1,5 +1,5 @@
 use Rattle.std.proofs.Common.{rules, w64, ◌++◌, ◌∷◌, [], ◌+◌, ◌≡◌, ◌<◌, length, get_or, slice_get, refl, arith, sym, ◌∙◌, ap, subst}
-use Rattle.std.specs.Prelude.{All}
+use Rattle.std.specs.Prelude.{All, Err}
 use Rattle.std.proofs.lemmas.Int.{to_z-of_z}
 use Rattle.std.proofs.lemmas.List.{length-append}
 use Rattle.std.proofs.lemmas.List.Elements.{All-push}
@@ -10,6 +10,7 @@ use Rattle.bounds80.specs.declared.graph.Depth.{Depth}
 use Rattle.explain80.specs.declared.point.Point.{Point}
 use Rattle.explain80.specs.Chains.{IsDepthOf}
 use Rattle.explain80.proofs.ListLemmas.{each-push, read_at}
+use Rattle.explain80.proofs.CountLemmas.{heavy-less, limited_by}
 use Rattle.explain80.proofs.search.Search.depths.Goals as goal
 
 pub loop-point-preserved : goal.loop-point-preserved
@@ -36,3 +37,15 @@ loop-point-preserved g c =
           let same : point ≡ one = same_Some point one (sym is ∙ ap (slice_get points) (sym inv.count) ∙ there) in
           subst (λ (p : Point). IsDepthOf code p made) same (record { procedure = refl; is = c.in_ok-depth.ensures.depth }));
     }
+
+pub returns-in_err-depth-clause-limited : goal.returns-in_err-depth-clause-limited
+returns-in_err-depth-clause-limited g c = λ e.
+    let points = c.args.self.now.points.keys in
+    let point : Point = c.point-item.result in
+    let k = c.loop-point.point-index in
+    let keys = c.as_slice-point-items.ensures.keys in
+    let below : k < length points = omega (arith, c.loop-point-test.true, c.loop-point.auto.point-index-end, ap length keys) in
+    let is = read_at points k point below (c.point-item.is ∙ ap (λ xs. get_or xs k point) keys) in
+    let stop = limited_by c.from_residual.result c.in_err-depth.field-0.0 c.from_residual.ensures.1 e in
+    heavy-less (g.C.Code.code c.args.program.now) c.args.self.now c.requires
+    (record { number = k; point = point; is = is; heavy = c.in_err-depth.ensures.limited (ap (λ s. Err s) stop) })

@@ -1,4 +1,4 @@
-use Rattle.std.proofs.Common.{inl, inr, [], ◌∷◌, ◌++◌, Some, length, refl, sym, ◌∙◌, ap, subst}
+use Rattle.std.proofs.Common.{List, inl, inr, [], ◌∷◌, ◌++◌, Some, length, refl, sym, ◌∙◌, ap, subst}
 use Rattle.frames80.specs.StackFrame.{entry_frame}
 use Rattle.frames80.specs.declared.moves.Moves.TheVariants.{On, Jump, Either, Call, MaybeCall, MaybeReturn}
 use Rattle.bounds80.specs.declared.procedure.Procedure.TheVariants.{Entry}
@@ -6,7 +6,8 @@ use Rattle.flow80.specs.Walks.{called}
 use Rattle.explain80.specs.declared.origin.Exit.{Exit}
 use Rattle.explain80.specs.declared.origin.CallingPoint.{CallingPoint}
 use Rattle.explain80.specs.Search.{BacksFrom, Has, HasExit, IsCalling, IsExit, IsMovingAt, NotesMove, point_of}
-use Rattle.explain80.proofs.ListLemmas.{slice_get-extends}
+use Rattle.explain80.proofs.ListLemmas.{extends-push, extends-same, slice_get-extends}
+use Rattle.explain80.proofs.ClosedLemmas.{keeps-both, keeps-on}
 use Rattle.explain80.proofs.SearchLemmas.{grows-on, has-extends}
 use Rattle.explain80.proofs.MoveLemmas.{backs-all, calling-at, covers-at, covers-call, covers-either, covers-maybe_call, covers-maybe_return, exit-at, goes-move, moving-extends, notes-call, notes-same}
 use Rattle.explain80.proofs.search.Search.follow.Goals as goal
@@ -142,8 +143,8 @@ returns-in_ok-go_on-in-Either-2-clause-covers g c =
     let is = slice_get-extends old.points.keys mid.points.keys step.points number one at in
     let same = c.in_ok-other-in-Either.ensures in
     let jump = goes-move code mid new step.sound number one (Either f to) next to other is extended (inr refl, same) c.in_ok-go_on-in-Either-2.ensures in
-    covers-at code new.points.keys old.points.keys old.exits.items new.exits.items number one c.args.moves (Either f to) next at c.in-Either.is
-    (covers-either code new.points.keys old.exits.items new.exits.items one next f to
+    covers-at code new.points.keys old.points.keys new.exits.items number one c.args.moves (Either f to) next at c.in-Either.is
+    (covers-either code new.points.keys new.exits.items one next f to
     (has-extends mid.points.keys new.points.keys jump.points (point_of one.procedure next f) added.there)
     (subst (λ g. Has new.points.keys (point_of one.procedure to g)) same c.in_ok-go_on-in-Either-2.ensures.there))
 
@@ -162,9 +163,9 @@ returns-in_ok-call-in-Call-clause-covers g c =
     let done = c.in_ok-call-in-Call.ensures in
     let entered = subst (λ (call : CallingPoint). Has new.points.keys (point_of (Entry call.target) call.target entry_frame)) made done.there in
     let back = subst (λ (call : CallingPoint). BacksFrom code old.points.keys new.points.keys old.exits.items (length old.exits.items) call) made done.back in
-    covers-at code new.points.keys old.points.keys old.exits.items new.exits.items number one c.args.moves (Call f target) next at c.in-Call.is
-    (covers-call code new.points.keys old.exits.items new.exits.items one next target entered
-    (λ taken h. backs-all code old.points.keys new.points.keys old.exits.items (record { point = number; target = target; next = next }) one back at taken h) f)
+    covers-at code new.points.keys old.points.keys new.exits.items number one c.args.moves (Call f target) next at c.in-Call.is
+    (covers-call code new.points.keys new.exits.items one next target entered
+    (λ taken h. backs-all code old.points.keys new.points.keys old.exits.items (record { point = number; target = target; next = next }) one back at taken (subst (λ xs. HasExit xs (Entry target) taken) done.exits h)) f)
 
 pub returns-in_ok-call-in-MaybeCall-clause-covers : goal.returns-in_ok-call-in-MaybeCall-clause-covers
 returns-in_ok-call-in-MaybeCall-clause-covers g c =
@@ -187,9 +188,9 @@ returns-in_ok-call-in-MaybeCall-clause-covers g c =
     let entered = subst (λ (call : CallingPoint). Has new.points.keys (point_of (Entry call.target) call.target entry_frame)) made done.there in
     let all_back = subst (λ (call : CallingPoint). BacksFrom code mid.points.keys new.points.keys mid.exits.items (length mid.exits.items) call) made done.back in
     let back = subst (λ exits. BacksFrom code mid.points.keys new.points.keys exits (length exits) (record { point = number; target = target; next = next })) added.exits all_back in
-    covers-at code new.points.keys old.points.keys old.exits.items new.exits.items number one c.args.moves (MaybeCall f target) next at c.in-MaybeCall.is
-    (covers-maybe_call code new.points.keys old.exits.items new.exits.items one next target entered
-    (λ taken h. backs-all code mid.points.keys new.points.keys old.exits.items (record { point = number; target = target; next = next }) one back is taken h) f
+    covers-at code new.points.keys old.points.keys new.exits.items number one c.args.moves (MaybeCall f target) next at c.in-MaybeCall.is
+    (covers-maybe_call code new.points.keys new.exits.items one next target entered
+    (λ taken h. backs-all code mid.points.keys new.points.keys old.exits.items (record { point = number; target = target; next = next }) one back is taken (subst (λ xs. HasExit xs (Entry target) taken) (done.exits ∙ added.exits) h)) f
     (has-extends mid.points.keys new.points.keys done.grows.points (point_of one.procedure next f) added.there))
 
 pub returns-in_ok-leave-in-MaybeReturn-clause-grows : goal.returns-in_ok-leave-in-MaybeReturn-clause-grows
@@ -225,8 +226,8 @@ returns-in_ok-leave-in-MaybeReturn-clause-covers g c =
     let new = c.leave-in-MaybeReturn.new.self in
     let done = c.in_ok-leave-in-MaybeReturn.ensures in
     let left = subst (λ (exit : Exit). HasExit new.exits.items exit.procedure exit.taken) c.new-exit-in-MaybeReturn.ensures done.there in
-    covers-at code new.points.keys old.points.keys old.exits.items new.exits.items number one c.args.moves (MaybeReturn f taken) next at c.in-MaybeReturn.is
-    (covers-maybe_return code new.points.keys old.exits.items new.exits.items one next taken left f
+    covers-at code new.points.keys old.points.keys new.exits.items number one c.args.moves (MaybeReturn f taken) next at c.in-MaybeReturn.is
+    (covers-maybe_return code new.points.keys new.exits.items one next taken left f
     (has-extends mid.points.keys new.points.keys done.grows.points (point_of one.procedure next f) added.there))
 
 pub returns-in-End-clause-noted : goal.returns-in-End-clause-noted
@@ -265,3 +266,63 @@ returns-in_ok-leave-in-Return-clause-noted g c = notes-same c.args.self.now.call
 pub returns-in_ok-leave-in-MaybeReturn-clause-noted : goal.returns-in_ok-leave-in-MaybeReturn-clause-noted
 returns-in_ok-leave-in-MaybeReturn-clause-noted g c = notes-same c.args.self.now.calls.items c.leave-in-MaybeReturn.new.self.calls.items c.args.number c.args.moves (ap called c.in-MaybeReturn.is)
     (c.in_ok-leave-in-MaybeReturn.ensures.calls ∙ c.in_ok-go_on-in-MaybeReturn.ensures.calls)
+
+pub returns-in_ok-go_on-in-On-clause-keeps : goal.returns-in_ok-go_on-in-On-clause-keeps
+returns-in_ok-go_on-in-On-clause-keeps g c =
+    let added = c.in_ok-go_on-in-On.ensures in
+    keeps-on (g.C.Code.code c.args.program.now) c.args.self.now c.go_on.new.self (returns-in_ok-go_on-in-On-clause-grows g c) added.exits (extends-same _ _ added.calls)
+
+pub returns-in_ok-go_on-in-Jump-clause-keeps : goal.returns-in_ok-go_on-in-Jump-clause-keeps
+returns-in_ok-go_on-in-Jump-clause-keeps g c =
+    let added = c.in_ok-go_on-in-Jump.ensures in
+    keeps-on (g.C.Code.code c.args.program.now) c.args.self.now c.go_on-in-Jump.new.self (returns-in_ok-go_on-in-Jump-clause-grows g c) added.exits (extends-same _ _ added.calls)
+
+pub returns-in_ok-go_on-in-Either-2-clause-keeps : goal.returns-in_ok-go_on-in-Either-2-clause-keeps
+returns-in_ok-go_on-in-Either-2-clause-keeps g c =
+    let first = c.in_ok-go_on-in-Either.ensures in
+    let added = c.in_ok-go_on-in-Either-2.ensures in
+    keeps-on (g.C.Code.code c.args.program.now) c.args.self.now c.go_on-in-Either-2.new.self (returns-in_ok-go_on-in-Either-2-clause-grows g c) (added.exits ∙ first.exits) (extends-same _ _ (added.calls ∙ first.calls))
+
+pub returns-in_ok-go_to_each-in-Case-clause-keeps : goal.returns-in_ok-go_to_each-in-Case-clause-keeps
+returns-in_ok-go_to_each-in-Case-clause-keeps g c =
+    let done = c.in_ok-go_to_each-in-Case.ensures in
+    keeps-on (g.C.Code.code c.args.program.now) c.args.self.now c.go_to_each.new.self done.grows done.exits (extends-same _ _ done.calls)
+
+pub returns-in_ok-call-in-Call-clause-keeps : goal.returns-in_ok-call-in-Call-clause-keeps
+returns-in_ok-call-in-Call-clause-keeps g c =
+    let done = c.in_ok-call-in-Call.ensures in
+    keeps-on (g.C.Code.code c.args.program.now) c.args.self.now c.call.new.self done.grows done.exits (extends-push _ _ _ done.calls)
+
+pub returns-in_ok-call-in-MaybeCall-clause-grows : goal.returns-in_ok-call-in-MaybeCall-clause-grows
+returns-in_ok-call-in-MaybeCall-clause-grows g c =
+    let code = g.C.Code.code c.args.program.now in
+    let old = c.args.self.now in
+    let number = c.args.number in
+    let next = c.args.next in
+    let mid = c.go_on-in-MaybeCall.new.self in
+    let f = c.in-MaybeCall.frame in
+    let target = c.in-MaybeCall.target in
+    let moving = subst (λ moves. IsMovingAt code old.points.keys number moves next) c.in-MaybeCall.is c.requires.moving in
+    let step = goes-move code old mid c.requires.sound number c.index.result.now (MaybeCall f target) next next f c.index.ensures moving (refl, refl) c.in_ok-go_on-in-MaybeCall.ensures in
+    grows-on code old mid c.call-in-MaybeCall.new.self step c.in_ok-call-in-MaybeCall.ensures.grows
+
+pub returns-in_ok-call-in-MaybeCall-clause-keeps : goal.returns-in_ok-call-in-MaybeCall-clause-keeps
+returns-in_ok-call-in-MaybeCall-clause-keeps g c =
+    let added = c.in_ok-go_on-in-MaybeCall.ensures in
+    let done = c.in_ok-call-in-MaybeCall.ensures in
+    keeps-on (g.C.Code.code c.args.program.now) c.args.self.now c.call-in-MaybeCall.new.self (returns-in_ok-call-in-MaybeCall-clause-grows g c) (done.exits ∙ added.exits)
+    (extends-push _ _ _ (done.calls ∙ ap (λ (xs : List CallingPoint). xs ++ c.new-call-in-MaybeCall.result ∷ []) added.calls))
+
+pub returns-in_ok-leave-in-MaybeReturn-clause-keeps : goal.returns-in_ok-leave-in-MaybeReturn-clause-keeps
+returns-in_ok-leave-in-MaybeReturn-clause-keeps g c =
+    let code = g.C.Code.code c.args.program.now in
+    let old = c.args.self.now in
+    let number = c.args.number in
+    let next = c.args.next in
+    let mid = c.go_on-in-MaybeReturn.new.self in
+    let f = c.in-MaybeReturn.frame in
+    let taken = c.in-MaybeReturn.taken in
+    let moving = subst (λ moves. IsMovingAt code old.points.keys number moves next) c.in-MaybeReturn.is c.requires.moving in
+    let added = c.in_ok-go_on-in-MaybeReturn.ensures in
+    let step = goes-move code old mid c.requires.sound number c.index.result.now (MaybeReturn f taken) next next f c.index.ensures moving (refl, refl) added in
+    keeps-both code old mid c.leave-in-MaybeReturn.new.self step.points (keeps-on code old mid step added.exits (extends-same _ _ added.calls)) c.in_ok-leave-in-MaybeReturn.ensures.keeps

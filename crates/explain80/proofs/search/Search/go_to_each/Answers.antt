@@ -23,7 +23,7 @@ loop-to-preserved g c =
     let m = moving-extends code old.points.keys cur.points.keys inv.grows.points c.args.number _ c.args.next c.requires.moving in
     let items = c.targets-to-items.ensures in
     let there = c.in_ok-go_on.ensures.there in
-    let added = subst (λ ts. IsAdded cur new (point_of one.procedure (get_or ts c.loop-to.to-index 0) c.in_ok-copy.field-0) (GoesOn c.args.number)) (items ∙ targets) c.in_ok-go_on.ensures in
+    let added = subst (λ ts. IsAdded code cur new (point_of one.procedure (get_or ts c.loop-to.to-index 0) c.in_ok-copy.field-0) (GoesOn c.args.number)) (items ∙ targets) c.in_ok-go_on.ensures in
     let step = goes-case code cur new inv.grows.sound c.args.number one c.args.frame.now c.args.next c.loop-to.to-index c.in_ok-copy.field-0 is m below c.in_ok-copy.ensures added in
     record {
       grows = grows-on code old cur new inv.grows step;

@@ -4,6 +4,8 @@ use Rattle.std.proofs.lemmas.Int.{to_z-of_z}
 use Rattle.explain80.specs.declared.chain.Standing.{Standing}
 use Rattle.explain80.specs.Chains.{EndsWith}
 use Rattle.explain80.proofs.ChainLemmas.{stands-at}
+use Rattle.std.specs.Prelude.{Err}
+use Rattle.explain80.proofs.CountLemmas.{heavy-less, limited_by}
 use Rattle.explain80.proofs.search.Search.last_at.Goals as goal
 
 pub returns-then-comes_to-clause-last : goal.returns-then-comes_to-clause-last
@@ -16,3 +18,9 @@ returns-then-comes_to-clause-last g c =
     let same = to_z-of_z w64 depth fits in
     subst (λ (x : Standing). EndsWith code c.args.procedure c.args.bytes x) (sym (c.new.ensures ∙ ap (λ d. record { procedure = c.args.procedure; at = point.at; depth = d }) same))
     (stands-at code c.args.self.now c.requires.sound c.args.number point c.args.procedure c.in_ok-depth.depth c.args.bytes c.index-point.ensures (c.is_of.ensures.0 c.if-is_of.true) c.in_ok-depth.ensures.depth (c.comes_to.ensures.0 c.if-comes_to.true ∙ same))
+
+pub returns-in_err-depth-clause-limited : goal.returns-in_err-depth-clause-limited
+returns-in_err-depth-clause-limited g c = λ e.
+    let stop = limited_by c.from_residual.result c.in_err-depth.field-0.0 c.from_residual.ensures.1 e in
+    heavy-less (g.C.Code.code c.args.program.now) c.args.self.now c.requires.sound
+    (record { number = c.args.number; point = c.index-point.result.now; is = c.index-point.ensures; heavy = c.in_err-depth.ensures.limited (ap (λ s. Err s) stop) })

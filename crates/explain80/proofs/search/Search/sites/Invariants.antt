@@ -5,10 +5,10 @@ use Rattle.explain80.specs.declared.origin.CallingPoint.{CallingPoint}
 use Rattle.explain80.specs.Chains.{CallsAt, IsSiteOf}
 use Rattle.explain80.proofs.search.Search.sites.Given as goal
 
-abbrev pub invariant-loop-calling : goal.invariant-loop-calling
-invariant-loop-calling g l = record {
+abbrev pub invariant-loop-number : goal.invariant-loop-number
+invariant-loop-number g l = record {
   calls : All (CallsAt (g.C.Code.code l.program)) l.sites.items;
   modest : All (λ (s : CallSite). IsModest s.depth) l.sites.items;
-  count : length l.sites.items ≡ l.calling-index;
+  count : length l.sites.items ≡ l.number;
   each : (k : ℕ) (site : CallSite) (calling : CallingPoint) → slice_get l.sites.items k ≡ Some site → slice_get l.self.calls.items k ≡ Some calling → IsSiteOf (g.C.Code.code l.program) l.self.points.keys calling site;
 }

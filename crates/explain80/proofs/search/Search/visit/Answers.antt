@@ -1,9 +1,11 @@
-use Rattle.std.proofs.Common.{sym, ◌∙◌, subst}
+use Rattle.std.proofs.Common.{ap, sym, ◌∙◌, subst}
+use Rattle.std.specs.Prelude.{Err}
 use Rattle.std.proofs.lemmas.Option.{same_Some}
 use Rattle.explain80.specs.declared.point.Point.{Point}
 use Rattle.explain80.specs.declared.looked.Looked.{Looked}
 use Rattle.explain80.specs.Search.{IsLooked, IsMoving}
-use Rattle.explain80.proofs.ListLemmas.{on_ok}
+use Rattle.explain80.proofs.CountLemmas.{heavy-more, limited_by}
+use Rattle.explain80.proofs.ListLemmas.{on_ok2}
 use Rattle.explain80.proofs.MoveLemmas.{covers-moved, notes-moved}
 use Rattle.explain80.proofs.search.Search.visit.Goals as goal
 
@@ -15,23 +17,18 @@ returns-in-Moved-clause-covers g c =
     let one = c.index.result.now in
     let moves = c.in-Moved.moves in
     let next = c.in-Moved.next in
-    let looked : IsMoving code one moves next = subst (λ (x : Looked). IsLooked code one x) c.in-Moved.is c.in_ok-look_at.ensures in
-    on_ok c.follow.result _ _
-    (λ covers. λ point is. covers-moved code new.points.keys old.exits.items new.exits.items point next moves
-    (subst (λ (p : Point). IsMoving code p moves next) (same_Some one point (sym c.index.ensures ∙ is)) looked) (covers point is))
-    c.follow.ensures.covers
+    let looked : IsMoving code one moves next = subst (λ (x : Looked). IsLooked code one x) c.in-Moved.is c.in_ok-look_at.ensures.looked in
+    on_ok2 c.follow.result _ _ _
+    (λ covers noted. λ point is.
+    let moving = subst (λ (p : Point). IsMoving code p moves next) (same_Some one point (sym c.index.ensures ∙ is)) looked in
+    record {
+      covers = covers-moved code new.points.keys new.exits.items point next moves moving (covers point is);
+      noted = notes-moved code old.calls.items new.calls.items c.args.number point moves next moving noted;
+    })
+    c.follow.ensures.covers c.follow.ensures.noted
 
-pub returns-in-Moved-clause-more : goal.returns-in-Moved-clause-more
-returns-in-Moved-clause-more g c = on_ok c.follow.result _ _ (λ noted. noted.more) c.follow.ensures.noted
-
-pub returns-in-Moved-clause-noted : goal.returns-in-Moved-clause-noted
-returns-in-Moved-clause-noted g c =
-    let code = g.C.Code.code c.args.program.now in
-    let one = c.index.result.now in
-    let moves = c.in-Moved.moves in
-    let next = c.in-Moved.next in
-    let looked : IsMoving code one moves next = subst (λ (x : Looked). IsLooked code one x) c.in-Moved.is c.in_ok-look_at.ensures in
-    on_ok c.follow.result _ _
-    (λ noted. λ point is. notes-moved code c.args.self.now.calls.items c.follow.new.self.calls.items c.args.number point moves next
-    (subst (λ (p : Point). IsMoving code p moves next) (same_Some one point (sym c.index.ensures ∙ is)) looked) noted)
-    c.follow.ensures.noted
+pub returns-in_err-look_at-clause-limited : goal.returns-in_err-look_at-clause-limited
+returns-in_err-look_at-clause-limited g c = λ e.
+    let stop = limited_by c.from_residual.result c.in_err-look_at.field-0.0 c.from_residual.ensures.1 e in
+    heavy-more (g.C.Code.code c.args.program.now) c.args.self.now c.requires.sound
+    (record { number = c.args.number; point = c.index.result.now; is = c.index.ensures; heavy = c.in_err-look_at.ensures.limited (ap (λ s. Err s) stop) })
