@@ -28,7 +28,7 @@ impl Model for Bounds {
 }
 
 impl Bounds {
-    /// The bytes of a procedure; 0 where it isn't entered.
+    /// The bytes of a procedure; 0 if it isn't entered.
     pub fn get(&self, procedure: Procedure) -> u64
         ensures { result ≡ bytes_of self.now procedure }
     {
@@ -68,7 +68,7 @@ fn settle(alloc: Global, depths: &[Depth], calls: &[CallSite]) -> Result<Settled
 /// Each depth must be from -2,097,152 to 2,097,152 bytes, and there may be 262,144 calls at most.
 ///
 /// # Errors
-/// `Recursion`, with the address of a call that leads back to its own procedure, where there is one; `Memory` where memory runs
+/// `Recursion`, with the address of a call that leads back to its own procedure, if there is one; `Memory` if memory runs
 /// out.
 pub fn find_bounds(
     alloc: Global,

@@ -2,7 +2,7 @@
 
 use crate::procedure::Procedure;
 
-/// The depth of a frame of a procedure, in bytes; negative where it has taken more words than it has.
+/// The depth of a frame of a procedure, in bytes; negative if it has taken more words than it has.
 #[derive(Clone, Copy, Debug)]
 pub struct Depth {
     /// The procedure.

@@ -8,7 +8,7 @@ use crate::graph::{CallSite, Depth};
 use crate::procedure::{Procedure, SLOTS, slot};
 use std::alloc::{AllocError, Global};
 
-/// A sum, or a number of bytes where that is greater.
+/// A sum, or a number of bytes if that is greater.
 fn raise(sum: u64, bytes: i64) -> u64
     ensures { IsRaised sum bytes result }
 {
@@ -22,7 +22,7 @@ fn raise(sum: u64, bytes: i64) -> u64
 /// A table with the same value at each place.
 ///
 /// # Errors
-/// `AllocError` only where memory runs out.
+/// `AllocError` only if memory runs out.
 pub fn table<T: Copy>(alloc: Global, value: T, places: usize) -> Result<Vec<T>, AllocError>
     ensures places { IfOk result (λ v. length v.items ≡ places) }
     ensures values { IfOk result (λ v. All (λ x. x ≡ value) v.items) }

@@ -57,7 +57,7 @@ pub(crate) fn idle(
     Ok(slots)
 }
 
-/// Absorbs a call to the procedure that was settled last, or takes that procedure off the worklist where none is left.
+/// Absorbs a call to the procedure that was settled last, or takes that procedure off the worklist if none is left.
 pub(crate) fn advance(
     sums: &mut [u64],
     callers: &mut [Vec<CallSite>],

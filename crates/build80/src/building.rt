@@ -25,7 +25,7 @@ pub struct Built {
 /// Links modules, and the modules that they need of libraries, into one of the given name, and locates it.
 ///
 /// The image's memory is at each address the byte that these modules define, each content at the place of its part in the
-/// linked segments, with all its references resolved, and 0 where none covers the address. Its regions are the linked segments
+/// linked segments, with all its references resolved, and 0 if none covers the address. Its regions are the linked segments
 /// at their places. (ISIS-II User's Guide, LINK and LOCATE.)
 ///
 /// # Example
@@ -39,7 +39,7 @@ pub struct Built {
 ///
 /// # Errors
 /// `Link` with the fault of [`link`](link80::link), which comes first, or `Place` with that of [`locate`](place80::locate); `Memory`
-/// only where memory ran out.
+/// only if memory ran out.
 pub fn build(
     alloc: Global,
     name: &Name,

@@ -39,11 +39,11 @@ abbrev pub texts_from : Option (List ℕ) → Option Sides → Option Texts
 texts_from (Some image) (Some sides) = Some (record { image = image; regions = sides.before; inputs = sides.after })
 texts_from _ _ = None
 
--- the texts of the parts of a bundle: the first of them is a line only where another one follows
+-- the texts of the parts of a bundle: the first of them is a line only if another one follows
 abbrev pub texts_in : List (List ℕ) → Option Texts
 texts_in [] = None
 texts_in (line ∷ lines) = texts_from (bytes_spelled line) (sides_of lines)
 
--- the three texts of a bundle, None where it can't be parted so
+-- the three texts of a bundle, None if it can't be parted so
 abbrev pub bundle_texts : List ℕ → Option Texts
 bundle_texts bundle = texts_in (parts bundle)

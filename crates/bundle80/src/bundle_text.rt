@@ -17,7 +17,7 @@ pub struct BundleTexts<'a> {
 }
 
 /// Parts a bundle: the image in hexadecimal digits of either case on the first line, then the
-/// regions up to the first line that is exactly `INPUTS`, then the inputs. `None` where it can't
+/// regions up to the first line that is exactly `INPUTS`, then the inputs. `None` if it can't
 /// be parted so.
 pub fn part_bundle(alloc: Global, bundle: &[u8]) -> Result<Option<BundleTexts<'_>>, AllocError>
     ensures { IfOk result (λ texts. option_map texts_of texts ≡ bundle_texts bundle.now) }
@@ -41,7 +41,7 @@ pub fn part_bundle(alloc: Global, bundle: &[u8]) -> Result<Option<BundleTexts<'_
 // The line between the regions and the inputs, without its line feed.
 const INPUTS: &[u8] = b"INPUTS";
 
-// What stands before and after the first line that is `INPUTS`, where there is such a line.
+// What stands before and after the first line that is `INPUTS`, if there is such a line.
 fn sides(text: &[u8]) -> Option<(&[u8], &[u8])>
     ensures { option_map (λ (before, after). record { before = before.now; after = after.now }) result
         ≡ sides_of (parts text.now) }

@@ -25,7 +25,7 @@ pub const BUNDLE_LIMIT: usize = 4_194_312;
 /// of the writer must be below the greatest `u64`.
 ///
 /// # Errors
-/// `Read(1)` where a read fails; `TooLong(1)` where the bundle has more bytes than the limit; `BadBundle` where it has no three
+/// `Read(1)` if a read fails; `TooLong(1)` if the bundle has more bytes than the limit; `BadBundle` if it has no three
 /// parts; else those of a session on the three parts. After every fault but `Refused` and `Write` nothing was written.
 pub fn bundle<S: Source, K: Sink>(
     alloc: Global,

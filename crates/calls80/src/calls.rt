@@ -33,7 +33,7 @@ pub struct Call {
 /// none if the image has no such procedure.
 ///
 /// # Errors
-/// `AllocError` where memory runs out.
+/// `AllocError` if memory runs out.
 pub fn find_calls(
     alloc: Global,
     vouched: &Vouched,

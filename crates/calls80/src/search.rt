@@ -25,7 +25,7 @@ impl Search {
     /// Nothing is found.
     ///
     /// # Errors
-    /// `AllocError` where memory runs out.
+    /// `AllocError` if memory runs out.
     fn new(alloc: Global) -> Result<Search, AllocError>
         ensures points { IfOk result (λ search. search.points.items ≡ replicate 65536 None) }
         ensures queue { IfOk result (λ search. search.queue.items ≡ []) }
@@ -43,7 +43,7 @@ impl Search {
     /// Finds the point of a procedure at an address, unless it is known.
     ///
     /// # Errors
-    /// `AllocError` where memory runs out.
+    /// `AllocError` if memory runs out.
     fn enter(
         &mut self,
         code: &ImageCode,
@@ -72,7 +72,7 @@ impl Search {
     /// Finds the points of a procedure at these addresses.
     ///
     /// # Errors
-    /// `AllocError` where memory runs out.
+    /// `AllocError` if memory runs out.
     fn enter_all(
         &mut self,
         code: &ImageCode,
@@ -95,7 +95,7 @@ impl Search {
     /// Enters where the instruction at a known address leads.
     ///
     /// # Errors
-    /// `AllocError` where memory runs out.
+    /// `AllocError` if memory runs out.
     fn follow(
         &mut self,
         alloc: Global,
@@ -123,7 +123,7 @@ impl Search {
     /// Follows each address in the queue, and those that this adds.
     ///
     /// # Errors
-    /// `AllocError` where memory runs out.
+    /// `AllocError` if memory runs out.
     fn follow_all(
         &mut self,
         alloc: Global,
@@ -153,7 +153,7 @@ impl Search {
 /// Finds the points of a procedure that occurs.
 ///
 /// # Errors
-/// `AllocError` where memory runs out.
+/// `AllocError` if memory runs out.
 pub(crate) fn explore(
     alloc: Global,
     code: &ImageCode,

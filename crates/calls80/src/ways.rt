@@ -21,7 +21,7 @@ pub(crate) struct Way {
 /// Where the instruction at a point leads in its own procedure.
 ///
 /// # Errors
-/// `AllocError` where memory runs out, or if 32 bits don't hold a count: the verifier, which keeps word for word, has then run out
+/// `AllocError` if memory runs out, or if 32 bits don't hold a count: the verifier, which keeps word for word, has then run out
 /// of it before.
 pub(crate) fn ways(
     alloc: Global,

@@ -19,7 +19,7 @@ const ADDRESSES: usize = 65_536;
 /// stands whose bytes are all code; an address without one may be marked, and leads nowhere.
 ///
 /// # Errors
-/// `AllocError` only where memory runs out.
+/// `AllocError` only if memory runs out.
 pub fn find_reachable(alloc: Global, code: &ImageCode<'_>) -> Result<Vec<bool>, AllocError>
     ensures { IfOk result (λ marks. AreReached code.now marks.items) }
 {

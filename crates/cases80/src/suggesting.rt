@@ -24,7 +24,7 @@ pub struct Suggestions {
 /// more than the verifier's walks do. Nothing rests on it, for a run that jumps elsewhere ends there.
 ///
 /// # Errors
-/// `AllocError` only where memory runs out.
+/// `AllocError` only if memory runs out.
 pub fn suggest_cases(alloc: Global, image: &Image) -> Result<Suggestions, AllocError>
     ensures { IfOk result (λ found. AreSuggested image.now found.cases.items found.tableless.items) }
 {
@@ -70,7 +70,7 @@ impl Suggestions {
     }
 }
 
-/// The case that the table of a PCHL suggests, `None` where no table is seen.
+/// The case that the table of a PCHL suggests, `None` if no table is seen.
 fn case_for(
     alloc: Global,
     image: &Image,

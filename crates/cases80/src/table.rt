@@ -51,7 +51,7 @@ fn is_free(code: &ImageCode<'_>, taken: &[bool], address: u16) -> bool
 }
 
 /// The case of a PCHL whose table is at an address: the table's words, as long as they are such, ascending, each once; `None`
-/// where there is no word.
+/// if there is no word.
 pub(crate) fn case_of_table(
     alloc: Global,
     image: &Image,

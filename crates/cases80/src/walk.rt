@@ -35,7 +35,7 @@ impl Walk {
     /// The walk from the image's start.
     ///
     /// # Errors
-    /// `AllocError` where memory runs out.
+    /// `AllocError` if memory runs out.
     pub(crate) fn through(
         alloc: Global,
         image: &Image,
@@ -78,7 +78,7 @@ impl Walk {
         *self.tables.get(usize::from(at))?
     }
 
-    /// Goes on from one address, or, where there is none, to the next word of the table that was found last: all that a target
+    /// Goes on from one address, or, if there is none, to the next word of the table that was found last: all that a target
     /// leads to is known before the next word is read. Whether there was either.
     fn go_on(&mut self, image: &Image, code: &ImageCode<'_>) -> Result<bool, AllocError> {
         if let Some(place) = self.pending.pop() {

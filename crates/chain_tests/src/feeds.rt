@@ -15,7 +15,7 @@ static HALT: [u8; 32] = [
 /// An end of file with a wrong sum.
 static BAD_END: [u8; 4] = [0x0E, 0x01, 0x00, 0xF0];
 
-/// What is answered of a piece, or of the same piece again where memory ran out.
+/// What is answered of a piece, or of the same piece again if memory ran out.
 fn answer(feed: &mut Feed, piece: &[u8]) -> Result<usize, FeedFault> {
     match feed.piece(piece) {
         Err(FeedFault::Memory) => feed.piece(piece),

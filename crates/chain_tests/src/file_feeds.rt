@@ -35,7 +35,7 @@ static TWICE: [u8; 22] = [
     0x2E, 0x04, 0x00, 0x07, 0x01, 0x58, 0x6E, // common 7, X
 ];
 
-/// What is answered of a piece, or of the same piece again where memory ran out.
+/// What is answered of a piece, or of the same piece again if memory ran out.
 fn answer(feed: &mut FileFeed, piece: &[u8]) -> Result<usize, ModuleFault> {
     match feed.piece(piece) {
         Err(fault) if fault.cause == Cause::Memory => feed.piece(piece),

@@ -15,7 +15,7 @@ static TWO_SAID: [u8; 10] = [0x2C, 0x07, 0x00, 0x02, 0x00, 0x00, 0x00, 0x26, 0x0
 /// A record that is no library header.
 static END_OF_FILE: [u8; 4] = [0x0E, 0x01, 0x00, 0xF1];
 
-/// What is answered of a piece, or of the same piece again where memory ran out.
+/// What is answered of a piece, or of the same piece again if memory ran out.
 fn answer(feed: &mut LibraryFeed, piece: &[u8]) -> Result<usize, LibraryFault> {
     match feed.piece(piece) {
         Err(LibraryFault::Memory) => feed.piece(piece),

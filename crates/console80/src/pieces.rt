@@ -73,10 +73,10 @@ fn unless_library_memory(answer: Result<usize, LibraryFault>) -> Result<(), Allo
 }
 
 /// Hands all bytes of `source`, which are at most `limit`, to the feed, in pieces of 512 bytes at most. It takes no more than
-/// `limit` + 1 of them, the last of which shows that they are too many. It reads on to the end also where the feed has a fault.
+/// `limit` + 1 of them, the last of which shows that they are too many. It reads on to the end also if the feed has a fault.
 ///
 /// # Errors
-/// `Read` where a read fails; `TooLong` where there are more than `limit` bytes; `Memory` where memory runs out.
+/// `Read` if a read fails; `TooLong` if there are more than `limit` bytes; `Memory` if memory runs out.
 pub fn read_in_pieces<S: Source, F: TakePieces>(
     source: &mut S,
     limit: usize,

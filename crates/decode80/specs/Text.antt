@@ -188,7 +188,7 @@ operand_texts (In b) = byte_text b ∷ []
 operand_texts (Out b) = byte_text b ∷ []
 operand_texts i = []
 
--- a space and the operands joined by commas; nothing where there is none
+-- a space and the operands joined by commas; nothing if there is none
 abbrev pub joined : List (List ℕ) → List ℕ
 joined [] = []
 joined (x ∷ xs) = codes " " ++ x ++ flat_map (λ y. codes "," ++ y) xs

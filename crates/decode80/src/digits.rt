@@ -33,7 +33,7 @@ pub fn word_digits(word: u16) -> [u8; 4]
     [first, second, third, fourth]
 }
 
-/// The word of four digits, `None` where one of the bytes is no upper case digit.
+/// The word of four digits, `None` if one of the bytes is no upper case digit.
 pub fn word_of_digits(digits: [u8; 4]) -> Option<u16>
     ensures value { IfSome result (λ word. digits ≡ word_text word) }
     ensures none { IfNone result ((word : ℕ) → word < 65536 → digits ≢ word_text word) }
@@ -44,7 +44,7 @@ pub fn word_of_digits(digits: [u8; 4]) -> Option<u16>
     Some(u16::from(high) * 256 + u16::from(low))
 }
 
-/// The byte of two digits, `None` where one of them is no upper case digit.
+/// The byte of two digits, `None` if one of them is no upper case digit.
 fn byte_of_digits(digits: [u8; 2]) -> Option<u8>
     ensures value { IfSome result (λ byte. digits ≡ byte_text byte) }
     ensures none { IfNone result ((byte : ℕ) → byte < 256 → digits ≢ byte_text byte) }

@@ -112,7 +112,7 @@ pub enum Instr {
     Hlt,
 }
 
-/// Instructions are equal where they are written with the same bytes: no two of them are.
+/// Instructions are equal if they are written with the same bytes: no two of them are.
 impl PartialEq for Instr {
     ghost eq = { on written (pointwise nat_eq) };
 

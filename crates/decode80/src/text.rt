@@ -17,7 +17,7 @@ use std::alloc::{AllocError, Global};
 ///
 /// # Errors
 ///
-/// `AllocError` where memory runs out, which it can't where `out` has room for the text; `out` is then
+/// `AllocError` if memory runs out, which it can't where `out` has room for the text; `out` is then
 /// unchanged.
 pub fn write_text(_alloc: Global, instr: Instr, out: &mut Vec<u8>) -> Result<(), AllocError>
     ensures ok { OnOk result (out.new.items ≡ out.old.items ++ text instr) }
@@ -34,7 +34,7 @@ pub fn write_text(_alloc: Global, instr: Instr, out: &mut Vec<u8>) -> Result<(),
     }
 }
 
-// Appends the text; where memory runs out, a part of it may have been appended.
+// Appends the text; if memory runs out, a part of it may have been appended.
 fn append_text(instr: Instr, out: &mut Vec<u8>) -> Result<(), AllocError>
     ensures ok { OnOk result (out.new.items ≡ out.old.items ++ text instr) }
     ensures err { OnErr result (take (vec_len out.old) out.new.items ≡ out.old.items) }

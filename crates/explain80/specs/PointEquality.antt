@@ -1,4 +1,4 @@
--- Two points are equal where all their parts are, and what is hashed of a point is all its parts. (This project's own.)
+-- Two points are equal if all their parts are, and what is hashed of a point is all its parts. (This project's own.)
 use Rattle.std.specs.Prelude.{◌≡◌, Bool, true, ◌&&◌, nat_eq, ◌++◌, refl}
 use Rattle.std.proofs.Common.{ap, subst, sym, ◌∙◌}
 use Rattle.std.proofs.Math.Nat.{suc_inj, suc-ne-zero}

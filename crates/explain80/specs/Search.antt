@@ -42,7 +42,7 @@ IsLooked code point (Wrong fault) = code.look point.at ≡ Err fault
 IsLooked code point (Stuck fault) = IsStuck code point fault
 IsLooked code point (Moved moves next) = IsMoving code point moves next
 
--- the caller's frame when a callee has returned that took so many words, or none where the caller has fewer
+-- the caller's frame when a callee has returned that took so many words, or none if the caller has fewer
 abbrev pub IsBack : Role → (taken : ℕ) → StackFrame → Option StackFrame → Type 0
 IsBack role taken f (Some g) = (taken ≤ room role f.words) × (g ≡ returned taken f)
 IsBack role taken f None = room role f.words < taken

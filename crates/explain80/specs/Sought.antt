@@ -47,7 +47,7 @@ NoWalksShow code at (Fault fault) = (point : Point) → IsWalked code point → 
 NoWalksShow code at (Clash clash) = (one other : Point) → IsWalked code one → IsWalked code other
     → ClashAt code at clash one other → ⊥
 
--- it shows the refusal, which holds only where walks show it
+-- it shows the refusal, which holds only if walks show it
 pub record IsSoughtFor (refusal : Refusal) (sought : Sought) : Type 0 where
   pub shows : (code : Code) (shown : Explanation) → ShowsSought code sought shown → Shows code refusal shown
   pub holds : (code : Code) → NoWalksShow code sought.at sought.kind → Holds code refusal → ⊥

@@ -45,7 +45,7 @@ pub struct Standing {
     pub procedure: Procedure,
     /// The address.
     pub at: u16,
-    /// The bytes that it has on the stack there, without its return address; negative where it has taken more words than it has.
+    /// The bytes that it has on the stack there, without its return address; negative if it has taken more words than it has.
     pub depth: i64,
 }
 

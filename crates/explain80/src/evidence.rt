@@ -238,7 +238,7 @@ fn room(frame: &Frame, role: Role) -> usize
     }
 }
 
-/// How many words a point's procedure has taken where the point returns; `None` where it doesn't.
+/// How many words a point's procedure has taken where the point returns; `None` if it doesn't.
 fn words_taken<C: Code>(alloc: Global, program: &C, point: &Point) -> Result<Option<u32>, Stop>
     ensures returns { IfOk result (λ r.
         IfSome r (Returns (C.code program.now) point.now.procedure point.now.at point.now.frame)) }
@@ -253,7 +253,7 @@ fn words_taken<C: Code>(alloc: Global, program: &C, point: &Point) -> Result<Opt
     }
 }
 
-/// With how many words taken a move returns; `None` where it doesn't.
+/// With how many words taken a move returns; `None` if it doesn't.
 fn returning(moves: &Moves) -> Option<u32>
     ensures { result ≡ returning moves.now }
 {
@@ -264,7 +264,7 @@ fn returning(moves: &Moves) -> Option<u32>
     }
 }
 
-/// The address that a point calls; `None` where it doesn't call.
+/// The address that a point calls; `None` if it doesn't call.
 fn target_called<C: Code>(alloc: Global, program: &C, point: &Point) -> Result<Option<u16>, Stop>
     ensures calls { IfOk result (λ r. IfSome r (CallsTo (C.code program.now) point.now)) }
     ensures none { IfOk result (λ r. IfNone r ((target : ℕ) → CallsTo (C.code program.now) point.now target → ⊥)) }
@@ -277,7 +277,7 @@ fn target_called<C: Code>(alloc: Global, program: &C, point: &Point) -> Result<O
     }
 }
 
-/// The address that a move calls; `None` where it doesn't call.
+/// The address that a move calls; `None` if it doesn't call.
 fn called(moves: &Moves) -> Option<u16>
     ensures { result ≡ called moves.now }
 {

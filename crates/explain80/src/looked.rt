@@ -59,7 +59,7 @@ pub(crate) fn role_of<C: Code>(program: &C, procedure: Procedure) -> Role
     }
 }
 
-/// The caller's frame when a callee has returned that took so many words; `None` where the caller has fewer.
+/// The caller's frame when a callee has returned that took so many words; `None` if the caller has fewer.
 ///
 /// # Errors
 /// `Limit` if the frame has more than 1,000,000 words, or as many taken; `Memory` if memory runs out.

@@ -23,7 +23,7 @@ impl Point {
     /// A copy of the point.
     ///
     /// # Errors
-    /// `AllocError` where memory runs out.
+    /// `AllocError` if memory runs out.
     pub fn copy(&self, alloc: Global) -> Result<Point, AllocError>
         ensures { IfOk result (λ point. point ≡ self.now) }
     {

@@ -16,7 +16,7 @@ impl Search {
     /// The calls of the points that call, in order of first sight.
     ///
     /// # Errors
-    /// `AllocError` where memory runs out.
+    /// `AllocError` if memory runs out.
     fn known_calls(&self, alloc: Global) -> Result<Vec<Call>, AllocError>
         requires { CallersAreThere self.now }
         ensures { IfOk result (λ calls. AreKnown self.now (length self.now.calls.items) calls.items) }
@@ -34,10 +34,10 @@ impl Search {
         Ok(calls)
     }
 
-    /// The ring of a call at an address that leads back to its own procedure; `None` where no call there does.
+    /// The ring of a call at an address that leads back to its own procedure; `None` if no call there does.
     ///
     /// # Errors
-    /// `AllocError` where memory runs out.
+    /// `AllocError` if memory runs out.
     pub(crate) fn ring(&self, alloc: Global, at: u16) -> Result<Option<Explanation>, AllocError>
         requires ordered { AreOrdered self.now }
         requires callers { CallersAreThere self.now }

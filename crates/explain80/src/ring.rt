@@ -26,7 +26,7 @@ pub(crate) struct Reach {
 /// Makes `reached` the calls by which procedures are reached from the callee of this call on, unless that is what it is.
 ///
 /// # Errors
-/// `AllocError` where memory runs out.
+/// `AllocError` if memory runs out.
 pub(crate) fn follow_from(
     alloc: Global,
     calls: &[Call],
@@ -50,7 +50,7 @@ pub(crate) fn follow_from(
 /// The calls by which procedures are reached from a first call on, that call first: one for each procedure to which calls lead.
 ///
 /// # Errors
-/// `AllocError` where memory runs out.
+/// `AllocError` if memory runs out.
 fn reach_from(alloc: Global, calls: &[Call], first: Call) -> Result<Vec<Reach>, AllocError>
     requires { Contains calls.now first }
     ensures { IfOk result (λ reached. ReachesFrom calls.now first.target reached.items) }
@@ -66,11 +66,11 @@ fn reach_from(alloc: Global, calls: &[Call], first: Call) -> Result<Vec<Reach>, 
     Ok(reached)
 }
 
-/// The calls from this one on that lead back to its procedure, this call first; `None` where none do. `reached` are the calls by
+/// The calls from this one on that lead back to its procedure, this call first; `None` if none do. `reached` are the calls by
 /// which procedures are reached from its callee on.
 ///
 /// # Errors
-/// `AllocError` where memory runs out.
+/// `AllocError` if memory runs out.
 pub(crate) fn ring_by(
     alloc: Global,
     reached: &[Reach],

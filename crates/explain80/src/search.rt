@@ -38,7 +38,7 @@ impl Search {
     /// The start of the main program alone.
     ///
     /// # Errors
-    /// `AllocError` where memory runs out.
+    /// `AllocError` if memory runs out.
     pub(crate) fn new<C: Code>(alloc: Global, program: &C) -> Result<Search, AllocError>
         ensures { IfOk result (IsUnderWay (C.code program.now)) }
     {

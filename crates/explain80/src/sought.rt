@@ -59,7 +59,7 @@ impl Sought {
         }
     }
 
-    /// What shows a refusal; `None` where no walks do.
+    /// What shows a refusal; `None` if no walks do.
     pub(crate) fn of(refusal: Refusal) -> Option<Sought>
         ensures sought { IfSome result (IsSoughtFor refusal) }
         ensures none { IfNone result (IsOfNoWay refusal) }

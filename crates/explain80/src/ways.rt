@@ -28,7 +28,7 @@ impl Search {
     /// The calls and the way that lead to a point.
     ///
     /// # Errors
-    /// `AllocError` where memory runs out.
+    /// `AllocError` if memory runs out.
     pub(crate) fn route(&self, alloc: Global, number: usize) -> Result<Route, AllocError>
         requires ordered { AreOrdered self.now }
         requires there { number < length self.now.points.keys }
@@ -44,7 +44,7 @@ impl Search {
     /// The explanation that points give.
     ///
     /// # Errors
-    /// `AllocError` where memory runs out.
+    /// `AllocError` if memory runs out.
     pub(crate) fn show(&self, alloc: Global, evidence: Evidence) -> Result<Explanation, AllocError>
         requires ordered { AreOrdered self.now }
         requires there { AreWithin (length self.now.points.keys) evidence }

@@ -20,7 +20,7 @@ use std::alloc::{AllocError, Global};
 /// its bytes in fixups for each address at which the others fit, but for those at which the dump repeats the byte before.
 ///
 /// # Errors
-/// `AllocError` only where memory ran out.
+/// `AllocError` only if memory ran out.
 pub fn places(
     alloc: Global,
     first: u16,

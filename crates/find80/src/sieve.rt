@@ -26,7 +26,7 @@ pub(crate) fn is_plain(byte: &CodeByte) -> bool
     byte.half == Half::Low && byte.target == Target::Segment(0)
 }
 
-/// The dump's bytes by address, those of all addresses twice, and `fill` at each address where it has none.
+/// The dump's bytes by address, those of all addresses twice, and `fill` at each address if it has none.
 fn ring_of(alloc: Global, first: u16, dump: &[u8], fill: u8) -> Result<Vec<u8>, AllocError>
     ensures { IfOk result (λ ring. IsRing first dump.now fill ring.items) }
 {

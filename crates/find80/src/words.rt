@@ -24,7 +24,7 @@ pub struct Word {
 /// `count`, and the first two, of absolute bytes and of CODE, aren't listed.
 ///
 /// # Errors
-/// `AllocError` only where memory ran out.
+/// `AllocError` only if memory ran out.
 pub fn words_at(
     alloc: Global,
     first: u16,

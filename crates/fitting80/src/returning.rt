@@ -9,7 +9,7 @@ use verify80::ProcRow;
 /// A mark for each address: whether it is the entry of a procedure that returns.
 ///
 /// # Errors
-/// `AllocError` where memory runs out.
+/// `AllocError` if memory runs out.
 pub fn mark_returning(alloc: Global, rows: &[ProcRow]) -> Result<Vec<bool>, AllocError>
     ensures { IfOk result (λ marks. All (λ row. row.returns ≡ true → is_marked marks.items row.entry ≡ true) rows.now) }
 {

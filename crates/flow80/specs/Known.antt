@@ -42,12 +42,12 @@ is_exact false = true
 abbrev pub nothing_known : (forgets : Bool) → Known
 nothing_known forgets = record { points = []; exits = replicate 65536 None; forgets = forgets }
 
--- a refusal holds; that a word isn't the return address does only where frames forget nothing
+-- a refusal holds; that a word isn't the return address does only if frames forget nothing
 abbrev pub Refused : (exact : Bool) → Code → Refusal → Type 0
 Refused exact code (ReturnNotOwn at) = exact ≡ true → HoldsAnyway code (ReturnNotOwn at)
 Refused exact code refusal = HoldsAnyway code refusal
 
--- a number has a frame that covers this one, and is this one where nothing is forgotten
+-- a number has a frame that covers this one, and is this one if nothing is forgotten
 pub record Lessens (forgets : Bool) (frames : List StackFrame) (id : ℕ) (frame : StackFrame) : Type 0 where
   pub there : id < length frames
   pub covers : Covers (frame_at frames id) frame

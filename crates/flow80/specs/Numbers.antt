@@ -16,7 +16,7 @@ procedure_number (Entry entry) = entry + 1
 abbrev pub place_number : Procedure → ℕ → ℕ
 place_number procedure at = 65536 * procedure_number procedure + at
 
--- the number of the first point at an address, where that is one of the procedure, and else a further one
+-- the number of the first point at an address, if that is one of the procedure, and else a further one
 abbrev pub number_of : Option FirstPoint → Procedure → Option ℕ → Option ℕ
 number_of None procedure further = further
 number_of (Some point) procedure further = if same_procedure point.procedure procedure then Some point.number else further

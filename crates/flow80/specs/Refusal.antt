@@ -53,7 +53,7 @@ refusal_name (StackTooSmall need has) = codes "StackTooSmall"
 refusal_name TooManyPoints = codes "TooManyPoints"
 refusal_name Memory = codes "Memory"
 
--- the address that is named, where there is one
+-- the address that is named, if there is one
 abbrev pub refusal_address : Refusal → Option ℕ
 refusal_address (FetchOutside at) = Some at
 refusal_address (UnusedOpcode at) = Some at

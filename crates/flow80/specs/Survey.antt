@@ -121,7 +121,7 @@ pub record IsSeen (code : Code) (known : Known) (wants : List ℕ) (i : ℕ) (de
   pub depth_is : depth ≡ depth_at code move.point
   pub call_is : IsCallOf code wants move.point (called moves) call
 
--- a list with a call more, where there is one
+-- a list with a call more, if there is one
 abbrev pub noted : List CallSite → Option CallSite → List CallSite
 noted calls None = calls
 noted calls (Some call) = calls ++ call ∷ []

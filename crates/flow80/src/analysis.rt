@@ -22,7 +22,7 @@ use std::alloc::Global;
 const SOON: u64 = 20_000;
 
 /// Goes over every walk of every procedure of a program, and reports on its procedures and its stack. A program of which a
-/// refusal holds isn't accepted, and one of which none holds is refused only where memory runs out.
+/// refusal holds isn't accepted, and one of which none holds is refused only if memory runs out.
 ///
 /// # Errors
 /// A refusal that holds, or `Memory`.

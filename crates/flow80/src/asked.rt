@@ -70,7 +70,7 @@ impl AskedPlaces {
     /// What the returns of a program ask for.
     ///
     /// # Errors
-    /// `AllocError` where memory runs out.
+    /// `AllocError` if memory runs out.
     pub(crate) fn find<C: Code>(alloc: Global, program: &C) -> Result<AskedPlaces, AllocError> {
         let mut search = Search {
             counted: Counted::new(alloc, program)?,
@@ -98,7 +98,7 @@ impl AskedPlaces {
     /// Looks up what is asked for at an address of a procedure.
     ///
     /// # Errors
-    /// `AllocError` where memory runs out.
+    /// `AllocError` if memory runs out.
     pub(crate) fn look_up(&mut self, procedure: Procedure, at: u16) -> Result<(), AllocError> {
         self.heights.clear();
         self.pairs = 0;
@@ -150,7 +150,7 @@ impl Search {
     /// Each return of a procedure asks for its one word.
     ///
     /// # Errors
-    /// `AllocError` where memory runs out.
+    /// `AllocError` if memory runs out.
     fn ask_at_returns<C: Code>(&mut self, program: &C) -> Result<(), AllocError> {
         for number in 0..self.counted.len() {
             let Some(point) = self.counted.point(number) else {
@@ -170,7 +170,7 @@ impl Search {
     /// Places are asked for.
     ///
     /// # Errors
-    /// `AllocError` where memory runs out.
+    /// `AllocError` if memory runs out.
     fn ask(&mut self, point: u32, block: u32, bits: u64) -> Result<(), AllocError> {
         let key = key(point, block);
         let old = match self.blocks.get(&key) {
@@ -194,7 +194,7 @@ impl Search {
     /// Goes back from what is asked for to what it comes from.
     ///
     /// # Errors
-    /// `AllocError` where memory runs out.
+    /// `AllocError` if memory runs out.
     fn go_back<C: Code>(&mut self, program: &C) -> Result<(), AllocError> {
         // The bound is never met: each place of a point is asked for once.
         for _ in 0..u64::MAX {
@@ -209,7 +209,7 @@ impl Search {
     /// Goes back from places of a point, over each way to it.
     ///
     /// # Errors
-    /// `AllocError` where memory runs out.
+    /// `AllocError` if memory runs out.
     fn go_back_from<C: Code>(&mut self, program: &C, places: Places) -> Result<(), AllocError> {
         let Some(point) = self.counted.point(places.point) else {
             return Ok(());
@@ -247,7 +247,7 @@ impl Search {
     /// Goes back from places of a point to one that leads to it.
     ///
     /// # Errors
-    /// `AllocError` where memory runs out.
+    /// `AllocError` if memory runs out.
     fn go_back_to<C: Code>(
         &mut self,
         program: &C,
@@ -284,7 +284,7 @@ impl Search {
     /// Goes forth from the places to which another word comes.
     ///
     /// # Errors
-    /// `AllocError` where memory runs out.
+    /// `AllocError` if memory runs out.
     fn go_forth<C: Code>(&mut self, program: &C) -> Result<(), AllocError> {
         // The bound is never met: another word comes to each place of a point once, and as often as it is noted above.
         for _ in 0..u64::MAX {
@@ -301,7 +301,7 @@ impl Search {
     /// Notes that another word comes to places, and gives whether that is new of one that is asked for.
     ///
     /// # Errors
-    /// `AllocError` where memory runs out.
+    /// `AllocError` if memory runs out.
     fn is_new(&mut self, places: Places) -> Result<bool, AllocError> {
         let key = key(places.point, places.block);
         let Some(old) = self.blocks.get(&key).copied() else {
@@ -319,7 +319,7 @@ impl Search {
     /// Goes forth from a block of a point, each way.
     ///
     /// # Errors
-    /// `AllocError` where memory runs out.
+    /// `AllocError` if memory runs out.
     fn go_forth_from<C: Code>(
         &mut self,
         program: &C,
@@ -354,7 +354,7 @@ impl Search {
     /// Goes forth from a block of a point to an address.
     ///
     /// # Errors
-    /// `AllocError` where memory runs out.
+    /// `AllocError` if memory runs out.
     fn go_forth_to<C: Code>(
         &mut self,
         program: &C,
@@ -375,7 +375,7 @@ impl Search {
     /// Notes to which places of a block another word comes from a point.
     ///
     /// # Errors
-    /// `AllocError` where memory runs out.
+    /// `AllocError` if memory runs out.
     fn carry(
         &mut self,
         effect: Option<Effect>,

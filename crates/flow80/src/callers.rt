@@ -28,7 +28,7 @@ impl Callers {
     /// No callers.
     ///
     /// # Errors
-    /// `AllocError` where memory runs out.
+    /// `AllocError` if memory runs out.
     pub(crate) fn new(alloc: Global) -> Result<Callers, AllocError> {
         Ok(Callers {
             newest: vec![in alloc; NONE; 65536]?,
@@ -40,7 +40,7 @@ impl Callers {
     /// The point of an address waits for a callee. (The instruction there calls no other.)
     ///
     /// # Errors
-    /// `AllocError` where memory runs out.
+    /// `AllocError` if memory runs out.
     pub(crate) fn add(&mut self, entry: u16, point: usize, at: u16) -> Result<(), AllocError> {
         if self.linked.add(point)? {
             return Ok(());
@@ -60,7 +60,7 @@ impl Callers {
     /// The points that wait for a callee are to be looked at again.
     ///
     /// # Errors
-    /// `AllocError` where memory runs out.
+    /// `AllocError` if memory runs out.
     pub(crate) fn wake(&mut self, entry: u16, pending: &mut Pending) -> Result<(), AllocError> {
         let mut at = match self.newest.get(usize::from(entry)) {
             Some(newest) => *newest,

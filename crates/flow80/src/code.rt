@@ -29,7 +29,7 @@ pub trait Code {
     fn look(&self, at: u16) -> Result<Fetched, LookFault>
         ensures { result ≡ (code self.now).look at };
 
-    /// The targets that are declared for a PCHL at an address; none where it isn't declared.
+    /// The targets that are declared for a PCHL at an address; none if it isn't declared.
     fn targets(&self, at: u16) -> &[u16]
         ensures { result.now ≡ (code self.now).targets at };
 

@@ -40,7 +40,7 @@ impl Lists {
     /// So many empty lists.
     ///
     /// # Errors
-    /// `AllocError` where memory runs out.
+    /// `AllocError` if memory runs out.
     fn new(alloc: Global, count: usize) -> Result<Lists, AllocError> {
         let mut newest = Vec::new(alloc);
         newest.resize(count, NONE)?;
@@ -53,7 +53,7 @@ impl Lists {
     /// One empty list more.
     ///
     /// # Errors
-    /// `AllocError` where memory runs out.
+    /// `AllocError` if memory runs out.
     fn add_list(&mut self) -> Result<(), AllocError> {
         self.newest.push(NONE)?;
         Ok(())
@@ -62,7 +62,7 @@ impl Lists {
     /// Adds an item to a list.
     ///
     /// # Errors
-    /// `AllocError` where memory runs out.
+    /// `AllocError` if memory runs out.
     fn add(&mut self, list: usize, item: u32) -> Result<(), AllocError> {
         let Ok(number) = u32::try_from(self.links.len()) else {
             return Err(AllocError);
@@ -108,7 +108,7 @@ impl Counted {
     /// Goes over a program.
     ///
     /// # Errors
-    /// `AllocError` where memory runs out.
+    /// `AllocError` if memory runs out.
     pub(crate) fn new<C: Code>(alloc: Global, program: &C) -> Result<Counted, AllocError> {
         let mut exits = Vec::new(alloc);
         exits.resize(65536, None)?;
@@ -189,7 +189,7 @@ impl Counted {
     /// A point is reached, from another or from none.
     ///
     /// # Errors
-    /// `AllocError` where memory runs out.
+    /// `AllocError` if memory runs out.
     fn reach(
         &mut self,
         procedure: Procedure,
@@ -226,7 +226,7 @@ impl Counted {
     /// Goes each way on from a point.
     ///
     /// # Errors
-    /// `AllocError` where memory runs out.
+    /// `AllocError` if memory runs out.
     fn go_on<C: Code>(&mut self, program: &C, number: u32) -> Result<(), AllocError> {
         let Some(point) = self.points.get(number as usize).copied() else {
             return Ok(());
@@ -264,7 +264,7 @@ impl Counted {
     /// Goes on with the same counts.
     ///
     /// # Errors
-    /// `AllocError` where memory runs out.
+    /// `AllocError` if memory runs out.
     fn stay(&mut self, point: CountedPoint, to: u16, number: u32) -> Result<(), AllocError> {
         self.reach(point.procedure, to, point.taken, point.height, number)
     }
@@ -272,7 +272,7 @@ impl Counted {
     /// Goes to each target of a PCHL.
     ///
     /// # Errors
-    /// `AllocError` where memory runs out.
+    /// `AllocError` if memory runs out.
     fn go_to_each(&mut self, point: CountedPoint, targets: &[u16]) -> Result<(), AllocError> {
         for to in targets {
             self.reach(point.procedure, *to, point.taken, point.height, NONE)?;
@@ -293,7 +293,7 @@ impl Counted {
     /// Enters a callee, and goes on after it if a return of it was seen; else the point waits for one.
     ///
     /// # Errors
-    /// `AllocError` where memory runs out.
+    /// `AllocError` if memory runs out.
     fn call(
         &mut self,
         point: CountedPoint,
@@ -318,7 +318,7 @@ impl Counted {
     /// The first return of a procedure is seen: the points that wait for it go on.
     ///
     /// # Errors
-    /// `AllocError` where memory runs out.
+    /// `AllocError` if memory runs out.
     fn exit(&mut self, point: CountedPoint) -> Result<(), AllocError> {
         let Procedure::Entry(entry) = point.procedure else {
             return Ok(());

@@ -20,7 +20,7 @@ impl Marks {
     /// Marks a point, and gives whether it was marked before.
     ///
     /// # Errors
-    /// `AllocError` where memory runs out.
+    /// `AllocError` if memory runs out.
     pub(crate) fn add(&mut self, point: usize) -> Result<bool, AllocError> {
         if self.marks.len() <= point {
             self.marks.resize(point.saturating_add(1), false)?;

@@ -72,7 +72,7 @@ impl Numbers {
     /// No numbers.
     ///
     /// # Errors
-    /// `AllocError` where memory runs out.
+    /// `AllocError` if memory runs out.
     pub(crate) fn new(alloc: Global) -> Result<Numbers, AllocError>
         ensures { IfOk result HasNone }
     {
@@ -95,7 +95,7 @@ impl Numbers {
     /// Keeps a number of an address of a procedure.
     ///
     /// # Errors
-    /// `AllocError` where memory runs out: what is kept is unchanged.
+    /// `AllocError` if memory runs out: what is kept is unchanged.
     pub(crate) fn put(
         &mut self,
         procedure: Procedure,

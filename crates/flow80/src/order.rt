@@ -27,7 +27,7 @@ struct Step {
 /// A depth-first search over addresses. Each procedure that is called is a root of its own, and a call is assumed to come back.
 #[derive(Drop)]
 struct Search {
-    /// For each address its number in postorder, counted from 1; 0 where it isn't finished.
+    /// For each address its number in postorder, counted from 1; 0 if it isn't finished.
     ranks: Vec<u32>,
     seen: Vec<bool>,
     finished: u32,
@@ -38,7 +38,7 @@ struct Search {
 /// For each address its rank: of two addresses the one of the greater rank is looked at first.
 ///
 /// # Errors
-/// `AllocError` where memory runs out.
+/// `AllocError` if memory runs out.
 pub(crate) fn rank_addresses<C: Code>(alloc: Global, program: &C) -> Result<Vec<u32>, AllocError> {
     let mut search = Search::new(alloc)?;
     search.roots.push(program.start())?;
@@ -57,7 +57,7 @@ impl Search {
     /// Nothing is seen.
     ///
     /// # Errors
-    /// `AllocError` where memory runs out.
+    /// `AllocError` if memory runs out.
     fn new(alloc: Global) -> Result<Search, AllocError> {
         Ok(Search {
             ranks: vec![in alloc; 0; 65536]?,
@@ -71,7 +71,7 @@ impl Search {
     /// An address is put on the path, unless it was seen before. If it calls a procedure, that is a root.
     ///
     /// # Errors
-    /// `AllocError` where memory runs out.
+    /// `AllocError` if memory runs out.
     fn enter<C: Code>(&mut self, program: &C, at: u16) -> Result<(), AllocError> {
         let Some(seen) = self.seen.get_mut(usize::from(at)) else {
             return Ok(());
@@ -91,7 +91,7 @@ impl Search {
     /// Goes on from the end of the path until it is empty.
     ///
     /// # Errors
-    /// `AllocError` where memory runs out.
+    /// `AllocError` if memory runs out.
     fn go_through<C: Code>(&mut self, program: &C) -> Result<(), AllocError> {
         // The bound is never met: each address is entered once, and has as many ways on as it has targets.
         for _ in 0..u64::MAX {
@@ -106,7 +106,7 @@ impl Search {
     /// Tries the next way on from an address, or finishes it.
     ///
     /// # Errors
-    /// `AllocError` where memory runs out.
+    /// `AllocError` if memory runs out.
     fn go_on<C: Code>(&mut self, program: &C, step: Step) -> Result<(), AllocError> {
         let Some(to) = way_on(program, step) else {
             self.finish(step.at);

@@ -25,7 +25,7 @@ impl Pending {
     /// No points, of a program.
     ///
     /// # Errors
-    /// `AllocError` where memory runs out.
+    /// `AllocError` if memory runs out.
     pub(crate) fn new<C: Code>(alloc: Global, program: &C) -> Result<Pending, AllocError> {
         let ranks = rank_addresses(alloc, program)?;
         Ok(Pending {
@@ -38,7 +38,7 @@ impl Pending {
     /// The point of an address waits.
     ///
     /// # Errors
-    /// `AllocError` where memory runs out.
+    /// `AllocError` if memory runs out.
     pub(crate) fn add(&mut self, point: usize, at: u16) -> Result<(), AllocError> {
         if self.waits.add(point)? {
             return Ok(());

@@ -47,7 +47,7 @@ impl Points {
     /// No points.
     ///
     /// # Errors
-    /// `AllocError` where memory runs out.
+    /// `AllocError` if memory runs out.
     pub(crate) fn new(alloc: Global) -> Result<Points, AllocError>
         ensures { IfOk result (λ points. points ≡ record { points = []; frames = [] }) }
     {
@@ -103,7 +103,7 @@ impl Points {
     /// Adds a point that isn't there.
     ///
     /// # Errors
-    /// `AllocError` where memory runs out: the points are unchanged.
+    /// `AllocError` if memory runs out: the points are unchanged.
     pub(crate) fn add(
         &mut self,
         procedure: Procedure,
@@ -140,7 +140,7 @@ impl Points {
     /// The number of the frame at the start of a procedure that is called.
     ///
     /// # Errors
-    /// `AllocError` where memory runs out.
+    /// `AllocError` if memory runs out.
     pub(crate) fn entry(&mut self) -> Result<FrameId, AllocError>
         ensures entry { IfOk result (λ id. IsFrame self.new.frames id entry_frame) }
         ensures points { self.new.points ≡ self.old.points }
@@ -152,7 +152,7 @@ impl Points {
     /// The number of the frame at the start of the main program.
     ///
     /// # Errors
-    /// `AllocError` where memory runs out.
+    /// `AllocError` if memory runs out.
     pub(crate) fn main_entry(&mut self) -> Result<FrameId, AllocError>
         ensures entry { IfOk result (λ id. IsFrame self.new.frames id main_frame) }
         ensures points { self.new.points ≡ self.old.points }
@@ -164,7 +164,7 @@ impl Points {
     /// The number of a frame after a change.
     ///
     /// # Errors
-    /// `AllocError` where memory runs out.
+    /// `AllocError` if memory runs out.
     pub(crate) fn change(&mut self, frame: FrameId, change: Change) -> Result<FrameId, AllocError>
         requires there { frame < length self.old.frames }
         requires taken { (frame_at self.old.frames frame).taken ≤ 1000000 }
@@ -178,7 +178,7 @@ impl Points {
     /// The number of a caller's frame after a call of a procedure that takes so many words.
     ///
     /// # Errors
-    /// `ShortArguments` where the caller has fewer words above its bottom word, or out of memory.
+    /// `ShortArguments` if the caller has fewer words above its bottom word, or out of memory.
     pub(crate) fn after(
         &mut self,
         frame: FrameId,
@@ -198,7 +198,7 @@ impl Points {
     /// The number of a frame of which what isn't asked for may be forgotten.
     ///
     /// # Errors
-    /// `AllocError` where memory runs out.
+    /// `AllocError` if memory runs out.
     pub(crate) fn forget(&mut self, frame: FrameId, asked: Asked<'_>) -> Result<FrameId, AllocError>
         requires { frame < length self.old.frames }
         ensures lesser { IfOk result (λ id. IsLesserFrame self.new.frames id (frame_at self.old.frames frame)) }
@@ -211,7 +211,7 @@ impl Points {
     /// The number of the frame that is known of both; that of the first where the first doesn't change.
     ///
     /// # Errors
-    /// `HeightsDiffer` where the counts differ, or out of memory.
+    /// `HeightsDiffer` if the counts differ, or out of memory.
     pub(crate) fn meet(&mut self, one: FrameId, other: FrameId) -> Result<FrameId, MeetFault>
         requires one { one < length self.old.frames }
         requires other { other < length self.old.frames }

@@ -5,7 +5,7 @@
 pub struct ProcRow {
     /// The address where it is entered.
     pub entry: u16,
-    /// How many words it has taken from beneath its return address where it returns; 0 where it doesn't return.
+    /// How many words it has taken from beneath its return address where it returns; 0 if it doesn't return.
     pub takes: u32,
     /// The most words that it takes from beneath its return address on any of its walks.
     pub wants: u32,

@@ -13,7 +13,7 @@ use std::alloc::{AllocError, Global};
 /// The rows of the procedures that are entered, by entry.
 ///
 /// # Errors
-/// `AllocError` where memory runs out.
+/// `AllocError` if memory runs out.
 pub(crate) fn list_rows(
     alloc: Global,
     table: &Table,
@@ -37,7 +37,7 @@ pub(crate) fn list_rows(
 /// For each procedure, by slot, whether it has a point: so that few addresses are looked up.
 ///
 /// # Errors
-/// `AllocError` where memory runs out.
+/// `AllocError` if memory runs out.
 fn mark_procedures(alloc: Global, table: &Table) -> Result<Vec<bool>, AllocError>
     ensures slots { IfOk result (λ marks. length marks.items ≡ 65537) }
     ensures marked { IfOk result (λ marks. AreMarked table.now.known.points marks.items (length table.now.known.points)) }

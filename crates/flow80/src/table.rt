@@ -63,7 +63,7 @@ impl Table {
     /// were looked at, and four more for each point that there is.
     ///
     /// # Errors
-    /// `AllocError` where memory runs out.
+    /// `AllocError` if memory runs out.
     pub(crate) fn new<C: Code>(
         alloc: Global,
         program: &C,
@@ -125,7 +125,7 @@ impl Table {
     /// A frame that leads to a new point, without what no return asks for.
     ///
     /// # Errors
-    /// `AllocError` where memory runs out.
+    /// `AllocError` if memory runs out.
     fn lessen(
         &mut self,
         procedure: Procedure,
@@ -242,7 +242,7 @@ impl Table {
     /// A caller goes on after a call of a procedure that takes so many words.
     ///
     /// # Errors
-    /// `ShortArguments` where the caller has fewer words above its bottom word; any other refusal that holds; out of memory.
+    /// `ShortArguments` if the caller has fewer words above its bottom word; any other refusal that holds; out of memory.
     fn come_back(&mut self, site: &Site, taken: u32) -> Result<FrameId, Refusal>
         requires { site.now.frame < length self.old.frames }
         ensures enough { OnOk result (taken ≤ room site.now.role (frame_at self.old.frames site.now.frame).words) }
@@ -440,7 +440,7 @@ impl Table {
         ensures { Looks (C.code program.now) self.old.known self.new.known result }
     {
         let mut changed = false;
-        // (The bound is never met: a point is put there only where a frame has changed, which no frame can do for ever. Nothing
+        // (The bound is never met: a point is put there only if a frame has changed, which no frame can do for ever. Nothing
         // rests on it, since a pass over all points follows.)
         for _ in 0..u64::MAX {
             let Some(point) = self.next_pending() else {

@@ -7,10 +7,10 @@ use crate::table::Table;
 use bounds80::{SLOTS, slot, table as slots};
 use std::alloc::{AllocError, Global};
 
-/// The most words that each procedure takes from beneath its entry, by slot; 0 where it isn't reached.
+/// The most words that each procedure takes from beneath its entry, by slot; 0 if it isn't reached.
 ///
 /// # Errors
-/// `AllocError` where memory runs out.
+/// `AllocError` if memory runs out.
 pub(crate) fn find_wants(alloc: Global, table: &Table) -> Result<Vec<u32>, AllocError>
     ensures slots { IfOk result (λ wants. length wants.items ≡ 65537) }
     ensures wants { IfOk result (λ wants. AreWants table.now.known.points wants.items (length table.now.known.points)) }

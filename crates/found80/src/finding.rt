@@ -16,7 +16,7 @@ use std::alloc::{AllocError, Global};
 /// them, relocated so. CODE's own base is the address. A module without a byte in CODE lies nowhere.
 ///
 /// # Errors
-/// `AllocError` only where memory ran out.
+/// `AllocError` only if memory ran out.
 pub fn module_places(
     alloc: Global,
     first: u16,
@@ -40,7 +40,7 @@ pub fn module_places(
 /// module doesn't lie there.
 ///
 /// # Errors
-/// `AllocError` only where memory ran out.
+/// `AllocError` only if memory ran out.
 pub fn module_words(
     alloc: Global,
     first: u16,

@@ -40,7 +40,7 @@ abbrev pub merged : StackFrame → StackFrame → StackFrame
 merged f g = record { taken = f.taken; words = words_met f.words g.words; pairs = pairs_met f.pairs g.pairs }
 
 -- by how many bytes the stack has grown since the procedure's start; an entry starts with its return address on it. It is
--- negative where the stack has shrunk
+-- negative if the stack has shrunk
 abbrev pub depth_of : Role → StackFrame → ℤ
 depth_of (Main _) f = pos (2 * length f.words)
 depth_of Entry f = pos 2 *ℤ ((pos (length f.words) -ℤ pos 1) -ℤ pos f.taken)

@@ -1,4 +1,4 @@
--- Two frames are equal where all their parts are, and what is hashed of a frame is all its parts. (This project's own.)
+-- Two frames are equal if all their parts are, and what is hashed of a frame is all its parts. (This project's own.)
 use Rattle.std.specs.Prelude.{◌≡◌, Bool, true, ◌&&◌, nat_eq, ◌++◌, List, reverse, refl}
 use Rattle.std.proofs.Common.{ap, subst}
 use Rattle.std.specs.Bool.{Decides}

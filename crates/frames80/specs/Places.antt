@@ -88,7 +88,7 @@ pub record SameCounts (f g : StackFrame) : Type 0 where
   pub taken : f.taken ≡ g.taken
   pub words : length f.words ≡ length g.words
 
--- a frame covers another: the counts are the same, and it has the return address only where the other has
+-- a frame covers another: the counts are the same, and it has the return address only if the other has
 pub record Covers (f g : StackFrame) : Type 0 where
   pub counts : SameCounts f g
   pub own : (place : Place) → word_at f place ≡ Own → word_at g place ≡ Own
@@ -117,7 +117,7 @@ pub record CoversOn (f g : StackFrame) : Type 0 where
 abbrev pub CoveredGoesAlong : Type 0
 CoveredGoesAlong = (f g : StackFrame) → Covers f g → CoversOn f g
 
--- an entry's return is refused for a frame only where its counts refuse it, or for a top word that may be any
+-- an entry's return is refused for a frame only if its counts refuse it, or for a top word that may be any
 abbrev pub ReturnRefused : Type 0
 ReturnRefused = (role : Role) (f g : StackFrame) → SameCounts f g → (word_at f (InWord 0) ≡ Any → word_at g (InWord 0) ≡ Any) →
     (fault : FrameFault) → return_fault role f.words ≡ Some fault → return_fault role g.words ≡ Some fault

@@ -51,7 +51,7 @@ abbrev pub top_word : List Word → Word
 top_word [] = Any
 top_word (word ∷ words) = word
 
--- how many words are taken after a pop: one more where there was none of the procedure's own
+-- how many words are taken after a pop: one more if there was none of the procedure's own
 abbrev pub taken_after_pop : List Word → ℕ → ℕ
 taken_after_pop [] taken = taken + 1
 taken_after_pop (word ∷ words) taken = taken

@@ -8,7 +8,7 @@ use Rattle.std.specs.Hash.{HashWrites, u8}
 use Rattle.frames80.specs.declared.word.Word.{Word}
 use Rattle.frames80.specs.declared.word.Word.TheVariants.{Own, Any}
 
--- two words that meet at a point: the return address only where both are
+-- two words that meet at a point: the return address only if both are
 abbrev pub met : Word → Word → Word
 met Own word = word
 met Any word = Any

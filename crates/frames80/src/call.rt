@@ -14,7 +14,7 @@ use std::alloc::Global;
 ///
 /// # Errors
 /// `ShortArguments` exactly where the caller has fewer than `wants` words above its bottom word; in the main program, where
-/// it has fewer words. `Memory` only where it has enough and memory runs out.
+/// it has fewer words. `Memory` only if it has enough and memory runs out.
 #[tactic(auto, using(crate::proofs::Reversed::drop_reverse))]
 pub fn after(
     alloc: Global,

@@ -13,7 +13,7 @@ use std::marker::Model;
 /// Of the stack a frame has the words that the procedure itself has left there, its return address among them, and how many
 /// words it has taken from beneath that. A contract sees the words top first; the field has them from bottom to top.
 ///
-/// Two frames are equal where all their fields are.
+/// Two frames are equal if all their fields are.
 #[derive(Debug, Drop)]
 pub struct Frame {
     /// How many words beneath the procedure's own it has popped.
@@ -44,7 +44,7 @@ impl Frame {
     /// The frame at the start of a procedure that is called: its one word is its return address.
     ///
     /// # Errors
-    /// `AllocError` where memory runs out.
+    /// `AllocError` if memory runs out.
     pub fn entry(alloc: Global) -> Result<Frame, AllocError>
         ensures { IfOk result (λ frame. frame ≡ entry_frame) }
     {
@@ -54,7 +54,7 @@ impl Frame {
     /// The frame at the start of the main program: it has no words.
     ///
     /// # Errors
-    /// `AllocError` where memory runs out.
+    /// `AllocError` if memory runs out.
     pub fn main_entry(alloc: Global) -> Result<Frame, AllocError>
         ensures { IfOk result (λ frame. frame ≡ main_frame) }
     {
@@ -77,7 +77,7 @@ impl Frame {
     /// A copy of the frame.
     ///
     /// # Errors
-    /// `AllocError` where memory runs out.
+    /// `AllocError` if memory runs out.
     pub fn copy(&self, alloc: Global) -> Result<Frame, AllocError>
         ensures { IfOk result (λ frame. frame ≡ self.now) }
     {

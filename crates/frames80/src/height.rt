@@ -7,7 +7,7 @@ use crate::frame::Frame;
 use crate::role::Role;
 
 /// By how many bytes the stack has grown since the procedure's start: `2 * (words - 1 - taken)` in an entry, which starts with
-/// its return address on it, and `2 * words` in the main program. It is negative where the stack has shrunk. The frame has up
+/// its return address on it, and `2 * words` in the main program. It is negative if the stack has shrunk. The frame has up
 /// to 1,000,000 words, and as many taken. It takes no memory.
 pub fn depth(frame: &Frame, role: Role) -> i64
     requires taken { frame.now.taken ≤ 1000000 }

@@ -44,7 +44,7 @@ pub enum Moves {
 /// Each exactly where it says, and no two of them hold at once: `Sphl` at SPHL, `StackByByte` at INX SP and DCX SP; `SetsStack`
 /// at LXI SP, but for the main program with the stack's top; `PopsBelow` at a POP or XTHL of the main program with no words;
 /// `ReturnFromMain` at a return of the main program; `ReturnNotOwn` at a return of an entry whose words are not its return
-/// address alone. A conditional return is refused like any other. `Memory` comes only where none of these holds and memory runs
+/// address alone. A conditional return is refused like any other. `Memory` comes only if none of these holds and memory runs
 /// out.
 pub fn next(alloc: Global, frame: &Frame, instr: Instr, role: Role) -> Result<Moves, FrameFault>
     requires taken { frame.now.taken ≤ 1000000 }

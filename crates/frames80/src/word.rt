@@ -18,7 +18,7 @@ pub enum Word {
 impl Word {
     ghost use Rattle.frames80.specs.Word.{met};
 
-    /// What is known where it is one of the two words: the return address only where both are.
+    /// What is known if it is one of the two words: the return address only if both are.
     pub(crate) fn meet(self, other: Word) -> Word
         ensures { result ≡ met self other }
     {

@@ -36,7 +36,7 @@ byte_of chunk address = slice_index chunk.bytes (address - chunk.address)
 abbrev pub last_over : List PlacedBytes → ℕ → Option PlacedBytes
 last_over chunks address = last_or None (filter (λ chunk. covers chunk address) chunks)
 
--- the byte at an address: that of the last chunk that covers it, and 0 where none does
+-- the byte at an address: that of the last chunk that covers it, and 0 if none does
 abbrev pub byte_at : List PlacedBytes → ℕ → ℕ
 byte_at chunks address = option_map_or (λ chunk. byte_of chunk address) (last_over chunks address) 0
 

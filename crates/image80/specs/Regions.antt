@@ -23,7 +23,7 @@ in_code areas address = in_ranges areas.code address
 abbrev pub in_data : Areas → ℕ → Bool
 in_data areas address = in_ranges areas.data_ranges address
 
--- the stack's top as a word: the address just past the stack, 0 where the stack ends with memory
+-- the stack's top as a word: the address just past the stack, 0 if the stack ends with memory
 abbrev pub top_of : Areas → ℕ
 top_of areas = (areas.stack.first + areas.stack.length) % 65536
 

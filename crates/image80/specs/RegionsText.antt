@@ -153,7 +153,7 @@ pub record Overlaps (text : List ℕ) : Type 0 where
   pub one : stack_ranges entries ≡ stack ∷ []
   pub overlap : ¬ (AreDisjoint (code_ranges entries ++ stack ∷ data_ranges entries))
 
--- what holds of the text where it is refused; `Memory` says nothing of the text
+-- what holds of the text if it is refused; `Memory` says nothing of the text
 abbrev pub Refuses : List ℕ → RegionsFault → Type 0
 Refuses text (BadLine number) = IsFirstBadLine text number
 Refuses text BadVersion = (version : Version) (others : List (List ℕ)) → ¬ (parts text ≡ heading version ∷ others)

@@ -22,7 +22,7 @@ impl Model for Case {
     ghost invariant = { λ c. IsCase (record { at = c.at; targets = c.targets.items }) };
 }
 
-/// The case of the address, `None` where there is none. The time grows with the logarithm of the number of cases.
+/// The case of the address, `None` if there is none. The time grows with the logarithm of the number of cases.
 pub(crate) fn case_at(cases: &[Case], address: u16) -> Option<&Case>
     requires { AreByAddress cases.now }
     ensures found { IfSome result (λ case. find (λ c. c.at == address) cases.now ≡ Some case.now) }

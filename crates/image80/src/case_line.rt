@@ -41,7 +41,7 @@ pub(crate) fn case_of(alloc: Global, line: &CaseLine) -> Result<Case, AllocError
     })
 }
 
-/// The address and the targets of a case line, `None` where the text spells none.
+/// The address and the targets of a case line, `None` if the text spells none.
 pub(crate) fn read_case(alloc: Global, text: &[u8]) -> Result<Option<CaseLine>, AllocError>
     ensures spelled { IfOk result (λ read. IfSome read (λ case. text.now ≡ case_text case)) }
     ensures proper { IfOk result (λ read. IfSome read (λ case. IsCaseLine case)) }

@@ -24,7 +24,7 @@ impl Chunk {
     ghost use Rattle.std.specs.Prelude.{◌≡◌, IfSome, is_some};
     ghost use Rattle.image80.specs.Image.{covers, byte_of};
 
-    /// The chunk's byte at the address, `None` where the chunk does not cover it.
+    /// The chunk's byte at the address, `None` if the chunk does not cover it.
     pub(crate) fn byte(&self, address: u16) -> Option<u8>
         ensures value { IfSome result (λ byte. byte ≡ byte_of self.now address) }
         ensures covered { is_some result ≡ covers self.now address }

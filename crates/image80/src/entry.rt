@@ -62,7 +62,7 @@ impl Entry {
     }
 }
 
-/// The entry that a line of a text of the version spells, `None` where it spells none that is proper.
+/// The entry that a line of a text of the version spells, `None` if it spells none that is proper.
 pub(crate) fn read_entry(
     alloc: Global,
     version: Version,
@@ -81,7 +81,7 @@ pub(crate) fn read_entry(
     }
 }
 
-/// The entry that a line with a range spells, `None` where it spells none that lies in memory.
+/// The entry that a line with a range spells, `None` if it spells none that lies in memory.
 fn read_range_entry(line: &[u8]) -> Option<Entry>
     ensures spelled { IfSome result (λ entry. line.now ≡ entry_text entry) }
     ensures proper { IfSome result (λ entry. (version : Version) → IsProper version entry) }
@@ -98,7 +98,7 @@ fn read_range_entry(line: &[u8]) -> Option<Entry>
     Some(Entry::Stack(read_range(range)?))
 }
 
-/// The range of its first address and its length, `None` where the text spells none that lies in
+/// The range of its first address and its length, `None` if the text spells none that lies in
 /// memory.
 fn read_range(text: &[u8]) -> Option<Range>
     ensures spelled { IfSome result (λ range. text.now ≡ range_text range) }

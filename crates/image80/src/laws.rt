@@ -8,7 +8,7 @@ ghost use Rattle.image80.specs.RegionsText.{regions_text, text_in, Migrates, Spe
 ghost use Rattle.image80.specs.declared.version.Version.{Version};
 ghost use Rattle.image80.specs.declared.fault.RegionsFault.{RegionsFault};
 
-/// A text spells one list of regions at most, and none where it is refused, when memory runs out
+/// A text spells one list of regions at most, and none if it is refused, when memory runs out
 /// aside; it is refused for one cause at most; and the text that is written for regions spells
 /// them, and so does that of version 2. So what is written is read as itself.
 pub fn text_of_regions_is_read_as_itself()

@@ -1,4 +1,4 @@
-//! Texts over whole lines: a text is cut at each line feed, and its last part is empty where every
+//! Texts over whole lines: a text is cut at each line feed, and its last part is empty if every
 //! line has its line feed.
 
 ghost use Rattle.std.specs.Prelude.{◌≡◌, ◌<◌, [], ◌∷◌, ◌++◌, length, position, IfSome, IfNone};

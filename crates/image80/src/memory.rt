@@ -9,11 +9,11 @@ use crate::image::Image;
 use std::alloc::{AllocError, Global};
 
 impl Image {
-    /// The image's memory: 65536 bytes by address, each that of the last chunk over it, and 0 where there is none. The time
+    /// The image's memory: 65536 bytes by address, each that of the last chunk over it, and 0 if there is none. The time
     /// grows with the number of the chunks' bytes.
     ///
     /// # Errors
-    /// `AllocError` where there is no memory for the bytes.
+    /// `AllocError` if there is no memory for the bytes.
     pub fn memory(&self, alloc: Global) -> Result<Vec<u8>, AllocError>
         ensures bytes { IfOk result (λ memory. memory.items ≡ memory_of self.now.chunks) }
         ensures whole { IfOk result (λ memory. length memory.items ≡ 65536) }

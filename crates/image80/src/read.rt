@@ -26,7 +26,7 @@ use std::alloc::{AllocError, Global};
 /// left out. In version 2 a line may also be `CASE aaaa tttt ..`, the address of a PCHL and at least
 /// one target; there is one for an address at most, and a target may stand in it more than once. The
 /// faults are looked for in the order `BadVersion`, `BadLine` with the first such line, `NoStack`,
-/// `RegionsOverlap`; `Memory` comes only where memory ran out, and never in place of `BadVersion`.
+/// `RegionsOverlap`; `Memory` comes only if memory ran out, and never in place of `BadVersion`.
 pub fn read_regions(alloc: Global, bytes: &[u8]) -> Result<Regions, RegionsFault>
     ensures spelled { IfOk result (Spells bytes.now) }
     ensures refused { IfErr result (Refuses bytes.now) }
@@ -104,7 +104,7 @@ fn put_entries(
     Ok(())
 }
 
-/// The entry of a line, `None` where it spells none that is proper, or one that repeats a line that was read.
+/// The entry of a line, `None` if it spells none that is proper, or one that repeats a line that was read.
 fn next_entry(
     alloc: Global,
     version: Version,

@@ -39,7 +39,7 @@ impl RegionMap {
     /// The map of the regions. It takes time linear in their addresses and ranges.
     ///
     /// # Errors
-    /// `AllocError` where there is no memory for the map.
+    /// `AllocError` if there is no memory for the map.
     pub fn new(alloc: Global, regions: &Regions) -> Result<Self, AllocError>
         ensures { IfOk result (λ map. Maps regions.now map) }
     {

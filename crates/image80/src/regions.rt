@@ -46,7 +46,7 @@ impl Regions {
     ghost use Rattle.image80.specs.Range.{IsInMemory};
     ghost use Rattle.image80.specs.Regions.{AreDisjoint, AreRegions, Arranges, in_code, in_data, targets_at, top_of};
 
-    /// The regions of these ranges, which may come in any order, without cases; `None` where an
+    /// The regions of these ranges, which may come in any order, without cases; `None` if an
     /// address lies in two of them.
     pub(crate) fn from_ranges(
         alloc: Global,
@@ -146,7 +146,7 @@ impl Regions {
         &self.cases
     }
 
-    /// The targets that are declared for the address, ascending, each once; `None` where none are declared. The time
+    /// The targets that are declared for the address, ascending, each once; `None` if none are declared. The time
     /// grows with the logarithm of the number of cases.
     #[inline]
     pub fn targets(&self, address: u16) -> Option<&[u16]>
@@ -174,7 +174,7 @@ impl Regions {
         in_ranges(&self.data_ranges, address)
     }
 
-    /// The stack's top: the address just past the stack, 0 where the stack ends with memory.
+    /// The stack's top: the address just past the stack, 0 if the stack ends with memory.
     #[inline]
     pub fn top(&self) -> u16
         ensures { result ≡ top_of self.now }

@@ -14,7 +14,7 @@ const FIRST: &[u8] = b"REGIONS 1";
 const SECOND: &[u8] = b"REGIONS 2";
 
 impl Version {
-    /// The version of the first line, `None` where it is the first line of neither.
+    /// The version of the first line, `None` if it is the first line of neither.
     pub(crate) fn of_heading(line: &[u8]) -> Option<Version>
         ensures known { IfSome result (λ version. line.now ≡ heading version) }
         ensures unknown { IfNone result ((version : Version) → line.now ≢ heading version) }

@@ -44,7 +44,7 @@ pub fn write_regions2(alloc: Global, regions: &Regions, out: &mut Vec<u8>) -> Re
 /// The lines of cases, each as a regions text of version 2 has it.
 ///
 /// # Errors
-/// `AllocError` only where memory runs out.
+/// `AllocError` only if memory runs out.
 pub fn case_lines(alloc: Global, cases: &[Case]) -> Result<Vec<u8>, AllocError>
     ensures { IfOk result (λ text. text.items ≡ cases_text cases.now) }
 {

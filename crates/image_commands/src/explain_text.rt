@@ -26,7 +26,7 @@ pub struct Subject<'a> {
 /// The calls and the ways of the explanation of a refusal, line by line.
 ///
 /// # Errors
-/// `AllocError` only where memory runs out.
+/// `AllocError` only if memory runs out.
 pub fn explanation_text(
     alloc: Global,
     subject: Subject<'_>,
@@ -102,7 +102,7 @@ fn procedure_name(
 /// The calls of a chain, and where its last procedure stands, line by line.
 ///
 /// # Errors
-/// `AllocError` only where memory runs out.
+/// `AllocError` only if memory runs out.
 pub fn chain_text(
     alloc: Global,
     subject: Subject<'_>,
@@ -218,7 +218,7 @@ fn line_at(alloc: Global, image: &Image, at: u16) -> Result<Vec<u8>, AllocError>
     }
 }
 
-/// How many bytes are left from an address on of the range of code that it is in; 0 where it is in none.
+/// How many bytes are left from an address on of the range of code that it is in; 0 if it is in none.
 fn bytes_left(image: &Image, at: u16) -> usize {
     for range in image.regions.code() {
         let before = at.wrapping_sub(range.first);

@@ -101,7 +101,7 @@ fn overrun(
     refusal: Refusal,
     need: u64,
 ) -> Result<Vec<u8>, AllocError> {
-    // Nothing but its stack is wrong: where it can't be measured now, memory has run out.
+    // Nothing but its stack is wrong: if it can't be measured now, memory has run out.
     let Ok(report) = measure(alloc, subject.image) else {
         return Err(AllocError);
     };

@@ -55,7 +55,7 @@ impl<'a> CasesArguments<'a> {
 }
 
 /// Prints the CASE lines, writes the regions with them if a file is named, and reports each PCHL for which no table is seen; gives
-/// status 1 where there is one.
+/// status 1 if there is one.
 pub fn suggest_for_files(
     console: Console<'_>,
     arguments: CasesArguments<'_>,

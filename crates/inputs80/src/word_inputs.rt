@@ -45,7 +45,7 @@ impl WordInputs {
     /// least 1, and 64 bits hold it.
     ///
     /// # Errors
-    /// `BadInput` if the word has another form; `Memory` where memory runs out. The inputs are then unchanged.
+    /// `BadInput` if the word has another form; `Memory` if memory runs out. The inputs are then unchanged.
     pub fn add(&mut self, alloc: Global, word: &[u8]) -> Result<(), WordFault>
         ensures added { IfSome (word_of word.now) (λ inputs. OnOk result (self.new ≡ self.old ++ inputs)) }
         ensures bad { result ≡ Err WordFault.BadInput → word_of word.now ≡ None }
@@ -62,7 +62,7 @@ impl WordInputs {
     /// The text that spells the bytes, a line for each item.
     ///
     /// # Errors
-    /// `TooLong` exactly if the text has more bytes than a loader reads, before memory is taken; `Memory` where memory runs out.
+    /// `TooLong` exactly if the text has more bytes than a loader reads, before memory is taken; `Memory` if memory runs out.
     pub fn text(&self, alloc: Global) -> Result<String, LengthFault>
         ensures text { IfOk result (λ text. string_bytes text ≡ text_of self.now) }
         ensures spells { IfOk result (λ text. SpellsInputs self.now (string_bytes text)) }

@@ -12,7 +12,7 @@ pub record IsFrame (frames : List StackFrame) (id : ℕ) (frame : StackFrame) : 
   pub there : id < length frames
   pub is : frame_at frames id ≡ frame
 
--- a number has a frame that covers this one: the same counts, and the return address only where this one has it
+-- a number has a frame that covers this one: the same counts, and the return address only if this one has it
 pub record IsLesserFrame (frames : List StackFrame) (id : ℕ) (frame : StackFrame) : Type 0 where
   pub there : id < length frames
   pub covers : Covers (frame_at frames id) frame

@@ -4,7 +4,7 @@ use Rattle.frames80.specs.declared.word.Word.{Word}
 use Rattle.frames80.specs.declared.word.Word.TheVariants.{Own}
 use Rattle.interned80.specs.Stacks.{words_at}
 
--- as many words, and the return address only where the others have it
+-- as many words, and the return address only if the others have it
 abbrev pub IsLesser : List Word → List Word → Type 0
 IsLesser [] [] = Unit {0}
 IsLesser [] (y ∷ ys) = ⊥

@@ -14,7 +14,7 @@ use std::alloc::AllocError;
 /// The frame after a change.
 ///
 /// # Errors
-/// `AllocError` where memory runs out.
+/// `AllocError` if memory runs out.
 pub(crate) fn change_frame(
     stacks: &mut Stacks,
     kept: Kept,
@@ -56,7 +56,7 @@ pub(crate) fn change_frame(
 /// The frame with a word on top.
 ///
 /// # Errors
-/// `AllocError` where memory runs out.
+/// `AllocError` if memory runs out.
 fn push_word(stacks: &mut Stacks, kept: Kept, word: Word) -> Result<Kept, AllocError>
     requires { kept.words < length stacks.old }
     ensures pushed { IfOk result (λ after. IsKept stacks.new after (pushed word (frame_of stacks.old kept))) }

@@ -31,7 +31,7 @@ struct Lessened {
 /// return address that isn't asked for can lie beneath it.
 ///
 /// # Errors
-/// `AllocError` where memory runs out.
+/// `AllocError` if memory runs out.
 pub(crate) fn forget_words(
     stacks: &mut Stacks,
     number: u32,
@@ -48,7 +48,7 @@ pub(crate) fn forget_words(
 /// Goes down the stack until what lies beneath is asked for.
 ///
 /// # Errors
-/// `AllocError` where memory runs out.
+/// `AllocError` if memory runs out.
 fn forget_tops(stacks: &Stacks, number: u32, heights: &[u32]) -> Result<Lessened, AllocError>
     requires { number < length stacks.now }
     ensures { IfOk result (λ top. IsLesserTop stacks.now (words_at stacks.now number) top.words.items top.rest) }

@@ -22,7 +22,7 @@ use std::marker::Model;
 
 /// Frames by number: each distinct frame is kept once, in order of first sight. A contract sees the list of frames; a frame keeps
 /// its number. Words that frames have in common, from the bottom up, are kept once. Where there are 4,294,967,295 frames, or as
-/// many words, a call that would add one answers as where memory runs out.
+/// many words, a call that would add one answers as if memory runs out.
 #[derive(Drop)]
 pub struct Frames {
     stacks: Stacks,
@@ -56,7 +56,7 @@ impl Frames {
     /// The number of the frame at the start of a procedure that is called: its one word is its return address.
     ///
     /// # Errors
-    /// `AllocError` where memory runs out.
+    /// `AllocError` if memory runs out.
     pub fn entry(&mut self) -> Result<FrameId, AllocError>
         ensures entry { IfOk result (λ id. IsFrame self.new id entry_frame) }
         ensures stays { StayNumbered self.old self.new }
@@ -68,7 +68,7 @@ impl Frames {
     /// The number of the frame at the start of the main program: it has no words.
     ///
     /// # Errors
-    /// `AllocError` where memory runs out.
+    /// `AllocError` if memory runs out.
     pub fn main_entry(&mut self) -> Result<FrameId, AllocError>
         ensures entry { IfOk result (λ id. IsFrame self.new id main_frame) }
         ensures stays { StayNumbered self.old self.new }
@@ -76,7 +76,7 @@ impl Frames {
         keep(&mut self.kept, Kept::of_words(0, EMPTY))
     }
 
-    /// Why an effect is refused with a frame, or `None` where it is admitted. It takes no memory.
+    /// Why an effect is refused with a frame, or `None` if it is admitted. It takes no memory.
     pub fn fault_of(&self, frame: FrameId, role: Role, effect: Effect) -> Option<FrameFault>
         requires { frame < length self.now }
         ensures refused { IfSome result (λ fault. moves_of role effect (frame_at self.now frame) ≡ Err fault) }
@@ -93,7 +93,7 @@ impl Frames {
     /// The number of a frame after a change. The frame has up to 1,000,000 words taken.
     ///
     /// # Errors
-    /// `AllocError` where memory runs out.
+    /// `AllocError` if memory runs out.
     pub fn change(&mut self, frame: FrameId, change: Change) -> Result<FrameId, AllocError>
         requires there { frame < length self.old }
         requires taken { (frame_at self.old frame).taken ≤ 1000000 }
@@ -110,7 +110,7 @@ impl Frames {
     ///
     /// # Errors
     /// `ShortArguments` exactly where the caller has fewer words above its bottom word; in the main program, where it has fewer
-    /// words. `Memory` only where it has enough and memory runs out.
+    /// words. `Memory` only if it has enough and memory runs out.
     pub fn after(&mut self, frame: FrameId, role: Role, taken: u32) -> Result<FrameId, CallFault>
         requires { frame < length self.old }
         ensures enough { OnOk result (taken ≤ room role (frame_at self.old frame).words) }
@@ -126,11 +126,11 @@ impl Frames {
         Ok(keep(&mut self.kept, Kept::of_words(kept.taken, words))?)
     }
 
-    /// The number of the frame that is known of both: a word or a pair is the return address only where it is in both. It is that
+    /// The number of the frame that is known of both: a word or a pair is the return address only if it is in both. It is that
     /// of the first where the first doesn't change.
     ///
     /// # Errors
-    /// `HeightsDiffer` exactly where the frames differ in the words taken or in the number of words; `Memory` only where they
+    /// `HeightsDiffer` exactly where the frames differ in the words taken or in the number of words; `Memory` only if they
     /// don't and memory runs out.
     pub fn meet(&mut self, one: FrameId, other: FrameId) -> Result<FrameId, MeetFault>
         requires one { one < length self.old }
@@ -155,7 +155,7 @@ impl Frames {
     /// where the frame has it.
     ///
     /// # Errors
-    /// `AllocError` where memory runs out.
+    /// `AllocError` if memory runs out.
     pub fn forget(&mut self, frame: FrameId, asked: Asked<'_>) -> Result<FrameId, AllocError>
         requires { frame < length self.old }
         ensures lesser { IfOk result (λ id. IsLesserFrame self.new id (frame_at self.old frame)) }

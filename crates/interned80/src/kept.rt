@@ -70,10 +70,10 @@ pub(crate) fn kept_at(frames: &IndexSet<Kept>, id: FrameId) -> Kept
     frames[id.index()]
 }
 
-/// The number of a frame, which is added where it wasn't there before.
+/// The number of a frame, which is added if it wasn't there before.
 ///
 /// # Errors
-/// `AllocError` where memory runs out, and where there are 4,294,967,295 frames already.
+/// `AllocError` if memory runs out, and if there are 4,294,967,295 frames already.
 pub(crate) fn keep(frames: &mut IndexSet<Kept>, kept: Kept) -> Result<FrameId, AllocError>
     ensures number { IfOk result (λ id. slice_get frames.new.keys id ≡ Some kept) }
     ensures grows { (frames.new.keys ≡ frames.old.keys) ⊎ (frames.new.keys ≡ frames.old.keys ++ kept ∷ []) }

@@ -25,10 +25,10 @@ struct Meeting {
     changed: bool,
 }
 
-/// The frame that is known of both: a word or a pair is the return address only where it is in both.
+/// The frame that is known of both: a word or a pair is the return address only if it is in both.
 ///
 /// # Errors
-/// `HeightsDiffer` exactly where the frames differ in the words taken or in the number of words; `Memory` only where they don't
+/// `HeightsDiffer` exactly where the frames differ in the words taken or in the number of words; `Memory` only if they don't
 /// and memory runs out.
 pub(crate) fn meet_frames(stacks: &mut Stacks, one: Kept, other: Kept) -> Result<Kept, MeetFault>
     requires one { one.words < length stacks.old }
@@ -53,10 +53,10 @@ pub(crate) fn meet_frames(stacks: &mut Stacks, one: Kept, other: Kept) -> Result
     })
 }
 
-/// The number of the stack of what is known of both words at each place. It is that of the first stack where that doesn't change.
+/// The number of the stack of what is known of both words at each place. It is that of the first stack if that doesn't change.
 ///
 /// # Errors
-/// `AllocError` where memory runs out.
+/// `AllocError` if memory runs out.
 fn meet_words(stacks: &mut Stacks, one: u32, other: u32) -> Result<u32, AllocError>
     requires one { one < length stacks.old }
     requires other { other < length stacks.old }
@@ -78,7 +78,7 @@ fn meet_words(stacks: &mut Stacks, one: u32, other: u32) -> Result<u32, AllocErr
 /// Goes down both stacks until they are the same from there on.
 ///
 /// # Errors
-/// `AllocError` where memory runs out.
+/// `AllocError` if memory runs out.
 fn meet_tops(stacks: &Stacks, one: u32, other: u32) -> Result<Meeting, AllocError>
     requires one { one < length stacks.now }
     requires other { other < length stacks.now }
@@ -103,7 +103,7 @@ fn meet_tops(stacks: &Stacks, one: u32, other: u32) -> Result<Meeting, AllocErro
     })
 }
 
-/// The words on top of two stacks, or `None` where the stacks are the same or have no words.
+/// The words on top of two stacks, or `None` if the stacks are the same or have no words.
 fn tops(stacks: &Stacks, one: u32, other: u32) -> Option<(Link, Link)>
     requires one { one < length stacks.now }
     requires other { other < length stacks.now }
@@ -121,7 +121,7 @@ fn tops(stacks: &Stacks, one: u32, other: u32) -> Option<(Link, Link)>
 /// The number of the stack with these words, top first, on top of it.
 ///
 /// # Errors
-/// `AllocError` where memory runs out.
+/// `AllocError` if memory runs out.
 pub(crate) fn push_all(stacks: &mut Stacks, below: u32, words: Vec<Word>) -> Result<u32, AllocError>
     requires { below < length stacks.old }
     ensures pushed { IfOk result (λ number. IsStack stacks.new number (words.items ++ words_at stacks.old below)) }

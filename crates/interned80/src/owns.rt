@@ -29,7 +29,7 @@ impl Owns {
     /// Notes the stack of the newest number, which has a word on top of the stack of another.
     ///
     /// # Errors
-    /// `AllocError` where memory runs out.
+    /// `AllocError` if memory runs out.
     pub(crate) fn note(&mut self, number: u32, word: Word, below: u32) -> Result<(), AllocError> {
         if self.counts.len() >= number as usize {
             return Ok(());

@@ -51,7 +51,7 @@ impl Stacks {
         *self.links.allocator()
     }
 
-    /// The word on top of a stack, with the number of the stack beneath it, or `None` where the stack has no words.
+    /// The word on top of a stack, with the number of the stack beneath it, or `None` if the stack has no words.
     pub(crate) fn top(&self, number: u32) -> Option<Link>
         requires { number < length self.now }
         ensures link { IfSome result (λ link. IsLink self.now number link) }
@@ -118,7 +118,7 @@ impl Stacks {
     /// The number of the stack with a word on top of it.
     ///
     /// # Errors
-    /// `AllocError` where memory runs out, and where there are 4,294,967,295 links already.
+    /// `AllocError` if memory runs out, and if there are 4,294,967,295 links already.
     pub(crate) fn push(&mut self, below: u32, word: Word) -> Result<u32, AllocError>
         requires { below < length self.old }
         ensures pushed { IfOk result (λ number. IsStack self.new number (word ∷ words_at self.old below)) }

@@ -1,4 +1,4 @@
-//! What was lent for writing is as it was where memory runs out, and what was handed over is handed back. With memory each of
+//! What was lent for writing is as it was if memory runs out, and what was handed over is handed back. With memory each of
 //! these tests shows the call that is done; with each allocation refused in turn (`make faults`) the one that isn't.
 
 use image80::{

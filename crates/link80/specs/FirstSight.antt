@@ -7,7 +7,7 @@ use Rattle.std.specs.Cmp.Lexicographic.{pointwise}
 abbrev pub is_among : List (List ℕ) → List ℕ → Bool
 is_among names name = list_any (pointwise nat_eq name) names
 
--- the names with one more, last, where it isn't among them
+-- the names with one more, last, if it isn't among them
 abbrev pub with_name : List (List ℕ) → List ℕ → List (List ℕ)
 with_name names name = if is_among names name then names else names ++ name ∷ []
 

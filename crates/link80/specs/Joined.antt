@@ -18,7 +18,7 @@ with_parts part s (m ∷ ms) = with_parts part (joined_parts s (part m)) ms
 abbrev pub parts_of_commons : ModuleValue → List (List ℕ × Segment)
 parts_of_commons m = map (λ c. (c.name, segment_in m.segments c.id)) m.commons
 
--- segments by number, with a part joined to that of a number, where it has one
+-- segments by number, with a part joined to that of a number, if it has one
 abbrev pub with_part_at : List Segment → Option ℕ → Segment → List Segment
 with_part_at segments None part = segments
 with_part_at segments (Some k) part = slice_set segments k (joined_parts (slice_index_or segments k empty_segment) part)

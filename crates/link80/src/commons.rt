@@ -58,7 +58,7 @@ fn add_commons<'a>(
 /// The names of all commons, in order of first sight, by number and as a list.
 ///
 /// # Errors
-/// `AllocError` only where there is no memory for them.
+/// `AllocError` only if there is no memory for them.
 fn common_names<'a>(
     alloc: Global,
     modules: &LaidModules<'a>,
@@ -118,7 +118,7 @@ impl<'a> JoinedModules<'a> {
     /// Gives the named commons their ids.
     ///
     /// # Errors
-    /// `TooManyCommons` exactly where there are more than 249; `Memory` where memory runs out.
+    /// `TooManyCommons` exactly where there are more than 249; `Memory` if memory runs out.
     pub(crate) fn new(
         alloc: Global,
         laid: &'a LaidModules<'a>,

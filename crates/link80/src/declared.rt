@@ -15,7 +15,7 @@ use std::alloc::Global;
 /// Puts the names of a module's publics last.
 ///
 /// # Errors
-/// `DuplicatePublic` with the first of them that stands before; `Memory` where memory runs out.
+/// `DuplicatePublic` with the first of them that stands before; `Memory` if memory runs out.
 fn add_publics<'a>(
     alloc: Global,
     names: &mut NameTable<'a>,
@@ -35,7 +35,7 @@ fn add_publics<'a>(
 /// The names of all publics, by module and then by record.
 ///
 /// # Errors
-/// `DuplicatePublic` with the first public whose name stands before; `Memory` where memory runs out.
+/// `DuplicatePublic` with the first public whose name stands before; `Memory` if memory runs out.
 pub(crate) fn declared_names<'a>(
     alloc: Global,
     modules: &Modules<'a>,

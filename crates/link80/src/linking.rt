@@ -130,7 +130,7 @@ fn parts_of(
 /// The module that is linked of joined modules, and the names that none of them declares.
 ///
 /// # Errors
-/// `TooManyExternals` exactly where these are more than 65536; `Memory` where memory runs out.
+/// `TooManyExternals` exactly where these are more than 65536; `Memory` if memory runs out.
 fn link_joined(
     alloc: Global,
     name: &Name,
@@ -221,8 +221,8 @@ fn link_modules(
 /// The first of these that holds of the roots and the modules that are taken: `DuplicatePublic` with the first public whose name
 /// stands before; `SegmentTooLong` with the first of CODE, DATA and STACK that comes to more than 65535 bytes; `TwoMains`;
 /// `HighNotPaged`, where a fixup takes the high byte of a segment's place whose part doesn't start at a multiple of 256;
-/// `TooManyCommons`, where more than 249 commons have names; `TooManyExternals`, where no module declares more than 65536 names
-/// that are used. `Memory` where memory runs out.
+/// `TooManyCommons`, if more than 249 commons have names; `TooManyExternals`, where no module declares more than 65536 names
+/// that are used. `Memory` if memory runs out.
 pub fn link(
     alloc: Global,
     name: &Name,

@@ -7,7 +7,7 @@ ghost use Rattle.link80.specs.Gathered.{mains_from};
 use crate::fault::LinkFault;
 use crate::starts::LaidModules;
 
-/// The number of the main program, where there is one.
+/// The number of the main program, if there is one.
 ///
 /// # Errors
 /// `TwoMains` exactly where there are two or more.

@@ -33,7 +33,7 @@ impl<'a> NameTable<'a> {
         }
     }
 
-    /// Puts a name last where it isn't there yet; the answer says whether it is new.
+    /// Puts a name last if it isn't there yet; the answer says whether it is new.
     pub(crate) fn add(&mut self, name: &'a [u8]) -> Result<bool, AllocError>
         ensures new { IfOk result (λ new. new ≡ not (is_among self.old name.now)) }
         ensures names { OnOk result (self.new ≡ with_name self.old name.now) }
@@ -58,7 +58,7 @@ impl<'a> NameTable<'a> {
     }
 }
 
-/// Puts a name last where it isn't there yet, and then a copy of it too.
+/// Puts a name last if it isn't there yet, and then a copy of it too.
 pub(crate) fn add_name<'a>(
     alloc: Global,
     names: &mut NameTable<'a>,

@@ -92,7 +92,7 @@ fn fixed_segments(alloc: Global, joined: &JoinedModules) -> Result<Vec<(u8, Segm
 /// The segments of the linked module with their ids: those that every module has, and then the named commons.
 ///
 /// # Errors
-/// `AllocError` only where there is no memory for them.
+/// `AllocError` only if there is no memory for them.
 pub(crate) fn linked_segments(
     alloc: Global,
     joined: &JoinedModules,

@@ -151,7 +151,7 @@ impl<'t, 'a> SymbolTables<'t, 'a> {
     /// Moves the publics and finds the names that no module declares.
     ///
     /// # Errors
-    /// `TooManyExternals` exactly where these are more than 65536; `Memory` where memory runs out.
+    /// `TooManyExternals` exactly where these are more than 65536; `Memory` if memory runs out.
     pub(crate) fn new(
         alloc: Global,
         joined: &'t JoinedModules<'a>,

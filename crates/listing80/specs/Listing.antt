@@ -18,7 +18,7 @@ abbrev pub fitting : ℕ → Option (Instr × ℕ) → Option (Instr × ℕ)
 fitting left (Some (i, n)) = if nat_le n left then Some (i, n) else None
 fitting left None = None
 
--- the instruction that three bytes begin with, and its length, where so many bytes are left of the range
+-- the instruction that three bytes begin with, and its length, if so many bytes are left of the range
 abbrev pub instruction_of : List ℕ → ℕ → Option (Instr × ℕ)
 instruction_of bytes left = fitting left (decoded (slice_index bytes 0) (slice_index bytes 1) (slice_index bytes 2))
 

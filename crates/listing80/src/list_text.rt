@@ -15,7 +15,7 @@ use std::alloc::{AllocError, Global};
 /// leaves the range, is a line of its own with the text `??`.
 ///
 /// # Errors
-/// `AllocError` only where memory runs out.
+/// `AllocError` only if memory runs out.
 pub fn listing(alloc: Global, image: &Image) -> Result<Vec<u8>, AllocError>
     ensures { IfOk result (λ text. text.items ≡ listing_of image.now) }
 {
@@ -25,13 +25,13 @@ pub fn listing(alloc: Global, image: &Image) -> Result<Vec<u8>, AllocError>
     Ok(text)
 }
 
-/// The line of one instruction, where so many bytes of its range of code are left.
+/// The line of one instruction, if so many bytes of its range of code are left.
 ///
 /// `left` must be at least 1. A byte that begins no instruction, or whose instruction is longer than what is left, has the text
 /// `??`.
 ///
 /// # Errors
-/// `AllocError` only where memory runs out.
+/// `AllocError` only if memory runs out.
 pub fn instruction_line(
     alloc: Global,
     image: &Image,
@@ -123,7 +123,7 @@ fn bytes_at(memory: &FlatBus, at: u16) -> [u8; 3]
     ]
 }
 
-/// The instruction that the bytes begin with, and its length, where so many bytes are left.
+/// The instruction that the bytes begin with, and its length, if so many bytes are left.
 fn instruction_in(bytes: [u8; 3], left: usize) -> Option<(Instr, usize)>
     ensures value { result ≡ instruction_of bytes left }
     ensures length { IfSome result (λ found. (1 ≤ found.1) × (found.1 ≤ 3)) }

@@ -8,7 +8,7 @@ use std::alloc::{AllocError, Global};
 use std::fmt;
 
 /// The bytes that `digits` spell in hexadecimal, two digits of either case for each byte; `None`
-/// where they aren't such digits, or an odd number of them.
+/// if they aren't such digits, or an odd number of them.
 pub fn bytes_of_digits(alloc: Global, digits: &[u8]) -> Result<Option<Vec<u8>>, AllocError>
     ensures { IfOk result (λ bytes. option_map vec_items bytes ≡ bytes_spelled digits.now) }
 {

@@ -91,7 +91,7 @@ impl LineInput {
     }
 }
 
-// What the line without its line feed spells, `None` where it isn't `pp hh..`.
+// What the line without its line feed spells, `None` if it isn't `pp hh..`.
 fn read_line(alloc: Global, line: &[u8]) -> Result<Option<LineInput>, AllocError>
     ensures { IfOk result (λ input. option_map (λ i. pairs_of i.port i.bytes.items) input ≡ line_input line.now) }
 {

@@ -21,7 +21,7 @@ use verify80::Refusal;
 pub struct Outcome {
     /// The number of bytes of stack that the program needs at most.
     pub stack_bytes: u64,
-    /// How the run ended; `None` where the steps were used up.
+    /// How the run ended; `None` if the steps were used up.
     pub end: Option<End>,
     /// The steps that were made, the ending one counted.
     pub steps: u64,

@@ -15,7 +15,7 @@ use quick80::quick_advance;
 /// How a run ended.
 #[derive(Clone, Copy, Debug, PartialEq, Eq)]
 pub struct Ended {
-    /// How it ended; `None` where the steps were used up.
+    /// How it ended; `None` if the steps were used up.
     pub end: Option<End>,
     /// The steps that it made, the ending one counted.
     pub steps: u64,

@@ -23,8 +23,8 @@ pub const TEXT_LIMIT: usize = 1_048_576;
 /// # Errors
 /// The first of: `Read` with the number of the text, 1 to 3, where a read of it fails; `TooLong` with that number where it has
 /// more bytes than the limit; `Regions`, `Image`, or `Inputs` with the number of the line, counted from 1, where a text isn't of
-/// its form; `Refused` where the verifier refuses the image, after its line was written; `Write` where a write fails or takes no
-/// byte, after which a prefix of the text was written. `Memory` where memory runs out, also for the outputs; it is never a
+/// its form; `Refused` if the verifier refuses the image, after its line was written; `Write` if a write fails or takes no
+/// byte, after which a prefix of the text was written. `Memory` if memory runs out, also for the outputs; it is never a
 /// refusal's line. After every fault but `Refused` and `Write` nothing was written.
 pub fn session<A: Source, B: Source, C: Source, K: Sink>(
     alloc: Global,

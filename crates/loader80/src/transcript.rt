@@ -103,7 +103,7 @@ fn append_byte(text: &mut String, name: &str, byte: u8, steps: u64) -> Result<()
 /// The line for an image that is refused.
 ///
 /// # Errors
-/// `AllocError` only where memory runs out.
+/// `AllocError` only if memory runs out.
 pub fn refusal_text(alloc: Global, refusal: Refusal) -> Result<String, AllocError>
     ensures { IfOk result (λ text. string_bytes text ≡ refusal_line refusal) }
 {

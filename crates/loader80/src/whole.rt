@@ -45,7 +45,7 @@ const PIECE: usize = 4096;
 /// are too many. The limit must be below the greatest `usize`, and the source's count of failures below the greatest `u64`.
 ///
 /// # Errors
-/// `Read` where a read fails; `TooLong` where there are more than `limit` bytes; `Memory` where memory runs out.
+/// `Read` if a read fails; `TooLong` if there are more than `limit` bytes; `Memory` if memory runs out.
 pub fn read_all<S: Source>(
     alloc: Global,
     source: &mut S,
@@ -76,7 +76,7 @@ pub fn read_all<S: Source>(
 /// Writes all of `bytes`. The sink's count of failures must be below the greatest `u64`.
 ///
 /// # Errors
-/// `Failed` where a write fails or takes no byte; a proper prefix of the bytes has then been written.
+/// `Failed` if a write fails or takes no byte; a proper prefix of the bytes has then been written.
 pub fn write_all<K: Sink>(sink: &mut K, bytes: &[u8]) -> Result<(), Failed>
     requires { K.failed sink.old < u64.MAX }
     ensures whole { OnOk result (Appends (K.written sink.old) (K.written sink.new) bytes.now) }

@@ -105,7 +105,7 @@ pub fn decrement(value: u8, flags: Flags) -> Answer
 
 /// DAA: the accumulator `a` after an addition of packed decimal bytes, made packed decimal again.
 ///
-/// AC and CY of `flags` are read. CY is set where there is a third digit, and stays where it was set; AC is the carry
+/// AC and CY of `flags` are read. CY is set if there is a third digit, and stays where it was set; AC is the carry
 /// out of bit 3 of the correction.
 #[inline]
 #[tactic(auto, unfolding(crate::specs::Arithmetic::decimal_answer))]

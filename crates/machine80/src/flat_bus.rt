@@ -25,10 +25,10 @@ impl Model for FlatBus {
 }
 
 impl FlatBus {
-    /// A memory that holds the image's content, and 0 where it has none.
+    /// A memory that holds the image's content, and 0 if it has none.
     ///
     /// # Errors
-    /// `AllocError` where there is no memory for it.
+    /// `AllocError` if there is no memory for it.
     pub fn new(alloc: Global, image: &Image) -> Result<Self, AllocError>
         ensures { IfOk result (λ bus. bus ≡ memory_of image.now.chunks) }
     {

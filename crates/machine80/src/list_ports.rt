@@ -41,7 +41,7 @@ impl Model for ListPorts {
 
 impl ListPorts {
     /// Ports at which these inputs wait, that keep as many outputs as `limit` says and refuse each further one.
-    /// An output is also refused where there is no memory to keep it.
+    /// An output is also refused if there is no memory to keep it.
     pub fn new(alloc: Global, inputs: Inputs, limit: usize) -> Self
         ensures inputs { result.inputs ≡ lists_of inputs.pairs.items }
         ensures outputs { result.outputs ≡ [] }

@@ -27,10 +27,10 @@ impl Model for PagedBus {
 }
 
 impl PagedBus {
-    /// A memory that holds the image's content, and 0 where it has none.
+    /// A memory that holds the image's content, and 0 if it has none.
     ///
     /// # Errors
-    /// `AllocError` where there is no memory for it.
+    /// `AllocError` if there is no memory for it.
     pub fn new(alloc: Global, image: &Image) -> Result<Self, AllocError>
         ensures { IfOk result (λ bus. bus ≡ memory_of image.now.chunks) }
     {
@@ -41,7 +41,7 @@ impl PagedBus {
     /// A memory that holds these 65536 bytes, by address.
     ///
     /// # Errors
-    /// `AllocError` where there is no memory for it.
+    /// `AllocError` if there is no memory for it.
     pub fn of_bytes(alloc: Global, bytes: &[u8]) -> Result<Self, AllocError>
         requires { length bytes.now ≡ 65536 }
         ensures { IfOk result (λ bus. bus ≡ bytes.now) }

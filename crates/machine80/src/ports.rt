@@ -14,7 +14,7 @@ pub trait Ports {
     /// What is seen of them.
     ghost lists: { Self → PortLists };
 
-    /// The next byte of a port, which is taken away, or `None` where none waits.
+    /// The next byte of a port, which is taken away, or `None` if none waits.
     fn take(&mut self, port: u8) -> Option<u8>
         ensures byte { result ≡ next_input (lists self.old).inputs port }
         ensures taken { lists self.new ≡ record (lists self.old) { inputs = without_next (lists self.old).inputs port } }
@@ -23,7 +23,7 @@ pub trait Ports {
     /// Puts out a byte at a port, or refuses it; a refused byte is counted and changes nothing else.
     ///
     /// # Errors
-    /// `PortRefused` where the limit is reached, or memory runs out; never while there is room.
+    /// `PortRefused` if the limit is reached, or memory runs out; never while there is room.
     fn give(&mut self, port: u8, byte: u8) -> Result<(), PortRefused>
         requires { (lists self.old).refused < 2 ^ 64 - 1 }
         ensures kept { OnOk result (lists self.new ≡ record (lists self.old) {

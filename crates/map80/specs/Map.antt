@@ -20,7 +20,7 @@ segment_word id =
     else if id == 4 then codes "MEMORY"
     else codes "COMMON"
 
--- a blank and the name of the common of this id, where it has one
+-- a blank and the name of the common of this id, if it has one
 abbrev pub name_part : List Common → ℕ → List ℕ
 name_part commons id = option_map_or (λ c. 32 ∷ c.name) (find (λ c. c.id == id) commons) []
 

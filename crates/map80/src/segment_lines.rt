@@ -53,7 +53,7 @@ fn word_of(id: u8) -> &'static [u8]
     }
 }
 
-/// Appends a blank and the name of the common of this id, where it has one.
+/// Appends a blank and the name of the common of this id, if it has one.
 fn append_name(text: &mut Vec<u8>, commons: &[Common], id: u8) -> Result<(), AllocError>
     ensures { OnOk result (text.new.items ≡ text.old.items ++ name_part commons.now id) }
 {

@@ -48,7 +48,7 @@ impl<'a> Cursor<'a> {
     /// Reads a byte.
     ///
     /// # Errors
-    /// `BadBody` where none is left.
+    /// `BadBody` if none is left.
     pub fn byte(&mut self) -> Result<u8, FieldFault>
         ensures read { IfOk result (λ byte. read_byte self.old ≡ Ok (byte, self.new)) }
         ensures spelled { IfOk result (λ byte. self.old ≡ byte ∷ self.new) }
@@ -67,7 +67,7 @@ impl<'a> Cursor<'a> {
     /// Reads a word, low byte first.
     ///
     /// # Errors
-    /// `BadBody` where fewer than two bytes are left.
+    /// `BadBody` if fewer than two bytes are left.
     pub fn word(&mut self) -> Result<u16, FieldFault>
         ensures read { IfOk result (λ word. read_word self.old ≡ Ok (word, self.new)) }
         ensures spelled { IfOk result (λ word. self.old ≡ word_bytes word ++ self.new) }
@@ -86,7 +86,7 @@ impl<'a> Cursor<'a> {
     /// Reads a name.
     ///
     /// # Errors
-    /// `BadBody` where the name isn't all there; `BadName` where it is, and has no bytes or one outside 21h to 7Eh.
+    /// `BadBody` if the name isn't all there; `BadName` if it is, and has no bytes or one outside 21h to 7Eh.
     pub fn name(&mut self) -> Result<NameBytes<'a>, FieldFault>
         ensures read { IfOk result (λ name. read_name self.old ≡ Ok (name, self.new)) }
         ensures spelled { IfOk result (λ name. self.old ≡ name_spelling name ++ self.new) }

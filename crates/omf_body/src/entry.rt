@@ -13,7 +13,7 @@ pub trait Entry: Sized + Drop {
     /// Appends the entry's bytes.
     ///
     /// # Errors
-    /// `AllocError` only where there is no memory.
+    /// `AllocError` only if there is no memory.
     fn write(&self, out: &mut Vec<u8>) -> Result<(), AllocError>
         ensures { OnOk result (out.new.items ≡ out.old.items ++ layout.bytes self.now) };
 
@@ -25,7 +25,7 @@ pub trait ReadEntry<'a>: Entry {
     /// Reads the entry that the bytes begin with, its fields in order.
     ///
     /// # Errors
-    /// That of the first field that can't be read, or `BadBody` where a field has no listed value.
+    /// That of the first field that can't be read, or `BadBody` if a field has no listed value.
     fn read(cursor: &mut Cursor<'a>) -> Result<Self, FieldFault>
         ensures read { IfOk result (λ e. Self.layout.read cursor.old ≡ Ok (e, cursor.new)) }
         ensures spelled { IfOk result (λ e. cursor.old ≡ Self.layout.bytes e ++ cursor.new) }

@@ -24,7 +24,7 @@ impl Field {
     /// Reads a field byte.
     ///
     /// # Errors
-    /// `BadBody` where the body ends, or the byte isn't 1, 2 or 3.
+    /// `BadBody` if the body ends, or the byte isn't 1, 2 or 3.
     pub fn read(cursor: &mut Cursor) -> Result<Field, FieldFault>
         ensures read { IfOk result (λ field. read_field cursor.old ≡ Ok (field, cursor.new)) }
         ensures spelled { IfOk result (λ field. cursor.old ≡ field_byte field ∷ cursor.new) }

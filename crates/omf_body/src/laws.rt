@@ -8,7 +8,7 @@ pub fn one_body()
     ensures { OneBody }
 {}
 
-/// Bytes have one first fault at most, and none where they spell a body.
+/// Bytes have one first fault at most, and none if they spell a body.
 #[tactic(auto, using(crate::proofs::Bodies::one_fault, crate::proofs::Bodies::never_both))]
 pub fn one_fault()
     ensures one { OneFault }

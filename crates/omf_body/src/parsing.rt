@@ -139,7 +139,7 @@ fn intersegment_in<'a>(bytes: &'a [u8]) -> Result<IntersegmentBody<'a>, FieldFau
     })
 }
 
-/// The body of a record of this kind, or its first fault; `None` where no record of this kind stands in an object file.
+/// The body of a record of this kind, or its first fault; `None` if no record of this kind stands in an object file.
 fn body_in<'a>(kind: RecordKind, bytes: &'a [u8]) -> Option<Result<Body<'a>, FieldFault>>
     ensures spelled { IfSome result (λ r. IfOk r (λ body. Spells (kind_byte kind) bytes.now body)) }
     ensures fault { IfSome result (λ r. IfErr r (λ f. FaultsBody kind bytes.now f)) }
@@ -175,10 +175,10 @@ fn body_in<'a>(kind: RecordKind, bytes: &'a [u8]) -> Option<Result<Body<'a>, Fie
 ///
 /// # Errors
 /// The first fault of the body, its fields taken in order:
-/// `UnknownKind` where no record of this type byte stands in an object file;
-/// `BadBody` where the body ends inside a field, a field byte isn't 1, 2 or 3, the main byte of an end isn't 0 or 1, the id
+/// `UnknownKind` if no record of this type byte stands in an object file;
+/// `BadBody` if the body ends inside a field, a field byte isn't 1, 2 or 3, the main byte of an end isn't 0 or 1, the id
 /// of a common is outside 6 to 254, or an id is listed twice in a header;
-/// `BadName` where a name that the body holds whole has no bytes, or one outside 21h to 7Eh.
+/// `BadName` if a name that the body holds whole has no bytes, or one outside 21h to 7Eh.
 /// The ids and the names of all commons of a module must differ: that is not looked at here.
 pub fn parse<'a>(source: Record<'a>) -> Result<Body<'a>, BodyFault>
     // What is read is what the body's bytes spell, and no body that they spell is refused or read as another.

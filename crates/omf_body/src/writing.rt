@@ -45,7 +45,7 @@ fn header_bytes(
 /// Appends a module header (02): the module's name and its segments.
 ///
 /// # Errors
-/// `TooLong` only where the body would have more than 65534 bytes, and then never `Ok`; `Memory` only where there is no
+/// `TooLong` only if the body would have more than 65534 bytes, and then never `Ok`; `Memory` only if there is no
 /// memory. After either, `out` holds the bytes that it held.
 pub fn put_header(
     alloc: Global,
@@ -81,7 +81,7 @@ fn content_bytes(
 /// Appends content (06): bytes of a segment from an offset on.
 ///
 /// # Errors
-/// `TooLong` only where the body would have more than 65534 bytes, and then never `Ok`; `Memory` only where there is no
+/// `TooLong` only if the body would have more than 65534 bytes, and then never `Ok`; `Memory` only if there is no
 /// memory. After either, `out` holds the bytes that it held.
 pub fn put_content(
     alloc: Global,
@@ -112,7 +112,7 @@ fn publics_bytes(alloc: Global, segment: u8, publics: &[PublicEntry]) -> Result<
 /// Appends publics (16) of one segment.
 ///
 /// # Errors
-/// `TooLong` only where the body would have more than 65534 bytes, and then never `Ok`; `Memory` only where there is no
+/// `TooLong` only if the body would have more than 65534 bytes, and then never `Ok`; `Memory` only if there is no
 /// memory. After either, `out` holds the bytes that it held.
 pub fn put_publics(
     alloc: Global,
@@ -140,7 +140,7 @@ fn externals_bytes(alloc: Global, externals: &[ExternalEntry]) -> Result<Vec<u8>
 /// Appends externals (18).
 ///
 /// # Errors
-/// `TooLong` only where the body would have more than 65534 bytes, and then never `Ok`; `Memory` only where there is no
+/// `TooLong` only if the body would have more than 65534 bytes, and then never `Ok`; `Memory` only if there is no
 /// memory. After either, `out` holds the bytes that it held.
 pub fn put_externals(
     alloc: Global,
@@ -166,7 +166,7 @@ fn commons_bytes(alloc: Global, commons: &[CommonEntry]) -> Result<Vec<u8>, Allo
 /// Appends named commons (2E).
 ///
 /// # Errors
-/// `TooLong` only where the body would have more than 65534 bytes, and then never `Ok`; `Memory` only where there is no
+/// `TooLong` only if the body would have more than 65534 bytes, and then never `Ok`; `Memory` only if there is no
 /// memory. After either, `out` holds the bytes that it held.
 pub fn put_commons(
     alloc: Global,
@@ -198,7 +198,7 @@ fn external_references_bytes(
 /// Appends references to externals (20) in the content before.
 ///
 /// # Errors
-/// `TooLong` only where the body would have more than 65534 bytes, and then never `Ok`; `Memory` only where there is no
+/// `TooLong` only if the body would have more than 65534 bytes, and then never `Ok`; `Memory` only if there is no
 /// memory. After either, `out` holds the bytes that it held.
 pub fn put_external_references(
     alloc: Global,
@@ -232,7 +232,7 @@ fn relocation_bytes(
 /// Appends references (22) in the content before to its own segment.
 ///
 /// # Errors
-/// `TooLong` only where the body would have more than 65534 bytes, and then never `Ok`; `Memory` only where there is no
+/// `TooLong` only if the body would have more than 65534 bytes, and then never `Ok`; `Memory` only if there is no
 /// memory. After either, `out` holds the bytes that it held.
 pub fn put_relocation(
     alloc: Global,
@@ -269,7 +269,7 @@ fn intersegment_bytes(
 /// Appends references (24) in the content before to the segment of this id.
 ///
 /// # Errors
-/// `TooLong` only where the body would have more than 65534 bytes, and then never `Ok`; `Memory` only where there is no
+/// `TooLong` only if the body would have more than 65534 bytes, and then never `Ok`; `Memory` only if there is no
 /// memory. After either, `out` holds the bytes that it held.
 pub fn put_intersegment(
     alloc: Global,
@@ -303,7 +303,7 @@ fn end_bytes(alloc: Global, start: Option<Place>) -> Result<Vec<u8>, AllocError>
 /// Appends a module end (04), with the start where the module is a main program.
 ///
 /// # Errors
-/// `TooLong` only where the body would have more than 65534 bytes, and then never `Ok`; `Memory` only where there is no
+/// `TooLong` only if the body would have more than 65534 bytes, and then never `Ok`; `Memory` only if there is no
 /// memory. After either, `out` holds the bytes that it held.
 pub fn put_end(alloc: Global, start: Option<Place>, out: &mut Vec<u8>) -> Result<(), PutFault>
     ensures { Appends (body_of.ModuleEnd

@@ -50,7 +50,7 @@ pub record FirstRecordFault (bytes : List ℕ) (fault : RecordFault) : Type 0 wh
   pub before : OpenRecords bytes at records
   pub faults : fault_at (drop at bytes) at ≡ Some fault
 
--- The fault is there whatever bytes follow, also where none do.
+-- The fault is there whatever bytes follow, also if none do.
 abbrev pub LastingRecordFault : List ℕ → RecordFault → Type 0
 LastingRecordFault bytes fault = (more : List ℕ) → All (λ byte. byte < 256) more → FirstRecordFault (bytes ++ more) fault
 

@@ -57,7 +57,7 @@ impl Feed {
     /// # Errors
     /// `Record` exactly where the records of all bytes so far, this piece's too, have that fault whatever bytes follow. It is
     /// kept, and answered to every later piece; the bytes are those before the piece.
-    /// `Memory` only where there is none for the piece; the feed is unchanged.
+    /// `Memory` only if there is none for the piece; the feed is unchanged.
     pub fn piece(&mut self, piece: &[u8]) -> Result<usize, FeedFault>
         ensures kept { (fault : RecordFaultValue) → self.old.kept ≡ Some fault
             → (result ≡ Err (FeedFault.Record fault)) × (self.new ≡ self.old) }

@@ -32,7 +32,7 @@ impl RecordKind {
         self as u8
     }
 
-    /// The kind whose type byte this is, or `None` where the standard has none.
+    /// The kind whose type byte this is, or `None` if the standard has none.
     pub fn from_byte(byte: u8) -> Option<RecordKind>
         ensures kind { IfSome result (λ kind. kind_byte kind ≡ byte) }
         ensures unknown { IfNone result ((kind : RecordKind) → kind_byte kind ≢ byte) }

@@ -35,7 +35,7 @@ impl Name {
     ///
     /// # Errors
     /// `BadName` exactly where they are none or more than 255, or one of them is outside 21h to 7Eh;
-    /// `Memory` only where there is none for a copy of them.
+    /// `Memory` only if there is none for a copy of them.
     pub fn new(alloc: Global, bytes: &[u8]) -> Result<Name, NameFault>
         ensures ok { IfOk result (λ name. name ≡ bytes.now) }
         ensures taken { OnOk result (IsTrue (is_name bytes.now)) }
@@ -51,7 +51,7 @@ impl Name {
     /// A copy of the name.
     ///
     /// # Errors
-    /// `AllocError` only where there is no memory for it.
+    /// `AllocError` only if there is no memory for it.
     pub fn copy(&self, alloc: Global) -> Result<Name, AllocError>
         ensures same { IfOk result (λ name. name ≡ self.now) }
         ensures name { OnOk result (IsTrue (is_name self.now)) }

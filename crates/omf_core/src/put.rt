@@ -16,7 +16,7 @@ const LONGEST_BODY: usize = 65534;
 ///
 /// # Errors
 /// `TooLong` exactly where the body has more than 65534 bytes, which is tested first;
-/// `Memory` only where `out` can't grow, which it needn't where it has room for the record.
+/// `Memory` only if `out` can't grow, which it needn't where it has room for the record.
 /// After either, `out` holds the bytes that it held.
 pub fn put_record(_alloc: Global, kind: u8, body: &[u8], out: &mut Vec<u8>) -> Result<(), PutFault>
     ensures appended { OnOk result (out.new.items ≡ out.old.items ++ spelling kind body.now) }
@@ -72,7 +72,7 @@ pub fn never_too_long(appended: Result<(), PutFault>) -> Result<(), AllocError>
 /// Appends the two bytes of a word, the low one first.
 ///
 /// # Errors
-/// `AllocError` only where `out` can't grow.
+/// `AllocError` only if `out` can't grow.
 pub fn push_word(word: u16, out: &mut Vec<u8>) -> Result<(), AllocError>
     ensures { OnOk result (out.new.items ≡ out.old.items ++ word_bytes word) }
 {
@@ -82,7 +82,7 @@ pub fn push_word(word: u16, out: &mut Vec<u8>) -> Result<(), AllocError>
 /// Appends the length byte and the bytes of a name: 1 to 255 bytes, each 21h to 7Eh.
 ///
 /// # Errors
-/// `AllocError` only where `out` can't grow; the length byte may then stand there.
+/// `AllocError` only if `out` can't grow; the length byte may then stand there.
 pub fn push_name(name: &[u8], out: &mut Vec<u8>) -> Result<(), AllocError>
     requires { IsTrue (is_name name.now) }
     ensures { OnOk result (out.new.items ≡ out.old.items ++ name_spelling name.now) }

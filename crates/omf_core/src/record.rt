@@ -18,9 +18,9 @@ pub struct Record<'a> {
 ///
 /// # Errors
 /// The first of these that holds, each with the place `at`:
-/// `Truncated` where fewer than 3 bytes stand from `at` on, also where `at` is past the end;
-/// `ZeroLength` where the length word is 0; `Truncated` where fewer bytes follow than the length word counts;
-/// `BadSum` where the record's bytes don't sum to 0 modulo 256.
+/// `Truncated` if fewer than 3 bytes stand from `at` on, also if `at` is past the end;
+/// `ZeroLength` if the length word is 0; `Truncated` if fewer bytes follow than the length word counts;
+/// `BadSum` if the record's bytes don't sum to 0 modulo 256.
 ///
 /// It takes no memory: the body borrows from `bytes`.
 pub fn next_record<'a>(bytes: &'a [u8], at: usize) -> Result<(Record<'a>, usize), RecordFault>

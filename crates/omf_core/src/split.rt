@@ -4,7 +4,7 @@ ghost use Rattle.omf_core.specs.Name.{SpellsName, counted_bytes, holds_name};
 use crate::name::is_name;
 
 /// Splits off the name that stands in a record's body at place `at`: the name's bytes, and the place after them.
-/// `None` where no name stands there: `at` is past the end, the body ends before the name does,
+/// `None` if no name stands there: `at` is past the end, the body ends before the name does,
 /// the length byte is 0, or one of the bytes is outside 21h to 7Eh.
 ///
 /// It takes no memory: the name borrows from `body`.

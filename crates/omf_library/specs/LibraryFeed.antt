@@ -13,7 +13,7 @@ pub record LibraryFeedValue : Type 0 where
   pub bytes : List ℕ
   pub kept : Option LibraryFault
 
--- The fault is there whatever bytes follow, also where none do.
+-- The fault is there whatever bytes follow, also if none do.
 abbrev pub LastingLibraryFault : List ℕ → LibraryFault → Type 0
 LastingLibraryFault bytes fault = (more : List ℕ) → All (λ byte. byte < 256) more → FaultsLibrary (bytes ++ more) fault
 

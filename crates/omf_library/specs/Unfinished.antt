@@ -124,7 +124,7 @@ pub record LeadsNowhere (at said found kind : ℕ) (fault : LibraryFault) : Type
 abbrev pub truncated_at : ℕ → LibraryFault
 truncated_at at = InModule (fault_by at (cause.Record (Truncated at)))
 
--- the fault of bytes that end at a place or inside the record there: `none` where no byte stands there
+-- the fault of bytes that end at a place or inside the record there: `none` if no byte stands there
 pub record FaultsWhereCut (bytes : List ℕ) (at : ℕ) (none fault : LibraryFault) : Type 0 where
   pub no_byte : length bytes ≤ at → fault ≡ none
   pub no_record : at < length bytes → fault ≡ truncated_at at

@@ -45,7 +45,7 @@ impl LibraryFault {
         }
     }
 
-    /// The fault, or `None` where memory ran out.
+    /// The fault, or `None` if memory ran out.
     pub(crate) fn unless_memory(self) -> Option<LibraryFault>
         ensures memory { self ≡ LibraryFault.Memory → result ≡ None }
         ensures other { self ≢ LibraryFault.Memory → result ≡ Some self }

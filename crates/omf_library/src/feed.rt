@@ -58,7 +58,7 @@ impl LibraryFeed {
     /// A fault other than `Memory` exactly where [`read_library`](crate::read_library) gives it on all bytes so far, this piece's
     /// too, and on those followed by any others. It is kept, and answered to every later piece and by `finish`; the bytes are
     /// those before the piece.
-    /// `Memory` only where there is none; the feed is unchanged.
+    /// `Memory` only if there is none; the feed is unchanged.
     pub fn piece(&mut self, piece: &[u8]) -> Result<usize, LibraryFault>
         ensures kept { (fault : LibraryFaultValue) → self.old.kept ≡ Some fault
             → (result ≡ Err fault) × (self.new ≡ self.old) }

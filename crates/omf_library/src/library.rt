@@ -23,7 +23,7 @@ ghost use Rattle.std.specs.List.{list_any};
 ghost use Rattle.omf_library.specs.Providers.{declares, first_provider};
 
 impl Library {
-    /// The place in `modules` of the first module that declares the name public, or `None` where none does.
+    /// The place in `modules` of the first module that declares the name public, or `None` if none does.
     /// It takes no memory, and looks through the modules.
     pub fn provider(&self, name: &Name) -> Option<usize>
         ensures first { result ≡ first_provider self.now name.now }

@@ -31,7 +31,7 @@ impl<'a> Providers<'a> {
     /// The first providers of the names that these modules declare, by one entry a name.
     ///
     /// # Errors
-    /// `AllocError` only where there is no memory for the entries.
+    /// `AllocError` only if there is no memory for the entries.
     pub fn of(alloc: Global, modules: &[&'a Module]) -> Result<Providers<'a>, AllocError>
         ensures { IfOk result (AreProviders (map (λ m. m.now) modules.now)) }
     {
@@ -47,7 +47,7 @@ impl<'a> Providers<'a> {
         Ok(providers)
     }
 
-    /// The place of the first module of the list that declares the name of these bytes, or `None` where none does, as
+    /// The place of the first module of the list that declares the name of these bytes, or `None` if none does, as
     /// [`Library::provider`](crate::Library::provider) gives it for its modules. It takes no memory, and doesn't look through
     /// the modules.
     pub fn first(&self, name: &[u8]) -> Option<usize>

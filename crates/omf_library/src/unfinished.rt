@@ -62,7 +62,7 @@ fn is_index_kind(kind: u8) -> bool
         || kind == RecordKind::LibraryDictionary.byte()
 }
 
-/// How many modules the header of a library says there are, and the place after it, or `None` where it is cut off.
+/// How many modules the header of a library says there are, and the place after it, or `None` if it is cut off.
 fn read_header(bytes: &[u8]) -> Result<Option<(u16, usize)>, LibraryFault>
     ensures begins { IfOk result (λ header. IfSome header (λ r. BeginsLibrary bytes.now r.1 r.0)) }
     ensures cut_off { result ≡ Ok None → IsCutOff bytes.now 0 }
@@ -83,7 +83,7 @@ fn read_header(bytes: &[u8]) -> Result<Option<(u16, usize)>, LibraryFault>
     }
 }
 
-/// The type of the record that stands at a place, with the place after it, or `None` where it is cut off.
+/// The type of the record that stands at a place, with the place after it, or `None` if it is cut off.
 fn record_at(bytes: &[u8], at: usize) -> Result<Option<(u8, usize)>, LibraryFault>
     ensures record { IfOk result (λ next. IfSome next (RecordStands bytes.now at)) }
     ensures cut_off { result ≡ Ok None → IsCutOff bytes.now at }
@@ -98,7 +98,7 @@ fn record_at(bytes: &[u8], at: usize) -> Result<Option<(u8, usize)>, LibraryFaul
 }
 
 /// How far the record of this type leads that stands at a place outside the modules and is no module header that may stand there:
-/// to the place after it where it is one of the index, and to the end of a library of as many modules as were found.
+/// to the place after it if it is one of the index, and to the end of a library of as many modules as were found.
 fn after_record(
     kind: u8,
     at: usize,
@@ -181,7 +181,7 @@ fn read_module(
     }
 }
 
-/// Reads the next module, or the record that stands in its place. The answer is how far that leads, or `None` where more bytes
+/// Reads the next module, or the record that stands in its place. The answer is how far that leads, or `None` if more bytes
 /// are needed.
 fn read_after_modules(
     alloc: Global,
@@ -214,7 +214,7 @@ fn read_after_modules(
     }
 }
 
-/// Reads the record that stands at a place after index records. The answer is how far it leads, or `None` where it is cut off.
+/// Reads the record that stands at a place after index records. The answer is how far it leads, or `None` if it is cut off.
 fn read_after_index(
     bytes: &[u8],
     said: u16,
@@ -281,7 +281,7 @@ impl UnfinishedLibrary {
         Ok(Some(Progress::Modules(said)))
     }
 
-    /// Reads the next module, or the next record outside the modules. The answer is how far it leads, or `None` where more bytes
+    /// Reads the next module, or the next record outside the modules. The answer is how far it leads, or `None` if more bytes
     /// are needed or the library has ended.
     fn read_next(&mut self, alloc: Global, bytes: &[u8]) -> Result<Option<Progress>, LibraryFault>
         requires { ReadsLibrary bytes.now self.old }
@@ -349,7 +349,7 @@ impl UnfinishedLibrary {
         }
     }
 
-    /// The fault of a library of which no more bytes come, or `None` where it has ended.
+    /// The fault of a library of which no more bytes come, or `None` if it has ended.
     pub fn fault_at_end(&self, bytes: &[u8]) -> Option<LibraryFault>
         requires reads { ReadsLibrary bytes.now self.now }
         requires waits { WaitsLibrary bytes.now self.now }

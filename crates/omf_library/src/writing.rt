@@ -292,8 +292,8 @@ fn library_of(alloc: Global, modules: &[Module]) -> Result<Vec<u8>, LibraryPutFa
 /// words: its block of 128 bytes, and the byte in it. (8080 Object Module Formats, library file.)
 ///
 /// # Errors
-/// `TooLarge` only where there are more than 65535 modules, the body of an index record would have more than 65534 bytes, or
-/// the place of the index is in a block above 65535; the library is then never written. `Memory` only where there is none.
+/// `TooLarge` only if there are more than 65535 modules, the body of an index record would have more than 65534 bytes, or
+/// the place of the index is in a block above 65535; the library is then never written. `Memory` only if there is none.
 /// After either `out` is unchanged.
 pub fn write_library(
     alloc: Global,

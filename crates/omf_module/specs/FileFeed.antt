@@ -22,7 +22,7 @@ pub record CountsModules (bytes : List ℕ) (count : ℕ) : Type 0 where
   pub last : (after : ℕ) (next : ModuleValue) → SpellsModule bytes to after next → ⊥
   pub counted : count ≡ length modules
 
--- The file has this fault whatever bytes follow, also where none do.
+-- The file has this fault whatever bytes follow, also if none do.
 abbrev pub LastingFileFault : List ℕ → ModuleFault → Type 0
 LastingFileFault bytes fault = (more : List ℕ) → All (λ byte. byte < 256) more → FaultsFile (bytes ++ more) fault
 

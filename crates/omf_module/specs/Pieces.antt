@@ -11,7 +11,7 @@ use Rattle.omf_module.specs.declared.module_file.PlacedBody.{PlacedBody}
 use Rattle.omf_module.specs.Records.{SpellsBody, SpellsBodies, commons_of, each_follows, ModuleRecords, SpellsModuleRecords}
 use Rattle.omf_module.specs.Spelled.{FaultsModule}
 
--- The module at a place has this fault whatever bytes follow, also where none do.
+-- The module at a place has this fault whatever bytes follow, also if none do.
 abbrev pub LastingModuleFault : List ℕ → ℕ → ModuleFault → Type 0
 LastingModuleFault bytes at fault = (more : List ℕ) → All (λ byte. byte < 256) more → FaultsModule (bytes ++ more) at fault
 

@@ -9,7 +9,7 @@ use Rattle.omf_module.specs.Records.{ModuleRecords, SpellsModuleRecords, commons
 use Rattle.omf_module.specs.Gathered.{begins_content, parts_of}
 use Rattle.omf_module.specs.Uses.{ids_in, is_reference, use_fault}
 
--- the segments that a record speaks of are there, also where it has no entries
+-- the segments that a record speaks of are there, also if it has no entries
 abbrev pub has_its_segments : List Common → PlacedBody → Bool
 has_its_segments commons p = list_all (has_segment commons) (ids_in p.body)
 

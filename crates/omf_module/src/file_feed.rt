@@ -85,7 +85,7 @@ impl FileFeed {
     /// # Errors
     /// The fault of [`read_file`](crate::read_file) exactly where all bytes so far, this piece's too, have it whatever bytes
     /// follow. It is kept, and answered to every later piece; the bytes are those before the piece.
-    /// `Memory` at place 0, only where there is none: the feed is unchanged, and the fault isn't kept.
+    /// `Memory` at place 0, only if there is none: the feed is unchanged, and the fault isn't kept.
     pub fn piece(&mut self, piece: &[u8]) -> Result<usize, ModuleFault>
         ensures kept { (fault : ModuleFaultValue) → self.old.kept ≡ Some fault → (result ≡ Err fault) × (self.new ≡ self.old) }
         ensures taken { OnOk result (self.new ≡ record { bytes = self.old.bytes ++ piece.now; kept = None }) }
@@ -125,8 +125,8 @@ impl FileFeed {
     /// The modules of the file whose pieces were taken: what [`read_file`](crate::read_file) gives of all bytes.
     ///
     /// # Errors
-    /// The fault that is kept; else the first fault of the bytes as they stand: also `NoHeader` where there are none, `NoEnd`
-    /// and `Record` where they end too early. `Memory` at place 0, only where there is none. Either hands nothing back.
+    /// The fault that is kept; else the first fault of the bytes as they stand: also `NoHeader` if there are none, `NoEnd`
+    /// and `Record` if they end too early. `Memory` at place 0, only if there is none. Either hands nothing back.
     pub fn finish(self) -> Result<Vec<Module>, ModuleFault>
         ensures kept { (fault : ModuleFaultValue) → self.kept ≡ Some fault → result ≡ Err fault }
         ensures read { self.kept ≡ None → IfOk result (λ modules. SpellsFile self.bytes modules.items) }
@@ -236,7 +236,7 @@ fn read_one(alloc: Global, bytes: &[u8], read: &mut Progress) -> Result<bool, Mo
     Ok(true)
 }
 
-/// Whether the file ends where the next module should begin. A record is read only where none of that module is.
+/// Whether the file ends where the next module should begin. A record is read only if none of that module is.
 fn ends_here(bytes: &[u8], read: &Progress) -> bool
     requires { ReadsModule bytes.now read.now.unfinished.begin read.now.unfinished.here read.now.unfinished.commons.items }
     ensures ends { IsTrue result → EndsAfter bytes.now read.now.unfinished.begin read.now.modules.items }

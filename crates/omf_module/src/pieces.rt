@@ -27,7 +27,7 @@ pub struct UnfinishedModule {
     pub commons: Vec<Common>,
 }
 
-/// The place after the header of the module that begins at a place, or `None` where the header is cut off. It takes no memory.
+/// The place after the header of the module that begins at a place, or `None` if the header is cut off. It takes no memory.
 fn after_header(bytes: &[u8], begin: usize) -> Result<Option<usize>, ModuleFault>
     ensures begun { IfOk result (λ after. IfSome after (λ first. BegunModule bytes.now begin first [])) }
     ensures waits { result ≡ Ok None → IsCutOff bytes.now begin }
@@ -45,7 +45,7 @@ fn after_header(bytes: &[u8], begin: usize) -> Result<Option<usize>, ModuleFault
 }
 
 /// Checks the records of a module from a place on, as far as the bytes go. The answer is the place of the record that is cut
-/// off, or `None` where the module's end stands.
+/// off, or `None` if the module's end stands.
 fn walk_on(
     alloc: Global,
     bytes: &[u8],
@@ -75,7 +75,7 @@ fn walk_on(
     Ok(Some(here))
 }
 
-/// The place from which the records of an unfinished module are to be checked, or `None` where its header is cut off. It takes
+/// The place from which the records of an unfinished module are to be checked, or `None` if its header is cut off. It takes
 /// no memory.
 fn unchecked_from(bytes: &[u8], unfinished: &UnfinishedModule) -> Result<Option<usize>, ModuleFault>
     requires { ReadsModule bytes.now unfinished.now.begin unfinished.now.here unfinished.now.commons.items }
@@ -91,7 +91,7 @@ fn unchecked_from(bytes: &[u8], unfinished: &UnfinishedModule) -> Result<Option<
     after_header(bytes, unfinished.begin)
 }
 
-/// The module that is unfinished, with the place after its end, or `None` where more bytes are needed. Its records are checked
+/// The module that is unfinished, with the place after its end, or `None` if more bytes are needed. Its records are checked
 /// once, whatever the pieces in which the bytes come, and read again where the end stands.
 pub fn next_module(
     alloc: Global,
@@ -107,7 +107,7 @@ pub fn next_module(
     ensures waits { result ≡ Ok None → WaitsModule bytes.now unfinished.old.begin }
     ensures cut_off { result ≡ Ok None → IsCutOff bytes.now unfinished.new.here }
 
-    // A fault lasts whatever bytes follow; where more bytes are needed, none does.
+    // A fault lasts whatever bytes follow; if more bytes are needed, none does.
     ensures fault { IfErr result (OrNoMemory (LastingModuleFault bytes.now unfinished.old.begin)) }
     ensures none_lasts { result ≡ Ok None → (fault : ModuleFaultValue) → LastingModuleFault bytes.now unfinished.old.begin fault
         → ⊥ }

@@ -120,10 +120,10 @@ pub(crate) fn module_at(
 
 /// The module that begins at place `at` of an object file, and the place after its end record.
 ///
-/// All records up to the end are looked at first, by place, and within a record by its fields in order: `Record` where the
-/// bytes are no record; `NoHeader` where no byte stands at `at`, or a record that isn't a module header; `UnknownKind` of a
-/// record that may not stand in a module; `BadBody` where a body ends inside a field, a field has no listed value, or an id
-/// or a common's name is listed twice; `BadName` of a name that is empty or has other bytes than 21h to 7Eh; `NoEnd` where no
+/// All records up to the end are looked at first, by place, and within a record by its fields in order: `Record` if the
+/// bytes are no record; `NoHeader` if no byte stands at `at`, or a record that isn't a module header; `UnknownKind` of a
+/// record that may not stand in a module; `BadBody` if a body ends inside a field, a field has no listed value, or an id
+/// or a common's name is listed twice; `BadName` of a name that is empty or has other bytes than 21h to 7Eh; `NoEnd` if no
 /// byte stands where a record should, or an end-of-file record. Only then what they use is looked at, and the first of
 /// `SegmentUnknown`, `OffsetOutside`, `FixupBeforeContent`, `FixupOutside`, `FixupTwice` and `IndexUnknown` is given, by entries
 /// in order, and for one entry in this order.
@@ -137,7 +137,7 @@ pub(crate) fn module_at(
 /// ```
 ///
 /// # Errors
-/// The first fault, at the place of its record; or `Memory` at place 0, only where there is none: not before the module's
+/// The first fault, at the place of its record; or `Memory` at place 0, only if there is none: not before the module's
 /// header is read, so that bytes where no module begins are reported in any case.
 pub fn read_module(alloc: Global, bytes: &[u8], at: usize) -> Result<(Module, usize), ModuleFault>
     // What is read is what the bytes spell, and nothing that they spell is refused or read as another.
@@ -160,8 +160,8 @@ pub fn read_module(alloc: Global, bytes: &[u8], at: usize) -> Result<(Module, us
 /// looked at. A file that comes in pieces is read by a [`FileFeed`]. (8080 Object Module Formats, object file.)
 ///
 /// # Errors
-/// The first fault of the modules as they stand, as [`read_module`] gives it; `NoEnd` where no byte stands after a module;
-/// `Record` where the bytes there are no record. `Memory` at place 0, only where there is none.
+/// The first fault of the modules as they stand, as [`read_module`] gives it; `NoEnd` if no byte stands after a module;
+/// `Record` if the bytes there are no record. `Memory` at place 0, only if there is none.
 pub fn read_file(alloc: Global, bytes: &[u8]) -> Result<Vec<Module>, ModuleFault>
     ensures read { IfOk result (λ modules. SpellsFile bytes.now modules.items) }
     ensures every_file { (ms : List ModuleValue) → SpellsFile bytes.now ms → (IsOk result) ⊎ (result ≡ Err no_memory) }

@@ -157,7 +157,7 @@ fn append_contents(alloc: Global, contents: &[Content], out: &mut Vec<u8>) -> Re
     Ok(())
 }
 
-/// Appends the records of the module; where memory runs out, some of them.
+/// Appends the records of the module; if memory runs out, some of them.
 fn append_module(alloc: Global, source: &Module, out: &mut Vec<u8>) -> Result<(), AllocError>
     ensures written { OnOk result (out.new.items ≡ out.old.items ++ module_bytes source.now) }
     ensures rules { OnOk result (IsModule source.now) }
@@ -176,7 +176,7 @@ fn append_module(alloc: Global, source: &Module, out: &mut Vec<u8>) -> Result<()
 /// fixups, and an end. (8080 Object Module Formats, module.)
 ///
 /// # Errors
-/// `AllocError` only where there is no memory; `out` is then unchanged.
+/// `AllocError` only if there is no memory; `out` is then unchanged.
 pub fn write_module(alloc: Global, source: &Module, out: &mut Vec<u8>) -> Result<(), AllocError>
     ensures written { OnOk result (out.new.items ≡ out.old.items ++ module_bytes source.now) }
     ensures read { OnOk result (IsReadAgain source.now) }
@@ -207,7 +207,7 @@ fn file_of(alloc: Global, modules: &[Module]) -> Result<Vec<u8>, AllocError>
 /// [`write_module`] writes them, and after them all an end-of-file record. (8080 Object Module Formats, object file.)
 ///
 /// # Errors
-/// `AllocError` only where there is no memory; `out` is then unchanged.
+/// `AllocError` only if there is no memory; `out` is then unchanged.
 pub fn write_file(alloc: Global, modules: &[Module], out: &mut Vec<u8>) -> Result<(), AllocError>
     requires { 0 < length modules.now }
     ensures written { OnOk result (out.new.items ≡ out.old.items ++ file_bytes modules.now) }

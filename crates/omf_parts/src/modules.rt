@@ -69,7 +69,7 @@ impl Module {
     /// `commons`, or a common's name twice; a common's id is outside 6 to 254; a content is in STACK, passes the end of its
     /// segment (of absolute bytes: 65536) or has more than 65531 bytes; a fixup's bytes aren't all in its content, or
     /// one of them is another fixup's; an external index isn't below the number of externals.
-    /// `Memory` only where there is none, and the parts keep all rules but perhaps those of fixups. Either hands the parts
+    /// `Memory` only if there is none, and the parts keep all rules but perhaps those of fixups. Either hands the parts
     /// back.
     pub fn from_parts(alloc: Global, parts: Parts) -> Result<Module, (Parts, PartsFault)>
         ensures made { IfOk result (λ m. m ≡ made_of parts) }
@@ -124,7 +124,7 @@ impl Module {
     /// A copy of the module.
     ///
     /// # Errors
-    /// `AllocError` only where there is no memory for it.
+    /// `AllocError` only if there is no memory for it.
     pub fn copy(&self, alloc: Global) -> Result<Module, AllocError>
         ensures { IfOk result (λ m. m ≡ self.now) }
     {
@@ -152,7 +152,7 @@ impl Module {
         &self.name
     }
 
-    /// The segment of this id, or `None` where the module has none. The absolute segment has length 0.
+    /// The segment of this id, or `None` if the module has none. The absolute segment has length 0.
     pub fn segment(&self, id: u8) -> Option<Segment>
         ensures { result ≡ segment_of self.now id }
     {

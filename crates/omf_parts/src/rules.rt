@@ -31,7 +31,7 @@ pub fn has_segment(commons: &[Common], id: u8) -> bool
     id <= MEMORY || id == UNNAMED_COMMON || has_common_id(commons, id)
 }
 
-/// The listed segment of this id, and an empty one where none is listed.
+/// The listed segment of this id, and an empty one if none is listed.
 pub(crate) fn segment_in(entries: &[(u8, Segment)], id: u8) -> Segment
     ensures { result ≡ segment_in entries.now id }
 {

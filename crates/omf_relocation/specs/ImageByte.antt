@@ -74,7 +74,7 @@ chunks_of bases modules = flat_map (λ m. map (chunk_of bases modules m) m.1.con
 abbrev pub distance : (place address : ℕ) → ℕ
 distance place address = (address + 65536 - place % 65536) % 65536
 
--- the byte at an address: that of the last chunk that covers it, and 0 where none does
+-- the byte at an address: that of the last chunk that covers it, and 0 if none does
 abbrev pub chunk_covers : ℕ → ByteChunk → Bool
 chunk_covers address c = nat_lt address 65536 && nat_lt (distance c.place address) (length c.bytes)
 

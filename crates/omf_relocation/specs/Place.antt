@@ -19,7 +19,7 @@ pub record Bases : Type 0 where
   pub top : ℕ
   pub words : List (List ℕ × ℕ)
 
--- the word beside a name, 0 where the name isn't listed
+-- the word beside a name, 0 if the name isn't listed
 abbrev pub word_of : List (List ℕ × ℕ) → List ℕ → ℕ
 word_of words name = option_map_or (λ w. w.1) (find (λ w. pointwise nat_eq w.0 name) words) 0
 

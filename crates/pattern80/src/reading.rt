@@ -20,7 +20,7 @@ use std::alloc::{AllocError, Global};
 /// the byte is the later one's.
 ///
 /// # Errors
-/// `AllocError` only where memory ran out.
+/// `AllocError` only if memory ran out.
 pub fn code_bytes(alloc: Global, source: &Module) -> Result<Vec<CodeByte>, AllocError>
     ensures bytes { IfOk result (λ bytes. bytes.items ≡ code_bytes source.now) }
     ensures short { OnOk result (code_length source.now ≤ 65535) }

@@ -44,7 +44,7 @@ abbrev pub own_segment : ModuleValue → ℕ → Segment
 own_segment m id = unwrap_or (segment_of m id) empty_segment
 
 -- The segment of this id after one that ends at `before`: at the base that is given, or else there, at the next multiple of
--- 256 where it is paged.
+-- 256 if it is paged.
 abbrev pub placed_after : Options → ModuleValue → (before id : ℕ) → Placed
 placed_after options m before id = record {
   id = id;

@@ -19,7 +19,7 @@ use std::alloc::{AllocError, Global};
 /// as the same image, but for its regions, which an object file doesn't hold. (8080 Object Module Formats, absolute segment.)
 ///
 /// # Errors
-/// `AllocError` only where memory ran out; `out` is then unchanged.
+/// `AllocError` only if memory ran out; `out` is then unchanged.
 pub fn write_image(alloc: Global, image: &Image, out: &mut Vec<u8>) -> Result<(), AllocError>
     ensures written { OnOk result (out.new.items ≡ out.old.items ++ image_bytes image.now) }
     ensures read { OnOk result (SpellsImage (image_bytes image.now) (without_regions image.now)) }
@@ -90,8 +90,8 @@ fn content_of(alloc: Global, chunk: &Chunk) -> Result<Content, AllocError>
 /// segments of its header aren't looked at.
 ///
 /// # Errors
-/// The first of: `Module` where the bytes are no object file, `NotOneModule`, `NotAbsolute`, `NoStart`; or `Memory`, only
-/// where memory ran out. Either hands the regions back.
+/// The first of: `Module` if the bytes are no object file, `NotOneModule`, `NotAbsolute`, `NoStart`; or `Memory`, only
+/// if memory ran out. Either hands the regions back.
 pub fn read_image(
     alloc: Global,
     bytes: &[u8],

@@ -23,11 +23,11 @@ const DEFAULT_BASE: u32 = 0x3000;
 /// The places of the program's segments.
 ///
 /// A segment with a given base stands there. Any other stands at the end of the one before it, CODE at 3000h, at the next
-/// multiple of 256 where it is paged. A given size of STACK or MEMORY replaces its length. Empty segments take their place
+/// multiple of 256 if it is paged. A given size of STACK or MEMORY replaces its length. Empty segments take their place
 /// like others and overlap nothing. (ISIS-II User's Guide, LOCATE.)
 ///
 /// # Errors
-/// The first that holds of `OutsideMemory` and `Overlap`; `Memory` only where memory ran out.
+/// The first that holds of `OutsideMemory` and `Overlap`; `Memory` only if memory ran out.
 pub fn layout(alloc: Global, program: &Module, options: &Options) -> Result<Layout, PlaceFault>
     ensures places { IfOk result (λ layout. layout.segments.items ≡ layout_of options.now program.now) }
     ensures lengths { IfOk result (λ layout. AllByRecursion (λ p. p.length < 65536) layout.segments.items) }

@@ -57,7 +57,7 @@ fn is_data(id: u8) -> bool
     !(id == CODE || id == STACK)
 }
 
-/// Appends the range, where it isn't empty.
+/// Appends the range, if it isn't empty.
 fn push_filled(ranges: &mut Vec<Range>, range: Range) -> Result<(), AllocError>
     ensures { OnOk result (ranges.new.items ≡ ranges.old.items ++ filled (range ∷ [])) }
 {

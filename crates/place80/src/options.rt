@@ -4,7 +4,7 @@ use omf_body::segment_id::{CODE, DATA, MEMORY, STACK, UNNAMED_COMMON};
 /// (ISIS-II User's Guide, LOCATE: the controls CODE, STACK, DATA, MEMORY and STACKSIZE; the others are this project's.)
 #[derive(Clone, Copy, Debug, Default, PartialEq, Eq)]
 pub struct Options {
-    /// The base of CODE; 3000h where there is none.
+    /// The base of CODE; 3000h if there is none.
     pub code: Option<u16>,
     /// The base of STACK, its lowest address.
     pub stack: Option<u16>,

@@ -50,7 +50,7 @@ pub(crate) fn first_over_absolute(contents: &[Content], segments: &[Placed]) -> 
     None
 }
 
-/// The first segment that shares an address with the content, where this is absolute.
+/// The first segment that shares an address with the content, if this is absolute.
 fn first_over_content(content: &Content, segments: &[Placed]) -> Option<u8>
     ensures { result ≡ (if content.now.segment == 0 then first_over (absolute_place content.now) segments.now else None) }
 {

@@ -18,7 +18,7 @@ pub struct Layout {
     pub segments: Vec<Placed>,
 }
 
-/// The segment of this id, and one of no bytes at 0 where there is none.
+/// The segment of this id, and one of no bytes at 0 if there is none.
 pub(crate) fn placed_in(segments: &[Placed], id: u8) -> Placed
     ensures { result ≡ placed_in segments.now id }
 {

@@ -53,7 +53,7 @@ fn a_refused_growth_leaves_the_text_as_it_was(rt: HostRuntime) {
     }
 }
 
-/// A text comes after what stands there, also where the vector has no room for it.
+/// A text comes after what stands there, also if the vector has no room for it.
 #[test]
 fn a_text_after_others(rt: HostRuntime) -> Result<(), Fail> {
     let mut out = b"3000 ".to_vec(rt.alloc())?;

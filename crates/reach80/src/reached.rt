@@ -62,7 +62,7 @@ impl Reached {
 /// ```
 ///
 /// # Errors
-/// `AllocError` where memory runs out.
+/// `AllocError` if memory runs out.
 pub fn find_reached(alloc: Global, vouched: &Vouched) -> Result<Reached, AllocError>
     ensures { IfOk result (AreReached (code_of vouched.now.image)) }
 {

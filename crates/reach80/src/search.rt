@@ -25,7 +25,7 @@ impl Search {
     /// Nothing is found.
     ///
     /// # Errors
-    /// `AllocError` where memory runs out.
+    /// `AllocError` if memory runs out.
     fn new(alloc: Global) -> Result<Search, AllocError>
         ensures found { IfOk result (λ search. search.found.items ≡ replicate 65536 None) }
         ensures queue { IfOk result (λ search. search.queue.items ≡ []) }
@@ -43,7 +43,7 @@ impl Search {
     /// Finds what is at an address that is reached, unless it is known.
     ///
     /// # Errors
-    /// `AllocError` where memory runs out.
+    /// `AllocError` if memory runs out.
     fn enter(&mut self, code: &ImageCode, at: u16) -> Result<(), AllocError>
         requires sound { NoFault (code_of code.now) }
         requires search { IsSearch (code_of code.now) self.old.found.items self.old.queue.items }
@@ -66,7 +66,7 @@ impl Search {
     /// Finds what is at each of these addresses.
     ///
     /// # Errors
-    /// `AllocError` where memory runs out.
+    /// `AllocError` if memory runs out.
     fn enter_all(&mut self, code: &ImageCode, addresses: &[u16]) -> Result<(), AllocError>
         requires sound { NoFault (code_of code.now) }
         requires search { IsSearch (code_of code.now) self.old.found.items self.old.queue.items }
@@ -84,7 +84,7 @@ impl Search {
     /// Enters where the instruction at a known address leads.
     ///
     /// # Errors
-    /// `AllocError` where memory runs out.
+    /// `AllocError` if memory runs out.
     fn follow(&mut self, code: &ImageCode, rows: &[ProcRow], at: u16) -> Result<(), AllocError>
         requires sound { NoFault (code_of code.now) }
         requires by_entry { AllPairs (λ a b. a.entry < b.entry) rows.now }
@@ -113,7 +113,7 @@ impl Search {
     /// Follows each address in the queue, and those that this adds.
     ///
     /// # Errors
-    /// `AllocError` where memory runs out.
+    /// `AllocError` if memory runs out.
     fn follow_all(&mut self, code: &ImageCode, rows: &[ProcRow]) -> Result<(), AllocError>
         requires sound { NoFault (code_of code.now) }
         requires by_entry { AllPairs (λ a b. a.entry < b.entry) rows.now }
@@ -137,7 +137,7 @@ impl Search {
 /// Finds what is at each address that a walk comes to.
 ///
 /// # Errors
-/// `AllocError` where memory runs out.
+/// `AllocError` if memory runs out.
 pub(crate) fn explore(
     alloc: Global,
     code: &ImageCode,

@@ -7,7 +7,7 @@ use Rattle.std.specs.Option.{option_map_or}
 use Rattle.decode80.specs.Text.{word_text}
 use Rattle.image80.specs.Image.{PlacedBytes, covers, byte_of, last_over}
 
--- the byte at an address: that of the last chunk that covers it, and `fill` where none does
+-- the byte at an address: that of the last chunk that covers it, and `fill` if none does
 abbrev pub byte_or : (fill : ℕ) → List PlacedBytes → (address : ℕ) → ℕ
 byte_or fill chunks address = option_map_or (λ chunk. byte_of chunk address) (last_over chunks address) fill
 
@@ -24,7 +24,7 @@ bytes_over fill chunks first length = map (byte_or fill chunks) (range_with_len 
 abbrev pub sum_line : List ℕ → List ℕ
 sum_line bytes = codes "SUM " ++ (word_text (sum bytes % 65536) ++ 10 ∷ [])
 
--- one chunk of these bytes, where there are any
+-- one chunk of these bytes, if there are any
 abbrev pub chunks_at : ℕ → List ℕ → List PlacedBytes
 chunks_at address [] = []
 chunks_at address (byte ∷ bytes) = record { address = address; bytes = byte ∷ bytes } ∷ []

@@ -35,7 +35,7 @@ const SHOWN: usize = 8;
 /// dump, and then one such as `SAME 2046 OF 2048`.
 ///
 /// # Errors
-/// `EmptyFile` exactly where the dump has no bytes, `PastMemory` exactly where it goes past FFFF; `Memory` only where memory ran
+/// `EmptyFile` exactly where the dump has no bytes, `PastMemory` exactly where it goes past FFFF; `Memory` only if memory ran
 /// out.
 pub fn compare(
     alloc: Global,

@@ -39,11 +39,11 @@ impl Dumps {
     }
 
     /// Adds a dump whose first byte stands at the address `first`: its bytes are the memory's there, and every other byte is as
-    /// before. It is kept in a chunk of its first 65531 bytes and, where there are more, another one of the others.
+    /// before. It is kept in a chunk of its first 65531 bytes and, if there are more, another one of the others.
     ///
     /// # Errors
-    /// `EmptyFile` exactly where there are no bytes, `PastMemory` where they go past FFFF, and otherwise `DumpsOverlap` exactly
-    /// where an address is one of an earlier dump and of this one; `Memory` only where memory ran out. Nothing is added then.
+    /// `EmptyFile` exactly where there are no bytes, `PastMemory` if they go past FFFF, and otherwise `DumpsOverlap` exactly
+    /// where an address is one of an earlier dump and of this one; `Memory` only if memory ran out. Nothing is added then.
     pub fn add(&mut self, alloc: Global, first: u16, bytes: &[u8]) -> Result<(), RomFault>
         ensures added { OnOk result (self.new ≡ self.old ++ chunks_of first bytes.now) }
         ensures memory { OnOk result ((address : ℕ) → byte_at self.new address ≡ byte_among first bytes.now (byte_at self.old address) address) }

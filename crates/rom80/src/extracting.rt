@@ -11,11 +11,11 @@ use image80::Image;
 use std::alloc::{AllocError, Global};
 
 /// The `length` bytes of the image's memory from the address `first` on: at each address that of the last chunk that covers it,
-/// and `fill` where none does, as in an erased PROM. The time grows with the number of the chunks' bytes, and not with that of
+/// and `fill` if none does, as in an erased PROM. The time grows with the number of the chunks' bytes, and not with that of
 /// the chunks.
 ///
 /// # Errors
-/// `PastMemory` exactly where the range goes past FFFF; `Memory` only where memory ran out.
+/// `PastMemory` exactly where the range goes past FFFF; `Memory` only if memory ran out.
 pub fn bytes_over(
     alloc: Global,
     image: &Image,
@@ -37,7 +37,7 @@ pub fn bytes_over(
 /// The line with the sum of the bytes modulo 65536, such as `SUM 1A2B`: what stands on the sticker of an EPROM.
 ///
 /// # Errors
-/// `AllocError` only where memory ran out.
+/// `AllocError` only if memory ran out.
 pub fn sum_text(alloc: Global, bytes: &[u8]) -> Result<Vec<u8>, AllocError>
     ensures { IfOk result (λ text. text.items ≡ sum_line bytes.now) }
 {

@@ -1,4 +1,4 @@
-//! The memory of chunks in one piece, with a byte where none covers it.
+//! The memory of chunks in one piece, with a byte if none covers it.
 
 ghost use Rattle.std.specs.Prelude.{◌≡◌, ℕ, length, slice_index, ◌<◌, IfOk};
 ghost use Rattle.image80.specs.Placing.{Holds};
@@ -7,7 +7,7 @@ ghost use Rattle.rom80.specs.Rom.{byte_or, IsFilled};
 use image80::Chunk;
 use std::alloc::{AllocError, Global};
 
-/// The memory of the chunks: 65536 bytes by address, each that of the last chunk over it, and `fill` where there is none. The
+/// The memory of the chunks: 65536 bytes by address, each that of the last chunk over it, and `fill` if there is none. The
 /// time grows with the number of the chunks' bytes, and not with that of the chunks.
 pub(crate) fn memory_of(alloc: Global, chunks: &[Chunk], fill: u8) -> Result<Vec<u8>, AllocError>
     ensures bytes { IfOk result (λ memory. (address : ℕ) → address < 65536 → slice_index memory.items address ≡ byte_or fill chunks.now address) }

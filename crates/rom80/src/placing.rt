@@ -38,7 +38,7 @@ pub(crate) fn chunks_of(alloc: Global, first: u16, bytes: &[u8]) -> Result<Vec<C
     Ok(chunks)
 }
 
-/// Appends a chunk of the bytes at an address, and none where there are no bytes.
+/// Appends a chunk of the bytes at an address, and none if there are no bytes.
 fn push_chunk(
     alloc: Global,
     chunks: &mut Vec<Chunk>,

@@ -33,7 +33,7 @@ impl Search {
         Ok(search)
     }
 
-    /// Marks a module, and puts it last in the queue, where it isn't marked yet.
+    /// Marks a module, and puts it last in the queue, if it isn't marked yet.
     fn mark(&mut self, number: usize) -> Result<(), AllocError>
         requires { number < length self.old.marked.items }
         ensures { OnOk result (MarksIn (number ∷ []) self.old self.new) }
@@ -128,7 +128,7 @@ fn with_mark(alloc: Global, places: &[Chosen], marked: &[bool]) -> Result<Vec<Ch
 /// (ISIS-II User's Guide, LINK.)
 ///
 /// # Errors
-/// `AllocError` only where memory runs out.
+/// `AllocError` only if memory runs out.
 pub fn select(
     alloc: Global,
     roots: &[Module],

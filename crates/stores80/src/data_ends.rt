@@ -13,7 +13,7 @@ use std::alloc::{AllocError, Global};
 /// For each address the first one from there on that is not data, 65,536 if there is none.
 ///
 /// # Errors
-/// `AllocError` where memory runs out.
+/// `AllocError` if memory runs out.
 pub(crate) fn data_ends(alloc: Global, regions: &Regions) -> Result<Vec<u32>, AllocError>
     ensures { IfOk result (λ ends. AreDataEnds regions.now ends.items) }
 {

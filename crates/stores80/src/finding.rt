@@ -28,7 +28,7 @@ use widening80::{Flow, propose};
 
 /// Goes over a vouched image, and answers where its register-indirect stores may go.
 ///
-/// On a board, where nothing stops a store outside data, this is what the promise of [`loader80::vouch`] still needs: whatever
+/// On a board, if nothing stops a store outside data, this is what the promise of [`loader80::vouch`] still needs: whatever
 /// bytes are in the registers, in memory outside the code and at the ports, if only SP is at the stack's top before the first
 /// step, each store of an address that isn't listed as open goes to data, and each that is goes to an address of its span. So a
 /// run ends at a store only if that is listed, and at a PCHL outside its targets only at one of the listed ones. A board goes on
@@ -45,7 +45,7 @@ use widening80::{Flow, propose};
 /// ```
 ///
 /// # Errors
-/// `AllocError` only where memory runs out.
+/// `AllocError` only if memory runs out.
 pub fn find_stores(alloc: Global, vouched: &Vouched) -> Result<Stores, AllocError>
     ensures listed { IfOk result (λ stores.
         AreStoresOf vouched.now.image stores.addresses.items stores.open.items stores.jumps.items) }
@@ -71,7 +71,7 @@ pub fn find_stores(alloc: Global, vouched: &Vouched) -> Result<Stores, AllocErro
 /// An image's memory holds bytes. (It carries this fact alone.)
 ///
 /// # Errors
-/// `AllocError` where memory runs out.
+/// `AllocError` if memory runs out.
 fn holds_bytes(alloc: Global, image: &Image) -> Result<(), AllocError>
     ensures { IfOk result (λ made. HasBytes (memory_of image.now.chunks)) }
 {
@@ -99,7 +99,7 @@ fn runs_of(vouched: &Vouched)
 /// What the pairs may be at each address, in all runs.
 ///
 /// # Errors
-/// `AllocError` where memory runs out.
+/// `AllocError` if memory runs out.
 fn pairs_of(
     alloc: Global,
     image: &Image,

@@ -13,7 +13,7 @@ use std::alloc::{AllocError, Global};
 /// have; and each PCHL, such as `JUMP 0065`.
 ///
 /// # Errors
-/// `AllocError` only where memory runs out.
+/// `AllocError` only if memory runs out.
 pub fn stores_text(alloc: Global, stores: &Stores) -> Result<Vec<u8>, AllocError>
     ensures { IfOk result (λ text.
         text.items ≡ stores_text_of stores.now.addresses.items stores.now.open.items stores.now.jumps.items) }

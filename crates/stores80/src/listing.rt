@@ -41,7 +41,7 @@ impl Kind {
 /// The addresses of the instructions of a kind.
 ///
 /// # Errors
-/// `AllocError` where memory runs out.
+/// `AllocError` if memory runs out.
 pub(crate) fn addresses_of(
     alloc: Global,
     kind: Kind,
@@ -73,7 +73,7 @@ fn is_kind_at(kind: Kind, reached: &[Option<Fetched>], at: usize) -> bool
 /// The stores that aren't shown to stay in data, given what the pairs may be at each address.
 ///
 /// # Errors
-/// `AllocError` where memory runs out.
+/// `AllocError` if memory runs out.
 pub(crate) fn open_stores(
     alloc: Global,
     regions: &Regions,

@@ -24,7 +24,7 @@ pub(crate) const NO_STACK: Range = Range {
 /// The regions of what is found of an image, with these cases, and with a stack of so many bytes, if as many are free.
 ///
 /// # Errors
-/// `AllocError` only where memory runs out.
+/// `AllocError` only if memory runs out.
 pub(crate) fn arrange(
     alloc: Global,
     survey: &Survey,

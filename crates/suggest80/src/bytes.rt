@@ -15,7 +15,7 @@ const ADDRESSES: usize = 65_536;
 /// For each address whether one of the chunks has a byte there.
 ///
 /// # Errors
-/// `AllocError` only where memory runs out.
+/// `AllocError` only if memory runs out.
 pub(crate) fn find_bytes(alloc: Global, chunks: &[Chunk]) -> Result<Vec<bool>, AllocError>
     ensures { IfOk result (λ marks. AreMarks (has_byte chunks.now) 65536 marks.items) }
 {
@@ -44,7 +44,7 @@ fn mark_span(marks: &mut Vec<bool>, first: u16, count: usize)
 /// For each address whether it may be code: it is marked as one of the image's, and in a range of the ROM, if such ranges are given.
 ///
 /// # Errors
-/// `AllocError` only where memory runs out.
+/// `AllocError` only if memory runs out.
 pub(crate) fn find_room(
     alloc: Global,
     bytes: &[bool],

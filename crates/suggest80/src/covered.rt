@@ -11,7 +11,7 @@ use verify80::ImageCode;
 /// For each address whether it is in an instruction at a marked address.
 ///
 /// # Errors
-/// `AllocError` only where memory runs out.
+/// `AllocError` only if memory runs out.
 pub(crate) fn find_covered(
     alloc: Global,
     code: &ImageCode<'_>,

@@ -12,7 +12,7 @@ use verify80::ImageCode;
 /// For each address whether STA, LDA, SHLD or LHLD at a marked address names it.
 ///
 /// # Errors
-/// `AllocError` only where memory runs out.
+/// `AllocError` only if memory runs out.
 pub(crate) fn find_named(
     alloc: Global,
     code: &ImageCode<'_>,

@@ -9,7 +9,7 @@ use std::alloc::{AllocError, Global};
 /// The ranges of the marked addresses, by address; ranges that touch are one, up to 65,535 addresses.
 ///
 /// # Errors
-/// `AllocError` only where memory runs out.
+/// `AllocError` only if memory runs out.
 pub(crate) fn ranges_of(alloc: Global, marks: &[bool]) -> Result<Vec<Range>, AllocError>
     requires size { length marks.now ≡ 65536 }
     ensures { IfOk result (λ ranges. CoversBelow (marked marks.now) 65536 ranges.items) }

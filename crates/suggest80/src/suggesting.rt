@@ -40,7 +40,7 @@ pub struct Advice {
 /// has ranges, exactly these but for CODE and STACK. The cases are those of the tables.
 ///
 /// # Errors
-/// `AllocError` only where memory runs out; the image then has any regions.
+/// `AllocError` only if memory runs out; the image then has any regions.
 pub fn suggest_regions(
     alloc: Global,
     image: &mut Image,

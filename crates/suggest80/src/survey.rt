@@ -43,7 +43,7 @@ impl Model for Survey {
 /// Goes through an image.
 ///
 /// # Errors
-/// `AllocError` only where memory runs out.
+/// `AllocError` only if memory runs out.
 pub(crate) fn survey_of(alloc: Global, image: &Image) -> Result<Survey, AllocError>
     ensures { IfOk result (λ survey. IsFound image.now survey) }
 {

@@ -12,7 +12,7 @@ use std::alloc::{AllocError, Global};
 /// text.)
 ///
 /// # Errors
-/// `AllocError` only where memory runs out.
+/// `AllocError` only if memory runs out.
 pub(crate) fn with_cases(
     alloc: Global,
     regions: &Regions,

@@ -65,7 +65,7 @@ abbrev pub number_text : (numbered : Bool) → ℕ → List ℕ
 number_text true number = decimal number ++ 32 ∷ []
 number_text false number = []
 
--- the line of a world's next instruction; none where the run has ended before
+-- the line of a world's next instruction; none if the run has ended before
 abbrev pub world_line : Areas → (numbered : Bool) → ℕ → Option World → List ℕ
 world_line regions numbered number None = []
 world_line regions numbered number (Some w) = number_text numbered number ++ machine_line regions w.machine

@@ -1,7 +1,7 @@
 -- What the verifier looks at in an image: at each address of its memory the one instruction that a fetch finds there inside
 -- the code, unless it is one of three kinds that are not admitted. (Intel 8080 Microcomputer Systems User's Manual: EI lets
 -- interrupts in after the next instruction, and HLT waits for one, so that PL/M's HALT is EI followed by HLT. That EI is
--- admitted nowhere else, PCHL only where its targets are declared, and STA and SHLD only where they store to data, is this
+-- admitted nowhere else, PCHL only if its targets are declared, and STA and SHLD only if they store to data, is this
 -- project's own.)
 use Rattle.std.specs.Prelude.{ℕ, Bool, true, false, not, ◌&&◌, nat_eq, List, [], is_some, Result, Ok, Err, slice_index, if◌then◌else◌}
 use Rattle.std.specs.Option.{option_map_or}
@@ -31,7 +31,7 @@ abbrev pub is_pchl : Instr → Bool
 is_pchl Pchl = true
 is_pchl _ = false
 
--- whether targets are declared for an address, and these targets; none where they aren't
+-- whether targets are declared for an address, and these targets; none if they aren't
 abbrev pub is_declared : Areas → (at : ℕ) → Bool
 is_declared regions at = is_some (targets_at regions at)
 

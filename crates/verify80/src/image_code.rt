@@ -37,7 +37,7 @@ impl<'a> ImageCode<'a> {
     /// An image as the verifier goes by it.
     ///
     /// # Errors
-    /// `AllocError` where memory runs out.
+    /// `AllocError` if memory runs out.
     pub fn new(alloc: Global, image: &'a Image) -> Result<Self, AllocError>
         ensures { IfOk result (λ code. code ≡ image.now) }
     {

@@ -23,7 +23,7 @@ pub struct Verified {
 
 /// Goes over every walk of every procedure of an image, from its start on, and reports on its procedures and its stack.
 ///
-/// An image is accepted where no refusal holds of it. Where several hold, one of them is answered.
+/// An image is accepted if no refusal holds of it. Where several hold, one of them is answered.
 ///
 /// # Example
 /// ```
@@ -33,7 +33,7 @@ pub struct Verified {
 /// ```
 ///
 /// # Errors
-/// A refusal that holds of the image, or [`Refusal::Memory`] where memory runs out.
+/// A refusal that holds of the image, or [`Refusal::Memory`] if memory runs out.
 pub fn verify(alloc: Global, image: &Image) -> Result<Report, Refusal>
     ensures accepted { IfOk result (λ report. IsAccepted (code_of image.now) report.procedures.items report.stack_bytes) }
     ensures refused { IfErr result (Holds (code_of image.now)) }

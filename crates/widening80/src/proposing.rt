@@ -11,13 +11,13 @@ const VISITS: u32 = 32;
 /// How often the table is narrowed.
 const NARROWINGS: u32 = 3;
 
-/// What the pairs may be at each address where the program may come to, 65,536 places by address; `None` where it doesn't come.
+/// What the pairs may be at each address where the program may come to, 65,536 places by address; `None` if it doesn't come.
 ///
 /// At the start, and behind each call that returns, they may be anything. Nothing is promised of the table: whoever uses it has to
 /// see that it fits.
 ///
 /// # Errors
-/// `AllocError` only where memory runs out.
+/// `AllocError` only if memory runs out.
 pub fn propose(alloc: Global, flow: Flow<'_>) -> Result<Vec<Option<Pairs>>, AllocError> {
     let ends = DataEnds::new(alloc, flow.regions)?;
     let mut filling = Filling::new(alloc)?;

@@ -5,7 +5,7 @@ use frames80::Word::{Any, Own};
 use frames80::{HeightsDiffer, meet};
 use std::test::Fail;
 
-/// A frame, one that it meets, what is answered, and the frame then. A word stays the return address only where both frames have
+/// A frame, one that it meets, what is answered, and the frame then. A word stays the return address only if both frames have
 /// it; frames of other counts don't meet.
 #[rattlefmt::skip]
 static ROWS: [(Parts, Parts, Result<bool, HeightsDiffer>, Parts); 4] = [

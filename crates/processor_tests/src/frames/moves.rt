@@ -8,7 +8,7 @@ use frames80::{Frame, FrameFault, Moves, Role};
 use std::test::Fail;
 
 /// Instructions, each with the frame before it, how the procedure goes on, the address or the number of words or of the refusal,
-/// and the frame after it; where there is none, the frame before it stands there.
+/// and the frame after it; if there is none, the frame before it stands there.
 #[rattlefmt::skip]
 static ROWS: [(Role, [u8; 3], Parts, &str, u32, Parts); 54] = [
     // PUSH and POP of BC, DE and HL carry the return address; PSW doesn't.
@@ -54,7 +54,7 @@ static ROWS: [(Role, [u8; 3], Parts, &str, u32, Parts); 54] = [
     (Entry, [0x76, 0x10, 0x32], (2, &[Own], [Any, Any, Any]), "end", 0, (2, &[Own], [Any, Any, Any])),
     (Entry, [0x00, 0x10, 0x32], (2, &[Own], [Any, Any, Any]), "on", 0, (2, &[Own], [Any, Any, Any])),
     (Entry, [0xC9, 0x10, 0x32], (1, &[Own], [Any, Any, Any]), "return", 1, (1, &[Own], [Any, Any, Any])),
-    // PCHL keeps the frame, also where HL has the return address.
+    // PCHL keeps the frame, also if HL has the return address.
     (Entry, [0xE9, 0x10, 0x32], (2, &[Own], [Own, Any, Own]), "case", 0, (2, &[Own], [Own, Any, Own])),
     (MAIN, [0xE9, 0x00, 0x31], (0, &[Any], [Any, Any, Any]), "case", 0, (0, &[Any], [Any, Any, Any])),
     // SPHL, INX SP, DCX SP, LXI SP,3100, pops of no words and returns in the main program.
@@ -97,7 +97,7 @@ fn kind(moves: &Result<Moves, FrameFault>) -> (&'static str, u32) {
     }
 }
 
-/// Whether the frame after the instruction is this one, where there is one.
+/// Whether the frame after the instruction is this one, if there is one.
 fn leaves(moves: &Result<Moves, FrameFault>, wanted: &Frame) -> bool {
     match moves {
         Ok(Moves::End | Moves::Return(_)) | Err(_) => true,
