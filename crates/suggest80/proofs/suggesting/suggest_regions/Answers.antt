@@ -7,7 +7,7 @@ use Rattle.suggest80.specs.Suggestion.{Found, IsArranged, IsFound, IsSuggestion,
 use Rattle.suggest80.proofs.suggesting.suggest_regions.Goals as goal
 
 pub arrange-requires-2-clause-by_address : goal.arrange-requires-2-clause-by_address
-arrange-requires-2-clause-by_address c = subst AreByAddress (sym c.deref-3.ensures.value) c.in_ok-found.ensures.by_address
+arrange-requires-2-clause-by_address c = subst AreByAddress (sym c.deref-3.ensures.value) c.in_ok-found.ensures.suggested.by_address
 
 pub returns : goal.returns
 returns c =
