@@ -1,9 +1,8 @@
 -- The entries of a table, and the case of its PCHL.
-use Rattle.std.specs.Prelude.{◌≡◌, ◌⊎◌, ℕ, ◌+◌, ◌*◌, ◌<◌, ◌≤◌, ◌&&◌, Bool, true, false, eqb, nat_le, nat_lt, List, [], ◌∷◌, ◌++◌, All, Contains, IsPermutation, Option, None, Some, Result, Ok, Err, length, slice_index, refl, if◌then◌else◌}
-use Rattle.std.specs.List.{dedup, range_with_len}
+use Rattle.std.specs.Prelude.{◌≡◌, ℕ, ◌+◌, ◌*◌, ◌<◌, ◌&&◌, Bool, true, false, eqb, nat_le, nat_lt, List, [], ◌∷◌, ◌++◌, All, Contains, IsPermutation, None, Some, length, slice_index, refl, if◌then◌else◌}
+use Rattle.std.specs.List.{dedup}
 use Rattle.std.specs.List.Sorted.{IsSorted}
 use Rattle.std.specs.Ordering.{nat_cmp}
-use Rattle.std.specs.Result.{is_ok}
 use Rattle.std.proofs.Common.{◌∙◌, ap, arith, get_or, subst, sym, true≢false, inl, inr}
 use Rattle.std.proofs.lemmas.List.{length-append}
 use Rattle.std.proofs.lemmas.Bool.Decides.{nat_tests}
@@ -15,7 +14,7 @@ use Rattle.std.proofs.lemmas.Map.Keys.{IsStrictlyIncreasing-dedup}
 use Rattle.image80.specs.Image.{Located, memory_of}
 use Rattle.image80.specs.Regions.{in_code}
 use Rattle.cases80.specs.Marks.{marked}
-use Rattle.cases80.specs.Suggested.{AreEntries, IsBegun, IsSuggested, goal_of, goals_of, is_entry, is_free, is_jump, is_open, is_target, is_undeclared, is_word, stride, word_in}
+use Rattle.cases80.specs.Suggested.{AreEntries, IsBegun, IsSuggested, goal_of, goals_of, is_entry, is_free, is_open, is_target, is_undeclared, stride, word_in}
 use Rattle.cases80.specs.declared.table.TableKind.{TableKind}
 use Rattle.cases80.specs.declared.table.TableKind.TheVariants.{Words, Jumps}
 

@@ -1,5 +1,5 @@
 use Rattle.std.proofs.Common.{rules}
-use Rattle.cases80.proofs.SuggestedLemmas.{one_case, one_other, passed}
+use Rattle.cases80.proofs.SuggestedLemmas.{one_case, one_other}
 use Rattle.cases80.proofs.suggesting.Suggestions.add.Goals as goal
 
 pub returns-in_ok-push-in-Some : goal.returns-in_ok-push-in-Some
