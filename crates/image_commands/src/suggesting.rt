@@ -186,7 +186,9 @@ fn found_for(
     at: u16,
     notes: &mut Vec<Note>,
 ) -> Result<Option<SuggestedCase>, AllocError> {
-    let found = program.search.suggest(alloc, program.image, program.code, at)?;
+    let found = program
+        .search
+        .suggest(alloc, program.image, program.code, at)?;
     if let Some(note) = program.search.note(program.code, at, &found) {
         notes.push(note)?;
     }
@@ -208,11 +210,15 @@ pub(crate) fn report_notes(console: Console<'_>, notes: &[Note]) -> u8 {
 fn report_note(console: Console<'_>, note: Note) -> bool {
     match note {
         Note::MayEnd { table, end } => {
-            let _ = eprintln!(console.runtime(); "plm80: the table at {table:04X} may end at {end:04X}");
+            let _ = eprintln!(console.runtime();
+                "plm80: the table at {table:04X} may end at {end:04X}"
+            );
             false
         }
         Note::Tableless(at) => {
-            let _ = eprintln!(console.runtime(); "plm80: no table is seen for the PCHL at {at:04X}");
+            let _ = eprintln!(console.runtime();
+                "plm80: no table is seen for the PCHL at {at:04X}"
+            );
             true
         }
         Note::Returns(at) => {
