@@ -1,12 +1,11 @@
 //! `plm80 cases`: the CASE lines that the tables of an image suggest.
 
-use cases80::{Note, Search, SuggestedCase, regions_with_cases};
+use cases80::{Note, Suggestions, regions_with_cases, suggest_cases};
 use clap::ArgMatches;
 use console80::{Argument, Console, IMAGE, Kind, ProgramFiles, REGIONS, Reported, Syntax};
 use image80::{Case, Image, RegionsFault, case_lines};
 use loader80::TEXT_LIMIT;
 use std::alloc::{AllocError, Global};
-use verify80::ImageCode;
 
 /// The arguments of `cases`.
 #[derive(Clone, Copy)]
@@ -63,136 +62,25 @@ pub fn suggest_for_files(
     arguments: CasesArguments<'_>,
 ) -> Result<u8, Reported> {
     let image = arguments.files.read(console)?;
-    let Ok(code) = ImageCode::new(console.alloc(), &image) else {
+    let Ok((suggestions, text)) = suggested(console.alloc(), &image) else {
         return Err(console.report_memory());
     };
-    let Ok(search) = Search::of(console.alloc(), &code) else {
-        return Err(console.report_memory());
-    };
-    let program = Program {
-        image: &image,
-        code: &code,
-        search: &search,
-    };
-    let notes = match arguments.out {
-        Some(path) => write_lines(console, program, path)?,
-        None => print_lines(console, program)?,
-    };
-    Ok(report_notes(console, &notes))
-}
-
-/// A program that was gone through.
-#[derive(Clone, Copy)]
-struct Program<'a> {
-    image: &'a Image,
-    code: &'a ImageCode<'a>,
-    search: &'a Search,
-}
-
-/// Prints the line of each PCHL as soon as it is made, so that one of them is kept at a time, and gives the notes.
-fn print_lines(console: Console<'_>, program: Program<'_>) -> Result<Vec<Note>, Reported> {
-    let mut notes = Vec::new(console.alloc());
-    let mut from = 0;
-    while let Some(at) = next_open(program, from) {
-        from = u32::from(at) + 1;
-        let Ok(found) = found_for(console.alloc(), program, at, &mut notes) else {
-            return Err(console.report_memory());
-        };
-        if let Some(found) = found {
-            print_line(console, found.case)?;
+    match arguments.out {
+        Some(path) => {
+            let regions = with_cases(console, path, &image, &suggestions.cases)?;
+            console.print(&text)?;
+            console.replace(path, &regions)?;
         }
+        None => console.print(&text)?,
     }
-    Ok(notes)
+    Ok(report_notes(console, &suggestions.notes))
 }
 
-/// Prints the line of a case.
-fn print_line(console: Console<'_>, case: Case) -> Result<(), Reported> {
-    let Ok(line) = line_of(console.alloc(), case) else {
-        return Err(console.report_memory());
-    };
-    console.print(&line)
-}
-
-/// The line of a case.
-fn line_of(alloc: Global, case: Case) -> Result<Vec<u8>, AllocError> {
-    let mut cases = Vec::new(alloc);
-    cases.push(case)?;
-    case_lines(alloc, &cases)
-}
-
-/// Prints the lines and writes the regions with them to the file of a path, if these aren't too long, and gives the notes.
-fn write_lines(
-    console: Console<'_>,
-    program: Program<'_>,
-    path: &str,
-) -> Result<Vec<Note>, Reported> {
-    let mut notes = Vec::new(console.alloc());
-    let cases = match cases_for(console.alloc(), program, &mut notes) {
-        Ok(Some(cases)) => cases,
-        Ok(None) => return Err(console.report_file(path, "TooLong")),
-        Err(_) => return Err(console.report_memory()),
-    };
-    let regions = with_cases(console, path, program.image, &cases)?;
-    let Ok(lines) = case_lines(console.alloc(), &cases) else {
-        return Err(console.report_memory());
-    };
-    console.print(&lines)?;
-    console.replace(path, &regions)?;
-    Ok(notes)
-}
-
-/// The cases of all PCHLs, unless their lines alone are longer than a regions text may be.
-fn cases_for(
-    alloc: Global,
-    program: Program<'_>,
-    notes: &mut Vec<Note>,
-) -> Result<Option<Vec<Case>>, AllocError> {
-    let mut cases = Vec::new(alloc);
-    let mut bytes = 0;
-    let mut from = 0;
-    while let Some(at) = next_open(program, from) {
-        from = u32::from(at) + 1;
-        if let Some(found) = found_for(alloc, program, at, notes)? {
-            bytes += line_length(&found.case);
-            if bytes > TEXT_LIMIT {
-                return Ok(None);
-            }
-            cases.push(found.case)?;
-        }
-    }
-    Ok(Some(cases))
-}
-
-/// The bytes of the line `CASE aaaa tttt ..` of a case.
-fn line_length(case: &Case) -> usize {
-    10 + 5 * case.targets.len()
-}
-
-/// The first PCHL from an address on that is reached and has no declared targets.
-fn next_open(program: Program<'_>, from: u32) -> Option<u16> {
-    for address in from..65_536 {
-        let at = address as u16;
-        if program.search.is_open(program.image, program.code, at) {
-            return Some(at);
-        }
-    }
-    None
-}
-
-/// The case that is suggested for such a PCHL. What there is to say of it is noted.
-fn found_for(
-    alloc: Global,
-    program: Program<'_>,
-    at: u16,
-    notes: &mut Vec<Note>,
-) -> Result<Option<SuggestedCase>, AllocError> {
-    let found = program
-        .search
-        .suggest(alloc, program.image, program.code, at)?;
-    if let Some(note) = program.search.note(program.code, at, &found) {
-        notes.push(note)?;
-    }
-    Ok(found)
+/// What the image suggests, and the text of its cases.
+fn suggested(alloc: Global, image: &Image) -> Result<(Suggestions, Vec<u8>), AllocError> {
+    let suggestions = suggest_cases(alloc, image)?;
+    let text = case_lines(alloc, &suggestions.cases)?;
+    Ok((suggestions, text))
 }
 
 /// Reports what there is to say of PCHLs, and gives the status: 1 where there is one without a table.
