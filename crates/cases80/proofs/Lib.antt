@@ -1,3 +1,4 @@
+mod MarkLemmas
+mod ReachLemmas
 mod TableLemmas
 mod SuggestedLemmas
-mod ReachLemmas

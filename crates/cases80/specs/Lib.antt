@@ -1,3 +1,5 @@
+pub mod Marks
+pub mod Covered
 pub mod Suggested
 pub mod Added
 pub mod Reach

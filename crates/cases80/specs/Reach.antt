@@ -1,6 +1,6 @@
--- The addresses that a program may come to, whatever its frames: along each branch, behind each call whether it returns or not,
--- and from a PCHL to the targets that are declared for it. (Intel 8080 Microcomputer Systems User's Manual: the jumps, calls and
--- returns. That a call is gone on behind whatever its callee does is this project's own.)
+-- The addresses that a program may come to from some roots, whatever its frames: along each branch, behind each call whether it
+-- returns or not, and from a PCHL to the targets that are declared for it. (Intel 8080 Microcomputer Systems User's Manual: the
+-- jumps, calls and returns. That a call is gone on behind whatever its callee does is this project's own.)
 use Rattle.std.specs.Prelude.{◌≡◌, ◌<◌, ◌≤◌, ◌*◌, ◌↔◌, ℕ, Bool, true, false, List, [], ◌∷◌, ◌++◌, All, Contains, Option, None, Some, Result, Ok, Err, length, get_or, if◌then◌else◌}
 use Rattle.decode80.specs.declared.fetching.Fetched.{Fetched}
 use Rattle.decode80.specs.declared.fetching.FetchFault.{FetchFault}
@@ -46,25 +46,40 @@ leads_from (Ok found) targets = given (target_of found.instr) ++ (given (falls_t
 unfoldable pub leads_to : Located → ℕ → List ℕ
 leads_to image at = leads_from (fetch_at image.regions (memory_of image.chunks) at) (declared_targets image.regions at)
 
--- the program may come to an address
-pub data MayReach (image : Located) : ℕ → Type 0 where
-  begins : (at : ℕ) → at ≡ image.start → MayReach image at
-  goes_on : (at to : ℕ) → MayReach image at → Contains (leads_to image at) to → MayReach image to
+-- the program may come to an address from one of some roots
+pub data MayReach (image : Located) (roots : List ℕ) : ℕ → Type 0 where
+  begins : (at : ℕ) → Contains roots at → MayReach image roots at
+  goes_on : (at to : ℕ) → MayReach image roots at → Contains (leads_to image at) to → MayReach image roots to
 
 -- an address is marked in a table
 abbrev pub IsMarked : List Bool → ℕ → Type 0
 IsMarked marks at = get_or marks at false ≡ true
 
--- exactly the addresses are marked that the program may come to
-pub record AreReached (image : Located) (marks : List Bool) : Type 0 where
+-- exactly the addresses are marked that the program may come to from the roots
+pub record AreReachedFrom (image : Located) (roots : List ℕ) (marks : List Bool) : Type 0 where
   pub size : length marks ≡ 65536
-  pub exact : (at : ℕ) → IsMarked marks at ↔ MayReach image at
+  pub exact : (at : ℕ) → IsMarked marks at ↔ MayReach image roots at
+
+-- exactly the addresses are marked that the program may come to from its start
+abbrev pub AreReached : Located → List Bool → Type 0
+AreReached image marks = AreReachedFrom image (image.start ∷ []) marks
 
 -- a walk so far: what is marked may be reached, and is what is listed
-pub record IsWalk (image : Located) (marks : List Bool) (order : List ℕ) : Type 0 where
-  pub may : (at : ℕ) → IsMarked marks at → MayReach image at
+pub record IsWalk (image : Located) (roots : List ℕ) (marks : List Bool) (order : List ℕ) : Type 0 where
+  pub may : (at : ℕ) → IsMarked marks at → MayReach image roots at
   pub listed : (at : ℕ) → IsMarked marks at → Contains order at
   pub marked : (k : ℕ) → k < length order → IsMarked marks (get_or order k 0)
+
+-- what the first addresses of a walk lead to is marked, so many of them
+abbrev pub AreFollowed : Located → List Bool → List ℕ → ℕ → Type 0
+AreFollowed image marks order number = (k : ℕ) → k < number → k < length order → All (IsMarked marks) (leads_to image (get_or order k 0))
+
+-- a walk that has come to its end: its roots are marked, and all that the marked addresses lead to
+pub record IsDone (image : Located) (roots : List ℕ) (marks : List Bool) (order : List ℕ) : Type 0 where
+  pub size : length marks ≡ 65536
+  pub walk : IsWalk image roots marks order
+  pub begun : All (IsMarked marks) roots
+  pub followed : AreFollowed image marks order (length order)
 
 -- addresses are entered: they are marked, nothing that was marked or listed is lost, and a walk stays one
 pub record Enters (marks : List Bool) (order : List ℕ) (to : List ℕ) (marks' : List Bool) (order' : List ℕ) : Type 0 where
@@ -73,4 +88,4 @@ pub record Enters (marks : List Bool) (order : List ℕ) (to : List ℕ) (marks'
   pub kept : (at : ℕ) → IsMarked marks at → IsMarked marks' at
   pub longer : length order ≤ length order'
   pub same : (k : ℕ) → k < length order → get_or order' k 0 ≡ get_or order k 0
-  pub walk : (image : Located) → IsWalk image marks order → All (MayReach image) to → IsWalk image marks' order'
+  pub walk : (image : Located) (roots : List ℕ) → IsWalk image roots marks order → All (MayReach image roots) to → IsWalk image roots marks' order'

@@ -1,21 +1,35 @@
-//! Advice on the CASE lines of an image: for each PCHL that no line names yet, the targets that the table of a DO CASE gives.
+//! Advice on the CASE lines of an image: for each PCHL that no line names yet, the targets that its table gives.
 //!
 //! | Item | What it is |
 //! |---|---|
 //! | [`suggest_cases`] | the cases that the tables of an image suggest |
 //! | [`Suggestions`] | these cases, and the PCHLs for which no table is seen |
+//! | [`Search`], [`SuggestedCase`] | an image that was gone through, and the case of one PCHL |
+//! | [`Note`] | what there is to say of a PCHL beside its case |
+//! | [`TableKind`] | what a table consists of |
 //! | [`regions_with_cases`] | the text of regions to which cases are added |
 //! | [`find_reachable`] | the addresses that a program may come to, along the cases of its regions |
+//! | [`find_covered`] | the bytes of the instructions there |
 #![tactic(auto)]
 
 mod adding;
+mod bound;
+mod chain;
+mod changes;
+mod covered;
 mod leads;
+mod marks;
 mod reach;
+mod reading;
+mod returning;
+mod search;
 mod suggesting;
 mod table;
 mod trail;
-mod walk;
 
 pub use adding::regions_with_cases;
+pub use covered::find_covered;
 pub use reach::find_reachable;
+pub use search::{Note, Search, SuggestedCase};
 pub use suggesting::{Suggestions, suggest_cases};
+pub use table::TableKind;

@@ -1,7 +1,7 @@
 //! The addresses that a program may come to, along the cases that its regions have.
 
 ghost use Rattle.std.specs.Prelude.{◌≡◌, IfOk, OnOk, length};
-ghost use Rattle.cases80.specs.Reach.{AreReached, Enters, given, leads_to, targets_of};
+ghost use Rattle.cases80.specs.Reach.{AreReached, Enters, IsDone, given, leads_to, targets_of};
 ghost use Rattle.verify80.specs.Looking.{declared_targets};
 
 use crate::leads::{falls_to, target_of};
@@ -24,33 +24,26 @@ pub fn find_reachable(alloc: Global, code: &ImageCode<'_>) -> Result<Vec<bool>, 
     ensures { IfOk result (λ marks. AreReached code.now marks.items) }
 {
     let mut visited = Visited::new(alloc)?;
-    visited.enter(code.start())?;
-    let mut number = 0;
-    while number < visited.order.len() {
-        let at = visited.order[number];
-        visited.follow(code, at)?;
-        number += 1;
-    }
+    visited.explore(code, code.start())?;
     Ok(visited.marks)
 }
 
 /// The addresses that were entered.
 #[derive(Drop)]
-struct Visited {
+pub(crate) struct Visited {
     /// For each address whether it was entered.
-    marks: Vec<bool>,
+    pub(crate) marks: Vec<bool>,
     /// These addresses as they were entered, each once.
-    order: Vec<u16>,
+    pub(crate) order: Vec<u16>,
 }
 
 impl Visited {
-    ghost use Rattle.std.specs.Prelude.{[], false, All};
+    ghost use Rattle.std.specs.Prelude.{[], ℕ, List};
+    ghost use Rattle.image80.specs.Image.{Located};
 
     /// None is entered.
-    fn new(alloc: Global) -> Result<Visited, AllocError>
-        ensures size { IfOk result (λ visited. length visited.marks.items ≡ 65536) }
-        ensures marks { IfOk result (λ visited. All (λ mark. mark ≡ false) visited.marks.items) }
-        ensures order { IfOk result (λ visited. visited.order.items ≡ []) }
+    pub(crate) fn new(alloc: Global) -> Result<Visited, AllocError>
+        ensures { IfOk result (λ visited. (image : Located) → IsDone image [] visited.marks.items visited.order.items) }
     {
         Ok(Visited {
             marks: table(alloc, false, ADDRESSES)?,
@@ -58,7 +51,23 @@ impl Visited {
         })
     }
 
-    ghost use Rattle.std.specs.Prelude.{◌∷◌};
+    ghost use Rattle.std.specs.Prelude.{◌∷◌, ◌++◌};
+
+    /// Enters an address, and all that the program may come to from there.
+    pub(crate) fn explore(&mut self, code: &ImageCode<'_>, at: u16) -> Result<(), AllocError>
+        requires { length self.old.marks.items ≡ 65536 }
+        ensures { OnOk result ((roots : List ℕ) → IsDone code.now roots self.old.marks.items self.old.order.items →
+            IsDone code.now (roots ++ at ∷ []) self.new.marks.items self.new.order.items) }
+    {
+        let mut number = self.order.len();
+        self.enter(at)?;
+        while number < self.order.len() {
+            let next = self.order[number];
+            self.follow(code, next)?;
+            number += 1;
+        }
+        Ok(())
+    }
 
     /// Enters an address, unless it was entered before.
     fn enter(&mut self, at: u16) -> Result<(), AllocError>

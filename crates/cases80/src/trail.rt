@@ -10,7 +10,7 @@
 //! PCHL
 //! ```
 //!
-//! and as others write it: `LXI H,table` and `DAD` of a pair, once or twice, in place of the first two, and
+//! and as others write it: `LXI H,table` and `DAD` of a pair, once or more, in place of the first two, and
 //!
 //! ```text
 //! MOV A,M
@@ -20,29 +20,34 @@
 //! ```
 //!
 //! in place of the four before the PCHL. Others may stand before each of the first three, if they leave the pair, or then HL, as it
-//! is.
+//! is. A PCHL behind the first two alone goes into a table of JMPs.
 
-use decode80::{Instr, Pair, Register, StackPair};
+use crate::bound::Bound;
+use crate::changes::may_change;
+use crate::table::{Table, TableKind};
+use decode80::{Instr, Pair, Register};
 
 /// What the instructions that come before an address, one after another, have left: the table is known at a PCHL where its word
-/// was loaded and exchanged.
+/// was loaded and exchanged. A table is known by the address of the LXI that has its own.
 #[derive(Clone, Copy)]
 pub(crate) struct Trail {
-    /// The word that LXI has put into BC.
+    /// The LXI whose word is in BC.
     bc: Option<u16>,
-    /// The word that LXI has put into DE.
+    /// The LXI whose word is in DE.
     de: Option<u16>,
     load: Load,
+    /// What a comparison has left.
+    bound: Bound,
 }
 
-/// How much of a table's word is loaded, and the table's address.
+/// How much of a table's word is loaded, and the LXI of the table's address.
 #[derive(Clone, Copy)]
 enum Load {
     /// HL points to no table that is known.
     Nothing,
-    /// LXI has put this word into HL.
+    /// HL has the word of this LXI.
     Base(u16),
-    /// A pair was added to this word, which LXI had put into HL.
+    /// A pair was added to the word of this LXI.
     Indexed(u16),
     /// The address of a table was added to HL.
     Points(u16),
@@ -63,36 +68,44 @@ enum Load {
 }
 
 impl Trail {
-    /// Where nothing is known of the instructions before, as at a label.
+    /// Where nothing is known of the instructions before.
     pub(crate) fn unknown() -> Trail {
         Trail {
             bc: None,
             de: None,
             load: Load::Nothing,
+            bound: Bound::Unknown,
         }
     }
 
-    /// The table whose word is in HL.
-    pub(crate) fn table(self) -> Option<u16> {
-        match self.load {
-            Load::Exchanged(table) => Some(table),
-            _ => None,
-        }
+    /// The table by which a PCHL goes: its word is in HL, or HL points into it.
+    pub(crate) fn table(self) -> Option<Table> {
+        let (lxi, kind) = match self.load {
+            Load::Exchanged(lxi) => (lxi, TableKind::Words),
+            Load::Indexed(lxi) | Load::Points(lxi) => (lxi, TableKind::Jumps),
+            _ => return None,
+        };
+        Some(Table {
+            lxi,
+            kind,
+            comparison: self.bound.comparison(),
+        })
     }
 
-    /// What is known after an instruction, other than a jump.
-    pub(crate) fn after(self, instr: Instr) -> Trail {
+    /// What is known after an instruction at an address, which goes on behind itself.
+    pub(crate) fn after(self, at: u16, instr: Instr) -> Trail {
         Trail {
-            bc: word_after(self.bc, Pair::Bc, instr),
-            de: word_after(self.de, Pair::De, instr),
-            load: self.load_after(instr),
+            bc: loaded_after(self.bc, Pair::Bc, at, instr),
+            de: loaded_after(self.de, Pair::De, at, instr),
+            load: self.load_after(at, instr),
+            bound: self.bound.after(at, instr),
         }
     }
 
     /// How much of a word is loaded after an instruction.
-    fn load_after(self, instr: Instr) -> Load {
+    fn load_after(self, at: u16, instr: Instr) -> Load {
         match (self.load, instr) {
-            (_, Instr::Lxi(Pair::Hl, word)) => Load::Base(word),
+            (_, Instr::Lxi(Pair::Hl, _)) => Load::Base(at),
             (load, Instr::Dad(Pair::Bc)) => load.added(self.bc),
             (load, Instr::Dad(Pair::De)) => load.added(self.de),
             (load, Instr::Load(Register::A)) => load.low_in_a(),
@@ -118,9 +131,9 @@ impl Load {
         }
     }
 
-    /// After a pair was added to HL, whose word LXI has put into it, or isn't known.
-    fn added(self, word: Option<u16>) -> Load {
-        match (word, self) {
+    /// After a pair was added to HL whose word is that of an LXI, or isn't known.
+    fn added(self, lxi: Option<u16>) -> Load {
+        match (lxi, self) {
             (Some(table), _) => Load::Points(table),
             (None, Load::Base(table) | Load::Indexed(table)) => Load::Indexed(table),
             _ => Load::Nothing,
@@ -154,40 +167,11 @@ impl Load {
     }
 }
 
-/// The word that LXI has put into a pair, after an instruction.
-fn word_after(word: Option<u16>, pair: Pair, instr: Instr) -> Option<u16> {
+/// The LXI whose word is in a pair, after an instruction at an address.
+fn loaded_after(lxi: Option<u16>, pair: Pair, at: u16, instr: Instr) -> Option<u16> {
     match instr {
-        Instr::Lxi(loaded, word) if loaded == pair => Some(word),
+        Instr::Lxi(loaded, _) if loaded == pair => Some(at),
         _ if may_change(instr, pair) => None,
-        _ => word,
-    }
-}
-
-/// Whether an instruction may change a pair.
-fn may_change(instr: Instr, pair: Pair) -> bool {
-    match instr {
-        Instr::Mov(register, _)
-        | Instr::Load(register)
-        | Instr::Mvi(register, _)
-        | Instr::Inr(register)
-        | Instr::Dcr(register) => is_half(register, pair),
-        Instr::Lxi(changed, _) | Instr::Inx(changed) | Instr::Dcx(changed) => changed == pair,
-        Instr::Dad(_) | Instr::Lhld(_) | Instr::Xthl => pair == Pair::Hl,
-        Instr::Pop(StackPair::Bc) => pair == Pair::Bc,
-        Instr::Pop(StackPair::De) => pair == Pair::De,
-        Instr::Pop(StackPair::Hl) => pair == Pair::Hl,
-        Instr::Xchg => pair != Pair::Bc,
-        Instr::Call(_) | Instr::CallIf(_, _) | Instr::Rst(_) => true,
-        _ => false,
-    }
-}
-
-/// Whether a register is one half of a pair.
-fn is_half(register: Register, pair: Pair) -> bool {
-    match register {
-        Register::B | Register::C => pair == Pair::Bc,
-        Register::D | Register::E => pair == Pair::De,
-        Register::H | Register::L => pair == Pair::Hl,
-        Register::A => false,
+        _ => lxi,
     }
 }

@@ -1,6 +1,6 @@
 //! `plm80 suggest`: the regions that an image's bytes suggest.
 
-use crate::suggesting::report_tableless;
+use crate::suggesting::report_notes;
 use clap::ArgMatches;
 use console80::{
     Argument, Console, IMAGE, Kind, OptionText, Reported, Syntax, image_of, path_of, regions_of,
@@ -83,7 +83,7 @@ pub fn advise_file(console: Console<'_>, arguments: &SuggestArguments<'_>) -> Re
     };
     console.print(&text)?;
     report_stack(console, &advice);
-    Ok(report_tableless(console, &advice.tableless))
+    Ok(report_notes(console, &advice.notes))
 }
 
 /// The image of a file, without regions.

@@ -1,6 +1,6 @@
 //! `plm80 cases`: the CASE lines that the tables of an image suggest.
 
-use cases80::{Suggestions, regions_with_cases, suggest_cases};
+use cases80::{Note, Suggestions, regions_with_cases, suggest_cases};
 use clap::ArgMatches;
 use console80::{Argument, Console, IMAGE, Kind, ProgramFiles, REGIONS, Reported, Syntax};
 use image80::{Case, Image, RegionsFault, case_lines};
@@ -19,10 +19,11 @@ const ABOUT: &str = "Prints the CASE lines that an image's jump tables suggest";
 const AFTER_HELP: &str = "\
 For each PCHL that the program may reach and no CASE line names there is a line
 CASE aaaa tttt ..: its address, and the addresses in the table that its target
-is loaded from, as PL/M compiles DO CASE. The lines are advice: with --out NEW the
-regions are also written to NEW with the lines added, as a text of version 2; NEW
-may be REGIONS itself. Then check the image. A PCHL for which no table is seen has
-a line on standard error, and the status is 1.
+is loaded from, as PL/M compiles DO CASE, or of the JMPs in the table to which it
+goes. The lines are advice: with --out NEW the regions are also written to NEW with
+the lines added, as a text of version 2; NEW may be REGIONS itself. Then check the
+image. A PCHL for which no table is seen, or that returns, has a line on standard
+error, and the status is 1; so has, with status 0, a table whose end is a guess.
 
 Example: plm80 cases adder.img adder.regions --out adder.regions
 
@@ -54,8 +55,8 @@ impl<'a> CasesArguments<'a> {
     }
 }
 
-/// Prints the CASE lines, writes the regions with them if a file is named, and reports each PCHL for which no table is seen; gives
-/// status 1 if there is one.
+/// Prints the CASE lines, writes the regions with them if a file is named, and reports what there is to say of the PCHLs; gives status 1
+/// where no table is seen for one of them.
 pub fn suggest_for_files(
     console: Console<'_>,
     arguments: CasesArguments<'_>,
@@ -72,15 +73,47 @@ pub fn suggest_for_files(
         }
         None => console.print(&text)?,
     }
-    Ok(report_tableless(console, &suggestions.tableless))
+    Ok(report_notes(console, &suggestions.notes))
 }
 
-/// Reports the PCHLs for which no table is seen, and gives the status.
-pub(crate) fn report_tableless(console: Console<'_>, tableless: &[u16]) -> u8 {
-    for at in tableless {
-        let _ = eprintln!(console.runtime(); "plm80: no table is seen for the PCHL at {at:04X}");
+/// What the image suggests, and the text of its cases.
+fn suggested(alloc: Global, image: &Image) -> Result<(Suggestions, Vec<u8>), AllocError> {
+    let suggestions = suggest_cases(alloc, image)?;
+    let text = case_lines(alloc, &suggestions.cases)?;
+    Ok((suggestions, text))
+}
+
+/// Reports what there is to say of PCHLs, and gives the status: 1 if there is one without a table.
+pub(crate) fn report_notes(console: Console<'_>, notes: &[Note]) -> u8 {
+    let mut status = 0;
+    for note in notes {
+        if report_note(console, *note) {
+            status = 1;
+        }
     }
-    if tableless.is_empty() { 0 } else { 1 }
+    status
+}
+
+/// Reports a note; whether it is that of a PCHL without a table.
+fn report_note(console: Console<'_>, note: Note) -> bool {
+    match note {
+        Note::MayEnd { table, end } => {
+            let _ = eprintln!(console.runtime();
+                "plm80: the table at {table:04X} may end at {end:04X}"
+            );
+            false
+        }
+        Note::Tableless(at) => {
+            let _ = eprintln!(console.runtime();
+                "plm80: no table is seen for the PCHL at {at:04X}"
+            );
+            true
+        }
+        Note::Returns(at) => {
+            let _ = eprintln!(console.runtime(); "plm80: the PCHL at {at:04X} returns");
+            true
+        }
+    }
 }
 
 /// The text of the image's regions with these cases, which is to be that of the file of this path.
@@ -96,11 +129,4 @@ fn with_cases(
         Err(RegionsFault::Memory) => Err(console.report_memory()),
         Err(fault) => Err(console.report_file(path, fault)),
     }
-}
-
-/// What the image suggests, and the text of its cases.
-fn suggested(alloc: Global, image: &Image) -> Result<(Suggestions, Vec<u8>), AllocError> {
-    let suggestions = suggest_cases(alloc, image)?;
-    let text = case_lines(alloc, &suggestions.cases)?;
-    Ok((suggestions, text))
 }

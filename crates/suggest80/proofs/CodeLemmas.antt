@@ -12,7 +12,7 @@ use Rattle.decode80.specs.Fetch.{admitted_if_used, ahead, all_code, behind, fetc
 use Rattle.image80.specs.Image.{Located, memory_of}
 use Rattle.image80.specs.Regions.{in_code}
 use Rattle.verify80.specs.LookLaws.{fetch_at}
-use Rattle.suggest80.specs.Code.{is_covered, size_at, size_of}
+use Rattle.cases80.specs.Covered.{is_covered, size_at, size_of}
 
 -- each of so many bytes from an address on
 all_of : (code : ℕ → Bool) (at count k : ℕ) → all_code code at count ≡ true → k < count → code (at + k) ≡ true

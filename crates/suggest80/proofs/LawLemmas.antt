@@ -8,7 +8,7 @@ use Rattle.image80.specs.Range.{in_ranges}
 use Rattle.image80.specs.Regions.{in_code}
 use Rattle.suggest80.specs.declared.setters.Setter.{Setter}
 use Rattle.suggest80.specs.Bytes.{may_be_code}
-use Rattle.suggest80.specs.Ranges.{marked}
+use Rattle.cases80.specs.Marks.{marked}
 use Rattle.suggest80.specs.Suggestion.{IsSuggestion, with_regions}
 use Rattle.suggest80.proofs.CodeLemmas.{covered_code}
 

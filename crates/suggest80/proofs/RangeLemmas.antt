@@ -13,7 +13,8 @@ use Rattle.std.proofs.lemmas.List.Sorted.{list_any-IsPermutation, Contains-permu
 use Rattle.image80.specs.declared.range.Range.{Range}
 use Rattle.image80.specs.Range.{in_range, in_ranges, IsInMemory}
 use Rattle.image80.specs.Regions.{AreDisjoint, held}
-use Rattle.suggest80.specs.Ranges.{AreMarks, Covers, CoversBelow, IsPassed, marked}
+use Rattle.cases80.specs.Marks.{AreMarks, marked}
+use Rattle.suggest80.specs.Ranges.{Covers, CoversBelow, IsPassed}
 
 -- what holds of each element holds of one that is contained
 pub all_has : {X : Type 0} (P : X → Type 0) (xs : List X) (x : X) → All P xs → Contains xs x → P x

@@ -6,7 +6,8 @@ use Rattle.image80.specs.declared.range.Range.{Range}
 use Rattle.image80.specs.Range.{IsInMemory, in_range, in_ranges}
 use Rattle.image80.specs.Regions.{AreDisjoint, Areas, Arranges, held}
 use Rattle.suggest80.specs.declared.setters.Setter.{Setter}
-use Rattle.suggest80.specs.Ranges.{Covers, CoversBelow, marked}
+use Rattle.cases80.specs.Marks.{marked}
+use Rattle.suggest80.specs.Ranges.{Covers, CoversBelow}
 use Rattle.suggest80.specs.Stack.{IsBelow, IsStack, end_of}
 use Rattle.suggest80.specs.Suggestion.{Found, IsArranged, is_data, is_taken}
 use Rattle.suggest80.proofs.RangeLemmas.{covers_below, covers_permuted, held_both, held_first, held_none}

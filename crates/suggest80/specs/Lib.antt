@@ -1,6 +1,5 @@
 pub mod Ranges
 pub mod Bytes
-pub mod Code
 pub mod Names
 pub mod Stack
 pub mod Suggestion

@@ -1,5 +1,5 @@
 -- Ranges of the addresses that pass a test. (This project's own.)
-use Rattle.std.specs.Prelude.{◌≡◌, ℕ, ◌+◌, ◌≤◌, ◌<◌, ◌&&◌, Bool, false, true, nat_lt, List, All, Contains, length, get_or}
+use Rattle.std.specs.Prelude.{◌≡◌, ℕ, ◌+◌, ◌≤◌, ◌<◌, ◌&&◌, Bool, true, nat_lt, List, All, Contains}
 use Rattle.image80.specs.declared.range.Range.{Range}
 use Rattle.image80.specs.Range.{in_ranges, IsInMemory}
 use Rattle.image80.specs.Regions.{AreDisjoint}
@@ -24,12 +24,3 @@ pub record CoversBelow (test : ℕ → Bool) (limit : ℕ) (ranges : List Range)
   pub in_memory : All IsInMemory ranges
   pub apart : AreDisjoint ranges
   pub passed : All (IsPassed test limit) ranges
-
--- whether an address is marked in a table
-abbrev pub marked : List Bool → ℕ → Bool
-marked marks address = get_or marks address false
-
--- a table marks exactly the addresses below a limit that pass a test
-pub record AreMarks (test : ℕ → Bool) (limit : ℕ) (marks : List Bool) : Type 0 where
-  pub size : length marks ≡ limit
-  pub exact : (address : ℕ) → address < limit → marked marks address ≡ test address

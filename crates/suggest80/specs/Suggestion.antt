@@ -15,9 +15,10 @@ use Rattle.cases80.specs.Reach.{AreReached}
 use Rattle.cases80.specs.Suggested.{AreSuggested}
 use Rattle.suggest80.specs.declared.setters.Setter.{Setter}
 use Rattle.suggest80.specs.Bytes.{has_byte, may_be_code}
-use Rattle.suggest80.specs.Code.{is_covered}
+use Rattle.cases80.specs.Covered.{is_covered}
 use Rattle.suggest80.specs.Names.{AreNamed, AreSetters}
-use Rattle.suggest80.specs.Ranges.{AreMarks, Covers, marked}
+use Rattle.cases80.specs.Marks.{AreMarks, marked}
+use Rattle.suggest80.specs.Ranges.{Covers}
 use Rattle.suggest80.specs.Stack.{IsStack}
 
 -- what is found of an image, address by address: whether it has a byte there, whether the program may come to it, whether it is in an

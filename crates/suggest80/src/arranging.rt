@@ -2,7 +2,7 @@
 
 ghost use Rattle.std.specs.Prelude.{◌≡◌, [], All, IfOk, length};
 ghost use Rattle.image80.specs.Case.{AreByAddress, IsCase};
-ghost use Rattle.suggest80.specs.Ranges.{AreMarks, marked};
+ghost use Rattle.cases80.specs.Marks.{AreMarks, marked};
 ghost use Rattle.suggest80.specs.Stack.{IsStack};
 ghost use Rattle.suggest80.specs.Suggestion.{AreMarkTables, IsArranged, is_data, is_taken};
 

@@ -3,7 +3,7 @@
 ghost use Rattle.std.specs.Prelude.{◌≡◌, ◌<◌, ◌&&◌, ◌||◌, ℕ, length, ◌==◌, IfOk};
 ghost use Rattle.image80.specs.Range.{in_ranges};
 ghost use Rattle.suggest80.specs.Bytes.{has_byte, in_span};
-ghost use Rattle.suggest80.specs.Ranges.{AreMarks, marked};
+ghost use Rattle.cases80.specs.Marks.{AreMarks, marked};
 
 use bounds80::table;
 use image80::{Chunk, Range};

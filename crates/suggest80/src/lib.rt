@@ -9,7 +9,6 @@
 
 mod arranging;
 mod bytes;
-mod covered;
 pub mod laws;
 mod names;
 mod ranges;

@@ -1,7 +1,8 @@
 //! The ranges of the addresses that are marked in a table.
 
 ghost use Rattle.std.specs.Prelude.{◌≡◌, ◌+◌, ◌≤◌, ◌<◌, ℕ, true, false, length, IfOk};
-ghost use Rattle.suggest80.specs.Ranges.{CoversBelow, marked};
+ghost use Rattle.cases80.specs.Marks.{marked};
+ghost use Rattle.suggest80.specs.Ranges.{CoversBelow};
 
 use image80::Range;
 use std::alloc::{AllocError, Global};

@@ -1,7 +1,7 @@
 //! Where the stack lies.
 
 ghost use Rattle.std.specs.Prelude.{◌≡◌, ◌-◌, ◌<◌, ◌≤◌, ℕ, true, false, length};
-ghost use Rattle.suggest80.specs.Ranges.{marked};
+ghost use Rattle.cases80.specs.Marks.{marked};
 ghost use Rattle.suggest80.specs.Stack.{IsBelow, end_of};
 
 use image80::Range;

@@ -11,7 +11,7 @@ use crate::ranges::ranges_of;
 use crate::setters::Setter;
 use crate::survey::survey_of;
 use crate::with_cases::with_cases;
-use cases80::suggest_cases;
+use cases80::{Note, suggest_cases};
 use image80::{Image, Range, Regions};
 use std::alloc::{AllocError, Global};
 use verify80::{Refusal, measure};
@@ -28,6 +28,8 @@ pub struct Advice {
     pub second: Option<Setter>,
     /// The PCHLs for which no table is seen, by address.
     pub tableless: Vec<u16>,
+    /// What there is to say of the PCHLs, in their order.
+    pub notes: Vec<Note>,
 }
 
 /// Gives an image the regions that its bytes suggest, whatever regions it has.
@@ -61,6 +63,7 @@ pub fn suggest_regions(
         first: survey.first,
         second: survey.second,
         tableless: found.tableless,
+        notes: found.notes,
     })
 }
 

@@ -4,10 +4,9 @@ ghost use Rattle.std.specs.Prelude.{IfOk};
 ghost use Rattle.suggest80.specs.Suggestion.{IsFound};
 
 use crate::bytes::find_bytes;
-use crate::covered::find_covered;
 use crate::names::find_named;
 use crate::setters::{Setter, find_setters};
-use cases80::find_reachable;
+use cases80::{find_covered, find_reachable};
 use image80::Image;
 use std::alloc::{AllocError, Global};
 use std::marker::Model;

@@ -1,4 +1,4 @@
-use Rattle.suggest80.specs.Ranges.{AreMarks}
+use Rattle.cases80.specs.Marks.{AreMarks}
 use Rattle.suggest80.specs.Suggestion.{is_data}
 use Rattle.suggest80.proofs.arranging.find_data.Given as goal
 

@@ -1,5 +1,5 @@
 use Rattle.std.proofs.Common.{◌+◌, subst, sym}
-use Rattle.suggest80.specs.Ranges.{AreMarks}
+use Rattle.cases80.specs.Marks.{AreMarks}
 use Rattle.suggest80.specs.Suggestion.{is_taken}
 use Rattle.suggest80.proofs.RangeLemmas.{marks_more}
 use Rattle.suggest80.proofs.arranging.find_taken.Goals as goal

@@ -1,4 +1,4 @@
-use Rattle.suggest80.specs.Ranges.{AreMarks}
+use Rattle.cases80.specs.Marks.{AreMarks}
 use Rattle.suggest80.specs.Suggestion.{is_taken}
 use Rattle.suggest80.proofs.arranging.find_taken.Given as goal
 

@@ -1,5 +1,6 @@
 use Rattle.std.proofs.Common.{◌∙◌, ap, subst}
-use Rattle.suggest80.specs.Ranges.{CoversBelow, marked}
+use Rattle.cases80.specs.Marks.{marked}
+use Rattle.suggest80.specs.Ranges.{CoversBelow}
 use Rattle.suggest80.specs.Stack.{IsStack}
 use Rattle.suggest80.specs.Suggestion.{Found, is_data, is_taken}
 use Rattle.suggest80.proofs.RangeLemmas.{covers_below, covers_marks}

@@ -1,6 +1,6 @@
 use Rattle.std.specs.Prelude.{take}
 use Rattle.suggest80.specs.Bytes.{has_byte}
-use Rattle.suggest80.specs.Ranges.{AreMarks}
+use Rattle.cases80.specs.Marks.{AreMarks}
 use Rattle.suggest80.proofs.bytes.find_bytes.Given as goal
 
 abbrev pub invariant-loop-chunk : goal.invariant-loop-chunk

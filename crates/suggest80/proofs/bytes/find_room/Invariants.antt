@@ -1,6 +1,6 @@
 use Rattle.std.specs.Prelude.{◌&&◌, ◌||◌, ◌==◌, length}
 use Rattle.image80.specs.Range.{in_ranges}
-use Rattle.suggest80.specs.Ranges.{AreMarks, marked}
+use Rattle.cases80.specs.Marks.{AreMarks, marked}
 use Rattle.suggest80.proofs.bytes.find_room.Given as goal
 
 abbrev pub invariant-loop-address : goal.invariant-loop-address

@@ -1,6 +1,6 @@
 use Rattle.std.specs.Prelude.{◌≡◌, ◌-◌, ◌≤◌, ◌<◌, ◌||◌, ℕ, length}
 use Rattle.suggest80.specs.Bytes.{in_span}
-use Rattle.suggest80.specs.Ranges.{marked}
+use Rattle.cases80.specs.Marks.{marked}
 use Rattle.suggest80.proofs.bytes.mark_span.Given as goal
 
 abbrev pub invariant-loop-address : goal.invariant-loop-address

@@ -1,6 +1,7 @@
 use Rattle.std.proofs.Common.{◌+◌, ◌<◌, arith, refl, subst, sym}
 use Rattle.image80.specs.declared.range.Range.{Range}
-use Rattle.suggest80.specs.Ranges.{CoversBelow, marked}
+use Rattle.cases80.specs.Marks.{marked}
+use Rattle.suggest80.specs.Ranges.{CoversBelow}
 use Rattle.suggest80.proofs.RangeLemmas.{cover_more}
 use Rattle.suggest80.proofs.ranges.ranges_of.Goals as goal
 

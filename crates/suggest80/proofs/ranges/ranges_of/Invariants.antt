@@ -1,5 +1,6 @@
 use Rattle.std.specs.Prelude.{◌-◌, ◌≤◌}
-use Rattle.suggest80.specs.Ranges.{CoversBelow, marked}
+use Rattle.cases80.specs.Marks.{marked}
+use Rattle.suggest80.specs.Ranges.{CoversBelow}
 use Rattle.suggest80.proofs.ranges.ranges_of.Given as goal
 
 abbrev pub invariant-loop-at : goal.invariant-loop-at

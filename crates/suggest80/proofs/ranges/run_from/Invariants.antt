@@ -1,5 +1,5 @@
 use Rattle.std.specs.Prelude.{◌≡◌, ◌+◌, ◌-◌, ◌≤◌, ◌<◌, ℕ, true}
-use Rattle.suggest80.specs.Ranges.{marked}
+use Rattle.cases80.specs.Marks.{marked}
 use Rattle.suggest80.proofs.ranges.run_from.Given as goal
 
 abbrev pub invariant-loop-run : goal.invariant-loop-run

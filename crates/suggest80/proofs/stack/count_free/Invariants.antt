@@ -1,5 +1,5 @@
 use Rattle.std.specs.Prelude.{◌≡◌, ◌-◌, ◌≤◌, ◌<◌, ℕ, false}
-use Rattle.suggest80.specs.Ranges.{marked}
+use Rattle.cases80.specs.Marks.{marked}
 use Rattle.suggest80.proofs.stack.count_free.Given as goal
 
 abbrev pub invariant-loop-free : goal.invariant-loop-free

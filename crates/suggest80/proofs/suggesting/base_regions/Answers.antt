@@ -3,7 +3,8 @@ use Rattle.std.specs.Prelude.{◌&&◌, ◌||◌, ◌==◌, length}
 use Rattle.image80.specs.Image.{Located}
 use Rattle.image80.specs.Range.{in_ranges}
 use Rattle.suggest80.specs.Bytes.{has_byte, may_be_code}
-use Rattle.suggest80.specs.Ranges.{AreMarks, CoversBelow, marked}
+use Rattle.cases80.specs.Marks.{AreMarks, marked}
+use Rattle.suggest80.specs.Ranges.{CoversBelow}
 use Rattle.suggest80.proofs.RangeLemmas.{covers_marks, covers_permuted, covers_same}
 use Rattle.suggest80.proofs.StackLemmas.{apart_alone}
 use Rattle.suggest80.proofs.suggesting.base_regions.Goals as goal

@@ -6,8 +6,11 @@ use Rattle.cases80.specs.Suggested.{AreSuggested}
 use Rattle.suggest80.specs.Suggestion.{Found, IsArranged, IsFound, IsSuggestion, IsWanted, with_regions}
 use Rattle.suggest80.proofs.suggesting.suggest_regions.Goals as goal
 
+pub arrange-requires-clause-by_address : goal.arrange-requires-clause-by_address
+arrange-requires-clause-by_address c = subst AreByAddress (sym c.deref-2.ensures.value) c.in_ok-found.ensures.suggested.by_address
+
 pub arrange-requires-2-clause-by_address : goal.arrange-requires-2-clause-by_address
-arrange-requires-2-clause-by_address c = subst AreByAddress (sym c.deref-3.ensures.value) c.in_ok-found.ensures.by_address
+arrange-requires-2-clause-by_address c = subst AreByAddress (sym c.deref-3.ensures.value) c.in_ok-found.ensures.suggested.by_address
 
 pub returns : goal.returns
 returns c =

@@ -1,6 +1,6 @@
-use Rattle.suggest80.specs.Code.{is_covered}
-use Rattle.suggest80.specs.Ranges.{AreMarks}
-use Rattle.suggest80.proofs.covered.find_covered.Given as goal
+use Rattle.cases80.specs.Covered.{is_covered}
+use Rattle.cases80.specs.Marks.{AreMarks}
+use Rattle.cases80.proofs.covered.find_covered.Given as goal
 
 abbrev pub invariant-loop-address : goal.invariant-loop-address
 invariant-loop-address l = record {

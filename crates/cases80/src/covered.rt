@@ -1,8 +1,8 @@
 //! The bytes of the instructions that the program may come to.
 
 ghost use Rattle.std.specs.Prelude.{◌≡◌, ◌<◌, length, IfOk};
-ghost use Rattle.suggest80.specs.Code.{is_covered, size_at};
-ghost use Rattle.suggest80.specs.Ranges.{AreMarks};
+ghost use Rattle.cases80.specs.Covered.{is_covered, size_at};
+ghost use Rattle.cases80.specs.Marks.{AreMarks};
 
 use decode80::{FetchFault, behind, fetch};
 use std::alloc::{AllocError, Global};
@@ -12,7 +12,7 @@ use verify80::ImageCode;
 ///
 /// # Errors
 /// `AllocError` only if memory runs out.
-pub(crate) fn find_covered(
+pub fn find_covered(
     alloc: Global,
     code: &ImageCode<'_>,
     reached: &[bool],
@@ -28,7 +28,7 @@ pub(crate) fn find_covered(
 }
 
 /// How many bytes the instruction at a marked address has; 0 if the address isn't marked, or the code has no instruction there.
-#[tactic(auto, unfolding(crate::specs::Code::size_at))]
+#[tactic(auto, unfolding(crate::specs::Covered::size_at))]
 fn size_at(code: &ImageCode<'_>, reached: &[bool], at: u16) -> u16
     requires { length reached.now ≡ 65536 }
     ensures { result ≡ size_at code.now reached.now at }

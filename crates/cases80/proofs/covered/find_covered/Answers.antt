@@ -1,8 +1,8 @@
 use Rattle.std.proofs.Common.{◌+◌, subst, sym}
-use Rattle.suggest80.specs.Code.{is_covered}
-use Rattle.suggest80.specs.Ranges.{AreMarks}
-use Rattle.suggest80.proofs.RangeLemmas.{marks_more}
-use Rattle.suggest80.proofs.covered.find_covered.Goals as goal
+use Rattle.cases80.specs.Covered.{is_covered}
+use Rattle.cases80.specs.Marks.{AreMarks}
+use Rattle.cases80.proofs.MarkLemmas.{marks_more}
+use Rattle.cases80.proofs.covered.find_covered.Goals as goal
 
 pub loop-address-preserved : goal.loop-address-preserved
 loop-address-preserved c =

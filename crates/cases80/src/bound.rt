@@ -1,0 +1,104 @@
+//! A comparison that bounds the index of a table:
+//!
+//! ```text
+//! CPI n
+//! JNC elsewhere  (or RNC)
+//! MOV E,A        (or MOV C,A, MOV L,A)
+//! MVI D,0        (or of B, H)
+//! LXI H,table
+//! DAD D
+//! ```
+//!
+//! Others may stand between, if they leave the flags, A but for doubling it, and then the pair.
+
+use crate::changes::{may_change, may_change_a, may_change_carry};
+use decode80::{Condition, Instr, Operand, Operation, Pair, Register};
+
+/// What a comparison has left of its bound, by the address of its CPI.
+#[derive(Clone, Copy)]
+pub(crate) enum Bound {
+    /// There is none.
+    Unknown,
+    /// The carry flag says whether A is below the operand.
+    Compared(u16),
+    /// A is below the operand, or was before it was doubled.
+    Below(u16),
+    /// The pair has in its low byte what A had.
+    Index(u16, Pair),
+    /// The pair was added to the table's address, once at least.
+    Added(u16),
+}
+
+impl Bound {
+    /// The CPI that bounds the index which is in HL.
+    pub(crate) fn comparison(self) -> Option<u16> {
+        match self {
+            Bound::Added(cpi) => Some(cpi),
+            _ => None,
+        }
+    }
+
+    /// What is left after an instruction at an address.
+    pub(crate) fn after(self, at: u16, instr: Instr) -> Bound {
+        match instr {
+            Instr::Operate(Operation::Compare, Operand::Immediate(_)) => Bound::Compared(at),
+            Instr::Call(_) | Instr::CallIf(_, _) | Instr::Rst(_) => Bound::Unknown,
+            _ => self.after_other(instr),
+        }
+    }
+
+    /// What is left after an instruction that is neither a CPI nor a call.
+    fn after_other(self, instr: Instr) -> Bound {
+        match self {
+            Bound::Unknown => Bound::Unknown,
+            Bound::Compared(cpi) => compared_after(cpi, instr),
+            Bound::Below(cpi) => below_after(cpi, instr),
+            Bound::Index(cpi, pair) => index_after(cpi, pair, instr),
+            Bound::Added(cpi) => added_after(cpi, instr),
+        }
+    }
+}
+
+/// After an instruction behind the comparison.
+fn compared_after(cpi: u16, instr: Instr) -> Bound {
+    match instr {
+        Instr::JumpIf(Condition::NoCarry, _) | Instr::ReturnIf(Condition::NoCarry) => Bound::Below(
+            cpi,
+        ),
+        _ if may_change_carry(instr) || may_change_a(instr) => Bound::Unknown,
+        _ => Bound::Compared(cpi),
+    }
+}
+
+/// After an instruction where A is below the operand.
+fn below_after(cpi: u16, instr: Instr) -> Bound {
+    match instr {
+        Instr::Mov(Register::C, Register::A) => Bound::Index(cpi, Pair::Bc),
+        Instr::Mov(Register::E, Register::A) => Bound::Index(cpi, Pair::De),
+        Instr::Mov(Register::L, Register::A) => Bound::Index(cpi, Pair::Hl),
+        _ if may_change_a(instr) => Bound::Unknown,
+        _ => Bound::Below(cpi),
+    }
+}
+
+/// After an instruction where a pair has the index.
+fn index_after(cpi: u16, pair: Pair, instr: Instr) -> Bound {
+    match (instr, pair) {
+        (Instr::Mvi(Register::B, 0), Pair::Bc)
+        | (Instr::Mvi(Register::D, 0), Pair::De)
+        | (Instr::Mvi(Register::H, 0) | Instr::Dad(Pair::Hl), Pair::Hl) => Bound::Index(cpi, pair),
+        (Instr::Xchg, Pair::De) => Bound::Index(cpi, Pair::Hl),
+        (Instr::Xchg, Pair::Hl) => Bound::Index(cpi, Pair::De),
+        (Instr::Dad(added), _) if added == pair || pair == Pair::Hl => Bound::Added(cpi),
+        _ if may_change(instr, pair) => Bound::Unknown,
+        _ => Bound::Index(cpi, pair),
+    }
+}
+
+/// After an instruction where the index was added.
+fn added_after(cpi: u16, instr: Instr) -> Bound {
+    match instr {
+        Instr::Lxi(Pair::Hl, _) => Bound::Unknown,
+        _ => Bound::Added(cpi),
+    }
+}
