@@ -13,7 +13,7 @@ use Rattle.std.proofs.lemmas.List.Sums.{sum_by-append, sum_by-cons}
 use Rattle.flow80.specs.Code.{Code}
 use Rattle.explain80.specs.declared.point.Point.{Point}
 use Rattle.explain80.specs.declared.search.Search.{Search}
-use Rattle.explain80.specs.Counts.{AreDistinct, ComesToMore, HasHeavy, IsHeavy, weight_of, weight_of_all}
+use Rattle.explain80.specs.Counts.{AreDistinct, ComesToMore, GoesDeep, HasDeep, weight_of, weight_of_all}
 use Rattle.explain80.specs.PointEquality.{point_decides, point_eq}
 use Rattle.explain80.specs.Search.{IsCounted, IsSound, IsUnderWay}
 use Rattle.explain80.specs.Ways.{IsWalked}
@@ -56,15 +56,15 @@ weight-push code points new point e =
 
 -- a point weighs one at least, and as much as its words
 module _ (code : Code) where
-  pub weighs : (point : Point) → 1 + length point.frame.words + point.frame.taken ≤ weight_of code point
-  weighs point = le-mul_of_pos_right (1 + length point.frame.words + point.frame.taken) (omega arith)
+  pub weighs : (point : Point) → 8 + length point.frame.words + point.frame.taken ≤ weight_of code point
+  weighs point = le-mul_of_pos_right (8 + length point.frame.words + point.frame.taken) (omega arith)
 
-  pub many : (points : List Point) → length points ≤ weight_of_all code points
+  pub many : (points : List Point) → 8 * length points ≤ weight_of_all code points
   many [] = omega arith
   many (p ∷ ps) = let rest = many ps in let one = weighs p in let all = sum_by-cons (weight_of code) p ps in
       grow (weight_of code p) (weight_of_all code ps) (weight_of_all code (p ∷ ps)) (length ps) (length p.frame.words) p.frame.taken all one rest
     where
-      grow : (w ws all n a b : ℕ) → all ≡ w + ws → 1 + a + b ≤ w → n ≤ ws → suc n ≤ all
+      grow : (w ws all n a b : ℕ) → all ≡ w + ws → 8 + a + b ≤ w → 8 * n ≤ ws → 8 * suc n ≤ all
       grow w ws all n a b e one rest = omega (arith, e, one, rest)
 
   pub less : (a b : ℕ) → a ≤ b → ComesToMore code b → ComesToMore code a
@@ -74,25 +74,8 @@ module _ (code : Code) where
       smaller a b n h more = omega (arith, h, more)
 
   module _ (s : Search) (h : IsSound code s) where
-    pub heavy-more : HasHeavy code s.points.keys → ComesToMore code 1000000
-    heavy-more heavy = record {
-      points = heavy.point ∷ [];
-      walked = λ n point is. alone n point is;
-      distinct = record { once = λ i j point a b. only i j point a b };
-      more = subst (λ n. 1000000 < n) (sym (sum_by-cons (weight_of code) heavy.point [])) (plus (weight_of code heavy.point) heavy.heavy);
-    }
-      where
-        plus : (w : ℕ) → 1000000 < w → 1000000 < w + 0
-        plus w e = omega (arith, e)
-
-        alone : (n : ℕ) (point : Point) → slice_get (heavy.point ∷ []) n ≡ Some point → IsWalked code point
-        alone zero point is = subst (IsWalked code) (same_Some heavy.point point is) (walked code s h heavy.number heavy.point heavy.is)
-        alone (suc n) point is = absurd (none-some point is)
-
-        only : (i j : ℕ) (point : Point) → slice_get (heavy.point ∷ []) i ≡ Some point → slice_get (heavy.point ∷ []) j ≡ Some point → i ≡ j
-        only zero zero point a b = refl
-        only zero (suc j) point a b = absurd (none-some point b)
-        only (suc i) j point a b = absurd (none-some point a)
+    pub goes-deep : HasDeep s.points.keys → GoesDeep code
+    goes-deep d = record { point = d.point; walked = walked code s h d.number d.point d.is; deep = d.deep }
 
     pub counted-more : (n : ℕ) → IsCounted code s → n < s.weight → ComesToMore code n
     counted-more n c below = record {
@@ -105,20 +88,20 @@ module _ (code : Code) where
         more : (n w all : ℕ) → n < w → w ≤ all → n < all
         more n w all a b = omega (arith, a, b)
 
-    pub points-more : (n : ℕ) → IsCounted code s → n < length s.points.keys → ComesToMore code n
+    pub points-more : (n : ℕ) → IsCounted code s → n < 8 * length s.points.keys → ComesToMore code n
     points-more n c below = record {
       points = s.points.keys;
       walked = λ k point is. walked code s h k point is;
       distinct = c.distinct;
-      more = more n (length s.points.keys) (weight_of_all code s.points.keys) below (many s.points.keys);
+      more = more n (8 * length s.points.keys) (weight_of_all code s.points.keys) below (many s.points.keys);
     }
       where
         more : (n w all : ℕ) → n < w → w ≤ all → n < all
         more n w all a b = omega (arith, a, b)
 
   -- a search on its way has no more calls than points
-  pub calls-more : (s : Search) (n : ℕ) → IsUnderWay code s → n < length s.calls.items → ComesToMore code n
-  calls-more s n w below = let calls = w.calls in let followed = w.followed in points-more s w.sound n w.counted (omega (arith, below, calls, followed))
+  pub calls-more : (s : Search) → IsUnderWay code s → 262144 < length s.calls.items → ComesToMore code 2097152
+  calls-more s w below = let calls = w.calls in let followed = w.followed in points-more s w.sound 2097152 w.counted (omega (arith, below, calls, followed))
 
 -- one more point is counted
 pub counted-push : (code : Code) (old new : Search) (point : Point) (weight : ℕ) → new.points.keys ≡ old.points.keys ++ point ∷ [] → list_any (point_eq point) old.points.keys ≡ false → weight ≤ weight_of code point → new.weight ≤ old.weight + weight → IsCounted code old → IsCounted code new
@@ -135,16 +118,6 @@ counted-same code old new points weight c = record {
   distinct = subst AreDistinct (sym points) c.distinct;
   weight = subst (λ xs. new.weight ≤ weight_of_all code xs) (sym points) (subst (λ n. n ≤ weight_of_all code old.points.keys) (sym weight) c.weight);
 }
-
--- a point that has so many words is heavy
-pub heavy-less : (code : Code) (s : Search) → IsSound code s → HasHeavy code s.points.keys → ComesToMore code 262144
-heavy-less code s h heavy = less code 262144 1000000 (omega arith) (heavy-more code s h heavy)
-
-pub heavy-words : (code : Code) (point : Point) → 1000000 < 1 + length point.frame.words + point.frame.taken → IsHeavy code point
-heavy-words code point more = by (1 + length point.frame.words + point.frame.taken) (weight_of code point) more (weighs code point)
-  where
-    by : (a b : ℕ) → 1000000 < a → a ≤ b → 1000000 < b
-    by a b h k = omega (arith, h, k)
 
 -- where a call stops by the limit, what it calls did
 abbrev pub why_stopped : {T : Type 0} → Result T Stop → Stop

@@ -1,6 +1,6 @@
 //! The chain of calls that a stack bound adds up.
 
-ghost use Rattle.std.specs.Prelude.{◌≡◌, ◌↔◌, ◌<◌, ◌≤◌, ◌++◌, ◌∷◌, [], ℕ, List, Contains, Err, Some, pos, true, length, slice_get, All, IfNone, IfOk, IfSome, OnOk};
+ghost use Rattle.std.specs.Prelude.{◌≡◌, ◌↔◌, ◌⊎◌, ◌<◌, ◌≤◌, ◌++◌, ◌∷◌, [], ℕ, List, Contains, Err, Some, pos, true, length, slice_get, All, IfNone, IfOk, IfSome, OnOk};
 ghost use Rattle.bounds80.specs.Chains.{IsModest, bytes_of};
 ghost use Rattle.bounds80.specs.declared.procedure.Procedure.TheVariants.{Main};
 ghost use Rattle.frames80.specs.Calls.{depth_of};
@@ -10,7 +10,7 @@ ghost use Rattle.bounds80.specs.declared.graph.Depth.{Depth as DepthSeen};
 ghost use Rattle.explain80.specs.declared.point.Point.{Point as PointSeen};
 ghost use Rattle.explain80.specs.declared.fault.Unexplained.TheVariants.{Limit, NotShown};
 ghost use Rattle.explain80.specs.declared.fault.Stop.TheVariants.{Limit as StopsByLimit};
-ghost use Rattle.explain80.specs.Counts.{ComesToMore, IsHeavy};
+ghost use Rattle.explain80.specs.Counts.{ComesToMore, GoesDeep, IsDeep};
 ghost use Rattle.explain80.specs.Chains.{AddsUp, AreDepthsOf, AreGreatestOf, AreSitesOf, CallsAt, ChainsTo, EndsWith, IsNextCall, IsNotTheBound, NoneStands, NoNextCall};
 ghost use Rattle.explain80.specs.Search.{IsClosed, IsSound, IsUnderWay};
 
@@ -78,8 +78,8 @@ fn site_of(caller: &Point, depth: i64, target: u16) -> CallSite
 /// as `verify` reports it, or as the refusal `StackTooSmall` names it. The limit is that of [`explain`](crate::explain).
 ///
 /// # Errors
-/// `NotShown` if the bound is another number, or a procedure calls itself. `Limit` only if walks come to points that weigh more than
-/// the limit, or more than 262,144. `Memory` if memory runs out.
+/// `NotShown` if the bound is another number, or a procedure calls itself. `Limit` only if walks come to different points that
+/// weigh more than the limit, or more than 2,097,152, or to a point with more than 1,000,000 words. `Memory` if memory runs out.
 pub fn find_chain(
     alloc: Global,
     image: &Image,
@@ -88,7 +88,8 @@ pub fn find_chain(
 ) -> Result<Chain, Unexplained>
     ensures chain { IfOk result (ChainsTo (code_of image.now) bytes) }
     ensures none { result ≡ Err NotShown → IsNotTheBound (code_of image.now) bytes }
-    ensures limited { result ≡ Err Limit → (n : ℕ) → n ≤ limit → n ≤ 262144 → ComesToMore (code_of image.now) n }
+    ensures limited { result ≡ Err Limit → GoesDeep (code_of image.now)
+        ⊎ ((n : ℕ) → n ≤ limit → n ≤ 2097152 → ComesToMore (code_of image.now) n) }
 {
     let code = ImageCode::new(alloc, image)?;
     chain_of(alloc, &code, bytes, limit)
@@ -103,7 +104,8 @@ fn chain_of<C: Code>(
 ) -> Result<Chain, Unexplained>
     ensures chain { IfOk result (ChainsTo (C.code program.now) bytes) }
     ensures none { result ≡ Err NotShown → IsNotTheBound (C.code program.now) bytes }
-    ensures limited { result ≡ Err Limit → (n : ℕ) → n ≤ limit → n ≤ 262144 → ComesToMore (C.code program.now) n }
+    ensures limited { result ≡ Err Limit → GoesDeep (C.code program.now)
+        ⊎ ((n : ℕ) → n ≤ limit → n ≤ 2097152 → ComesToMore (C.code program.now) n) }
 {
     let mut search = Search::new(alloc, program)?;
     if !search.grow(alloc, program, limit)? {
@@ -127,7 +129,7 @@ impl Search {
         requires closed { IsClosed (C.code program.now) self.now.points.keys self.now.exits.items self.now.calls.items }
         ensures chain { IfOk result (λ chain. IfSome chain (ChainsTo (C.code program.now) bytes)) }
         ensures none { IfOk result (λ chain. IfNone chain (IsNotTheBound (C.code program.now) bytes)) }
-        ensures limited { result ≡ Err StopsByLimit → ComesToMore (C.code program.now) 262144 }
+        ensures limited { result ≡ Err StopsByLimit → GoesDeep (C.code program.now) ⊎ ComesToMore (C.code program.now) 2097152 }
     {
         let depths = self.depths(alloc, program)?;
         let sites = self.sites(alloc, program)?;
@@ -150,7 +152,7 @@ impl Search {
         requires { IsSound (C.code program.now) self.now }
         ensures all { IfOk result (λ depths. AreDepthsOf (C.code program.now) self.now.points.keys depths.items) }
         ensures modest { IfOk result (λ depths. All (λ d. IsModest d.depth) depths.items) }
-        ensures limited { result ≡ Err StopsByLimit → ComesToMore (C.code program.now) 262144 }
+        ensures limited { result ≡ Err StopsByLimit → GoesDeep (C.code program.now) }
     {
         let mut depths = Vec::new(alloc);
         for point in self.points.as_slice() {
@@ -167,7 +169,7 @@ impl Search {
         ensures all { IfOk result (λ sites. AreSitesOf (C.code program.now) self.now sites.items) }
         ensures calls { IfOk result (λ sites. All (CallsAt (C.code program.now)) sites.items) }
         ensures modest { IfOk result (λ sites. All (λ s. IsModest s.depth) sites.items) }
-        ensures limited { result ≡ Err StopsByLimit → ComesToMore (C.code program.now) 262144 }
+        ensures limited { result ≡ Err StopsByLimit → GoesDeep (C.code program.now) }
     {
         let mut sites = Vec::new(alloc);
         for number in 0..self.calls.len() {
@@ -192,7 +194,7 @@ impl Search {
         ensures chain { IfOk result (λ chain. IfSome chain (ChainsTo (C.code program.now) (bytes_of bounds.now Main))) }
         ensures none { IfOk result (λ chain. IfNone chain ((depths : List DepthSeen)
             → AreGreatestOf (C.code program.now) self.now depths sites.now bounds.now → ⊥)) }
-        ensures limited { result ≡ Err StopsByLimit → ComesToMore (C.code program.now) 262144 }
+        ensures limited { result ≡ Err StopsByLimit → GoesDeep (C.code program.now) }
     {
         let likely_points = self.likely_points(alloc, program, bounds)?;
         let likely_calls = likely_calls(alloc, sites, bounds)?;
@@ -224,7 +226,7 @@ impl Search {
     ) -> Result<Vec<Option<usize>>, Stop>
         requires { IsSound (C.code program.now) self.now }
         ensures table { IfOk result (λ likely. length likely.items ≡ 65537) }
-        ensures limited { result ≡ Err StopsByLimit → ComesToMore (C.code program.now) 262144 }
+        ensures limited { result ≡ Err StopsByLimit → GoesDeep (C.code program.now) }
     {
         let mut likely = table(alloc, None, SLOTS)?;
         for number in 0..self.points.len() {
@@ -249,7 +251,7 @@ impl Search {
         requires sound { IsSound (C.code program.now) self.now }
         requires table { length likely.now ≡ 65537 }
         ensures last { IfOk result (λ last. IfSome last (EndsWith (C.code program.now) procedure bytes)) }
-        ensures limited { result ≡ Err StopsByLimit → ComesToMore (C.code program.now) 262144 }
+        ensures limited { result ≡ Err StopsByLimit → GoesDeep (C.code program.now) }
     {
         let named = likely[slot(procedure)];
         match named {
@@ -273,7 +275,7 @@ impl Search {
         ensures last { IfOk result (λ last. IfSome last (EndsWith (C.code program.now) procedure bytes)) }
         ensures none { IfOk result (λ last. IfNone last ((point : PointSeen) → slice_get self.now.points.keys number ≡ Some point
             → point.procedure ≡ procedure → pos bytes ≡ depth_of (role_in (C.code program.now) point.procedure) point.frame → ⊥)) }
-        ensures limited { result ≡ Err StopsByLimit → ComesToMore (C.code program.now) 262144 }
+        ensures limited { result ≡ Err StopsByLimit → GoesDeep (C.code program.now) }
     {
         let point = &self.points[number];
         if is_of(point, procedure) {
@@ -295,7 +297,7 @@ impl Search {
         requires { IsSound (C.code program.now) self.now }
         ensures last { IfOk result (λ last. IfSome last (EndsWith (C.code program.now) procedure bytes)) }
         ensures none { IfOk result (λ last. IfNone last (NoneStands (C.code program.now) self.now.points.keys procedure bytes)) }
-        ensures limited { result ≡ Err StopsByLimit → ComesToMore (C.code program.now) 262144 }
+        ensures limited { result ≡ Err StopsByLimit → GoesDeep (C.code program.now) }
     {
         for number in 0..self.points.len() {
             if let Some(last) = self.last_at(program, number, procedure, bytes)? {
@@ -335,7 +337,7 @@ fn comes_to(depth: i64, bytes: u64) -> bool
 fn depth_at<C: Code>(program: &C, point: &Point) -> Result<i64, Stop>
     ensures depth { IfOk result (λ d. d ≡ depth_of (role_in (C.code program.now) point.now.procedure) point.now.frame) }
     ensures modest { IfOk result IsModest }
-    ensures limited { result ≡ Err StopsByLimit → IsHeavy (C.code program.now) point.now }
+    ensures limited { result ≡ Err StopsByLimit → IsDeep point.now }
 {
     if point.frame.taken as usize > MOST_WORDS || point.frame.words.len() > MOST_WORDS {
         return Err(Stop::Limit);

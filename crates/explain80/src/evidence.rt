@@ -4,7 +4,7 @@ ghost use Rattle.std.specs.Prelude.{◌≡◌, ◌↔◌, ◌⊎◌, ℕ, true, 
 ghost use Rattle.frames80.specs.Calls.{room};
 ghost use Rattle.flow80.specs.Walks.{Returns, called, returning};
 ghost use Rattle.explain80.specs.declared.fault.Stop.TheVariants.{Limit};
-ghost use Rattle.explain80.specs.Counts.{HasHeavy, IsHeavy};
+ghost use Rattle.explain80.specs.Counts.{HasDeep, IsDeep};
 ghost use Rattle.explain80.specs.Evidence.{ArePair, AreNoPair, CallsTo, ClashAt, FaultAt, IsOne, IsNoOne};
 ghost use Rattle.explain80.specs.Shows.{DifferAt, ShortAt, UnevenAt};
 
@@ -56,7 +56,7 @@ pub(crate) fn find_fault<C: Code>(
     ensures found { IfOk result (λ found.
         IfSome found (λ number. IsOne points.now (FaultAt (C.code program.now) at fault) number)) }
     ensures none { IfOk result (λ found. IfNone found (IsNoOne points.now (FaultAt (C.code program.now) at fault))) }
-    ensures limited { result ≡ Err Limit → HasHeavy (C.code program.now) points.now }
+    ensures limited { result ≡ Err Limit → HasDeep points.now }
 {
     for number in 0..points.len() {
         if is_fault(alloc, program, &points[number], at, fault)? {
@@ -76,7 +76,7 @@ fn is_fault<C: Code>(
 ) -> Result<bool, Stop>
     ensures yes { IfOk result (λ r. r ≡ true → FaultAt (C.code program.now) at fault point.now) }
     ensures no { IfOk result (λ r. FaultAt (C.code program.now) at fault point.now → r ≡ true) }
-    ensures limited { result ≡ Err Limit → IsHeavy (C.code program.now) point.now }
+    ensures limited { result ≡ Err Limit → IsDeep point.now }
 {
     if point.at != at {
         return Ok(false);
@@ -114,7 +114,7 @@ pub(crate) fn find_clash<C: Code>(
 ) -> Result<Option<Pair>, Stop>
     ensures found { IfOk result (λ found. IfSome found (ArePair points.now (ClashAt (C.code program.now) at clash))) }
     ensures none { IfOk result (λ found. IfNone found (AreNoPair points.now (ClashAt (C.code program.now) at clash))) }
-    ensures limited { result ≡ Err Limit → HasHeavy (C.code program.now) points.now }
+    ensures limited { result ≡ Err Limit → HasDeep points.now }
 {
     for one in 0..points.len() {
         if let Some(other) = find_other(alloc, program, points, &points[one], at, clash)? {
@@ -135,7 +135,7 @@ fn find_other<C: Code>(
 ) -> Result<Option<usize>, Stop>
     ensures found { IfOk result (λ found. IfSome found (IsOne points.now (ClashAt (C.code program.now) at clash one.now))) }
     ensures none { IfOk result (λ found. IfNone found (IsNoOne points.now (ClashAt (C.code program.now) at clash one.now))) }
-    ensures limited { result ≡ Err Limit → IsHeavy (C.code program.now) one.now ⊎ HasHeavy (C.code program.now) points.now }
+    ensures limited { result ≡ Err Limit → IsDeep one.now ⊎ HasDeep points.now }
 {
     if one.at != at {
         return Ok(None);
@@ -158,7 +158,7 @@ fn is_clash<C: Code>(
 ) -> Result<bool, Stop>
     ensures yes { IfOk result (λ r. r ≡ true → ClashAt (C.code program.now) one.now.at clash one.now other.now) }
     ensures no { IfOk result (λ r. ClashAt (C.code program.now) one.now.at clash one.now other.now → r ≡ true) }
-    ensures limited { result ≡ Err Limit → IsHeavy (C.code program.now) one.now ⊎ IsHeavy (C.code program.now) other.now }
+    ensures limited { result ≡ Err Limit → IsDeep one.now ⊎ IsDeep other.now }
 {
     match clash {
         Clash::Heights => Ok(do_heights_differ(one, other)),
@@ -186,7 +186,7 @@ fn do_returns_differ<C: Code>(
 ) -> Result<bool, Stop>
     ensures yes { IfOk result (λ r. r ≡ true → UnevenAt (C.code program.now) one.now.at one.now other.now) }
     ensures no { IfOk result (λ r. UnevenAt (C.code program.now) one.now.at one.now other.now → r ≡ true) }
-    ensures limited { result ≡ Err Limit → IsHeavy (C.code program.now) one.now ⊎ IsHeavy (C.code program.now) other.now }
+    ensures limited { result ≡ Err Limit → IsDeep one.now ⊎ IsDeep other.now }
 {
     if !are_of_one(one, other) {
         return Ok(false);
@@ -216,7 +216,7 @@ fn is_shortage<C: Code>(
 ) -> Result<bool, Stop>
     ensures yes { IfOk result (λ r. r ≡ true → ShortAt (C.code program.now) one.now.at one.now other.now) }
     ensures no { IfOk result (λ r. ShortAt (C.code program.now) one.now.at one.now other.now → r ≡ true) }
-    ensures limited { result ≡ Err Limit → IsHeavy (C.code program.now) one.now ⊎ IsHeavy (C.code program.now) other.now }
+    ensures limited { result ≡ Err Limit → IsDeep one.now ⊎ IsDeep other.now }
 {
     if other.frame.taken == 0 {
         return Ok(false);
@@ -244,7 +244,7 @@ fn words_taken<C: Code>(alloc: Global, program: &C, point: &Point) -> Result<Opt
         IfSome r (Returns (C.code program.now) point.now.procedure point.now.at point.now.frame)) }
     ensures none { IfOk result (λ r. IfNone r ((taken : ℕ)
         → Returns (C.code program.now) point.now.procedure point.now.at point.now.frame taken → ⊥)) }
-    ensures limited { result ≡ Err Limit → IsHeavy (C.code program.now) point.now }
+    ensures limited { result ≡ Err Limit → IsDeep point.now }
 {
     match look_at(alloc, program, point)? {
         Looked::Moved(moves, _next) => Ok(returning(&moves)),
@@ -268,7 +268,7 @@ fn returning(moves: &Moves) -> Option<u32>
 fn target_called<C: Code>(alloc: Global, program: &C, point: &Point) -> Result<Option<u16>, Stop>
     ensures calls { IfOk result (λ r. IfSome r (CallsTo (C.code program.now) point.now)) }
     ensures none { IfOk result (λ r. IfNone r ((target : ℕ) → CallsTo (C.code program.now) point.now target → ⊥)) }
-    ensures limited { result ≡ Err Limit → IsHeavy (C.code program.now) point.now }
+    ensures limited { result ≡ Err Limit → IsDeep point.now }
 {
     match look_at(alloc, program, point)? {
         Looked::Moved(moves, _next) => Ok(called(&moves)),

@@ -1,10 +1,10 @@
 //! A refusal is explained.
 
-ghost use Rattle.std.specs.Prelude.{◌≡◌, ◌≤◌, ℕ, IfOk, Err};
+ghost use Rattle.std.specs.Prelude.{◌≡◌, ◌⊎◌, IfOk, Err};
 ghost use Rattle.flow80.specs.Faults.{Holds, Recurs};
 ghost use Rattle.verify80.specs.Looking.{code_of};
 ghost use Rattle.explain80.specs.declared.fault.Unexplained.TheVariants.{Limit, NotShown};
-ghost use Rattle.explain80.specs.Counts.{ComesToMore};
+ghost use Rattle.explain80.specs.Counts.{ComesToMore, GoesDeep};
 ghost use Rattle.explain80.specs.Shows.{ByRing, Shows};
 ghost use Rattle.explain80.specs.Sought.{IsNotShown, IsOfNoWay, NoWalksShow, ShowsSought};
 
@@ -24,13 +24,13 @@ const FIRST_WEIGHT: usize = 1_024;
 /// merged.
 ///
 /// For `Recursion` it is the calls that lead back to a procedure. `StackTooSmall` has a chain of calls instead of a way:
-/// [`find_chain`](crate::find_chain). The limit is on what the points that are found weigh together: each weighs one, one more for
-/// each word of its frame and for each word taken, and as much again for each target that is declared at its address.
+/// [`find_chain`](crate::find_chain). The limit is on what the points that are found weigh together: eight for each point, one for
+/// each word of its frame and each word taken, and as much again for each target that is declared at its address.
 ///
 /// # Errors
 /// `NotShown` if every walk was followed to its end and none shows the refusal, which then doesn't hold; and for
-/// `StackTooSmall`, `TooManyPoints` and `Memory`, which no ways show. `Limit` only if walks come to points that weigh more than the
-/// limit, or more than 1,000,000. `Memory` if memory runs out.
+/// `StackTooSmall`, `TooManyPoints` and `Memory`, which no ways show. `Limit` only if walks come to different points that weigh more
+/// than the limit, or to a point with more than 1,000,000 words, its own and those taken. `Memory` if memory runs out.
 pub fn explain(
     alloc: Global,
     image: &Image,
@@ -39,7 +39,7 @@ pub fn explain(
 ) -> Result<Explanation, Unexplained>
     ensures shown { IfOk result (Shows (code_of image.now) refusal) }
     ensures none { result ≡ Err NotShown → Holds (code_of image.now) refusal → IsNotShown refusal }
-    ensures limited { result ≡ Err Limit → (n : ℕ) → n ≤ limit → n ≤ 1000000 → ComesToMore (code_of image.now) n }
+    ensures limited { result ≡ Err Limit → ComesToMore (code_of image.now) limit ⊎ GoesDeep (code_of image.now) }
 {
     let code = ImageCode::new(alloc, image)?;
     explain_code(alloc, &code, refusal, limit)
@@ -54,7 +54,7 @@ fn explain_code<C: Code>(
 ) -> Result<Explanation, Unexplained>
     ensures shown { IfOk result (Shows (C.code program.now) refusal) }
     ensures none { result ≡ Err NotShown → Holds (C.code program.now) refusal → IsNotShown refusal }
-    ensures limited { result ≡ Err Limit → (n : ℕ) → n ≤ limit → n ≤ 1000000 → ComesToMore (C.code program.now) n }
+    ensures limited { result ≡ Err Limit → ComesToMore (C.code program.now) limit ⊎ GoesDeep (C.code program.now) }
 {
     match Sought::of(refusal) {
         Some(sought) => explain_sought(alloc, program, sought, limit),
@@ -72,7 +72,7 @@ fn explain_wayless<C: Code>(
     requires { IsOfNoWay refusal }
     ensures shown { IfOk result (Shows (C.code program.now) refusal) }
     ensures none { result ≡ Err NotShown → Holds (C.code program.now) refusal → IsNotShown refusal }
-    ensures limited { result ≡ Err Limit → (n : ℕ) → n ≤ limit → n ≤ 1000000 → ComesToMore (C.code program.now) n }
+    ensures limited { result ≡ Err Limit → ComesToMore (C.code program.now) limit ⊎ GoesDeep (C.code program.now) }
 {
     match refusal {
         Refusal::Recursion(at) => explain_recursion(alloc, program, at, limit),
@@ -89,7 +89,7 @@ fn explain_recursion<C: Code>(
 ) -> Result<Explanation, Unexplained>
     ensures shown { IfOk result (ByRing (C.code program.now) at) }
     ensures none { result ≡ Err NotShown → Recurs (C.code program.now) at → ⊥ }
-    ensures limited { result ≡ Err Limit → (n : ℕ) → n ≤ limit → n ≤ 1000000 → ComesToMore (C.code program.now) n }
+    ensures limited { result ≡ Err Limit → ComesToMore (C.code program.now) limit ⊎ GoesDeep (C.code program.now) }
 {
     let mut search = Search::new(alloc, program)?;
     let mut weight = FIRST_WEIGHT;
@@ -117,7 +117,7 @@ fn explain_sought<C: Code>(
 ) -> Result<Explanation, Unexplained>
     ensures shown { IfOk result (ShowsSought (C.code program.now) sought) }
     ensures none { result ≡ Err NotShown → NoWalksShow (C.code program.now) sought.at sought.kind }
-    ensures limited { result ≡ Err Limit → (n : ℕ) → n ≤ limit → n ≤ 1000000 → ComesToMore (C.code program.now) n }
+    ensures limited { result ≡ Err Limit → ComesToMore (C.code program.now) limit ⊎ GoesDeep (C.code program.now) }
 {
     let mut search = Search::new(alloc, program)?;
     let mut weight = FIRST_WEIGHT;

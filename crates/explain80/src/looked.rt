@@ -3,7 +3,7 @@
 ghost use Rattle.std.specs.Prelude.{◌≡◌, ◌<◌, ◌+◌, Err, IfOk, length};
 ghost use Rattle.flow80.specs.Walks.{role_of};
 ghost use Rattle.explain80.specs.declared.fault.Stop.TheVariants.{Limit};
-ghost use Rattle.explain80.specs.Counts.{IsHeavy};
+ghost use Rattle.explain80.specs.Counts.{IsDeep};
 ghost use Rattle.explain80.specs.Search.{IsBack, IsLooked};
 
 use crate::fault::Stop;
@@ -32,7 +32,7 @@ pub(crate) enum Looked {
 /// `Limit` if the frame has more than 1,000,000 words, or as many taken; `Memory` if memory runs out.
 pub(crate) fn look_at<C: Code>(alloc: Global, program: &C, point: &Point) -> Result<Looked, Stop>
     ensures looked { IfOk result (IsLooked (C.code program.now) point.now) }
-    ensures limited { result ≡ Err Limit → IsHeavy (C.code program.now) point.now }
+    ensures limited { result ≡ Err Limit → IsDeep point.now }
 {
     let found = match program.look(point.at) {
         Ok(found) => found,
@@ -70,7 +70,7 @@ pub(crate) fn back(
     taken: u32,
 ) -> Result<Option<Frame>, Stop>
     ensures back { IfOk result (λ back. IsBack role taken frame.now back) }
-    ensures limited { result ≡ Err Limit → 1000000 < 1 + length frame.now.words + frame.now.taken }
+    ensures limited { result ≡ Err Limit → 1000000 < length frame.now.words + frame.now.taken }
 {
     if frame.taken as usize > MOST_WORDS || frame.words.len() > MOST_WORDS {
         return Err(Stop::Limit);

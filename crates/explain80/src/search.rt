@@ -7,7 +7,7 @@ ghost use Rattle.frames80.specs.declared.moves.Moves.TheVariants.{Case};
 ghost use Rattle.explain80.specs.declared.point.Point.{Point};
 ghost use Rattle.explain80.specs.declared.origin.Origin.TheVariants.{GoesOn, Enters};
 ghost use Rattle.explain80.specs.declared.fault.Stop.TheVariants.{Limit};
-ghost use Rattle.explain80.specs.Counts.{ComesToMore, weight_of};
+ghost use Rattle.explain80.specs.Counts.{ComesToMore, GoesDeep, weight_of};
 ghost use Rattle.explain80.specs.Search.{BacksFrom, BacksTo, CoversMove, Grows, Has, HasBack, HasExit, IsAdded, IsCalling, IsClosed, IsCovered, IsExit, IsMovingAt, IsSound, IsUnderWay, KeepsCovered, NotesMove, SamePoints, point_of};
 
 use crate::calls::Calls;
@@ -136,7 +136,7 @@ impl Search {
         ensures calls { OnOk result (self.new.calls.items ≡ self.old.calls.items) }
         ensures back { OnOk result ((one : Point) → slice_get self.old.points.keys call.point ≡ Some one
             → HasBack (C.code program.now) self.new.points.keys one.procedure one.frame call.next exit.taken) }
-        ensures limited { result ≡ Err Limit → ComesToMore (C.code program.now) 1000000 }
+        ensures limited { result ≡ Err Limit → GoesDeep (C.code program.now) }
     {
         let caller = &self.points[call.point];
         let procedure = caller.procedure;
@@ -171,7 +171,7 @@ impl Search {
         ensures calls { OnOk result (self.new.calls.items ≡ self.old.calls.items) }
         ensures back { OnOk result (BacksFrom (C.code program.now) self.old.points.keys self.new.points.keys
             self.old.exits.items (length self.old.exits.items) call) }
-        ensures limited { result ≡ Err Limit → ComesToMore (C.code program.now) 1000000 }
+        ensures limited { result ≡ Err Limit → GoesDeep (C.code program.now) }
     {
         let exits = self.exits.of(alloc, Procedure::Entry(call.target))?;
         for exit in &exits {
@@ -194,7 +194,7 @@ impl Search {
         ensures calls { OnOk result (self.new.calls.items ≡ self.old.calls.items) }
         ensures back { OnOk result (BacksTo (C.code program.now) self.old.points.keys self.new.points.keys
             self.old.calls.items exit) }
-        ensures limited { result ≡ Err Limit → ComesToMore (C.code program.now) 1000000 }
+        ensures limited { result ≡ Err Limit → GoesDeep (C.code program.now) }
     {
         let calls = self.calls.of(alloc, exit.procedure)?;
         for call in &calls {
@@ -239,7 +239,7 @@ impl Search {
         ensures whole { result ≡ Ok true
             → IsClosed (C.code program.now) self.new.points.keys self.new.exits.items self.new.calls.items }
         ensures more { result ≡ Ok false → ComesToMore (C.code program.now) weight }
-        ensures limited { result ≡ Err Limit → ComesToMore (C.code program.now) 1000000 }
+        ensures limited { result ≡ Err Limit → GoesDeep (C.code program.now) }
     {
         while self.followed < self.points.len() {
             if self.weight > weight {
@@ -262,7 +262,7 @@ impl Search {
         ensures calls { OnOk result (self.new.calls.items ≡ self.old.calls.items ++ call ∷ []) }
         ensures back { OnOk result (BacksFrom (C.code program.now) self.old.points.keys self.new.points.keys
             self.old.exits.items (length self.old.exits.items) call) }
-        ensures limited { result ≡ Err Limit → ComesToMore (C.code program.now) 1000000 }
+        ensures limited { result ≡ Err Limit → GoesDeep (C.code program.now) }
     {
         self.enter(alloc, program, call)?;
         self.note_call(call)?;
@@ -277,7 +277,7 @@ impl Search {
         ensures there { OnOk result (HasExit self.new.exits.items exit.procedure exit.taken) }
         ensures calls { OnOk result (self.new.calls.items ≡ self.old.calls.items) }
         ensures keeps { OnOk result (KeepsCovered (C.code program.now) self.old self.new) }
-        ensures limited { result ≡ Err Limit → ComesToMore (C.code program.now) 1000000 }
+        ensures limited { result ≡ Err Limit → GoesDeep (C.code program.now) }
     {
         if self.exits.has(alloc, exit)? {
             return Ok(());
@@ -325,7 +325,7 @@ impl Search {
             → IsCovered (C.code program.now) self.new number point) }
         ensures keeps { OnOk result (KeepsCovered (C.code program.now) self.old self.new) }
         ensures one { OnOk result (length self.new.calls.items ≤ length self.old.calls.items + 1) }
-        ensures limited { result ≡ Err Limit → ComesToMore (C.code program.now) 1000000 }
+        ensures limited { result ≡ Err Limit → GoesDeep (C.code program.now) }
     {
         match look_at(alloc, program, &self.points[number])? {
             Looked::Wrong(_) | Looked::Stuck(_) => Ok(()),
@@ -350,7 +350,7 @@ impl Search {
         ensures noted { OnOk result (NotesMove self.old.calls.items self.new.calls.items number moves) }
         ensures keeps { OnOk result (KeepsCovered (C.code program.now) self.old self.new) }
         ensures one { OnOk result (length self.new.calls.items ≤ length self.old.calls.items + 1) }
-        ensures limited { result ≡ Err Limit → ComesToMore (C.code program.now) 1000000 }
+        ensures limited { result ≡ Err Limit → GoesDeep (C.code program.now) }
     {
         let procedure = self.points[number].procedure;
         match moves {
@@ -386,8 +386,8 @@ impl Search {
     }
 }
 
-/// What a point weighs, or the most that a number can say: itself, the words of its frame and the words taken, once more for each
-/// declared target.
+/// What a point weighs, or the most that a number can say: eight for itself, one for each word of its frame and each word taken; as
+/// much again for each declared target.
 fn weight_of<C: Code>(program: &C, point: &Point) -> usize
     ensures { result ≤ weight_of (C.code program.now) point.now }
 {

@@ -3,7 +3,7 @@
 ghost use Rattle.std.specs.Prelude.{◌≡◌, Err, IfOk, IfSome, IfNone};
 ghost use Rattle.explain80.specs.declared.sought.Kind.TheVariants.{Fault as KindOfFault, Clash as KindOfClash};
 ghost use Rattle.explain80.specs.declared.fault.Stop.TheVariants.{Limit};
-ghost use Rattle.explain80.specs.Counts.{HasHeavy};
+ghost use Rattle.explain80.specs.Counts.{HasDeep};
 ghost use Rattle.explain80.specs.Sought.{IsEvidence, IsNoEvidence, IsSoughtFor, IsOfNoWay};
 
 use crate::evidence::{Clash, Fault, Pair, find_clash, find_fault};
@@ -102,7 +102,7 @@ impl Sought {
     ) -> Result<Option<Evidence>, Stop>
         ensures found { IfOk result (λ found. IfSome found (IsEvidence (C.code program.now) points.now self)) }
         ensures none { IfOk result (λ found. IfNone found (IsNoEvidence (C.code program.now) points.now self)) }
-        ensures limited { result ≡ Err Limit → HasHeavy (C.code program.now) points.now }
+        ensures limited { result ≡ Err Limit → HasDeep points.now }
     {
         Ok(match self.kind {
             Kind::Fault(fault) => {

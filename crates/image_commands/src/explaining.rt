@@ -10,9 +10,9 @@ use naming80::{NAMED_FILES, NamedFiles, Names, named_refusal};
 use report80::append_rows;
 use std::alloc::{AllocError, Global};
 
-/// The most that the points that are followed weigh together: a point one, a word of its frame or a word taken one more, and as much
-/// again for each declared target.
-const LIMIT: usize = 500_000;
+/// The most that the points that are found weigh together: eight for a point, one for each word of its frame and each word taken, and as
+/// much again for each declared target. So at most 500,000 points are found, and memory is at most some 64 MB.
+const LIMIT: usize = 4_000_000;
 
 const ABOUT: &str = "Verifies an image as check does, and shows why it is refused";
 

@@ -1,13 +1,16 @@
-use Rattle.std.proofs.Common.{ap, false}
+use Rattle.std.proofs.Common.{inl, inr, ap}
 use Rattle.std.specs.Prelude.{Err, Ok}
 use Rattle.explain80.proofs.CountLemmas.{less, unexplained_by}
 use Rattle.explain80.proofs.chain.chain_of.Goals as goal
 
 pub returns-then-not-branch-clause-limited : goal.returns-then-not-branch-clause-limited
-returns-then-not-branch-clause-limited g c = λ _ n within most.
-    less (g.C.Code.code c.args.program.now) n c.args.limit within (c.in_ok-grow.ensures.more (ap (λ b. Ok b) c.if-not-branch.true))
+returns-then-not-branch-clause-limited g c = λ _. inr (λ n within most.
+    less (g.C.Code.code c.args.program.now) n c.args.limit within (c.in_ok-grow.ensures.more (ap (λ b. Ok b) c.if-not-branch.true)))
 
 pub returns-in_err-chain-clause-limited : goal.returns-in_err-chain-clause-limited
-returns-in_err-chain-clause-limited g c = λ e n within most.
+returns-in_err-chain-clause-limited g c = λ e.
     let stop = unexplained_by c.from_residual-in_err-chain.result c.in_err-chain.field-0.0 c.from_residual-in_err-chain.ensures.1 e in
-    less (g.C.Code.code c.args.program.now) n 262144 most (c.in_err-chain.ensures.limited (ap (λ s. Err s) stop))
+    elim (c.in_err-chain.ensures.limited (ap (λ s. Err s) stop)) [
+      | inl deep ↦ inl deep
+      | inr more ↦ inr (λ n within most. less (g.C.Code.code c.args.program.now) n 2097152 most more)
+    ]

@@ -1,4 +1,4 @@
-use Rattle.std.proofs.Common.{ap, subst, arith}
+use Rattle.std.proofs.Common.{inl, inr, ap, subst}
 use Rattle.std.specs.Prelude.{Err, IfNone, IfSome, Ok}
 use Rattle.flow80.specs.Code.{Code}
 use Rattle.explain80.specs.Known.{HasNoRing}
@@ -28,11 +28,10 @@ returns-then-is_whole-clause-none g c = λ e recurs.
     no-recursion (g.C.Code.code c.args.program.now) s closed c.args.at (subst (λ r. IfNone r (HasNoRing s c.args.at)) c.in_default.is c.in_ok-shown.ensures.none) recurs
 
 pub returns-in_err-is_whole-clause-limited : goal.returns-in_err-is_whole-clause-limited
-returns-in_err-is_whole-clause-limited g c = λ e n within most.
+returns-in_err-is_whole-clause-limited g c = λ e.
     let stop = unexplained_by c.from_residual-in_err-is_whole.result c.in_err-is_whole.field-0.0 c.from_residual-in_err-is_whole.ensures.1 e in
-    less (g.C.Code.code c.args.program.now) n 1000000 most (c.in_err-is_whole.ensures.limited (ap (λ s. Err s) stop))
+    inr (c.in_err-is_whole.ensures.limited (ap (λ s. Err s) stop))
 
 pub returns-then-weight-limit-clause-limited : goal.returns-then-weight-limit-clause-limited
-returns-then-weight-limit-clause-limited g c = λ _ n within most.
-    let enough = c.if-weight-limit.true in
-    less (g.C.Code.code c.args.program.now) n c.loop-search.weight (omega (arith, within, enough)) (c.in_ok-is_whole.ensures.more (ap (λ b. Ok b) c.if-is_whole.false))
+returns-then-weight-limit-clause-limited g c = λ _.
+    inl (less (g.C.Code.code c.args.program.now) c.args.limit c.loop-search.weight c.if-weight-limit.true (c.in_ok-is_whole.ensures.more (ap (λ b. Ok b) c.if-is_whole.false)))

@@ -1,8 +1,8 @@
-use Rattle.std.proofs.Common.{ap, subst, arith}
+use Rattle.std.proofs.Common.{inl, inr, ap, subst}
 use Rattle.std.specs.Prelude.{Err, IfNone, IfSome, Ok}
-use Rattle.explain80.specs.Counts.{HasHeavy}
+use Rattle.explain80.specs.Counts.{HasDeep}
 use Rattle.explain80.specs.Sought.{IsEvidence, IsNoEvidence}
-use Rattle.explain80.proofs.CountLemmas.{heavy-more, less, unexplained_by}
+use Rattle.explain80.proofs.CountLemmas.{goes-deep, less, unexplained_by}
 use Rattle.explain80.proofs.WayLemmas.{ordered}
 use Rattle.explain80.proofs.EvidenceLemmas.{within}
 use Rattle.explain80.proofs.ClosedLemmas.{no-walks}
@@ -29,18 +29,16 @@ returns-then-is_whole-clause-none g c = λ e.
     (subst (λ points. IsNoEvidence code points sought) c.as_slice.ensures.keys none)
 
 pub returns-in_err-is_whole-clause-limited : goal.returns-in_err-is_whole-clause-limited
-returns-in_err-is_whole-clause-limited g c = λ e n within most.
+returns-in_err-is_whole-clause-limited g c = λ e.
     let stop = unexplained_by c.from_residual-in_err-is_whole.result c.in_err-is_whole.field-0.0 c.from_residual-in_err-is_whole.ensures.1 e in
-    less (g.C.Code.code c.args.program.now) n 1000000 most (c.in_err-is_whole.ensures.limited (ap (λ s. Err s) stop))
+    inr (c.in_err-is_whole.ensures.limited (ap (λ s. Err s) stop))
 
 pub returns-then-weight-limit-clause-limited : goal.returns-then-weight-limit-clause-limited
-returns-then-weight-limit-clause-limited g c = λ _ n within most.
-    let enough = c.if-weight-limit.true in
-    less (g.C.Code.code c.args.program.now) n c.loop-search.weight (omega (arith, within, enough)) (c.in_ok-is_whole.ensures.more (ap (λ b. Ok b) c.if-is_whole.false))
+returns-then-weight-limit-clause-limited g c = λ _.
+    inl (less (g.C.Code.code c.args.program.now) c.args.limit c.loop-search.weight c.if-weight-limit.true (c.in_ok-is_whole.ensures.more (ap (λ b. Ok b) c.if-is_whole.false)))
 
 pub returns-in_err-evidence-clause-limited : goal.returns-in_err-evidence-clause-limited
-returns-in_err-evidence-clause-limited g c = λ e n within most.
-    let code = g.C.Code.code c.args.program.now in
+returns-in_err-evidence-clause-limited g c = λ e.
     let stop = unexplained_by c.from_residual-in_err-evidence.result c.in_err-evidence.field-0.0 c.from_residual-in_err-evidence.ensures.1 e in
-    less code n 1000000 most (heavy-more code c.grow.new.self c.in_ok-is_whole.ensures.way.sound
-    (subst (HasHeavy code) c.as_slice.ensures.keys (c.in_err-evidence.ensures.limited (ap (λ s. Err s) stop))))
+    inr (goes-deep (g.C.Code.code c.args.program.now) c.grow.new.self c.in_ok-is_whole.ensures.way.sound
+    (subst HasDeep c.as_slice.ensures.keys (c.in_err-evidence.ensures.limited (ap (λ s. Err s) stop))))

@@ -1,4 +1,4 @@
-use Rattle.std.proofs.Common.{◌<◌, subst, sym, ◌∙◌}
+use Rattle.std.proofs.Common.{◌<◌, inr, subst, sym, ◌∙◌}
 use Rattle.bounds80.specs.Chains.{AreEntered, AreGreatest, Cycles, IsFault}
 use Rattle.explain80.specs.Chains.{AreGreatestOf, IsNotTheBound}
 use Rattle.explain80.proofs.ListLemmas.{on_none}
@@ -41,5 +41,5 @@ returns-clause-none g c =
 pub returns-then-len-gt-MOST_CALLS-clause-limited : goal.returns-then-len-gt-MOST_CALLS-clause-limited
 returns-then-len-gt-MOST_CALLS-clause-limited g c = λ _.
     let sites = c.in_ok-sites.sites in
-    calls-more (g.C.Code.code c.args.program.now) c.args.self.now 262144 c.requires.way
-    (subst (λ n. 262144 < n) (c.len.ensures ∙ sites.ok.0 ∙ c.in_ok-sites.ensures.all.count) c.if-len-gt-MOST_CALLS.true)
+    inr (calls-more (g.C.Code.code c.args.program.now) c.args.self.now c.requires.way
+    (subst (λ n. 262144 < n) (c.len.ensures ∙ sites.ok.0 ∙ c.in_ok-sites.ensures.all.count) c.if-len-gt-MOST_CALLS.true))

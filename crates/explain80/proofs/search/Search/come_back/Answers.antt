@@ -2,7 +2,7 @@ use Rattle.std.proofs.Common.{ap, subst}
 use Rattle.std.specs.Prelude.{Err}
 use Rattle.explain80.specs.declared.origin.Origin.TheVariants.{ComesBack}
 use Rattle.explain80.specs.Search.{IsBack, point_of}
-use Rattle.explain80.proofs.CountLemmas.{heavy-more, heavy-words, limited_by}
+use Rattle.explain80.proofs.CountLemmas.{goes-deep, limited_by}
 use Rattle.explain80.proofs.MoveLemmas.{back-comes}
 use Rattle.explain80.proofs.SearchLemmas.{grows-added}
 use Rattle.explain80.proofs.search.Search.come_back.Goals as goal
@@ -20,5 +20,5 @@ returns-in_err-frame-clause-limited g c = λ e.
     let code = g.C.Code.code c.args.program.now in
     let one = c.index-caller.result.now in
     let stop = limited_by c.from_residual.result c.in_err-frame.field-0.0 c.from_residual.ensures.1 e in
-    heavy-more code c.args.self.now c.requires.sound
-    (record { number = c.args.call.point; point = one; is = c.index-caller.ensures; heavy = heavy-words code one (c.in_err-frame.ensures.limited (ap (λ s. Err s) stop)) })
+    goes-deep code c.args.self.now c.requires.sound
+    (record { number = c.args.call.point; point = one; is = c.index-caller.ensures; deep = (c.in_err-frame.ensures.limited (ap (λ s. Err s) stop)) })

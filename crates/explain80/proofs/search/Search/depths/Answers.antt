@@ -10,7 +10,7 @@ use Rattle.bounds80.specs.declared.graph.Depth.{Depth}
 use Rattle.explain80.specs.declared.point.Point.{Point}
 use Rattle.explain80.specs.Chains.{IsDepthOf}
 use Rattle.explain80.proofs.ListLemmas.{each-push, read_at}
-use Rattle.explain80.proofs.CountLemmas.{heavy-less, limited_by}
+use Rattle.explain80.proofs.CountLemmas.{goes-deep, limited_by}
 use Rattle.explain80.proofs.search.Search.depths.Goals as goal
 
 pub loop-point-preserved : goal.loop-point-preserved
@@ -47,5 +47,5 @@ returns-in_err-depth-clause-limited g c = λ e.
     let below : k < length points = omega (arith, c.loop-point-test.true, c.loop-point.auto.point-index-end, ap length keys) in
     let is = read_at points k point below (c.point-item.is ∙ ap (λ xs. get_or xs k point) keys) in
     let stop = limited_by c.from_residual.result c.in_err-depth.field-0.0 c.from_residual.ensures.1 e in
-    heavy-less (g.C.Code.code c.args.program.now) c.args.self.now c.requires
-    (record { number = k; point = point; is = is; heavy = c.in_err-depth.ensures.limited (ap (λ s. Err s) stop) })
+    goes-deep (g.C.Code.code c.args.program.now) c.args.self.now c.requires
+    (record { number = k; point = point; is = is; deep = c.in_err-depth.ensures.limited (ap (λ s. Err s) stop) })

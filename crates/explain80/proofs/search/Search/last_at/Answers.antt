@@ -5,7 +5,7 @@ use Rattle.explain80.specs.declared.chain.Standing.{Standing}
 use Rattle.explain80.specs.Chains.{EndsWith}
 use Rattle.explain80.proofs.ChainLemmas.{stands-at}
 use Rattle.std.specs.Prelude.{Err}
-use Rattle.explain80.proofs.CountLemmas.{heavy-less, limited_by}
+use Rattle.explain80.proofs.CountLemmas.{goes-deep, limited_by}
 use Rattle.explain80.proofs.search.Search.last_at.Goals as goal
 
 pub returns-then-comes_to-clause-last : goal.returns-then-comes_to-clause-last
@@ -22,5 +22,5 @@ returns-then-comes_to-clause-last g c =
 pub returns-in_err-depth-clause-limited : goal.returns-in_err-depth-clause-limited
 returns-in_err-depth-clause-limited g c = λ e.
     let stop = limited_by c.from_residual.result c.in_err-depth.field-0.0 c.from_residual.ensures.1 e in
-    heavy-less (g.C.Code.code c.args.program.now) c.args.self.now c.requires.sound
-    (record { number = c.args.number; point = c.index-point.result.now; is = c.index-point.ensures; heavy = c.in_err-depth.ensures.limited (ap (λ s. Err s) stop) })
+    goes-deep (g.C.Code.code c.args.program.now) c.args.self.now c.requires.sound
+    (record { number = c.args.number; point = c.index-point.result.now; is = c.index-point.ensures; deep = c.in_err-depth.ensures.limited (ap (λ s. Err s) stop) })

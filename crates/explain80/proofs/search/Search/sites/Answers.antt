@@ -10,7 +10,7 @@ use Rattle.bounds80.specs.declared.graph.CallSite.{CallSite}
 use Rattle.explain80.specs.Chains.{CallsAt, IsSiteOf}
 use Rattle.explain80.proofs.ListLemmas.{each-push}
 use Rattle.explain80.proofs.ChainLemmas.{calls-at, site-of}
-use Rattle.explain80.proofs.CountLemmas.{heavy-less, limited_by}
+use Rattle.explain80.proofs.CountLemmas.{goes-deep, limited_by}
 use Rattle.explain80.proofs.search.Search.sites.Goals as goal
 
 pub index-caller-requires : goal.index-caller-requires
@@ -47,5 +47,5 @@ loop-number-preserved g c =
 pub returns-in_err-depth-clause-limited : goal.returns-in_err-depth-clause-limited
 returns-in_err-depth-clause-limited g c = λ e.
     let stop = limited_by c.from_residual.result c.in_err-depth.field-0.0 c.from_residual.ensures.1 e in
-    heavy-less (g.C.Code.code c.args.program.now) c.args.self.now c.requires
-    (record { number = c.get-calling.result.point; point = c.index-caller.result.now; is = c.index-caller.ensures; heavy = c.in_err-depth.ensures.limited (ap (λ s. Err s) stop) })
+    goes-deep (g.C.Code.code c.args.program.now) c.args.self.now c.requires
+    (record { number = c.get-calling.result.point; point = c.index-caller.result.now; is = c.index-caller.ensures; deep = c.in_err-depth.ensures.limited (ap (λ s. Err s) stop) })

@@ -4,7 +4,7 @@ use Rattle.std.proofs.lemmas.Option.{same_Some}
 use Rattle.explain80.specs.declared.point.Point.{Point}
 use Rattle.explain80.specs.declared.looked.Looked.{Looked}
 use Rattle.explain80.specs.Search.{IsLooked, IsMoving}
-use Rattle.explain80.proofs.CountLemmas.{heavy-more, limited_by}
+use Rattle.explain80.proofs.CountLemmas.{goes-deep, limited_by}
 use Rattle.explain80.proofs.ListLemmas.{on_ok2}
 use Rattle.explain80.proofs.MoveLemmas.{covers-moved, notes-moved}
 use Rattle.explain80.proofs.search.Search.visit.Goals as goal
@@ -30,5 +30,5 @@ returns-in-Moved-clause-covers g c =
 pub returns-in_err-look_at-clause-limited : goal.returns-in_err-look_at-clause-limited
 returns-in_err-look_at-clause-limited g c = λ e.
     let stop = limited_by c.from_residual.result c.in_err-look_at.field-0.0 c.from_residual.ensures.1 e in
-    heavy-more (g.C.Code.code c.args.program.now) c.args.self.now c.requires.sound
-    (record { number = c.args.number; point = c.index.result.now; is = c.index.ensures; heavy = c.in_err-look_at.ensures.limited (ap (λ s. Err s) stop) })
+    goes-deep (g.C.Code.code c.args.program.now) c.args.self.now c.requires.sound
+    (record { number = c.args.number; point = c.index.result.now; is = c.index.ensures; deep = c.in_err-look_at.ensures.limited (ap (λ s. Err s) stop) })
