@@ -393,7 +393,7 @@ fn weight_of<C: Code>(program: &C, point: &Point) -> usize
 {
     let words = point.frame.words.len();
     let own = words
-        .saturating_add(1)
+        .saturating_add(8)
         .saturating_add(point.frame.taken as usize);
     own.saturating_mul(program.targets(point.at).len().saturating_add(1))
 }
