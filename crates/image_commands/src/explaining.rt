@@ -11,7 +11,7 @@ use report80::append_rows;
 use std::alloc::{AllocError, Global};
 
 /// The most that the points that are found weigh together: eight for a point, one for each word of its frame and each word taken, and as
-/// much again for each declared target. So at most 500,000 points are found, and memory is at most some 64 MB.
+/// much again for each declared target. So at most some 500,000 points are found.
 const LIMIT: usize = 4_000_000;
 
 const ABOUT: &str = "Verifies an image as check does, and shows why it is refused";
