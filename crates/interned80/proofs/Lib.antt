@@ -1,8 +1,11 @@
 pub mod ListLemmas
 pub mod LinkEquality
+pub mod PairEquality
+pub mod SkipLemmas
 pub mod StackLemmas
 pub mod MeetLemmas
 pub mod LesserLemmas
 pub mod KeptEquality
+pub mod MetLemmas
 pub mod FrameLemmas
 pub mod Depths

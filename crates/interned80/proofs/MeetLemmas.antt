@@ -1,12 +1,15 @@
 -- Words that meet from the top down.
-use Rattle.std.specs.Prelude.{◌≡◌, Bool, true, false, ◌||◌, ◌↔◌, List, [], ◌∷◌, ◌++◌, length, refl}
-use Rattle.std.proofs.Common.{sym, ◌∙◌, ap, arith}
+use Rattle.std.specs.Prelude.{◌≡◌, ◌<◌, ℕ, Bool, true, false, ◌||◌, ◌↔◌, List, [], ◌∷◌, ◌++◌, length, refl}
+use Rattle.std.proofs.Common.{sym, ◌∙◌, ap, subst, arith}
 use Rattle.std.proofs.lemmas.List.{append_assoc}
 use Rattle.frames80.specs.declared.word.Word.{Word}
 use Rattle.frames80.specs.declared.word.Word.TheVariants.{Own, Any}
 use Rattle.frames80.specs.Word.{met}
 use Rattle.frames80.specs.Calls.{words_met}
-use Rattle.interned80.specs.Meets.{IsWalk}
+use Rattle.interned80.specs.declared.meets.Meeting.{Meeting}
+use Rattle.interned80.specs.declared.pair.Pair.{Pair}
+use Rattle.interned80.specs.Stacks.{words_at, IsMet}
+use Rattle.interned80.specs.Meets.{IsWalk, IsMeeting}
 
 met-self : (w : Word) → met w w ≡ w
 met-self Own = refl
@@ -46,3 +49,27 @@ module _ (one other met_words rest beside : List Word) (changed differs : Bool) 
     same = λ same. neither changed differs (h.same same) (tells.1 (heads same).0);
     same_rest = λ same. (heads same).1;
   }
+
+-- a stack that meets itself
+pub met-same : (stacks : List (List Word)) (pair : Pair) → pair.one < length stacks → pair.one ≡ pair.other → IsMet stacks pair pair.one
+met-same stacks pair there same = record {
+  there = there;
+  is = sym (ap (λ n. words_met (words_at stacks pair.one) (words_at stacks n)) (sym same) ∙ words_met-self (words_at stacks pair.one));
+  unchanged = λ _. refl;
+}
+
+-- what is left of both is known
+pub meeting_end : (stacks : List (List Word)) (one other met_words : List Word) (changed another : Bool) (pair : Pair) (number : ℕ) (meeting : Meeting)
+    → IsWalk one other met_words changed (words_at stacks pair.one) (words_at stacks pair.other) → IsMet stacks pair number → ((another ≡ false) ↔ (number ≡ pair.one))
+    → meeting.words.items ≡ met_words → meeting.rest ≡ number → meeting.changed ≡ (changed || another) → IsMeeting stacks one other meeting
+meeting_end stacks one other met_words changed another pair number meeting walk met tells words rest changes = record {
+  there = subst (λ (n : ℕ). n < length stacks) (sym rest) met.there;
+  met = walk.met_so_far ∙ ap (λ ws. met_words ++ ws) bottom ∙ ap (λ ws. ws ++ words_at stacks meeting.rest) (sym words);
+  unchanged = λ none.
+      let both = both_false changed another (sym changes ∙ none) in
+      walk.unchanged both.0 (sym met.is ∙ ap (words_at stacks) (tells.0 both.1));
+  same = λ same. changes ∙ neither changed another (walk.same same) (tells.1 (met.unchanged (walk.same_rest same)));
+}
+  where
+    bottom : words_met (words_at stacks pair.one) (words_at stacks pair.other) ≡ words_at stacks meeting.rest
+    bottom = sym met.is ∙ ap (words_at stacks) (sym rest)

@@ -4,7 +4,7 @@ use Rattle.std.proofs.lemmas.Option.{same_Some, none-some, slice_get_within, sli
 use Rattle.std.proofs.lemmas.List.{length_push}
 use Rattle.frames80.specs.declared.word.Word.{Word}
 use Rattle.interned80.specs.declared.link.Link.{Link}
-use Rattle.interned80.specs.Stacks.{words_at, stacks_after, stacks_of, IsStack, IsLink, StacksStay, AreLinks}
+use Rattle.interned80.specs.Stacks.{words_at, stacks_after, stacks_of, IsStack, IsLink, LieBeneath, StacksStay, AreLinks}
 use Rattle.indexmap.specs.IndexSet.{insert_key}
 use Rattle.interned80.proofs.ListLemmas.{slice_get-append, slice_get-last, slice_get-push, slice_index_or-push, insert_key-push}
 use Rattle.interned80.proofs.LinkEquality.{link_eq, link_same}
@@ -70,6 +70,8 @@ read links i link h e = record {
   before = h.before i link e;
   words = read_after ([] ∷ []) links i (suc i) link e (omega arith) (h.before i link e);
   height = h.height i link e;
+  skip = h.skip i link e;
+  skipped = h.skipped i link e;
 }
 
 -- no stack has as many words as there are stacks
@@ -99,11 +101,55 @@ stays-links old new last (inl same) = subst (λ ls. StacksStay (stacks_of old) (
 stays-links old new last (inr push) =
     subst (λ s. StacksStay (stacks_of old) s) (sym (ap stacks_of push ∙ stacks_of-push old last)) (stays-push (stacks_of old) (last.word ∷ words_at (stacks_of old) last.below))
 
-AreLinks-added : (old new : List Link) (last : Link) → (new ≡ old) ⊎ (new ≡ old ++ last ∷ []) → AreLinks old → last.below < length (stacks_of old) → last.height ≡ suc (length (words_at (stacks_of old) last.below))
-    → AreLinks new
-AreLinks-added old new last (inl same) h below height = subst AreLinks (sym same) h
-AreLinks-added old new last (inr push) h below height = subst AreLinks (sym push) (record { before = before; height = heights })
+-- a link goes on top of a stack that is there, its height is that of its words, and it skips to a stack beneath
+pub record IsNewLink (stacks : List (List Word)) (last : Link) : Type 0 where
+  pub below : last.below < length stacks
+  pub height : last.height ≡ suc (length (words_at stacks last.below))
+  pub skip : last.skip < length stacks
+  pub skipped : LieBeneath (words_at stacks last.below) (words_at stacks last.skip)
+
+abbrev pub new_link : (below : ℕ) → Word → (height skip : ℕ) → Link
+new_link below word height skip = record { below = below; word = word; height = height + 1; skip = skip }
+
+pub is_new_link : (stacks : List (List Word)) (below : ℕ) (word : Word) (height skip : ℕ) → below < length stacks → height ≡ length (words_at stacks below) → skip < length stacks
+    → LieBeneath (words_at stacks below) (words_at stacks skip) → IsNewLink stacks (new_link below word height skip)
+is_new_link stacks below word height skip there high skip_there lies = record { below = there; height = omega (arith, high); skip = skip_there; skipped = lies }
+
+AreLinks-added : (old new : List Link) (last : Link) → (new ≡ old) ⊎ (new ≡ old ++ last ∷ []) → AreLinks old → IsNewLink (stacks_of old) last → AreLinks new
+AreLinks-added old new last (inl same) h l = subst AreLinks (sym same) h
+AreLinks-added old new last (inr push) h l = subst AreLinks (sym push) (record { before = before; height = heights; skip = skip; skipped = skipped })
   where
+    stays : StacksStay (stacks_of old) (stacks_of (old ++ last ∷ []))
+    stays = stays-links old (old ++ last ∷ []) last (inr refl)
+
+    skip : (i : ℕ) (link : Link) → slice_get (old ++ last ∷ []) i ≡ Some link → link.skip < suc i
+    skip i link e = by (slice_get-push old last i link e)
+      where
+        by : (slice_get old i ≡ Some link) ⊎ ((i ≡ length old) × (link ≡ last)) → link.skip < suc i
+        by (inl was) = h.skip i link was
+        by (inr new) =
+            let at : i ≡ length old = new.0 in
+            let is : link.skip ≡ last.skip = ap (λ (l : Link). l.skip) new.1 in
+            let there = l.skip in
+            omega (arith, length-stacks_of old)
+
+    -- what two stacks had they have
+    kept : (n m : ℕ) → n < length (stacks_of old) → m < length (stacks_of old) → LieBeneath (words_at (stacks_of old) n) (words_at (stacks_of old) m)
+        → LieBeneath (words_at (stacks_of (old ++ last ∷ [])) n) (words_at (stacks_of (old ++ last ∷ [])) m)
+    kept n m n_there m_there lies =
+        rw (words_at-stays (stacks_of old) (stacks_of (old ++ last ∷ [])) stays n n_there, words_at-stays (stacks_of old) (stacks_of (old ++ last ∷ [])) stays m m_there) lies
+
+    skipped : (i : ℕ) (link : Link) → slice_get (old ++ last ∷ []) i ≡ Some link → LieBeneath (words_at (stacks_of (old ++ last ∷ [])) link.below) (words_at (stacks_of (old ++ last ∷ [])) link.skip)
+    skipped i link e = by (slice_get-push old last i link e)
+      where
+        by : (slice_get old i ≡ Some link) ⊎ ((i ≡ length old) × (link ≡ last)) → LieBeneath (words_at (stacks_of (old ++ last ∷ [])) link.below) (words_at (stacks_of (old ++ last ∷ [])) link.skip)
+        by (inl was) =
+            let within = slice_get_within old i link was in
+            let b = h.before i link was in
+            let s = h.skip i link was in
+            kept link.below link.skip (omega (arith, length-stacks_of old)) (omega (arith, length-stacks_of old)) (h.skipped i link was)
+        by (inr new) = subst (λ (k : Link). LieBeneath (words_at (stacks_of (old ++ last ∷ [])) k.below) (words_at (stacks_of (old ++ last ∷ [])) k.skip)) (sym new.1) (kept last.below last.skip l.below l.skip l.skipped)
+
     before : (i : ℕ) (link : Link) → slice_get (old ++ last ∷ []) i ≡ Some link → link.below < suc i
     before i link e = by (slice_get-push old last i link e)
       where
@@ -112,14 +158,12 @@ AreLinks-added old new last (inr push) h below height = subst AreLinks (sym push
         by (inr new) =
             let at : i ≡ length old = new.0 in
             let is : link.below ≡ last.below = ap (λ (l : Link). l.below) new.1 in
+            let there = l.below in
             omega (arith, length-stacks_of old)
 
     heights : (i : ℕ) (link : Link) → slice_get (old ++ last ∷ []) i ≡ Some link → link.height ≡ length (words_at (stacks_of (old ++ last ∷ [])) (suc i))
     heights i link e = by (slice_get-push old last i link e)
       where
-        stays : StacksStay (stacks_of old) (stacks_of (old ++ last ∷ []))
-        stays = stays-links old (old ++ last ∷ []) last (inr refl)
-
         stands : words_at (stacks_of (old ++ last ∷ [])) (length (stacks_of old)) ≡ last.word ∷ words_at (stacks_of old) last.below
         stands =
             ap (λ s. words_at s (length (stacks_of old))) (stacks_of-push old last)
@@ -131,7 +175,7 @@ AreLinks-added old new last (inr push) h below height = subst AreLinks (sym push
             h.height i link was ∙ ap length (sym (words_at-stays (stacks_of old) (stacks_of (old ++ last ∷ [])) stays (suc i) there))
         by (inr new) =
             let at : suc i ≡ length (stacks_of old) = ap suc new.0 ∙ sym (length-stacks_of old) in
-            ap (λ (l : Link). l.height) new.1 ∙ height ∙ sym (ap length (ap (words_at (stacks_of (old ++ last ∷ []))) at ∙ stands))
+            ap (λ (l : Link). l.height) new.1 ∙ l.height ∙ sym (ap length (ap (words_at (stacks_of (old ++ last ∷ []))) at ∙ stands))
 
 -- the number of a link that is there
 pushed : (old new : List Link) (last : Link) (i : ℕ) → (new ≡ old) ⊎ (new ≡ old ++ last ∷ []) → AreLinks new → last.below < length (stacks_of old) → slice_get new i ≡ Some last
@@ -150,19 +194,15 @@ pub bare : (links : List Link) → words_at (stacks_of links) 0 ≡ []
 bare links = words_at-stays ([] ∷ []) (stacks_of links) (stays-after ([] ∷ []) links) 0 (omega arith)
 
 -- what is known when a link is inserted, of the stacks as a contract sees them
-module _ (old new : List Link) (stacks : List (List Word)) (last : Link) (view_is : stacks_of old ≡ stacks) (within : last.below < length stacks) (high : last.height ≡ length (words_at stacks last.below) + 1)
-    (keys : new ≡ insert_key link_eq old last) where
+module _ (old new : List Link) (stacks : List (List Word)) (last : Link) (view_is : stacks_of old ≡ stacks) (is_new : IsNewLink stacks last) (keys : new ≡ insert_key link_eq old last) where
   grows : (new ≡ old) ⊎ (new ≡ old ++ last ∷ [])
   grows = insert_key-push link_eq old new last keys
 
-  under : last.below < length (stacks_of old)
-  under = subst (λ (s : List (List Word)). last.below < length s) (sym view_is) within
+  new_there : IsNewLink (stacks_of old) last
+  new_there = subst (λ (s : List (List Word)). IsNewLink s last) (sym view_is) is_new
 
   pub AreLinks-inserted : AreLinks old → AreLinks new
-  AreLinks-inserted h =
-      let e = ap (λ s. length (words_at s last.below)) view_is in
-      let height : last.height ≡ suc (length (words_at (stacks_of old) last.below)) = omega (arith, high) in
-      AreLinks-added old new last grows h under height
+  AreLinks-inserted h = AreLinks-added old new last grows h new_there
 
   pub stays-inserted : StacksStay stacks (stacks_of new)
   stays-inserted = subst (λ s. StacksStay s (stacks_of new)) view_is (stays-links old new last grows)
@@ -170,4 +210,4 @@ module _ (old new : List Link) (stacks : List (List Word)) (last : Link) (view_i
   pub stack-inserted : AreLinks old → (i : ℕ) (link : Link) → slice_get new i ≡ Some link → link_eq last link ≡ true → IsStack (stacks_of new) (i + 1) (last.word ∷ words_at stacks last.below)
   stack-inserted h i link e same =
       let is : slice_get new i ≡ Some last = e ∙ ap (λ (l : Link). Some l) (sym (link_same last link same)) in
-      subst (λ s. IsStack (stacks_of new) (i + 1) (last.word ∷ words_at s last.below)) view_is (pushed old new last i grows (AreLinks-inserted h) under is)
+      subst (λ s. IsStack (stacks_of new) (i + 1) (last.word ∷ words_at s last.below)) view_is (pushed old new last i grows (AreLinks-inserted h) new_there.below is)

@@ -116,6 +116,7 @@ impl Frames {
         ensures enough { OnOk result (taken ≤ room role (frame_at self.old frame).words) }
         ensures back { IfOk result (λ id. IsFrame self.new id (returned taken (frame_at self.old frame))) }
         ensures short { result ≡ Err CallFault.ShortArguments → room role (frame_at self.old frame).words < taken }
+        ensures memory { result ≡ Err CallFault.Memory → taken ≤ room role (frame_at self.old frame).words }
         ensures stays { StayNumbered self.old self.new }
     {
         let kept = kept_at(&self.kept, frame);
@@ -140,6 +141,7 @@ impl Frames {
         ensures unchanged { IfOk result (λ id. merged (frame_at self.old one) (frame_at self.old other) ≡ frame_at self.old one →
             id ≡ one) }
         ensures differ { result ≡ Err MeetFault.HeightsDiffer → agree (frame_at self.old one) (frame_at self.old other) ≡ false }
+        ensures memory { result ≡ Err MeetFault.Memory → agree (frame_at self.old one) (frame_at self.old other) ≡ true }
         ensures stays { StayNumbered self.old self.new }
     {
         let first = kept_at(&self.kept, one);

@@ -19,6 +19,7 @@ mod kept;
 mod link;
 mod meets;
 mod owns;
+mod pair;
 mod refusal;
 mod stacks;
 #[cfg(test)]

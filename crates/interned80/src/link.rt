@@ -10,4 +10,6 @@ pub(crate) struct Link {
     pub(crate) word: Word,
     /// How many words there are, this one among them.
     pub(crate) height: u32,
+    /// The number of a stack further beneath, from which the way down goes on: so it takes few steps to go down by many words.
+    pub(crate) skip: u32,
 }

@@ -5,10 +5,10 @@ use Rattle.interned80.proofs.meets.meet_tops.Given as goal
 
 abbrev pub invariant-loop-link : goal.invariant-loop-link
 invariant-loop-link l = record {
-  rest : l.rest < length l.stacks;
-  beside : l.beside < length l.stacks;
-  walk : IsWalk (words_at l.stacks l.one) (words_at l.stacks l.other) l.words.items l.changed (words_at l.stacks l.rest) (words_at l.stacks l.beside);
+  one : l.left.one < length l.stacks;
+  other : l.left.other < length l.stacks;
+  walk : IsWalk (words_at l.stacks l.fn.pair.one) (words_at l.stacks l.fn.pair.other) l.words.items l.changed (words_at l.stacks l.left.one) (words_at l.stacks l.left.other);
 }
 
 abbrev pub decreases-loop-link : goal.decreases-loop-link
-decreases-loop-link l = l.rest
+decreases-loop-link l = l.left.one

@@ -1,13 +1,29 @@
-use Rattle.std.proofs.Common.{ap, ◌∙◌, drop}
-use Rattle.std.proofs.lemmas.List.{drop-drop}
+use Rattle.std.specs.Prelude.{length}
+use Rattle.std.proofs.Common.{ap, arith}
 use Rattle.interned80.specs.Stacks.{words_at}
+use Rattle.interned80.proofs.SkipLemmas.{lies-link, lies-on, lies-skip}
 use Rattle.interned80.proofs.stacks.Stacks.beneath.Goals as goal
 
-pub loop-popped-preserved : goal.loop-popped-preserved
-loop-popped-preserved c =
-    let so_far = c.loop-popped.invariant in
-    let next = c.below-beneath.ensures in
+pub loop-link-preserved-then-height-left : goal.loop-link-preserved-then-height-left
+loop-link-preserved-then-height-left c =
+    let stacks = c.args.self.now in
+    let at = c.loop-link.beneath in
+    let link = c.in-Some.link in
+    let now = c.loop-link.invariant in
     record {
-      there = next.there;
-      is = next.is ∙ ap (drop 1) so_far.is ∙ drop-drop 1 c.loop-popped._popped (words_at c.args.self.now c.args.number);
+      there = let s = c.in-Some.ensures.link.skip in let t = now.there in omega arith;
+      lies = lies-on (words_at stacks c.args.number) (words_at stacks at) (words_at stacks link.skip) now.lies (lies-skip stacks at link c.in-Some.ensures.link);
+      enough = let h = c.height-in-Some.ensures in let t = c.if-height-left.true in omega arith;
+    }
+
+pub loop-link-preserved : goal.loop-link-preserved
+loop-link-preserved c =
+    let stacks = c.args.self.now in
+    let at = c.loop-link.beneath in
+    let link = c.in-Some.link in
+    let now = c.loop-link.invariant in
+    record {
+      there = let s = c.in-Some.ensures.link.before in let t = now.there in omega arith;
+      lies = lies-on (words_at stacks c.args.number) (words_at stacks at) (words_at stacks link.below) now.lies (lies-link stacks at link c.in-Some.ensures.link);
+      enough = let w = ap length c.in-Some.ensures.link.words in let m = c.in-Some.ensures.more in omega arith;
     }

@@ -16,5 +16,5 @@ index-requires c =
 pub returns-clause-link : goal.returns-clause-link
 returns-clause-link c =
     let e : suc (c.args.number - 1) ≡ c.args.number = omega (arith, c.if-number-eq-EMPTY.false) in
-    let is = read c.self.inside.links.keys (c.args.number - 1) c.index.result.now c.self.invariant c.index.ensures in
+    let is = read c.self.inside.links.keys (c.args.number - 1) c.index.result.now c.self.invariant.0 c.index.ensures in
     subst (λ (s : List (List Word)). IsLink s c.args.number c.index.result.now) c.self.view_is (subst (λ (n : ℕ). IsLink (stacks_of c.self.inside.links.keys) n c.index.result.now) e is)
