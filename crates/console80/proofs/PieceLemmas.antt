@@ -1,6 +1,10 @@
 -- What becomes of a feed by a piece, and by all pieces.
 use Rattle.std.proofs.Common.{◌≡◌, ◌≢◌, inl, inr, ℕ, ◌<◌, List, [], ◌++◌, Option, Some, None, Result, Ok, Err, refl, sym, ap, subst, ◌∙◌, arith, get_or, Fits, w8}
-use Rattle.std.specs.Prelude.{OnOk, IfErr}
+use Rattle.std.specs.Prelude.{OnOk, IfErr, Bool, false, ◌==◌, ◌∷◌, slice_get}
+use Rattle.std.proofs.lemmas.Option.{same_Some, none-some}
+use Rattle.std.proofs.lemmas.Bool.Decides.{nat_tests}
+use Rattle.omf_core.specs.Kind.{kind_byte}
+use Rattle.omf_core.specs.declared.kind.RecordKind.TheVariants.{LibraryHeader}
 use Rattle.std.specs.List.{All}
 use Rattle.std.proofs.lemmas.List.{append-nil, get_or_default}
 use Rattle.std.proofs.lemmas.List.Elements.{All-nil}
@@ -16,7 +20,9 @@ use Rattle.omf_library.specs.Fault.{OrNoMemory as OrNoLibraryMemory}
 use Rattle.omf_library.specs.FeedLaws.{LastingFaultsLast}
 use Rattle.omf_library.specs.Spelled.{FaultsLibrary}
 use Rattle.omf_library.specs.LibraryFeed.{LibraryFeedValue, LastingLibraryFault}
-use Rattle.console80.specs.Pieces.{HasTaken, HasTakenFile, HasTakenLibrary}
+use Rattle.console80.specs.declared.file_fault.FileFault.{FileFault}
+use Rattle.console80.specs.declared.file_fault.FileFault.TheVariants.{Unread, Module, Library}
+use Rattle.console80.specs.Pieces.{begins_library, file_failures, HasBegun, HasTaken, HasTakenFile, HasTakenLibrary, WasRead}
 
 pub implied : {A E P Q : Type 0} (r : Result A E) → OnOk r P → (P → Q) → OnOk r Q
 implied (Ok x) p f = f p
@@ -140,3 +146,27 @@ file_refused feed text f answered faults h = refused LastingFileFault (λ b g. O
 pub library_refused : (feed : LibraryFeedValue) (text : List ℕ) (f : LibraryFault) → ((g : LibraryFault) → feed.kept ≡ Some g → f ≡ g) → (feed.kept ≡ None → OrNoLibraryMemory (FaultsLibrary feed.bytes) f)
     → HasTakenLibrary feed text → OrNoLibraryMemory (FaultsLibrary text) f
 library_refused feed text f answered faults h = refused LastingLibraryFault (λ b g. OrNoLibraryMemory (FaultsLibrary b) g) f feed.bytes text feed.kept library_fault_now answered faults h
+
+-- ---- the first byte
+
+pub begun_kind : (is_library : Bool) (bytes : List ℕ) → HasBegun is_library bytes → begins_library bytes ≡ is_library
+begun_kind is_library bytes h = ap begins_library h.is ∙ h.kind
+
+-- more bytes leave it the first
+pub begun_more : (is_library : Bool) (bytes more : List ℕ) → HasBegun is_library bytes → HasBegun is_library (bytes ++ more)
+begun_more is_library bytes more h = record { first = h.first; rest = h.rest ++ more; is = ap (λ b. b ++ more) h.is; kind = h.kind }
+
+pub begun_by : (is_library : Bool) (bytes : List ℕ) (first : ℕ) → slice_get bytes 0 ≡ Some first → (first == kind_byte LibraryHeader) ≡ is_library → HasBegun is_library bytes
+begun_by is_library [] first is kind = absurd (none-some first is)
+begun_by is_library (byte ∷ bytes) first is kind = record { first = byte; rest = bytes; is = refl; kind = ap (λ b. b == kind_byte LibraryHeader) (same_Some byte first is) ∙ kind }
+
+pub not_header : (byte : ℕ) → byte ≢ 0x2C → (byte == kind_byte LibraryHeader) ≡ false
+not_header byte other = grind (arith, nat_tests, other)
+
+-- ---- what was read whole
+
+pub no_failures : {A : Type 0} (r : Result A FileFault) → WasRead r → file_failures r ≡ 0
+no_failures (Ok x) read = refl
+no_failures (Err (Unread f)) read = absurd read
+no_failures (Err (Module f)) read = refl
+no_failures (Err (Library f)) read = refl
