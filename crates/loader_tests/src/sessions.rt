@@ -20,7 +20,8 @@ const REGIONS: &[u8] = b"REGIONS 1\nCODE 3000 0005\nSTACK 3005 0000\n";
 /// Its input.
 const INPUTS: &[u8] = b"02 41\n";
 
-/// A reader that gives one byte at a time, and fails once it has given so many.
+/// A reader that gives one byte at a time. Once it has given so many, a read is interrupted, that one alone: who tried again would
+/// have all bytes.
 #[derive(Drop)]
 struct SlowReader<'a> {
     left: &'a [u8],
@@ -30,6 +31,7 @@ struct SlowReader<'a> {
 impl<'a> Read for SlowReader<'a> {
     fn read(&mut self, buffer: &mut [u8]) -> std::io::Result<usize> {
         if self.until_failure == 0 {
+            self.until_failure = usize::MAX;
             return Err(Error::from(ErrorKind::Interrupted));
         }
         if self.left.is_empty() || buffer.is_empty() {
@@ -42,7 +44,8 @@ impl<'a> Read for SlowReader<'a> {
     }
 }
 
-/// A writer that takes one byte at a time, and none from the place `full` on: there it fails, or takes no byte.
+/// A writer that takes one byte at a time, up to the place `full`. There it takes no byte, or one write is interrupted, that one
+/// alone: who tried again would have all bytes taken.
 #[derive(Drop)]
 struct SlowWriter {
     taken: Vec<u8>,
@@ -57,6 +60,7 @@ impl Write for SlowWriter {
             return Ok(1);
         }
         if self.fails {
+            self.full = usize::MAX;
             return Err(Error::from(ErrorKind::Interrupted));
         }
         Ok(0)
