@@ -1,4 +1,4 @@
--- Tables of names: one more public, one more external, and what an external stands for by them.
+-- Tables of names, and what an external stands for by them.
 use Rattle.std.specs.Prelude.{◌≡◌, ℕ, suc, ◌+◌, ◌<◌, nat_eq, nat_lt, if◌then◌else◌, Bool, true, false, Option, Some, None, option_map, List, [], ◌∷◌, ◌++◌, length, map, find, take, unwrap_or, slice_get, IsTrue}
 use Rattle.std.specs.Option.{option_or, option_map_or}
 use Rattle.std.specs.Map.{lookup}
