@@ -2,13 +2,12 @@
 //!
 //! | Item | What it is |
 //! |---|---|
-//! | [`module_places`] | the addresses at which a module lies in a dump |
-//! | [`module_words`] | the bases of its segments and the words of its externals at one of them |
+//! | [`ModulePattern`] | a module to look for: the addresses at which it lies in a dump, and the bases of its segments and the words of its externals at one of them |
 //! | [`laws`] | that a module lies in a dump exactly if its pattern does |
 #![tactic(auto)]
 
-mod finding;
 pub mod laws;
+mod module_pattern;
 
 pub use find80::Word;
-pub use finding::{module_places, module_words};
+pub use module_pattern::ModulePattern;

@@ -4,11 +4,11 @@ use crate::found_text::{append_external, append_more, append_name_line, append_p
 use crate::linking::read_file;
 use clap::ArgMatches;
 use console80::{Argument, Console, Kind, LinkFile, OptionText, Reported, Syntax, path_of};
-use found80::{module_places, module_words};
+use found80::ModulePattern;
 use omf_library::Library;
 use omf_module::Module;
 use omf_parts::Target;
-use pattern80::{CodeByte, Half, code_bytes};
+use pattern80::{CodeByte, Half};
 use std::alloc::{AllocError, Global};
 use std::fmt::Write;
 
@@ -185,15 +185,15 @@ fn look_for(
     module: &Module,
     text: &mut String,
 ) -> Result<Found, AllocError> {
-    let code = code_bytes(alloc, module)?;
-    if plain_bytes(&code) < FEWEST {
+    let pattern = ModulePattern::of(alloc, module)?;
+    if plain_bytes(pattern.code()) < FEWEST {
         return Ok(Found::Short);
     }
-    let found = module_places(alloc, dump.first, &dump.bytes, module)?;
+    let found = pattern.places(alloc, dump.first, &dump.bytes)?;
     if found.is_empty() {
         return Ok(Found::Missing);
     }
-    append_places(alloc, dump, module, &found, text)?;
+    append_places(alloc, dump, &pattern, &found, text)?;
     Ok(Found::There)
 }
 
@@ -212,12 +212,12 @@ fn plain_bytes(code: &[CodeByte]) -> usize {
 fn append_places(
     alloc: Global,
     dump: &Dump,
-    module: &Module,
+    pattern: &ModulePattern<'_>,
     found: &[u16],
     text: &mut String,
 ) -> Result<(), AllocError> {
     for address in found.iter().take(PLACES) {
-        append_at(alloc, dump, module, *address, text)?;
+        append_at(alloc, dump, pattern, *address, text)?;
     }
     append_more(text, found.len().saturating_sub(PLACES))
 }
@@ -226,16 +226,16 @@ fn append_places(
 fn append_at(
     alloc: Global,
     dump: &Dump,
-    module: &Module,
+    pattern: &ModulePattern<'_>,
     address: u16,
     text: &mut String,
 ) -> Result<(), AllocError> {
-    let Some(words) = module_words(alloc, dump.first, &dump.bytes, module, address)? else {
+    let Some(words) = pattern.words_at(alloc, dump.first, &dump.bytes, address)? else {
         return Ok(());
     };
-    append_place(text, module, address, &words)?;
+    append_place(text, pattern.source(), address, &words)?;
     for word in &words {
-        append_external(text, module, *word)?;
+        append_external(text, pattern.source(), *word)?;
     }
     Ok(())
 }

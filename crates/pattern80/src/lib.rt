@@ -5,11 +5,12 @@
 //! |---|---|
 //! | [`code_bytes`] | the bytes that a module's contents define in CODE |
 //! | [`CodeByte`], [`Half`] | a byte of the code: half of the word that is a target's value plus an addend |
-//! | [`resolve`], [`Resolved`] | what the target of a fixup stands for |
+//! | [`Resolved`] | what the target of a fixup stands for |
 //! | [`number_of`], [`target_of`] | the number by which a target's value goes, and the target of a number |
 #![tactic(auto)]
 
 mod code_byte;
+mod names;
 mod number;
 mod reading;
 mod resolving;
@@ -17,4 +18,4 @@ mod resolving;
 pub use code_byte::{CodeByte, Half};
 pub use number::{number_of, target_of};
 pub use reading::code_bytes;
-pub use resolving::{Resolved, resolve};
+pub use resolving::Resolved;

@@ -10,7 +10,7 @@ ghost use Rattle.omf_relocation.specs.SoundModules.{HasItsFixups, LiesIn};
 ghost use Rattle.pattern80.specs.Modules.{code_bytes, code_length, covers, has_byte, fixup_byte, byte_in, plain_byte, field_byte, IsWithin, IsTable};
 
 use crate::code_byte::{CodeByte, Half};
-use crate::resolving::{Resolved, resolve};
+use crate::resolving::{Resolved, ResolvedModule};
 use omf_body::segment_id::CODE;
 use omf_parts::{Content, Field, Fixup, Module, Target};
 use omf_relocation::laws::sound_modules_keep_rules;
@@ -26,35 +26,25 @@ pub fn code_bytes(alloc: Global, source: &Module) -> Result<Vec<CodeByte>, Alloc
     ensures short { OnOk result (code_length source.now ≤ 65535) }
     ensures rules { OnOk result (IsModule source.now) }
 {
-    let table = code_table(alloc, source)?;
+    let resolved = ResolvedModule::of(alloc, source)?;
+    let table = code_table(alloc, &resolved)?;
     bytes_of(alloc, &table)
 }
 
 /// The byte at each offset in CODE, if a content covers it.
-fn code_table(alloc: Global, source: &Module) -> Result<Vec<Option<CodeByte>>, AllocError>
+fn code_table(alloc: Global, source: &ResolvedModule) -> Result<Vec<Option<CodeByte>>, AllocError>
     ensures table { IfOk result (λ table. IsTable source.now table.items) }
     ensures short { OnOk result (code_length source.now ≤ 65535) }
     ensures rules { OnOk result (IsModule source.now) }
 {
     sound_modules_keep_rules();
-    let mut table = empty_table(alloc, code_length(source))?;
+    let mut table = empty_table(alloc, source.code_length())?;
     for content in source.contents() {
         if content.segment == CODE {
             place(&mut table, source, content);
         }
     }
     Ok(table)
-}
-
-/// The length of the module's CODE.
-fn code_length(source: &Module) -> usize
-    ensures value { result ≡ code_length source.now }
-    ensures short { result ≤ 65535 }
-{
-    match source.segment(CODE) {
-        Some(segment) => usize::from(segment.length),
-        None => 0,
-    }
 }
 
 /// A table without bytes.
@@ -79,7 +69,7 @@ fn bytes_of(alloc: Global, table: &[Option<CodeByte>]) -> Result<Vec<CodeByte>, 
 }
 
 /// Writes the content's bytes to their offsets.
-fn place(table: &mut [Option<CodeByte>], source: &Module, content: &Content)
+fn place(table: &mut [Option<CodeByte>], source: &ResolvedModule, content: &Content)
     requires short { length table.old ≤ 65535 }
     requires fits { content.now.offset + length content.now.bytes ≤ length table.old }
     requires fixups { HasItsFixups source.now content.now }
@@ -94,7 +84,7 @@ fn place(table: &mut [Option<CodeByte>], source: &Module, content: &Content)
 /// Writes the bytes of the content's fixups over its others.
 fn place_fixups(
     table: &mut [Option<CodeByte>],
-    source: &Module,
+    source: &ResolvedModule,
     content: &Content,
     fixups: &[Fixup],
 )
@@ -132,7 +122,12 @@ fn place_plain(table: &mut [Option<CodeByte>], content: &Content)
 }
 
 /// Writes a fixup's bytes to their offsets.
-fn place_fixup(table: &mut [Option<CodeByte>], source: &Module, content: &Content, fixup: Fixup)
+fn place_fixup(
+    table: &mut [Option<CodeByte>],
+    source: &ResolvedModule,
+    content: &Content,
+    fixup: Fixup,
+)
     requires short { length table.old ≤ 65535 }
     requires fits { content.now.offset + length content.now.bytes ≤ length table.old }
     requires within { IsWithin content.now fixup }
@@ -142,7 +137,7 @@ fn place_fixup(table: &mut [Option<CodeByte>], source: &Module, content: &Conten
         (if covers o content.now && has_byte content.now (o - content.now.offset) fixup
         then Some (fixup_byte source.now content.now (o - content.now.offset) fixup) else slice_index_or table.old o None) }
 {
-    let resolved = resolve(source, fixup.target);
+    let resolved = source.resolve(fixup.target);
     match fixup.field {
         Field::Low => place_low(table, content, fixup.offset, resolved),
         Field::High => place_high(table, content, fixup.offset, resolved),

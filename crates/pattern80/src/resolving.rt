@@ -1,14 +1,15 @@
 //! What the targets of fixups stand for.
 
-ghost use Rattle.std.specs.Prelude.{◌≡◌, ◌<◌, ◌≤◌, nat_eq, find, length, IsTrue, option_map};
-ghost use Rattle.std.specs.Cmp.Lexicographic.{pointwise};
-ghost use Rattle.omf_parts.specs.declared.fixup.Target.TheVariants as target;
-ghost use Rattle.omf_parts.specs.Modules.{ModuleValue};
-ghost use Rattle.omf_parts.specs.Rules.{has_target};
-ghost use Rattle.pattern80.specs.Modules.{resolved, resolved_external, first_with};
+ghost use Rattle.std.specs.Prelude.{◌≡◌, ◌≤◌, length, IsTrue, IfOk};
+ghost use Rattle.omf_parts.specs.Rules.{has_target, IsModule};
+ghost use Rattle.pattern80.specs.Modules.{code_length, resolved};
+ghost use Rattle.pattern80.specs.Names.{AreExternals};
 
-use omf_core::Name;
-use omf_parts::{Module, Public, Target};
+use crate::names::Names;
+use omf_body::segment_id::CODE;
+use omf_parts::{Content, Module, Target};
+use std::alloc::{AllocError, Global};
+use std::marker::Model;
 
 /// What a target stands for: the value of a target plus an addend.
 #[derive(Clone, Copy, PartialEq, Eq, Debug)]
@@ -17,56 +18,75 @@ pub struct Resolved {
     pub addend: u16,
 }
 
-/// What a target of a fixup in the module stands for. A segment stands for its base; an external that the module itself declares
-/// for the public's place, and another one for the word of the first external of that name.
-pub fn resolve(source: &Module, target: Target) -> Resolved
-    requires { IsTrue (has_target source.now.commons (length source.now.externals) target) }
-    ensures { result ≡ resolved source.now target }
-{
-    match target {
-        Target::Segment(_) => Resolved { target, addend: 0 },
-        Target::External(index) => { resolve_external(source.publics(), source.externals(), index) }
-    }
+/// A module with what each of its externals stands for. A contract sees the module.
+#[derive(Drop)]
+pub(crate) struct ResolvedModule<'a> {
+    source: &'a Module,
+    externals: Vec<Resolved>,
 }
 
-fn resolve_external(publics: &[Public], externals: &[Name], index: u16) -> Resolved
-    requires { index < length externals.now }
-    ensures { (m : ModuleValue) → m.publics ≡ publics.now → m.externals ≡ externals.now → result ≡ resolved_external m index }
-{
-    let name = &externals[usize::from(index)];
-    match public_named(publics, name) {
-        Some(found) => found,
-        None => Resolved {
-            target: Target::External(first_with(&externals[..usize::from(index)], name, index)),
-            addend: 0,
-        },
-    }
+impl<'a> Model for ResolvedModule<'a> {
+    ghost use Rattle.omf_parts.specs.Modules.{ModuleValue};
+    ghost use Rattle.pattern80.specs.Names.{AreExternals};
+
+    ghost Value = { ModuleValue };
+
+    ghost view = { λ r. r.source.now };
+
+    ghost invariant = { λ r. AreExternals r.source.now r.externals.items };
 }
 
-/// The place of the public of this name.
-fn public_named(publics: &[Public], name: &Name) -> Option<Resolved>
-    ensures { result ≡ option_map (λ p. record { target = target.Segment p.segment; addend = p.offset }) (find (λ p. pointwise nat_eq p.name name.now) publics.now) }
-{
-    for public in publics {
-        if public.name == *name {
-            return Some(Resolved {
-                target: Target::Segment(public.segment),
-                addend: public.offset,
-            });
+impl<'a> ResolvedModule<'a> {
+    /// The module, by one look at each of its names.
+    pub(crate) fn of(alloc: Global, source: &'a Module) -> Result<ResolvedModule<'a>, AllocError>
+        ensures { IfOk result (λ resolved. resolved ≡ source.now) }
+    {
+        let externals = resolved_externals(alloc, source)?;
+        Ok(ResolvedModule { source, externals })
+    }
+
+    /// The module's contents.
+    pub(crate) fn contents(&self) -> &'a [Content]
+        ensures value { result.now ≡ self.now.contents }
+        ensures rules { IsModule self.now }
+    {
+        self.source.contents()
+    }
+
+    /// The length of the module's CODE.
+    pub(crate) fn code_length(&self) -> usize
+        ensures value { result ≡ code_length self.now }
+        ensures short { result ≤ 65535 }
+    {
+        match self.source.segment(CODE) {
+            Some(segment) => usize::from(segment.length),
+            None => 0,
         }
     }
-    None
-}
 
-/// The index of the first of the names that is this one, and their number if none is.
-fn first_with(names: &[Name], name: &Name, count: u16) -> u16
-    requires { length names.now ≡ count }
-    ensures { result ≡ first_with names.now name.now }
-{
-    for (index, other) in names.iter().enumerate() {
-        if *other == *name {
-            return index as u16;
+    /// What a target of a fixup in the module stands for. A segment stands for its base; an external that the module itself
+    /// declares for the public's place, and another one for the word of the first external of that name.
+    pub(crate) fn resolve(&self, target: Target) -> Resolved
+        requires { IsTrue (has_target self.now.commons (length self.now.externals) target) }
+        ensures { result ≡ resolved self.now target }
+    {
+        match target {
+            Target::Segment(_) => Resolved { target, addend: 0 },
+            Target::External(index) => self.externals[usize::from(index)],
         }
     }
-    count
+}
+
+/// What the module's externals stand for, up to the greatest index that a fixup can have.
+fn resolved_externals(alloc: Global, source: &Module) -> Result<Vec<Resolved>, AllocError>
+    ensures { IfOk result (λ externals. AreExternals source.now externals.items) }
+{
+    let mut names = Names::of_publics(alloc, source)?;
+    let names_of_externals = source.externals();
+    let mut externals = Vec::new(alloc);
+    for index in 0..names_of_externals.len().min(65536) {
+        let resolved = names.external(&names_of_externals[index], index as u16)?;
+        externals.push(resolved)?;
+    }
+    Ok(externals)
 }
