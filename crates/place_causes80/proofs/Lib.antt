@@ -1,0 +1,2 @@
+mod PlacingLemmas
+mod OverlapLemmas
