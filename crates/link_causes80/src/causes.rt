@@ -12,6 +12,7 @@ use omf_core::Name;
 use omf_library::Library;
 use omf_parts::Module;
 use parts80::linked_modules;
+use select80::laws::selections_are_unique;
 use std::alloc::{AllocError, Global};
 
 /// What is linked: modules, each with its file, and libraries, each with its file.
@@ -41,18 +42,20 @@ pub struct LinkSources<'a> {
 pub fn append_cause(
     alloc: Global,
     text: &mut Vec<u8>,
-    sources: LinkSources<'_>,
+    sources: &LinkSources<'_>,
     fault: &LinkFault,
 ) -> Result<(), AllocError>
-    ensures { OnOk result (PrintsCause sources.roots.now (map (λ f. f.now) sources.root_files.now) sources.libraries.now
-        (map (λ f. f.now) sources.library_files.now) fault.now text.old.items text.new.items) }
+    ensures { OnOk result (PrintsCause sources.now.roots.now (map (λ f. f.now) sources.now.root_files.now)
+        sources.now.libraries.now (map (λ f. f.now) sources.now.library_files.now) fault.now text.old.items text.new.items) }
 {
+    selections_are_unique();
     let Ok(taken) = select(alloc, sources.roots, sources.libraries) else {
         return Err(AllocError);
     };
     let modules = linked_modules(alloc, sources.roots, sources.libraries, &taken)?;
     let files = files_with(alloc, sources.root_files, sources.library_files, &taken)?;
-    append_lines(alloc, text, &files, &modules, fault)
+    append_lines(alloc, text, &files, &modules, fault)?;
+    Ok(())
 }
 
 /// The files of the linked modules, by their numbers.

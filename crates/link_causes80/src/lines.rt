@@ -1,11 +1,12 @@
 //! The lines of modules and of a high byte.
 
 ghost use Rattle.std.specs.Prelude.{◌≡◌, ◌++◌, Some, map, slice_get, OnOk};
-ghost use Rattle.link_causes80.specs.Causes.{line_of, first_two, high_line, high_text};
+ghost use Rattle.link_causes80.specs.Causes.{deed_line, line_of, first_two, use_line, high_line, high_text};
 
 use crate::high_bytes::HighByte;
 use crate::words::{append_module, append_place};
-use omf_parts::Module;
+use omf_core::Name;
+use omf_parts::{Common, Module};
 use std::alloc::AllocError;
 
 /// Appends the lines of the first two modules with these numbers, and what they do.
@@ -37,15 +38,26 @@ fn append_line(
         ++ line_of (map (λ f. f.now) files.now) (map (λ m. m.now) modules.now) does.now number) }
 {
     match modules.get(number) {
-        Some(source) => {
-            text.extend_from_slice(b"  ".as_slice())?;
-            append_module(text, files, number, source.name())?;
-            text.extend_from_slice(does)?;
-            text.push(b'\n')?;
-            Ok(())
-        }
+        Some(source) => append_deed(text, files, number, source.name(), does),
         None => Ok(()),
     }
+}
+
+/// Appends the line of a module, and what it does.
+fn append_deed(
+    text: &mut Vec<u8>,
+    files: &[&[u8]],
+    number: usize,
+    name: &Name,
+    does: &[u8],
+) -> Result<(), AllocError>
+    ensures { OnOk result (text.new.items ≡ text.old.items ++ deed_line (map (λ f. f.now) files.now) does.now number name.now) }
+{
+    text.extend_from_slice(b"  ".as_slice())?;
+    append_module(text, files, number, name)?;
+    text.extend_from_slice(does)?;
+    text.push(b'\n')?;
+    Ok(())
 }
 
 /// Appends the line of a high byte, if one was found.
@@ -75,16 +87,27 @@ fn append_high_line(
         ++ high_line (map (λ f. f.now) files.now) (map (λ m. m.now) modules.now) high) }
 {
     match modules.get(high.source) {
-        Some(source) => {
-            text.extend_from_slice(b"  ".as_slice())?;
-            append_module(text, files, high.source, source.name())?;
-            text.extend_from_slice(b" uses the high byte of ".as_slice())?;
-            append_place(text, source.commons(), high.target, high.start)?;
-            text.extend_from_slice(b" at ".as_slice())?;
-            append_place(text, source.commons(), high.segment, high.offset)?;
-            text.push(b'\n')?;
-            Ok(())
-        }
+        Some(source) => append_use(text, files, source.name(), source.commons(), high),
         None => Ok(()),
     }
+}
+
+/// Appends the line of a high byte in a module with this name and these commons.
+fn append_use(
+    text: &mut Vec<u8>,
+    files: &[&[u8]],
+    name: &Name,
+    commons: &[Common],
+    high: HighByte,
+) -> Result<(), AllocError>
+    ensures { OnOk result (text.new.items ≡ text.old.items ++ use_line (map (λ f. f.now) files.now) name.now commons.now high) }
+{
+    text.extend_from_slice(b"  ".as_slice())?;
+    append_module(text, files, high.source, name)?;
+    text.extend_from_slice(b" uses the high byte of ".as_slice())?;
+    append_place(text, commons, high.target, high.start)?;
+    text.extend_from_slice(b" at ".as_slice())?;
+    append_place(text, commons, high.segment, high.offset)?;
+    text.push(b'\n')?;
+    Ok(())
 }

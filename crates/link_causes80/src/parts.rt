@@ -2,10 +2,11 @@
 
 ghost use Rattle.std.specs.Prelude.{◌≡◌, ◌++◌, map, OnOk};
 ghost use Rattle.omf_parts.specs.Segments.{is_used};
-ghost use Rattle.link_causes80.specs.Causes.{part_line, parts_text};
+ghost use Rattle.link_causes80.specs.Causes.{used_line, part_line, parts_text};
 
 use crate::starts::segment_in;
 use crate::words::{append_module, append_part};
+use omf_core::Name;
 use omf_parts::{Module, Segment};
 use std::alloc::AllocError;
 
@@ -37,12 +38,28 @@ fn append_line(
 {
     let part = segment_in(source.segments(), id);
     if is_used(part) {
-        text.extend_from_slice(b"  ".as_slice())?;
-        append_part(text, id, part)?;
-        text.push(b' ')?;
-        append_module(text, files, number, source.name())?;
-        text.push(b'\n')?;
+        append_used(text, files, number, source.name(), id, part)
+    } else {
+        Ok(())
     }
+}
+
+/// Appends the line of a part of the module with this number and name.
+fn append_used(
+    text: &mut Vec<u8>,
+    files: &[&[u8]],
+    number: usize,
+    name: &Name,
+    id: u8,
+    part: Segment,
+) -> Result<(), AllocError>
+    ensures { OnOk result (text.new.items ≡ text.old.items ++ used_line (map (λ f. f.now) files.now) id part number name.now) }
+{
+    text.extend_from_slice(b"  ".as_slice())?;
+    append_part(text, id, part)?;
+    text.push(b' ')?;
+    append_module(text, files, number, name)?;
+    text.push(b'\n')?;
     Ok(())
 }
 

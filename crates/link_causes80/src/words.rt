@@ -1,7 +1,7 @@
 //! Words of the lines.
 
 ghost use Rattle.std.specs.Prelude.{◌≡◌, ◌++◌, [], map, slice_index_or, OnOk};
-ghost use Rattle.link_causes80.specs.Lines.{module_words, segment_word, common_part, place_words, part_words};
+ghost use Rattle.link_causes80.specs.Lines.{module_words, segment_word, common_part, place_words, paged_part, part_words};
 
 use decode80::word_digits;
 use omf_body::segment_id::{ABSOLUTE, CODE, DATA, MEMORY, STACK};
@@ -55,10 +55,14 @@ pub(crate) fn append_part(text: &mut Vec<u8>, id: u8, part: Segment) -> Result<(
     text.extend_from_slice(word_of(id))?;
     text.push(b' ')?;
     text.extend_from_slice(&word_digits(part.length))?;
-    if part.paged {
-        text.extend_from_slice(b" PAGED".as_slice())?;
-    }
-    Ok(())
+    text.extend_from_slice(paged_word(part.paged))
+}
+
+/// The word of a paged part, with a blank before it.
+fn paged_word(paged: bool) -> &'static [u8]
+    ensures { result.now ≡ paged_part paged }
+{
+    if paged { b" PAGED".as_slice() } else { &[] }
 }
 
 /// The word of a segment.

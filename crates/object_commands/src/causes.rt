@@ -38,7 +38,7 @@ fn link_lines(
         library_files: &files.paths,
     };
     let mut lines = Vec::new(alloc);
-    link_causes80::append_cause(alloc, &mut lines, sources, fault)?;
+    link_causes80::append_cause(alloc, &mut lines, &sources, fault)?;
     Ok(lines)
 }
 

@@ -2,7 +2,8 @@
 use Rattle.std.specs.Prelude.{◌≡◌, ℕ, suc, ◌+◌, ◌-◌, ◌==◌, ◌<◌, ◌≤◌, true, false, Option, Some, None, List, [], ◌∷◌, ◌++◌, map, filter, find, take, drop, length, refl, if◌then◌else◌, IsTrue}
 use Rattle.std.specs.List.{AllByRecursion}
 use Rattle.std.specs.Option.{option_or}
-use Rattle.std.proofs.Common.{cond, ◌∙◌, ap, sym, get_or, drop-cons, take_all, length-drop, arith}
+use Rattle.std.proofs.Common.{cond, ◌∙◌, ap, sym, subst, get_or, drop-cons, take_all, length-drop, arith}
+use Rattle.std.proofs.lemmas.List.{drop_more}
 use Rattle.omf_parts.specs.Contents.{ContentValue}
 use Rattle.omf_parts.specs.Modules.{ModuleValue}
 use Rattle.omf_relocation.specs.SoundModules.{LiesIn}
@@ -81,3 +82,8 @@ pub in_records : (m : ModuleValue) (contents : List ContentValue) → AllByRecur
     → AllByRecursion (λ c. length c.bytes ≤ 65531) contents
 in_records m [] all = tt
 in_records m (c ∷ cs) all = (all.0.in_record, in_records m cs all.1)
+
+pub records_left : (contents : List ContentValue) (i : ℕ) (d : ContentValue) → i < length contents
+    → AllByRecursion (λ c. length c.bytes ≤ 65531) (drop i contents) → AllByRecursion (λ c. length c.bytes ≤ 65531) (drop (i + 1) contents)
+records_left contents i d inside all =
+    (subst (λ (l : List ContentValue). AllByRecursion (λ c. length c.bytes ≤ 65531) l) (drop_more contents i d inside) all).1

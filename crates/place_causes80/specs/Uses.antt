@@ -4,7 +4,7 @@
 use Rattle.std.specs.Prelude.{ℕ, nat_eq, Bool, false, not, ◌&&◌, if◌then◌else◌, Option, Some, None, List, [], ◌∷◌, find, map}
 use Rattle.std.specs.Option.{option_or}
 use Rattle.std.specs.Cmp.Lexicographic.{pointwise}
-use Rattle.core.specs.Char.{to_ascii_uppercase}
+use Rattle.std.specs.Char.{to_ascii_lowercase}
 use Rattle.omf_parts.specs.declared.fixup.Fixup.{Fixup}
 use Rattle.omf_parts.specs.declared.fixup.Target.{Target}
 use Rattle.omf_parts.specs.declared.fixup.Target.TheVariants as target
@@ -46,10 +46,10 @@ no_word target = 0
 abbrev pub first_use_of : ModuleValue → (name : List ℕ) → Option Use
 first_use_of m name = first_use no_word (λ f. refers_to m.externals name f.target) m.contents
 
--- another name that is the same in upper case
+-- a name that differs, but is the same in lower case
 abbrev pub differs_in_case : List ℕ → List ℕ → Bool
 differs_in_case other name =
-    pointwise nat_eq (map to_ascii_uppercase other) (map to_ascii_uppercase name) && not (pointwise nat_eq other name)
+    pointwise nat_eq (map to_ascii_lowercase other) (map to_ascii_lowercase name) && not (pointwise nat_eq other name)
 
 -- the first public with such a name
 abbrev pub alike : ModuleValue → (name : List ℕ) → Option Public

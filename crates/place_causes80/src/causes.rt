@@ -1,8 +1,10 @@
 //! The lines of a fault.
 
-ghost use Rattle.std.specs.Prelude.{◌≡◌, ◌++◌, OnOk};
+ghost use Rattle.std.specs.Prelude.{◌≡◌, ◌++◌, [], OnOk};
+ghost use Rattle.std.specs.Option.{option_map_or};
 ghost use Rattle.place80.specs.Layout.{layout_of};
-ghost use Rattle.place_causes80.specs.Causes.{cause_text, unresolved_text, outside_text, overlap_text, high_text, start_text};
+ghost use Rattle.place_causes80.specs.Causes.{cause_text, use_line, alike_line, unresolved_text, outside_text, overlap_text, high_text, start_text};
+ghost use Rattle.place_causes80.specs.Uses.{first_use_of, alike};
 
 use crate::laying_out::layout_of;
 use crate::lines::{append_alike, append_high, append_pair, append_placed, append_start, append_use};
@@ -64,13 +66,29 @@ fn append_unresolved(
 ) -> Result<(), AllocError>
     ensures { OnOk result (text.new.items ≡ text.old.items ++ unresolved_text program.now name.now) }
 {
-    if let Some(found) = first_use_of(program, name) {
-        append_use(text, program.commons(), found)?;
+    append_first_use(text, program, name)?;
+    append_first_alike(text, program, name)
+}
+
+/// Appends the line of the first fixup that refers to the name.
+fn append_first_use(text: &mut Vec<u8>, program: &Module, name: &Name) -> Result<(), AllocError>
+    ensures { OnOk result (text.new.items ≡ text.old.items
+        ++ option_map_or (use_line program.now.commons) (first_use_of program.now name.now) []) }
+{
+    match first_use_of(program, name) {
+        Some(found) => append_use(text, program.commons(), found),
+        None => Ok(()),
     }
-    if let Some(public) = alike(program, name) {
-        append_alike(text, public)?;
+}
+
+/// Appends the line of the first public whose name differs in case alone.
+fn append_first_alike(text: &mut Vec<u8>, program: &Module, name: &Name) -> Result<(), AllocError>
+    ensures { OnOk result (text.new.items ≡ text.old.items ++ option_map_or alike_line (alike program.now name.now) []) }
+{
+    match alike(program, name) {
+        Some(public) => append_alike(text, public),
+        None => Ok(()),
     }
-    Ok(())
 }
 
 /// Appends the line of the first segment that is outside memory.

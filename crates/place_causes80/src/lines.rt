@@ -31,7 +31,8 @@ pub(crate) fn append_alike(text: &mut Vec<u8>, public: &Public) -> Result<(), Al
 {
     text.extend_from_slice(b"  the public ".as_slice())?;
     text.extend_from_slice(public.name.bytes())?;
-    text.extend_from_slice(b" differs in case alone\n".as_slice())
+    text.extend_from_slice(b" differs in case alone\n".as_slice())?;
+    Ok(())
 }
 
 /// Appends the line of a segment: its first address and its length.
@@ -96,7 +97,8 @@ pub(crate) fn append_start(
     text.extend_from_slice(b"  START ".as_slice())?;
     text.extend_from_slice(&word_digits(place_of(segments, start.0, start.1)))?;
     text.push(b'\n')?;
-    append_placed(text, commons, placed_in(segments, CODE))
+    append_placed(text, commons, placed_in(segments, CODE))?;
+    Ok(())
 }
 
 /// The segment of this id, and one of no bytes at 0 if there is none.

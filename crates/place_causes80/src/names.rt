@@ -2,7 +2,8 @@
 
 ghost use Rattle.std.specs.Prelude.{◌≡◌, nat_eq, map, option_copied};
 ghost use Rattle.std.specs.Cmp.Lexicographic.{pointwise};
-ghost use Rattle.core.specs.Char.{to_ascii_uppercase};
+ghost use Rattle.std.specs.Char.{to_ascii_lowercase};
+ghost use Rattle.omf_relocation.specs.ImageByte.{name_at};
 ghost use Rattle.place_causes80.specs.Uses.{refers_to, first_given, use_of, no_word, first_use_in, first_use_of, differs_in_case, alike};
 
 use crate::uses::Use;
@@ -69,24 +70,16 @@ pub(crate) fn alike<'a>(program: &'a Module, name: &Name) -> Option<&'a Public>
     None
 }
 
-/// Whether two names differ, and are the same in upper case.
+/// Whether two names differ, and are the same in lower case.
 fn differs_in_case(other: &[u8], name: &[u8]) -> bool
     ensures { result ≡ differs_in_case other.now name.now }
 {
-    is_same_in_upper_case(other, name) && other != name
+    is_same_in_lower_case(other, name) && other != name
 }
 
-/// Whether two names are the same in upper case.
-fn is_same_in_upper_case(other: &[u8], name: &[u8]) -> bool
-    ensures { result ≡ pointwise nat_eq (map to_ascii_uppercase other.now) (map to_ascii_uppercase name.now) }
+/// Whether two names are the same in lower case.
+fn is_same_in_lower_case(other: &[u8], name: &[u8]) -> bool
+    ensures { result ≡ pointwise nat_eq (map to_ascii_lowercase other.now) (map to_ascii_lowercase name.now) }
 {
-    if other.len() != name.len() {
-        return false;
-    }
-    for index in 0..other.len() {
-        if other[index].to_ascii_uppercase() != name[index].to_ascii_uppercase() {
-            return false;
-        }
-    }
-    true
+    other.eq_ignore_ascii_case(name)
 }
