@@ -16,7 +16,7 @@ returns c =
     let second : c.extend_from_slice-2.new.self.items ≡ c.extend_from_slice.new.self.items ++ name =
     search (rules, c.in_ok-extend_from_slice-2.ensures, c.bytes.ensures, c.name.ensures) in
     let third : c.extend_from_slice-3.new.self.items ≡ c.extend_from_slice-2.new.self.items ++ codes " uses the high byte of " =
-    search (rules, c.in_ok-extend_from_slice-3.ensures, c.as_slice-2.ensures) in
+    c.in_ok-extend_from_slice-3.ensures.items ∙ ap (λ l. c.extend_from_slice-2.new.self.items ++ l) c.as_slice-2.ensures in
     let fourth : c.extend_from_slice-4.new.self.items ≡ c.extend_from_slice-3.new.self.items ++ word =
     search (rules, c.in_ok-extend_from_slice-4.ensures, c.word_digits.ensures) in
     let fifth : c.extend_from_slice-5.new.self.items ≡ c.extend_from_slice-4.new.self.items ++ codes " at " =
