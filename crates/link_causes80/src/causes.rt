@@ -136,5 +136,11 @@ fn append_mains(
         (mains (map (λ m. m.now) modules.now))) }
 {
     let numbers = mains(alloc, modules)?;
-    append_first_two(text, files, modules, b" is a main program".as_slice(), &numbers)
+    append_first_two(
+        text,
+        files,
+        modules,
+        b" is a main program".as_slice(),
+        &numbers,
+    )
 }

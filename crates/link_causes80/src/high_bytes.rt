@@ -48,7 +48,11 @@ fn high_of_module(
 }
 
 /// The first of a content.
-fn high_of_content(starts: &PartStarts<'_, '_>, number: usize, content: &Content) -> Option<HighByte>
+fn high_of_content(
+    starts: &PartStarts<'_, '_>,
+    number: usize,
+    content: &Content,
+) -> Option<HighByte>
     requires { number ≡ starts.now.1 }
     ensures { result ≡ high_of_content starts.now.0 number content.now }
 {

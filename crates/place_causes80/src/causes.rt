@@ -7,7 +7,9 @@ ghost use Rattle.place_causes80.specs.Causes.{cause_text, use_line, alike_line, 
 ghost use Rattle.place_causes80.specs.Uses.{first_use_of, alike};
 
 use crate::laying_out::layout_of;
-use crate::lines::{append_alike, append_high, append_pair, append_placed, append_start, append_use};
+use crate::lines::{
+    append_alike, append_high, append_pair, append_placed, append_start, append_use,
+};
 use crate::names::{alike, first_use_of};
 use crate::places::{first_outside, first_overlap};
 use crate::uses::first_high;
@@ -59,11 +61,7 @@ pub fn append_cause(
 }
 
 /// Appends the lines of an unresolved name.
-fn append_unresolved(
-    text: &mut Vec<u8>,
-    program: &Module,
-    name: &Name,
-) -> Result<(), AllocError>
+fn append_unresolved(text: &mut Vec<u8>, program: &Module, name: &Name) -> Result<(), AllocError>
     ensures { OnOk result (text.new.items ≡ text.old.items ++ unresolved_text program.now name.now) }
 {
     append_first_use(text, program, name)?;
