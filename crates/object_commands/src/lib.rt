@@ -10,6 +10,7 @@
 //! | [`find_modules`] | `find`: where modules lie in a dump of a PROM |
 #![tactic(auto)]
 
+mod causes;
 mod describing;
 mod finding;
 mod found_text;

@@ -4,6 +4,7 @@ ghost use Rattle.std.specs.Prelude.{IfOk};
 ghost use Rattle.link80.specs.Selection.{IsSelection};
 ghost use Rattle.parts80.specs.Parts.{IsMade};
 
+use crate::causes::report_link_fault;
 use crate::link_lines::{LinkLines, lines_of};
 use clap::ArgMatches;
 use console80::{
@@ -95,10 +96,11 @@ impl<'a> LinkArguments<'a> {
     }
 }
 
-/// The modules of object files, and libraries with their paths, each in the order of their files.
+/// The modules of object files, each with the path of its file, and libraries with their paths, in the order of the files.
 #[derive(Drop)]
 pub(crate) struct LinkFiles<'a> {
     pub roots: Vec<Module>,
+    pub root_paths: Vec<&'a [u8]>,
     pub libraries: Vec<Library>,
     pub paths: Vec<&'a [u8]>,
 }
@@ -163,6 +165,7 @@ fn write_outputs(
 fn read_files<'a>(console: Console<'_>, paths: &[&'a str]) -> Result<LinkFiles<'a>, Reported> {
     let mut files = LinkFiles {
         roots: Vec::new(console.alloc()),
+        root_paths: Vec::new(console.alloc()),
         libraries: Vec::new(console.alloc()),
         paths: Vec::new(console.alloc()),
     };
@@ -176,13 +179,29 @@ impl<'a> LinkFiles<'a> {
     /// Adds what the file of this path has.
     fn add(&mut self, console: Console<'_>, path: &'a str) -> Result<(), Reported> {
         match read_file(console, path)? {
-            LinkFile::Modules(mut modules) => append_modules(
-                console,
-                &mut self.roots,
-                &mut modules,
-            ),
+            LinkFile::Modules(modules) => self.add_modules(console, modules, path),
             LinkFile::Library(library) => self.add_library(console, library, path),
         }
+    }
+
+    fn add_modules(
+        &mut self,
+        console: Console<'_>,
+        mut modules: Vec<Module>,
+        path: &'a str,
+    ) -> Result<(), Reported> {
+        match self.push_paths(modules.len(), path) {
+            Ok(()) => append_modules(console, &mut self.roots, &mut modules),
+            Err(_) => Err(console.report_memory()),
+        }
+    }
+
+    /// Adds the path of `count` modules.
+    fn push_paths(&mut self, count: usize, path: &'a str) -> Result<(), AllocError> {
+        for _ in 0..count {
+            self.root_paths.push(path.as_bytes())?;
+        }
+        Ok(())
     }
 
     fn add_library(
@@ -221,7 +240,7 @@ fn linked(console: Console<'_>, name: &Name, files: &LinkFiles<'_>) -> Result<Li
 {
     match link(console.alloc(), name, &files.roots, &files.libraries) {
         Ok(linked) => Ok(linked),
-        Err(fault) => Err(console.report(fault)),
+        Err(fault) => Err(report_link_fault(console, files, fault)),
     }
 }
 

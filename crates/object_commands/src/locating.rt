@@ -1,5 +1,6 @@
 //! `plm80 locate`: an object file's one module at its places, as an image and its regions.
 
+use crate::causes::report_place_fault;
 use crate::locate_options::{
     CODE_BASE, COMMON_BASE, DATA_BASE, LocateTexts, MEMORY_BASE, MEMORY_SIZE, STACK_BASE,
     STACK_SIZE,
@@ -133,7 +134,7 @@ fn located_files(
     let program = one_module(console, arguments.object, &modules)?;
     match files_of(console.alloc(), program, options, arguments) {
         Ok(files) => Ok(files),
-        Err(fault) => Err(console.report(fault)),
+        Err(fault) => Err(report_place_fault(console, program, options, fault)),
     }
 }
 

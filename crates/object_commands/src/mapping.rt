@@ -1,5 +1,6 @@
 //! `plm80 map`: where LOCATE would put a module's segments and public names.
 
+use crate::causes::report_place_fault;
 use crate::locate_options::{
     CODE_BASE, COMMON_BASE, DATA_BASE, LocateTexts, MEMORY_BASE, MEMORY_SIZE, STACK_BASE,
     STACK_SIZE,
@@ -75,6 +76,6 @@ fn map_of(console: Console<'_>, path: &str, options: &Options) -> Result<Vec<u8>
     let program = one_module(console, path, &modules)?;
     match map_text(console.alloc(), program, options) {
         Ok(text) => Ok(text),
-        Err(fault) => Err(console.report(fault)),
+        Err(fault) => Err(report_place_fault(console, program, options, fault)),
     }
 }

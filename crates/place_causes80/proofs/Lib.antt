@@ -1,0 +1,3 @@
+mod PlacingLemmas
+mod OverlapLemmas
+mod TextLemmas
