@@ -1,5 +1,5 @@
 -- The verifier's walks over suggested regions come only to addresses that are reached.
-use Rattle.std.proofs.Common.{◌≡◌, ◌<◌, ◌≤◌, ◌+◌, ℕ, Bool, true, false, true≢false, length, List, [], ◌∷◌, ◌++◌, Contains, refl, sym, subst, ap, ◌∙◌, arith, inl, inr}
+use Rattle.std.proofs.Common.{◌≡◌, ◌<◌, ◌≤◌, ℕ, Bool, true, false, true≢false, length, List, [], ◌∷◌, ◌++◌, Contains, refl, sym, subst, ap, ◌∙◌, arith, inl, inr}
 use Rattle.std.specs.Prelude.{◌&&◌, nat_lt, Option, Some, None, Result, Ok, Err, find, ◌==◌, slice_index, if◌then◌else◌}
 use Rattle.std.specs.Option.{option_map, option_map_or}
 use Rattle.std.proofs.lemmas.Bool.Decides.{nat_tests}
@@ -31,7 +31,7 @@ use Rattle.image80.specs.Case.{DeclaredCase}
 use Rattle.image80.specs.Image.{Located, memory_of}
 use Rattle.image80.specs.Regions.{Areas, in_code}
 use Rattle.verify80.specs.Looking.{code_of, declared_targets, is_pchl, look_at}
-use Rattle.verify80.specs.LookLaws.{LooksAnswerFaultsThatHold, LooksFindWhatIsAdmitted, fetch_at}
+use Rattle.verify80.specs.LookLaws.{LooksAnswerFaultsThatHold, LooksFindWhatIsAdmitted}
 use Rattle.cases80.specs.Reach.{MayReach, falls_to, given, leads_from, leads_to, target_of, targets_of}
 use Rattle.cases80.specs.Reach.MayReach.{begins as reach_begins, goes_on as reach_goes_on}
 use Rattle.cases80.specs.Marks.{marked}
