@@ -7,7 +7,8 @@ use Rattle.std.proofs.lemmas.List.Elements.{All-nil, All-push, Contains-append_l
 use Rattle.std.proofs.lemmas.List.Quantifiers.{all_pairs_push}
 use Rattle.image80.specs.Case.{DeclaredCase}
 use Rattle.image80.specs.Image.{Located}
-use Rattle.cases80.specs.Suggested.{AreSuggestedBelow, IsSuggested, is_open}
+use Rattle.cases80.specs.declared.search.SuggestedCase.{SuggestedCase}
+use Rattle.cases80.specs.Suggested.{AreSuggestedBelow, IsSuggested, IsSuggestedCase, is_open}
 
 abbrev addresses : List DeclaredCase → List ℕ
 addresses cases = map (λ case. case.at) cases
@@ -51,7 +52,7 @@ module _ (image : Located) (reached taken : List Bool) where
     }
 
     -- a case more
-    pub one_case : (case : DeclaredCase) → is_open image reached at ≡ true → IsSuggested image reached taken case → case.at ≡ at → AreSuggestedBelow image reached taken (at + 1) (cases ++ case ∷ []) others
+    one_case : (case : DeclaredCase) → is_open image reached at ≡ true → IsSuggested image reached taken case → case.at ≡ at → AreSuggestedBelow image reached taken (at + 1) (cases ++ case ∷ []) others
     one_case case is_here is here = record {
       each = All-push (IsSuggested image reached taken) cases case so_far.each is;
       by_address = all_pairs_push (λ a b. a.at < b.at) cases case so_far.by_address (λ k d inside. omega (arith, so_far.below k d inside, here));
@@ -67,6 +68,10 @@ module _ (image : Located) (reached taken : List Bool) where
           ])
           (λ e. inl (subst (λ xs. Contains xs at) (sym (map-append (λ c. c.at) cases (case ∷ []))) (subst (Contains (addresses cases ++ case.at ∷ [])) here (Contains-push (addresses cases) case.at))));
     }
+
+    pub one_found : (found : SuggestedCase) → is_open image reached at ≡ true → IsSuggestedCase image reached taken found → found.case.at ≡ at →
+        AreSuggestedBelow image reached taken (at + 1) (cases ++ found.case ∷ []) others
+    one_found found is_here is here = one_case found.case is_here is.suggested here
 
     -- a PCHL without a table more
     pub one_other : is_open image reached at ≡ true → AreSuggestedBelow image reached taken (at + 1) cases (others ++ at ∷ [])

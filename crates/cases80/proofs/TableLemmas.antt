@@ -14,7 +14,7 @@ use Rattle.std.proofs.lemmas.Map.Keys.{IsStrictlyIncreasing-dedup}
 use Rattle.image80.specs.Image.{Located, memory_of}
 use Rattle.image80.specs.Regions.{in_code}
 use Rattle.cases80.specs.Marks.{marked}
-use Rattle.cases80.specs.Suggested.{AreEntries, IsBegun, IsSuggested, goal_of, goals_of, is_entry, is_free, is_open, is_target, is_undeclared, stride, word_in}
+use Rattle.cases80.specs.Suggested.{AreEntries, IsBegun, IsSuggested, IsSuggestedCase, goal_of, goals_of, goes_on_behind, is_entry, is_free, is_open, is_target, is_undeclared, stride, word_in}
 use Rattle.cases80.specs.declared.table.TableKind.{TableKind}
 use Rattle.cases80.specs.declared.table.TableKind.TheVariants.{Words, Jumps}
 
@@ -135,30 +135,39 @@ open_undeclared : (image : Located) (reached : List Bool) (at : ℕ) → is_open
 open_undeclared image reached at is = (both (marked reached at) (is_undeclared image at) is).1
 
 -- the case of the goals
-pub suggested : (image : Located) (reached taken : List Bool) (kind : TableKind) (at table limit : ℕ) (goals sorted distinct : List ℕ) → at < 65536 → is_open image reached at ≡ true →
-    IsBegun image table limit → AreEntries image reached taken kind table limit goals → All (λ target. target < 65536) goals → 0 < length goals →
-    IsPermutation goals sorted → IsSorted nat_cmp sorted → distinct ≡ dedup eqb sorted → IsSuggested image reached taken (record { at = at; targets = distinct })
-suggested image reached taken kind at table limit goals sorted distinct below is_here begun are small some moved up distinct_is =
-    let there : (w : ℕ) → Contains goals w → Contains (dedup eqb sorted) w = λ w inside. Contains-dedup_nat sorted w (Contains-permutation goals sorted w moved inside) in
-    let one = some_goal goals some in
-    let found : Contains (dedup eqb sorted) one.0 = there one.0 one.1 in
-    subst (λ ts. IsSuggested image reached taken (record { at = at; targets = ts })) (sym distinct_is)
-    (record {
-      undeclared = open_undeclared image reached at is_here;
-      rules = record {
-        word = below;
-        some = omega (arith, found.1);
-        words = All-dedup eqb (λ target. target < 65536) sorted (All-permutation (λ target. target < 65536) goals sorted moved small);
-        ascending = AllPairs-from_increasing (dedup eqb sorted) (IsStrictlyIncreasing-dedup sorted up);
-      };
-      in_code = All-dedup eqb (λ target. in_code image.regions target ≡ true) sorted
-          (All-permutation (λ target. in_code image.regions target ≡ true) goals sorted moved
-          (each_of image reached taken kind table (λ target. in_code image.regions target ≡ true) limit goals are (target_code image reached taken kind table)));
-      table = table;
-      kind = kind;
-      limit = limit;
-      begun = begun;
-      goals = goals;
-      entries = are;
-      targets = λ w. (λ inside. Contains-permutation sorted goals w (IsPermutation-sym goals sorted moved) (Contains-from_dedup eqb sorted w inside), there w);
-    })
+module _ (image : Located) (reached taken : List Bool) (kind : TableKind) (at table limit : ℕ) (goals sorted : List ℕ) (below : at < 65536) (is_here : is_open image reached at ≡ true)
+    (begun : IsBegun image table limit) (are : AreEntries image reached taken kind table limit goals) (small : All (λ target. target < 65536) goals) (some : 0 < length goals)
+    (moved : IsPermutation goals sorted) (up : IsSorted nat_cmp sorted) where
+  there : (w : ℕ) → Contains goals w → Contains (dedup eqb sorted) w
+  there w inside = Contains-dedup_nat sorted w (Contains-permutation goals sorted w moved inside)
+
+  abbrev suggested : IsSuggested image reached taken (record { at = at; targets = dedup eqb sorted })
+  suggested =
+      let one = some_goal goals some in
+      let found : Contains (dedup eqb sorted) one.0 = there one.0 one.1 in
+      record {
+        undeclared = open_undeclared image reached at is_here;
+        rules = record {
+          word = below;
+          some = omega (arith, found.1);
+          words = All-dedup eqb (λ target. target < 65536) sorted (All-permutation (λ target. target < 65536) goals sorted moved small);
+          ascending = AllPairs-from_increasing (dedup eqb sorted) (IsStrictlyIncreasing-dedup sorted up);
+        };
+        in_code = All-dedup eqb (λ target. in_code image.regions target ≡ true) sorted
+            (All-permutation (λ target. in_code image.regions target ≡ true) goals sorted moved
+            (each_of image reached taken kind table (λ target. in_code image.regions target ≡ true) limit goals are (target_code image reached taken kind table)));
+        table = table;
+        kind = kind;
+        limit = limit;
+        begun = begun;
+        goals = goals;
+        entries = are;
+        targets = λ w. (λ inside. Contains-permutation sorted goals w (IsPermutation-sym goals sorted moved) (Contains-from_dedup eqb sorted w inside), there w);
+      }
+
+  pub suggested_case : (distinct : List ℕ) («end» : ℕ) (may : Bool) → distinct ≡ dedup eqb sorted → «end» ≡ table + stride kind * length goals →
+      may ≡ (nat_lt (length goals) limit && goes_on_behind image taken «end») →
+      IsSuggestedCase image reached taken (record { case = record { at = at; targets = distinct }; table = table; «end» = «end»; may_go_on = may })
+  suggested_case distinct «end» may distinct_is is_end is_may =
+      subst (λ ts. IsSuggestedCase image reached taken (record { case = record { at = at; targets = ts }; table = table; «end» = «end»; may_go_on = may })) (sym distinct_is)
+      (record { suggested = suggested; table = refl; «end» = is_end; may_go_on = is_may })

@@ -1,6 +1,6 @@
 -- The CASE line that a table suggests for a PCHL. (PL/M-80 compiles DO CASE to a jump through a table of words, low byte first; 8080
 -- Assembly Language Programming Manual, PCHL and JMP. Where a table ends is this project's own.)
-use Rattle.std.specs.Prelude.{◌≡◌, ◌⊎◌, ℕ, ◌+◌, ◌*◌, ◌<◌, ◌==◌, ◌↔◌, ◌&&◌, ◌||◌, Bool, true, false, not, nat_le, List, All, AllPairs, Contains, Option, None, Some, Result, Ok, Err, length, map, slice_index, is_none}
+use Rattle.std.specs.Prelude.{◌≡◌, ◌⊎◌, ℕ, ◌+◌, ◌*◌, ◌<◌, ◌==◌, ◌↔◌, ◌&&◌, ◌||◌, Bool, true, false, not, nat_le, nat_lt, List, All, AllPairs, Contains, Option, None, Some, Result, Ok, Err, length, map, slice_index, is_none, if◌then◌else◌}
 use Rattle.std.specs.List.{range_with_len}
 use Rattle.std.specs.Result.{is_ok}
 use Rattle.decode80.specs.declared.fetching.Fetched.{Fetched}
@@ -16,6 +16,9 @@ use Rattle.verify80.specs.LookLaws.{fetch_at}
 use Rattle.cases80.specs.Covered.{is_covered}
 use Rattle.cases80.specs.Marks.{AreMarks, marked}
 use Rattle.cases80.specs.Reach.{AreReachedFrom, IsDone}
+use Rattle.cases80.specs.declared.search.Note.{Note}
+use Rattle.cases80.specs.declared.search.Note.TheVariants.{MayEnd, Tableless, Returns}
+use Rattle.cases80.specs.declared.search.SuggestedCase.{SuggestedCase}
 use Rattle.cases80.specs.declared.table.TableKind.{TableKind}
 use Rattle.cases80.specs.declared.table.TableKind.TheVariants.{Words, Jumps}
 
@@ -116,6 +119,24 @@ pub record IsSuggested (image : Located) (reached taken : List Bool) (case : Dec
   pub goals : List ℕ
   pub entries : AreEntries image reached taken kind table limit goals
   pub targets : (target : ℕ) → Contains case.targets target ↔ Contains goals target
+
+-- whether CODE goes on at an address with a byte that belongs to nothing that is reached, and with one behind it
+abbrev pub goes_on_behind : Located → (taken : List Bool) → ℕ → Bool
+goes_on_behind image taken at = nat_lt at 65535 && (is_free image taken at && is_free image taken (at + 1))
+
+-- a case that is suggested, with the address of its table and the one behind the table's last entry. The table may go on there if the
+-- code does, and no comparison has ended it
+pub record IsSuggestedCase (image : Located) (reached taken : List Bool) (found : SuggestedCase) : Type 0 where
+  pub suggested : IsSuggested image reached taken found.case
+  pub table : found.table ≡ suggested.table
+  pub «end» : found.«end» ≡ suggested.table + stride suggested.kind * length suggested.goals
+  pub may_go_on : found.may_go_on ≡ (nat_lt (length suggested.goals) suggested.limit && goes_on_behind image taken found.«end»)
+
+-- what there is to say of the PCHL at an address: of one whose table may go on, where it is taken to end; of one without a case, that
+-- no table is seen for it, or that it returns
+abbrev pub IsNote : (at : ℕ) → Option SuggestedCase → Option Note → Type 0
+IsNote at (Some found) note = note ≡ (if found.may_go_on then Some (MayEnd found.table found.«end») else None)
+IsNote at None note = (note ≡ Some (Tableless at)) ⊎ (note ≡ Some (Returns at))
 
 -- a walk that has come to its end, from the start and from some other instructions in the code
 pub record IsExplored (image : Located) (marks : List Bool) (order : List ℕ) : Type 0 where

@@ -1,7 +1,7 @@
 //! An image that is gone through, and what it suggests for a PCHL.
 
 ghost use Rattle.std.specs.Prelude.{◌≡◌, IfOk, IfSome, true};
-ghost use Rattle.cases80.specs.Suggested.{IsExplored, IsSearched, IsSuggested, is_open};
+ghost use Rattle.cases80.specs.Suggested.{IsExplored, IsNote, IsSearched, IsSuggestedCase, goes_on_behind, is_open};
 
 use crate::covered::find_covered;
 use crate::marks::is_marked;
@@ -101,7 +101,7 @@ impl Search {
         requires seen { code.now ≡ image.now }
         requires reached { is_open image.now self.now.reached at ≡ true }
         ensures { IfOk result (λ found. IfSome found (λ found.
-            IsSuggested image.now self.now.reached self.now.taken found.case × (found.case.at ≡ at))) }
+            IsSuggestedCase image.now self.now.reached self.now.taken found × (found.case.at ≡ at))) }
     {
         let Some(table) = self.table(at) else {
             return Ok(None);
@@ -115,12 +115,9 @@ impl Search {
     }
 
     /// What there is to say of such a PCHL beside the case that is suggested for it.
-    pub fn note(
-        &self,
-        code: &ImageCode<'_>,
-        at: u16,
-        found: &Option<SuggestedCase>,
-    ) -> Option<Note> {
+    pub fn note(&self, code: &ImageCode<'_>, at: u16, found: &Option<SuggestedCase>) -> Option<Note>
+        ensures { IsNote at found.now result }
+    {
         match found {
             Some(found) if found.may_go_on => Some(Note::MayEnd {
                 table: found.table,
@@ -165,7 +162,7 @@ fn case_of_table(
     requires seen { code.now ≡ image.now }
     requires reached { is_open image.now reached.now at ≡ true }
     ensures { IfOk result (λ found. IfSome found (λ found.
-        IsSuggested image.now reached.now taken.now found.case × (found.case.at ≡ at))) }
+        IsSuggestedCase image.now reached.now taken.now found × (found.case.at ≡ at))) }
 {
     let Some(run) = run_of(code, table) else {
         return Ok(None);
@@ -187,6 +184,8 @@ fn case_of_table(
 }
 
 /// Whether CODE goes on at an address with a byte that belongs to nothing that is reached, and with one behind it.
-fn goes_on_behind(code: &ImageCode<'_>, taken: &[bool], end: usize) -> bool {
+fn goes_on_behind(code: &ImageCode<'_>, taken: &[bool], end: usize) -> bool
+    ensures { result ≡ goes_on_behind code.now taken.now end }
+{
     end < 65_535 && is_free(code, taken, end as u16) && is_free(code, taken, (end + 1) as u16)
 }

@@ -1,11 +1,14 @@
 //! `plm80 cases`: the CASE lines that the tables of an image suggest.
 
-use cases80::{Note, Suggestions, regions_with_cases, suggest_cases};
+ghost use Rattle.std.specs.Prelude.{◌≡◌, IfOk};
+
+use cases80::{Note, Search, regions_with_cases};
 use clap::ArgMatches;
 use console80::{Argument, Console, IMAGE, Kind, ProgramFiles, REGIONS, Reported, Syntax};
 use image80::{Case, Image, RegionsFault, case_lines};
 use loader80::TEXT_LIMIT;
-use std::alloc::{AllocError, Global};
+use std::alloc::Global;
+use verify80::ImageCode;
 
 /// The arguments of `cases`.
 #[derive(Clone, Copy)]
@@ -62,25 +65,128 @@ pub fn suggest_for_files(
     arguments: CasesArguments<'_>,
 ) -> Result<u8, Reported> {
     let image = arguments.files.read(console)?;
-    let Ok((suggestions, text)) = suggested(console.alloc(), &image) else {
-        return Err(console.report_memory());
+    let notes = match arguments.out {
+        Some(path) => add_cases(console, path, &image)?,
+        None => print_cases(console, &image)?,
     };
-    match arguments.out {
-        Some(path) => {
-            let regions = with_cases(console, path, &image, &suggestions.cases)?;
-            console.print(&text)?;
-            console.replace(path, &regions)?;
-        }
-        None => console.print(&text)?,
-    }
-    Ok(report_notes(console, &suggestions.notes))
+    Ok(report_notes(console, &notes))
 }
 
-/// What the image suggests, and the text of its cases.
-fn suggested(alloc: Global, image: &Image) -> Result<(Suggestions, Vec<u8>), AllocError> {
-    let suggestions = suggest_cases(alloc, image)?;
-    let text = case_lines(alloc, &suggestions.cases)?;
-    Ok((suggestions, text))
+/// Prints the line of each case as it is found, and gives what there is to say of the PCHLs. No case is kept: together they may have
+/// thousands of times as many targets as the image has bytes.
+fn print_cases(console: Console<'_>, image: &Image) -> Result<Vec<Note>, Reported> {
+    let code = code_of(console, image)?;
+    let search = search_of(console, &code)?;
+    let mut notes = Vec::new(console.alloc());
+    for address in 0..65_536_u32 {
+        let at = address as u16;
+        if let Some(case) = case_at(console, image, &code, &search, at, &mut notes)? {
+            console.print(&line_of(console, &case)?)?;
+        }
+    }
+    Ok(notes)
+}
+
+/// Prints the line of each case, and writes the regions with them to the file of this path; gives what there is to say of the PCHLs.
+fn add_cases(console: Console<'_>, path: &str, image: &Image) -> Result<Vec<Note>, Reported> {
+    let code = code_of(console, image)?;
+    let search = search_of(console, &code)?;
+    let mut notes = Vec::new(console.alloc());
+    let mut added = AddedCases::new(console.alloc());
+    for address in 0..65_536_u32 {
+        let at = address as u16;
+        if let Some(case) = case_at(console, image, &code, &search, at, &mut notes)? {
+            added.add(console, path, case)?;
+        }
+    }
+    let regions = with_cases(console, path, image, &added.cases)?;
+    console.print(&added.lines)?;
+    console.replace(path, &regions)?;
+    Ok(notes)
+}
+
+/// The image as it is gone through.
+fn code_of<'a>(console: Console<'_>, image: &'a Image) -> Result<ImageCode<'a>, Reported>
+    ensures { IfOk result (λ code. code ≡ image.now) }
+{
+    match ImageCode::new(console.alloc(), image) {
+        Ok(code) => Ok(code),
+        Err(_) => Err(console.report_memory()),
+    }
+}
+
+/// What is found as the image is gone through.
+fn search_of(console: Console<'_>, code: &ImageCode<'_>) -> Result<Search, Reported> {
+    match Search::of(console.alloc(), code) {
+        Ok(search) => Ok(search),
+        Err(_) => Err(console.report_memory()),
+    }
+}
+
+/// The case that is suggested for the PCHL at an address, if one stands there that is reached and has no declared targets; appends what
+/// there is to say of it.
+fn case_at(
+    console: Console<'_>,
+    image: &Image,
+    code: &ImageCode<'_>,
+    search: &Search,
+    at: u16,
+    notes: &mut Vec<Note>,
+) -> Result<Option<Case>, Reported>
+    requires { code.now ≡ image.now }
+{
+    if !search.is_open(image, code, at) {
+        return Ok(None);
+    }
+    let Ok(found) = search.suggest(console.alloc(), image, code, at) else {
+        return Err(console.report_memory());
+    };
+    if let Some(note) = search.note(code, at, &found) {
+        if notes.push(note).is_err() {
+            return Err(console.report_memory());
+        }
+    }
+    match found {
+        Some(found) => Ok(Some(found.case)),
+        None => Ok(None),
+    }
+}
+
+/// The line of a case.
+fn line_of(console: Console<'_>, case: &Case) -> Result<Vec<u8>, Reported> {
+    match case_lines(console.alloc(), std::slice::from_ref(case)) {
+        Ok(line) => Ok(line),
+        Err(_) => Err(console.report_memory()),
+    }
+}
+
+/// Cases that are added to regions, and their lines: no more than a text of regions can have.
+#[derive(Drop)]
+struct AddedCases {
+    cases: Vec<Case>,
+    lines: Vec<u8>,
+}
+
+impl AddedCases {
+    /// No case.
+    fn new(alloc: Global) -> AddedCases {
+        AddedCases {
+            cases: Vec::new(alloc),
+            lines: Vec::new(alloc),
+        }
+    }
+
+    /// Adds a case of the regions that are to be written to the file of this path, unless the lines alone are then too long for it.
+    fn add(&mut self, console: Console<'_>, path: &str, case: Case) -> Result<(), Reported> {
+        let line = line_of(console, &case)?;
+        if line.len() > TEXT_LIMIT.saturating_sub(self.lines.len()) {
+            return Err(console.report_file(path, "TooLong"));
+        }
+        if self.lines.extend_from_slice(&line).is_err() || self.cases.push(case).is_err() {
+            return Err(console.report_memory());
+        }
+        Ok(())
+    }
 }
 
 /// Reports what there is to say of PCHLs, and gives the status: 1 if there is one without a table.

@@ -15,7 +15,7 @@ use Rattle.verify80.specs.LookLaws.{fetch_at}
 use Rattle.cases80.specs.Covered.{is_covered, size_at, size_of}
 
 -- each of so many bytes from an address on
-all_of : (code : ℕ → Bool) (at count k : ℕ) → all_code code at count ≡ true → k < count → code (at + k) ≡ true
+pub all_of : (code : ℕ → Bool) (at count k : ℕ) → all_code code at count ≡ true → k < count → code (at + k) ≡ true
 unfolding all_code
 all_of code at count k all less =
     let pass = AllPass-from_list_all code (range_with_len at count) (right (nat_le (at + count) 65536) (list_all code (range_with_len at count)) all) in
@@ -25,7 +25,7 @@ all_of code at count k all less =
     right true b e = e
     right false b e = absurd (true≢false (sym e))
 
-ends_inside : (code : ℕ → Bool) (at count : ℕ) → all_code code at count ≡ true → at + count ≤ 65536
+pub ends_inside : (code : ℕ → Bool) (at count : ℕ) → all_code code at count ≡ true → at + count ≤ 65536
 unfolding all_code
 ends_inside code at count all = step (nat_le (at + count) 65536) refl all
   where

@@ -1,6 +1,8 @@
 mod CodeLemmas
+mod FetchLemmas
 mod LawLemmas
 mod NameLemmas
 mod RangeLemmas
 mod StackLemmas
+mod WalkLemmas
 mod WithCasesLemmas

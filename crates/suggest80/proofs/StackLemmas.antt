@@ -1,16 +1,16 @@
 -- A stack below an address, and the ranges beside it.
-use Rattle.std.proofs.Common.{◌≡◌, ◌<◌, ◌≤◌, ◌+◌, ◌-◌, ◌%◌, ◌⊎◌, inl, inr, ℕ, Bool, true, false, true≢false, List, [], ◌∷◌, ◌++◌, refl, sym, ◌∙◌, subst, arith, cond}
+use Rattle.std.proofs.Common.{◌≡◌, ◌<◌, ◌≤◌, ◌+◌, ◌-◌, ◌%◌, ◌⊎◌, inl, inr, ℕ, Bool, true, false, true≢false, List, [], ◌∷◌, ◌++◌, refl, sym, ◌∙◌, ap, subst, arith, cond}
 use Rattle.std.specs.Prelude.{◌&&◌, ◌||◌, not, nat_le, nat_lt, Option, Some, None, if◌then◌else◌}
 use Rattle.std.proofs.lemmas.Bool.Decides.{nat_tests}
 use Rattle.image80.specs.declared.range.Range.{Range}
 use Rattle.image80.specs.Range.{IsInMemory, in_range, in_ranges}
 use Rattle.image80.specs.Regions.{AreDisjoint, Areas, Arranges, held}
 use Rattle.suggest80.specs.declared.setters.Setter.{Setter}
-use Rattle.cases80.specs.Marks.{marked}
+use Rattle.cases80.specs.Marks.{AreMarks, marked}
 use Rattle.suggest80.specs.Ranges.{Covers, CoversBelow}
 use Rattle.suggest80.specs.Stack.{IsBelow, IsStack, end_of}
 use Rattle.suggest80.specs.Suggestion.{Found, IsArranged, is_data, is_taken}
-use Rattle.suggest80.proofs.RangeLemmas.{covers_below, covers_permuted, held_both, held_first, held_none}
+use Rattle.suggest80.proofs.RangeLemmas.{covers_below, covers_marks, covers_permuted, held_both, held_first, held_none}
 
 -- by a test that says the same
 pub below_same : (taken other : ℕ → Bool) («end» wanted : ℕ) (stack : Range) → ((address : ℕ) → address < 65536 → taken address ≡ other address) →
@@ -78,7 +78,7 @@ stack_free taken (Some setter) wanted stack is address inside = both (nat_le sta
         subst (λ a. taken a ≡ false) here (is.free k (omega (arith, place, low, high, is.inside)))
 
 -- code, stack and data of what is found share no address
-pub found_apart : (found : Found) (ram : List Range) (first : Option Setter) (wanted : ℕ) (code : List Range) (stack : Range) (ranges : List Range) →
+found_apart : (found : Found) (ram : List Range) (first : Option Setter) (wanted : ℕ) (code : List Range) (stack : Range) (ranges : List Range) →
     Covers (marked found.covered) code → AreDisjoint code → IsStack (is_taken found) first wanted stack →
     Covers (is_data found ram stack) ranges → AreDisjoint ranges → AreDisjoint (code ++ stack ∷ ranges)
 found_apart found ram first wanted code stack ranges covers apart is covers' apart' address =
@@ -127,7 +127,7 @@ found_apart found ram first wanted code stack ranges covers apart is covers' apa
         omega (arith, zero, one)
 
 -- what is arranged of these ranges
-pub arranged : (found : Found) (ram : List Range) (wanted : ℕ) (code : List Range) (stack : Range) (ranges : List Range) (areas : Areas) →
+arranged : (found : Found) (ram : List Range) (wanted : ℕ) (code : List Range) (stack : Range) (ranges : List Range) (areas : Areas) →
     CoversBelow (marked found.covered) 65536 code → IsStack (is_taken found) found.first wanted stack → Covers (is_data found ram stack) ranges →
     Arranges code stack ranges areas → IsArranged found [] ram wanted areas
 arranged found ram wanted code stack ranges areas covers is covers' are = record {
@@ -137,6 +137,29 @@ arranged found ram wanted code stack ranges areas covers is covers' are = record
   cases = are.no_cases;
   rules = are.rules;
 }
+
+-- ranges of what is found, as it is kept, and of the tables that are made of it, as they are lent
+module _ (found kept : Found) (ram : List Range) (wanted : ℕ) (code : List Range) (stack : Range) (ranges : List Range) (taken marks lent_covered lent_taken lent_marks : List Bool)
+    (kept_is : kept ≡ found) (covered_is : lent_covered ≡ kept.covered) (taken_is : lent_taken ≡ taken) (marks_is : lent_marks ≡ marks)
+    (covers : CoversBelow (marked lent_covered) 65536 code) (taken_exact : AreMarks (is_taken found) 65536 taken) (is : IsStack (marked lent_taken) kept.first wanted stack)
+    (marks_exact : AreMarks (is_data found ram stack) 65536 marks) (below : CoversBelow (marked lent_marks) 65536 ranges) where
+  code_covers : CoversBelow (marked found.covered) 65536 code
+  code_covers = subst (λ m. CoversBelow (marked m) 65536 code) (covered_is ∙ ap (λ (f : Found). f.covered) kept_is) covers
+
+  stack_is : IsStack (is_taken found) found.first wanted stack
+  stack_is = stack_same (marked taken) (is_taken found) found.first wanted stack taken_exact.exact
+      (subst (λ (f : Found). IsStack (marked taken) f.first wanted stack) kept_is (subst (λ m. IsStack (marked m) kept.first wanted stack) taken_is is))
+
+  data_covers : CoversBelow (marked marks) 65536 ranges
+  data_covers = subst (λ m. CoversBelow (marked m) 65536 ranges) marks_is below
+
+  -- none shares an address with another
+  pub ranges_apart : AreDisjoint (code ++ stack ∷ ranges)
+  ranges_apart = found_apart found ram found.first wanted code stack ranges (covers_below (marked found.covered) code code_covers) code_covers.apart stack_is
+      (covers_marks (is_data found ram stack) marks ranges marks_exact data_covers) data_covers.apart
+
+  pub ranges_arranged : (areas : Areas) → Arranges code stack ranges areas → IsArranged found [] ram wanted areas
+  ranges_arranged areas = arranged found ram wanted code stack ranges areas code_covers stack_is (covers_marks (is_data found ram stack) marks ranges marks_exact data_covers)
 
 -- beside an empty range and none
 pub apart_alone : (code ranges : List Range) → AreDisjoint code → ranges ≡ [] → AreDisjoint (code ++ record { first = 0; length = 0 } ∷ ranges)

@@ -2,4 +2,5 @@ pub mod Ranges
 pub mod Bytes
 pub mod Names
 pub mod Stack
+pub mod Lacking
 pub mod Suggestion

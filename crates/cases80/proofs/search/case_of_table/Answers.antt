@@ -2,7 +2,7 @@ use Rattle.std.proofs.Common.{rules, ◌<◌, length, refl, subst}
 use Rattle.std.proofs.lemmas.List.Filters.{dedup_is}
 use Rattle.image80.specs.Image.{Located}
 use Rattle.cases80.specs.Suggested.{AreEntries, IsBegun}
-use Rattle.cases80.proofs.TableLemmas.{suggested}
+use Rattle.cases80.proofs.TableLemmas.{suggested_case}
 use Rattle.cases80.proofs.search.case_of_table.Goals as goal
 
 pub invariant_of-result : goal.invariant_of-result
@@ -16,8 +16,8 @@ invariant_of-result c =
     let entries : AreEntries image reached taken run.kind run.first run.limit goals =
     subst (λ (i : Located). AreEntries i reached taken run.kind run.first run.limit goals) c.requires.seen c.in_ok-targets.ensures.entries in
     let some : 0 < length goals = search rules in
-    (suggested image reached taken run.kind c.args.at run.first run.limit goals _ c.dedup.new.self.items c.ranges.at.fits c.requires.reached begun entries c.in_ok-targets.ensures.words some
-    c.sort_unstable.ensures.permutation c.sort_unstable.ensures.sorted (dedup_is _ _ _ c.dedup.ensures.filtered)).rules
+    (suggested_case image reached taken run.kind c.args.at run.first run.limit goals _ c.ranges.at.fits c.requires.reached begun entries c.in_ok-targets.ensures.words some
+    c.sort_unstable.ensures.permutation c.sort_unstable.ensures.sorted c.dedup.new.self.items _ _ (dedup_is _ _ _ c.dedup.ensures.filtered) refl refl).suggested.rules
 
 pub returns : goal.returns
 returns c =
@@ -30,7 +30,7 @@ returns c =
     let entries : AreEntries image reached taken run.kind run.first run.limit goals =
     subst (λ (i : Located). AreEntries i reached taken run.kind run.first run.limit goals) c.requires.seen c.in_ok-targets.ensures.entries in
     let some : 0 < length goals = search rules in (
-      suggested image reached taken run.kind c.args.at run.first run.limit goals _ c.dedup.new.self.items c.ranges.at.fits c.requires.reached begun entries c.in_ok-targets.ensures.words some
-          c.sort_unstable.ensures.permutation c.sort_unstable.ensures.sorted (dedup_is _ _ _ c.dedup.ensures.filtered),
+      suggested_case image reached taken run.kind c.args.at run.first run.limit goals _ c.ranges.at.fits c.requires.reached begun entries c.in_ok-targets.ensures.words some
+          c.sort_unstable.ensures.permutation c.sort_unstable.ensures.sorted c.dedup.new.self.items _ _ (dedup_is _ _ _ c.dedup.ensures.filtered) (search rules) (search rules),
       refl,
     )
