@@ -1,0 +1,4 @@
+pub mod Instructions
+pub mod Frames
+pub mod Explained
+pub mod Laws

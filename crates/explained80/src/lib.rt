@@ -1,0 +1,20 @@
+//! The text of an explanation: what `explain` prints of the ways, the calls and the chain that it finds.
+//!
+//! | Item | What it is |
+//! |---|---|
+//! | [`explanation_text`] | the ways and the calls that show a refusal |
+//! | [`chain_text`] | the calls whose bytes on the stack come to a bound |
+//! | [`ways_are_shown_in_runs`] | what the runs of a way are, as a contract |
+#![tactic(auto)]
+
+mod calls;
+mod chain;
+mod explanation;
+mod frame;
+mod instruction;
+mod laws;
+mod way;
+
+pub use chain::chain_text;
+pub use explanation::explanation_text;
+pub use laws::ways_are_shown_in_runs;
