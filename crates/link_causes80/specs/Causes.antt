@@ -1,7 +1,7 @@
 -- Where in the modules the cause of a fault of LINK is, line by line.
 -- (ISIS-II User's Guide, LINK: multiply defined publics, segments that overflow, several main modules. The form of the lines is
 -- this project's own.)
-use Rattle.std.specs.Prelude.{◌≡◌, ℕ, nat_eq, if◌then◌else◌, Option, Some, None, is_some, option_map, List, [], ◌∷◌, ◌++◌, codes, filter_map, map, take, slice_get, slice_index_or}
+use Rattle.std.specs.Prelude.{◌≡◌, ℕ, nat_eq, if◌then◌else◌, Option, Some, None, option_map, List, [], ◌∷◌, ◌++◌, codes, filter_map, map, take, slice_get, slice_index_or}
 use Rattle.std.specs.List.{flat_map, enumerate_from}
 use Rattle.std.specs.Option.{option_map_or}
 use Rattle.std.specs.Cmp.Lexicographic.{pointwise}

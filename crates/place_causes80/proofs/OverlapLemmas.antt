@@ -1,12 +1,10 @@
 -- The first two places that share an address.
-use Rattle.std.specs.Prelude.{◌≡◌, ℕ, suc, ◌+◌, ◌-◌, ◌==◌, ◌<◌, ◌≤◌, true, false, Option, Some, None, List, [], ◌∷◌, ◌++◌, map, filter, find, take, drop, length, refl, if◌then◌else◌, IsTrue}
+use Rattle.std.specs.Prelude.{◌≡◌, ℕ, suc, ◌+◌, ◌-◌, ◌==◌, ◌<◌, ◌≤◌, true, false, Option, Some, None, List, [], ◌∷◌, ◌++◌, map, filter, take, drop, length, refl}
 use Rattle.std.specs.List.{AllByRecursion}
 use Rattle.std.specs.Option.{option_or}
 use Rattle.std.proofs.Common.{cond, ◌∙◌, ap, sym, subst, get_or, drop-cons, take_all, length-drop, arith}
 use Rattle.std.proofs.lemmas.List.{drop_more}
 use Rattle.omf_parts.specs.Contents.{ContentValue}
-use Rattle.omf_parts.specs.Modules.{ModuleValue}
-use Rattle.omf_relocation.specs.SoundModules.{LiesIn}
 use Rattle.place80.specs.declared.placed_segments.Placed.{Placed}
 use Rattle.place80.specs.PlaceFault.{overlaps, pairs, absolute_place, absolute_places, with_each}
 use Rattle.place_causes80.specs.Places.{first_sharing, beside_each}
@@ -77,12 +75,7 @@ found_here found pair rest all is here = is ∙ ap (λ o. option_or o rest) here
 pub found_later : (found rest all : Option (Placed × Placed)) → all ≡ option_or found rest → found ≡ None → all ≡ rest
 found_later found rest all is none = is ∙ ap (λ o. option_or o rest) none
 
--- the contents of a sound module fit a record each
-pub in_records : (m : ModuleValue) (contents : List ContentValue) → AllByRecursion (LiesIn m) contents
-    → AllByRecursion (λ c. length c.bytes ≤ 65531) contents
-in_records m [] all = tt
-in_records m (c ∷ cs) all = (all.0.in_record, in_records m cs all.1)
-
+-- the contents that are left fit a record each, as all did
 pub records_left : (contents : List ContentValue) (i : ℕ) (d : ContentValue) → i < length contents
     → AllByRecursion (λ c. length c.bytes ≤ 65531) (drop i contents) → AllByRecursion (λ c. length c.bytes ≤ 65531) (drop (i + 1) contents)
 records_left contents i d inside all =

@@ -1,7 +1,7 @@
 -- Where in a module the cause of a fault of LOCATE is, line by line.
 -- (ISIS-II User's Guide, LOCATE: unresolved references, overlapping and out of bounds segments. The form of the lines is this
 -- project's own.)
-use Rattle.std.specs.Prelude.{ℕ, Option, List, [], ◌∷◌, ◌++◌, codes}
+use Rattle.std.specs.Prelude.{ℕ, List, [], ◌∷◌, ◌++◌, codes}
 use Rattle.std.specs.Option.{option_map_or}
 use Rattle.decode80.specs.Text.{word_text}
 use Rattle.omf_parts.specs.declared.symbols.Common.{Common}

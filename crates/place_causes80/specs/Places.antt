@@ -1,6 +1,6 @@
 -- The segments that don't fit: the first that is outside memory, and the first two that share an address, absolute contents and
 -- the three bytes of a restart counting as segments. (ISIS-II User's Guide, LOCATE: overlapping and out of bounds segments.)
-use Rattle.std.specs.Prelude.{ℕ, Option, List, [], ◌∷◌, ◌++◌, find, map}
+use Rattle.std.specs.Prelude.{Option, List, [], ◌∷◌, ◌++◌, find, map}
 use Rattle.omf_parts.specs.Modules.{ModuleValue}
 use Rattle.place80.specs.declared.placed_segments.Placed.{Placed}
 use Rattle.place80.specs.PlaceFault.{all_pairs, absolute_places, is_outside, overlaps, with_each}

@@ -1,4 +1,4 @@
-use Rattle.std.specs.Prelude.{◌≡◌, ◌++◌, ℕ, List, codes, map, OnOk}
+use Rattle.std.specs.Prelude.{◌≡◌, ◌++◌, ℕ, List, map, OnOk}
 use Rattle.std.proofs.Common.{◌∙◌, subst}
 use Rattle.link_causes80.specs.Causes.{first_two, declarations}
 use Rattle.link_causes80.proofs.causes.append_duplicate.Goals as goal
