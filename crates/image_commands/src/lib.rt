@@ -26,7 +26,7 @@ mod suggesting;
 pub use advising::{SUGGEST, SuggestArguments, advise_file};
 pub use calling::{CALLS, CallsArguments, show_calls};
 pub use checking::{CHECK, check_files};
-pub use explaining::{EXPLAIN, explain_files};
+pub use explaining::{EXPLAIN, ExplainArguments, explain_files};
 pub use listing::{LIST, ListArguments, list_files};
 pub use migrating::{REGIONS, RegionsArguments, migrate_file};
 pub use stores::{STORES, list_stores};
