@@ -8,7 +8,7 @@ use Rattle.omf_relocation.specs.HighReferences.{any_loses_low_byte}
 use Rattle.omf_relocation.specs.ImageByte.{image_byte}
 use Rattle.link80.specs.Linked.{linked}
 use Rattle.link80.specs.LinkFault.{link_fault}
-use Rattle.link80.specs.LinkLaws.{LinkedBytesAreTheModules}
+use Rattle.link80.specs.LinkLaws.{LinkedBytesAreTheModules, LinkedStartIsTheModules}
 use Rattle.image80.specs.Image.{Located, byte_at}
 use Rattle.image80.specs.Regions.{Arranges}
 use Rattle.place80.specs.declared.options.Options.{Options}
@@ -32,11 +32,12 @@ pub record IsLocated (options : Options) (image : Located) (program : ModuleValu
   pub begin : Some image.start ≡ option_map (start_place (program_bases options program) program) program.start
 
 pub holds_modules : LinkedBytesAreTheModules
+    → LinkedStartIsTheModules
     → (options : Options) (name : List ℕ) (modules : List ModuleValue) (program : ModuleValue) (image : Located)
     → AllByRecursion IsModule modules → link_fault modules ≡ None → program ≡ linked name modules
     → IsLocated options image program
     → HoldsModules options name modules image
-holds_modules keeps options name modules program image sound none is told =
+holds_modules keeps keeps_start options name modules program image sound none is told =
     let located : IsLocated options image (linked name modules) = subst (IsLocated options image) is told in
     record {
       own_name = located.own_name;
@@ -44,6 +45,7 @@ holds_modules keeps options name modules program image sound none is told =
           ∙ keeps name modules (linked_bases options name modules) sound none located.high address;
       regions = located.regions;
       begin = located.begin;
+      main = located.begin ∙ keeps_start name modules (linked_bases options name modules) sound none;
     }
 
 -- ---- faults

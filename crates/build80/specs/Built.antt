@@ -9,6 +9,7 @@ use Rattle.link80.specs.declared.fault.LinkFault.{LinkFault}
 use Rattle.link80.specs.declared.fault.LinkFault.TheVariants as linking
 use Rattle.link80.specs.Linked.{linked, starts}
 use Rattle.link80.specs.LinkFault.{link_fault}
+use Rattle.link80.specs.LinkLaws.{start_of}
 use Rattle.link80.specs.Selection.{IsSelection, modules_with, CannotBeLinked}
 use Rattle.image80.specs.Image.{Located, byte_at}
 use Rattle.place80.specs.declared.options.Options.{Options}
@@ -29,13 +30,15 @@ abbrev pub linked_bases : Options → List ℕ → List ModuleValue → Bases
 linked_bases options name modules = program_bases options (linked name modules)
 
 -- The image has the program's name. It holds at every address the byte that the modules define under these bases: no linked
--- module occurs there. Its regions are those of the linked segments. It starts where the main program among the modules does.
+-- module occurs there. Its regions are those of the linked segments. It starts at the linked module's start, which is the place of
+-- the start of the main program among the modules.
 pub record HoldsModules (options : Options) (name : List ℕ) (modules : List ModuleValue) (image : Located) : Type 0 where
   pub own_name : image.name ≡ name
   pub bytes : (address : ℕ) → byte_at image.chunks address ≡ image_byte (linked_bases options name modules) modules address
   pub regions : ArrangesSegments (linked_layout options name modules) image.regions
   pub begin : Some image.start
       ≡ option_map (start_place (linked_bases options name modules) (linked name modules)) (slice_get (starts modules) 0)
+  pub main : Some image.start ≡ start_of (linked_bases options name modules) modules
 
 -- The image has a chunk for each content of the modules, in their order, with the bytes that it has where it is placed.
 abbrev pub HasTheirContents : (options : Options) (name : List ℕ) (modules : List ModuleValue) (image : Located) → Type 0

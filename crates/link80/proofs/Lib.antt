@@ -21,3 +21,4 @@ pub mod FittingLemmas
 pub mod RuleLemmas
 pub mod WordLemmas
 pub mod JoinedLemmas
+pub mod StartLemmas

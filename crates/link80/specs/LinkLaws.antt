@@ -1,14 +1,14 @@
 -- What LINK keeps: the bytes of its modules, wherever they are located.
 -- (ISIS-II User's Guide: LINK, then LOCATE.)
-use Rattle.std.specs.Prelude.{◌≡◌, ◌≤◌, ℕ, false, None, List, [], ◌∷◌, IsTrue}
-use Rattle.std.specs.List.{AllByRecursion}
+use Rattle.std.specs.Prelude.{◌≡◌, ◌≤◌, ℕ, false, Option, None, List, [], ◌∷◌, option_map, filter_map, slice_get, IsTrue}
+use Rattle.std.specs.List.{AllByRecursion, enumerate_from}
 use Rattle.omf_parts.specs.Segments.{segment_in}
 use Rattle.omf_parts.specs.Modules.{ModuleValue}
 use Rattle.omf_parts.specs.Rules.{IsModule, keeps_rules}
-use Rattle.omf_relocation.specs.Place.{Bases}
+use Rattle.omf_relocation.specs.Place.{Bases, place_in}
 use Rattle.omf_relocation.specs.ImageByte.{chunks_of, image_byte}
 use Rattle.omf_relocation.specs.HighReferences.{any_loses_low_byte}
-use Rattle.link80.specs.Linked.{linked_length, linked_parts, linked}
+use Rattle.link80.specs.Linked.{linked_length, linked_parts, linked, starts}
 use Rattle.link80.specs.LinkFault.{link_fault}
 
 -- The chunks of the linked module alone are those of the modules: for all bases, tops and words under which no fixup of the
@@ -48,3 +48,20 @@ LinkedLengthsAreWords =
     → AllByRecursion HasWordLengths modules
     → link_fault modules ≡ None
     → linked_length modules id ≤ 65535
+
+-- where the start of one of the modules lies
+abbrev pub start_within : Bases → List ModuleValue → ℕ × ModuleValue → ℕ × ℕ → ℕ
+start_within bases modules m start = place_in bases modules m.0 m.1 start.0 start.1
+
+-- where the first of the modules' starts lies
+abbrev pub start_of : Bases → List ModuleValue → Option ℕ
+start_of bases modules = slice_get (filter_map (λ m. option_map (start_within bases modules m) m.1.start) (enumerate_from 0 modules)) 0
+
+-- The start of the linked module lies where that of its main program does, for all bases, tops and words.
+abbrev pub LinkedStartIsTheModules : Type 0
+LinkedStartIsTheModules =
+    (name : List ℕ) (modules : List ModuleValue) (bases : Bases)
+    → AllByRecursion IsModule modules
+    → link_fault modules ≡ None
+    → option_map (λ start. place_in bases (linked name modules ∷ []) 0 (linked name modules) start.0 start.1) (slice_get (starts modules) 0)
+    ≡ start_of bases modules

@@ -1,7 +1,7 @@
 //! What LINK keeps, over the definitions alone. Each law is ensured by a function that does nothing: a layer above that calls
 //! it has the law in its proof.
 
-ghost use Rattle.link80.specs.LinkLaws.{LinkedChunksAreTheModules, LinkedBytesAreTheModules, LinkedLengthsAreWords, LinkedModuleKeepsRules};
+ghost use Rattle.link80.specs.LinkLaws.{LinkedChunksAreTheModules, LinkedBytesAreTheModules, LinkedStartIsTheModules, LinkedLengthsAreWords, LinkedModuleKeepsRules};
 ghost use Rattle.link80.specs.DuplicateLaws.{FirstAgainIsTheFirst, NoneAgainWhereAllAreNew, DuplicateIsTheFirst};
 
 use omf_relocation::laws::{
@@ -10,10 +10,11 @@ use omf_relocation::laws::{
 };
 
 /// The linked module alone defines the bytes that its modules define, for all bases, stack's tops and words of unresolved
-/// names under which no fixup of it loses its low byte.
+/// names under which no fixup of it loses its low byte; and it starts where its main program does.
 pub fn linking_keeps_bytes()
     ensures chunks { LinkedChunksAreTheModules }
     ensures bytes { LinkedBytesAreTheModules }
+    ensures start { LinkedStartIsTheModules }
 {
     adding_twice_is_adding_once();
     parts_of_one_start_at_zero();

@@ -11,7 +11,7 @@ use Rattle.build80.proofs.building.build.Goals as goal
 pub returns-clause-image : goal.returns-clause-image
 returns-clause-image c =
     let modules = modules_with c.args.roots.now c.args.libraries.now c.in_ok-linked.linked.taken.items in
-    holds_modules c.linking_keeps_bytes.ensures.bytes c.args.options.now c.args.name.now modules c.in_ok-linked.linked.module
+    holds_modules c.linking_keeps_bytes.ensures.bytes c.linking_keeps_bytes.ensures.start c.args.options.now c.args.name.now modules c.in_ok-linked.linked.module
     c.in_ok-image.image
     c.in_ok-linked.ensures.sound c.in_ok-linked.ensures.no_fault c.in_ok-linked.ensures.linked (record {
       own_name = c.in_ok-image.ensures.name;
