@@ -41,7 +41,7 @@ fn perform(console: Console<'_>, request: Request<'_>) -> Result<u8, Reported> {
         Request::Run(arguments) => run_files(console, arguments),
         Request::List(arguments) => list_files(console, arguments),
         Request::Check(files) => check_files(console, files),
-        Request::Explain(arguments) => explain_files(console, arguments),
+        Request::Explain(files) => explain_files(console, files),
         Request::Library(arguments) => write_library_file(console, &arguments),
         Request::Regions(arguments) => migrate_file(console, arguments),
         Request::Cases(arguments) => suggest_for_files(console, arguments),

@@ -4,8 +4,8 @@ use clap::error::ErrorKind;
 use clap::{ArgMatches, Command, Error};
 use console80::{Syntax, WHY};
 use image_commands::{
-    CALLS, CASES, CHECK, CallsArguments, CasesArguments, EXPLAIN, ExplainArguments, LIST,
-    ListArguments, REGIONS, RegionsArguments, STORES, SUGGEST, SuggestArguments,
+    CALLS, CASES, CHECK, CallsArguments, CasesArguments, EXPLAIN, LIST, ListArguments, REGIONS,
+    RegionsArguments, STORES, SUGGEST, SuggestArguments,
 };
 use naming80::NamedFiles;
 use object_commands::{
@@ -28,7 +28,7 @@ pub enum Request<'a> {
     Run(RunArguments<'a>),
     List(ListArguments<'a>),
     Check(NamedFiles<'a>),
-    Explain(ExplainArguments<'a>),
+    Explain(NamedFiles<'a>),
     Library(LibraryArguments<'a>),
     Regions(RegionsArguments<'a>),
     Cases(CasesArguments<'a>),
@@ -203,7 +203,7 @@ fn asked_for<'a>(
         "run" => Request::Run(RunArguments::of(arguments)),
         "list" => Request::List(ListArguments::of(arguments)),
         "check" => Request::Check(NamedFiles::of(arguments)),
-        "explain" => Request::Explain(ExplainArguments::of(arguments)),
+        "explain" => Request::Explain(NamedFiles::of(arguments)),
         "lib" => Request::Library(LibraryArguments::of(alloc, arguments)?),
         "regions" => Request::Regions(RegionsArguments::of(arguments)),
         "cases" => Request::Cases(CasesArguments::of(arguments)),

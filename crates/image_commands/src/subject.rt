@@ -1,4 +1,4 @@
-//! Lines with the name of an address behind them.
+//! An image and its names, and lines with the name of an address behind them.
 
 use image80::Image;
 use naming80::Names;

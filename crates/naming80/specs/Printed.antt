@@ -1,0 +1,22 @@
+-- The names that commands print: those of an image's file if they are asked for, behind or before the lines of a text.
+-- (As the symbols of ISIS-II's debuggers; the form of the lines is this project's own.)
+use Rattle.std.specs.Prelude.{◌≡◌, ℕ, ◌-◌, Bool, true, false, nat_eq, if◌then◌else◌, List, [], ◌∷◌, ◌++◌, length, take, drop, IsTrue}
+use Rattle.std.specs.Cmp.Lexicographic.{pointwise}
+use Rattle.image80.specs.declared.range.Range.{Range}
+use Rattle.omf_parts.specs.declared.symbols.Public.{Public}
+use Rattle.names80.specs.NameText.{name_text}
+use Rattle.publics80.specs.ImagePublics.{HasPublics}
+
+-- the publics by which addresses are named: those that the image's file has if they are asked for, else none
+abbrev pub AreNamesOf : (asked : Bool) (file : List ℕ) → List Public → Type 0
+AreNamesOf true file publics = HasPublics file publics
+AreNamesOf false file publics = publics ≡ []
+
+-- the text ends with a line feed
+abbrev pub is_line : List ℕ → Bool
+is_line text = pointwise nat_eq (drop (length text - 1) text) (10 ∷ [])
+
+-- a line with the name of an address before its line feed; another text stays
+abbrev pub named_end : List Range → List Public → (address : ℕ) → List ℕ → List ℕ
+named_end code publics address text =
+    if is_line text then take (length text - 1) text ++ (name_text code publics address ++ 10 ∷ []) else text
