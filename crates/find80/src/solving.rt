@@ -63,9 +63,22 @@ pub(crate) fn lies_at(
     ensures no { result ≡ false → LiesAt first dump.now code.now address → ⊥ }
     ensures clear { IsClearBut [] table.new.items }
 {
+    if !reaches(first, dump, address, code) {
+        return false;
+    }
     let fitting = solve(first, dump, address, code, table);
     clear(&code[..fitting], table);
     fitting == code.len()
+}
+
+/// Whether the dump reaches as far as the last byte would lie.
+fn reaches(first: u16, dump: &[u8], address: u16, code: &[CodeByte]) -> bool
+    ensures { result ≡ false → LiesAt first dump.now code.now address → ⊥ }
+{
+    match code.last() {
+        Some(last) => byte_at(first, dump, address.wrapping_add(last.offset)).is_some(),
+        None => true,
+    }
 }
 
 /// Gives back every word to the values that these bytes are of.
