@@ -1,8 +1,8 @@
 -- A text without names is the text as it was.
-use Rattle.std.specs.Prelude.{◌≡◌, ℕ, zero, suc, ◌-◌, ◌&&◌, nat_eq, if◌then◌else◌, Bool, true, false, Option, Some, None, List, [], ◌∷◌, ◌++◌, length, take, drop, find, refl}
+use Rattle.std.specs.Prelude.{◌≡◌, ℕ, zero, suc, ◌-◌, ◌==◌, nat_eq, if◌then◌else◌, Bool, true, false, Option, Some, None, List, [], ◌∷◌, ◌++◌, length, take, drop, find, refl, Result, Ok, Err, IfOk}
 use Rattle.std.specs.Option.{option_and_then, option_map_or}
 use Rattle.std.specs.Cmp.Lexicographic.{pointwise}
-use Rattle.std.proofs.Common.{sym, ◌∙◌, ap}
+use Rattle.std.proofs.Common.{sym, ◌∙◌, ap, arith}
 use Rattle.std.proofs.lemmas.Bool.{and_parts, eqb-true, true≢false}
 use Rattle.std.proofs.lemmas.List.{take-append-drop}
 use Rattle.image80.specs.declared.range.Range.{Range}
@@ -41,3 +41,20 @@ end_without code address text = go (is_line text) refl
     go : (b : Bool) → is_line text ≡ b → (if b then take (length text - 1) text ++ (name_text code [] address ++ 10 ∷ []) else text) ≡ text
     go true e = ap (λ (n : List ℕ). take (length text - 1) text ++ (n ++ 10 ∷ [])) (name_none code address) ∙ line_again text e
     go false e = refl
+
+-- a list whose length is zero has nothing
+pub none_if : {A : Type 0} (xs : List A) (n : ℕ) → length xs ≡ n → (n == 0) ≡ true → xs ≡ []
+none_if [] n counted zero_ = refl
+none_if (x ∷ xs) n counted zero_ = absurd (let is : n ≡ 0 = eqb-true n 0 zero_ in omega (arith, counted, is))
+
+pub line_without : (code : List Range) (publics : List Public) (address : ℕ) (text line : List ℕ) → is_line text ≡ true → line ≡ take (length text - 1) text → publics ≡ []
+    → line ++ (name_text code publics address ++ 10 ∷ []) ≡ text
+line_without code publics address text line ends is none =
+    ap (λ (l : List ℕ). l ++ (name_text code publics address ++ 10 ∷ [])) is
+    ∙ ap (λ (ps : List Public). take (length text - 1) text ++ (name_text code ps address ++ 10 ∷ [])) none
+    ∙ ap (λ (n : List ℕ). take (length text - 1) text ++ (n ++ 10 ∷ [])) (name_none code address)
+    ∙ line_again text ends
+
+pub ok_implied : {A E : Type 0} (P Q : A → Type 0) (r : Result A E) → ((x : A) → P x → Q x) → IfOk r P → IfOk r Q
+ok_implied P Q (Ok x) more p = more x p
+ok_implied P Q (Err e) more p = tt

@@ -1,6 +1,6 @@
 -- The names that commands print: those of an image's file if they are asked for, behind or before the lines of a text.
 -- (As the symbols of ISIS-II's debuggers; the form of the lines is this project's own.)
-use Rattle.std.specs.Prelude.{◌≡◌, ℕ, ◌-◌, Bool, true, false, nat_eq, if◌then◌else◌, List, [], ◌∷◌, ◌++◌, length, take, drop, IsTrue}
+use Rattle.std.specs.Prelude.{◌≡◌, ℕ, ◌-◌, Bool, true, false, nat_eq, if◌then◌else◌, List, [], ◌∷◌, ◌++◌, length, take, drop}
 use Rattle.std.specs.Cmp.Lexicographic.{pointwise}
 use Rattle.image80.specs.declared.range.Range.{Range}
 use Rattle.omf_parts.specs.declared.symbols.Public.{Public}
