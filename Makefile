@@ -78,30 +78,30 @@ test: need-rt need-python3
 	@tests/commands/run $(PROGRAM)
 	@tests/commands/migrated $(PROGRAM)
 	@tests/commands/walk $(PROGRAM)
-	@tests/commands/sums $(PROGRAM)
-	@tests/commands/explained $(PROGRAM)
-	@tests/commands/stored $(PROGRAM)
+	@tests/generated/sums $(PROGRAM)
+	@tests/generated/explained $(PROGRAM)
+	@tests/generated/stored $(PROGRAM)
 	@tests/commands/replaced $(PROGRAM)
 	@tests/commands/completion $(PROGRAM)
-	@tests/commands/faults
+	@tests/commands/fault_page
 	@tests/package/run $(PROGRAM)
 	@tests/package/try
-	@if command -v cc > /dev/null; then tests/faults/run $(PROGRAM) program; else echo "faults: passed over without a C compiler"; fi
+	@if command -v cc > /dev/null; then tests/refused/run $(PROGRAM) program; else echo "faults: passed over without a C compiler"; fi
 
 commands: need-python3 build
 	@tests/commands/run $(PROGRAM)
 	@tests/commands/migrated $(PROGRAM)
 	@tests/commands/walk $(PROGRAM)
-	@tests/commands/sums $(PROGRAM)
-	@tests/commands/explained $(PROGRAM)
-	@tests/commands/stored $(PROGRAM)
+	@tests/generated/sums $(PROGRAM)
+	@tests/generated/explained $(PROGRAM)
+	@tests/generated/stored $(PROGRAM)
 	@tests/commands/replaced $(PROGRAM)
 	@tests/commands/completion $(PROGRAM)
-	@tests/commands/faults
+	@tests/commands/fault_page
 
 # FAULTS=".." tries that alone, as FAULTS="program", FAULTS="processor_tests" or FAULTS="chain_tests=1..20".
 faults: need-cc build
-	@tests/faults/run $(PROGRAM) $(FAULTS)
+	@tests/refused/run $(PROGRAM) $(FAULTS)
 
 bench: need-python3 build
 	@bench/make_programs $(PROGRAM)
