@@ -12,8 +12,8 @@ use report80::append_rows;
 use std::alloc::{AllocError, Global};
 
 /// The most that the points that are found weigh together: eight for a point, one for each word of its frame and each word taken, and as
-/// much again for each declared target. So no more points are found than `check` follows, 262,144.
-const LIMIT: usize = 2_097_152;
+/// much again for each declared target. So as many points as `check` follows, 262,144, each with its return address.
+const LIMIT: usize = 2_359_296;
 
 const ABOUT: &str = "Verifies an image as check does, and shows why it is refused";
 
