@@ -43,7 +43,7 @@ pub record IsRaised (old : ℕ) (bytes : ℤ) (new : ℕ) : Type 0 where
   pub above : bytes ≤ℤ pos new
   pub one_of : (new ≡ old) ⊎ (pos new ≡ bytes)
 
--- the depths that have been looked at are in the sums
+-- the depths that have been read are in the sums
 pub record AreDepths (seen : List Depth) (sums : List ℕ) : Type 0 where
   pub reached : (slot : ℕ) → (slice_index sums slot ≡ 0)
       ⊎ ((p : Procedure) → slot_of p ≡ slot → HasLast seen p (pos (slice_index sums slot)))
@@ -78,7 +78,7 @@ pub record AreIdle (lists : List (List CallSite)) (counts : List ℕ) (looked : 
   pub all : (slot : ℕ) → slot < looked → slice_index counts slot ≡ 0 → Contains slots slot ⊎ (slice_index_or lists slot [] ≡ [])
 
 -- while calls are absorbed: those that are left by their callees, how many each procedure has, and the settled procedures, which
--- have none, where they have callers
+-- have none, if they have callers
 pub record IsWorklist (sums : List ℕ) (lists : List (List CallSite)) (counts settled : List ℕ) : Type 0 where
   pub counted : AreCounted lists counts
   pub small : AreSmall sums (length (joined lists))
@@ -112,7 +112,7 @@ pub record IsSumAfter (sums : List ℕ) (call : CallSite) (after : List ℕ) : T
 pub record AreStuck (pending : List CallSite) : Type 0 where
   pub next : (call : CallSite) → Contains pending call → (after : CallSite) × CallsBy pending (Entry call.target) after
 
--- for each procedure that has one of the calls that have been looked at, one of its pending calls
+-- for each procedure that has one of the calls that have been read, one of its pending calls
 pub record AreFollowed (pending seen table : List CallSite) : Type 0 where
   pub next : (p : Procedure) (call : CallSite) → CallsBy seen p call → (d : CallSite) →
       CallsBy pending p (slice_index_or table (slot_of p) d)
@@ -122,7 +122,7 @@ pub record IsFollowed (calls table : List CallSite) (call : CallSite) : Type 0 w
   pub by : CallsBy calls call.caller call
   pub now : (d : CallSite) → slice_index_or table (slot_of call.caller) d ≡ call
 
--- while calls are followed: the table's call of each procedure that was met leads on to the caller of the call that is looked at
+-- while calls are followed: the table's call of each procedure that was met leads on to the caller of the call that is read
 pub record IsFollowing (calls table : List CallSite) (met : List Bool) (call : CallSite) : Type 0 where
   pub followed : AreFollowed calls calls table
   pub at : IsFollowed calls table call

@@ -22,7 +22,7 @@ fn followed(alloc: Global, calls: &[CallSite], other: CallSite) -> Result<Vec<Ca
     Ok(next)
 }
 
-/// The address of a call that leads back to its own procedure, where each callee of the calls has a call among them: one of
+/// The address of a call that leads back to its own procedure, if each callee of the calls has a call among them: one of
 /// each is followed, until a procedure is met twice.
 pub(crate) fn cycle(alloc: Global, calls: &[CallSite]) -> Result<u16, AllocError>
     requires some { 0 < length calls.now }

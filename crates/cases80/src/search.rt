@@ -109,7 +109,7 @@ impl Search {
         case_of_table(alloc, image, code, &self.reached, &self.taken, at, table)
     }
 
-    /// The table of the undeclared PCHL at an address, where one was seen.
+    /// The table of the undeclared PCHL at an address, if one was seen.
     fn table(&self, at: u16) -> Option<Table> {
         *self.tables.get(usize::from(at))?
     }

@@ -27,7 +27,7 @@ use crate::changes::may_change;
 use crate::table::{Table, TableKind};
 use decode80::{Instr, Pair, Register};
 
-/// What the instructions that come before an address, one after another, have left: the table is known at a PCHL where its word
+/// What the instructions that come before an address, one after another, have left: the table is known at a PCHL if its word
 /// was loaded and exchanged. A table is known by the address of the LXI that has its own.
 #[derive(Clone, Copy)]
 pub(crate) struct Trail {

@@ -1,4 +1,4 @@
-//! Files that come in pieces: the answers don't depend on the cuts. Where memory runs out at a piece, the same piece again is
+//! Files that come in pieces: the answers don't depend on the cuts. If memory runs out at a piece, the same piece again is
 //! answered as with ample memory, so each of these tests passes whichever allocation is refused.
 
 use omf_core::{Feed, FeedFault, RecordFault};
@@ -23,7 +23,7 @@ fn answer(feed: &mut Feed, piece: &[u8]) -> Result<usize, FeedFault> {
     }
 }
 
-/// What is answered of the last byte, where each byte is a piece.
+/// What is answered of the last byte, if each byte is a piece.
 fn answer_by_bytes(feed: &mut Feed, bytes: &[u8]) -> Result<usize, FeedFault> {
     let mut count = 0;
     for byte in bytes {

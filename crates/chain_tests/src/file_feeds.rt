@@ -1,4 +1,4 @@
-//! Object files that come in pieces: the answers don't depend on the cuts. Where memory runs out at a piece, the same piece again
+//! Object files that come in pieces: the answers don't depend on the cuts. If memory runs out at a piece, the same piece again
 //! is answered as with ample memory.
 
 use omf_core::RecordFault;
@@ -43,7 +43,7 @@ fn answer(feed: &mut FileFeed, piece: &[u8]) -> Result<usize, ModuleFault> {
     }
 }
 
-/// What is answered of the last byte, where each byte is a piece.
+/// What is answered of the last byte, if each byte is a piece.
 fn answer_by_bytes(feed: &mut FileFeed, bytes: &[u8]) -> Result<usize, ModuleFault> {
     let mut count = 0;
     for byte in bytes {

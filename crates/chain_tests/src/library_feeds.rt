@@ -1,4 +1,4 @@
-//! Libraries that come in pieces: the answers don't depend on the cuts. Where memory runs out at a piece, the same piece again is
+//! Libraries that come in pieces: the answers don't depend on the cuts. If memory runs out at a piece, the same piece again is
 //! answered as with ample memory.
 
 use crate::libraries::{ONE, library_bytes};
@@ -23,7 +23,7 @@ fn answer(feed: &mut LibraryFeed, piece: &[u8]) -> Result<usize, LibraryFault> {
     }
 }
 
-/// What is answered of the last byte, where each byte is a piece.
+/// What is answered of the last byte, if each byte is a piece.
 fn answer_by_bytes(feed: &mut LibraryFeed, bytes: &[u8]) -> Result<usize, LibraryFault> {
     let mut count = 0;
     for byte in bytes {

@@ -1,4 +1,4 @@
-//! The files that `link` takes: object files and libraries, which their first byte tells apart.
+//! The files that `link` takes: object files and libraries, by their first byte.
 
 ghost use Rattle.std.specs.Prelude.{◌≡◌, ◌<◌, ◌≤◌, ◌+◌, List, ℕ, length, Err, IfOk, IfErr, IfSome};
 ghost use Rattle.loader80.specs.declared.whole.ReadAllFault.TheVariants as read;

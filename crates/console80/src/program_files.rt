@@ -49,7 +49,7 @@ impl<'a> ProgramFiles<'a> {
         self.regions
     }
 
-    /// The image with its regions, as the files have them. Both are read before one is looked at.
+    /// The image with its regions, as the files have them. Both are read before either is checked.
     pub fn read(self, console: Console<'_>) -> Result<Image, Reported> {
         let bytes = console.read_whole(self.image)?;
         let text = console.read_whole(self.regions)?;

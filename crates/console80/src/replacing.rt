@@ -74,7 +74,7 @@ impl<'a> Console<'a> {
         }
     }
 
-    /// Puts both drafts in their places: first one that is written in place, since that may fail as it is written.
+    /// Moves both drafts to their places: first one that is written in place, since that may fail as it is written.
     fn settle_both(
         self,
         first: NewFile<'_>,
@@ -89,7 +89,7 @@ impl<'a> Console<'a> {
         }
     }
 
-    /// Puts the first draft in its place, and then the second one.
+    /// Moves the first draft to its place, and then the second one.
     fn settle_in_order(
         self,
         first: NewFile<'_>,
@@ -115,7 +115,7 @@ impl<'a> Console<'a> {
         }
     }
 
-    /// Puts the draft in the file's place.
+    /// Moves the draft to the file's place.
     pub(crate) fn settle(self, file: NewFile<'_>, draft: Draft) -> Result<(), Reported> {
         let answer = match &draft {
             Draft::Beside(beside) => fs::rename(self.runtime(), beside, file.path),

@@ -6,7 +6,7 @@ use clap::{ArgMatches, Error};
 use std::alloc::{AllocError, Global};
 
 impl<'a> Syntax<'a> {
-    /// Refuses arguments by which a file would be read and written, or written twice: those where the path of a file to write is,
+    /// Refuses arguments by which a file would be read and written, or written twice: those in which the path of a file to write is,
     /// letter for letter, that of another file.
     pub fn refuse_shared_paths(
         &self,
@@ -29,7 +29,7 @@ impl<'a> Syntax<'a> {
         None
     }
 
-    /// The path of the argument with this index, where it is that of a file to write and another argument has it too.
+    /// The path of the argument with this index, if it is that of a file to write and another argument has it too.
     fn shared_by<'m>(&self, matches: &ArgMatches<'m>, index: usize) -> Option<SharedPath<'m, 'a>> {
         let written = *self.arguments.get(index)?;
         let path = written.path_to_write(matches)?;
@@ -68,7 +68,7 @@ struct SharedPath<'m, 'a> {
 }
 
 impl<'a> Argument<'a> {
-    /// The path that is given here, where it is that of a file to write.
+    /// The path that is given here, if it is that of a file to write.
     fn path_to_write<'m>(&self, matches: &ArgMatches<'m>) -> Option<&'m str> {
         match self.kind {
             Kind::Written | Kind::WrittenOption(_) | Kind::WrittenIfGiven(_) => {

@@ -26,7 +26,7 @@ pub(crate) fn is_data(layout: &Layout<'_>, at: usize) -> bool
     at < 65536 && layout.regions.in_code(at as u16) && !is_covered(layout.reached, at as u16)
 }
 
-/// How many bytes of data stand right before the next address, where `before` of them stand right before this one.
+/// How many bytes of data stand right before the next address, if `before` of them stand right before this one.
 pub(crate) fn data_behind(layout: &Layout<'_>, at: usize, before: usize) -> usize
     requires before { before ≡ data_before (is_data layout.now.regions.now layout.now.reached.now) at }
     requires few { before ≤ at }

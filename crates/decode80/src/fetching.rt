@@ -83,8 +83,8 @@ pub fn behind(address: u16, bytes: u16) -> u16
 /// The instruction at an address of a program, and the address after it.
 ///
 /// # Errors
-/// [`FetchFault::Outside`] where the address isn't code; otherwise [`FetchFault::Unused`] where its byte begins no instruction,
-/// and [`FetchFault::Outside`] where another byte of the instruction isn't code or lies past FFFF.
+/// [`FetchFault::Outside`] if the address isn't code; otherwise [`FetchFault::Unused`] if its byte begins no instruction,
+/// and [`FetchFault::Outside`] if another byte of the instruction isn't code or lies past FFFF.
 #[inline(always)]
 #[tactic(auto, unfolding(crate::specs::Fetch::fetch))]
 pub fn fetch<P: Program>(address: u16, program: &P) -> Result<Fetched, FetchFault>

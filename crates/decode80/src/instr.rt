@@ -58,7 +58,7 @@ pub enum Instr {
     Call(u16),
     /// CNZ w and the other conditional calls.
     CallIf(Condition, u16),
-    /// RET.
+    /// RET: returns to the address that it pops.
     Ret,
     /// RNZ and the other conditional returns.
     ReturnIf(Condition),
@@ -106,9 +106,9 @@ pub enum Instr {
     Ei,
     /// DI: disable interrupts.
     Di,
-    /// NOP.
+    /// NOP: changes nothing.
     Nop,
-    /// HLT.
+    /// HLT: halts.
     Hlt,
 }
 

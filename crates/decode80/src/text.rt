@@ -9,7 +9,7 @@ use crate::mnemonics::mnemonic_of;
 use crate::operation::Operand;
 use std::alloc::{AllocError, Global};
 
-/// Appends the text of an instruction: the mnemonic, and where it has operands a space and the operands joined by commas,
+/// Appends the text of an instruction: the mnemonic, and if it has operands a space and the operands joined by commas,
 /// as `MOV A,M`, `LXI SP,3200`, `IN 01`, `RST 7`, `RNZ`.
 ///
 /// Pairs are written B D H SP PSW, bytes with two and words with four upper case hexadecimal digits, the number of RST with
@@ -17,7 +17,7 @@ use std::alloc::{AllocError, Global};
 ///
 /// # Errors
 ///
-/// `AllocError` if memory runs out, which it can't where `out` has room for the text; `out` is then
+/// `AllocError` if memory runs out, which it can't if `out` has room for the text; `out` is then
 /// unchanged.
 pub fn write_text(_alloc: Global, instr: Instr, out: &mut Vec<u8>) -> Result<(), AllocError>
     ensures ok { OnOk result (out.new.items ≡ out.old.items ++ text instr) }

@@ -118,7 +118,7 @@ fn chain_of<C: Code>(
 }
 
 impl Search {
-    /// A chain that comes to a sum, where that is the bound by the points that were found.
+    /// A chain that comes to a sum, if that is the bound by the points that were found.
     fn chain_to<C: Code>(
         &self,
         alloc: Global,
@@ -262,7 +262,7 @@ impl Search {
         }
     }
 
-    /// Where the point of a number is, if it is of a procedure, with so many bytes on the stack.
+    /// Where the point with this number is, if it is of a procedure, with so many bytes on the stack.
     fn last_at<C: Code>(
         &self,
         program: &C,

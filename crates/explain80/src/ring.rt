@@ -104,7 +104,7 @@ fn start(alloc: Global, first: Call) -> Result<Vec<Reach>, AllocError>
     Ok(reached)
 }
 
-/// Adds each call of the procedure that a call enters, where its callee isn't entered yet.
+/// Adds each call of the procedure that a call enters, if its callee isn't entered yet.
 fn enter_callees(
     calls: &[Call],
     number: usize,
@@ -146,7 +146,7 @@ fn is_of(call: Call, target: u16) -> bool
     }
 }
 
-/// The calls from this one on to the one of a number, in place of the first one, which has the same callee.
+/// The calls from this one on to the one with a number, in place of the first one, which has the same callee.
 fn calls_back(
     alloc: Global,
     reached: &[Reach],

@@ -108,7 +108,7 @@ pub record Many (code : Code) (most : ℕ) : Type 0 where
   pub walk : (n : ℕ) → n < most → Walk code (procedure n) (at n) (frame n)
   pub apart : (n m : ℕ) → n < most → m < most → procedure n ≡ procedure m → at n ≡ at m → n ≡ m
 
--- how many points are looked at
+-- how many points are visited
 abbrev pub most_points : ℕ
 most_points = 262144
 

@@ -1,5 +1,5 @@
 -- A table of frames that fits a program: one frame for each point that is reached, such that each way on leads to a frame of
--- the table with the same counts, where only a return address may have become any word. The runs of an accepted program
+-- the table with the same counts, in which only a return address may have become any word. The runs of an accepted program
 -- are followed along such a table. (This project's own.)
 use Rattle.std.specs.Prelude.{◌≡◌, ◌≤◌, ℕ, pos, ◌+ℤ◌, ◌≤ℤ◌, Option, Some}
 use Rattle.decode80.specs.declared.fetching.Fetched.{Fetched}

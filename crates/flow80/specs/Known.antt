@@ -70,13 +70,13 @@ pub record IsWithin (most : ℕ) (f : StackFrame) : Type 0 where
   pub taken : f.taken ≤ most
   pub words : length f.words ≤ most
 
--- the table is small: there are no more points than are looked at, and no frame has more words than there are points
+-- the table is small: there are no more points than are visited, and no frame has more words than there are points
 pub record IsSmall (known : Known) : Type 0 where
   pub points : length known.points ≤ most_points
   pub frames : (i : ℕ) (point : Point) → slice_get known.points i ≡ Some point → IsWithin (length known.points) point.frame
   pub apart : AreApart known.points
 
--- all of it is shown by walks: the counts alone where frames forget
+-- all of it is shown by walks: the counts alone if frames forget
 pub record Stands (exact : Bool) (code : Code) (known : Known) : Type 0 where
   pub mode : exact ≡ is_exact known.forgets
   pub points : (i : ℕ) (point : Point) → slice_get known.points i ≡ Some point → IsShown exact code point.procedure point.at point.frame
@@ -118,7 +118,7 @@ pub record Follows (known : Known) (p : Procedure) (targets : List ℕ) (f : Sta
   pub return : (entry taken : ℕ) → p ≡ Entry entry → returning moves ≡ Some taken → exit_of known.exits entry ≡ Some taken
 
 -- what comes of a frame that leads to a point: the table stays small and shown, it changes nothing or is nearer to its end,
--- and where it changes nothing the frame was covered; or a refusal holds
+-- and if it changes nothing the frame was covered; or a refusal holds
 pub record Flows (old new : Known) (p : Procedure) (to : ℕ) (g : StackFrame) (result : Result Bool Refusal) : Type 0 where
   pub small : OnOk result (IsSmall new)
   pub more : OnOk result (length old.points ≤ length new.points)
@@ -150,8 +150,8 @@ pub record Steps (old new : Known) (p : Procedure) (at : ℕ) (targets : List �
   pub goes : IfOk result (λ changed. Goes old new changed)
   pub follows : IfOk result (λ changed. changed ≡ false → (f : StackFrame) → Carries moves f → Follows new p targets f next moves)
 
--- how far a PCHL has come that leads to each of its targets: what was shown stays shown where the targets are, it changed nothing
--- or is nearer to its end, and where it changed nothing the first targets are in the table
+-- how far a PCHL has come that leads to each of its targets: what was shown stays shown if the targets are, it changed nothing
+-- or is nearer to its end, and if it changed nothing the first targets are in the table
 pub record GoesToFirst (old now : Known) (p : Procedure) (f : StackFrame) (targets : List ℕ) (count : ℕ)
     (changed : Bool) : Type 0 where
   pub small : IsSmall now
@@ -221,7 +221,7 @@ pub record Looks (code : Code) (old new : Known) (result : Result Bool Refusal) 
   pub ongoing : IfOk result (Ongoing code old new)
   pub refused : IfErr result (λ refusal. (exact : Bool) → Stands exact code old → Refused exact code refusal)
 
--- what comes of a sweep: what was shown stays shown, and the measure doesn't rise; where the last part of it changed something,
+-- what comes of a sweep: what was shown stays shown, and the measure doesn't rise; if the last part of it changed something,
 -- it falls
 pub record Sweeps (code : Code) (old new : Known) (result : Result Bool Refusal) : Type 0 where
   pub small : OnOk result (IsSmall new)

@@ -22,7 +22,7 @@ abbrev pub MayBeAny : StackFrame → Query → Type 0
 MayBeAny f Whole = Unit {0}
 MayBeAny f (At place) = word_at f place ≡ Any
 
--- what is asked of frames: everything, or, where frames forget, nothing but their counts
+-- what is asked of frames: everything, or, if frames forget, nothing but their counts
 abbrev pub Asks : (exact : Bool) → Query → Type 0
 Asks true query = Unit {0}
 Asks false Whole = Unit {0}

@@ -105,7 +105,7 @@ pub record IsSurvey (code : Code) (known : Known) (wants : List ℕ) (count : �
   pub few : length calls ≤ count
   pub addresses : AreAddresses known.points
 
--- the call of a point, where its move calls: its caller has the words that its callee wants
+-- the call of a point, if its move calls: its caller has the words that its callee wants
 abbrev pub IsCallOf : Code → (wants : List ℕ) → Point → (target : Option ℕ) → Option CallSite → Type 0
 IsCallOf code wants point None None = Unit {0}
 IsCallOf code wants point None (Some call) = ⊥

@@ -1,5 +1,5 @@
 -- The walks of a program's procedures: every way that a procedure may be gone through, with the frame that it has at each
--- point. Frames are never merged here, and there is no order in which points are looked at. (This project's own.)
+-- point. Frames are never merged here, and there is no order in which points are visited. (This project's own.)
 use Rattle.std.specs.Prelude.{◌≡◌, ◌≤◌, ◌⊎◌, ℕ, List, Contains, Option, Some, None, Ok}
 use Rattle.decode80.specs.declared.fetching.Fetched.{Fetched}
 use Rattle.frames80.specs.declared.role.Role.{Role}

@@ -15,7 +15,7 @@ struct Link {
     before: usize,
 }
 
-/// For each entry, the points at calls of it, each once, the newest first: they are looked at again when the callee's return is
+/// For each entry, the points at calls of it, each once, the newest first: they are visited again when the callee's return is
 /// seen. What the verifier answers doesn't rest on this list, only how soon.
 #[derive(Drop)]
 pub(crate) struct Callers {
@@ -57,7 +57,7 @@ impl Callers {
         Ok(())
     }
 
-    /// The points that wait for a callee are to be looked at again.
+    /// Notes that the points that wait for a callee are to be visited again.
     ///
     /// # Errors
     /// `AllocError` if memory runs out.

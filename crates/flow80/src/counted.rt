@@ -123,7 +123,7 @@ impl Counted {
             left: Vec::new(alloc),
         };
         counted.reach(Procedure::Main, program.start(), 0, 0, NONE)?;
-        // The bound is never met: each point is put there once, and once more where its callee's return is seen.
+        // The bound is never met: each point is put there once, and once more when its callee's return is seen.
         for _ in 0..u64::MAX {
             let Some(number) = counted.left.pop() else {
                 break;
@@ -141,7 +141,7 @@ impl Counted {
         }
     }
 
-    /// The point of a number.
+    /// The point with this number.
     pub(crate) fn point(&self, number: u32) -> Option<CountedPoint> {
         self.points.get(number as usize).copied()
     }

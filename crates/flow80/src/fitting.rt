@@ -4,7 +4,7 @@ ghost use Rattle.flow80.specs.FittingLaws.{CoversWalks, KeepsFromFaults, WantsEn
 
 use crate::laws::frame_laws;
 
-/// Where a table of frames fits a program, every walk of the program is covered by it, so that none of them is at a fault.
+/// If a table of frames fits a program, every walk of the program is covered by it, so that none of them is at a fault.
 pub fn fitting_tables_cover_walks()
     ensures covers { CoversWalks }
     ensures wants { WantsEnough }

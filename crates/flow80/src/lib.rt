@@ -7,7 +7,7 @@
 //! | [`Code`], [`LookFault`] | the program: the instruction at each address, the start and the stack |
 //! | [`Procedure`] | the main program, or one that a call reaches |
 //! | [`Refusal`] | why a program is refused |
-//! | [`fitting_tables_cover_walks`] | where a table of frames fits, no walk is at a fault, as a contract |
+//! | [`fitting_tables_cover_walks`] | if a table of frames fits, no walk is at a fault, as a contract |
 //! | [`Report`], [`ProcRow`] | what is found of a program that is accepted |
 #![tactic(auto)]
 

@@ -1,6 +1,6 @@
-//! The order in which points are looked at: reverse postorder of the code, over all of its procedures.
+//! The order in which points are visited: reverse postorder of the code, over all of its procedures.
 //!
-//! A point is looked at best when what leads to it has been: then a frame that comes to it late changes nothing behind it a
+//! A point is best visited when what leads to it has been: then a frame that comes to it late changes nothing behind it a
 //! second time. What the verifier answers doesn't rest on this order, only how soon.
 
 use crate::code::Code;
@@ -35,7 +35,7 @@ struct Search {
     roots: Vec<u16>,
 }
 
-/// For each address its rank: of two addresses the one of the greater rank is looked at first.
+/// For each address its rank: of two addresses the one with the greater rank is visited first.
 ///
 /// # Errors
 /// `AllocError` if memory runs out.

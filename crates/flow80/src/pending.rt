@@ -1,4 +1,4 @@
-//! The points that are to be looked at.
+//! The points that wait to be visited.
 
 use crate::code::Code;
 use crate::marks::Marks;
@@ -13,7 +13,7 @@ struct Waiting {
     point: usize,
 }
 
-/// The points that are to be looked at, each once. The one whose address has the greatest rank comes first.
+/// The points that wait to be visited, each once. The one whose address has the greatest rank comes first.
 #[derive(Drop)]
 pub(crate) struct Pending {
     ranks: Vec<u32>,

@@ -31,7 +31,7 @@ pub enum Refusal {
     DirectStore(u16),
     /// The main program pops with nothing on its stack.
     PopsBelow(u16),
-    /// A return is reached where the words are not the return address alone.
+    /// A return is reached with words that are not the return address alone.
     ReturnNotOwn(u16),
     /// The main program returns.
     ReturnFromMain(u16),
@@ -104,7 +104,7 @@ impl Refusal {
         }
     }
 
-    /// The address that the refusal names, where it names one.
+    /// The address that the refusal names, if it names one.
     pub fn address(&self) -> Option<u16>
         ensures { result ≡ refusal_address self.now }
     {
@@ -135,7 +135,7 @@ impl Refusal {
         matches!(self, Refusal::ReturnNotOwn(_))
     }
 
-    /// The refusal where no instruction may be executed at an address.
+    /// The refusal if no instruction may be executed at an address.
     pub(crate) fn of_look(fault: LookFault, at: u16) -> Refusal
         ensures { result ≡ look_refusal fault at }
     {

@@ -15,7 +15,7 @@ use std::alloc::Global;
 /// The most bytes of stack that each procedure needs below its return address, its callees' included.
 ///
 /// # Errors
-/// `ShortArguments` or `Recursion`, where it holds; out of memory.
+/// `ShortArguments` or `Recursion`, if it holds; out of memory.
 pub(crate) fn bound_stack<C: Code>(
     alloc: Global,
     program: &C,

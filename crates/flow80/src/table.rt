@@ -27,14 +27,14 @@ use interned80::{FrameId, Frames, MeetFault};
 use std::alloc::{AllocError, Global};
 use std::marker::Model;
 
-/// The most points that are looked at.
+/// The most points that are visited.
 const MOST_POINTS: usize = 262_144;
 
-/// How many looks each point is worth. Of most programs a point is looked at once or twice.
+/// How many visits each point is worth. In most programs a point is visited once or twice.
 const LOOKS_FOR_A_POINT: u64 = 4;
 
 /// What is known so far: the points with their frames, how many words each procedure takes where it returns, once a return of
-/// it was seen, and the points that are still to be looked at.
+/// it was seen, and the points that are still to be visited.
 #[derive(Drop)]
 pub(crate) struct Table {
     points: Points,
@@ -43,7 +43,7 @@ pub(crate) struct Table {
     pending: Pending,
     /// What returns ask for, if whatever they don't ask for is forgotten.
     asked: Option<AskedPlaces>,
-    /// How many points may still be looked at before [`Table::is_spent`].
+    /// How many points may still be visited before [`Table::is_spent`].
     looks: u64,
 }
 
@@ -59,8 +59,8 @@ impl Model for Table {
 }
 
 impl Table {
-    /// Nothing is known of a program. With what its returns ask for, each frame forgets the rest; and it is spent when so many points
-    /// were looked at, and four more for each point that there is.
+    /// An empty table. With what the program's returns ask for, each frame forgets the rest; and it is spent when so many points
+    /// were visited, and four more for each point that there is.
     ///
     /// # Errors
     /// `AllocError` if memory runs out.
@@ -259,7 +259,7 @@ impl Table {
         }
     }
 
-    /// A call: the callee is entered, and where a return of it was seen, the caller goes on without the words that it takes.
+    /// A call: the callee is entered, and if a return of it was seen, the caller goes on without the words that it takes.
     ///
     /// # Errors
     /// A refusal that holds, or out of memory.
@@ -421,7 +421,7 @@ impl Table {
         Ok((site, effect))
     }
 
-    /// A point is looked at: its instruction, and each way that it leads.
+    /// Visits a point: its instruction, and each way that it leads.
     ///
     /// # Errors
     /// A refusal that holds, or out of memory.
@@ -434,7 +434,7 @@ impl Table {
         self.follow(&site, program.targets(site.at), effect)
     }
 
-    /// The points that are to be looked at are looked at, and those that come of it.
+    /// Visits the points that wait, and those that come of it.
     fn drain<C: Code>(&mut self, program: &C) -> Result<bool, Refusal>
         requires { IsSmall self.old.known }
         ensures { Looks (C.code program.now) self.old.known self.new.known result }
@@ -452,12 +452,12 @@ impl Table {
         Ok(changed)
     }
 
-    /// Whether so many points were looked at as were allowed.
+    /// Whether as many points were visited as were allowed.
     pub(crate) fn is_spent(&self) -> bool {
         self.looks == 0
     }
 
-    /// The next point that is to be looked at, unless as many were as are allowed.
+    /// The next point that waits, unless as many were visited as are allowed.
     fn next_pending(&mut self) -> Option<usize>
         ensures same { self.new ≡ self.old }
         ensures there { IfSome result (λ point. point < length self.new.known.points) }
@@ -469,7 +469,7 @@ impl Table {
         }
     }
 
-    /// Every point is looked at once.
+    /// Visits every point once.
     fn pass<C: Code>(&mut self, program: &C) -> Result<bool, Refusal>
         requires { IsSmall self.old.known }
         ensures looks { Looks (C.code program.now) self.old.known self.new.known result }
@@ -484,7 +484,7 @@ impl Table {
         Ok(changed)
     }
 
-    /// What is to be looked at is looked at, then the main program begins, and every point is looked at. Where those two change
+    /// Visits the points that wait, then the main program's start, and then every point. If those two change
     /// nothing the table is closed.
     ///
     /// # Errors
@@ -548,7 +548,7 @@ impl Table {
         self.exits[usize::from(entry)]
     }
 
-    /// The point of an address is to be looked at again.
+    /// Notes that the point of an address is to be visited again.
     fn look_again(&mut self, point: usize, at: u16) -> Result<(), AllocError>
         ensures { self.new ≡ self.old }
     {

@@ -1,4 +1,4 @@
--- The chunks that a module's contents in CODE are, where LOCATE gives it bases.
+-- The chunks that a module's contents in CODE are, if LOCATE gives it bases.
 -- (8080 Object Module Formats: content and fixup records; ISIS-II User's Guide, LOCATE: of two contents over a byte the later
 -- one stands.)
 use Rattle.std.specs.Prelude.{ℕ, ◌%◌, ◌==◌, Bool, Option, None, List, [], ◌∷◌, map, filter, slice_index}
@@ -9,7 +9,7 @@ use Rattle.omf_parts.specs.Modules.{ModuleValue}
 use Rattle.omf_relocation.specs.Place.{Bases}
 use Rattle.omf_relocation.specs.ImageByte.{ByteChunk, chunk_of, chunk_covers, distance}
 
--- the chunks of the module's contents in CODE alone, as they are where it has these bases
+-- the chunks of the module's contents in CODE alone, as they are if it has these bases
 abbrev pub is_code : ContentValue → Bool
 is_code c = c.segment == code_id
 

@@ -1,4 +1,4 @@
--- Where a module lies in a dump, by the chunks that its contents are where LOCATE gives it bases.
+-- Where a module lies in a dump, by the chunks that its contents are if LOCATE gives it bases.
 -- (8080 Object Module Formats: content and fixup records; ISIS-II User's Guide, LOCATE: bases of segments; of two contents
 -- over a byte the later one stands.)
 use Rattle.std.specs.Prelude.{◌≡◌, ℕ, ◌%◌, ◌<◌, ◌≤◌, true, Some, List, [], ◌∷◌, length, take, IsTrue, AllPairs, ⊤}
@@ -15,7 +15,7 @@ use Rattle.find80.specs.declared.words.Word.{Word}
 use Rattle.find80.specs.Places.{dump_byte, is_listed}
 use Rattle.find80.specs.Words.{has_word}
 
--- The module lies in the dump where it has these bases: CODE's is the address; at each address that its contents in CODE cover,
+-- The module lies in the dump if it has these bases: CODE's is the address; at each address that its contents in CODE cover,
 -- the dump has the byte of the last of them; and there is such an address.
 pub record LiesByBases (first : ℕ) (dump : List ℕ) (m : ModuleValue) (address : ℕ) (bases : Bases) : Type 0 where
   pub here : bases.code ≡ address

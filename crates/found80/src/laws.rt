@@ -1,5 +1,5 @@
 //! A module lies in a dump exactly if its pattern does: what `pattern80` and `find80` answer of bytes that are halves of values,
-//! said of the chunks that the module's contents are where LOCATE gives it bases. Each law is ensured by a function that does
+//! said of the chunks that the module's contents are if LOCATE gives it bases. Each law is ensured by a function that does
 //! nothing.
 
 ghost use Rattle.found80.specs.Laws.{PatternsLieAsModules, PatternPlacesAreModulePlaces, PatternWordsAreModuleWords};

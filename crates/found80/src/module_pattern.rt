@@ -78,7 +78,7 @@ impl<'a> ModulePattern<'a> {
         places(alloc, first, dump, code, count_of(code))
     }
 
-    /// The words of the module's targets where it lies at the address, by ascending numbers: of a segment its base, of STACK its
+    /// The words of the module's targets if it lies at the address, by ascending numbers: of a segment its base, of STACK its
     /// top, of an external what its name stands for. A target is listed exactly if whatever bases the module lies there with
     /// give it the same word; absolute bytes and CODE aren't listed, and of externals of one name only the first is. `None`
     /// exactly if the module doesn't lie there.

@@ -33,7 +33,7 @@ changed Exchange f = exchanged f
 changed (Forget pair) f = holding pair Any f
 changed (SetStack _) f = cleared f
 
--- why a pop is refused: where the words are empty the main program has none to pop; an entry takes one from beneath
+-- why a pop is refused: if the words are empty the main program has none to pop; an entry takes one from beneath
 abbrev pub pop_fault : Role → List Word → Option FrameFault
 pop_fault (Main _) [] = Some PopsBelow
 pop_fault (Main _) (word ∷ words) = None

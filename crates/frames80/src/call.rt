@@ -13,7 +13,7 @@ use std::alloc::Global;
 /// frame has up to 1,000,000 words, and as many taken.
 ///
 /// # Errors
-/// `ShortArguments` exactly where the caller has fewer than `wants` words above its bottom word; in the main program, where
+/// `ShortArguments` exactly where the caller has fewer than `wants` words above its bottom word; in the main program, if
 /// it has fewer words. `Memory` only if it has enough and memory runs out.
 #[tactic(auto, using(crate::proofs::Reversed::drop_reverse))]
 pub fn after(

@@ -31,7 +31,7 @@ pub enum Change {
 pub enum Effect {
     /// It goes on to the next instruction with a changed frame.
     Change(Change),
-    /// HLT.
+    /// HLT: it goes nowhere.
     Halt,
     /// JMP to an address.
     Jump(u16),
@@ -43,7 +43,7 @@ pub enum Effect {
     Call(u16),
     /// A conditional call of an address.
     CallIf(u16),
-    /// RET.
+    /// RET: it goes where the return address says.
     Return,
     /// A conditional return.
     ReturnIf,

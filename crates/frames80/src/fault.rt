@@ -9,7 +9,7 @@ use thiserror::Error;
 /// Why an instruction is refused with a frame.
 #[derive(Clone, Copy, PartialEq, Eq, Debug, Error)]
 pub enum FrameFault {
-    /// SPHL.
+    /// SPHL, which sets SP to HL.
     #[error("Sphl")]
     Sphl = 4,
     /// INX SP or DCX SP.
@@ -18,7 +18,7 @@ pub enum FrameFault {
     /// LXI SP in an entry, or with another word than the stack's top.
     #[error("SetsStack")]
     SetsStack = 7,
-    /// A pop or XTHL of the main program where its stack is empty.
+    /// A pop or XTHL of the main program if its stack is empty.
     #[error("PopsBelow")]
     PopsBelow = 9,
     /// A return of an entry whose words are not its return address alone.

@@ -96,7 +96,7 @@ impl Frame {
         }
     }
 
-    /// Puts a word into a pair.
+    /// Writes a word to a pair.
     pub(crate) fn set_pair(&mut self, pair: FramePair, word: Word)
         ensures { self.new ≡ record self.old { pairs = with_pair self.old.pairs pair word } }
     {
@@ -107,7 +107,7 @@ impl Frame {
         }
     }
 
-    /// Pops the top. Where the procedure has no word of its own left, it takes one from beneath, which may be any word.
+    /// Pops the top. If the procedure has no word of its own left, it takes one from beneath, which may be any word.
     pub(crate) fn pop(&mut self) -> Word
         requires { self.old.taken ≤ 1000000 }
         ensures word { result ≡ top_word self.old.words }

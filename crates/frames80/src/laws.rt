@@ -20,7 +20,7 @@ pub fn counts_decide()
     ensures refused { ReturnRefused }
 {}
 
-/// A frame that another covers (the same counts, and the return address at least where the other has it) is not refused where
+/// A frame that another covers (the same counts, and the return address at least where the other has it) is not refused if
 /// the other isn't, and is covered after each change, call and meeting.
 pub fn covered_goes_along()
     ensures { CoveredGoesAlong }

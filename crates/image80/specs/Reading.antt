@@ -6,7 +6,7 @@ use Rattle.image80.specs.declared.entry.Entry.TheVariants.{Stack, Case}
 use Rattle.image80.specs.Case.{DeclaredCase, IsCase, AreByAddress, is_target, has_target}
 use Rattle.image80.specs.RegionsText.{repeats, is_repeated}
 
--- whether there is a stack line, and for each address a mark, 1 where it has a case line
+-- whether there is a stack line, and for each address a mark, 1 if it has a case line
 pub record SeenLines : Type 0 where
   pub stack : Bool
   pub marks : List ℕ

@@ -27,7 +27,7 @@ in_data areas address = in_ranges areas.data_ranges address
 abbrev pub top_of : Areas → ℕ
 top_of areas = (areas.stack.first + areas.stack.length) % 65536
 
--- the targets that are declared for an address, where one is declared
+-- the targets that are declared for an address, if one is declared
 abbrev pub targets_at : Areas → ℕ → Option (List ℕ)
 targets_at areas address = option_map (λ case. case.targets) (find (λ case. case.at == address) areas.cases)
 

@@ -58,7 +58,7 @@ pub(crate) fn read_case(alloc: Global, text: &[u8]) -> Result<Option<CaseLine>, 
     Ok(Some(CaseLine { at, targets }))
 }
 
-/// Puts the targets that the text begins with into an empty list; whether the text ends with them.
+/// Fills an empty list with the targets that the text begins with; whether the text ends with them.
 fn put_targets(text: &[u8], targets: &mut Vec<u16>) -> Result<bool, AllocError>
     requires { targets.old.items ≡ [] }
     ensures spelled { IfOk result (λ whole. IsTrue whole → text.now ≡ targets_text targets.new.items) }

@@ -4,7 +4,7 @@
 ghost use Rattle.std.specs.Prelude.{◌≡◌, ◌<◌, [], ◌∷◌, ◌++◌, length, position, IfSome, IfNone};
 ghost use Rattle.image80.specs.Lines.{is_line_feed, parts};
 
-/// The first line of a text without its line feed, and the text after that line feed; `None` where
+/// The first line of a text without its line feed, and the text after that line feed; `None` if
 /// the text has no line feed.
 pub fn first_line(text: &[u8]) -> Option<(&[u8], &[u8])>
     ensures found { IfSome result (λ (line, rest). parts text.now ≡ line.now ∷ parts rest.now) }

@@ -8,7 +8,7 @@ ghost use Rattle.image80.specs.Regions.{AreDisjoint};
 use crate::range::Range;
 use std::alloc::{AllocError, Global};
 
-/// Puts the ranges in the order of their first addresses.
+/// Sorts the ranges by their first addresses.
 pub(crate) fn sort(ranges: &mut Vec<Range>)
     ensures same { IsPermutation ranges.old.items ranges.new.items }
     ensures by_first { IsNonDecreasingBy (λ range. range.first) ranges.new.items }

@@ -75,7 +75,7 @@ fn read_entries(alloc: Global, version: Version, lines: &[u8]) -> Result<Vec<Ent
     Ok(entries)
 }
 
-/// Puts the entries of all lines, those after the heading of a text of the version, into an empty list.
+/// Fills an empty list with the entries of all lines, those after the heading of a text of the version.
 fn put_entries(
     alloc: Global,
     version: Version,

@@ -14,7 +14,7 @@ use crate::version::Version;
 use decode80::word_digits;
 use std::alloc::{AllocError, Global};
 
-/// Appends the text of the regions, of version 2 where they have a case, of version 1 where they have none: the line
+/// Appends the text of the regions, of version 2 if they have a case, of version 1 if they have none: the line
 /// `REGIONS 1` or `REGIONS 2`, the code lines by address, the stack line, the data lines by address, the case lines by
 /// address with their targets ascending. It is read as the same regions. When memory runs out, `out` keeps what it held.
 pub fn write_regions(alloc: Global, regions: &Regions, out: &mut Vec<u8>) -> Result<(), AllocError>

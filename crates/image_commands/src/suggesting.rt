@@ -59,7 +59,7 @@ impl<'a> CasesArguments<'a> {
 }
 
 /// Prints the CASE lines, writes the regions with them if a file is named, and reports what there is to say of the PCHLs; gives status 1
-/// where no table is seen for one of them.
+/// if no table is seen for one of them.
 pub fn suggest_for_files(
     console: Console<'_>,
     arguments: CasesArguments<'_>,

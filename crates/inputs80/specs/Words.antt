@@ -31,7 +31,7 @@ repeated port count bytes = None
 abbrev pub item_of : ℕ → List ℕ → Option Repeated
 item_of port item = repeated port (times (take (length item - 2) item)) (bytes_spelled (drop (length item - 2) item))
 
--- all of them, where each is there
+-- all of them, if each is there
 abbrev pub with_first : Option Repeated → Option (List Repeated) → Option (List Repeated)
 with_first (Some first) (Some later) = Some (first ∷ later)
 with_first first later = None
@@ -49,6 +49,6 @@ abbrev pub at_port : Option (List ℕ) → List ℕ → Option (List Repeated)
 at_port (Some (port ∷ [])) items = items_of port items
 at_port port items = None
 
--- what a word names, None where it has another form: two digits of a port, an equals sign, and items
+-- what a word names, None if it has another form: two digits of a port, an equals sign, and items
 abbrev pub word_of : List ℕ → Option (List Repeated)
 word_of word = if slice_index word 2 == 61 then at_port (bytes_spelled (take 2 word)) (drop 3 word) else None

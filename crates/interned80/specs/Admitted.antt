@@ -6,7 +6,7 @@ use Rattle.frames80.specs.declared.moves.Moves.{Moves}
 use Rattle.frames80.specs.declared.moves.Moves.TheVariants.{End, On, Jump as MovesTo, Either, Case as Cases, Call as Calls, MaybeCall, Return as Returns, MaybeReturn}
 use Rattle.frames80.specs.Moves.{changed}
 
--- the move of an effect, where it is admitted; one that is refused in every frame has none
+-- the move of an effect, if it is admitted; one that is refused in every frame has none
 abbrev pub move_of : Effect → StackFrame → Moves
 move_of (Change change) f = On (changed change f)
 move_of Halt f = End

@@ -66,7 +66,7 @@ fn push_word(stacks: &mut Stacks, kept: Kept, word: Word) -> Result<Kept, AllocE
     Ok(Kept { words, ..kept })
 }
 
-/// The frame without its top, and the top. Where the procedure has no word of its own left, it takes one from beneath, which may
+/// The frame without its top, and the top. If the procedure has no word of its own left, it takes one from beneath, which may
 /// be any word.
 fn pop_word(stacks: &Stacks, kept: Kept) -> (Kept, Word)
     requires there { kept.words < length stacks.now }

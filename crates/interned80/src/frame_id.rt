@@ -21,7 +21,7 @@ impl Model for FrameId {
 impl FrameId {
     ghost use Rattle.std.specs.Prelude.{◌≡◌};
 
-    /// The frame of a number.
+    /// The frame with this number.
     pub(crate) fn new(number: u32) -> FrameId
         ensures { result ≡ number }
     {

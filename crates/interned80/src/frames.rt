@@ -21,7 +21,7 @@ use std::alloc::{AllocError, Global};
 use std::marker::Model;
 
 /// Frames by number: each distinct frame is kept once, in order of first sight. A contract sees the list of frames; a frame keeps
-/// its number. Words that frames have in common, from the bottom up, are kept once. Where there are 4,294,967,295 frames, or as
+/// its number. Words that frames have in common, from the bottom up, are kept once. If there are 4,294,967,295 frames, or as
 /// many words, a call that would add one answers as if memory runs out.
 #[derive(Drop)]
 pub struct Frames {
@@ -109,7 +109,7 @@ impl Frames {
     /// hold anything.
     ///
     /// # Errors
-    /// `ShortArguments` exactly where the caller has fewer words above its bottom word; in the main program, where it has fewer
+    /// `ShortArguments` exactly where the caller has fewer words above its bottom word; in the main program, if it has fewer
     /// words. `Memory` only if it has enough and memory runs out.
     pub fn after(&mut self, frame: FrameId, role: Role, taken: u32) -> Result<FrameId, CallFault>
         requires { frame < length self.old }
@@ -128,7 +128,7 @@ impl Frames {
     }
 
     /// The number of the frame that is known of both: a word or a pair is the return address only if it is in both. It is that
-    /// of the first where the first doesn't change.
+    /// of the first if the first doesn't change.
     ///
     /// # Errors
     /// `HeightsDiffer` exactly where the frames differ in the words taken or in the number of words; `Memory` only if they
@@ -154,7 +154,7 @@ impl Frames {
     }
 
     /// The number of a frame of which what isn't asked for may be forgotten: it has the same counts, and the return address only
-    /// where the frame has it.
+    /// if the frame has it.
     ///
     /// # Errors
     /// `AllocError` if memory runs out.

@@ -18,7 +18,7 @@ impl Owns {
         }
     }
 
-    /// How many return addresses the stack of a number has.
+    /// How many return addresses the stack with this number has.
     pub(crate) fn get(&self, number: u32) -> u32 {
         match self.counts.get((number as usize).wrapping_sub(1)) {
             Some(count) => *count,

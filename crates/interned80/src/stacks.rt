@@ -103,7 +103,7 @@ impl Stacks {
         }
     }
 
-    /// The number of the stack without its top. Where it has no words, that is its own.
+    /// The number of the stack without its top. If it has no words, that is its own.
     pub(crate) fn below(&self, number: u32) -> u32
         requires { number < length self.now }
         ensures { IsStack self.now result (drop 1 (words_at self.now number)) }

@@ -1,4 +1,4 @@
--- How the parts that modules have of one segment, lying over one another, become one: the longest, paged where one is.
+-- How the parts that modules have of one segment, lying over one another, become one: the longest, paged if one is.
 -- (ISIS-II User's Guide, LINK.)
 use Rattle.std.specs.Prelude.{ℕ, ◌||◌, Option, Some, None, List, [], ◌∷◌, map, max, slice_index_or, slice_set}
 use Rattle.omf_parts.specs.declared.segment.Segment.{Segment}

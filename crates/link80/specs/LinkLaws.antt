@@ -38,7 +38,7 @@ LinkedModuleKeepsRules =
     → link_fault modules ≡ None
     → IsTrue (keeps_rules (linked_parts name modules))
 
--- The lengths of the linked module's segments are words, where those of its modules are.
+-- The lengths of the linked module's segments are words, if those of its modules are.
 abbrev pub HasWordLengths : ModuleValue → Type 0
 HasWordLengths m = (id : ℕ) → (segment_in m.segments id).length ≤ 65535
 

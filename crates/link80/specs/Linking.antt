@@ -9,7 +9,7 @@ use Rattle.link80.specs.declared.fault.LinkFault.TheVariants.{Memory}
 use Rattle.link80.specs.Linked.{linked, unresolved}
 use Rattle.link80.specs.LinkFault.{link_fault}
 
--- the linked module, and the names that none of the modules declares, where no fault holds
+-- the linked module, and the names that none of the modules declares, if no fault holds
 pub record IsLinkOf (name : List ℕ) (modules : List ModuleValue) (program : ModuleValue) (names : List (List ℕ)) : Type 0 where
   pub program_is : program ≡ linked name modules
   pub names_are : names ≡ unresolved modules

@@ -16,7 +16,7 @@ pub record LaidOutValue : Type 0 where
 abbrev pub laid_out : List ModuleValue → ℕ → LaidOutValue
 laid_out modules id = record { starts = starts_from id 0 modules; end = parts_end id 0 modules }
 
--- the start and the end of a part after what lies before, where it ends at a word
+-- the start and the end of a part after what lies before, if it ends at a word
 abbrev pub next_part : ℕ → Segment → Option (ℕ × ℕ)
 next_part before s =
     let start = rounded s.paged before in if nat_le (start + s.length) 65535 then Some (start, start + s.length) else None

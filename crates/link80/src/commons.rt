@@ -27,7 +27,7 @@ pub(crate) fn is_fixed_id(id: u8) -> bool
     id <= MEMORY || id == UNNAMED_COMMON
 }
 
-/// The name of the common of this id; it has no bytes where no common has the id.
+/// The name of the common of this id; it has no bytes if no common has the id.
 pub(crate) fn common_name(commons: &[Common], id: u8) -> &[u8]
     ensures { result.now ≡ common_name commons.now id }
 {
@@ -39,7 +39,7 @@ pub(crate) fn common_name(commons: &[Common], id: u8) -> &[u8]
     &[]
 }
 
-/// Puts the names of a module's commons last that are new.
+/// Appends the names of a module's commons that are new.
 fn add_commons<'a>(
     alloc: Global,
     names: &mut NameTable<'a>,
@@ -145,7 +145,7 @@ impl<'a> JoinedModules<'a> {
         self.laid.len()
     }
 
-    /// The module of a number.
+    /// The module with this number.
     pub(crate) fn get(&self, number: usize) -> &'a Module
         requires { number < length self.now }
         ensures { slice_get self.now number ≡ Some result.now }

@@ -84,7 +84,7 @@ fn linked_content(
     })
 }
 
-/// Puts a module's contents last, moved with their parts.
+/// Appends a module's contents, moved with their parts.
 fn add_contents(
     alloc: Global,
     tables: &SymbolTables,

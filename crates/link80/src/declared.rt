@@ -12,7 +12,7 @@ use omf_library::NameHashes;
 use omf_parts::Module;
 use std::alloc::Global;
 
-/// Puts the names of a module's publics last.
+/// Appends the names of a module's publics.
 ///
 /// # Errors
 /// `DuplicatePublic` with the first of them that stands before; `Memory` if memory runs out.

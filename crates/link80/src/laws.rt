@@ -21,7 +21,7 @@ pub fn linking_keeps_bytes()
     sound_modules_keep_rules();
 }
 
-/// The linked module keeps the rules of modules, where its modules do and no fault holds; and the lengths of its segments are
+/// The linked module keeps the rules of modules, if its modules do and no fault holds; and the lengths of its segments are
 /// words, as its modules' are.
 pub fn linked_module_keeps_rules()
     ensures rules { LinkedModuleKeepsRules }

@@ -31,7 +31,7 @@ impl<'a> Modules<'a> {
         }
     }
 
-    /// Puts a module last.
+    /// Appends a module.
     pub(crate) fn push(&mut self, added: &'a Module) -> Result<(), AllocError>
         ensures { OnOk result (self.new ≡ self.old ++ added.now ∷ []) }
     {
@@ -46,7 +46,7 @@ impl<'a> Modules<'a> {
         self.modules.len()
     }
 
-    /// The module of a number.
+    /// The module with this number.
     pub(crate) fn get(&self, number: usize) -> &'a Module
         requires { number < length self.now }
         ensures { slice_get self.now number ≡ Some result.now }

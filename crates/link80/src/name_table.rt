@@ -33,7 +33,7 @@ impl<'a> NameTable<'a> {
         }
     }
 
-    /// Puts a name last if it isn't there yet; the answer says whether it is new.
+    /// Appends a name if it isn't there yet; the answer says whether it is new.
     pub(crate) fn add(&mut self, name: &'a [u8]) -> Result<bool, AllocError>
         ensures new { IfOk result (λ new. new ≡ not (is_among self.old name.now)) }
         ensures names { OnOk result (self.new ≡ with_name self.old name.now) }
@@ -49,7 +49,7 @@ impl<'a> NameTable<'a> {
         self.names.len()
     }
 
-    /// The number of a name, where it is there.
+    /// The number of a name, if it is there.
     pub(crate) fn number_of(&self, name: &[u8]) -> Option<usize>
         ensures number { result ≡ number_in self.now name.now }
         ensures within { IfSome result (λ number. number < length self.now) }
@@ -58,7 +58,7 @@ impl<'a> NameTable<'a> {
     }
 }
 
-/// Puts a name last if it isn't there yet, and then a copy of it too.
+/// Appends a name if it isn't there yet, and then a copy of it too.
 pub(crate) fn add_name<'a>(
     alloc: Global,
     names: &mut NameTable<'a>,

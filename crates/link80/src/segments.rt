@@ -1,5 +1,5 @@
 //! The segments of the linked module: the parts of CODE, DATA and STACK one after another; of MEMORY and of each common the
-//! longest part. A segment is paged where one of its parts is.
+//! longest part. A segment is paged if one of its parts is.
 
 ghost use Rattle.std.specs.Prelude.{◌≡◌, ◌∷◌, ◌≤◌, [], length, map, IfOk, IsTrue};
 ghost use Rattle.std.specs.List.{enumerate_from};
@@ -20,7 +20,7 @@ const EMPTY: Segment = Segment {
     paged: false,
 };
 
-/// Two parts that lie over one another: the longer length, paged where one of them is.
+/// Two parts that lie over one another: the longer length, paged if one of them is.
 fn joined_parts(one: Segment, other: Segment) -> Segment
     ensures { result ≡ joined_parts one other }
 {

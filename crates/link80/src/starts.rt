@@ -42,7 +42,7 @@ pub(crate) fn segment_of(source: &Module, id: u8) -> Segment
     }
 }
 
-/// The start and the end of a part that is laid after what ends at `before`, where its end is a word.
+/// The start and the end of a part that is laid after what ends at `before`, if its end is a word.
 fn next_part(before: u16, segment: Segment) -> Option<(u16, u16)>
     ensures { result ≡ next_part before segment }
 {
@@ -152,7 +152,7 @@ impl<'a> LaidModules<'a> {
         self.modules.len()
     }
 
-    /// The module of a number.
+    /// The module with this number.
     pub(crate) fn get(&self, number: usize) -> &'a Module
         requires { number < length self.now }
         ensures { slice_get self.now number ≡ Some result.now }

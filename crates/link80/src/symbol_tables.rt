@@ -21,7 +21,7 @@ use std::marker::Model;
 /// How many names may be unresolved: their indices are words.
 const MOST_EXTERNALS: usize = 65536;
 
-/// Puts a module's publics last, moved with their parts.
+/// Appends a module's publics, moved with their parts.
 fn add_moved_publics(
     alloc: Global,
     joined: &JoinedModules,
@@ -54,7 +54,7 @@ fn linked_publics(alloc: Global, joined: &JoinedModules) -> Result<Vec<Public>, 
     Ok(publics)
 }
 
-/// Puts the externals of a module last that no module declares and that are new.
+/// Appends the externals of a module that no module declares and that are new.
 fn add_undeclared<'a>(
     alloc: Global,
     names: &mut NameTable<'a>,

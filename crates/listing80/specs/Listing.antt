@@ -13,7 +13,7 @@ use Rattle.decode80.specs.Text.{byte_text, word_text}
 abbrev pub bytes_from : List ℕ → ℕ → List ℕ
 bytes_from memory at = slice_index memory at ∷ slice_index memory ((at + 1) % 65536) ∷ slice_index memory ((at + 2) % 65536) ∷ []
 
--- an instruction and its length, where it is no longer than what is left of the range
+-- an instruction and its length, if it is no longer than what is left of the range
 abbrev pub fitting : ℕ → Option (Instr × ℕ) → Option (Instr × ℕ)
 fitting left (Some (i, n)) = if nat_le n left then Some (i, n) else None
 fitting left None = None

@@ -6,7 +6,7 @@ abbrev pub read_failures : {E : Type 0} → Result ℕ E → ℕ
 read_failures (Ok n) = 0
 read_failures (Err e) = 1
 
--- a write counts as a failure if it is refused, and where it takes no byte
+-- a write counts as a failure if it is refused, or takes no byte
 abbrev pub write_failures : {E : Type 0} → Result ℕ E → ℕ
 write_failures (Ok zero) = 1
 write_failures (Ok (suc n)) = 0

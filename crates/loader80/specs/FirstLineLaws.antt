@@ -4,7 +4,7 @@ use Rattle.std.specs.List.{AllByRecursion}
 use Rattle.image80.specs.Lines.{parts}
 use Rattle.loader80.specs.InputsText.{line_input, bad_line}
 
--- no line of inputs: where others follow, one of another form; and else what stands after the last line feed, if anything does
+-- no line of inputs: if others follow, one of another form; and else what stands after the last line feed, if anything does
 abbrev pub IsNoLine : List ℕ → (later : List (List ℕ)) → Type 0
 IsNoLine line [] = 0 < length line
 IsNoLine line (next ∷ later) = line_input line ≡ None

@@ -15,7 +15,7 @@ abbrev pub input_from : Option (List ℕ) → Option (List ℕ) → Option (List
 input_from (Some (port ∷ [])) (Some (byte ∷ bytes)) = Some (pairs_of port (byte ∷ bytes))
 input_from _ _ = None
 
--- what a line `pp hh..` spells, None where it has another form
+-- what a line `pp hh..` spells, None if it has another form
 abbrev pub line_input : List ℕ → Option (List (ℕ × ℕ))
 line_input line =
     if slice_index line 2 == 32 then input_from (bytes_spelled (take 2 line)) (bytes_spelled (drop 3 line)) else None
@@ -24,7 +24,7 @@ line_input line =
 abbrev pub inputs_of : List ℕ → List (ℕ × ℕ)
 inputs_of text = flat_map (λ line. unwrap_or (line_input line) []) (parts text)
 
--- the number of the first part that is no line of inputs, where the first part has the number n: one of another form,
+-- the number of the first part that is no line of inputs, if the first part has the number n: one of another form,
 -- or the last one, which has no line feed, unless it is empty
 abbrev pub bad_part : ℕ → List (List ℕ) → Option ℕ
 bad_part n [] = None

@@ -21,7 +21,7 @@ output_line output = codes "OUT " ++ byte_text output.0 ++ 32 ∷ byte_text outp
 abbrev pub after_steps : ℕ → List ℕ
 after_steps steps = codes " AFTER " ++ decimal steps ++ 10 ∷ []
 
--- how the run ended, None where the steps were used up; a verified program has none of the wrong ends, and no line is for them
+-- how the run ended, None if the steps were used up; a verified program has none of the wrong ends, and no line is for them
 abbrev pub end_line : Option End → ℕ → ℕ → List ℕ
 end_line None at steps = codes "STEPS" ++ after_steps steps
 end_line (Some Halt) at steps = codes "HALT " ++ word_text at ++ after_steps steps

@@ -48,7 +48,7 @@ impl From<AllocError> for InputsFault {
 /// follow one another, and an empty text means no input.
 ///
 /// # Errors
-/// `BadLine` with the number of the first line of another form, counted from 1; the last line too must end in LF. `Memory` where
+/// `BadLine` with the number of the first line of another form, counted from 1; the last line too must end in LF. `Memory` if
 /// memory runs out.
 pub fn read_inputs(alloc: Global, bytes: &[u8]) -> Result<Inputs, InputsFault>
     ensures lines { OnOk result (bad_line bytes.now ≡ None) }

@@ -4,7 +4,7 @@
 ghost use Rattle.loader80.specs.FirstLineLaws.{BadLineIsTheFirst};
 ghost use Rattle.loader80.specs.SendsLaws.{WrittenAnswersAreSent, PrefixesAreSent};
 
-/// An answer to three texts that are within the limit is sent where its text was written whole; and where a prefix of it
+/// An answer to three texts that are within the limit is sent if its text was written whole; and if a prefix of it
 /// was written, that is a prefix of what is sent.
 pub fn what_is_said_is_sent()
     ensures whole { WrittenAnswersAreSent }

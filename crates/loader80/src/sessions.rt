@@ -21,8 +21,8 @@ pub const TEXT_LIMIT: usize = 1_048_576;
 /// of the writer must be below the greatest `u64`.
 ///
 /// # Errors
-/// The first of: `Read` with the number of the text, 1 to 3, where a read of it fails; `TooLong` with that number where it has
-/// more bytes than the limit; `Regions`, `Image`, or `Inputs` with the number of the line, counted from 1, where a text isn't of
+/// The first of: `Read` with the number of the text, 1 to 3, if a read of it fails; `TooLong` with that number if it has
+/// more bytes than the limit; `Regions`, `Image`, or `Inputs` with the number of the line, counted from 1, if a text isn't of
 /// its form; `Refused` if the verifier refuses the image, after its line was written; `Write` if a write fails or takes no
 /// byte, after which a prefix of the text was written. `Memory` if memory runs out, also for the outputs; it is never a
 /// refusal's line. After every fault but `Refused` and `Write` nothing was written.
@@ -64,7 +64,7 @@ pub fn session<A: Source, B: Source, C: Source, K: Sink>(
     }
 }
 
-/// Reads the text of this number whole.
+/// Reads the text with this number whole.
 fn read_text<S: Source>(alloc: Global, source: &mut S, number: u8) -> Result<Vec<u8>, SessionFault>
     requires countable { S.failed source.old < u64.MAX }
     ensures whole { IfOk result (λ bytes. IfSome (S.left source.old) (λ text. bytes.items ≡ text)) }

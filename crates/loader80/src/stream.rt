@@ -13,7 +13,7 @@ pub struct Failed;
 
 /// What gives bytes, and counts the reads that failed.
 pub trait Source {
-    // The bytes that are left, where they are known.
+    // The bytes that are left, if they are known.
     ghost left: { Self → Option (List ℕ) };
 
     // How many reads failed so far.
@@ -36,7 +36,7 @@ pub trait Source {
 
 /// What takes bytes, and counts the writes that failed.
 pub trait Sink {
-    // The bytes that were written, where they are known.
+    // The bytes that were written, if they are known.
     ghost written: { Self → Option (List ℕ) };
 
     // How many writes failed so far.

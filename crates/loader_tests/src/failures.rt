@@ -31,7 +31,7 @@ fn cut_off(
     room: usize,
     fails: bool,
 ) -> Result<(Option<SessionFault>, Vec<u8>), AllocError> {
-    // The writer never wants memory: where it fails there is no room.
+    // The writer never wants memory: if it fails there is no room.
     let mut taken = Vec::new(alloc);
     taken.reserve(room)?;
     let mut image = ByteSource::new(&IMAGE, usize::MAX);
@@ -55,12 +55,12 @@ fn a_write_fails_after_each_byte(rt: HostRuntime) -> Result<(), Fail> {
     Ok(())
 }
 
-/// How many reads of a text succeed, where it is that whose reads fail, or another one.
+/// How many reads of a text succeed, if it is that whose reads fail, or another one.
 fn reads_of(fails: bool, reads: usize) -> usize {
     if fails { reads } else { usize::MAX }
 }
 
-/// The fault where the reads of the text of this number fail after so many, and how many bytes are written.
+/// The fault if the reads of the text of this number fail after so many, and how many bytes are written.
 fn fault_after(alloc: Global, number: u8, reads: usize) -> (Option<SessionFault>, usize) {
     let mut image = ByteSource::new(&IMAGE, reads_of(number == 1, reads));
     let mut regions = ByteSource::new(REGIONS, reads_of(number == 2, reads));
@@ -82,7 +82,7 @@ fn a_read_fails_early_or_late(rt: HostRuntime) -> Result<(), Fail> {
     Ok(())
 }
 
-/// The fault where the text of this number never ends, and how many bytes are written.
+/// The fault if the text of this number never ends, and how many bytes are written.
 fn fault_without_end(alloc: Global, number: u8) -> (Option<SessionFault>, usize) {
     let mut image = ByteSource::new(&IMAGE, usize::MAX);
     let mut regions = ByteSource::new(REGIONS, usize::MAX);

@@ -1,4 +1,4 @@
-//! Faults as they are shown, where the program prints them by other types or never.
+//! The texts of faults that the program prints by other types or never.
 
 use bundle80::BundleFault;
 use image80::RegionsFault;

@@ -1,4 +1,4 @@
-//! Tests of the verifier and the loader from outside, by their public names, each call once where memory is there.
+//! Tests of the verifier and the loader from outside, by their public names, each call once if memory is there.
 //!
 //! | Module | What it tests |
 //! |---|---|

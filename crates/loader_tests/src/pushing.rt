@@ -1,4 +1,4 @@
-//! A main program that pushes an argument for a procedure, which puts it out: an image, regions, and the transcript of its run.
+//! A main program that pushes an argument for a procedure, which outputs it: an image, regions, and the transcript of its run.
 
 /// The image.
 #[rattlefmt::skip]

@@ -71,7 +71,7 @@ fn a_vouched_image_is_run(rt: HostRuntime) -> Result<(), Fail> {
     runs_in_pages(&rt, &vouched)
 }
 
-/// The run puts out the argument. It takes no input, so both bytes are left.
+/// The run outputs the argument. It takes no input, so both bytes are left.
 fn runs(rt: &(impl Abort + AllocGlobal), vouched: &Vouched) -> Result<(), Fail> {
     let inputs = read_inputs(rt.alloc(), b"02 41FF\n")?;
     let mut bus = FlatBus::new(rt.alloc(), vouched.image())?;

@@ -35,7 +35,7 @@ impl Answer {
 /// and the byte `value`. A comparison gives `a` back.
 ///
 /// Of `flags` only CY is read, by ADC and SBB; all five flags of the answer are new. CY after a subtraction is the
-/// borrow; AC is the carry out of bit 3 of the addition of the complement, so it is set where the low nibble does not
+/// borrow; AC is the carry out of bit 3 of the addition of the complement, so it is set if the low nibble does not
 /// borrow. After ANA, AC is bit 3 of the OR of the two operands.
 #[inline]
 #[tactic(auto, unfolding(crate::specs::Arithmetic::operation_answer, crate::specs::Flags::bit_of, crate::specs::Flags::has_bit))]
@@ -105,7 +105,7 @@ pub fn decrement(value: u8, flags: Flags) -> Answer
 
 /// DAA: the accumulator `a` after an addition of packed decimal bytes, made packed decimal again.
 ///
-/// AC and CY of `flags` are read. CY is set if there is a third digit, and stays where it was set; AC is the carry
+/// AC and CY of `flags` are read. CY is set if there is a third digit, and stays if it was set; AC is the carry
 /// out of bit 3 of the correction.
 #[inline]
 #[tactic(auto, unfolding(crate::specs::Arithmetic::decimal_answer))]

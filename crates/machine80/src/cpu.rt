@@ -89,7 +89,7 @@ impl Cpu {
         }
     }
 
-    /// Puts a word into a pair.
+    /// Writes a word to a pair.
     #[inline]
     pub fn assign_pair(&mut self, pair: Pair, word: u16)
         ensures { self.new ≡ with_pair self.old pair word }
@@ -103,7 +103,7 @@ impl Cpu {
         }
     }
 
-    /// Puts an answer into the accumulator and the flags.
+    /// Writes a result to the accumulator and the flags.
     #[inline]
     pub fn put(&mut self, answer: Answer)
         ensures { self.new ≡ with_answer self.old answer }
@@ -112,7 +112,7 @@ impl Cpu {
         self.registers.flags = answer.flags;
     }
 
-    /// Puts an answer into a register and the flags.
+    /// Writes a result to a register and the flags.
     #[inline]
     pub fn put_in(&mut self, register: Register, answer: Answer)
         ensures { self.new ≡ with_register_answer self.old register answer }

@@ -6,7 +6,7 @@ ghost use Rattle.machine80.specs.End.{code_of};
 /// How a run ends. `Fetch`, `Stack` and `Direct` are wrong; a vouched image meets none of them.
 #[derive(Clone, Copy, Debug, PartialEq, Eq)]
 pub enum End {
-    /// HLT.
+    /// A HLT was executed.
     Halt,
     /// IN at a port where no byte waits.
     InputEnd(u8),

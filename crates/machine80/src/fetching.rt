@@ -71,7 +71,7 @@ fn spans(range: Range, first: usize, end: usize) -> bool
     start <= first && end <= start + usize::from(range.length)
 }
 
-/// The instruction at an address and the address after it; `None` if its first byte is unused, or where one of its
+/// The instruction at an address and the address after it; `None` if its first byte is unused, or if one of its
 /// bytes is no code or lies past FFFF.
 #[inline(always)]
 #[tactic(auto, unfolding(crate::specs::Step::fetch))]

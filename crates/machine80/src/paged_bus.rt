@@ -54,7 +54,7 @@ impl PagedBus {
     }
 }
 
-/// The page of this number, from 0, of bytes by address.
+/// The page with this number, from 0, of bytes by address.
 fn page_of(bytes: &[u8], number: usize) -> [u8; 256]
     requires { number * 256 + 256 ≤ length bytes.now }
     ensures page { result ≡ take 256 (drop (number * 256) bytes.now) }

@@ -20,7 +20,7 @@ pub trait Ports {
         ensures taken { lists self.new ≡ record (lists self.old) { inputs = without_next (lists self.old).inputs port } }
         ensures whole { length (lists self.new).inputs ≡ 256 };
 
-    /// Puts out a byte at a port, or refuses it; a refused byte is counted and changes nothing else.
+    /// Outputs a byte at a port, or refuses it; a refused byte is counted and changes nothing else.
     ///
     /// # Errors
     /// `PortRefused` if the limit is reached, or memory runs out; never while there is room.

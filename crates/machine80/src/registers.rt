@@ -36,7 +36,7 @@ impl Registers {
         }
     }
 
-    /// Puts a byte into a register, and leaves the others.
+    /// Writes a byte to a register, and leaves the others.
     #[inline]
     pub fn assign(&mut self, register: Register, byte: u8)
         ensures { self.new ≡ with_register self.old register byte }
@@ -97,7 +97,7 @@ impl Registers {
         }
     }
 
-    /// Puts a high and a low byte into a pair that POP names.
+    /// Writes a high and a low byte to a pair that POP names.
     #[inline]
     pub fn assign_stack_pair(&mut self, pair: StackPair, high: u8, low: u8)
         ensures { self.new ≡ with_stack_pair self.old pair high low }

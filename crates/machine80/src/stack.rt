@@ -1,4 +1,4 @@
-//! Instructions that push and pop. Where a byte that they touch is no byte of the stack, nothing changes.
+//! Instructions that push and pop. If a byte that they touch is no byte of the stack, nothing changes.
 
 ghost use Rattle.std.specs.Prelude.{◌≡◌, ◌∷◌, [], ◌/◌, ◌%◌, None, OnOk, OnErr, IfOk};
 ghost use Rattle.std.specs.Result.{result_err};

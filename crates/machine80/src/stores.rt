@@ -1,4 +1,4 @@
-//! Stores to data. Where a byte that is stored is no data, nothing changes.
+//! Stores to data. If a byte that is stored is no data, nothing changes.
 
 ghost use Rattle.std.specs.Prelude.{◌≡◌, ◌∷◌, [], None, OnOk, OnErr};
 ghost use Rattle.std.specs.Result.{result_err};

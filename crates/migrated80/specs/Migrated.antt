@@ -1,4 +1,4 @@
--- What a session says of three texts, where the regions are a text and where they are its migration. (This project's own.)
+-- What a session says of three texts, if the regions are a text and if they are its migration. (This project's own.)
 use Rattle.std.specs.Prelude.{ℕ, List, [], ◌↔◌, Result}
 use Rattle.image80.specs.RegionsText.{Migrates}
 use Rattle.loader80.specs.declared.replies.Outcome.{Outcome}

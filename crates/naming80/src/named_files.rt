@@ -34,7 +34,7 @@ impl<'a> NamedFiles<'a> {
     }
 
     /// The image with its regions, as the files have them, and its names if they are asked for. Both files are read before one is
-    /// looked at.
+    /// checked.
     pub fn read(self, console: Console<'_>) -> Result<(Image, Names), Reported> {
         let bytes = console.read_whole(self.files.image_path())?;
         let text = console.read_whole(self.files.regions_path())?;

@@ -73,7 +73,7 @@ fn write_modules(console: Console<'_>, path: &str, modules: &[Module]) -> Result
     Ok(0)
 }
 
-/// The modules of the object files of these paths, in order. Each file is looked at before the next one is opened.
+/// The modules of the object files of these paths, in order. Each file is checked before the next one is opened.
 fn modules_of(console: Console<'_>, paths: &[&str]) -> Result<Vec<Module>, Reported> {
     let mut modules = Vec::new(console.alloc());
     for path in paths {

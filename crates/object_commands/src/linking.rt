@@ -161,7 +161,7 @@ fn write_outputs(
     Ok(0)
 }
 
-/// What the files of these paths have. Each file is looked at before the next one is opened.
+/// What the files of these paths have. Each file is checked before the next one is opened.
 fn read_files<'a>(console: Console<'_>, paths: &[&'a str]) -> Result<LinkFiles<'a>, Reported> {
     let mut files = LinkFiles {
         roots: Vec::new(console.alloc()),

@@ -32,7 +32,7 @@ segment_layout = record { bytes = segment_bytes; is_sound = λ e. true; read = r
 abbrev pub is_paged : SegmentEntry → Bool
 is_paged e = not (e.alignment == 3)
 
--- ---- a named common: id and name; the id is looked at first
+-- ---- a named common: id and name; the id is checked first
 
 abbrev pub is_common_id : ℕ → Bool
 is_common_id id = nat_le 6 id && nat_le id 254
@@ -50,7 +50,7 @@ read_common bytes = do
 abbrev pub common_layout : Layout CommonEntry
 common_layout = record { bytes = common_bytes; is_sound = λ e. is_common_id e.id && is_name e.name; read = read_common }
 
--- ---- a public: offset, name, a byte that isn't looked at
+-- ---- a public: offset, name, a byte that isn't read
 
 abbrev pub public_bytes : PublicEntry → List ℕ
 public_bytes e = word_bytes e.offset ++ name_spelling e.name ++ e.unread ∷ []
@@ -65,7 +65,7 @@ read_public bytes = do
 abbrev pub public_layout : Layout PublicEntry
 public_layout = record { bytes = public_bytes; is_sound = λ e. is_name e.name; read = read_public }
 
--- ---- an external: name, a byte that isn't looked at
+-- ---- an external: name, a byte that isn't read
 
 abbrev pub external_bytes : ExternalEntry → List ℕ
 external_bytes e = name_spelling e.name ++ e.unread ∷ []

@@ -51,7 +51,7 @@ read_target bytes = do
 
 -- ---- the first fault
 
--- of the fields at the front, where any bytes may follow
+-- of the fields at the front, if any bytes may follow
 pub record FaultsHead {A : Type 0} (read : List ℕ → Result A FieldFault) (bytes : List ℕ) (fault : FieldFault) : Type 0 where
   pub here : read bytes ≡ Err fault
 

@@ -30,7 +30,7 @@ pub record FaultsRow {E : Type 0} (layout : Layout E) (bytes : List ℕ) (fault 
   pub some : 0 < length rest
   pub here : layout.read rest ≡ Err fault
 
--- What a row shows of its bytes: the entries, where the bytes spell some, which are then these alone. (Each entry takes a byte
+-- What a row shows of its bytes: the entries, if the bytes spell some, which are then these alone. (Each entry takes a byte
 -- at least, so there are at most as many as bytes: that is the number.)
 abbrev pub read_row : {E : Type 0} → Layout E → ℕ → List ℕ → Result (List E) FieldFault
 read_row layout zero bytes = Ok []

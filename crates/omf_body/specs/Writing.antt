@@ -6,7 +6,7 @@ use Rattle.omf_body.specs.declared.body.Place.{Place}
 use Rattle.omf_body.specs.declared.body.Body.{Body}
 use Rattle.omf_body.specs.Bodies.{body_bytes, record_bytes}
 
--- The record of this body is appended where it fits, else nothing is: TooLong only if the body has more than 65534 bytes.
+-- The record of this body is appended if it fits, else nothing is: TooLong only if the body has more than 65534 bytes.
 pub record Appends (body : Body) (old new : List ℕ) (result : Result (Unit {0}) PutFault) : Type 0 where
   pub appended : OnOk result (new ≡ old ++ record_bytes body)
   pub fits : OnOk result (length (body_bytes body) ≤ 65534)

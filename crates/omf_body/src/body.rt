@@ -1,4 +1,4 @@
-//! What the bodies of records hold, kind by kind. Bytes that aren't looked at are kept as `unread`.
+//! What the bodies of records hold, kind by kind. Bytes that aren't read are kept as `unread`.
 //! (8080 Object Module Formats, record formats.)
 
 use crate::bytes::Bytes;
@@ -10,7 +10,7 @@ use crate::name::NameBytes;
 use crate::row::Row;
 
 /// A module header (02): the module's name, the id and the version of the translator that made it, neither of which is
-/// looked at, and its segments.
+/// read, and its segments.
 #[derive(Drop)]
 pub struct HeaderBody<'a> {
     pub name: NameBytes<'a>,
@@ -26,7 +26,7 @@ pub struct Place {
     pub offset: u16,
 }
 
-/// A module end (04): the start where the module is a main program. Bytes after that aren't looked at.
+/// A module end (04): the start if the module is a main program. Bytes after that aren't read.
 #[derive(Debug, Drop)]
 pub struct EndBody<'a> {
     pub start: Option<Place>,

@@ -1,4 +1,4 @@
-//! The entries that bodies repeat. A byte that isn't looked at is kept as `unread`; it is written as 00.
+//! The entries that bodies repeat. A byte that isn't read is kept as `unread`; it is written as 00.
 //! (8080 Object Module Formats, record formats.)
 
 ghost use Rattle.std.specs.Prelude.{◌≡◌};

@@ -179,7 +179,7 @@ fn body_in<'a>(kind: RecordKind, bytes: &'a [u8]) -> Option<Result<Body<'a>, Fie
 /// `BadBody` if the body ends inside a field, a field byte isn't 1, 2 or 3, the main byte of an end isn't 0 or 1, the id
 /// of a common is outside 6 to 254, or an id is listed twice in a header;
 /// `BadName` if a name that the body holds whole has no bytes, or one outside 21h to 7Eh.
-/// The ids and the names of all commons of a module must differ: that is not looked at here.
+/// The ids and the names of all commons of a module must differ: that is not checked here.
 pub fn parse<'a>(source: Record<'a>) -> Result<Body<'a>, BodyFault>
     // What is read is what the body's bytes spell, and no body that they spell is refused or read as another.
     ensures read { IfOk result (λ body. Spells source.entry.kind source.entry.body.now body) }

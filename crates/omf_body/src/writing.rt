@@ -1,4 +1,4 @@
-//! The one way in which each body is written: a whole record, appended to a file. Bytes that aren't looked at are written
+//! The one way in which each body is written: a whole record, appended to a file. Bytes that aren't read are written
 //! as 00. (8080 Object Module Formats, record formats.)
 
 ghost use Rattle.std.specs.Prelude.{◌≡◌, ◌++◌, IfOk, OnOk};
@@ -300,7 +300,7 @@ fn end_bytes(alloc: Global, start: Option<Place>) -> Result<Vec<u8>, AllocError>
     Vec::from_slice(alloc, &bytes)
 }
 
-/// Appends a module end (04), with the start where the module is a main program.
+/// Appends a module end (04), with the start if the module is a main program.
 ///
 /// # Errors
 /// `TooLong` only if the body would have more than 65534 bytes, and then never `Ok`; `Memory` only if there is no

@@ -15,7 +15,7 @@ LastingFaultsLast =
     → LastingRecordFault bytes fault
     → LastingRecordFault (bytes ++ more) fault
 
--- Where the whole records are counted, no fault lasts.
+-- If the whole records are counted, no fault lasts.
 abbrev pub CountedHaveNone : Type 0
 CountedHaveNone =
     (bytes : List ℕ) (count : ℕ) (fault : RecordFault)

@@ -17,7 +17,7 @@ pub struct Feed {
     kept: Option<RecordFault>,
 }
 
-/// How far bytes are read: `count` records up to place `at`, the last of which ends the file where `ended`.
+/// How far bytes are read: `count` records up to place `at`, the last of which ends the file if `ended`.
 #[derive(Clone, Copy, Debug)]
 pub(crate) struct Progress {
     at: usize,

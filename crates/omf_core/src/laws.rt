@@ -126,7 +126,7 @@ pub fn lasting_faults_last()
     ensures { LastingFaultsLast }
 {}
 
-/// Where whole records are counted, no fault lasts.
+/// If whole records are counted, no fault lasts.
 pub fn counted_have_none()
     ensures { CountedHaveNone }
 {}

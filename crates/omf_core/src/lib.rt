@@ -1,6 +1,6 @@
 //! Records and names of Intel's 8080 object files (OMF-80): the lowest layer of the object-file side.
 //!
-//! - [`next_record`] reads the record that begins at a place, [`is_cut_off`] says where the bytes end before one does,
+//! - [`next_record`] reads the record that begins at a place, [`is_cut_off`] says whether the bytes end before one does,
 //!   [`put_record`] appends one, and [`sum_of`] is the sum that both use; [`push_word`] and [`push_name`] append what bodies
 //!   are made of, and [`never_too_long`] is for bodies that fit a record;
 //! - [`RecordKind`] names the kinds of the standard;

@@ -16,7 +16,7 @@ const LONGEST_BODY: usize = 65534;
 ///
 /// # Errors
 /// `TooLong` exactly where the body has more than 65534 bytes, which is tested first;
-/// `Memory` only if `out` can't grow, which it needn't where it has room for the record.
+/// `Memory` only if `out` can't grow, which it needn't if it has room for the record.
 /// After either, `out` holds the bytes that it held.
 pub fn put_record(_alloc: Global, kind: u8, body: &[u8], out: &mut Vec<u8>) -> Result<(), PutFault>
     ensures appended { OnOk result (out.new.items ≡ out.old.items ++ spelling kind body.now) }

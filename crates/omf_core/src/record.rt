@@ -74,7 +74,7 @@ fn counted_by(rest: &[u8], at: usize) -> Result<usize, RecordFault>
     Ok(counted)
 }
 
-/// Whether the bytes end before the record that begins at place `at` does: where [`next_record`] answers `Truncated`. No sum is
+/// Whether the bytes end before the record that begins at place `at` does: if [`next_record`] answers `Truncated`. No sum is
 /// made, and it takes no memory.
 pub fn is_cut_off(bytes: &[u8], at: usize) -> bool
     ensures { IsTrue result ↔ (fault_at (drop at bytes.now) at ≡ Some (RecordFault.Truncated at)) }

@@ -11,7 +11,7 @@ LastingFaultsLast =
     → LastingLibraryFault bytes fault
     → LastingLibraryFault (bytes ++ more) fault
 
--- Where the whole modules are counted, no fault lasts.
+-- If the whole modules are counted, no fault lasts.
 abbrev pub CountedHaveNone : Type 0
 CountedHaveNone =
     (bytes : List ℕ) (count : ℕ) (fault : LibraryFault)

@@ -11,7 +11,7 @@ use Rattle.omf_parts.specs.Modules.{ModuleValue}
 abbrev pub declares : List ℕ → ModuleValue → Bool
 declares name m = list_any (λ p. pointwise nat_eq p.name name) m.publics
 
--- the place of the first module that declares the name, where the list starts at place `at`
+-- the place of the first module that declares the name, if the list starts at place `at`
 abbrev pub first_provider_from : ℕ → List ModuleValue → List ℕ → Option ℕ
 first_provider_from at modules name = position_from (declares name) at modules
 

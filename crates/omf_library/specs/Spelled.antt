@@ -47,7 +47,7 @@ is_indexed [] = false
 is_indexed (r ∷ rs) = true
 
 -- The bytes spell the modules as a library: a header that says how many there are, the modules one after another, index
--- records, and an end-of-file record. What stands after it isn't looked at.
+-- records, and an end-of-file record. What stands after it isn't read.
 pub record SpellsLibrary (bytes : List ℕ) (modules : List ModuleValue) : Type 0 where
   pub first : ℕ
   pub index : ℕ
@@ -68,7 +68,7 @@ pub data FaultsLibraryHeader (bytes : List ℕ) : LibraryFault → Type 0 where
   no_header : (next kind : ℕ) (body : List ℕ) → SpellsRecord bytes 0 next kind body → is_library_header kind body ≡ false
       → FaultsLibraryHeader bytes NotLibrary
 
--- a record by which the library goes on: of the index, or a module header where no index record stands before it
+-- a record by which the library goes on: of the index, or a module header if no index record stands before it
 abbrev pub goes_on : Bool → ℕ → Bool
 goes_on indexed byte = is_index_kind byte || (not indexed && byte == kind_byte kind.ModuleHeader)
 

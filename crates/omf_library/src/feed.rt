@@ -52,7 +52,7 @@ impl LibraryFeed {
     }
 
     /// Takes a piece of the library, and gives the number of whole modules so far. A record or a module that the piece cuts off
-    /// is completed by later pieces; bytes after the end-of-file record aren't looked at.
+    /// is completed by later pieces; bytes after the end-of-file record aren't read.
     ///
     /// # Errors
     /// A fault other than `Memory` exactly where [`read_library`](crate::read_library) gives it on all bytes so far, this piece's
@@ -99,7 +99,7 @@ impl LibraryFeed {
     /// The library that the bytes of all pieces are, as [`read_library`](crate::read_library) reads them.
     ///
     /// # Errors
-    /// The fault that is kept; or the fault of the bytes, as [`read_library`](crate::read_library) gives it. `Memory` only where
+    /// The fault that is kept; or the fault of the bytes, as [`read_library`](crate::read_library) gives it. `Memory` only if
     /// there is none.
     pub fn finish(self) -> Result<Library, LibraryFault>
         ensures kept { (fault : LibraryFaultValue) → self.kept ≡ Some fault → result ≡ Err fault }

@@ -45,7 +45,7 @@ pub fn lasting_faults_last()
     ensures { LastingFaultsLast }
 {}
 
-/// Where whole modules are counted, no fault lasts.
+/// If whole modules are counted, no fault lasts.
 pub fn counted_have_none()
     ensures { CountedHaveNone }
 {

@@ -14,15 +14,15 @@ use std::alloc::Global;
 
 /// The library that a file holds: a library header, whose first word says how many modules there are, the modules, library
 /// module locations (26), library module names (28) and library dictionary records (2A) in any order and number, whose
-/// bodies aren't looked at, and an end-of-file record. Bytes after that aren't looked at.
+/// bodies aren't read, and an end-of-file record. Bytes after that aren't read.
 /// (8080 Object Module Formats, library file.)
 ///
 /// # Errors
 /// The first fault by place: `NotLibrary` if there is no byte, or the first record isn't a library header with a body of
 /// two bytes at least; `NoEnd` if no byte stands between modules or after them; `Module` if the bytes there are no
-/// record (`Record`), where a record of another type stands there (`UnknownKind`; so is a module header after an index
-/// record), and where a module has a fault, as [`read_module`](omf_module::read_module) gives it; `CountDiffers` at the
-/// end-of-file record where the header says another number of modules than were found. `Memory` only if there is none.
+/// record (`Record`), if a record of another type stands there (`UnknownKind`; so is a module header after an index
+/// record), and if a module has a fault, as [`read_module`](omf_module::read_module) gives it; `CountDiffers` at the
+/// end-of-file record if the header says another number of modules than were found. `Memory` only if there is none.
 pub fn read_library(alloc: Global, bytes: &[u8]) -> Result<Library, LibraryFault>
     // What is read is what the bytes spell, and nothing that they spell is refused or read as another.
     ensures read { IfOk result (SpellsLibrary bytes.now) }

@@ -238,7 +238,7 @@ fn read_after_index(
     Ok(Some(progress))
 }
 
-/// The fault of bytes that end at a place, or inside the record there; `none` is that where no byte stands there.
+/// The fault of bytes that end at a place, or inside the record there; `none` is that if no byte stands there.
 fn fault_where_cut(bytes: &[u8], at: usize, none: LibraryFault) -> LibraryFault
     ensures { FaultsWhereCut bytes.now at none result }
 {
@@ -264,7 +264,7 @@ impl UnfinishedLibrary {
         }
     }
 
-    /// Reads the header, where it is whole.
+    /// Reads the header, if it is whole.
     fn read_header(&mut self, bytes: &[u8]) -> Result<Option<Progress>, LibraryFault>
         requires { self.old.modules.items ≡ [] }
         ensures modules { self.new.modules.items ≡ self.old.modules.items }

@@ -26,7 +26,7 @@ with_earlier before (x ∷ xs) = (before, x) ∷ with_earlier (before ++ x ∷ [
 abbrev pub unknown_segments : ModuleValue → List ℕ → List Cause
 unknown_segments m ids = map SegmentUnknown (filter (λ id. not (has_segment m.commons id)) ids)
 
--- the content that fixups speak of where these records stand before them: the last that they begin, with its fixups so far
+-- the content that fixups speak of if these records stand before them: the last that they begin, with its fixups so far
 abbrev pub nearest_content : List PlacedBody → Option ContentValue
 nearest_content before = last_or None (contents_begun before)
 

@@ -73,11 +73,11 @@ records_of m =
 abbrev pub OrNoMemory : (ModuleFault → Type 0) → ModuleFault → Type 0
 OrNoMemory Faults fault = (fault ≡ no_memory) ⊎ Faults fault
 
--- parts with other contents: what a record uses is looked at while contents are still gathered
+-- parts with other contents: what a record uses is checked while contents are still gathered
 abbrev pub with_contents : ModuleValue → List ContentValue → ModuleValue
 with_contents p contents = record p { contents = contents }
 
--- A record was looked at, and what it says of contents was taken: it has no fault, `nearest` is the nearest content after it,
+-- A record was checked, and what it says of contents was taken: it has no fault, `nearest` is the nearest content after it,
 -- and the one before stands among those that are whole where a new one begins.
 pub record TakesBody (p : ModuleValue) (before : Option ContentValue) (body : Body) (old new : List ContentValue)
     (after : Option ContentValue) : Type 0 where

@@ -107,7 +107,7 @@ pub record FaultsRecords (bytes : List ℕ) (first : ℕ) (fault : ModuleFault) 
   pub faults : FaultsWithin bytes here (commons_of before) why
   pub is : fault ≡ fault_by here why
 
--- The first fault of the module that should begin at a place: of its header, of a record after it, or, where all of its
+-- The first fault of the module that should begin at a place: of its header, of a record after it, or, if all of its
 -- records are there, of what they use.
 pub data FaultsModule (bytes : List ℕ) (at : ℕ) : ModuleFault → Type 0 where
   in_header : (why : Cause) → FaultsHeader bytes at why → FaultsModule bytes at (fault_by at why)
@@ -129,7 +129,7 @@ pub record EndsFile (bytes : List ℕ) (at : ℕ) : Type 0 where
   pub body : List ℕ
   pub spelled : SpellsRecord bytes at next (kind_byte kind.EndOfFile) body
 
--- The bytes spell the modules as an object file: one at least, and an end-of-file record. What stands after it isn't looked at.
+-- The bytes spell the modules as an object file: one at least, and an end-of-file record. What stands after it isn't read.
 pub record SpellsFile (bytes : List ℕ) (modules : List ModuleValue) : Type 0 where
   pub some : 0 < length modules
   pub end : ℕ

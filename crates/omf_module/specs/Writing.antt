@@ -1,5 +1,5 @@
 -- The canonical form in which a module is written, as the bodies of its records: header, commons, publics, externals, contents
--- with their fixups, end. Bytes that aren't looked at are written as 00.
+-- with their fixups, end. Bytes that aren't read are written as 00.
 -- (8080 Object Module Formats; the order of the records is this project's.)
 use Rattle.std.specs.Prelude.{ℕ, ◌==◌, if◌then◌else◌, Option, option_map, List, [], ◌∷◌, ◌++◌, map}
 use Rattle.std.specs.List.{flat_map}

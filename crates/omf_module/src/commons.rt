@@ -25,7 +25,7 @@ pub(crate) fn kept(alloc: Global, name: &NameBytes) -> Result<Name, AllocError>
     }
 }
 
-/// Reads a common that is new after those before: first its id is looked at, then its name.
+/// Reads a common that is new after those before: first its id is checked, then its name.
 fn new_common<'a>(cursor: &mut Cursor<'a>, before: &[Common]) -> Result<CommonEntry<'a>, FieldFault>
     ensures read { IfOk result (λ common. read_new_common before.now cursor.old ≡ Ok (common_of common, cursor.new)) }
     ensures spelled { IfOk result (λ common. cursor.old ≡ common_bytes common ++ cursor.new) }
@@ -44,7 +44,7 @@ fn new_common<'a>(cursor: &mut Cursor<'a>, before: &[Common]) -> Result<CommonEn
     Ok(CommonEntry { id, name })
 }
 
-/// Takes the commons of a record, where each is new.
+/// Takes the commons of a record, if each is new.
 pub(crate) fn take_commons(
     alloc: Global,
     body: &[u8],

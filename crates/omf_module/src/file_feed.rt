@@ -80,7 +80,7 @@ impl FileFeed {
     }
 
     /// Takes a piece of the file, and gives the number of whole modules so far. What the piece cuts off is completed by later
-    /// pieces; pieces after the end-of-file record are taken, and aren't looked at.
+    /// pieces; pieces after the end-of-file record are taken, and aren't read.
     ///
     /// # Errors
     /// The fault of [`read_file`](crate::read_file) exactly where all bytes so far, this piece's too, have it whatever bytes

@@ -19,7 +19,7 @@ use std::alloc::Global;
 
 /// How far the module is read that begins at place `begin`: its records are checked up to place `here`, and declare these
 /// commons.
-/// Where that is `begin`, nothing is checked.
+/// If that is `begin`, nothing is checked.
 #[derive(Debug, Drop)]
 pub struct UnfinishedModule {
     pub begin: usize,

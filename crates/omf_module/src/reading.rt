@@ -58,7 +58,7 @@ fn without_contents(
     })
 }
 
-/// The contents that the records of a module say, where they use nothing that isn't there; `draft` has the other parts.
+/// The contents that the records of a module say, if they use nothing that isn't there; `draft` has the other parts.
 fn used_contents(
     alloc: Global,
     draft: &Parts,
@@ -80,7 +80,7 @@ fn used_contents(
     }
 }
 
-/// The parts that the records of a module say, where they use nothing that isn't there, and these are its commons.
+/// The parts that the records of a module say, if they use nothing that isn't there, and these are its commons.
 fn parts_of(alloc: Global, file: &ModuleFile, commons: Vec<Common>) -> Result<Parts, ModuleFault>
     requires { commons.items ≡ commons_of file.now.within.bodies.items }
     ensures parts { IfOk result (λ parts. parts ≡ parts_of (records_of file.now)) }
@@ -120,11 +120,11 @@ pub(crate) fn module_at(
 
 /// The module that begins at place `at` of an object file, and the place after its end record.
 ///
-/// All records up to the end are looked at first, by place, and within a record by its fields in order: `Record` if the
+/// All records up to the end are read first, by place, and within a record by its fields in order: `Record` if the
 /// bytes are no record; `NoHeader` if no byte stands at `at`, or a record that isn't a module header; `UnknownKind` of a
 /// record that may not stand in a module; `BadBody` if a body ends inside a field, a field has no listed value, or an id
 /// or a common's name is listed twice; `BadName` of a name that is empty or has other bytes than 21h to 7Eh; `NoEnd` if no
-/// byte stands where a record should, or an end-of-file record. Only then what they use is looked at, and the first of
+/// byte stands where a record should, or an end-of-file record. Only then what they use is checked, and the first of
 /// `SegmentUnknown`, `OffsetOutside`, `FixupBeforeContent`, `FixupOutside`, `FixupTwice` and `IndexUnknown` is given, by entries
 /// in order, and for one entry in this order.
 /// (8080 Object Module Formats, module.)
@@ -157,7 +157,7 @@ pub fn read_module(alloc: Global, bytes: &[u8], at: usize) -> Result<(Module, us
 }
 
 /// The modules of an object file, which are one or more, up to the end-of-file record after them. Bytes after that aren't
-/// looked at. A file that comes in pieces is read by a [`FileFeed`]. (8080 Object Module Formats, object file.)
+/// read. A file that comes in pieces is read by a [`FileFeed`]. (8080 Object Module Formats, object file.)
 ///
 /// # Errors
 /// The first fault of the modules as they stand, as [`read_module`] gives it; `NoEnd` if no byte stands after a module;

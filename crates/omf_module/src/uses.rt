@@ -1,4 +1,4 @@
-//! What the records of a module use, looked at once all of them are read.
+//! What the records of a module use, checked once all of them are read.
 
 ghost use Rattle.std.specs.Prelude.{◌≡◌, ◌≢◌, ◌++◌, List, [], ◌∷◌, None, Some, option_map, IfOk, IfErr, OnOk, map};
 ghost use Rattle.std.specs.Option.{option_or, option_to_list};

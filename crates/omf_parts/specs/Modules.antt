@@ -20,6 +20,6 @@ pub record ModuleValue : Type 0 where
 abbrev pub made_of : ModuleValue → ModuleValue
 made_of p = record p { segments = canonical_segments p.segments p.commons }
 
--- the segment of an id, where the module has one
+-- the segment of an id, if the module has one
 abbrev pub segment_of : ModuleValue → ℕ → Option Segment
 segment_of m id = if has_segment m.commons id then Some (segment_in m.segments id) else None

@@ -65,7 +65,7 @@ impl Module {
     ///
     /// # Errors
     /// `Rule` exactly where the parts don't keep the rules: an id that is used is of no segment that the module has
-    /// (ids 0 to 4 and 255 always exist, 6 to 254 where a common has it); an id stands twice in `segments` or in
+    /// (ids 0 to 4 and 255 always exist, 6 to 254 if a common has it); an id stands twice in `segments` or in
     /// `commons`, or a common's name twice; a common's id is outside 6 to 254; a content is in STACK, passes the end of its
     /// segment (of absolute bytes: 65536) or has more than 65531 bytes; a fixup's bytes aren't all in its content, or
     /// one of them is another fixup's; an external index isn't below the number of externals.
@@ -204,7 +204,7 @@ impl Module {
         self.contents.as_slice()
     }
 
-    /// The segment and the offset where the program starts, where the module is a main program.
+    /// The segment and the offset where the program starts, if the module is a main program.
     pub fn start(&self) -> Option<(u8, u16)>
         ensures value { result ≡ self.now.start }
         ensures rules { IsModule self.now }

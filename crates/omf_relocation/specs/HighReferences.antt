@@ -15,7 +15,7 @@ is_high Low = false
 is_high High = true
 is_high Both = false
 
--- the fixup takes the high byte of a word that isn't a multiple of 256, where each target has a word
+-- the fixup takes the high byte of a word that isn't a multiple of 256, if each target has a word
 abbrev pub loses_with : (Target → ℕ) → Fixup → Bool
 loses_with word f = is_high f.field && not (word f.target % 256 == 0)
 

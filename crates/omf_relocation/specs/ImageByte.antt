@@ -41,7 +41,7 @@ abbrev pub word_to : (segment external : ℕ → ℕ) → Target → ℕ
 word_to segment external (target.Segment id) = segment id
 word_to segment external (target.External index) = external index
 
--- a fixup of a content that begins at offset `first`, where each target has a word
+-- a fixup of a content that begins at offset `first`, if each target has a word
 abbrev pub patch_with : (Target → ℕ) → (first : ℕ) → Fixup → Patch
 patch_with word first f = record { at = f.offset - first; field = f.field; word = word f.target }
 

@@ -14,7 +14,7 @@ LowTwice = (b u v : ℕ) → ((b + u % 256) % 256 + v % 256) % 256 ≡ (b + (u +
 abbrev pub BothTwice : Type 0
 BothTwice = (w u v : ℕ) → ((w + u) % 65536 + v) % 65536 ≡ (w + (u + v) % 65536) % 65536
 
--- to a high byte, where one of the two words is a multiple of 256
+-- to a high byte, if one of the two words is a multiple of 256
 abbrev pub HighTwice : Type 0
 HighTwice = (b u v : ℕ) → (u % 256 ≡ 0) ⊎ (v % 256 ≡ 0) →
     ((b + u / 256 % 256) % 256 + v / 256 % 256) % 256 ≡ (b + (u + v) % 65536 / 256 % 256) % 256
@@ -31,7 +31,7 @@ PatchedTwice =
     → with_patches (patch_by field at v ∷ []) (with_patches (patch_by field at u ∷ []) bytes)
     ≡ with_patches (patch_by field at ((u + v) % 65536) ∷ []) bytes
 
--- So it is for all references of a content: each is increased by a first word, and by a second one where it is still a
+-- So it is for all references of a content: each is increased by a first word, and by a second one if it is still a
 -- reference then, which comes to one total.
 pub record TwoWords : Type 0 where
   pub at : ℕ

@@ -19,7 +19,7 @@ pub record LiesIn (m : ModuleValue) (c : ContentValue) : Type 0 where
   pub within : c.offset + length c.bytes ≤ end_of m.segments c.segment
   pub in_record : length c.bytes ≤ 65531
 
--- a fixup as a patch of bytes whose first one has the offset `first`, where it adds this word
+-- a fixup as a patch of bytes whose first one has the offset `first`, if it adds this word
 abbrev pub as_patch : ℕ → (Fixup → ℕ) → Fixup → Patch
 as_patch first word f = record { at = f.offset - first; field = f.field; word = word f }
 

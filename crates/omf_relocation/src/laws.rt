@@ -5,7 +5,7 @@ ghost use Rattle.omf_relocation.specs.PatchLaws.{LowTwice, BothTwice, HighTwice,
 ghost use Rattle.omf_relocation.specs.SoundModules.{SoundModulesKeepRules, CommonsByName, PartsOfOneStartAtZero};
 
 /// Adding a part's start to a reference and then a base is adding their sum: to a low byte, to a word, and to a high byte
-/// where one of the two is a multiple of 256; and so in the bytes of a content, for one fixup and for all of them together.
+/// if one of the two is a multiple of 256; and so in the bytes of a content, for one fixup and for all of them together.
 pub fn adding_twice_is_adding_once()
     ensures low { LowTwice }
     ensures both { BothTwice }

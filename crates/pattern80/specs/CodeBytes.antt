@@ -1,4 +1,4 @@
--- The bytes of a module's code where each target has a value.
+-- The bytes of a module's code if each target has a value.
 -- (8080 Object Module Formats: relocation, intersegment and external reference records.)
 use Rattle.std.specs.Prelude.{ℕ, ◌+◌, ◌/◌, ◌%◌, Bool, true, false}
 use Rattle.omf_parts.specs.declared.fixup.Target.{Target}
@@ -17,7 +17,7 @@ abbrev pub half_of : Half → ℕ → ℕ
 half_of Low word = word % 256
 half_of High word = word / 256 % 256
 
--- the byte, where the values go by their numbers
+-- the byte, if the values go by their numbers
 abbrev pub byte_by : (value : ℕ → ℕ) → CodeByte → ℕ
 byte_by value b = half_of b.half ((value (number_of b.target) + b.addend) % 65536)
 

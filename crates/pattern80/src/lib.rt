@@ -6,7 +6,7 @@
 //! | [`code_bytes`] | the bytes that a module's contents define in CODE |
 //! | [`CodeByte`], [`Half`] | a byte of the code: half of the word that is a target's value plus an addend |
 //! | [`Resolved`] | what the target of a fixup stands for |
-//! | [`number_of`], [`target_of`] | the number by which a target's value goes, and the target of a number |
+//! | [`number_of`], [`target_of`] | the number by which a target's value goes, and the target with a number |
 #![tactic(auto)]
 
 mod code_byte;

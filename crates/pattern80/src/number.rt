@@ -13,7 +13,7 @@ pub fn number_of(target: Target) -> usize
     }
 }
 
-/// The target of a number.
+/// The target with this number.
 pub fn target_of(number: usize) -> Target
     requires { number < 65792 }
     ensures { number_of result ≡ number }

@@ -16,7 +16,7 @@ use omf_parts::{Content, Field, Fixup, Module, Target};
 use omf_relocation::laws::sound_modules_keep_rules;
 use std::alloc::{AllocError, Global};
 
-/// The bytes that the module's contents define in CODE, in ascending order of their offsets. Where two contents cover an offset
+/// The bytes that the module's contents define in CODE, in ascending order of their offsets. If two contents cover an offset
 /// the byte is the later one's.
 ///
 /// # Errors

@@ -1,6 +1,6 @@
 -- Where LOCATE places the segments of a program.
 -- (ISIS-II User's Guide, LOCATE: the order of segments, their bases, and the sizes of STACK and MEMORY. The base of CODE
--- where no option gives one is this project's own.)
+-- if no option gives one is this project's own.)
 use Rattle.std.specs.Prelude.{ℕ, ◌+◌, ◌%◌, ◌==◌, if◌then◌else◌, Option, None, unwrap_or, List, [], ◌∷◌, ◌++◌, filter, find, map}
 use Rattle.std.specs.List.{range_with_len}
 use Rattle.omf_parts.specs.declared.symbols.Common.{Common}

@@ -15,7 +15,7 @@ use Rattle.place80.specs.PlaceFault.{overlaps, is_in_placed, absolute_place, lay
 abbrev pub HasItsLength : Options → ModuleValue → Placed → Type 0
 HasItsLength options m p = p.length ≡ unwrap_or (given_length options p.id) (own_segment m p.id).length
 
--- it stands at the base that is given for it, or at the end of the one before it, at the next multiple of 256 where it is
+-- it stands at the base that is given for it, or at the end of the one before it, at the next multiple of 256 if it is
 -- paged
 abbrev pub Follows : Options → ModuleValue → Placed → Placed → Type 0
 Follows options m before p =
@@ -49,7 +49,7 @@ abbrev pub OverlapIsASharedAddress : Type 0
 OverlapIsASharedAddress = (p q : Placed)
     → overlaps p q ≡ true ↔ ((address : ℕ) × (is_in_placed p address ≡ true) × (is_in_placed q address ≡ true))
 
--- the segment ends with memory or before it, and where it is MEMORY, it holds all of its content
+-- the segment ends with memory or before it, and if it is MEMORY, it holds all of its content
 pub record LiesInMemory (contents : List ContentValue) (p : Placed) : Type 0 where
   pub «end» : p.base + p.length ≤ 65536
   pub content : p.id ≡ memory_id → All (λ c. c.segment ≡ memory_id → c.offset + length c.bytes ≤ p.length) contents

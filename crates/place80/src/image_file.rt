@@ -87,7 +87,7 @@ fn content_of(alloc: Global, chunk: &Chunk) -> Result<Content, AllocError>
 
 /// The image that an object file holds, with these regions. The file has one module, which has a start and no external
 /// names, and whose contents and start stand in segment 0 and have no references. Its publics, its commons and the
-/// segments of its header aren't looked at.
+/// segments of its header aren't read.
 ///
 /// # Errors
 /// The first of: `Module` if the bytes are no object file, `NotOneModule`, `NotAbsolute`, `NoStart`; or `Memory`, only

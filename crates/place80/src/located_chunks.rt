@@ -41,7 +41,7 @@ fn loses_its_low_byte(segments: &[Placed], fixup: Fixup) -> bool
     }
 }
 
-/// The word that a fixup adds. No external is left where a program is located.
+/// The word that a fixup adds. No external is left once a program is located.
 fn target_word(segments: &[Placed], target: Target) -> u16
     ensures { result ≡ word_among segments.now target }
 {

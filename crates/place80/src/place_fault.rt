@@ -3,7 +3,7 @@ use std::alloc::{AllocError, AllocFailed};
 use thiserror::Error;
 
 /// Why a program can't be located: the first of these that holds, in the order of their numbers, or that memory
-/// ran out. Segments and pairs of them are looked at in the order of their places: CODE, STACK, the named commons by id,
+/// ran out. Segments and pairs of them are checked in the order of their places: CODE, STACK, the named commons by id,
 /// the unnamed common, DATA, MEMORY.
 #[derive(Debug, PartialEq, Eq, Drop, Error)]
 pub enum PlaceFault {
@@ -13,7 +13,7 @@ pub enum PlaceFault {
     /// The module is no main program.
     #[error("NoStart")]
     NoStart,
-    /// The first segment, by its id, that passes the end of memory, or MEMORY where its length no longer holds its content.
+    /// The first segment, by its id, that passes the end of memory, or MEMORY if its length no longer holds its content.
     #[error("OutsideMemory {0:02X}")]
     OutsideMemory(u8),
     /// The first two segments that share an address, by their ids, or else the first absolute content, named 0, and

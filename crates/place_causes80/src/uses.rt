@@ -55,7 +55,7 @@ fn high_of(segments: &[Placed], content: &Content, fixup: Fixup) -> Option<Use>
     }
 }
 
-/// The word that a fixup adds. No external is left where a program's segments are placed.
+/// The word that a fixup adds. No external is left once a program's segments are placed.
 fn target_word(segments: &[Placed], target: Target) -> u16
     ensures { result ≡ word_among segments.now target }
 {

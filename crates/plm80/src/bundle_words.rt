@@ -11,7 +11,7 @@ use std::io::{ErrorKind, Read};
 /// The line between the regions and the inputs.
 const INPUTS: &[u8] = b"INPUTS\n";
 
-/// A reader that keeps what came of it, if faults are explained, and why a read failed.
+/// A reader that keeps the bytes that it gave, if faults are explained, and why a read failed.
 #[derive(Drop)]
 pub struct CopiedReader<'a, R> {
     console: Console<'a>,

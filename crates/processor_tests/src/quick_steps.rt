@@ -58,7 +58,7 @@ fn same_memory(left: &FlatBus, right: &PagedBus) -> bool {
     true
 }
 
-/// The state before a step: the instruction ends at FFFF where it is at the end of memory.
+/// The state before a step: the instruction ends at FFFF if it is at the end of memory.
 fn state(set: Set, flags: u8, pc: u16) -> Cpu {
     let (a, b, c, d, e, h, l) = set;
     Cpu {
@@ -77,14 +77,14 @@ fn state(set: Set, flags: u8, pc: u16) -> Cpu {
     }
 }
 
-/// Puts an instruction with the operand 1234 at an address.
+/// Writes an instruction with the operand 1234 to an address.
 fn put<B: Bus>(bus: &mut B, opcode: u8, pc: u16) {
     bus.store(pc, opcode);
     bus.store(pc.wrapping_add(1), 0x34);
     bus.store(pc.wrapping_add(2), 0x12);
 }
 
-/// Whether both steps from a state come to the same end, registers, outputs and inputs, where ports of this kind have an input
+/// Whether both steps from a state come to the same end, registers, outputs and inputs, if ports of this kind have an input
 /// byte or none, and room for one output or for none.
 fn steps_agree(
     alloc: Global,

@@ -42,7 +42,7 @@ LeadsBy code (Refuse _) targets next to = ⊥
 abbrev pub LeadsFrom : Code → (at : ℕ) → Fetched → (to : ℕ) → Type 0
 LeadsFrom code at found to = LeadsBy code (effect_of found.instr) (code.targets at) found.next to
 
--- what is found is reached and looked at, and stands in the queue, each address once
+-- what is found is reached and visited, and stands in the queue, each address once
 pub record IsSearch (code : Code) (table : List (Option Fetched)) (queue : List ℕ) : Type 0 where
   pub whole : length table ≡ 65536
   pub found : (at : ℕ) (found : Fetched) → found_at table at ≡ Some found → IsReached code at × (code.look at ≡ Ok found)

@@ -1,5 +1,5 @@
 -- Why LINK takes a module from a library: the name that is needed, and the module that needs it.
--- (ISIS-II User's Guide, LINK: a module of a library is included where it resolves an external. Which need is named, of several,
+-- (ISIS-II User's Guide, LINK: a module of a library is included if it resolves an external. Which need is named, of several,
 -- and the form of the lines are this project's own.)
 use Rattle.std.specs.Prelude.{◌≡◌, ℕ, suc, ◌+◌, ◌<◌, ◌≤◌, ◌⊎◌, false, Some, List, [], ◌∷◌, ◌++◌, codes, length, slice_get, slice_index_or, Contains}
 use Rattle.std.specs.List.{concat, list_any, AllZip}

@@ -16,7 +16,7 @@ use Rattle.find80.specs.Places.{dump_byte}
 use Rattle.found80.specs.Chunks.{is_code}
 use Rattle.found80.specs.LinkLaws.{LiesInLink}
 
--- a content in CODE of the module with this number covers the address, where the link's modules have these bases
+-- a content in CODE of the module with this number covers the address, if the link's modules have these bases
 abbrev pub covers_in_code : Bases → List ModuleValue → (address : ℕ) → ℕ × ModuleValue → Bool
 covers_in_code bases modules address e =
     list_any (λ c. is_code c && chunk_covers address (chunk_of bases modules e c)) e.1.contents

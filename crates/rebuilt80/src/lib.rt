@@ -1,4 +1,4 @@
-//! What modules that are found in a dump come to, where they are linked and located again.
+//! What modules that are found in a dump come to, if they are linked and located again.
 //!
 //! | Item | What it is |
 //! |---|---|

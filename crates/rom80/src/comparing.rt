@@ -29,7 +29,7 @@ pub struct Comparison {
 /// The bytes of a line that it shows at most.
 const SHOWN: usize = 8;
 
-/// Compares the image's memory with a dump whose first byte stands at the address `first`; where no chunk covers an address,
+/// Compares the image's memory with a dump whose first byte stands at the address `first`; if no chunk covers an address,
 /// the image has `fill` there. An address is in one of the ranges exactly if the bytes differ; they ascend, and no two of them
 /// touch. The text has a line for each, such as `DIFFERS 0123 0002 3E05 3E07` with up to eight bytes of the image and of the
 /// dump, and then one such as `SAME 2046 OF 2048`.
@@ -63,7 +63,7 @@ pub fn compare(
     }
 }
 
-/// Compares them where the dump lies in memory.
+/// Compares them if the dump lies in memory.
 fn compare_in_memory(
     alloc: Global,
     image: &Image,

@@ -154,7 +154,7 @@ fn file_of<'a>(console: Console<'_>, text: &'a str) -> Result<RomFile<'a>, Repor
     }
 }
 
-/// The dumps that the files hold. Each file is looked at before the next one is opened.
+/// The dumps that the files hold. Each file is checked before the next one is opened.
 fn read_dumps(console: Console<'_>, files: &[RomFile<'_>]) -> Result<Dumps, Reported> {
     let mut dumps = Dumps::new(console.alloc());
     for file in files {

@@ -70,7 +70,7 @@ impl<'a> CompareArguments<'a> {
     }
 }
 
-/// Prints where the image and the dump differ; the status is 1 where they do.
+/// Prints where the image and the dump differ; the status is 1 if they do.
 pub fn compare_files(
     console: Console<'_>,
     arguments: CompareArguments<'_>,
@@ -94,7 +94,7 @@ static MEMORY: [Range; 2] = [
     },
 ];
 
-/// The lines of the comparison of the files, and the exit status. Both are read before one is looked at.
+/// The lines of the comparison of the files, and the exit status. Both are read before either is checked.
 fn compared(
     console: Console<'_>,
     arguments: CompareArguments<'_>,

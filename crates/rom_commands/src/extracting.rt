@@ -94,7 +94,7 @@ struct Extent {
     fill: u8,
 }
 
-/// Writes the bytes of the range, and prints their sum where it is asked for. No file is created or changed before every other
+/// Writes the bytes of the range, and prints their sum if it is asked for. No file is created or changed before every other
 /// fault is excluded.
 pub fn extract_file(console: Console<'_>, arguments: ExtractArguments<'_>) -> Result<u8, Reported> {
     let extent = extent_of(console, arguments)?;

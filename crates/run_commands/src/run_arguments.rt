@@ -78,7 +78,7 @@ impl<'a> RunFiles<'a> {
     }
 
     /// The image with its regions, the text of its inputs, and its names if they are asked for, as the files have them. All three
-    /// files are read before one is looked at, and they are looked at in the order of `run`.
+    /// files are read before one is checked, and they are checked in the order of `run`.
     pub fn read(self, console: Console<'_>, names: bool) -> Result<RunTexts, Reported> {
         let bytes = console.read_whole(self.image)?;
         let text = console.read_whole(self.regions)?;

@@ -1,5 +1,5 @@
 -- The modules that a link takes from its libraries: those that the roots need, and those that these need in turn.
--- (ISIS-II User's Guide, LINK: a module of a library is taken where it declares a name that another one needs. Which one, of
+-- (ISIS-II User's Guide, LINK: a module of a library is taken if it declares a name that another one needs. Which one, of
 -- several that declare it, and the order of those taken, are this project's own.)
 use Rattle.std.specs.Prelude.{◌≡◌, ℕ, ◌<◌, ◌⊎◌, true, false, Option, Some, option_and_then, List, [], ◌∷◌, slice_get, Contains}
 use Rattle.std.specs.List.{list_any, AllByRecursion}

@@ -28,7 +28,7 @@ impl<'a> Model for Row<'a> {
     ghost invariant = { λ r. AreProviders (map (λ m. m.now) r.modules.items) r.providers };
 }
 
-/// Puts some modules last.
+/// Appends some modules.
 fn push_modules<'a>(row: &mut Vec<&'a Module>, modules: &'a [Module]) -> Result<(), AllocError>
     ensures { OnOk result (map (λ m. m.now) row.new.items ≡ map (λ m. m.now) row.old.items ++ modules.now) }
 {
@@ -63,7 +63,7 @@ impl<'a> Row<'a> {
         self.modules.len()
     }
 
-    /// The module of a number.
+    /// The module with this number.
     pub(crate) fn get(&self, number: usize) -> &'a Module
         requires { number < length self.now }
         ensures { slice_get self.now number ≡ Some result.now }

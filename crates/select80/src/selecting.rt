@@ -33,7 +33,7 @@ impl Search {
         Ok(search)
     }
 
-    /// Marks a module, and puts it last in the queue, if it isn't marked yet.
+    /// Marks a module, and appends it to the queue, if it isn't marked yet.
     fn mark(&mut self, number: usize) -> Result<(), AllocError>
         requires { number < length self.old.marked.items }
         ensures { OnOk result (MarksIn (number ∷ []) self.old self.new) }
@@ -82,7 +82,7 @@ fn marks_of(alloc: Global, roots: &[Module], libraries: &[Library]) -> Result<Ve
     reached(alloc, &row, roots.len())
 }
 
-/// Puts the places of a library's modules last.
+/// Appends the places of a library's modules.
 fn push_places(
     places: &mut Vec<Chosen>,
     library: usize,

@@ -1,4 +1,4 @@
--- Where runs go: along the walks that the verifier has looked at. (This project's own.)
+-- Where runs go: along the walks that the verifier has followed. (This project's own.)
 use Rattle.std.specs.Prelude.{◌≡◌, ℕ, true, Option, Some, Ok}
 use Rattle.decode80.specs.declared.fetching.Fetched.{Fetched}
 use Rattle.frames80.specs.StackFrame.{StackFrame}

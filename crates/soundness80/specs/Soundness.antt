@@ -10,7 +10,7 @@ use Rattle.verify80.specs.Looking.{code_of}
 use Rattle.soundness80.specs.Starts.{IsStart, NeverGoesWrongFromPowerOn}
 use Rattle.soundness80.specs.Reached.{StaysOnWalks}
 
--- an image never goes wrong, within a number of bytes of stack, where a table of frames fits it with that number and the stack
+-- an image never goes wrong, within a number of bytes of stack, if a table of frames fits it with that number and the stack
 -- has them
 abbrev pub FittedImagesNeverGoWrong : Type 0
 FittedImagesNeverGoWrong = (image : Located) (bytes : ℕ) → AreRegions image.regions → IsFitted (code_of image) bytes →
@@ -21,7 +21,7 @@ abbrev pub FittedImagesNeverGoWrongFromPowerOn : Type 0
 FittedImagesNeverGoWrongFromPowerOn = (image : Located) (bytes : ℕ) → AreRegions image.regions → IsFitted (code_of image) bytes →
     bytes ≤ image.regions.stack.length → NeverGoesWrongFromPowerOn image bytes
 
--- the start of a run of the watched machine, where all other memory and the registers are 0, is one from power-on
+-- the start of a run of the watched machine, if all other memory and the registers are 0, is one from power-on
 abbrev pub RunsBeginFromPowerOn : Type 0
 RunsBeginFromPowerOn = (image : Located) (inputs : List (List ℕ)) (outputs : List (ℕ × ℕ)) →
     IsStart image (world_at_start image inputs outputs).machine

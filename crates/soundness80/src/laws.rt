@@ -8,7 +8,7 @@ use frames80::places_move;
 use image80::laws::code_data_and_stack_are_apart;
 use verify80::looks_are_exact;
 
-/// Where a table of frames fits an image, and the stack has the bytes that the table says, then whatever waits at the ports,
+/// If a table of frames fits an image, and the stack has the bytes that the table says, then whatever waits at the ports,
 /// however many outputs are taken and however long the program runs, each of its steps fetches only inside code, stores by
 /// address only to data and jumps by PCHL only if targets are declared, touches as stack only so many bytes below the stack's
 /// top, and returns only to the place after the newest call that hasn't returned; and it ends, if at all, by HLT, at an empty

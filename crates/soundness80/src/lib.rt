@@ -2,7 +2,7 @@
 //!
 //! | Item | What it is |
 //! |---|---|
-//! | [`fitted_images_never_go_wrong`] | where a table of frames fits an image, no run of it goes wrong, as a contract |
+//! | [`fitted_images_never_go_wrong`] | if a table of frames fits an image, no run of it goes wrong, as a contract |
 //! | [`images_never_go_wrong_from_power_on`], [`runs_begin_from_power_on`] | the same of runs from power-on, as contracts |
 //! | [`accepted_images_stay_on_walks`] | each run of an accepted image stays on its walks, as a contract |
 #![tactic(auto)]

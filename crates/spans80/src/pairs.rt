@@ -87,7 +87,7 @@ impl Pairs {
         }
     }
 
-    /// What a pair may be. Nothing is known of SP.
+    /// What a pair may be; SP may be any word.
     fn span(self, pair: Pair) -> Span
         ensures { result ≡ span_of self pair }
     {

@@ -22,7 +22,7 @@ use std::alloc::{AllocError, Global};
 pub(crate) enum Kind {
     /// A register-indirect store.
     Store,
-    /// PCHL.
+    /// PCHL, which goes on where HL points to.
     Jump,
 }
 

@@ -56,7 +56,7 @@ pub record Marks (old : List Bool) (names : List ℕ) (new : List Bool) : Type 0
   pub kept : (address : ℕ) → IsMarked old address → IsMarked new address
   pub only : (address : ℕ) → IsMarked new address → IsMarked old address ⊎ Contains names address
 
--- the word that an instruction puts into SP
+-- the word that an instruction writes to SP
 abbrev pub stack_word : Instr → Option ℕ
 stack_word (Lxi Sp word) = Some word
 stack_word _ = None
@@ -65,7 +65,7 @@ abbrev pub word_of : Result Fetched FetchFault → Option ℕ
 word_of (Err _) = None
 word_of (Ok found) = stack_word found.instr
 
--- the word that the instruction at a marked address puts into SP
+-- the word that the instruction at a marked address writes to SP
 unfoldable pub word_at : Located → (reached : List Bool) → ℕ → Option ℕ
 word_at image reached at = if get_or reached at false then word_of (fetch_at image.regions (memory_of image.chunks) at) else None
 

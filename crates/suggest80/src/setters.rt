@@ -6,7 +6,7 @@ ghost use Rattle.suggest80.specs.Names.{AreSetters, FirstSetter, stack_word, wor
 use decode80::{Instr, Pair, fetch};
 use verify80::ImageCode;
 
-/// An LXI SP: its address, and the word that it puts into SP.
+/// An LXI SP: its address, and the word that it writes to SP.
 #[derive(Clone, Copy, Debug, PartialEq, Eq)]
 pub struct Setter {
     pub at: u16,
@@ -47,7 +47,7 @@ fn find_setter(code: &ImageCode<'_>, reached: &[bool], from: u32) -> Option<Sett
     None
 }
 
-/// The word that the instruction at a marked address puts into SP.
+/// The word that the instruction at a marked address writes to SP.
 #[tactic(auto, unfolding(crate::specs::Names::word_at))]
 fn word_at(code: &ImageCode<'_>, reached: &[bool], at: u16) -> Option<u16>
     requires { length reached.now ≡ 65536 }
@@ -62,7 +62,7 @@ fn word_at(code: &ImageCode<'_>, reached: &[bool], at: u16) -> Option<u16>
     }
 }
 
-/// The word that an instruction puts into SP.
+/// The word that an instruction writes to SP.
 fn stack_word(instr: Instr) -> Option<u16>
     ensures { result ≡ stack_word instr }
 {

@@ -60,7 +60,7 @@ fetched_line (Some found) m = instruction_line found.instr (port_byte found.inst
 abbrev pub machine_line : Areas → Machine → List ℕ
 machine_line regions m = fetched_line (fetch regions m.memory m.cpu.pc) m
 
--- the number of steps that were made before, where lines are numbered
+-- the number of steps that were made before, if lines are numbered
 abbrev pub number_text : (numbered : Bool) → ℕ → List ℕ
 number_text true number = decimal number ++ 32 ∷ []
 number_text false number = []

@@ -26,7 +26,7 @@ use std::alloc::{AllocError, Global};
 
 /// Writes the lines of some instructions of a run, each as it comes: the run of a vouched image from its start with these inputs.
 /// A line has the instruction as a listing has it, the byte that it takes from a port or gives to one, and the registers before
-/// it; where lines are numbered, the number of steps that were made before it comes first. After the last step that the limits
+/// it; if lines are numbered, the number of steps that were made before it comes first. After the last step that the limits
 /// let it make, the next instruction has a line too.
 ///
 /// The answer is how the run ended, if its last line is among these or before them, and `None` if the lines ran out first.

@@ -50,7 +50,7 @@ admitted regions memory at found =
     else (if is_pchl found.instr && not (is_declared regions at) then Err PchlUndeclared
     else (if stores_in_data regions found.instr then Ok found else Err DirectStore))
 
--- what a fetch has answered, where it found an instruction that is admitted
+-- what a fetch has answered, if it found an instruction that is admitted
 abbrev pub looked : Areas → (memory : List ℕ) → (at : ℕ) → Result Fetched FetchFault → Result Fetched LookFault
 looked regions memory at (Ok found) = admitted regions memory at found
 looked regions memory at (Err FetchOutside) = Err Outside

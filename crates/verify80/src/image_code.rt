@@ -87,7 +87,7 @@ impl<'a> ImageCode<'a> {
         self.is_data_if_named(first) && self.is_data_if_named(second)
     }
 
-    /// What was fetched at an address, where its instruction is admitted.
+    /// What was fetched at an address, if its instruction is admitted.
     fn admit(&self, at: u16, found: Fetched) -> Result<Fetched, LookFault>
         ensures { result ≡ admitted self.now.regions (memory_of self.now.chunks) at found }
     {

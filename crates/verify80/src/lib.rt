@@ -8,7 +8,7 @@
 //! | [`Report`], [`ProcRow`] | what is found of an image that is accepted |
 //! | [`Refusal`] | why an image is refused |
 //! | [`ImageCode`] | an image as the verifier looks at it, address by address |
-//! | [`looks_are_exact`] | what is looked at in an image, as a contract |
+//! | [`looks_are_exact`] | what the analysis sees of an image, as a contract |
 #![tactic(auto)]
 
 mod image_code;

@@ -23,7 +23,7 @@ pub struct Verified {
 
 /// Goes over every walk of every procedure of an image, from its start on, and reports on its procedures and its stack.
 ///
-/// An image is accepted if no refusal holds of it. Where several hold, one of them is answered.
+/// An image is accepted if no refusal holds of it. If several hold, one of them is answered.
 ///
 /// # Example
 /// ```

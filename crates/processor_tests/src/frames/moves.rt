@@ -42,7 +42,7 @@ static ROWS: [(Role, [u8; 3], Parts, &str, u32, Parts); 54] = [
     (MAIN, [0x31, 0x00, 0x32], (0, &[], [Any, Any, Any]), "on", 0, (0, &[], [Any, Any, Any])),
     (MAIN, [0x21, 0x05, 0x00], (0, &[], [Any, Any, Any]), "on", 0, (0, &[], [Any, Any, Any])),
     (MAIN, [0xE5, 0x00, 0x00], (0, &[], [Any, Any, Any]), "on", 0, (0, &[Any], [Any, Any, Any])),
-    // JMP, JZ, CALL and CZ of 3210, RST 7, RET, RZ, HLT and NOP, in a procedure that has taken two words; RET where one was
+    // JMP, JZ, CALL and CZ of 3210, RST 7, RET, RZ, HLT and NOP, in a procedure that has taken two words; RET if one was
     // taken.
     (Entry, [0xC3, 0x10, 0x32], (2, &[Own], [Any, Any, Any]), "jump", 0x3210, (2, &[Own], [Any, Any, Any])),
     (Entry, [0xCA, 0x10, 0x32], (2, &[Own], [Any, Any, Any]), "either", 0x3210, (2, &[Own], [Any, Any, Any])),
