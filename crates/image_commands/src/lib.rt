@@ -12,22 +12,21 @@
 //! | [`show_calls`] | `calls`: which procedure calls which, and how deep |
 #![tactic(auto)]
 
-mod advising;
-mod calling;
-mod calls_text;
-mod checking;
-mod explaining;
-mod listing;
-mod migrating;
+mod calls;
+mod cases;
+mod check;
+mod explain;
+mod helpers;
+mod list;
+mod regions;
 mod stores;
-mod subject;
-mod suggesting;
+mod suggest;
 
-pub use advising::{SUGGEST, SuggestArguments, advise_file};
-pub use calling::{CALLS, CallsArguments, show_calls};
-pub use checking::{CHECK, check_files};
-pub use explaining::{EXPLAIN, explain_files};
-pub use listing::{LIST, ListArguments, list_files};
-pub use migrating::{REGIONS, RegionsArguments, migrate_file};
+pub use calls::{CALLS, CallsArguments, show_calls};
+pub use cases::{CASES, CasesArguments, suggest_for_files};
+pub use check::{CHECK, check_files};
+pub use explain::{EXPLAIN, explain_files};
+pub use list::{LIST, ListArguments, list_files};
+pub use regions::{REGIONS, RegionsArguments, migrate_file};
 pub use stores::{STORES, list_stores};
-pub use suggesting::{CASES, CasesArguments, suggest_for_files};
+pub use suggest::{SUGGEST, SuggestArguments, advise_file};

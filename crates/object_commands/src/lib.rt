@@ -10,20 +10,17 @@
 //! | [`find_modules`] | `find`: where modules lie in a dump of a PROM |
 #![tactic(auto)]
 
-mod causes;
-mod describing;
-mod finding;
-mod found_text;
+mod find;
+mod helpers;
 mod library;
-mod link_lines;
-mod linking;
-mod locate_options;
-mod locating;
-mod mapping;
+mod link;
+mod locate;
+mod map;
+mod module;
 
-pub use describing::{MODULE, ModuleArguments, describe_file};
-pub use finding::{FIND, FindArguments, find_modules};
+pub use find::{FIND, FindArguments, find_modules};
 pub use library::{LIB, LibraryArguments, write_library_file};
-pub use linking::{LINK, LinkArguments, link_files};
-pub use locating::{LOCATE, LocateArguments, locate_file};
-pub use mapping::{MAP, MapArguments, map_file};
+pub use link::{LINK, LinkArguments, link_files};
+pub use locate::{LOCATE, LocateArguments, locate_file};
+pub use map::{MAP, MapArguments, map_file};
+pub use module::{MODULE, ModuleArguments, describe_file};

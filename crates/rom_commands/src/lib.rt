@@ -8,9 +8,9 @@
 #![tactic(auto)]
 
 mod absolute;
-mod comparing;
-mod extracting;
+mod compare;
+mod extract;
 
 pub use absolute::{ABSOLUTE, AbsoluteArguments, write_absolute};
-pub use comparing::{COMPARE, CompareArguments, compare_files};
-pub use extracting::{EXTRACT, ExtractArguments, extract_file};
+pub use compare::{COMPARE, CompareArguments, compare_files};
+pub use extract::{EXTRACT, ExtractArguments, extract_file};

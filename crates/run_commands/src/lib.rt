@@ -9,19 +9,17 @@
 //! | [`status_of`] | the exit status of a run |
 #![tactic(auto)]
 
-mod covering;
-mod inputs_writing;
-mod run_arguments;
-mod running;
-mod session_files;
-mod tracing;
-mod watching;
+mod cover;
+mod helpers;
+mod inputs;
+mod run;
+mod trace;
 
-pub use covering::{COVER, CoverArguments, cover_files};
-pub use inputs_writing::{INPUTS, InputsArguments, write_inputs_file};
+pub use cover::{COVER, CoverArguments, cover_files};
+pub use inputs::{INPUTS, InputsArguments, write_inputs_file};
 use machine80::End;
-pub use running::{RUN, RunArguments, run_files};
-pub use tracing::{TRACE, TraceArguments, trace_files};
+pub use run::{RUN, RunArguments, run_files};
+pub use trace::{TRACE, TraceArguments, trace_files};
 
 /// The exit status of a run that ended so; `None` if its steps were used up.
 pub fn status_of(end: Option<End>) -> u8 {

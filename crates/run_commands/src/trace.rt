@@ -1,6 +1,6 @@
 //! `plm80 trace`: the instructions of a located program's run, a line each.
 
-use crate::run_arguments::{
+use crate::helpers::run_arguments::{
     INPUTS, LimitTexts, OUTPUTS, RunFiles, STEPS, Traced, print_ending, print_lines,
 };
 use clap::ArgMatches;

@@ -1,6 +1,6 @@
 //! A session on files, with its transcript on standard output.
 
-use crate::run_arguments::RunFiles;
+use crate::helpers::run_arguments::RunFiles;
 use crate::status_of;
 use console80::{Console, LateFile, NotedWriter, Reported, explain_regions};
 use loader80::{Outcome, Reading, SessionFault, Writing, session};

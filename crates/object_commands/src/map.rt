@@ -1,11 +1,11 @@
 //! `plm80 map`: where LOCATE would put a module's segments and public names.
 
-use crate::causes::report_place_fault;
-use crate::locate_options::{
+use crate::helpers::causes::report_place_fault;
+use crate::helpers::locate_options::{
     CODE_BASE, COMMON_BASE, DATA_BASE, LocateTexts, MEMORY_BASE, MEMORY_SIZE, STACK_BASE,
     STACK_SIZE,
 };
-use crate::locating::one_module;
+use crate::locate::one_module;
 use clap::ArgMatches;
 use console80::{Argument, Console, Kind, Reported, Syntax, path_of, read_modules};
 use map80::map_text;

@@ -1,6 +1,6 @@
 //! `plm80 calls`: the calls of a located program, or its refusal.
 
-use crate::calls_text::{CallGraph, graph_text, list_text};
+use crate::helpers::calls_text::{CallGraph, graph_text, list_text};
 use clap::ArgMatches;
 use console80::{Argument, Console, IMAGE, Kind, REGIONS, Reported, Syntax};
 use image80::Image;

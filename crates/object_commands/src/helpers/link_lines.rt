@@ -3,7 +3,7 @@
 ghost use Rattle.link80.specs.Selection.{IsSelection};
 ghost use Rattle.parts80.specs.Parts.{IsMade};
 
-use crate::linking::LinkFiles;
+use crate::link::LinkFiles;
 use link80::{Chosen, Linked};
 use omf_core::Name;
 use omf_library::Library;

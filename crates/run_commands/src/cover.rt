@@ -1,6 +1,6 @@
 //! `plm80 cover`: the code of a located program, with how often a run began each instruction.
 
-use crate::run_arguments::{INPUTS, LimitTexts, OUTPUTS, RunFiles, STEPS};
+use crate::helpers::run_arguments::{INPUTS, LimitTexts, OUTPUTS, RunFiles, STEPS};
 use clap::ArgMatches;
 use console80::{Console, IMAGE, REGIONS, Reported, Syntax};
 use cover80::cover;

@@ -1,6 +1,6 @@
 //! `plm80 compare`: where an image and a dump differ.
 
-use crate::extracting::{FILL, fill_of};
+use crate::extract::{FILL, fill_of};
 use clap::ArgMatches;
 use console80::{Argument, Console, IMAGE, Kind, OptionText, Reported, Syntax, image_of, path_of};
 use image80::Range;

@@ -1,7 +1,7 @@
 //! `plm80 find`: where modules of object files and libraries lie in a dump.
 
-use crate::found_text::{append_external, append_more, append_name_line, append_place};
-use crate::linking::read_file;
+use crate::helpers::found_text::{append_external, append_more, append_name_line, append_place};
+use crate::link::read_file;
 use clap::ArgMatches;
 use console80::{Argument, Console, Kind, LinkFile, OptionText, Reported, Syntax, path_of};
 use found80::ModulePattern;

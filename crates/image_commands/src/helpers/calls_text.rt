@@ -1,6 +1,6 @@
 //! The calls of a located program, as lines and as a graph.
 
-use crate::subject::{Subject, append_named};
+use crate::helpers::subject::{Subject, append_named};
 use calls80::{Call, Procedure, find_calls};
 use loader80::{ProcRow, Vouched};
 use naming80::Names;

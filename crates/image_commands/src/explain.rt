@@ -1,7 +1,7 @@
 //! `plm80 explain`: why the verifier refuses a located program, shown by ways through its procedures.
 
-use crate::checking::named_report;
-use crate::subject::Subject;
+use crate::check::named_report;
+use crate::helpers::subject::Subject;
 use console80::{Console, Reported, Syntax};
 use explain80::{Unexplained, explain, find_chain, measure};
 use explained80::{chain_text, explanation_text};

@@ -1,6 +1,6 @@
 //! `plm80 suggest`: the regions that an image's bytes suggest.
 
-use crate::suggesting::report_notes;
+use crate::cases::report_notes;
 use clap::ArgMatches;
 use console80::{
     Argument, Console, IMAGE, Kind, OptionText, Reported, Syntax, image_of, path_of, regions_of,

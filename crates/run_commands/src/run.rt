@@ -1,8 +1,8 @@
 //! `plm80 run`: the transcript of a located program's run.
 
-use crate::run_arguments::{INPUTS, LimitTexts, OUTPUTS, RunFiles, STEPS};
-use crate::session_files::run_session;
-use crate::watching::{Watch, watch_run};
+use crate::helpers::run_arguments::{INPUTS, LimitTexts, OUTPUTS, RunFiles, STEPS};
+use crate::helpers::session_files::run_session;
+use crate::helpers::watching::{Watch, watch_run};
 use clap::ArgMatches;
 use console80::{Argument, Console, IMAGE, Kind, OptionText, REGIONS, Reported, Syntax};
 use naming80::NAMES;

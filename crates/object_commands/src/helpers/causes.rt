@@ -1,6 +1,6 @@
 //! Words below a fault of `link`, `locate` and `map`: where its cause is. If memory runs out for them, the fault stands alone.
 
-use crate::linking::LinkFiles;
+use crate::link::LinkFiles;
 use console80::{Console, Reported};
 use link_causes80::LinkSources;
 use link80::LinkFault;

@@ -1,6 +1,6 @@
 //! `plm80 run` with `--last` or `--dump`: a run, its last instructions, and the memory that it leaves.
 
-use crate::run_arguments::{RunFiles, RunTexts, Traced, print_ending, print_lines};
+use crate::helpers::run_arguments::{RunFiles, RunTexts, Traced, print_ending, print_lines};
 use console80::{Console, Reported};
 use loader80::{Vouched, front_text};
 use machine80::Inputs;

@@ -1,7 +1,7 @@
 //! `plm80 locate`: an object file's one module at its places, as an image and its regions.
 
-use crate::causes::report_place_fault;
-use crate::locate_options::{
+use crate::helpers::causes::report_place_fault;
+use crate::helpers::locate_options::{
     CODE_BASE, COMMON_BASE, DATA_BASE, LocateTexts, MEMORY_BASE, MEMORY_SIZE, STACK_BASE,
     STACK_SIZE,
 };

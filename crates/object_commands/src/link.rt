@@ -4,8 +4,8 @@ ghost use Rattle.std.specs.Prelude.{IfOk};
 ghost use Rattle.link80.specs.Selection.{IsSelection};
 ghost use Rattle.parts80.specs.Parts.{IsMade};
 
-use crate::causes::report_link_fault;
-use crate::link_lines::{LinkLines, lines_of};
+use crate::helpers::causes::report_link_fault;
+use crate::helpers::link_lines::{LinkLines, lines_of};
 use clap::ArgMatches;
 use console80::{
     Argument, Console, Kind, LateFile, LinkFile, OptionText, Reported, Syntax, append_modules,
