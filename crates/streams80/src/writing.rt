@@ -1,3 +1,5 @@
+//! Sinks that are made of the writers of std.
+
 ghost use Rattle.std.specs.Prelude.{◌≡◌};
 
 use crate::stream::{Failed, Sink};

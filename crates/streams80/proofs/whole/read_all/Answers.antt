@@ -1,7 +1,7 @@
 -- What was read when memory ran out was still taken.
 use Rattle.std.proofs.Common.{◌+◌, ◌≤◌, length, take, arith, ◌++◌, vec_len, length-append, length-take}
 use Rattle.std.proofs.KnownBytes.{Consumes-trans}
-use Rattle.loader80.proofs.whole.read_all.Goals as goal
+use Rattle.streams80.proofs.whole.read_all.Goals as goal
 
 pub returns-in_err-extend_from_slice-clause-taken : goal.returns-in_err-extend_from_slice-clause-taken
 returns-in_err-extend_from_slice-clause-taken g c =

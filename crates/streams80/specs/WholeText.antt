@@ -1,8 +1,8 @@
 -- What reading a whole source does to the bytes that it delivers, and which of its answers is a failure of the source.
 use Rattle.std.specs.Prelude.{ℕ, ◌≤◌, List, length, Option, Result, Ok, Err}
 use Rattle.std.specs.Io.KnownBytes.{Consumes}
-use Rattle.loader80.specs.declared.whole.ReadAllFault.{ReadAllFault}
-use Rattle.loader80.specs.declared.whole.ReadAllFault.TheVariants.{Read, TooLong, Memory}
+use Rattle.streams80.specs.declared.whole.ReadAllFault.{ReadAllFault}
+use Rattle.streams80.specs.declared.whole.ReadAllFault.TheVariants.{Read, TooLong, Memory}
 
 -- at most n bytes were taken
 abbrev pub TakesAtMost : ℕ → Option (List ℕ) → Option (List ℕ) → Type 0

@@ -1,3 +1,5 @@
+//! Sources that are made of the readers of std.
+
 ghost use Rattle.std.specs.Prelude.{◌≡◌};
 
 use crate::stream::{Failed, Source};

@@ -4,7 +4,7 @@ use Rattle.std.proofs.Math.Seq.{take-add}
 use Rattle.std.proofs.lemmas.List.{take_all}
 use Rattle.std.proofs.KnownBytes.{Appends-trans}
 use Rattle.std.specs.Io.KnownBytes.{Appends}
-use Rattle.loader80.specs.Failures.{write_failures}
+use Rattle.streams80.specs.Failures.{write_failures}
 
 -- a write that took some bytes is no failure
 pub write_failures-some : (E : Type 0) (n : ℕ) → (n ≡ 0 → ⊥) → write_failures {E = E} (Ok n) ≡ 0

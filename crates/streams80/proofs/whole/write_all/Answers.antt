@@ -1,8 +1,8 @@
 -- What a write took stands behind what the earlier ones took.
 use Rattle.std.proofs.Common.{◌-◌, ◌≤◌, length, arith, length-drop, length-take}
-use Rattle.loader80.proofs.StreamLemmas.{Appends-next, write_failures-some}
-use Rattle.loader80.specs.declared.stream.Failed.{Failed}
-use Rattle.loader80.proofs.whole.write_all.Goals as goal
+use Rattle.streams80.proofs.StreamLemmas.{Appends-next, write_failures-some}
+use Rattle.streams80.specs.declared.stream.Failed.{Failed}
+use Rattle.streams80.proofs.whole.write_all.Goals as goal
 
 pub loop-at-preserved : goal.loop-at-preserved
 loop-at-preserved g c =

@@ -5,7 +5,7 @@
 ghost use Rattle.std.specs.Prelude.{◌≡◌, ℕ, ◌+◌, ◌<◌, List, Option, length};
 ghost use Rattle.std.specs.Io.{ReadsAtMost, WritesAtMost};
 ghost use Rattle.std.specs.Io.KnownBytes.{ReadConsumes, WriteAppends};
-ghost use Rattle.loader80.specs.Failures.{read_failures, write_failures};
+ghost use Rattle.streams80.specs.Failures.{read_failures, write_failures};
 
 /// A read or a write that failed, without the reason.
 #[derive(Clone, Copy, Debug, PartialEq, Eq)]

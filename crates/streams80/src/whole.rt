@@ -1,8 +1,8 @@
 //! A source read whole, and bytes written whole.
 ghost use Rattle.std.specs.Prelude.{◌≡◌, ℕ, ◌+◌, ◌<◌, ◌≤◌, length, take, IfOk, IfSome, OnErr, OnOk, vec_len};
 ghost use Rattle.std.specs.Io.KnownBytes.{Appends, IsAtEnd};
-ghost use Rattle.loader80.specs.Failures.{error_failures};
-ghost use Rattle.loader80.specs.WholeText.{TakesAtMost, read_all_failures};
+ghost use Rattle.streams80.specs.Failures.{error_failures};
+ghost use Rattle.streams80.specs.WholeText.{TakesAtMost, read_all_failures};
 
 use crate::stream::{Failed, Sink, Source};
 use std::alloc::{AllocError, Global};
@@ -19,7 +19,7 @@ pub enum ReadAllFault {
 }
 
 impl From<AllocError> for ReadAllFault {
-    ghost use Rattle.loader80.specs.declared.whole.ReadAllFault.TheVariants.{Memory};
+    ghost use Rattle.streams80.specs.declared.whole.ReadAllFault.TheVariants.{Memory};
 
     ghost from_gives = { λ _ fault. fault ≡ Memory };
 
@@ -29,7 +29,7 @@ impl From<AllocError> for ReadAllFault {
 }
 
 impl From<Failed> for ReadAllFault {
-    ghost use Rattle.loader80.specs.declared.whole.ReadAllFault.TheVariants.{Read};
+    ghost use Rattle.streams80.specs.declared.whole.ReadAllFault.TheVariants.{Read};
 
     ghost from_gives = { λ _ fault. fault ≡ Read };
 
