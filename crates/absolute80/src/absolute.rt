@@ -1,3 +1,5 @@
+//! The absolute program that an object file holds.
+
 use image80::Chunk;
 use omf_core::Name;
 use std::marker::Model;
@@ -11,7 +13,7 @@ pub(crate) struct AbsoluteProgram {
 }
 
 impl Model for AbsoluteProgram {
-    ghost use Rattle.place80.specs.ImageFile.{AbsoluteProgram};
+    ghost use Rattle.absolute80.specs.ImageFile.{AbsoluteProgram};
 
     ghost Value = { AbsoluteProgram };
 

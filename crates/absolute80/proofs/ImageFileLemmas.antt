@@ -17,10 +17,10 @@ use Rattle.omf_module.specs.Spelled.{SpellsFile, FaultsFile}
 use Rattle.omf_module.specs.Reading.{OrNoMemory}
 use Rattle.omf_module.specs.ReadingLaws.{OneFile, OneFileFault, NeverBothFile}
 use Rattle.omf_module.specs.WritingLaws.{WrittenFileIsSpelled}
-use Rattle.place80.specs.declared.image_fault.ImageFault.{ImageFault}
-use Rattle.place80.specs.declared.image_fault.ImageFault.TheVariants.{NotAbsolute, Module, Memory as OutOfMemory}
+use Rattle.absolute80.specs.declared.image_fault.ImageFault.{ImageFault}
+use Rattle.absolute80.specs.declared.image_fault.ImageFault.TheVariants.{NotAbsolute, Module, Memory as OutOfMemory}
 use Rattle.image80.specs.Image.{PlacedBytes, Located, IsChunk}
-use Rattle.place80.specs.ImageFile.{AbsoluteProgram, SpellsImage, without_regions, chunk_content, content_chunk, image_module, is_absolute_content, is_absolute_start, is_absolute, program_from, program_of, program_of_one, of_cause, of_module_fault, FaultsImage, of_file, of_modules, WrittenImageIsSpelled, OneImage, OneImageFault, NeverBothImage}
+use Rattle.absolute80.specs.ImageFile.{AbsoluteProgram, SpellsImage, without_regions, chunk_content, content_chunk, image_module, is_absolute_content, is_absolute_start, is_absolute, program_from, program_of, program_of_one, of_cause, of_module_fault, FaultsImage, of_file, of_modules, WrittenImageIsSpelled, OneImage, OneImageFault, NeverBothImage}
 
 -- ---- the module of an image
 

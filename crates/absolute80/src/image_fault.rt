@@ -1,3 +1,5 @@
+//! Why bytes are no image.
+
 use omf_module::{Cause, ModuleFault};
 use std::alloc::AllocError;
 use thiserror::Error;
@@ -24,7 +26,7 @@ pub enum ImageFault {
 
 impl ImageFault {
     ghost use Rattle.std.specs.Prelude.{◌≡◌};
-    ghost use Rattle.place80.specs.ImageFile.{image_fault_code};
+    ghost use Rattle.absolute80.specs.ImageFile.{image_fault_code};
 
     /// The fault's number, from 1 `Module` to 5 `Memory`.
     pub fn code(&self) -> u8
@@ -42,7 +44,7 @@ impl ImageFault {
 
 impl From<AllocError> for ImageFault {
     ghost use Rattle.std.specs.Prelude.{◌≡◌};
-    ghost use Rattle.place80.specs.declared.image_fault.ImageFault.TheVariants.{Memory};
+    ghost use Rattle.absolute80.specs.declared.image_fault.ImageFault.TheVariants.{Memory};
 
     ghost from_gives = { λ _ fault. fault ≡ Memory };
 
@@ -53,7 +55,7 @@ impl From<AllocError> for ImageFault {
 
 impl From<ModuleFault> for ImageFault {
     ghost use Rattle.std.specs.Prelude.{◌≡◌};
-    ghost use Rattle.place80.specs.ImageFile.{of_module_fault};
+    ghost use Rattle.absolute80.specs.ImageFile.{of_module_fault};
 
     ghost from_gives = { λ cause fault. fault ≡ of_module_fault cause };
 

@@ -2,8 +2,8 @@
 use Rattle.std.proofs.Common.{◌≡◌, ◌++◌, drop, map}
 use Rattle.std.specs.List.{AllByRecursion}
 use Rattle.image80.specs.Image.{IsChunk}
-use Rattle.place80.specs.ImageFile.{chunk_content}
-use Rattle.place80.proofs.image_file.contents_of.Given as goal
+use Rattle.absolute80.specs.ImageFile.{chunk_content}
+use Rattle.absolute80.proofs.image_file.contents_of.Given as goal
 
 abbrev pub invariant-loop-chunk : goal.invariant-loop-chunk
 invariant-loop-chunk l = record {

@@ -2,9 +2,9 @@ use Rattle.std.proofs.Common.{◌∙◌, List, subst, sym}
 use Rattle.std.specs.List.{AllByRecursion}
 use Rattle.omf_parts.specs.Contents.{ContentValue}
 use Rattle.image80.specs.Image.{IsChunk}
-use Rattle.place80.specs.ImageFile.{content_chunk}
-use Rattle.place80.proofs.ImageFileLemmas.{absolute_contents}
-use Rattle.place80.proofs.image_file.program_of.Goals as goal
+use Rattle.absolute80.specs.ImageFile.{content_chunk}
+use Rattle.absolute80.proofs.ImageFileLemmas.{absolute_contents}
+use Rattle.absolute80.proofs.image_file.program_of.Goals as goal
 
 pub chunks_of-requires : goal.chunks_of-requires
 chunks_of-requires c =

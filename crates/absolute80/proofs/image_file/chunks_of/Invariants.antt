@@ -3,8 +3,8 @@ use Rattle.std.proofs.Common.{◌≡◌, ◌++◌, drop, map}
 use Rattle.std.specs.List.{AllByRecursion}
 use Rattle.omf_parts.specs.Contents.{ContentValue}
 use Rattle.image80.specs.Image.{IsChunk}
-use Rattle.place80.specs.ImageFile.{content_chunk}
-use Rattle.place80.proofs.image_file.chunks_of.Given as goal
+use Rattle.absolute80.specs.ImageFile.{content_chunk}
+use Rattle.absolute80.proofs.image_file.chunks_of.Given as goal
 
 abbrev pub invariant-loop-content : goal.invariant-loop-content
 invariant-loop-content l = record {

@@ -1,5 +1,5 @@
-use Rattle.place80.proofs.ImageFileLemmas.{one_image, one_image_fault, never_both_image}
-use Rattle.place80.proofs.laws.one_image_reading.Goals as goal
+use Rattle.absolute80.proofs.ImageFileLemmas.{one_image, one_image_fault, never_both_image}
+use Rattle.absolute80.proofs.laws.one_image_reading.Goals as goal
 
 pub returns-clause-image : goal.returns-clause-image
 returns-clause-image c = one_image c.one_file_reading.ensures.file

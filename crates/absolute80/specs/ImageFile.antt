@@ -12,8 +12,8 @@ use Rattle.omf_parts.specs.Segments.{absolute_id}
 use Rattle.omf_parts.specs.Modules.{ModuleValue}
 use Rattle.omf_module.specs.Spelled.{SpellsFile, FaultsFile}
 use Rattle.omf_module.specs.Writing.{file_bytes}
-use Rattle.place80.specs.declared.image_fault.ImageFault.{ImageFault}
-use Rattle.place80.specs.declared.image_fault.ImageFault.TheVariants.{Module, NotOneModule, NotAbsolute, NoStart, Memory}
+use Rattle.absolute80.specs.declared.image_fault.ImageFault.{ImageFault}
+use Rattle.absolute80.specs.declared.image_fault.ImageFault.TheVariants.{Module, NotOneModule, NotAbsolute, NoStart, Memory}
 use Rattle.image80.specs.Image.{PlacedBytes, Located, IsChunk}
 
 -- an image without its regions: an absolute program

@@ -2,10 +2,10 @@ use Rattle.std.specs.Prelude.{List}
 use Rattle.std.proofs.Common.{rules, ◌≡◌, Err, subst}
 use Rattle.std.proofs.lemmas.Result.{err_from_is_err_and}
 use Rattle.omf_parts.specs.Modules.{ModuleValue}
-use Rattle.place80.specs.declared.image_fault.ImageFault.TheVariants.{NotOneModule}
-use Rattle.place80.specs.ImageFile.{program_of, program_of_one, of_modules}
-use Rattle.place80.proofs.ImageFileLemmas.{fault_of_file, program_of_first, read_by_module, refused_by_module}
-use Rattle.place80.proofs.image_file.read_program.Goals as goal
+use Rattle.absolute80.specs.declared.image_fault.ImageFault.TheVariants.{NotOneModule}
+use Rattle.absolute80.specs.ImageFile.{program_of, program_of_one, of_modules}
+use Rattle.absolute80.proofs.ImageFileLemmas.{fault_of_file, program_of_first, read_by_module, refused_by_module}
+use Rattle.absolute80.proofs.image_file.read_program.Goals as goal
 
 pub returns-in_err-modules-clause-fault : goal.returns-in_err-modules-clause-fault
 returns-in_err-modules-clause-fault c =

@@ -2,8 +2,8 @@ use Rattle.std.specs.Prelude.{IfOk}
 use Rattle.std.proofs.Common.{◌≡◌, ap, subst, ◌∙◌}
 use Rattle.omf_parts.specs.Modules.{ModuleValue, made_of}
 use Rattle.omf_parts.specs.Rules.{keeps_rules}
-use Rattle.place80.proofs.ImageFileLemmas.{made_as_it_is, image_keeps_rules}
-use Rattle.place80.proofs.image_file.module_of.Goals as goal
+use Rattle.absolute80.proofs.ImageFileLemmas.{made_as_it_is, image_keeps_rules}
+use Rattle.absolute80.proofs.image_file.module_of.Goals as goal
 
 pub from_sound_parts-requires : goal.from_sound_parts-requires
 from_sound_parts-requires c =
