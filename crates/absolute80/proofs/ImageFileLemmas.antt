@@ -1,5 +1,5 @@
 -- The module of an image keeps the rules of modules, and is read as the image.
-use Rattle.std.proofs.Common.{◌≡◌, ◌≢◌, ◌≤◌, ◌<◌, get_or, inl, inr, ℕ, ◌+◌, arith, Result, Bool, true, false, ◌&&◌, List, [], ◌∷◌, length, map, Some, Ok, Err, refl, sym, ap, subst, ◌∙◌}
+use Rattle.std.proofs.Common.{◌≡◌, ◌≢◌, ◌≤◌, ◌<◌, get_or, inl, inr, ℕ, zero, suc, ◌+◌, arith, Result, Bool, true, false, ◌&&◌, List, [], ◌∷◌, length, map, Some, Ok, Err, refl, sym, ap, subst, ◌∙◌}
 use Rattle.std.specs.Prelude.{◌==◌, nat_le, if◌then◌else◌, IfOk, IfErr}
 use Rattle.std.specs.List.{list_all, AllByRecursion}
 use Rattle.std.proofs.lemmas.Bool.{and_parts, le-leb, eqb-true}
@@ -62,6 +62,16 @@ image_is_module image name w = record {
   canonical = sym none_listed;
   names = ap (λ (b : Bool). b && true && true && true) name;
 }
+
+-- what holds of all holds of the one that is read
+item_has : {A : Type 0} (P : A → Type 0) (xs : List A) (i : ℕ) (d : A) → AllByRecursion P xs → i < length xs → P (get_or xs i d)
+item_has P [] i d all inside = absurd (omega (arith, inside))
+item_has P (x ∷ xs) zero d all inside = all.0
+item_has P (x ∷ xs) (suc i) d all inside = item_has P xs i d all.1 (omega (arith, inside))
+
+pub all_item : {A : Type 0} (P : A → Type 0) (xs : List A) (i : ℕ) (x : A) → AllByRecursion P xs → i < length xs
+    → x ≡ get_or xs i x → P x
+all_item P xs i x all inside is = subst P (sym is) (item_has P xs i x all inside)
 
 -- ---- what is written is read
 

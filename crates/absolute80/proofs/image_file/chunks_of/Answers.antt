@@ -1,7 +1,7 @@
 use Rattle.omf_parts.specs.Contents.{ContentValue}
 use Rattle.image80.specs.Image.{IsChunk}
 use Rattle.absolute80.specs.ImageFile.{content_chunk}
-use Rattle.absolute80.proofs.LocatedLemmas.{all_item}
+use Rattle.absolute80.proofs.ImageFileLemmas.{all_item}
 use Rattle.absolute80.proofs.image_file.chunks_of.Goals as goal
 
 pub chunk_of-requires : goal.chunk_of-requires
