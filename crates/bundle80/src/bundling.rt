@@ -2,7 +2,7 @@
 
 ghost use Rattle.std.specs.Prelude.{◌≡◌, ℕ, ◌+◌, ◌<◌, ◌≤◌, List, Some, None, length, IfSome, IfNone};
 ghost use Rattle.bundle80.specs.BundleText.{bundle_texts};
-ghost use Rattle.loader80.specs.WholeText.{TakesAtMost};
+ghost use Rattle.streams80.specs.WholeText.{TakesAtMost};
 ghost use Rattle.loader80.specs.Sends.{AreWithin, IsTooLong};
 ghost use Rattle.loader80.specs.Texts.{texts_of};
 ghost use Rattle.bundle80.specs.Bundle.{bundle_limit, BundleSends, BundleTooLong, bundle_read_failures, bundle_write_failures, of_session};
@@ -10,11 +10,9 @@ ghost use Rattle.bundle80.specs.Bundle.{bundle_limit, BundleSends, BundleTooLong
 use crate::bundle_text::part_bundle;
 use crate::fault::BundleFault;
 use loader80::laws::what_is_said_is_sent;
-use loader80::{
-    Failed, Outcome, ReadAllFault, SessionFault, SessionTexts, Sink, Source, TEXT_LIMIT,
-    answer_texts, read_all, write_all,
-};
+use loader80::{Outcome, SessionFault, SessionTexts, TEXT_LIMIT, answer_texts};
 use std::alloc::Global;
+use streams80::{Failed, ReadAllFault, Sink, Source, read_all, write_all};
 
 /// The greatest number of bytes of a bundle whose three parts can be within their limits.
 pub const BUNDLE_LIMIT: usize = 4_194_312;

@@ -3,10 +3,10 @@
 ghost use Rattle.std.specs.Prelude.{◌≡◌};
 
 use crate::console::{Console, Reported};
-use loader80::ReadAllFault;
 use omf_library::LibraryFault;
 use omf_module::{Cause, ModuleFault};
 use std::io::ErrorKind;
+use streams80::ReadAllFault;
 
 /// Why an object file or a library isn't read.
 #[derive(Clone, Copy, Debug)]

@@ -3,10 +3,11 @@
 ghost use Rattle.std.specs.Io.{ReadsAtMost};
 
 use crate::console::{Console, Reported};
-use loader80::{Failed, ReadAllFault, Reading, TEXT_LIMIT, Writing, read_all, write_all};
+use loader80::TEXT_LIMIT;
 use std::fs::File;
 use std::io;
 use std::io::{ErrorKind, Read, Write};
+use streams80::{Failed, ReadAllFault, Reading, Writing, read_all, write_all};
 
 /// A file that is opened when it is first read, so that a missing file is reported when its turn comes.
 #[derive(Drop)]

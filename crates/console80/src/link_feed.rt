@@ -1,7 +1,7 @@
 //! The files that `link` takes: object files and libraries, by their first byte.
 
 ghost use Rattle.std.specs.Prelude.{◌≡◌, ◌<◌, ◌≤◌, ◌+◌, List, ℕ, length, Err, IfOk, IfErr, IfSome};
-ghost use Rattle.loader80.specs.declared.whole.ReadAllFault.TheVariants as read;
+ghost use Rattle.streams80.specs.declared.whole.ReadAllFault.TheVariants as read;
 ghost use Rattle.loader80.specs.Sends.{text_limit};
 ghost use Rattle.omf_module.specs.Spelled.{SpellsFile};
 ghost use Rattle.console80.specs.declared.file_fault.FileFault.TheVariants as fault;
@@ -9,11 +9,12 @@ ghost use Rattle.console80.specs.Pieces.{HasTakenEither, SpellsEither, FaultsEit
 
 use crate::file_fault::FileFault;
 use crate::pieces::{TakePieces, read_in_pieces};
-use loader80::{Source, TEXT_LIMIT};
+use loader80::TEXT_LIMIT;
 use omf_core::RecordKind;
 use omf_library::{Library, LibraryFeed};
 use omf_module::{FileFeed, Module};
 use std::alloc::{AllocError, Global};
+use streams80::Source;
 
 /// The type of a library header, which no module begins with.
 const LIBRARY_HEADER: u8 = RecordKind::LibraryHeader as u8;

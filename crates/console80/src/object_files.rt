@@ -3,8 +3,8 @@
 use crate::console::{Console, Reported};
 use crate::files::LateFile;
 use crate::link_feed::read_object_file;
-use loader80::Reading;
 use omf_module::Module;
+use streams80::Reading;
 
 /// The modules of the object file of this path, in order.
 pub fn read_modules(console: Console<'_>, path: &str) -> Result<Vec<Module>, Reported> {

@@ -2,9 +2,9 @@
 
 use crate::console::{Console, Reported};
 use crate::syntax::{Argument, Kind, path_of};
+use absolute80::{ImageFault, read_image};
 use clap::ArgMatches;
 use image80::{Image, Regions, RegionsFault, read_regions};
-use place80::{ImageFault, read_image};
 
 /// The paths of an image and of its regions.
 #[derive(Clone, Copy)]

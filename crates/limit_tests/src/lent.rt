@@ -1,6 +1,7 @@
 //! What was lent for writing is as it was if memory runs out, and what was handed over is handed back. With memory each of
 //! these tests shows the call that is done; with each allocation refused in turn (`make faults`) the one that isn't.
 
+use absolute80::{ImageFault, read_image, write_image};
 use image80::{
     Image, Regions, RegionsFault, migrate_regions, read_regions, write_regions, write_regions2,
 };
@@ -9,7 +10,6 @@ use omf_library::{Library, read_library, write_library};
 use omf_module::{
     Content, Module, Parts, PartsFault, Segment, read_file, write_file, write_module,
 };
-use place80::{ImageFault, read_image, write_image};
 use std::alloc::{AllocError, Global};
 use std::test::Fail;
 

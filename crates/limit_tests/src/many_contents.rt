@@ -1,9 +1,9 @@
 //! Memories of images of many contents.
 
+use absolute80::read_image;
 use image80::read_regions;
 use machine80::{Bus, FlatBus, PagedBus};
 use omf_core::put_record;
-use place80::read_image;
 use std::alloc::Global;
 use std::test::Fail;
 

@@ -1,4 +1,3 @@
-mod StreamLemmas
 mod InputsLemmas
 mod FirstLineLemmas
 mod RunLemmas

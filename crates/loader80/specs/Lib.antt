@@ -1,5 +1,3 @@
-pub mod Failures
-pub mod WholeText
 pub mod HexText
 pub mod InputsText
 pub mod FirstLineLaws

@@ -1,11 +1,11 @@
 -- What a session answers and writes: a relation between the three texts, the answer and the text that is written.
 use Rattle.std.specs.Prelude.{◌≡◌, ◌≢◌, ℕ, ◌⊎◌, List, [], None, Some, Result, Ok, Err}
 use Rattle.image80.specs.declared.fault.RegionsFault.TheVariants.{Memory as RegionsMemory}
-use Rattle.place80.specs.declared.image_fault.ImageFault.TheVariants.{Memory as ImageMemory}
+use Rattle.absolute80.specs.declared.image_fault.ImageFault.TheVariants.{Memory as ImageMemory}
 use Rattle.image80.specs.Regions.{Areas}
 use Rattle.image80.specs.RegionsText.{Spells, Refuses}
 use Rattle.image80.specs.Image.{Located}
-use Rattle.place80.specs.ImageFile.{SpellsImage, FaultsImage, without_regions}
+use Rattle.absolute80.specs.ImageFile.{SpellsImage, FaultsImage, without_regions}
 use Rattle.machine80.specs.Ports.{lists_of}
 use Rattle.machine80.specs.Step.{Machine}
 use Rattle.machine80.specs.World.{world_at_start}

@@ -8,9 +8,9 @@
 //! | [`front_text`], [`ending_text`] | a run's transcript but for its last line; that line |
 //! | [`session`] | three inputs to the transcript of a run |
 //! | [`answer_texts`] | the same of three texts that were read |
-//! | [`Source`], [`Sink`] | what gives and takes bytes, and counts the calls that failed |
-//! | [`Reading`], [`Writing`] | those made of std's readers and writers |
-//! | [`read_all`], [`write_all`] | a source read whole within a limit, bytes written whole |
+//! | [`Source`], [`Sink`], [`Failed`] | what gives and takes bytes, and counts the calls that failed; these stand in `streams80` |
+//! | [`Reading`], [`Writing`] | those made of std's readers and writers, which stand there too |
+//! | [`read_all`], [`write_all`], [`ReadAllFault`] | a source read whole within a limit, bytes written whole, which stand there too |
 //! | [`read_inputs`] | the inputs of a run, from their text |
 //! | [`digits`] | hexadecimal digits, read and written |
 //! | [`laws`] | what holds of what is answered, as a contract |
@@ -20,25 +20,18 @@ pub mod digits;
 mod fault;
 mod inputs;
 pub mod laws;
-mod reading;
 mod replies;
 mod running;
 mod sessions;
-mod stream;
 mod transcript;
 mod vouched;
-mod whole;
-mod writing;
 
 pub use fault::SessionFault;
 pub use inputs::{InputsFault, read_inputs};
-pub use reading::Reading;
 pub use replies::{Outcome, Reply, SessionTexts, answer_texts};
 pub use running::{Ended, run};
 pub use sessions::{TEXT_LIMIT, session};
-pub use stream::{Failed, Sink, Source};
+pub use streams80::{Failed, ReadAllFault, Reading, Sink, Source, Writing, read_all, write_all};
 pub use transcript::{ending_text, front_text, refusal_text};
 pub use verify80::{ProcRow, Refusal};
 pub use vouched::{Vouched, vouch};
-pub use whole::{ReadAllFault, read_all, write_all};
-pub use writing::Writing;

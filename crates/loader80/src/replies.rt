@@ -10,9 +10,9 @@ use crate::inputs::{InputsFault, read_inputs};
 use crate::running::run;
 use crate::transcript::{refusal_text, transcript_text};
 use crate::vouched::{Vouched, vouch};
+use absolute80::{ImageFault, read_image};
 use image80::{Image, RegionsFault, read_regions};
 use machine80::{End, Inputs, ListPorts, PagedBus, Ports};
-use place80::{ImageFault, read_image};
 use std::alloc::{AllocError, Global};
 use verify80::Refusal;
 

@@ -2,11 +2,11 @@
 //! program's tests.
 
 use crate::pushing::{IMAGE, INPUTS, REGIONS};
+use absolute80::read_image;
 use calls80::{Procedure, find_calls};
 use image80::{Image, read_regions};
 use loader80::{ProcRow, Vouched, read_inputs, run, vouch};
 use machine80::{End, FlatBus, ListPorts, PagedBus, Ports};
-use place80::read_image;
 use reach80::find_reached;
 use std::alloc::Global;
 use std::process::Abort;

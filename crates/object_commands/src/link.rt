@@ -12,12 +12,12 @@ use console80::{
     path_of, read_link_file,
 };
 use link80::{Linked, link};
-use loader80::Reading;
 use omf_core::Name;
 use omf_library::Library;
 use omf_module::{Module, write_file};
 use std::alloc::{AllocError, Global};
 use std::slice;
+use streams80::Reading;
 
 /// The arguments of `link`.
 #[derive(Drop)]

@@ -5,11 +5,12 @@ use crate::helpers::locate_options::{
     CODE_BASE, COMMON_BASE, DATA_BASE, LocateTexts, MEMORY_BASE, MEMORY_SIZE, STACK_BASE,
     STACK_SIZE,
 };
+use absolute80::write_image;
 use clap::ArgMatches;
 use console80::{Argument, Console, Kind, NewFile, Reported, Syntax, path_of, read_modules};
 use image80::{Image, write_regions};
 use omf_module::Module;
-use place80::{Options, PlaceFault, layout, locate, locate_with_restart, write_image};
+use place80::{Options, PlaceFault, layout, locate, locate_with_restart};
 use publics80::write_image_with_publics;
 use std::alloc::Global;
 

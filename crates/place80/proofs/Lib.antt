@@ -9,7 +9,6 @@ pub mod OverlapLemmas
 pub mod LayoutLemmas
 pub mod LocatingLemmas
 pub mod ChunkLemmas
-pub mod ImageFileLemmas
 pub mod LaidOut
 pub mod FitLemmas
 pub mod LocatedRegions

@@ -1,7 +1,6 @@
 pub mod Layout
 pub mod PlaceFault
 pub mod Locating
-pub mod ImageFile
 pub mod LayoutLaws
 pub mod LocatedLaws
 pub mod Restart

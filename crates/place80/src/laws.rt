@@ -1,26 +1,7 @@
-//! The laws of layouts, of located regions, and of images as object files, over the definitions alone.
+//! The laws of layouts and of located regions, over the definitions alone.
 
 ghost use Rattle.place80.specs.LayoutLaws.{LayoutIsLaidOut, LaidOutInOneWay, OverlapIsASharedAddress, NoFaultWhereSegmentsFit};
 ghost use Rattle.place80.specs.LocatedLaws.{LocatedRegionsHoldSegments};
-ghost use Rattle.place80.specs.ImageFile.{WrittenImageIsSpelled, OneImage, OneImageFault, NeverBothImage};
-
-use omf_module::laws::{one_file_reading, written_file_is_spelled};
-
-/// What is written of an image spells that image, but for its regions, which an object file doesn't hold.
-pub fn written_image_is_spelled()
-    ensures { WrittenImageIsSpelled }
-{
-    written_file_is_spelled();
-}
-
-/// Bytes spell one image at most, or have one first fault, and never both.
-pub fn one_image_reading()
-    ensures image { OneImage }
-    ensures fault { OneImageFault }
-    ensures never_both { NeverBothImage }
-{
-    one_file_reading();
-}
 
 /// The layout of a program is the one list of its segments in which each has its length and stands at the base that is
 /// given for it or follows the one before it.

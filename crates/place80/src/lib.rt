@@ -1,4 +1,4 @@
-//! Where a program lies in the 8080's memory: the places of its segments, and the image of a located program as an object file.
+//! Where a program lies in the 8080's memory: the places of its segments, and the image of a located program.
 //!
 //! | Item | What it is |
 //! |---|---|
@@ -6,7 +6,7 @@
 //! | [`place_of`] | the address of an offset in one of them: where a public name lies |
 //! | [`locate`], [`Options`], [`PlaceFault`] | a program made an image, where its segments go, and why it can't be located |
 //! | [`locate_with_restart`] | the same with a jump to the program's start at address 0 |
-//! | [`write_image`], [`read_image`], [`ImageFault`] | an image as an object file, and why bytes are no image |
+//! | [`write_image`], [`read_image`], [`ImageFault`] | an image as an object file, and why bytes are no image, which stand in `absolute80` |
 //! | [`Image`], [`Chunk`] | a located program, which stands in `image80` |
 //! | [`Regions`], [`Range`], [`Case`], [`RegionMap`] | its regions, which stand there too |
 //! | [`write_regions`], [`read_regions`], [`RegionsFault`] | regions as a text, which stand in `image80` too |
@@ -14,10 +14,7 @@
 //! | [`laws`] | what holds of the definitions alone |
 #![tactic(auto)]
 
-mod absolute;
 mod addresses;
-mod image_fault;
-mod image_file;
 pub mod laws;
 mod laying_out;
 mod located_chunks;
@@ -30,9 +27,8 @@ mod place_fault;
 mod placed_segments;
 mod restarting;
 
+pub use absolute80::{ImageFault, read_image, write_image};
 pub use addresses::place_of;
-pub use image_fault::ImageFault;
-pub use image_file::{read_image, write_image};
 pub use image80::{
     Case, Chunk, Image, Range, RegionMap, Regions, RegionsFault, migrate_regions, read_regions,
     write_regions, write_regions2,

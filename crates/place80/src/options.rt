@@ -1,3 +1,5 @@
+//! What a caller of LOCATE chooses: bases and sizes.
+
 use omf_body::segment_id::{CODE, DATA, MEMORY, STACK, UNNAMED_COMMON};
 
 /// The options of LOCATE: bases of segments, and sizes in place of those of STACK and MEMORY, all in bytes.

@@ -1,3 +1,5 @@
+//! Why a program can't be located.
+
 use omf_core::Name;
 use std::alloc::{AllocError, AllocFailed};
 use thiserror::Error;

@@ -1,3 +1,5 @@
+//! A program's segments at their places.
+
 ghost use Rattle.std.specs.Prelude.{◌≡◌, ◌==◌, find};
 ghost use Rattle.place80.specs.Layout.{placed_in};
 

@@ -13,12 +13,13 @@ use bundle_words::{CopiedReader, explain_bundle};
 pub use bundle80::{BUNDLE_LIMIT, BundleFault, bundle};
 use commands::{refuse_arguments, run_command};
 use console80::{Console, NotedWriter, Reported};
-use loader80::{Reading, SessionFault, Writing};
+use loader80::SessionFault;
 use run_commands::status_of;
 use std::alloc::AllocError;
 use std::env;
 use std::io::ErrorKind;
 use std::process::ExitCode;
+use streams80::{Reading, Writing};
 
 /// The steps that a bundle's run makes at most.
 const STEPS: u64 = 1_000_000;

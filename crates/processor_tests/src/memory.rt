@@ -1,8 +1,8 @@
 //! Memories for the tests of steps.
 
+use absolute80::read_image;
 use image80::{Image, read_regions};
 use machine80::{FlatBus, PagedBus};
-use place80::read_image;
 use std::alloc::Global;
 use std::test::Fail;
 

@@ -11,9 +11,9 @@ use Rattle.omf_parts.specs.Rules.{keeps_rules, is_content, is_in_bounds}
 use Rattle.omf_module.specs.Spelled.{SpellsFile}
 use Rattle.omf_module.specs.Writing.{file_bytes}
 use Rattle.image80.specs.Image.{PlacedBytes, Located, IsChunk}
-use Rattle.place80.specs.declared.image_fault.ImageFault.TheVariants.{NotAbsolute}
+use Rattle.absolute80.specs.declared.image_fault.ImageFault.TheVariants.{NotAbsolute}
 use Rattle.place80.specs.declared.placed_segments.Placed.{Placed}
-use Rattle.place80.specs.ImageFile.{chunk_content, content_chunk, is_absolute_content, is_absolute, program_from, program_of, without_regions, SpellsImage}
+use Rattle.absolute80.specs.ImageFile.{chunk_content, content_chunk, is_absolute_content, is_absolute, program_from, program_of, without_regions, SpellsImage}
 use Rattle.publics80.specs.ImagePublics.{absolute_public, publics_at, named_module}
 
 -- a module without commons lists no segments where none is listed

@@ -9,7 +9,7 @@ use Rattle.omf_module.specs.Spelled.{SpellsFile}
 use Rattle.image80.specs.Image.{Located}
 use Rattle.place80.specs.declared.placed_segments.Placed.{Placed}
 use Rattle.place80.specs.Layout.{place_among}
-use Rattle.place80.specs.ImageFile.{image_module}
+use Rattle.absolute80.specs.ImageFile.{image_module}
 
 -- a public at its address, which is its offset in the absolute segment
 abbrev pub absolute_public : List Placed → Public → Public

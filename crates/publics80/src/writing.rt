@@ -5,7 +5,7 @@ ghost use Rattle.std.specs.List.{AllByRecursion};
 ghost use Rattle.image80.specs.Image.{IsChunk};
 ghost use Rattle.omf_module.specs.Spelled.{SpellsFile};
 ghost use Rattle.omf_module.specs.Writing.{file_bytes};
-ghost use Rattle.place80.specs.ImageFile.{SpellsImage, chunk_content, without_regions};
+ghost use Rattle.absolute80.specs.ImageFile.{SpellsImage, chunk_content, without_regions};
 ghost use Rattle.publics80.specs.ImagePublics.{absolute_public, named_module, publics_at};
 
 use image80::{Chunk, Image};
@@ -14,7 +14,7 @@ use omf_module::{Content, Module, Parts, Public, write_file};
 use place80::{Placed, place_of};
 use std::alloc::{AllocError, Global};
 
-/// Appends the object file of the image to `out`, as `place80::write_image` does, but with a public of segment 0 for each public
+/// Appends the object file of the image to `out`, as `absolute80::write_image` does, but with a public of segment 0 for each public
 /// of its module, in order: the same name, at the address that it has if the module's segments are placed as these are. So Intel's
 /// LOCATE keeps them without PURGE. (ISIS-II User's Guide, LOCATE; 8080 Object Module Formats, public declarations record.)
 ///

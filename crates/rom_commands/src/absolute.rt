@@ -1,9 +1,9 @@
 //! `plm80 absolute`: the image of bytes as they are.
 
+use absolute80::write_image;
 use clap::ArgMatches;
 use console80::{Argument, Console, Kind, OptionText, Reported, Syntax, path_of, word_of_digits};
 use image80::Image;
-use place80::write_image;
 use rom80::{Dumps, RomFault};
 use std::alloc::{AllocError, Global};
 

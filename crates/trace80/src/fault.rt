@@ -2,8 +2,8 @@
 
 ghost use Rattle.std.specs.Prelude.{◌≡◌};
 
-use loader80::Failed;
 use std::alloc::AllocError;
+use streams80::Failed;
 use thiserror::Error;
 
 /// Why the lines of a run weren't written.

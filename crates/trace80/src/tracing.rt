@@ -19,10 +19,11 @@ use crate::line::{append_line, append_number};
 use crate::stepping::{Rules, make_step};
 use decode80::{Fetched, Instr};
 use image80::RegionMap;
-use loader80::{Ended, Sink, Vouched, write_all};
+use loader80::{Ended, Vouched};
 use machine80::{Cpu, End, Inputs, ListPorts, PagedBus, fetch};
 use quick80::laws::images_that_never_go_wrong_stay_right;
 use std::alloc::{AllocError, Global};
+use streams80::{Sink, write_all};
 
 /// Writes the lines of some instructions of a run, each as it comes: the run of a vouched image from its start with these inputs.
 /// A line has the instruction as a listing has it, the byte that it takes from a port or gives to one, and the registers before

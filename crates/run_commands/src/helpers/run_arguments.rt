@@ -7,11 +7,12 @@ use console80::{
     regions_of,
 };
 use image80::Image;
-use loader80::{Ended, InputsFault, SessionFault, Vouched, Writing, ending_text, read_inputs};
+use loader80::{Ended, InputsFault, SessionFault, Vouched, ending_text, read_inputs};
 use machine80::Inputs;
 use naming80::Names;
 use std::alloc::{AllocError, Global};
 use std::io::ErrorKind;
+use streams80::Writing;
 use trace80::{Limits, Span, TraceFault, write_lines};
 
 /// The paths of an image, of its regions and of the inputs of its run.

@@ -3,8 +3,9 @@
 use crate::helpers::run_arguments::RunFiles;
 use crate::status_of;
 use console80::{Console, LateFile, NotedWriter, Reported, explain_regions};
-use loader80::{Outcome, Reading, SessionFault, Writing, session};
+use loader80::{Outcome, SessionFault, session};
 use std::io::ErrorKind;
+use streams80::{Reading, Writing};
 use trace80::Limits;
 
 /// Why reading a session's files or writing its transcript failed, if it did.

@@ -2,7 +2,7 @@
 use Rattle.std.proofs.Common.{◌≡◌, ◌++◌, drop, map}
 use Rattle.std.specs.List.{AllByRecursion}
 use Rattle.image80.specs.Image.{IsChunk}
-use Rattle.place80.specs.ImageFile.{chunk_content}
+use Rattle.absolute80.specs.ImageFile.{chunk_content}
 use Rattle.publics80.proofs.writing.contents_of.Given as goal
 
 abbrev pub invariant-loop-chunk : goal.invariant-loop-chunk

@@ -1,0 +1,16 @@
+//! Images as object files: a located program is written as one absolute module, and read from it.
+//!
+//! | Item | What it is |
+//! |---|---|
+//! | [`write_image`], [`read_image`] | an image as an object file |
+//! | [`ImageFault`] | why bytes are no image |
+//! | [`laws`] | what holds of the definitions alone |
+#![tactic(auto)]
+
+mod absolute;
+mod image_fault;
+mod image_file;
+pub mod laws;
+
+pub use image_fault::ImageFault;
+pub use image_file::{read_image, write_image};
