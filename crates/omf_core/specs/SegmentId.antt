@@ -1,0 +1,25 @@
+-- The ids of segments. (8080 Object Module Formats, segment ids; those of commons are this project's choice among them.)
+use Rattle.std.specs.Prelude.{ℕ, Bool, ◌&&◌, nat_le}
+
+-- bytes whose offsets are addresses
+abbrev pub absolute_id : ℕ
+absolute_id = 0
+
+abbrev pub code_id : ℕ
+code_id = 1
+
+abbrev pub data_id : ℕ
+data_id = 2
+
+abbrev pub stack_id : ℕ
+stack_id = 3
+
+abbrev pub memory_id : ℕ
+memory_id = 4
+
+-- those of named commons
+abbrev pub is_common_id : ℕ → Bool
+is_common_id id = nat_le 6 id && nat_le id 254
+
+abbrev pub unnamed_common_id : ℕ
+unnamed_common_id = 255
