@@ -1,5 +1,5 @@
 -- The ids of segments. (8080 Object Module Formats, segment ids; those of commons are this project's choice among them.)
-use Rattle.std.specs.Prelude.{ℕ, Bool, ◌&&◌, nat_le}
+use Rattle.std.specs.Prelude.{ℕ, ◌==◌, Bool, ◌&&◌, nat_le, if◌then◌else◌, List, codes}
 
 -- bytes whose offsets are addresses
 abbrev pub absolute_id : ℕ
@@ -23,3 +23,13 @@ is_common_id id = nat_le 6 id && nat_le id 254
 
 abbrev pub unnamed_common_id : ℕ
 unnamed_common_id = 255
+
+-- the word of a segment in printed lines, which is this project's own
+abbrev pub segment_word : ℕ → List ℕ
+segment_word id =
+    if id == absolute_id then codes "ABSOLUTE"
+    else if id == code_id then codes "CODE"
+    else if id == data_id then codes "DATA"
+    else if id == stack_id then codes "STACK"
+    else if id == memory_id then codes "MEMORY"
+    else codes "COMMON"
