@@ -1,7 +1,8 @@
 -- The entries of each kind of row: their bytes, their listed values, and their fields in order.
 -- (8080 Object Module Formats, record formats.)
-use Rattle.std.specs.Prelude.{ℕ, ◌==◌, Bool, true, not, ◌&&◌, nat_le, if◌then◌else◌, List, [], ◌∷◌, ◌++◌, Result, Ok, Err}
+use Rattle.std.specs.Prelude.{ℕ, ◌==◌, Bool, true, not, ◌&&◌, if◌then◌else◌, List, [], ◌∷◌, ◌++◌, Result, Ok, Err}
 use Rattle.omf_core.specs.Name.{is_name, name_spelling}
+use Rattle.omf_core.specs.SegmentId.{is_common_id}
 use Rattle.omf_body.specs.declared.fault.FieldFault.{FieldFault}
 use Rattle.omf_body.specs.declared.fault.FieldFault.TheVariants.{BadBody}
 use Rattle.omf_body.specs.declared.entries.SegmentEntry.{SegmentEntry}
@@ -33,9 +34,6 @@ abbrev pub is_paged : SegmentEntry → Bool
 is_paged e = not (e.alignment == 3)
 
 -- ---- a named common: id and name; the id is checked first
-
-abbrev pub is_common_id : ℕ → Bool
-is_common_id id = nat_le 6 id && nat_le id 254
 
 abbrev pub common_bytes : CommonEntry → List ℕ
 common_bytes e = e.id ∷ name_spelling e.name

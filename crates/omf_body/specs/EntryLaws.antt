@@ -3,6 +3,7 @@ use Rattle.std.proofs.Common.{◌≡◌, ℕ, ◌+◌, ◌*◌, ◌/◌, ◌%◌
 use Rattle.std.specs.Prelude.{if◌then◌else◌}
 use Rattle.std.proofs.lemmas.Bool.{and_parts}
 use Rattle.omf_core.specs.Name.{is_name, name_spelling}
+use Rattle.omf_core.specs.SegmentId.{is_common_id}
 use Rattle.omf_body.specs.declared.fault.FieldFault.{FieldFault}
 use Rattle.omf_body.specs.declared.fault.FieldFault.TheVariants.{BadBody}
 use Rattle.omf_body.specs.declared.entries.SegmentEntry.{SegmentEntry}
@@ -13,7 +14,7 @@ use Rattle.omf_body.specs.declared.entries.OffsetEntry.{OffsetEntry}
 use Rattle.omf_body.specs.declared.entries.IndexEntry.{IndexEntry}
 use Rattle.omf_body.specs.Fields.{◌>>=◌, read_byte, read_name}
 use Rattle.omf_body.specs.Layouts.{IsLayout}
-use Rattle.omf_body.specs.Entries.{is_common_id, segment_layout, common_layout, public_layout, external_layout, offset_layout, index_layout}
+use Rattle.omf_body.specs.Entries.{segment_layout, common_layout, public_layout, external_layout, offset_layout, index_layout}
 use Rattle.omf_body.specs.FieldsAgain.{name_again}
 
 whole : (word : ℕ) → word % 256 + 256 * (word / 256) ≡ word

@@ -1,3 +1,5 @@
+//! Bytes of a content record, where they lie in a file.
+
 use std::marker::Model;
 
 /// Bytes where they lie in a file. A contract sees the list of them.

@@ -1,3 +1,5 @@
+//! A body is read field by field.
+
 use crate::bytes::Bytes;
 use crate::fault::FieldFault;
 use crate::name::NameBytes;

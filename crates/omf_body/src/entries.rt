@@ -9,7 +9,7 @@ use crate::cursor::Cursor;
 use crate::entry::{Entry, ReadEntry};
 use crate::fault::FieldFault;
 use crate::name::NameBytes;
-use crate::segment_id::{FIRST_COMMON, LAST_COMMON};
+use omf_core::segment_id::{FIRST_COMMON, LAST_COMMON};
 use omf_core::{push_name, push_word};
 use std::alloc::AllocError;
 

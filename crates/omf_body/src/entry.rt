@@ -1,3 +1,5 @@
+//! The one way in which an entry is written, and read.
+
 ghost use Rattle.std.specs.Prelude.{◌≡◌, ◌++◌, Ok, Err, IfOk, IfErr, OnOk, IsTrue};
 ghost use Rattle.omf_body.specs.Layouts.{Layout, IsLayout};
 

@@ -1,3 +1,5 @@
+//! Which bytes of a word a reference is to.
+
 ghost use Rattle.std.specs.Prelude.{◌≡◌, ◌∷◌, Ok, Err, IfOk, IfErr};
 ghost use Rattle.omf_body.specs.Fields.{field_byte, read_field};
 

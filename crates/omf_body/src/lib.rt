@@ -25,7 +25,6 @@ pub mod laws;
 mod name;
 mod parsing;
 mod row;
-pub mod segment_id;
 mod writing;
 
 pub use body::{
@@ -41,6 +40,7 @@ pub use entry::{Entry, ReadEntry};
 pub use fault::{BodyFault, FieldFault};
 pub use field::Field;
 pub use name::NameBytes;
+pub use omf_core::segment_id;
 pub use parsing::parse;
 pub use row::Row;
 pub use writing::{

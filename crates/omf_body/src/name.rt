@@ -1,3 +1,5 @@
+//! Names where they lie in a file.
+
 use omf_core::Name;
 use std::marker::Model;
 

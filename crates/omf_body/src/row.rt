@@ -1,3 +1,5 @@
+//! The entries that a body repeats, one after another.
+
 use crate::cursor::Cursor;
 use crate::entry::{Entry, ReadEntry};
 use crate::fault::FieldFault;

@@ -1,5 +1,5 @@
--- The first fault of the records that bytes hold, and what stays of it whatever bytes follow.
-use Rattle.std.proofs.Common.{◌≡◌, ◌≢◌, ℕ, ◌+◌, ◌<◌, ◌≤◌, ◌==◌, ◌&&◌, not, Bool, true, false, if◌then◌else◌, List, [], ◌∷◌, ◌++◌, length, drop, None, Some, IsTrue, refl, sym, subst, ap, ◌∙◌, arith, append_assoc, true≢false, get_or, Fits, w8}
+-- The count of the records that bytes hold, their first fault, and what stays of it whatever bytes follow.
+use Rattle.std.proofs.Common.{◌≡◌, ◌≢◌, ℕ, ◌+◌, ◌<◌, ◌≤◌, ◌==◌, ◌&&◌, not, Bool, true, false, if◌then◌else◌, List, [], ◌∷◌, ◌++◌, length, drop, None, Some, IsTrue, suc, refl, sym, subst, ap, ◌∙◌, arith, append_assoc, true≢false, get_or, Fits, w8}
 use Rattle.std.specs.List.{All, list_all}
 use Rattle.std.proofs.lemmas.Bool.{and_parts, eqb-true}
 use Rattle.std.proofs.lemmas.List.{append-nil, drop-append-le, get_or_default, length-append}
@@ -11,7 +11,7 @@ use Rattle.omf_core.specs.Fault.{is_truncation}
 use Rattle.omf_core.specs.Record.{SpellsRecord, fault_at, is_truncated, has_zero_length, has_zero_sum}
 use Rattle.omf_core.specs.Records.{RecordValue, SpellsRecords}
 use Rattle.omf_core.specs.Feed.{goes_on, OpenRecords, OpenCount, EndedCount, ended, cut_off, FirstRecordFault, LastingRecordFault, ReadsUpTo}
-use Rattle.omf_core.specs.FeedLaws.{OneRecordFault, LastingFaultsLast, CountedHaveNone}
+use Rattle.omf_core.specs.FeedLaws.{OneRecordFault, OneCount, LastingFaultsLast, CountedHaveNone}
 use Rattle.omf_core.proofs.Spelled.{no_fault_at_record, faults_stay, one_record, records_stay}
 use Rattle.omf_core.proofs.SpelledRecords.{list_grows, lists_stay, same_first}
 use Rattle.omf_core.proofs.Completed.{truncated_can_be_completed}
@@ -21,59 +21,80 @@ no_record bytes at f fault to kind body s =
     let none = no_fault_at_record bytes at to kind body s in
     cc
 
+-- no record at this place goes on: a fault is there, or the end of the file
+abbrev Stops : List ℕ → ℕ → Type 0
+Stops bytes at = (r : RecordValue) → SpellsRecord bytes at (at + 4 + length r.body) r.kind r.body → IsTrue (goes_on r) → ⊥
+
+fault_stops : (bytes : List ℕ) (at : ℕ) (f : RecordFault) → fault_at (drop at bytes) at ≡ Some f → Stops bytes at
+fault_stops bytes at f fault r s going = no_record bytes at f fault (at + 4 + length r.body) r.kind r.body s
+
+end_stops : (bytes : List ℕ) (at to : ℕ) (body : List ℕ) → SpellsRecord bytes at to 14 body → Stops bytes at
+end_stops bytes at to body e r s going =
+    impossible (r.kind == 14) (eq-true r.kind (one_record bytes at (at + 4 + length r.body) to r.kind 14 r.body body s e).0) going
+  where
+    eq-true : (k : ℕ) → k ≡ 14 → (k == 14) ≡ true
+    eq-true k e = subst (λ (n : ℕ). (n == 14) ≡ true) (sym e) refl
+
+    impossible : (b : Bool) → b ≡ true → IsTrue (not b) → ⊥
+    impossible true e going = cc
+    impossible false e going = cc
+
+-- Records that go on are followed by those that do, up to one place at most.
+one_stop : (bytes : List ℕ) (from to to' : ℕ) (records records' : List RecordValue)
+    → SpellsRecords bytes from to records → SpellsRecords bytes from to' records'
+    → IsTrue (list_all goes_on records) → IsTrue (list_all goes_on records')
+    → Stops bytes to → Stops bytes to' → (to ≡ to') × (length records ≡ length records')
+one_stop bytes from to to' [] [] a b going going' x y = (sym a ∙ b, refl)
+one_stop bytes from to to' [] (s ∷ ss) a b going going' x y =
+    absurd (subst (Stops bytes) (sym a) x s b.0 (and_parts (goes_on s) (list_all goes_on ss) going').0)
+one_stop bytes from to to' (r ∷ rs) [] a b going going' x y =
+    absurd (subst (Stops bytes) (sym b) y r a.0 (and_parts (goes_on r) (list_all goes_on rs) going).0)
+one_stop bytes from to to' (r ∷ rs) (s ∷ ss) a b going going' x y =
+    let first : r ≡ s = same_first bytes from r s a.0 b.0 in
+    let rest : SpellsRecords bytes (from + 4 + length r.body) to' ss =
+    subst (λ (v : RecordValue). SpellsRecords bytes (from + 4 + length v.body) to' ss) (sym first) b.1 in
+    let same = one_stop bytes (from + 4 + length r.body) to to' rs ss a.1 rest (and_parts (goes_on r) (list_all goes_on rs) going).1 (and_parts (goes_on s) (list_all goes_on ss) going').1 x y in
+    (same.0, ap (λ (n : ℕ). suc n) same.1)
+
+-- the same of open records
+stops_once : (bytes : List ℕ) (to to' : ℕ) (records records' : List RecordValue)
+    → OpenRecords bytes to records → OpenRecords bytes to' records' → Stops bytes to → Stops bytes to' → (to ≡ to') × (length records ≡ length records')
+stops_once bytes to to' records records' a b = one_stop bytes 0 to to' records records' a.spelled b.spelled a.going_on b.going_on
+
 -- the place where records end, as the place where they begin
 moved : (bytes : List ℕ) (a b : ℕ) (f : RecordFault) → a ≡ b → fault_at (drop b bytes) b ≡ Some f → fault_at (drop a bytes) a ≡ Some f
 moved bytes a b f same fault = subst (λ (p : ℕ). fault_at (drop p bytes) p ≡ Some f) (sym same) fault
 
-one_stop : (bytes : List ℕ) (from to to' : ℕ) (records records' : List RecordValue) (f g : RecordFault)
-    → SpellsRecords bytes from to records → SpellsRecords bytes from to' records'
-    → fault_at (drop to bytes) to ≡ Some f → fault_at (drop to' bytes) to' ≡ Some g → f ≡ g
-one_stop bytes from to to' [] [] f g a b x y =
-    let here = moved bytes from to f a x in
-    let there = moved bytes from to' g b y in
-    cc
-one_stop bytes from to to' [] (s ∷ ss) f g a b x y = absurd (no_record bytes from f (moved bytes from to f a x) (from + 4 + length s.body) s.kind s.body b.0)
-one_stop bytes from to to' (r ∷ rs) [] f g a b x y = absurd (no_record bytes from g (moved bytes from to' g b y) (from + 4 + length r.body) r.kind r.body a.0)
-one_stop bytes from to to' (r ∷ rs) (s ∷ ss) f g a b x y =
-    let first : r ≡ s = same_first bytes from r s a.0 b.0 in
-    let rest : SpellsRecords bytes (from + 4 + length r.body) to' ss =
-    subst (λ (v : RecordValue). SpellsRecords bytes (from + 4 + length v.body) to' ss) (sym first) b.1 in
-    one_stop bytes (from + 4 + length r.body) to to' rs ss f g a.1 rest x y
-
 pub one_record_fault : OneRecordFault
-one_record_fault bytes f g x y = one_stop bytes 0 x.at y.at x.records y.records f g x.before.spelled y.before.spelled x.faults y.faults
+one_record_fault bytes f g x y =
+    let same = (stops_once bytes x.at y.at x.records y.records x.before y.before (fault_stops bytes x.at f x.faults) (fault_stops bytes y.at g y.faults)).0 in
+    let there = moved bytes x.at y.at g same y.faults in
+    let here = x.faults in
+    cc
+
+-- Where a record ends the file, none of those before has a fault.
+none_before_end : (bytes : List ℕ) (to count : ℕ) (f : RecordFault) → EndedCount bytes to count → FirstRecordFault bytes f → ⊥
+none_before_end bytes to count f e x =
+    let same = (stops_once bytes e.at x.at e.records x.records e.before x.before (end_stops bytes e.at to e.body e.ends) (fault_stops bytes x.at f x.faults)).0 in
+    no_record bytes e.at f (moved bytes e.at x.at f same x.faults) to 14 e.body e.ends
+
+cut_off_fault : (bytes : List ℕ) (to count : ℕ) → OpenCount bytes to count → fault_at (drop to bytes) to ≡ Some (Truncated to) → FirstRecordFault bytes (Truncated to)
+cut_off_fault bytes to count o cut = record { at = to; records = o.records; before = o.before; faults = cut }
+
+pub one_count : OneCount
+one_count bytes count count' (ended to e) (ended to' e') =
+    let same = (stops_once bytes e.at e'.at e.records e'.records e.before e'.before (end_stops bytes e.at to e.body e.ends) (end_stops bytes e'.at to' e'.body e'.ends)).1 in
+    omega (arith, e.counted, e'.counted)
+one_count bytes count count' (ended to e) (cut_off to' o cut) = absurd (none_before_end bytes to count (Truncated to') e (cut_off_fault bytes to' count' o cut))
+one_count bytes count count' (cut_off to o cut) (ended to' e) = absurd (none_before_end bytes to' count' (Truncated to) e (cut_off_fault bytes to count o cut))
+one_count bytes count count' (cut_off to o cut) (cut_off to' o' cut') =
+    let same = (stops_once bytes to to' o.records o'.records o.before o'.before (fault_stops bytes to (Truncated to) cut) (fault_stops bytes to' (Truncated to') cut')).1 in
+    omega (arith, o.counted, o'.counted)
 
 pub lasting_faults_last : LastingFaultsLast
 lasting_faults_last bytes more fault small lasts others small' =
     subst (λ (b : List ℕ). FirstRecordFault b fault) (sym (append_assoc bytes more others))
     (lasts (more ++ others) (All-append (λ byte. byte < 256) more others small small'))
-
-ends_no_file : (r : RecordValue) (rs : List RecordValue) → r.kind ≡ 14 → IsTrue (list_all goes_on (r ∷ rs)) → ⊥
-ends_no_file r rs is going = impossible (r.kind == 14) (list_all goes_on rs) (eq-true r.kind is) going
-  where
-    eq-true : (k : ℕ) → k ≡ 14 → (k == 14) ≡ true
-    eq-true k e = subst (λ (n : ℕ). (n == 14) ≡ true) (sym e) refl
-
-    impossible : (b rest : Bool) → b ≡ true → IsTrue (not b && rest) → ⊥
-    impossible true rest e going = cc
-    impossible false rest e going = cc
-
--- Where a record ends the file, none of those before has a fault.
-none_before_end : (bytes : List ℕ) (from at to at' : ℕ) (records records' : List RecordValue) (body : List ℕ) (f : RecordFault)
-    → SpellsRecords bytes from at records → SpellsRecord bytes at to 14 body
-    → SpellsRecords bytes from at' records' → IsTrue (list_all goes_on records') → fault_at (drop at' bytes) at' ≡ Some f → ⊥
-none_before_end bytes from at to at' [] [] body f a e b going x =
-    no_record bytes at f (moved bytes at at' f (sym a ∙ b) x) to 14 body e
-none_before_end bytes from at to at' [] (s ∷ ss) body f a e b going x =
-    let here : SpellsRecord bytes from to 14 body = subst (λ (p : ℕ). SpellsRecord bytes p to 14 body) (sym a) e in
-    ends_no_file s ss (one_record bytes from (from + 4 + length s.body) to s.kind 14 s.body body b.0 here).0 going
-none_before_end bytes from at to at' (r ∷ rs) [] body f a e b going x =
-    no_record bytes from f (moved bytes from at' f b x) (from + 4 + length r.body) r.kind r.body a.0
-none_before_end bytes from at to at' (r ∷ rs) (s ∷ ss) body f a e b going x =
-    let first : r ≡ s = same_first bytes from r s a.0 b.0 in
-    let rest : SpellsRecords bytes (from + 4 + length r.body) at' ss =
-    subst (λ (v : RecordValue). SpellsRecords bytes (from + 4 + length v.body) at' ss) (sym first) b.1 in
-    none_before_end bytes (from + 4 + length r.body) at to at' rs ss body f a.1 e rest (and_parts (goes_on s) (list_all goes_on ss) going).1 x
 
 pub spelled_within : (bytes : List ℕ) (from to : ℕ) (records : List RecordValue) → from ≤ length bytes → SpellsRecords bytes from to records → to ≤ length bytes
 spelled_within bytes from to [] inside a = omega (arith, a)
@@ -140,10 +161,9 @@ without_more bytes f lasts = subst (λ (b : List ℕ). FirstRecordFault b f) (ap
 
 pub counted_have_none : CountedHaveNone
 counted_have_none bytes count f small (ended to e) lasts =
-    let x = without_more bytes f lasts in
-    none_before_end bytes 0 e.at to x.at e.records x.records e.body f e.before.spelled e.ends x.before.spelled x.before.going_on x.faults
+    none_before_end bytes to count f e (without_more bytes f lasts)
 counted_have_none bytes count f small (cut_off to o cut) lasts =
-    let same : f ≡ Truncated to = one_record_fault bytes f (Truncated to) (without_more bytes f lasts) (record { at = to; records = o.records; before = o.before; faults = cut }) in
+    let same : f ≡ Truncated to = one_record_fault bytes f (Truncated to) (without_more bytes f lasts) (cut_off_fault bytes to count o cut) in
     let whole = truncated_can_be_completed (drop to bytes) to (all_dropped bytes to small) cut in
     let x = lasts whole.0 whole.1 in
     let cut' : fault_at (drop x.at (bytes ++ whole.0)) x.at ≡ Some (Truncated to) = x.faults ∙ ap Some same in

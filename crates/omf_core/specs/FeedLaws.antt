@@ -1,4 +1,4 @@
--- What holds of faults that stay whatever bytes follow. (It follows from the layout of records.)
+-- What holds of counts, and of faults that stay whatever bytes follow. (It follows from the layout of records.)
 use Rattle.std.specs.Prelude.{◌≡◌, ℕ, ◌<◌, List, ◌++◌, All}
 use Rattle.omf_core.specs.declared.fault.RecordFault.{RecordFault}
 use Rattle.omf_core.specs.Feed.{CountsRecords, FirstRecordFault, LastingRecordFault}
@@ -6,6 +6,10 @@ use Rattle.omf_core.specs.Feed.{CountsRecords, FirstRecordFault, LastingRecordFa
 -- Bytes have one first fault at most.
 abbrev pub OneRecordFault : Type 0
 OneRecordFault = (bytes : List ℕ) (f f' : RecordFault) → FirstRecordFault bytes f → FirstRecordFault bytes f' → f ≡ f'
+
+-- Bytes have one count of whole records.
+abbrev pub OneCount : Type 0
+OneCount = (bytes : List ℕ) (count count' : ℕ) → CountsRecords bytes count → CountsRecords bytes count' → count ≡ count'
 
 -- A fault that lasts of some bytes lasts of those and any others.
 abbrev pub LastingFaultsLast : Type 0

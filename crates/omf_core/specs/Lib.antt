@@ -6,3 +6,4 @@ pub mod Laws
 pub mod Name
 pub mod Record
 pub mod Records
+pub mod SegmentId

@@ -1,6 +1,7 @@
 -- Names, and how bytes spell one.
 -- (8080 Object Module Formats: a name is a length byte and that many characters.)
-use Rattle.std.specs.Prelude.{◌≡◌, ℕ, ◌+◌, ◌≤◌, nat_lt, nat_le, Bool, ◌&&◌, IsTrue, List, ◌∷◌, length, take, drop, slice_index, slice_range}
+use Rattle.std.specs.Prelude.{◌≡◌, ℕ, ◌+◌, ◌≤◌, nat_eq, nat_lt, nat_le, Bool, ◌&&◌, IsTrue, List, ◌∷◌, length, take, drop, slice_index, slice_range}
+use Rattle.std.specs.Cmp.Lexicographic.{pointwise}
 use Rattle.std.specs.List.{list_all}
 
 -- a printed character of ASCII, no blank
@@ -10,6 +11,10 @@ is_name_byte byte = nat_le 0x21 byte && nat_le byte 0x7E
 -- 1 to 255 of those
 abbrev pub is_name : List ℕ → Bool
 is_name bytes = nat_le 1 (length bytes) && nat_le (length bytes) 255 && list_all is_name_byte bytes
+
+-- two names are the same, byte for byte
+abbrev pub same_name : List ℕ → List ℕ → Bool
+same_name = pointwise nat_eq
 
 -- The bytes from place `from` up to place `to` spell the name: a byte that counts them, and its bytes.
 pub record SpellsName (bytes : List ℕ) (from to : ℕ) (name : List ℕ) : Type 0 where

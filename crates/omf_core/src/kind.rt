@@ -1,3 +1,5 @@
+//! The kinds of record.
+
 ghost use Rattle.std.specs.Prelude.{◌≡◌, ◌≢◌, IfSome, IfNone};
 ghost use Rattle.omf_core.specs.declared.kind.RecordKind.{RecordKind};
 ghost use Rattle.omf_core.specs.Kind.{kind_byte};

@@ -2,7 +2,7 @@
 //! a layer above that calls it has the law in its proof.
 
 ghost use Rattle.omf_core.specs.Laws.{OneRecordAtEachPlace, NoSpellingBeginsAnother, NoFaultExactlyAtRecords, RecordsStay, FaultsStay, TruncatedCanBeCompleted, OtherFaultsStay, TruncatedCanBeSpoilt, WrittenIsSpelled, SpelledIsWritten, OneListBeginsTheOther, OneListAtEachStretch, ListsJoin, ListGrows, ListsStay, WrittenListIsSpelled, OneNameAtEachPlace, NamesExactlyWhereHeld, WrittenNameIsSpelled};
-ghost use Rattle.omf_core.specs.FeedLaws.{OneRecordFault, LastingFaultsLast, CountedHaveNone};
+ghost use Rattle.omf_core.specs.FeedLaws.{OneRecordFault, OneCount, LastingFaultsLast, CountedHaveNone};
 
 /// At a place no two records are spelled.
 #[tactic(auto, using(crate::proofs::Spelled::one_record))]
@@ -118,6 +118,11 @@ pub fn written_name_is_spelled()
 /// Bytes have one first fault at most.
 pub fn one_record_fault()
     ensures { OneRecordFault }
+{}
+
+/// Bytes have one count of whole records.
+pub fn one_count()
+    ensures { OneCount }
 {}
 
 /// A fault that lasts of some bytes lasts of those and any others.

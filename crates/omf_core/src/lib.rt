@@ -4,6 +4,7 @@
 //!   [`put_record`] appends one, and [`sum_of`] is the sum that both use; [`push_word`] and [`push_name`] append what bodies
 //!   are made of, and [`never_too_long`] is for bodies that fit a record;
 //! - [`RecordKind`] names the kinds of the standard;
+//! - [`segment_id`] has the ids of segments;
 //! - [`split_name`] reads a name out of a record's body, and a [`Name`] is a name that is kept;
 //! - a [`Feed`] counts the records of a file that comes in pieces;
 //! - [`RecordFault`], [`PutFault`], [`NameFault`] and [`FeedFault`] are the refusals, each with its `code`;
@@ -18,6 +19,7 @@ pub mod laws;
 mod name;
 mod put;
 mod record;
+pub mod segment_id;
 mod split;
 mod sum;
 

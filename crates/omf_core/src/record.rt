@@ -1,3 +1,5 @@
+//! A record is read.
+
 ghost use Rattle.std.specs.Prelude.{◌≡◌, ◌↔◌, ◌+◌, ◌<◌, ◌≤◌, ℕ, List, length, drop, Some, IfOk, IsOk, IsTrue};
 ghost use Rattle.std.specs.Result.{result_err};
 ghost use Rattle.omf_core.specs.Record.{SpellsRecord, fault_at, head_kind, head_body, record_size, word_at, is_truncated};

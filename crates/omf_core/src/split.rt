@@ -1,3 +1,5 @@
+//! A name is split off a record's body.
+
 ghost use Rattle.std.specs.Prelude.{◌≡◌, ℕ, ◌↔◌, List, drop, IsTrue, IsSome, IfSome};
 ghost use Rattle.omf_core.specs.Name.{SpellsName, counted_bytes, holds_name};
 

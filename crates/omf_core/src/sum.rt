@@ -1,3 +1,5 @@
+//! The sum that a checksum brings to 0.
+
 ghost use Rattle.std.specs.Prelude.{◌≡◌};
 ghost use Rattle.omf_core.specs.Record.{byte_sum};
 

@@ -1,15 +1,15 @@
 -- The module that provides a name to others.
 -- (8080 Object Module Formats, public declarations records; ISIS-II User's Guide, LINK: of several modules that declare a
 -- name, the first is taken.)
-use Rattle.std.specs.Prelude.{◌≡◌, ℕ, Bool, nat_eq, if◌then◌else◌, Option, Some, List}
+use Rattle.std.specs.Prelude.{◌≡◌, ℕ, Bool, if◌then◌else◌, Option, Some, List}
 use Rattle.std.specs.List.{list_any, position_from}
 use Rattle.std.specs.Map.{lookup}
-use Rattle.std.specs.Cmp.Lexicographic.{pointwise}
+use Rattle.omf_core.specs.Name.{same_name}
 use Rattle.omf_parts.specs.Modules.{ModuleValue}
 
 -- the module declares the name public
 abbrev pub declares : List ℕ → ModuleValue → Bool
-declares name m = list_any (λ p. pointwise nat_eq p.name name) m.publics
+declares name m = list_any (λ p. same_name p.name name) m.publics
 
 -- the place of the first module that declares the name, if the list starts at place `at`
 abbrev pub first_provider_from : ℕ → List ModuleValue → List ℕ → Option ℕ
@@ -21,7 +21,7 @@ first_provider = first_provider_from 0
 
 -- the place that a table of names has for this one
 abbrev pub place_in : List (List ℕ × ℕ) → List ℕ → Option ℕ
-place_in places name = lookup (pointwise nat_eq name) places
+place_in places name = lookup (same_name name) places
 
 -- the table has the first provider of each name that a module declares, and no other name
 pub record AreProvidersFrom (at : ℕ) (modules : List ModuleValue) (places : List (List ℕ × ℕ)) : Type 0 where

@@ -1,3 +1,5 @@
+//! A library, and the first of its modules that declares a name.
+
 use omf_core::Name;
 use omf_module::Module;
 use std::marker::Model;

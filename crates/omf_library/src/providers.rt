@@ -1,7 +1,7 @@
 //! The first providers of all names, made once for a list of modules.
 
-ghost use Rattle.std.specs.Prelude.{◌≡◌, ℕ, List, map, nat_eq, IfOk, OnOk};
-ghost use Rattle.std.specs.Cmp.Lexicographic.{pointwise};
+ghost use Rattle.std.specs.Prelude.{◌≡◌, ℕ, List, map, IfOk, OnOk};
+ghost use Rattle.omf_core.specs.Name.{same_name};
 ghost use Rattle.omf_parts.specs.Modules.{ModuleValue};
 ghost use Rattle.omf_library.specs.Providers.{declares, first_provider, AreProviders, TakesNames};
 
@@ -57,7 +57,7 @@ impl<'a> Providers<'a> {
     }
 
     fn take_name(&mut self, name: &'a Name, place: usize) -> Result<(), AllocError>
-        ensures { OnOk result (TakesNames (pointwise nat_eq name.now) place self.old self.new) }
+        ensures { OnOk result (TakesNames (same_name name.now) place self.old self.new) }
     {
         self.places.insert(name.bytes(), place)?;
         Ok(())

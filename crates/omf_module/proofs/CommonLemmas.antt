@@ -6,9 +6,10 @@ use Rattle.std.proofs.lemmas.List.{append-nil, map-append}
 use Rattle.std.proofs.lemmas.List.Folds.{list_all-append}
 use Rattle.std.proofs.lemmas.Grind.{flat_map-append}
 use Rattle.omf_core.specs.Name.{is_name}
+use Rattle.omf_core.specs.SegmentId.{is_common_id}
 use Rattle.omf_body.specs.declared.entries.CommonEntry.{CommonEntry}
 use Rattle.omf_body.specs.declared.fault.FieldFault.{FieldFault}
-use Rattle.omf_body.specs.Entries.{is_common_id, common_bytes, common_layout}
+use Rattle.omf_body.specs.Entries.{common_bytes, common_layout}
 use Rattle.omf_module.specs.declared.fault.Cause.{Cause}
 use Rattle.omf_parts.specs.declared.symbols.Common.{Common}
 use Rattle.omf_parts.specs.Rules.{each_after, is_new_common}

@@ -8,6 +8,7 @@ use Rattle.omf_core.specs.Kind.{kind_byte}
 use Rattle.omf_core.specs.Name.{is_name, name_spelling}
 use Rattle.omf_core.specs.Record.{SpellsRecord, fault_at}
 use Rattle.omf_core.specs.Laws.{OneRecordAtEachPlace, NoFaultExactlyAtRecords}
+use Rattle.omf_core.specs.SegmentId.{is_common_id}
 use Rattle.omf_body.specs.declared.entries.CommonEntry.{CommonEntry}
 use Rattle.omf_body.specs.declared.fault.FieldFault.{FieldFault}
 use Rattle.omf_body.specs.declared.fault.FieldFault.TheVariants.{BadBody as BadField}
@@ -16,7 +17,7 @@ use Rattle.omf_body.specs.declared.body.Body.{Body}
 use Rattle.omf_body.specs.declared.body.Body.TheVariants.{ModuleHeader, EndOfFile, NamedCommons}
 use Rattle.omf_body.specs.Fields.{◌>>=◌, read_name}
 use Rattle.omf_body.specs.FieldsAgain.{name_again}
-use Rattle.omf_body.specs.Entries.{is_common_id, common_bytes, common_layout}
+use Rattle.omf_body.specs.Entries.{common_bytes, common_layout}
 use Rattle.omf_body.specs.Bodies.{body_kind, body_bytes, is_sound_body}
 use Rattle.omf_body.specs.FirstFault.{FirstFault}
 use Rattle.omf_body.specs.Laws.{OneBody, OneFault as OneBodyFault, NeverBoth as NeverBothBody}

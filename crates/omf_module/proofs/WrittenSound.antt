@@ -6,6 +6,7 @@ use Rattle.std.proofs.lemmas.Bool.{and_parts, and_from, leb-true}
 use Rattle.std.proofs.lemmas.Bool.Decides.{eqb_tells}
 use Rattle.std.proofs.lemmas.List.{length-append}
 use Rattle.omf_core.specs.Name.{is_name, is_name_byte, name_spelling}
+use Rattle.omf_core.specs.SegmentId.{is_common_id}
 use Rattle.omf_body.specs.declared.field.Field.{Field}
 use Rattle.omf_body.specs.declared.body.Body.TheVariants.{ModuleHeader, ModuleEnd, ExternalReferences, Relocation, IntersegmentReferences}
 use Rattle.omf_body.specs.Entries.{segment_bytes}
@@ -14,7 +15,7 @@ use Rattle.omf_parts.specs.declared.segment.Segment.{Segment}
 use Rattle.omf_parts.specs.declared.symbols.Common.{Common}
 use Rattle.omf_parts.specs.declared.symbols.Public.{Public}
 use Rattle.omf_parts.specs.Contents.{ContentValue}
-use Rattle.omf_parts.specs.Segments.{is_common_id, has_common_id, is_used, segment_in, entries_for, listed_ids, canonical_segments}
+use Rattle.omf_parts.specs.Segments.{has_common_id, is_used, segment_in, entries_for, listed_ids, canonical_segments}
 use Rattle.omf_parts.specs.Modules.{ModuleValue}
 use Rattle.omf_module.specs.Writing.{segment_entry, header_body, common_body, public_body, external_body, content_body, end_body}
 use Rattle.omf_parts.specs.FewSegments.{canonical_few}

@@ -5,6 +5,7 @@ use Rattle.omf_core.specs.declared.fault.RecordFault.{RecordFault}
 use Rattle.omf_core.specs.declared.kind.RecordKind.TheVariants as kind
 use Rattle.omf_core.specs.Kind.{kind_byte}
 use Rattle.omf_core.specs.Record.{SpellsRecord, fault_at}
+use Rattle.omf_core.specs.SegmentId.{is_common_id}
 use Rattle.omf_body.specs.declared.fault.FieldFault.{FieldFault}
 use Rattle.omf_body.specs.declared.fault.FieldFault.TheVariants as field
 use Rattle.omf_body.specs.declared.fault.BodyFault.{BodyFault}
@@ -12,7 +13,6 @@ use Rattle.omf_body.specs.declared.fault.BodyFault.TheVariants as of_body
 use Rattle.omf_body.specs.declared.body.HeaderBody.{HeaderBody}
 use Rattle.omf_body.specs.declared.body.Body.TheVariants.{ModuleHeader}
 use Rattle.omf_body.specs.Fields.{◌>>=◌, read_byte, read_name}
-use Rattle.omf_body.specs.Entries.{is_common_id}
 use Rattle.omf_body.specs.FirstFault.{FirstFault}
 use Rattle.omf_module.specs.declared.fault.Cause.{Cause}
 use Rattle.omf_module.specs.declared.fault.Cause.TheVariants as cause

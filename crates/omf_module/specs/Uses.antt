@@ -3,6 +3,7 @@
 -- (8080 Object Module Formats: a record may use what a later one declares. The faults and their order are this project's own.)
 use Rattle.std.specs.Prelude.{ℕ, ◌+◌, ◌==◌, Bool, true, false, not, nat_lt, if◌then◌else◌, Option, Some, None, option_map, List, [], ◌∷◌, length, map}
 use Rattle.std.specs.Option.{option_or, option_to_list}
+use Rattle.omf_core.specs.SegmentId.{stack_id}
 use Rattle.omf_body.specs.declared.body.Body.{Body}
 use Rattle.omf_body.specs.declared.body.Body.TheVariants.{Content, PublicDeclarations, ExternalReferences, Relocation, IntersegmentReferences}
 use Rattle.omf_module.specs.declared.fault.Cause.{Cause}
@@ -31,10 +32,10 @@ ids_in (PublicDeclarations b) = b.segment ∷ []
 ids_in (IntersegmentReferences b) = b.segment ∷ []
 ids_in _ = []
 
--- content that stands in segment 3, STACK, or passes the end of its segment
+-- content that stands in STACK, or passes the end of its segment
 abbrev pub place_fault : ModuleValue → Body → Option Cause
 place_fault m (Content b) =
-    if b.segment == 3 then Some (SegmentUnknown 3)
+    if b.segment == stack_id then Some (SegmentUnknown stack_id)
     else (if nat_lt (end_of m.segments b.segment) (b.offset + length b.bytes) then Some OffsetOutside else None)
 place_fault m _ = None
 

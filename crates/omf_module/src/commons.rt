@@ -8,8 +8,8 @@ ghost use Rattle.omf_module.specs.Spelled.{read_new_common};
 ghost use Rattle.omf_module.specs.Reading.{common_of, TakesCommons, RefusesCommons};
 
 use crate::fault::Cause;
-use omf_body::segment_id::{FIRST_COMMON, LAST_COMMON};
 use omf_body::{CommonEntry, Cursor, FieldFault, NameBytes};
+use omf_core::segment_id::{FIRST_COMMON, LAST_COMMON};
 use omf_core::{Name, NameFault};
 use omf_parts::{Common, has_common_id, has_common_name};
 use std::alloc::{AllocError, Global};

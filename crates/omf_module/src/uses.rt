@@ -11,8 +11,8 @@ ghost use Rattle.omf_module.specs.Reading.{with_contents, TakesBody, OrNoMemory}
 use crate::fault::{Cause, ModuleFault};
 use crate::module_file::PlacedBody;
 use crate::open_content::OpenContent;
-use omf_body::segment_id::STACK;
 use omf_body::{Body, HeaderBody, Place};
+use omf_core::segment_id::STACK;
 use omf_parts::{Content, Parts, end_of, has_segment};
 use std::alloc::{AllocError, Global};
 

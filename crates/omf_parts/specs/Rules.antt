@@ -1,16 +1,16 @@
 -- The rules that every module keeps, as one test.
 -- (8080 Object Module Formats; one of two things that share an id, a name or a byte would be lost.)
-use Rattle.std.specs.Prelude.{◌≡◌, ℕ, ◌+◌, ◌==◌, nat_eq, Bool, true, ◌&&◌, not, nat_lt, nat_le, if◌then◌else◌, Option, Some, None, List, [], ◌∷◌, ◌++◌, length, IsTrue}
+use Rattle.std.specs.Prelude.{◌≡◌, ℕ, ◌+◌, ◌==◌, Bool, true, ◌&&◌, not, nat_lt, nat_le, if◌then◌else◌, Option, Some, None, List, [], ◌∷◌, ◌++◌, length, IsTrue}
 use Rattle.std.specs.List.{list_all, list_any}
-use Rattle.std.specs.Cmp.Lexicographic.{pointwise}
-use Rattle.omf_core.specs.Name.{is_name}
+use Rattle.omf_core.specs.Name.{is_name, same_name}
+use Rattle.omf_core.specs.SegmentId.{absolute_id, stack_id, is_common_id}
 use Rattle.omf_parts.specs.declared.segment.Segment.{Segment}
 use Rattle.omf_parts.specs.declared.symbols.Common.{Common}
 use Rattle.omf_parts.specs.declared.fixup.Fixup.{Fixup}
 use Rattle.omf_parts.specs.declared.fixup.Target.{Target}
 use Rattle.omf_parts.specs.declared.fixup.Target.TheVariants as target
 use Rattle.omf_parts.specs.Contents.{ContentValue, is_inside, shares_a_byte}
-use Rattle.omf_parts.specs.Segments.{absolute_id, stack_id, has_common_id, has_segment, is_common_id, segment_in, canonical_segments}
+use Rattle.omf_parts.specs.Segments.{has_common_id, has_segment, segment_in, canonical_segments}
 use Rattle.omf_parts.specs.Modules.{ModuleValue}
 
 -- Each item passes the test, which also looks at the items before it: those of `before`, and of the list.
@@ -24,7 +24,7 @@ is_new_entry commons before e = has_segment commons e.0 && not (list_any (λ d. 
 
 -- one of the commons has this name
 abbrev pub has_common_name : List Common → List ℕ → Bool
-has_common_name commons name = list_any (λ c. pointwise nat_eq c.name name) commons
+has_common_name commons name = list_any (λ c. same_name c.name name) commons
 
 -- the common's id is one for commons, and neither id nor name stands before
 abbrev pub is_new_common : List Common → Common → Bool

@@ -3,34 +3,13 @@
 use Rattle.std.specs.Prelude.{ℕ, ◌==◌, Bool, false, ◌||◌, nat_lt, nat_le, if◌then◌else◌, Option, Some, None, List}
 use Rattle.std.specs.List.{list_any, find, filter_map, range_with_len}
 use Rattle.std.specs.Option.{option_map_or}
-pub use Rattle.omf_body.specs.Entries.{is_common_id}
+pub use Rattle.omf_core.specs.SegmentId.{absolute_id, code_id, data_id, stack_id, memory_id, unnamed_common_id}
 use Rattle.omf_parts.specs.declared.segment.Segment.{Segment}
 use Rattle.omf_parts.specs.declared.symbols.Common.{Common}
 
 -- a segment that isn't listed has no bytes and starts anywhere
 abbrev pub empty_segment : Segment
 empty_segment = record { length = 0; paged = false }
-
--- ---- the ids of segments; those of named commons are 6 to 254
-
--- bytes whose offsets are addresses
-abbrev pub absolute_id : ℕ
-absolute_id = 0
-
-abbrev pub code_id : ℕ
-code_id = 1
-
-abbrev pub data_id : ℕ
-data_id = 2
-
-abbrev pub stack_id : ℕ
-stack_id = 3
-
-abbrev pub memory_id : ℕ
-memory_id = 4
-
-abbrev pub unnamed_common_id : ℕ
-unnamed_common_id = 255
 
 -- absolute, CODE, DATA, STACK, MEMORY and the unnamed common: every module has them
 abbrev pub is_fixed_id : ℕ → Bool

@@ -2,10 +2,11 @@
 use Rattle.std.specs.Prelude.{◌≡◌, ℕ, ◌+◌, ◌≤◌, ◌==◌, true, false, ◌&&◌, not, nat_le, List, [], length}
 use Rattle.std.specs.List.{list_all}
 use Rattle.std.proofs.lemmas.Bool.{and_parts, not-true, leb-true}
+use Rattle.omf_core.specs.SegmentId.{stack_id, is_common_id}
 use Rattle.omf_parts.specs.declared.segment.Segment.{Segment}
 use Rattle.omf_parts.specs.declared.symbols.Common.{Common}
 use Rattle.omf_parts.specs.Contents.{ContentValue}
-use Rattle.omf_parts.specs.Segments.{stack_id, is_common_id, has_common_id, has_segment}
+use Rattle.omf_parts.specs.Segments.{has_common_id, has_segment}
 use Rattle.omf_parts.specs.Modules.{ModuleValue}
 use Rattle.omf_parts.specs.Rules.{each_after, has_common_name, is_new_common, end_of, lies_within, is_in_bounds, is_content, is_start, is_sound}
 

@@ -1,3 +1,5 @@
+//! Bytes of a segment, with the fixups in them.
+
 use crate::fixup::Fixup;
 use std::marker::Model;
 

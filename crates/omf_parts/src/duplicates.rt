@@ -8,7 +8,7 @@ ghost use Rattle.omf_parts.specs.Rules.{each_after, has_common_name, is_new_entr
 use crate::rules::{has_common_id, has_segment};
 use crate::segment::Segment;
 use crate::symbols::Common;
-use omf_body::segment_id::{FIRST_COMMON, LAST_COMMON};
+use omf_core::segment_id::{FIRST_COMMON, LAST_COMMON};
 
 fn lists_id(entries: &[(u8, Segment)], id: u8) -> bool
     ensures { result ≡ list_any (λ d. d.0 == id) entries.now }

@@ -1,3 +1,5 @@
+//! Fixups, and what they refer to.
+
 use omf_body::Field;
 
 /// What a fixup refers to: a segment of the module by its id, or one of its externals by its index from 0.

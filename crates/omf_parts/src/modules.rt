@@ -1,3 +1,5 @@
+//! A module that keeps the rules.
+
 use crate::canonical_segments::canonical_segments;
 use crate::content::Content;
 use crate::copies::{copy_commons, copy_contents, copy_names, copy_publics};

@@ -1,3 +1,5 @@
+//! The parts that a module is made of.
+
 use crate::content::Content;
 use crate::segment::Segment;
 use crate::symbols::{Common, Public};

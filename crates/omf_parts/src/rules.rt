@@ -11,7 +11,7 @@ use crate::marks::are_fitting;
 use crate::parts::Parts;
 use crate::segment::Segment;
 use crate::symbols::{Common, Public};
-use omf_body::segment_id::{ABSOLUTE, MEMORY, STACK, UNNAMED_COMMON};
+use omf_core::segment_id::{ABSOLUTE, MEMORY, STACK, UNNAMED_COMMON};
 use std::alloc::{AllocError, Global};
 
 /// How many bytes one content record carries.

@@ -1,3 +1,5 @@
+//! The size of a segment, and its alignment.
+
 /// The size of a segment of one module in bytes, and whether its part of a linked segment starts at a multiple of 256.
 /// (8080 Object Module Formats, module header record: segment length and alignment.)
 ///

@@ -1,3 +1,5 @@
+//! Named commons, and publics.
+
 use omf_core::Name;
 
 /// A named common of a module: its segment id, from 6 to 254, and its name.

@@ -5,8 +5,9 @@ use Rattle.std.specs.List.{list_all, list_any}
 use Rattle.std.specs.Option.{option_map_or}
 use Rattle.std.specs.Cmp.Lexicographic.{pointwise}
 use Rattle.std.proofs.lemmas.Bool.{and_parts, cases_Bool, not_from_false}
+use Rattle.omf_core.specs.SegmentId.{is_common_id}
 use Rattle.omf_parts.specs.declared.symbols.Common.{Common}
-use Rattle.omf_parts.specs.Segments.{is_common_id, has_common_id, segment_in}
+use Rattle.omf_parts.specs.Segments.{has_common_id, segment_in}
 use Rattle.omf_parts.specs.Modules.{ModuleValue}
 use Rattle.omf_relocation.specs.Place.{word_of, common_name, is_laid_out, starts_from, part_start}
 use Rattle.omf_parts.specs.Rules.{each_after, is_new_common}

@@ -3,9 +3,10 @@ use Rattle.std.proofs.Common.{◌≡◌, ℕ, ◌≤◌, Bool, true, false, ◌|
 use Rattle.std.specs.Prelude.{nat_le, ◌==◌, IsTrue}
 use Rattle.std.specs.List.{list_all, AllByRecursion}
 use Rattle.std.proofs.lemmas.Bool.{and_parts, leb-true}
+use Rattle.omf_core.specs.SegmentId.{is_common_id}
 use Rattle.omf_parts.specs.declared.symbols.Common.{Common}
 use Rattle.omf_parts.specs.Contents.{ContentValue}
-use Rattle.omf_parts.specs.Segments.{is_common_id, has_common_id, has_segment}
+use Rattle.omf_parts.specs.Segments.{has_common_id, has_segment}
 use Rattle.omf_parts.specs.Modules.{ModuleValue}
 use Rattle.omf_parts.specs.Rules.{each_after, is_new_common, is_fitting, has_target, is_in_bounds, is_content}
 use Rattle.omf_parts.specs.SoundParts.{sound_parts, in_bounds_parts, new_common}

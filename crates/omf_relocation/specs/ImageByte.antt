@@ -1,10 +1,10 @@
 -- The bytes that modules define: a chunk for each content, at its place, with its references applied; and the byte at an
 -- address, that of the last chunk over it. No linked module occurs here: it is what LINK and LOCATE together come to.
 -- (ISIS-II User's Guide: LINK, LOCATE and the loading of object files.)
-use Rattle.std.specs.Prelude.{ℕ, ◌+◌, ◌-◌, ◌%◌, nat_eq, ◌&&◌, nat_lt, Bool, None, unwrap_or, List, [], filter, find, map, length, slice_get, slice_index}
+use Rattle.std.specs.Prelude.{ℕ, ◌+◌, ◌-◌, ◌%◌, ◌&&◌, nat_lt, Bool, Option, None, unwrap_or, List, [], filter, find, map, length, slice_get, slice_index}
 use Rattle.std.specs.List.{last_or, flat_map, enumerate_from}
 use Rattle.std.specs.Option.{option_map_or}
-use Rattle.std.specs.Cmp.Lexicographic.{pointwise}
+use Rattle.omf_core.specs.Name.{same_name}
 use Rattle.omf_parts.specs.declared.fixup.Fixup.{Fixup}
 use Rattle.omf_parts.specs.declared.fixup.Target.{Target}
 use Rattle.omf_parts.specs.declared.fixup.Target.TheVariants as target
@@ -30,7 +30,7 @@ placed_publics bases modules = flat_map (λ m. map (placed_public bases modules 
 -- what a name stands for: the place of the public that bears it, or else the word that is given for it
 abbrev pub name_word : Bases → List PlacedName → List ℕ → ℕ
 name_word bases publics name =
-    option_map_or (λ p. p.word) (find (λ p. pointwise nat_eq p.name name) publics) (word_of bases.words name)
+    option_map_or (λ p. p.word) (find (λ p. same_name p.name name) publics) (word_of bases.words name)
 
 -- the name of an external
 abbrev pub name_at : List (List ℕ) → ℕ → List ℕ
@@ -74,11 +74,18 @@ chunks_of bases modules = flat_map (λ m. map (chunk_of bases modules m) m.1.con
 abbrev pub distance : (place address : ℕ) → ℕ
 distance place address = (address + 65536 - place % 65536) % 65536
 
--- the byte at an address: that of the last chunk that covers it, and 0 if none does
+-- one of the chunk's bytes stands at the address
 abbrev pub chunk_covers : ℕ → ByteChunk → Bool
 chunk_covers address c = nat_lt address 65536 && nat_lt (distance c.place address) (length c.bytes)
 
+-- the last of the chunks that cover the address
+abbrev pub last_over : List ByteChunk → ℕ → Option ByteChunk
+last_over chunks address = last_or None (filter (chunk_covers address) chunks)
+
+-- the byte of a chunk at an address that it covers
+abbrev pub byte_of : ℕ → ByteChunk → ℕ
+byte_of address c = slice_index c.bytes (distance c.place address)
+
+-- the byte at an address: that of the last chunk that covers it, and 0 if none does
 abbrev pub image_byte : Bases → List ModuleValue → ℕ → ℕ
-image_byte bases modules address =
-    option_map_or (λ c. slice_index c.bytes (distance c.place address))
-    (last_or None (filter (chunk_covers address) (chunks_of bases modules))) 0
+image_byte bases modules address = option_map_or (byte_of address) (last_over (chunks_of bases modules) address) 0

@@ -1,11 +1,12 @@
 -- Where the parts of modules lie: the place of a segment's offset in one of a list of modules that are linked and located
 -- together. (ISIS-II User's Guide: LINK lays the parts of a segment one after another in module order, LOCATE gives each
 -- segment a base.)
-use Rattle.std.specs.Prelude.{ℕ, ◌+◌, ◌*◌, ◌/◌, ◌%◌, ◌==◌, nat_eq, Bool, ◌||◌, if◌then◌else◌, List, [], ◌∷◌, find, slice_index}
+use Rattle.std.specs.Prelude.{ℕ, ◌+◌, ◌*◌, ◌/◌, ◌%◌, ◌==◌, Bool, ◌||◌, if◌then◌else◌, List, [], ◌∷◌, find, slice_index}
 use Rattle.std.specs.Option.{option_map_or}
-use Rattle.std.specs.Cmp.Lexicographic.{pointwise}
+use Rattle.omf_core.specs.Name.{same_name}
+use Rattle.omf_core.specs.SegmentId.{absolute_id, code_id, data_id, stack_id, memory_id, unnamed_common_id}
 use Rattle.omf_parts.specs.declared.symbols.Common.{Common}
-use Rattle.omf_parts.specs.Segments.{absolute_id, code_id, data_id, stack_id, memory_id, unnamed_common_id, segment_in}
+use Rattle.omf_parts.specs.Segments.{segment_in}
 use Rattle.omf_parts.specs.Modules.{ModuleValue}
 
 -- a base for each segment, those of named commons by name; the stack's top; and a word for each name that no module
@@ -21,7 +22,7 @@ pub record Bases : Type 0 where
 
 -- the word beside a name, 0 if the name isn't listed
 abbrev pub word_of : List (List ℕ × ℕ) → List ℕ → ℕ
-word_of words name = option_map_or (λ w. w.1) (find (λ w. pointwise nat_eq w.0 name) words) 0
+word_of words name = option_map_or (λ w. w.1) (find (λ w. same_name w.0 name) words) 0
 
 -- the name of a module's common of this id
 abbrev pub common_name : List Common → ℕ → List ℕ

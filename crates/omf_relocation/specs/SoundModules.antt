@@ -2,10 +2,11 @@
 -- module alone. (8080 Object Module Formats; ISIS-II User's Guide, LOCATE.)
 use Rattle.std.specs.Prelude.{◌≡◌, ℕ, ◌+◌, ◌-◌, ◌≤◌, ◌==◌, true, false, List, [], ◌∷◌, length, map, IsTrue}
 use Rattle.std.specs.List.{AllByRecursion}
+use Rattle.omf_core.specs.SegmentId.{stack_id}
 use Rattle.omf_parts.specs.declared.symbols.Common.{Common}
 use Rattle.omf_parts.specs.declared.fixup.Fixup.{Fixup}
 use Rattle.omf_parts.specs.Contents.{ContentValue}
-use Rattle.omf_parts.specs.Segments.{stack_id, has_common_id, has_segment}
+use Rattle.omf_parts.specs.Segments.{has_common_id, has_segment}
 use Rattle.omf_parts.specs.Modules.{ModuleValue}
 use Rattle.omf_parts.specs.Rules.{each_after, is_new_common, has_target, has_fitting, end_of, is_start, is_sound}
 use Rattle.omf_relocation.specs.declared.patching.Patch.{Patch}

@@ -1,5 +1,8 @@
 //! The ids of segments. (8080 Object Module Formats, segment ids; those of commons are this project's choice among them.)
 
+ghost use Rattle.std.specs.Prelude.{◌≡◌};
+ghost use Rattle.omf_core.specs.SegmentId.{segment_word};
+
 /// Bytes whose offsets are addresses.
 pub const ABSOLUTE: u8 = 0;
 
@@ -23,3 +26,17 @@ pub const LAST_COMMON: u8 = 254;
 
 /// The common without a name.
 pub const UNNAMED_COMMON: u8 = 255;
+
+/// The word of a segment in printed lines.
+pub fn word_of(id: u8) -> &'static [u8]
+    ensures { result.now ≡ segment_word id }
+{
+    match id {
+        ABSOLUTE => b"ABSOLUTE".as_slice(),
+        CODE => b"CODE".as_slice(),
+        DATA => b"DATA".as_slice(),
+        STACK => b"STACK".as_slice(),
+        MEMORY => b"MEMORY".as_slice(),
+        _ => b"COMMON".as_slice(),
+    }
+}
