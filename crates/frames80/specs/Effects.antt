@@ -9,7 +9,7 @@ use Rattle.decode80.specs.declared.pair.Pair.TheVariants.{Bc, De, Hl, Sp}
 use Rattle.decode80.specs.declared.pair.StackPair.{StackPair}
 use Rattle.decode80.specs.declared.pair.StackPair.TheVariants.{Bc as StackBc, De as StackDe, Hl as StackHl, Psw}
 use Rattle.decode80.specs.declared.instr.Instr.{Instr}
-use Rattle.decode80.specs.declared.instr.Instr.TheVariants.{Mov, Load, Mvi, Lxi, Dad, Inx, Dcx, Inr, Dcr, Jmp, JumpIf, Call, CallIf, Ret, ReturnIf, Rst, Push, Pop, Lhld, Xthl, Pchl, Xchg, Sphl, Hlt}
+use Rattle.decode80.specs.declared.instr.Instr.TheVariants.{Mov, Load, Store, Mvi, MviMemory, Lxi, Dad, Inx, Dcx, Inr, InrMemory, Dcr, DcrMemory, Operate, Jmp, JumpIf, Call, CallIf, Ret, ReturnIf, Rst, Push, Pop, Stax, Ldax, Shld, Lhld, Sta, Lda, Rotate, Daa, Cma, Stc, Cmc, Xthl, Pchl, Xchg, Sphl, In, Out, Ei, Di, Nop, Hlt}
 use Rattle.decode80.specs.Restart.{restart_number}
 use Rattle.frames80.specs.declared.fault.FrameFault.TheVariants.{Sphl as SetsPointer, StackByByte}
 use Rattle.frames80.specs.declared.frame_pair.FramePair.{FramePair}
@@ -57,7 +57,7 @@ popped_by StackDe = PopPair FrameDe
 popped_by StackHl = PopPair FrameHl
 popped_by Psw = Drop
 
--- the effect of each instruction. Those that aren't listed write neither a pair nor the stack: stores, what works on A alone,
+-- the effect of each instruction. Those from MOV M on write neither a pair nor the stack: stores, what works on A alone,
 -- IN, OUT, EI, DI and NOP
 abbrev pub effect_of : Instr → Effect
 effect_of (Mov to _) = Changes (written to)
@@ -84,4 +84,23 @@ effect_of (Rst number) = Calls (8 * restart_number number)
 effect_of Ret = Return
 effect_of (ReturnIf _) = ReturnsIf
 effect_of Hlt = Halt
-effect_of _ = Changes Keep
+effect_of (Store _) = Changes Keep
+effect_of (MviMemory _) = Changes Keep
+effect_of InrMemory = Changes Keep
+effect_of DcrMemory = Changes Keep
+effect_of (Stax _) = Changes Keep
+effect_of (Sta _) = Changes Keep
+effect_of (Shld _) = Changes Keep
+effect_of (Ldax _) = Changes Keep
+effect_of (Lda _) = Changes Keep
+effect_of (Operate _ _) = Changes Keep
+effect_of (Rotate _) = Changes Keep
+effect_of Daa = Changes Keep
+effect_of Cma = Changes Keep
+effect_of Stc = Changes Keep
+effect_of Cmc = Changes Keep
+effect_of (In _) = Changes Keep
+effect_of (Out _) = Changes Keep
+effect_of Ei = Changes Keep
+effect_of Di = Changes Keep
+effect_of Nop = Changes Keep

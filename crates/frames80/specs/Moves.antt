@@ -50,12 +50,18 @@ change_fault role (Pop _) words = pop_fault role words
 change_fault role Drop words = pop_fault role words
 change_fault role Swap words = pop_fault role words
 change_fault role (SetStack address) words = load_fault role address
-change_fault role _ words = None
+change_fault role Keep words = None
+change_fault role (Push _) words = None
+change_fault role PushAny words = None
+change_fault role Exchange words = None
+change_fault role (Forget _) words = None
 
 -- whether the words are the return address alone
 abbrev pub is_own_alone : List Word → Bool
+is_own_alone [] = false
 is_own_alone (Own ∷ []) = true
-is_own_alone _ = false
+is_own_alone (Own ∷ word ∷ words) = false
+is_own_alone (Any ∷ words) = false
 
 -- why a return is refused: the main program has nowhere to return to; an entry's words must be its return address alone
 abbrev pub return_fault : Role → List Word → Option FrameFault
@@ -67,7 +73,13 @@ abbrev pub fault_of : Role → Effect → List Word → Option FrameFault
 fault_of role (Changes change) words = change_fault role change words
 fault_of role Return words = return_fault role words
 fault_of role ReturnIf words = return_fault role words
-fault_of role _ words = None
+fault_of role Halt words = None
+fault_of role (Jump _) words = None
+fault_of role (JumpIf _) words = None
+fault_of role Case words = None
+fault_of role (Call _) words = None
+fault_of role (CallIf _) words = None
+fault_of role (Refuse _) words = None
 
 -- the fault, if there is one, and else the move
 abbrev pub unless : Option FrameFault → Moves → Result Moves FrameFault

@@ -2,7 +2,7 @@
 
 ghost use Rattle.std.specs.Prelude.{◌≡◌, ◌≢◌, ◌≤◌, length, IfOk, IfErr, Ok, Err, None, Some};
 ghost use Rattle.frames80.specs.Effects.{effect_of};
-ghost use Rattle.frames80.specs.Moves.{moves_of, changed, fault_of};
+ghost use Rattle.frames80.specs.Moves.{moves_of, changed, fault_of, change_fault, pop_fault, load_fault, return_fault};
 
 use crate::effect::{Change, Effect};
 use crate::fault::FrameFault::{self, PopsBelow, ReturnFromMain, ReturnNotOwn, SetsStack};
@@ -75,20 +75,60 @@ pub fn next(alloc: Global, frame: &Frame, instr: Instr, role: Role) -> Result<Mo
 fn fault_of(role: Role, effect: Effect, frame: &Frame) -> Option<FrameFault>
     ensures { result ≡ fault_of role effect frame.now.words }
 {
-    let bare = frame.words.is_empty();
+    match effect {
+        Effect::Change(change) => change_fault(role, change, frame),
+        Effect::Return | Effect::ReturnIf => return_fault(role, frame),
+        Effect::Halt
+        | Effect::Jump(_)
+        | Effect::JumpIf(_)
+        | Effect::Case
+        | Effect::Call(_)
+        | Effect::CallIf(_)
+        | Effect::Refuse(_) => None,
+    }
+}
+
+/// Why a change is refused.
+fn change_fault(role: Role, change: Change, frame: &Frame) -> Option<FrameFault>
+    ensures { result ≡ change_fault role change frame.now.words }
+{
+    match change {
+        Change::Pop(_) | Change::Drop | Change::Swap => pop_fault(role, frame),
+        Change::SetStack(address) => load_fault(role, address),
+        Change::Keep | Change::Push(_) | Change::PushAny | Change::Exchange | Change::Forget(_) =>
+            None,
+    }
+}
+
+/// Why a pop is refused.
+fn pop_fault(role: Role, frame: &Frame) -> Option<FrameFault>
+    ensures { result ≡ pop_fault role frame.now.words }
+{
+    match role {
+        Role::Main { .. } if frame.words.is_empty() => Some(PopsBelow),
+        Role::Main { .. } | Role::Entry => None,
+    }
+}
+
+/// Why a load of the stack pointer is refused.
+fn load_fault(role: Role, address: u16) -> Option<FrameFault>
+    ensures { result ≡ load_fault role address }
+{
+    match role {
+        Role::Main { top } if top == address => None,
+        Role::Main { .. } | Role::Entry => Some(SetsStack),
+    }
+}
+
+/// Why a return is refused.
+fn return_fault(role: Role, frame: &Frame) -> Option<FrameFault>
+    ensures { result ≡ return_fault role frame.now.words }
+{
     let own_alone = matches!(frame.words.as_slice(), [Word::Own]);
     match role {
-        Role::Main { top } => match effect {
-            Effect::Change(Change::SetStack(address)) if address != top => Some(SetsStack),
-            Effect::Change(Change::Pop(_) | Change::Drop | Change::Swap) if bare => Some(PopsBelow),
-            Effect::Return | Effect::ReturnIf => Some(ReturnFromMain),
-            _ => None,
-        },
-        Role::Entry => match effect {
-            Effect::Change(Change::SetStack(_)) => Some(SetsStack),
-            Effect::Return | Effect::ReturnIf if !own_alone => Some(ReturnNotOwn),
-            _ => None,
-        },
+        Role::Main { .. } => Some(ReturnFromMain),
+        Role::Entry if own_alone => None,
+        Role::Entry => Some(ReturnNotOwn),
     }
 }
 

@@ -32,7 +32,26 @@ pub fn effect_of(instr: Instr) -> Effect
         Instr::Ret => Effect::Return,
         Instr::ReturnIf(_) => Effect::ReturnIf,
         Instr::Hlt => Effect::Halt,
-        _ => Effect::Change(Change::Keep),
+        Instr::Store(_)
+        | Instr::MviMemory(_)
+        | Instr::InrMemory
+        | Instr::DcrMemory
+        | Instr::Stax(_)
+        | Instr::Sta(_)
+        | Instr::Shld(_)
+        | Instr::Ldax(_)
+        | Instr::Lda(_)
+        | Instr::Operate(_, _)
+        | Instr::Rotate(_)
+        | Instr::Daa
+        | Instr::Cma
+        | Instr::Stc
+        | Instr::Cmc
+        | Instr::In(_)
+        | Instr::Out(_)
+        | Instr::Ei
+        | Instr::Di
+        | Instr::Nop => Effect::Change(Change::Keep),
     }
 }
 

@@ -1,3 +1,5 @@
+//! The declared targets of a PCHL.
+
 ghost use Rattle.std.specs.Prelude.{◌≡◌, ◌==◌, find, IfSome, IfNone};
 ghost use Rattle.image80.specs.Case.{AreByAddress};
 

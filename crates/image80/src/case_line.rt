@@ -1,3 +1,5 @@
+//! The CASE lines of a regions text.
+
 ghost use Rattle.std.specs.Prelude.{◌≡◌, ◌≢◌, ◌<◌, ℕ, List, [], ◌∷◌, ◌++◌, length, All, IsTrue, IfOk, IfSome, IfNone};
 ghost use Rattle.decode80.specs.Text.{word_text};
 ghost use Rattle.image80.specs.Case.{DeclaredCase};

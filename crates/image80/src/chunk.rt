@@ -1,3 +1,5 @@
+//! The bytes of an image, in pieces.
+
 use std::marker::Model;
 
 /// Consecutive bytes of an image and the address of the first of them.

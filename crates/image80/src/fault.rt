@@ -1,3 +1,5 @@
+//! Why bytes are no regions text.
+
 use std::alloc::{AllocError, AllocFailed};
 use thiserror::Error;
 

@@ -1,3 +1,5 @@
+//! A located program.
+
 use crate::chunk::Chunk;
 use crate::regions::Regions;
 use omf_core::Name;

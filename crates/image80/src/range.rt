@@ -1,3 +1,5 @@
+//! Ranges of addresses.
+
 ghost use Rattle.std.specs.Prelude.{◌≡◌};
 ghost use Rattle.image80.specs.Range.{in_range, in_ranges};
 ghost use Rattle.image80.specs.Regions.{AreApart};

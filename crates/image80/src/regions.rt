@@ -1,3 +1,5 @@
+//! The regions of a program: its code, its stack and its data, and the targets of its PCHLs.
+
 ghost use Rattle.std.specs.Prelude.{◌≡◌};
 
 use crate::case::{Case, case_at};

@@ -1,3 +1,5 @@
+//! The lines of a regions text that may not be repeated.
+
 ghost use Rattle.std.specs.Prelude.{◌≡◌, [], IfOk};
 ghost use Rattle.image80.specs.Reading.{is_seen, HasSeen, SeesToo};
 

@@ -1,3 +1,5 @@
+//! The versions of regions texts.
+
 ghost use Rattle.std.specs.Prelude.{◌≡◌, ◌≢◌, IfSome, IfNone};
 ghost use Rattle.image80.specs.RegionsText.{heading};
 

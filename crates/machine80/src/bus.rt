@@ -1,3 +1,5 @@
+//! The memory of a processor.
+
 ghost use Rattle.std.specs.Prelude.{◌≡◌, ℕ, List, length, slice_index, slice_set};
 
 /// The memory that a processor reads and writes: 65536 bytes, by address.

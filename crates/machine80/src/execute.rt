@@ -7,8 +7,8 @@ ghost use Rattle.image80.specs.Range.{in_range};
 ghost use Rattle.image80.specs.Regions.{in_data};
 ghost use Rattle.machine80.specs.declared.end.End.TheVariants.{Stack, StoreOutside};
 ghost use Rattle.machine80.specs.Cpu.{hl_of};
-ghost use Rattle.machine80.specs.Effects.{target, changed, computed, operand_of, stores, stored, pushed_bytes, push_bytes, with_flags};
-ghost use Rattle.machine80.specs.Kinds.{IsPlain, IsStraight};
+ghost use Rattle.machine80.specs.Effects.{target, changed, operand_of, stores, stored, pushed_bytes, push_bytes, with_flags};
+ghost use Rattle.machine80.specs.Kinds.{Computes, IsPlain, IsStraight};
 ghost use Rattle.machine80.specs.Step.{guard, first_outside, ends_at};
 
 use crate::alu::{self, Answer};
@@ -34,11 +34,11 @@ fn operand<B: Bus>(operand: Operand, registers: &Registers, bus: &B) -> u8
     }
 }
 
-/// The registers and the flags after an instruction that computes; after any other they stay.
+/// The registers and the flags after an instruction that computes.
 #[inline]
 fn compute<B: Bus>(instr: Instr, cpu: &mut Cpu, bus: &B)
-    requires { IsPlain instr }
-    ensures { cpu.new ≡ computed instr (B.memory bus.now) cpu.old }
+    requires { Computes instr }
+    ensures { cpu.new ≡ changed instr (B.memory bus.now) cpu.old }
 {
     let r = cpu.registers;
     match instr {
@@ -53,7 +53,7 @@ fn compute<B: Bus>(instr: Instr, cpu: &mut Cpu, bus: &B)
         Instr::Cma => cpu.registers.a = alu::complement(r.a),
         Instr::Stc => cpu.registers.flags = alu::set_carry(r.flags),
         Instr::Cmc => cpu.registers.flags = alu::complement_carry(r.flags),
-        _ => {}
+        _ => unreachable!(),
     }
 }
 
@@ -83,7 +83,17 @@ fn change<B: Bus>(instr: Instr, cpu: &mut Cpu, bus: &B)
             cpu.registers.assign_stack_pair(StackPair::Hl, r.d, r.e);
         }
         Instr::Sphl => cpu.sp = r.hl(),
-        _ => compute(instr, cpu, bus),
+        Instr::Operate(_, _)
+        | Instr::Inr(_)
+        | Instr::Dcr(_)
+        | Instr::Dad(_)
+        | Instr::Rotate(_)
+        | Instr::Daa
+        | Instr::Cma
+        | Instr::Stc
+        | Instr::Cmc => compute(instr, cpu, bus),
+        Instr::In(_) | Instr::Out(_) | Instr::Ei | Instr::Di | Instr::Nop | Instr::Hlt => {}
+        _ => unreachable!(),
     }
 }
 

@@ -1,3 +1,5 @@
+//! The bytes that a run is given.
+
 /// The bytes that wait at the ports, each with its port, in order.
 ///
 /// The bytes of one port are taken in the order in which they stand, wherever the bytes of other ports stand

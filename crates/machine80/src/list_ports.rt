@@ -1,3 +1,5 @@
+//! Ports over a list of inputs and a list of outputs.
+
 ghost use Rattle.std.specs.Prelude.{◌≡◌, ◌+◌, ◌-◌, ◌<◌, ◌≤◌, [], Option, Some, length, replicate};
 ghost use Rattle.machine80.specs.ListPorts.{FirstOf};
 ghost use Rattle.machine80.specs.Ports.{lists_of, PortLists};

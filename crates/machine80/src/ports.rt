@@ -1,3 +1,5 @@
+//! The ports of a processor.
+
 ghost use Rattle.std.specs.Prelude.{◌≡◌, ◌+◌, ◌-◌, ◌<◌, ◌≤◌, ◌^◌, [], ◌∷◌, ◌++◌, Option, length, OnOk, OnErr};
 ghost use Rattle.machine80.specs.Ports.{PortLists, next_input, without_next, has_room};
 

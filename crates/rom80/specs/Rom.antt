@@ -1,7 +1,7 @@
 -- The bytes of an image's memory over a range, and the chunks of bytes from an address on.
 -- (8080 Object Module Formats, content record: its bytes stand at successive addresses. That there are 65531 of them at most
 -- follows from the length of a record, a word: of 65535 bytes one is the checksum, and three are the segment and the offset.)
-use Rattle.std.specs.Prelude.{◌≡◌, ℕ, ◌+◌, ◌-◌, ◌<◌, ◌%◌, nat_le, nat_lt, ◌&&◌, Bool, true, if◌then◌else◌, List, [], ◌∷◌, ◌++◌, codes, length, map, take, drop, slice_index}
+use Rattle.std.specs.Prelude.{◌≡◌, ℕ, ◌+◌, ◌-◌, ◌%◌, nat_le, nat_lt, ◌&&◌, Bool, true, if◌then◌else◌, List, [], ◌∷◌, ◌++◌, codes, length, map, take, drop, slice_index}
 use Rattle.std.specs.List.{list_any, range_with_len, sum}
 use Rattle.std.specs.Option.{option_map_or}
 use Rattle.decode80.specs.Text.{word_text}
@@ -10,11 +10,6 @@ use Rattle.image80.specs.Image.{PlacedBytes, covers, byte_of, last_over}
 -- the byte at an address: that of the last chunk that covers it, and `fill` if none does
 abbrev pub byte_or : (fill : ℕ) → List PlacedBytes → (address : ℕ) → ℕ
 byte_or fill chunks address = option_map_or (λ chunk. byte_of chunk address) (last_over chunks address) fill
-
--- so many bytes, and each is this one
-pub record IsFilled (bytes : List ℕ) (fill count : ℕ) : Type 0 where
-  pub whole : length bytes ≡ count
-  pub each : (k : ℕ) → k < count → slice_index bytes k ≡ fill
 
 -- that byte at each address of a range
 abbrev pub bytes_over : (fill : ℕ) → List PlacedBytes → (first length : ℕ) → List ℕ

@@ -1,3 +1,5 @@
+//! Why raw bytes or dumps are refused.
+
 use std::alloc::{AllocError, AllocFailed};
 use thiserror::Error;
 

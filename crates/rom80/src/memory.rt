@@ -2,7 +2,7 @@
 
 ghost use Rattle.std.specs.Prelude.{◌≡◌, ℕ, length, slice_index, ◌<◌, IfOk};
 ghost use Rattle.image80.specs.Placing.{Holds};
-ghost use Rattle.rom80.specs.Rom.{byte_or, IsFilled};
+ghost use Rattle.rom80.specs.Rom.{byte_or};
 
 use image80::Chunk;
 use std::alloc::{AllocError, Global};
@@ -13,18 +13,11 @@ pub(crate) fn memory_of(alloc: Global, chunks: &[Chunk], fill: u8) -> Result<Vec
     ensures bytes { IfOk result (λ memory. (address : ℕ) → address < 65536 → slice_index memory.items address ≡ byte_or fill chunks.now address) }
     ensures whole { IfOk result (λ memory. length memory.items ≡ 65536) }
 {
-    let mut memory = filled(alloc, fill, 65536)?;
+    let mut memory = vec![in alloc; fill; 65536]?;
     for chunk in chunks {
         place(&mut memory, chunk);
     }
     Ok(memory)
-}
-
-/// `count` bytes of this value.
-fn filled(alloc: Global, fill: u8, count: usize) -> Result<Vec<u8>, AllocError>
-    ensures { IfOk result (λ bytes. IsFilled bytes.items fill count) }
-{
-    Ok(vec![in alloc; fill; count]?)
 }
 
 /// Writes the chunk's bytes to their addresses.

@@ -9,7 +9,7 @@ use Rattle.decode80.specs.declared.pair.Pair.TheVariants.{Bc, De, Hl, Sp}
 use Rattle.decode80.specs.declared.pair.StackPair.{StackPair}
 use Rattle.decode80.specs.declared.pair.StackPair.TheVariants.{Bc as StackBc, De as StackDe, Hl as StackHl, Psw}
 use Rattle.decode80.specs.declared.instr.Instr.{Instr}
-use Rattle.decode80.specs.declared.instr.Instr.TheVariants.{Mov, Load, Mvi, Lxi, Dad, Inx, Dcx, Inr, Dcr, Pop, Lhld, Xthl, Xchg}
+use Rattle.decode80.specs.declared.instr.Instr.TheVariants.{Mov, Load, Store, Mvi, MviMemory, Lxi, Dad, Inx, Dcx, Inr, InrMemory, Dcr, DcrMemory, Operate, Jmp, JumpIf, Call, CallIf, Ret, ReturnIf, Rst, Push, Pop, Stax, Ldax, Shld, Lhld, Sta, Lda, Rotate, Daa, Cma, Stc, Cmc, Xthl, Pchl, Xchg, Sphl, In, Out, Ei, Di, Nop, Hlt}
 use Rattle.machine80.specs.declared.registers.Registers.{Registers}
 use Rattle.machine80.specs.Cpu.{word}
 use Rattle.spans80.specs.declared.span.Span.{Span}
@@ -74,7 +74,7 @@ with_any p StackDe = record p { de = any_word }
 with_any p StackHl = record p { hl = any_word }
 with_any p Psw = p
 
--- what the pairs may be after an instruction that goes on. Those that aren't listed write none of these registers
+-- what the pairs may be after an instruction that goes on. Those from MOV M on write none of these registers
 abbrev pub pairs_after : Instr → Pairs → Pairs
 pairs_after (Mov to from) p = with_half p to (half_of p from)
 pairs_after (Load to) p = with_half p to any_byte
@@ -89,4 +89,34 @@ pairs_after (Pop pair) p = with_any p pair
 pairs_after (Lhld _) p = record p { hl = any_word }
 pairs_after Xthl p = record p { hl = any_word }
 pairs_after Xchg p = record p { de = p.hl; hl = p.de }
-pairs_after _ p = p
+pairs_after (Store _) p = p
+pairs_after (MviMemory _) p = p
+pairs_after InrMemory p = p
+pairs_after DcrMemory p = p
+pairs_after (Stax _) p = p
+pairs_after (Ldax _) p = p
+pairs_after (Sta _) p = p
+pairs_after (Lda _) p = p
+pairs_after (Shld _) p = p
+pairs_after (Operate _ _) p = p
+pairs_after (Rotate _) p = p
+pairs_after Daa p = p
+pairs_after Cma p = p
+pairs_after Stc p = p
+pairs_after Cmc p = p
+pairs_after (Jmp _) p = p
+pairs_after (JumpIf _ _) p = p
+pairs_after (Call _) p = p
+pairs_after (CallIf _ _) p = p
+pairs_after Ret p = p
+pairs_after (ReturnIf _) p = p
+pairs_after (Rst _) p = p
+pairs_after (Push _) p = p
+pairs_after Pchl p = p
+pairs_after Sphl p = p
+pairs_after (In _) p = p
+pairs_after (Out _) p = p
+pairs_after Ei p = p
+pairs_after Di p = p
+pairs_after Nop p = p
+pairs_after Hlt p = p
