@@ -1,18 +1,20 @@
 -- The nearest public by its definition as a walk down, and the lines of texts.
 use Rattle.std.proofs.Common.{◌≡◌, ℕ, zero, suc, ◌+◌, ◌-◌, ◌<◌, ◌≤◌, Bool, true, false, Option, Some, None, List, [], ◌∷◌, ◌++◌, length, refl, sym, ap, ◌∙◌, subst, arith, cond, inl, inr, append_assoc, append-nil}
-use Rattle.std.specs.Prelude.{find, nat_le, nat_lt, ◌*◌, ◌/◌, ◌%◌, codes, slice_index}
+use Rattle.std.specs.Prelude.{◌==◌, find, nat_le, nat_lt, ◌*◌, ◌/◌, ◌%◌, codes, slice_index, IfSome, IfNone}
 use Rattle.std.specs.List.{AllByRecursion, count_by, join_with_byte}
 use Rattle.std.specs.Option.{option_and_then, option_map, option_map_or, option_or}
 use Rattle.std.proofs.Math.Nat.{eq-or-lt_of_le}
-use Rattle.std.proofs.lemmas.Bool.{leb-true, and_parts}
+use Rattle.std.proofs.lemmas.Bool.{leb-true, eqb-true, and_parts}
 use Rattle.std.proofs.lemmas.Bool.Decides.{nat_tests}
+use Rattle.std.proofs.lemmas.List.Quantifiers.{position-Some}
 use Rattle.std.proofs.lemmas.List.Splits.{length-slice_split, join_with_byte-slice_split}
+use Rattle.decode80.specs.Text.{byte_text, word_text}
 use Rattle.image80.specs.declared.range.Range.{Range}
 use Rattle.image80.specs.Range.{in_range}
 use Rattle.image80.specs.Lines.{is_line_feed, parts}
 use Rattle.omf_parts.specs.declared.symbols.Public.{Public}
 use Rattle.names80.specs.Names.{is_at, public_at, lies_below, IsNearest, IsNearestIn, IsNearestWithin, IsNearestOf}
-use Rattle.names80.specs.NameText.{nearest_from, nearest_of, above_text, name_text, digit_value, pair_value, instruction_address, address_behind, each_line, label_text, labelled_line, named_line, NoPublicsNoNames, PrintedAddressIsNamed}
+use Rattle.names80.specs.NameText.{nearest_from, nearest_of, above_text, name_text, digit_value, pair_value, address_at, instruction_address, address_behind, each_line, label_text, labelled_line, named_line, NoPublicsNoNames, PrintedAddressIsNamed}
 use Rattle.names80.proofs.NearestLemmas.{lies_at_most, none_found}
 
 all_so : (P Q : Public → Type 0) → ((x : Public) → P x → Q x) → (xs : List Public) → AllByRecursion P xs → AllByRecursion Q xs
@@ -227,3 +229,79 @@ printed_address_is_named address rest below =
   where
     whole : (n : ℕ) → n / 256 * 256 + n % 256 ≡ n
     whole n = omega arith
+
+-- ---- addresses that are read
+
+-- two numbers that are read, as one
+both_read : (base : ℕ) (high low : Option ℕ) (n : ℕ) → option_and_then (λ h. option_map (λ l. h * base + l) low) high ≡ Some n
+    → (h : ℕ) × (l : ℕ) × (high ≡ Some h) × (low ≡ Some l) × (h * base + l ≡ n)
+both_read base None low n e = absurd cc
+both_read base (Some h) None n e = absurd cc
+both_read base (Some h) (Some l) n e = (h, l, refl, refl, same (h * base + l) n e)
+  where
+    same : (x y : ℕ) → Some x ≡ Some y → x ≡ y
+    same x y e = cc
+
+digit_shown : (byte n : ℕ) → digit_value byte ≡ Some n → (n < 16) × (slice_index (codes "0123456789ABCDEF") n ≡ byte)
+digit_shown byte n e =
+    let found : (n < 16) × ((slice_index (codes "0123456789ABCDEF") n == byte) ≡ true)
+    × ((k : ℕ) → k < n → (slice_index (codes "0123456789ABCDEF") k == byte) ≡ false) =
+    position-Some (λ digit. digit == byte) (codes "0123456789ABCDEF") n 0 e in
+    (found.0, eqb-true (slice_index (codes "0123456789ABCDEF") n) byte found.1)
+
+pair_shown : (high low n : ℕ) → pair_value high low ≡ Some n → (n < 256) × (byte_text n ≡ high ∷ low ∷ [])
+pair_shown high low n e =
+    let read : (h : ℕ) × (l : ℕ) × (digit_value high ≡ Some h) × (digit_value low ≡ Some l) × (h * 16 + l ≡ n) =
+    both_read 16 (digit_value high) (digit_value low) n e in
+    let h = digit_shown high read.0 read.2 in
+    let l = digit_shown low read.1 read.3 in
+    let first : n / 16 ≡ read.0 = omega (arith, read.4, l.0) in
+    let second : n % 16 ≡ read.1 = omega (arith, read.4, l.0) in (
+      omega (arith, read.4, h.0, l.0),
+      ap (λ k. slice_index (codes "0123456789ABCDEF") k ∷ slice_index (codes "0123456789ABCDEF") (n % 16) ∷ []) first
+          ∙ ap (λ k. slice_index (codes "0123456789ABCDEF") read.0 ∷ slice_index (codes "0123456789ABCDEF") k ∷ []) second
+          ∙ ap (λ byte. byte ∷ slice_index (codes "0123456789ABCDEF") read.1 ∷ []) h.1
+          ∙ ap (λ byte. high ∷ byte ∷ []) l.1,
+    )
+
+word_shown : (a b c d n : ℕ) → option_and_then (λ h. option_map (λ l. h * 256 + l) (pair_value c d)) (pair_value a b) ≡ Some n
+    → (n < 65536) × (a ∷ b ∷ c ∷ d ∷ [] ≡ word_text n)
+word_shown a b c d n e =
+    let read : (h : ℕ) × (l : ℕ) × (pair_value a b ≡ Some h) × (pair_value c d ≡ Some l) × (h * 256 + l ≡ n) =
+    both_read 256 (pair_value a b) (pair_value c d) n e in
+    let h = pair_shown a b read.0 read.2 in
+    let l = pair_shown c d read.1 read.3 in
+    let first : n / 256 ≡ read.0 = omega (arith, read.4, l.0) in
+    let second : n % 256 ≡ read.1 = omega (arith, read.4, l.0) in (
+      omega (arith, read.4, h.0, l.0),
+      ap (λ t. t ++ c ∷ d ∷ []) (sym h.1)
+          ∙ ap (λ t. byte_text read.0 ++ t) (sym l.1)
+          ∙ ap (λ k. byte_text k ++ byte_text read.1) (sym first)
+          ∙ ap (λ k. byte_text (n / 256) ++ byte_text k) (sym second),
+    )
+
+-- the word of four digits is the address
+pub word_is_address : (a b c d : ℕ) (rest : List ℕ) (word : Option ℕ)
+    → IfSome word (λ n. a ∷ b ∷ c ∷ d ∷ [] ≡ word_text n) → IfSome word (λ n. n < 65536)
+    → IfNone word ((n : ℕ) → n < 65536 → (a ∷ b ∷ c ∷ d ∷ [] ≡ word_text n) → ⊥)
+    → word ≡ address_at (a ∷ b ∷ c ∷ d ∷ rest)
+word_is_address a b c d rest (Some n) is below none =
+    sym (ap (λ t. address_at (t ++ rest)) is ∙ printed_address_is_named n rest below)
+word_is_address a b c d rest None is below none =
+    elim (address_at (a ∷ b ∷ c ∷ d ∷ rest)) as (λ (o : Option ℕ). address_at (a ∷ b ∷ c ∷ d ∷ rest) ≡ o → None ≡ o) [
+      | None ↦ λ _. refl
+      | Some n ↦ λ read. let shown = word_shown a b c d n read in absurd (none n shown.0 shown.1)
+    ] refl
+
+-- so it is in a text that begins with them
+pub word_at : (text : List ℕ) (word : Option ℕ) → 4 ≤ length text
+    → IfSome word (λ n. slice_index text 0 ∷ slice_index text 1 ∷ slice_index text 2 ∷ slice_index text 3 ∷ [] ≡ word_text n)
+    → IfSome word (λ n. n < 65536)
+    → IfNone word ((n : ℕ) → n < 65536
+    → (slice_index text 0 ∷ slice_index text 1 ∷ slice_index text 2 ∷ slice_index text 3 ∷ [] ≡ word_text n) → ⊥)
+    → word ≡ address_at text
+word_at [] word long is below none = absurd (omega (arith, long))
+word_at (a ∷ []) word long is below none = absurd (omega (arith, long))
+word_at (a ∷ b ∷ []) word long is below none = absurd (omega (arith, long))
+word_at (a ∷ b ∷ c ∷ []) word long is below none = absurd (omega (arith, long))
+word_at (a ∷ b ∷ c ∷ d ∷ rest) word long is below none = word_is_address a b c d rest word is below none

@@ -1,10 +1,9 @@
 //! The address that stands in a line.
 
-ghost use Rattle.std.specs.Prelude.{◌≡◌, ◌<◌, ◌==◌, length, position, IfSome};
-ghost use Rattle.names80.specs.NameText.{address_at, address_behind, behind_blank, digit_value, instruction_address, is_blank, pair_value};
+ghost use Rattle.std.specs.Prelude.{◌≡◌, position};
+ghost use Rattle.names80.specs.NameText.{address_at, address_behind, behind_blank, instruction_address, is_blank};
 
-/// The digits of 0 to 15.
-static DIGITS: [u8; 16] = *b"0123456789ABCDEF";
+use decode80::word_of_digits;
 
 /// The address of the line of an instruction: its first four digits, or those behind its number.
 pub(crate) fn instruction_address(line: &[u8], numbered: bool) -> Option<u16>
@@ -51,35 +50,5 @@ fn address_at(text: &[u8]) -> Option<u16>
     let [first, second, third, fourth, ..] = text else {
         return None;
     };
-    let high = pair_value(*first, *second)?;
-    let low = pair_value(*third, *fourth)?;
-    Some(u16::from(high) * 256 + u16::from(low))
-}
-
-/// The value of two digits.
-fn pair_value(high: u8, low: u8) -> Option<u8>
-    ensures { result ≡ pair_value high low }
-{
-    let high = digit_value(high)?;
-    let low = digit_value(low)?;
-    Some(high * 16 + low)
-}
-
-/// The value of an upper case hexadecimal digit.
-fn digit_value(byte: u8) -> Option<u8>
-    ensures value { result ≡ digit_value byte }
-    ensures small { IfSome result (λ value. value < 16) }
-{
-    match place_of(&DIGITS, byte) {
-        Some(place) => Some(place as u8),
-        None => None,
-    }
-}
-
-/// The place of a digit among the digits.
-fn place_of(digits: &[u8], byte: u8) -> Option<usize>
-    ensures place { result ≡ position (λ digit. digit == byte) digits.now }
-    ensures within { IfSome result (λ place. place < length digits.now) }
-{
-    digits.iter().position(|digit| *digit == byte)
+    word_of_digits([*first, *second, *third, *fourth])
 }
