@@ -6,9 +6,10 @@ use Rattle.std.specs.Cmp.Lexicographic.{pointwise}
 use Rattle.std.proofs.Common.{◌∙◌, ap, sym, arith, inl, inr, cond, eqb-true, true≢false}
 use Rattle.std.proofs.lemmas.Bool.{cases_Bool, and_parts, and_from, or_parts, or_from, not_from_false, lt-ltb}
 use Rattle.std.proofs.lemmas.Bool.Decides.{nat_tests}
+use Rattle.omf_core.specs.SegmentId.{is_common_id}
 use Rattle.omf_parts.specs.declared.segment.Segment.{Segment}
 use Rattle.omf_parts.specs.declared.symbols.Common.{Common}
-use Rattle.omf_parts.specs.Segments.{empty_segment, is_fixed_id, is_common_id, has_common_id, has_segment, segment_in}
+use Rattle.omf_parts.specs.Segments.{empty_segment, is_fixed_id, has_common_id, has_segment, segment_in}
 use Rattle.omf_parts.specs.Modules.{ModuleValue}
 use Rattle.omf_parts.specs.Rules.{each_after, is_new_entry, is_new_common}
 use Rattle.omf_relocation.specs.Place.{common_name, rounded, starts_from}

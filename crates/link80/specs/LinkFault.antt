@@ -1,16 +1,16 @@
 -- Why modules can't be linked: each cause as a test, and their order.
 -- (ISIS-II User's Guide, LINK: multiply defined publics, segments that overflow, several main modules. Their order and numbers
 -- are this project's own.)
-use Rattle.std.specs.Prelude.{ℕ, ◌%◌, ◌==◌, nat_eq, nat_lt, Bool, false, not, ◌&&◌, if◌then◌else◌, Option, Some, None, option_map, List, [], ◌∷◌, ◌++◌, find, length}
+use Rattle.std.specs.Prelude.{ℕ, ◌%◌, ◌==◌, nat_lt, Bool, false, not, ◌&&◌, if◌then◌else◌, Option, Some, None, option_map, List, [], ◌∷◌, ◌++◌, find, length}
 use Rattle.std.specs.List.{list_any, enumerate_from}
 use Rattle.std.specs.Option.{option_or}
-use Rattle.std.specs.Cmp.Lexicographic.{pointwise}
+use Rattle.omf_core.specs.Name.{same_name}
+use Rattle.omf_core.specs.SegmentId.{code_id, data_id, stack_id}
 use Rattle.omf_parts.specs.declared.fixup.Fixup.{Fixup}
 use Rattle.omf_parts.specs.declared.fixup.Target.{Target}
 use Rattle.omf_parts.specs.declared.fixup.Target.TheVariants as target
 use Rattle.omf_parts.specs.declared.symbols.Public.{Public}
 use Rattle.omf_parts.specs.Contents.{ContentValue}
-use Rattle.omf_parts.specs.Segments.{code_id, data_id, stack_id}
 use Rattle.omf_parts.specs.Modules.{ModuleValue}
 use Rattle.omf_relocation.specs.HighReferences.{is_high}
 use Rattle.link80.specs.declared.fault.LinkFault.{LinkFault}
@@ -29,7 +29,7 @@ link_fault_code TooManyExternals = 7
 
 -- one of these publics has the name
 abbrev pub is_declared : List Public → List ℕ → Bool
-is_declared publics name = list_any (λ q. pointwise nat_eq q.name name) publics
+is_declared publics name = list_any (λ q. same_name q.name name) publics
 
 -- the first public, by module and then by record, whose name stands before (specs/DuplicateLaws.antt says it without the walk)
 abbrev pub first_again : List Public → List Public → Option (List ℕ)

@@ -1,10 +1,11 @@
 -- The module that LINK makes of modules: their parts laid one after another, their publics and contents moved with them,
 -- their references resolved. (ISIS-II User's Guide, LINK; 8080 Object Module Formats. The ids of named commons and the order
 -- of externals are this project's own.)
-use Rattle.std.specs.Prelude.{ℕ, suc, ◌+◌, ◌-◌, ◌%◌, ◌==◌, nat_eq, not, ◌||◌, if◌then◌else◌, Option, Some, None, is_none, option_map, List, [], ◌∷◌, filter, filter_map, find, map, slice_get, max}
+use Rattle.std.specs.Prelude.{ℕ, suc, ◌+◌, ◌-◌, ◌%◌, ◌==◌, not, ◌||◌, if◌then◌else◌, Option, Some, None, is_none, option_map, List, [], ◌∷◌, filter, filter_map, find, map, slice_get, max}
 use Rattle.std.specs.List.{list_any, flat_map, enumerate_from}
 use Rattle.std.specs.Option.{option_map_or}
-use Rattle.std.specs.Cmp.Lexicographic.{pointwise}
+use Rattle.omf_core.specs.Name.{same_name}
+use Rattle.omf_core.specs.SegmentId.{absolute_id, code_id, data_id, stack_id, memory_id, unnamed_common_id}
 use Rattle.omf_parts.specs.declared.segment.Segment.{Segment}
 use Rattle.omf_parts.specs.declared.symbols.Common.{Common}
 use Rattle.omf_parts.specs.declared.symbols.Public.{Public}
@@ -12,7 +13,7 @@ use Rattle.omf_parts.specs.declared.fixup.Fixup.{Fixup}
 use Rattle.omf_parts.specs.declared.fixup.Target.{Target}
 use Rattle.omf_parts.specs.declared.fixup.Target.TheVariants as target
 use Rattle.omf_parts.specs.Contents.{ContentValue}
-use Rattle.omf_parts.specs.Segments.{absolute_id, code_id, data_id, stack_id, memory_id, unnamed_common_id, empty_segment, is_fixed_id, segment_in}
+use Rattle.omf_parts.specs.Segments.{empty_segment, is_fixed_id, segment_in}
 use Rattle.omf_parts.specs.Modules.{ModuleValue, made_of}
 use Rattle.omf_relocation.specs.declared.patching.Patch.{Patch}
 use Rattle.link80.specs.declared.reference.Reference.{Reference}
@@ -23,7 +24,7 @@ use Rattle.omf_relocation.specs.ImageByte.{name_at}
 -- names without those that stood before
 abbrev pub distinct : List (List ℕ) → List (List ℕ)
 distinct [] = []
-distinct (n ∷ ns) = n ∷ filter (λ o. not (pointwise nat_eq n o)) (distinct ns)
+distinct (n ∷ ns) = n ∷ filter (λ o. not (same_name n o)) (distinct ns)
 
 -- ---- named commons: one for each name, with the ids 6, 7, .. in order of first sight
 
@@ -40,7 +41,7 @@ abbrev pub linked_commons : List ModuleValue → List Common
 linked_commons modules = map numbered_common (enumerate_from 6 (common_names modules))
 
 abbrev pub id_of : List Common → List ℕ → ℕ
-id_of commons name = option_map_or (λ c. c.id) (find (λ c. pointwise nat_eq c.name name) commons) 0
+id_of commons name = option_map_or (λ c. c.id) (find (λ c. same_name c.name name) commons) 0
 
 -- the id that a module's segment has in the linked module: a named common's is that of its name
 abbrev pub linked_id : List ModuleValue → ModuleValue → ℕ → ℕ
@@ -61,7 +62,7 @@ linked_publics modules = flat_map (λ m. map (linked_public modules m) m.1.publi
 
 -- the public that bears a name
 abbrev pub public_of : List ModuleValue → List ℕ → Option Public
-public_of modules name = find (λ p. pointwise nat_eq p.name name) (linked_publics modules)
+public_of modules name = find (λ p. same_name p.name name) (linked_publics modules)
 
 -- ---- the names that no module declares, in order of first sight
 
@@ -70,7 +71,7 @@ unresolved modules = filter (λ name. is_none (public_of modules name)) (distinc
 
 abbrev pub index_of : List (List ℕ) → List ℕ → ℕ
 index_of [] name = 0
-index_of (n ∷ ns) name = if pointwise nat_eq n name then 0 else suc (index_of ns name)
+index_of (n ∷ ns) name = if same_name n name then 0 else suc (index_of ns name)
 
 -- ---- references: the word that LINK adds to one, and what it is to from then on, unless to absolute bytes
 
@@ -116,7 +117,7 @@ abbrev pub part_of : List Common → ModuleValue → ℕ → Segment
 part_of commons m id =
     if is_fixed_id id then segment_in m.segments id
     else option_map_or (λ c. segment_in m.segments c.id)
-    (find (λ c. pointwise nat_eq c.name (common_name commons id)) m.commons) empty_segment
+    (find (λ c. same_name c.name (common_name commons id)) m.commons) empty_segment
 
 -- the end of the last part
 abbrev pub parts_end : ℕ → ℕ → List ModuleValue → ℕ

@@ -1,8 +1,8 @@
 -- Where the parts of CODE, DATA and STACK start, for all modules at once.
 -- (ISIS-II User's Guide, LINK.)
 use Rattle.std.specs.Prelude.{◌≡◌, ℕ, ◌+◌, nat_le, if◌then◌else◌, Option, Some, None, List}
+use Rattle.omf_core.specs.SegmentId.{code_id, data_id, stack_id}
 use Rattle.omf_parts.specs.declared.segment.Segment.{Segment}
-use Rattle.omf_parts.specs.Segments.{code_id, data_id, stack_id}
 use Rattle.omf_parts.specs.Modules.{ModuleValue}
 use Rattle.omf_relocation.specs.Place.{rounded, starts_from}
 use Rattle.link80.specs.Linked.{parts_end}

@@ -1,3 +1,5 @@
+//! Why modules can't be linked.
+
 use omf_core::Name;
 use std::alloc::{AllocError, AllocFailed};
 use thiserror::Error;

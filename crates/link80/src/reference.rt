@@ -1,3 +1,5 @@
+//! What LINK makes of a reference.
+
 use omf_parts::Target;
 
 /// What LINK makes of a reference: the word that it adds to it, and what the reference is to from then on, unless to

@@ -10,7 +10,7 @@ ghost use Rattle.link80.specs.Linked.{common_names, linked_commons, linked_ids, 
 
 use crate::commons::JoinedModules;
 use crate::starts::segment_of;
-use omf_body::segment_id::{CODE, DATA, FIRST_COMMON, MEMORY, STACK, UNNAMED_COMMON};
+use omf_core::segment_id::{CODE, DATA, FIRST_COMMON, MEMORY, STACK, UNNAMED_COMMON};
 use omf_parts::{Module, Segment};
 use std::alloc::{AllocError, Global};
 

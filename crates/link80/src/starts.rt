@@ -9,7 +9,7 @@ ghost use Rattle.link80.specs.Starts.{laid_out, next_part};
 
 use crate::fault::LinkFault;
 use crate::modules::Modules;
-use omf_body::segment_id::{ABSOLUTE, CODE, DATA, STACK};
+use omf_core::segment_id::{ABSOLUTE, CODE, DATA, STACK};
 use omf_parts::{Module, Segment};
 use std::alloc::Global;
 use std::marker::Model;

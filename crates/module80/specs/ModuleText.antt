@@ -5,21 +5,12 @@ use Rattle.std.specs.Prelude.{ℕ, ◌%◌, ◌==◌, Bool, if◌then◌else◌,
 use Rattle.std.specs.List.{flat_map}
 use Rattle.std.specs.Option.{option_map_or}
 use Rattle.decode80.specs.Text.{word_text}
+use Rattle.omf_core.specs.SegmentId.{segment_word}
 use Rattle.omf_parts.specs.declared.segment.Segment.{Segment}
 use Rattle.omf_parts.specs.declared.symbols.Common.{Common}
 use Rattle.omf_parts.specs.declared.symbols.Public.{Public}
 use Rattle.omf_parts.specs.Contents.{ContentValue}
 use Rattle.omf_parts.specs.Modules.{ModuleValue}
-
--- the word of a segment
-abbrev pub segment_word : ℕ → List ℕ
-segment_word id =
-    if id == 0 then codes "ABSOLUTE"
-    else if id == 1 then codes "CODE"
-    else if id == 2 then codes "DATA"
-    else if id == 3 then codes "STACK"
-    else if id == 4 then codes "MEMORY"
-    else codes "COMMON"
 
 -- a blank and the name of the common of this id, if it has one
 abbrev pub common_part : List Common → ℕ → List ℕ

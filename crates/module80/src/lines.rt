@@ -2,7 +2,6 @@
 
 ghost use Rattle.std.specs.Prelude.{◌≡◌, ◌++◌, ◌∷◌, OnOk};
 ghost use Rattle.module80.specs.ModuleText.{
-  segment_word,
   common_part,
   place_part,
   segment_line,
@@ -12,8 +11,8 @@ ghost use Rattle.module80.specs.ModuleText.{
 };
 
 use decode80::word_digits;
-use omf_body::segment_id::{ABSOLUTE, CODE, DATA, MEMORY, STACK};
 use omf_core::Name;
+use omf_core::segment_id::word_of;
 use omf_parts::{Common, Content, Public, Segment};
 use std::alloc::AllocError;
 
@@ -86,20 +85,6 @@ pub(crate) fn append_place(text: &mut Vec<u8>, id: u8, offset: u16) -> Result<()
     text.extend_from_slice(word_of(id))?;
     text.push(b' ')?;
     text.extend_from_slice(&word_digits(offset))
-}
-
-/// The word of a segment.
-fn word_of(id: u8) -> &'static [u8]
-    ensures { result.now ≡ segment_word id }
-{
-    match id {
-        ABSOLUTE => b"ABSOLUTE".as_slice(),
-        CODE => b"CODE".as_slice(),
-        DATA => b"DATA".as_slice(),
-        STACK => b"STACK".as_slice(),
-        MEMORY => b"MEMORY".as_slice(),
-        _ => b"COMMON".as_slice(),
-    }
 }
 
 /// Appends a blank and the name of the common of this id, if it has one.

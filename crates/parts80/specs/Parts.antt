@@ -1,11 +1,12 @@
 -- Where LINK lays the parts of modules in the linked one, and which modules need the names that no module declares, line by line.
 -- (ISIS-II User's Guide, LINK: the link map with its segments, input modules and unresolved externals. The form of the lines is
 -- this project's own.)
-use Rattle.std.specs.Prelude.{◌≡◌, ℕ, ◌==◌, nat_eq, Bool, if◌then◌else◌, None, List, [], ◌∷◌, ◌++◌, codes, find}
+use Rattle.std.specs.Prelude.{◌≡◌, ℕ, ◌==◌, Bool, if◌then◌else◌, None, List, [], ◌∷◌, ◌++◌, codes, find}
 use Rattle.std.specs.List.{flat_map, list_any, enumerate_from}
 use Rattle.std.specs.Option.{option_map_or}
-use Rattle.std.specs.Cmp.Lexicographic.{pointwise}
 use Rattle.decode80.specs.Text.{word_text}
+use Rattle.omf_core.specs.Name.{same_name}
+use Rattle.omf_core.specs.SegmentId.{segment_word}
 use Rattle.omf_parts.specs.declared.segment.Segment.{Segment}
 use Rattle.omf_parts.specs.declared.symbols.Common.{Common}
 use Rattle.omf_parts.specs.Segments.{is_used}
@@ -29,15 +30,6 @@ pub record IsMade (roots : List ModuleValue) (libraries : List (List ModuleValue
   pub no_fault : link_fault (modules_of roots libraries made) ≡ None
 
 -- ---- the parts
-
--- the word of a segment of the linked module
-abbrev pub segment_word : ℕ → List ℕ
-segment_word id =
-    if id == 1 then codes "CODE"
-    else if id == 2 then codes "DATA"
-    else if id == 3 then codes "STACK"
-    else if id == 4 then codes "MEMORY"
-    else codes "COMMON"
 
 -- a blank and the name of the common of this id, if it has one
 abbrev pub name_part : List Common → ℕ → List ℕ
@@ -76,7 +68,7 @@ parts_text modules = flat_map (segment_text modules) (linked_ids modules)
 
 -- the module has the name as external
 abbrev pub needs_name : List ℕ → ModuleValue → Bool
-needs_name name m = list_any (λ e. pointwise nat_eq e name) m.externals
+needs_name name m = list_any (λ e. same_name e name) m.externals
 
 -- the line of a name and a module that needs it
 abbrev pub line_of_need : (name by : List ℕ) → List ℕ

@@ -1,8 +1,8 @@
 -- Words for the private functions that list parts.
-use Rattle.std.specs.Prelude.{ℕ, ◌+◌, nat_eq, List, [], ◌∷◌, ◌++◌, find}
+use Rattle.std.specs.Prelude.{ℕ, ◌+◌, List, [], ◌∷◌, ◌++◌, find}
 use Rattle.std.specs.List.{flat_map}
 use Rattle.std.specs.Option.{option_map_or}
-use Rattle.std.specs.Cmp.Lexicographic.{pointwise}
+use Rattle.omf_core.specs.Name.{same_name}
 use Rattle.omf_parts.specs.declared.segment.Segment.{Segment}
 use Rattle.omf_parts.specs.declared.symbols.Common.{Common}
 use Rattle.omf_parts.specs.Segments.{empty_segment, segment_in}
@@ -14,7 +14,7 @@ use Rattle.parts80.specs.Parts.{part_line}
 -- the part of the common with a name
 abbrev pub named_part : List (ℕ × Segment) → List Common → List ℕ → Segment
 named_part segments commons name =
-    option_map_or (λ c. segment_in segments c.id) (find (λ c. pointwise nat_eq c.name name) commons) empty_segment
+    option_map_or (λ c. segment_in segments c.id) (find (λ c. same_name c.name name) commons) empty_segment
 
 -- the lines of parts that lie one after another, from the end of what lies before
 abbrev pub laid_text : List Common → (id before : ℕ) → List ModuleValue → List ℕ

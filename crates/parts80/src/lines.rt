@@ -2,11 +2,11 @@
 
 ghost use Rattle.std.specs.Prelude.{◌≡◌, ◌++◌, OnOk};
 ghost use Rattle.omf_parts.specs.Segments.{is_used};
-ghost use Rattle.parts80.specs.Parts.{segment_word, name_part, extent_of, owner_of, line_of, part_line};
+ghost use Rattle.parts80.specs.Parts.{name_part, extent_of, owner_of, line_of, part_line};
 
 use decode80::word_digits;
-use omf_body::segment_id::{CODE, DATA, MEMORY, STACK};
 use omf_core::Name;
+use omf_core::segment_id::word_of;
 use omf_parts::{Common, Segment};
 use std::alloc::AllocError;
 
@@ -77,19 +77,6 @@ fn append_owner(
     text.extend_from_slice(name.bytes())?;
     text.push(b'\n')?;
     Ok(())
-}
-
-/// The word of a segment of the linked module.
-fn word_of(id: u8) -> &'static [u8]
-    ensures { result.now ≡ segment_word id }
-{
-    match id {
-        CODE => b"CODE".as_slice(),
-        DATA => b"DATA".as_slice(),
-        STACK => b"STACK".as_slice(),
-        MEMORY => b"MEMORY".as_slice(),
-        _ => b"COMMON".as_slice(),
-    }
 }
 
 /// Appends a blank and the name of the common of this id, if it has one.

@@ -6,7 +6,7 @@ ghost use Rattle.omf_relocation.specs.Place.{common_name};
 ghost use Rattle.link80.specs.Linked.{part_of};
 ghost use Rattle.parts80.specs.Words.{named_part};
 
-use omf_body::segment_id::{MEMORY, UNNAMED_COMMON};
+use omf_core::segment_id::{MEMORY, UNNAMED_COMMON};
 use omf_parts::{Common, Module, Segment};
 
 /// A segment without bytes.

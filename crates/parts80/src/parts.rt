@@ -13,7 +13,7 @@ use crate::lines::append_part;
 use crate::modules::linked_modules;
 use crate::named::part_of;
 use link80::Linked;
-use omf_body::segment_id::{CODE, DATA, MEMORY, STACK, UNNAMED_COMMON};
+use omf_core::segment_id::{CODE, DATA, MEMORY, STACK, UNNAMED_COMMON};
 use omf_library::Library;
 use omf_parts::{Common, Module};
 use std::alloc::{AllocError, Global};

@@ -1,17 +1,18 @@
 -- The bytes that the contents of a module define in CODE, each as a half of a value plus an addend.
 -- (8080 Object Module Formats: content, relocation, intersegment reference and external reference records; ISIS-II User's
 -- Guide, LOCATE: of two contents over a byte the later one stands.)
-use Rattle.std.specs.Prelude.{◌≡◌, ℕ, suc, ◌+◌, ◌-◌, ◌*◌, ◌%◌, ◌==◌, nat_eq, nat_le, nat_lt, Bool, ◌&&◌, if◌then◌else◌, Option, None, List, [], ◌∷◌, length, map, filter, filter_map, find, take, slice_index, slice_index_or, ◌≤◌, ◌<◌, IsTrue}
+use Rattle.std.specs.Prelude.{◌≡◌, ℕ, suc, ◌+◌, ◌-◌, ◌*◌, ◌%◌, ◌==◌, nat_le, nat_lt, Bool, ◌&&◌, if◌then◌else◌, Option, None, List, [], ◌∷◌, length, map, filter, filter_map, find, take, slice_index, slice_index_or, ◌≤◌, ◌<◌, IsTrue}
 use Rattle.std.specs.List.{last_or, list_any, range_with_len}
 use Rattle.std.specs.Option.{option_map_or}
-use Rattle.std.specs.Cmp.Lexicographic.{pointwise}
+use Rattle.omf_core.specs.Name.{same_name}
+use Rattle.omf_core.specs.SegmentId.{code_id}
 use Rattle.omf_body.specs.declared.field.Field.{Field}
 use Rattle.omf_body.specs.declared.field.Field.TheVariants as field
 use Rattle.omf_parts.specs.declared.fixup.Fixup.{Fixup}
 use Rattle.omf_parts.specs.declared.fixup.Target.{Target}
 use Rattle.omf_parts.specs.declared.fixup.Target.TheVariants as target
 use Rattle.omf_parts.specs.Contents.{ContentValue, offsets_by}
-use Rattle.omf_parts.specs.Segments.{code_id, segment_in}
+use Rattle.omf_parts.specs.Segments.{segment_in}
 use Rattle.omf_parts.specs.Modules.{ModuleValue}
 use Rattle.omf_relocation.specs.ImageByte.{name_at, patch_with}
 use Rattle.omf_relocation.specs.Patches.{word_in_bytes, is_inside_bytes}
@@ -22,14 +23,14 @@ use Rattle.pattern80.specs.declared.resolving.Resolved.{Resolved}
 -- the index of the first of these names that is this one, and their number if none is
 abbrev pub first_with : List (List ℕ) → List ℕ → ℕ
 first_with [] name = 0
-first_with (n ∷ ns) name = if pointwise nat_eq n name then 0 else suc (first_with ns name)
+first_with (n ∷ ns) name = if same_name n name then 0 else suc (first_with ns name)
 
 -- What an external stands for: the place of the module's own public of that name, or else the word of the first external of
 -- that name.
 abbrev pub resolved_external : ModuleValue → ℕ → Resolved
 resolved_external m index = option_map_or
     (λ p. record { target = target.Segment p.segment; addend = p.offset })
-    (find (λ p. pointwise nat_eq p.name (name_at m.externals index)) m.publics)
+    (find (λ p. same_name p.name (name_at m.externals index)) m.publics)
     (record { target = target.External (first_with (take index m.externals) (name_at m.externals index)); addend = 0 })
 
 abbrev pub resolved : ModuleValue → Target → Resolved

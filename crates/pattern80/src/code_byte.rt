@@ -1,3 +1,5 @@
+//! The bytes of a module's code, each a half of a value that isn't known yet.
+
 use omf_parts::Target;
 
 /// One of the two bytes of a word.

@@ -1,3 +1,5 @@
+//! The numbers by which the values of targets go.
+
 ghost use Rattle.std.specs.Prelude.{◌≡◌, ◌<◌};
 ghost use Rattle.pattern80.specs.CodeBytes.{number_of};
 

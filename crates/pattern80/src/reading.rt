@@ -11,7 +11,7 @@ ghost use Rattle.pattern80.specs.Modules.{code_bytes, code_length, covers, has_b
 
 use crate::code_byte::{CodeByte, Half};
 use crate::resolving::{Resolved, ResolvedModule};
-use omf_body::segment_id::CODE;
+use omf_core::segment_id::CODE;
 use omf_parts::{Content, Field, Fixup, Module, Target};
 use omf_relocation::laws::sound_modules_keep_rules;
 use std::alloc::{AllocError, Global};

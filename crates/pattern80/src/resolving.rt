@@ -6,7 +6,7 @@ ghost use Rattle.pattern80.specs.Modules.{code_length, resolved};
 ghost use Rattle.pattern80.specs.Names.{AreExternals};
 
 use crate::names::Names;
-use omf_body::segment_id::CODE;
+use omf_core::segment_id::CODE;
 use omf_parts::{Content, Module, Target};
 use std::alloc::{AllocError, Global};
 use std::marker::Model;
