@@ -17,7 +17,35 @@ pub(crate) fn may_change(instr: Instr, pair: Pair) -> bool {
         Instr::Pop(StackPair::Hl) => pair == Pair::Hl,
         Instr::Xchg => pair != Pair::Bc,
         Instr::Call(_) | Instr::CallIf(_, _) | Instr::Rst(_) => true,
-        _ => false,
+        Instr::Store(_)
+        | Instr::MviMemory(_)
+        | Instr::InrMemory
+        | Instr::DcrMemory
+        | Instr::Operate(_, _)
+        | Instr::Jmp(_)
+        | Instr::JumpIf(_, _)
+        | Instr::Ret
+        | Instr::ReturnIf(_)
+        | Instr::Push(_)
+        | Instr::Pop(StackPair::Psw)
+        | Instr::Stax(_)
+        | Instr::Ldax(_)
+        | Instr::Shld(_)
+        | Instr::Sta(_)
+        | Instr::Lda(_)
+        | Instr::Rotate(_)
+        | Instr::Daa
+        | Instr::Cma
+        | Instr::Stc
+        | Instr::Cmc
+        | Instr::Pchl
+        | Instr::Sphl
+        | Instr::In(_)
+        | Instr::Out(_)
+        | Instr::Ei
+        | Instr::Di
+        | Instr::Nop
+        | Instr::Hlt => false,
     }
 }
 
@@ -48,7 +76,40 @@ pub(crate) fn may_change_a(instr: Instr) -> bool {
         Instr::Operate(operation, operand) => !leaves_or_doubles(operation, operand),
         Instr::Rotate(rotation) => rotation != Rotation::Left,
         Instr::Call(_) | Instr::CallIf(_, _) | Instr::Rst(_) => true,
-        _ => false,
+        Instr::Mov(_, _)
+        | Instr::Load(_)
+        | Instr::Store(_)
+        | Instr::Mvi(_, _)
+        | Instr::MviMemory(_)
+        | Instr::Lxi(_, _)
+        | Instr::Dad(_)
+        | Instr::Inx(_)
+        | Instr::Dcx(_)
+        | Instr::Inr(_)
+        | Instr::InrMemory
+        | Instr::Dcr(_)
+        | Instr::DcrMemory
+        | Instr::Jmp(_)
+        | Instr::JumpIf(_, _)
+        | Instr::Ret
+        | Instr::ReturnIf(_)
+        | Instr::Push(_)
+        | Instr::Pop(_)
+        | Instr::Stax(_)
+        | Instr::Shld(_)
+        | Instr::Lhld(_)
+        | Instr::Sta(_)
+        | Instr::Stc
+        | Instr::Cmc
+        | Instr::Xthl
+        | Instr::Pchl
+        | Instr::Xchg
+        | Instr::Sphl
+        | Instr::Out(_)
+        | Instr::Ei
+        | Instr::Di
+        | Instr::Nop
+        | Instr::Hlt => false,
     }
 }
 
@@ -75,6 +136,40 @@ pub(crate) fn may_change_carry(instr: Instr) -> bool {
         | Instr::Call(_)
         | Instr::CallIf(_, _)
         | Instr::Rst(_) => true,
-        _ => false,
+        Instr::Mov(_, _)
+        | Instr::Load(_)
+        | Instr::Store(_)
+        | Instr::Mvi(_, _)
+        | Instr::MviMemory(_)
+        | Instr::Lxi(_, _)
+        | Instr::Inx(_)
+        | Instr::Dcx(_)
+        | Instr::Inr(_)
+        | Instr::InrMemory
+        | Instr::Dcr(_)
+        | Instr::DcrMemory
+        | Instr::Jmp(_)
+        | Instr::JumpIf(_, _)
+        | Instr::Ret
+        | Instr::ReturnIf(_)
+        | Instr::Push(_)
+        | Instr::Pop(_)
+        | Instr::Stax(_)
+        | Instr::Ldax(_)
+        | Instr::Shld(_)
+        | Instr::Lhld(_)
+        | Instr::Sta(_)
+        | Instr::Lda(_)
+        | Instr::Cma
+        | Instr::Xthl
+        | Instr::Pchl
+        | Instr::Xchg
+        | Instr::Sphl
+        | Instr::In(_)
+        | Instr::Out(_)
+        | Instr::Ei
+        | Instr::Di
+        | Instr::Nop
+        | Instr::Hlt => false,
     }
 }
