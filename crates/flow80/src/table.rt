@@ -3,7 +3,7 @@
 ghost use Rattle.std.specs.Prelude.{◌≡◌, ◌+◌, ◌<◌, ◌≤◌, ℕ, Bool, is_some, List, false, true, Some, None, Ok, Err, IfOk, IfErr, OnOk, IfSome, length, replicate, slice_get};
 ghost use Rattle.bounds80.specs.declared.procedure.Procedure.TheVariants.{Main, Entry};
 ghost use Rattle.flow80.specs.Points.{AreAddresses, IsPointAt, IsNoPoint};
-ghost use Rattle.flow80.specs.Known.{IsSmall, IsWithin, Stands, Flows, Exits, CallsOut, Steps, Visits, Looks, Sweeps, Lessens, Refused, AreClosed, AllClosed, IsShort, exit_of, nothing_known};
+ghost use Rattle.flow80.specs.Known.{CanLead, IsSmall, Stands, Flows, Exits, CallsOut, Steps, Visits, Looks, Sweeps, Lessens, Refused, AreClosed, AllClosed, IsShort, exit_of, nothing_known};
 ghost use Rattle.frames80.specs.declared.moves.Moves.TheVariants.{Either, Case, MaybeCall, MaybeReturn};
 ghost use Rattle.frames80.specs.Calls.{room, returned};
 ghost use Rattle.frames80.specs.Moves.{changed};
@@ -89,9 +89,7 @@ impl Table {
     /// # Errors
     /// A refusal that holds, or out of memory.
     fn flow(&mut self, procedure: Procedure, to: u16, frame: FrameId) -> Result<bool, Refusal>
-        requires small { IsSmall self.old.known }
-        requires there { frame < length self.old.frames }
-        requires fits { IsWithin (length self.old.known.points + 1) (frame_at self.old.frames frame) }
+        requires { CanLead self.old frame (length self.old.known.points + 1) }
         ensures flows { Flows self.old.known self.new.known procedure to (frame_at self.old.frames frame) result }
         ensures stays { StayNumbered self.old.frames self.new.frames }
     {
@@ -103,9 +101,7 @@ impl Table {
 
     /// A point that is new.
     fn add(&mut self, procedure: Procedure, to: u16, frame: FrameId) -> Result<bool, Refusal>
-        requires small { IsSmall self.old.known }
-        requires there { frame < length self.old.frames }
-        requires fits { IsWithin (length self.old.known.points + 1) (frame_at self.old.frames frame) }
+        requires frame { CanLead self.old frame (length self.old.known.points + 1) }
         requires new { IsNoPoint self.old.known.points procedure to }
         ensures flows { Flows self.old.known self.new.known procedure to (frame_at self.old.frames frame) result }
         ensures stays { StayNumbered self.old.frames self.new.frames }
@@ -228,9 +224,7 @@ impl Table {
     /// # Errors
     /// A refusal that holds, or out of memory.
     fn go_on(&mut self, site: &Site, change: Change) -> Result<bool, Refusal>
-        requires small { IsSmall self.old.known }
-        requires there { site.now.frame < length self.old.frames }
-        requires fits { IsWithin (length self.old.known.points) (frame_at self.old.frames site.now.frame) }
+        requires { CanLead self.old site.now.frame (length self.old.known.points) }
         ensures flows { Flows self.old.known self.new.known site.now.procedure site.now.next
             (changed change (frame_at self.old.frames site.now.frame)) result }
         ensures stays { StayNumbered self.old.frames self.new.frames }
@@ -264,9 +258,7 @@ impl Table {
     /// # Errors
     /// A refusal that holds, or out of memory.
     fn call(&mut self, site: &Site, target: u16) -> Result<bool, Refusal>
-        requires small { IsSmall self.old.known }
-        requires there { site.now.frame < length self.old.frames }
-        requires fits { IsWithin (length self.old.known.points) (frame_at self.old.frames site.now.frame) }
+        requires { CanLead self.old site.now.frame (length self.old.known.points) }
         ensures calls { CallsOut self.old.known self.new.known site.now.procedure site.now.at site.now.next site.now.role
             (frame_at self.old.frames site.now.frame) target result }
         ensures stays { StayNumbered self.old.frames self.new.frames }
@@ -288,9 +280,7 @@ impl Table {
 
     /// A conditional jump goes both ways.
     fn branch(&mut self, site: &Site, to: u16) -> Result<bool, Refusal>
-        requires small { IsSmall self.old.known }
-        requires there { site.now.frame < length self.old.frames }
-        requires fits { IsWithin (length self.old.known.points) (frame_at self.old.frames site.now.frame) }
+        requires { CanLead self.old site.now.frame (length self.old.known.points) }
         ensures steps { (targets : List ℕ) →
             Steps self.old.known self.new.known site.now.procedure site.now.at targets site.now.next site.now.role
             (Either (frame_at self.old.frames site.now.frame) to) result }
@@ -304,9 +294,7 @@ impl Table {
 
     /// A PCHL goes to each target that is declared for it, with the frame that it has.
     fn go_to_each(&mut self, site: &Site, targets: &[u16]) -> Result<bool, Refusal>
-        requires small { IsSmall self.old.known }
-        requires there { site.now.frame < length self.old.frames }
-        requires fits { IsWithin (length self.old.known.points) (frame_at self.old.frames site.now.frame) }
+        requires { CanLead self.old site.now.frame (length self.old.known.points) }
         ensures steps { Steps self.old.known self.new.known site.now.procedure site.now.at targets.now site.now.next site.now.role
             (Case (frame_at self.old.frames site.now.frame)) result }
         ensures stays { StayNumbered self.old.frames self.new.frames }
@@ -322,9 +310,7 @@ impl Table {
 
     /// A conditional call is taken, or it goes on.
     fn call_if(&mut self, site: &Site, target: u16) -> Result<bool, Refusal>
-        requires small { IsSmall self.old.known }
-        requires there { site.now.frame < length self.old.frames }
-        requires fits { IsWithin (length self.old.known.points) (frame_at self.old.frames site.now.frame) }
+        requires { CanLead self.old site.now.frame (length self.old.known.points) }
         ensures steps { (targets : List ℕ) →
             Steps self.old.known self.new.known site.now.procedure site.now.at targets site.now.next site.now.role
             (MaybeCall (frame_at self.old.frames site.now.frame) target) result }
@@ -338,9 +324,7 @@ impl Table {
 
     /// A conditional return is taken, or it goes on.
     fn return_if(&mut self, site: &Site, taken: u32) -> Result<bool, Refusal>
-        requires small { IsSmall self.old.known }
-        requires there { site.now.frame < length self.old.frames }
-        requires fits { IsWithin (length self.old.known.points) (frame_at self.old.frames site.now.frame) }
+        requires { CanLead self.old site.now.frame (length self.old.known.points) }
         ensures steps { (targets : List ℕ) →
             Steps self.old.known self.new.known site.now.procedure site.now.at targets site.now.next site.now.role
             (MaybeReturn (frame_at self.old.frames site.now.frame) taken) result }
@@ -357,9 +341,7 @@ impl Table {
     /// # Errors
     /// A refusal that holds, or out of memory.
     fn follow(&mut self, site: &Site, targets: &[u16], effect: Effect) -> Result<bool, Refusal>
-        requires small { IsSmall self.old.known }
-        requires there { site.now.frame < length self.old.frames }
-        requires fits { IsWithin (length self.old.known.points) (frame_at self.old.frames site.now.frame) }
+        requires { CanLead self.old site.now.frame (length self.old.known.points) }
         ensures { Steps self.old.known self.new.known site.now.procedure site.now.at targets.now site.now.next site.now.role
             (move_of effect (frame_at self.old.frames site.now.frame)) result }
     {
