@@ -76,6 +76,12 @@ pub record IsSmall (known : Known) : Type 0 where
   pub frames : (i : ℕ) (point : Point) → slice_get known.points i ≡ Some point → IsWithin (length known.points) point.frame
   pub apart : AreApart known.points
 
+-- a frame of the table can lead on: the table is small, the frame is there, and it is within so many words
+pub record CanLead (table : KnownFrames) (frame most : ℕ) : Type 0 where
+  pub small : IsSmall table.known
+  pub there : frame < length table.frames
+  pub fits : IsWithin most (frame_at table.frames frame)
+
 -- all of it is shown by walks: the counts alone if frames forget
 pub record Stands (exact : Bool) (code : Code) (known : Known) : Type 0 where
   pub mode : exact ≡ is_exact known.forgets

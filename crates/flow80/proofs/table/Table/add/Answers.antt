@@ -13,7 +13,7 @@ returns-then-number-ge-MOST_POINTS-clause-flows c =
     let count : c.len-number.result ≡ length known.points = c.len-number.ensures.count ∙ ap (λ (t : KnownFrames). length t.known.points) c.self.view_is in
     let full = c.if-number-ge-MOST_POINTS.true in
     let many : most_points ≤ length known.points = omega arith in
-    flows_too_many known known c.args.procedure c.args.to (frame_at c.args.self.now.frames c.args.frame) c.requires.small many c.requires.new
+    flows_too_many known known c.args.procedure c.args.to (frame_at c.args.self.now.frames c.args.frame) c.requires.frame.small many c.requires.new
 
 pub returns-clause-flows : goal.returns-clause-flows
 returns-clause-flows c =
@@ -37,4 +37,4 @@ returns-clause-flows c =
     let after : c.look_again.new.self.known ≡ added known point =
     ap (λ (t : KnownFrames). t.known) c.look_again.ensures ∙ (λ i. record { points = grown i; exits = exits i; forgets = forgets i }) in
     subst (λ (x : Known). Flows known x c.args.procedure c.args.to g (Ok true)) (sym after)
-    (flows_added known c.args.procedure c.args.to g k lesser.covers lesser.same c.requires.small few c.requires.fits c.requires.new)
+    (flows_added known c.args.procedure c.args.to g k lesser.covers lesser.same c.requires.frame.small few c.requires.frame.fits c.requires.new)

@@ -10,15 +10,18 @@ use Rattle.flow80.proofs.VisitLemmas.{more_within}
 use Rattle.flow80.proofs.StepLemmas.{steps_first_refused, steps_both}
 use Rattle.flow80.proofs.table.Table.branch.Goals as goal
 
-pub flow-requires-2-clause-there : goal.flow-requires-2-clause-there
-flow-requires-2-clause-there c = stays_there c.args.self.now.frames c.flow.new.self.frames c.in_ok-one.ensures.stays c.args.site.now.frame c.requires.there
-
-pub flow-requires-2-clause-fits : goal.flow-requires-2-clause-fits
-flow-requires-2-clause-fits c =
-    let table = c.args.self.now in
-    let mid = c.flow.new.self in
-    rw (stays_at table.frames mid.frames c.in_ok-one.ensures.stays c.args.site.now.frame c.requires.there)
-    (more_within _ _ (frame_at table.frames c.args.site.now.frame) c.in_ok-one.ensures.flows.more c.requires.fits)
+pub flow-requires-2 : goal.flow-requires-2
+flow-requires-2 c =
+    let frame = c.args.site.now.frame in
+    let before = c.args.self.now.frames in
+    let after = c.flow.new.self.frames in
+    let stays = c.in_ok-one.ensures.stays in
+    record {
+      small = c.in_ok-one.ensures.flows.small;
+      there = stays_there before after stays frame c.requires.there;
+      fits = rw (stays_at before after stays frame c.requires.there)
+          (more_within _ _ (frame_at before frame) c.in_ok-one.ensures.flows.more c.requires.fits);
+    }
 
 pub returns-in_err-one-clause-steps : goal.returns-in_err-one-clause-steps
 returns-in_err-one-clause-steps c targets =

@@ -41,8 +41,8 @@ returns-in_err-back-in-Some-clause-calls c =
     subst (λ (g : StackFrame). IsShort s.at (room s.role g.words) taken c.in_err-back-in-Some.field-0.0) (stays_at table.frames mid.frames c.in_ok-entered.ensures.stays s.frame c.requires.there) c.in_err-back-in-Some.ensures.short in
     rw (p.1, p.2) (calls_not_back c.frame_laws.ensures table.known mid.known c.come_back.new.self.known s.procedure s.at s.next s.role f c.args.target taken c.in_ok-entered.entered c.in_err-back-in-Some.field-0.0 c.in_ok-entered.ensures.flows exit short)
 
-pub flow-requires-clause-fits : goal.flow-requires-clause-fits
-flow-requires-clause-fits c =
+pub flow-requires : goal.flow-requires
+flow-requires c =
     let table = c.args.self.now in
     let mid = c.enter.new.self in
     let back = c.come_back.new.self in
@@ -51,8 +51,11 @@ flow-requires-clause-fits c =
     let taken = c.in-Some.taken in
     let same = stays_at table.frames mid.frames c.in_ok-entered.ensures.stays s.frame c.requires.there in
     let is = c.in_ok-back-in-Some.ensures.back.is ∙ ap (λ (g : StackFrame). returned taken g) same in
-    rw (c.in_ok-back-in-Some.ensures.known, is)
-    (returned_within _ _ taken f c.in_ok-entered.ensures.flows.more c.requires.fits)
+    record {
+      small = rw c.in_ok-back-in-Some.ensures.known c.in_ok-entered.ensures.flows.small;
+      there = c.in_ok-back-in-Some.ensures.back.there;
+      fits = rw (c.in_ok-back-in-Some.ensures.known, is) (returned_within _ _ taken f c.in_ok-entered.ensures.flows.more c.requires.fits);
+    }
 
 pub returns-in_err-went_on-in-Some-clause-calls : goal.returns-in_err-went_on-in-Some-clause-calls
 returns-in_err-went_on-in-Some-clause-calls c =

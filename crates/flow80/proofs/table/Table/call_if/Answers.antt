@@ -10,14 +10,18 @@ use Rattle.flow80.proofs.VisitLemmas.{within_more}
 use Rattle.flow80.proofs.StepLemmas.{steps_first_refused, steps_maybe_call, steps_maybe_call_refused}
 use Rattle.flow80.proofs.table.Table.call_if.Goals as goal
 
-pub call-requires-clause-there : goal.call-requires-clause-there
-call-requires-clause-there c = stays_there c.args.self.now.frames c.flow.new.self.frames c.in_ok-one.ensures.stays c.args.site.now.frame c.requires.there
-
-pub call-requires-clause-fits : goal.call-requires-clause-fits
-call-requires-clause-fits c =
-    let table = c.args.self.now in
-    rw (stays_at table.frames c.flow.new.self.frames c.in_ok-one.ensures.stays c.args.site.now.frame c.requires.there)
-    (within_more _ _ (frame_at table.frames c.args.site.now.frame) c.in_ok-one.ensures.flows.more c.requires.fits)
+pub call-requires : goal.call-requires
+call-requires c =
+    let frame = c.args.site.now.frame in
+    let before = c.args.self.now.frames in
+    let after = c.flow.new.self.frames in
+    let stays = c.in_ok-one.ensures.stays in
+    record {
+      small = c.in_ok-one.ensures.flows.small;
+      there = stays_there before after stays frame c.requires.there;
+      fits = rw (stays_at before after stays frame c.requires.there)
+          (within_more _ _ (frame_at before frame) c.in_ok-one.ensures.flows.more c.requires.fits);
+    }
 
 pub returns-in_err-one-clause-steps : goal.returns-in_err-one-clause-steps
 returns-in_err-one-clause-steps c targets =

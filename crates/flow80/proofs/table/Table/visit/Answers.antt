@@ -3,10 +3,14 @@ use Rattle.interned80.specs.Admitted.{move_of}
 use Rattle.interned80.specs.Frames.{frame_at}
 use Rattle.flow80.proofs.table.Table.visit.Goals as goal
 
-pub follow-requires-clause-fits : goal.follow-requires-clause-fits
-follow-requires-clause-fits g c =
+pub follow-requires : goal.follow-requires
+follow-requires g c =
     let is = c.in_ok-site.ensures.moves in
-    rw is.framed.is (c.requires.small.frames c.args.point is.move.point is.move.there)
+    record {
+      small = c.requires.small;
+      there = is.framed.there;
+      fits = rw is.framed.is (c.requires.small.frames c.args.point is.move.point is.move.there);
+    }
 
 pub returns : goal.returns
 returns g c =
