@@ -15,20 +15,18 @@ use Rattle.flow80.specs.Code.{Code}
 use Rattle.flow80.specs.Walks.{Calls, Walk, begins, enters, role_of}
 use Rattle.flow80.specs.Faults.{CallsFrom, Leads, Recurs, here, further}
 use Rattle.flow80.specs.Use.{Chains, EndsChain, Use, last, through}
-use Rattle.explain80.specs.declared.point.Point.{Point}
-use Rattle.explain80.specs.declared.search.Search.{Search}
+use Rattle.walks80.specs.declared.point.Point.{Point}
+use Rattle.walks80.specs.declared.search.Search.{Search}
 use Rattle.explain80.specs.Chains.{AreDepthsOf, AreGreatestOf, AreSitesOf, CallsAt, IsNotTheBound, NoneStands, NoNextCall}
-use Rattle.explain80.specs.Search.{IsClosed, IsSound, point_of}
+use Rattle.walks80.specs.Search.{IsFound, IsWhole, point_of}
 use Rattle.explain80.proofs.ListLemmas.{at-contained, contains-at, there_is}
-use Rattle.explain80.proofs.ClosedLemmas.{has_walk}
-use Rattle.explain80.proofs.WayLemmas.{walked}
 
-module _ (code : Code) (s : Search) (sound : IsSound code s) (closed : IsClosed code s.points.keys s.exits.items s.calls.items) where
+module _ (code : Code) (s : Search) (found : IsFound code s) (whole : IsWhole code s) where
   module _ (depths : List Depth) (of : AreDepthsOf code s.points.keys depths) where
     -- the depth of a walk is there
     has-depth : (p : Procedure) (at : ℕ) (f : StackFrame) → Walk code p at f → HasLast depths p (depth_of (role_of code p) f)
     has-depth p at f walk =
-        let has = has_walk code s.points.keys s.exits.items s.calls.items closed p at f walk in
+        let has = whole.has p at f walk in
         let one = there_is depths has.number (subst (λ n. has.number < n) (sym of.count) (slice_get_within s.points.keys has.number (point_of p at f) has.is)) in
         let is = of.each has.number one.0 (point_of p at f) one.1 has.is in
         record { depth = one.0; there = contains-at depths has.number one.0 one.1; procedure = is.procedure; is = sym is.is }
@@ -39,7 +37,7 @@ module _ (code : Code) (s : Search) (sound : IsSound code s) (closed : IsClosed 
         let at = at-contained depths h.depth h.there in
         let one = there_is s.points.keys at.0 (subst (λ n. at.0 < n) of.count (slice_get_within depths at.0 h.depth at.1)) in
         let is = of.each at.0 h.depth one.0 at.1 one.1 in
-        subst (λ q. EndsChain code q bytes) (sym is.procedure ∙ h.procedure) (record { at = one.0.at; frame = one.0.frame; walk = walked code s sound at.0 one.0 one.1; sum = h.is ∙ is.is })
+        subst (λ q. EndsChain code q bytes) (sym is.procedure ∙ h.procedure) (record { at = one.0.at; frame = one.0.frame; walk = found.walked at.0 one.0 one.1; sum = h.is ∙ is.is })
 
     main-entered : HasLast depths Main (pos 0)
     main-entered = has-depth Main code.start main_frame (begins Main code.start main_frame (record { procedure = refl; start = refl; frame = refl }))
@@ -49,8 +47,8 @@ module _ (code : Code) (s : Search) (sound : IsSound code s) (closed : IsClosed 
       site-at : (p : Procedure) (at : ℕ) (f : StackFrame) (target next : ℕ) → Walk code p at f → Calls code p at f target next →
           (site : CallSite) × CallsBy sites p site × (site.target ≡ target) × (site.depth ≡ depth_of (role_of code p) f)
       site-at p at f target next walk call =
-          let has = has_walk code s.points.keys s.exits.items s.calls.items closed p at f walk in
-          let noted = (closed.calls_there has.number (point_of p at f) has.is).noted target next call in
+          let has = whole.has p at f walk in
+          let noted = (whole.calls_there has.number (point_of p at f) has.is).noted target next call in
           let one = there_is sites noted.place (subst (λ n. noted.place < n) (sym all.count) (slice_get_within s.calls.items noted.place noted.call noted.is)) in
           let is = all.each noted.place one.0 noted.call one.1 noted.is in
           let same : is.point ≡ point_of p at f = same_Some is.point (point_of p at f) (sym is.there ∙ ap (slice_get s.points.keys) noted.point ∙ has.is) in (

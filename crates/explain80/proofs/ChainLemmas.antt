@@ -12,12 +12,11 @@ use Rattle.flow80.specs.Code.{Code}
 use Rattle.flow80.specs.Walks.{Calls, role_of}
 use Rattle.flow80.specs.Use.{Use, last, through}
 use Rattle.explain80.specs.declared.chain.Standing.{Standing}
-use Rattle.explain80.specs.declared.point.Point.{Point}
-use Rattle.explain80.specs.declared.origin.CallingPoint.{CallingPoint}
-use Rattle.explain80.specs.declared.search.Search.{Search}
+use Rattle.walks80.specs.declared.point.Point.{Point}
+use Rattle.walks80.specs.declared.origin.CallingPoint.{CallingPoint}
+use Rattle.walks80.specs.declared.search.Search.{Search}
 use Rattle.explain80.specs.Chains.{CallsAt, ChainsAreUses, EndsWith, IsChain, IsNextCall, IsSiteOf, StandsAt}
-use Rattle.explain80.specs.Search.{IsSound}
-use Rattle.explain80.proofs.WayLemmas.{walked}
+use Rattle.walks80.specs.Search.{IsFound}
 
 uses : (code : Code) (p : Procedure) (calls : List CallSite) (standing : Standing) (sum : ℤ) → IsChain code p calls standing sum → Use code p sum
 uses code p [] standing sum c =
@@ -41,15 +40,15 @@ pub chain-end : (code : Code) (p : Procedure) (bytes : ℕ) (standing : Standing
 chain-end code p bytes standing e = (e.procedure, e.stands, e.sum)
 
 -- the call of a point
-pub calls-at : (code : Code) (s : Search) → IsSound code s → (k : ℕ) (calling : CallingPoint) (point : Point) (depth : ℤ) → slice_get s.calls.items k ≡ Some calling → slice_get s.points.keys calling.point ≡ Some point →
+pub calls-at : (code : Code) (s : Search) → IsFound code s → (k : ℕ) (calling : CallingPoint) (point : Point) (depth : ℤ) → slice_get s.calls.items k ≡ Some calling → slice_get s.points.keys calling.point ≡ Some point →
     depth ≡ depth_of (role_of code point.procedure) point.frame → CallsAt code (record { caller = point.procedure; at = point.at; depth = depth; target = calling.target })
 calls-at code s h k calling point depth is there e =
-    let c = h.calls k calling is in
+    let c = h.sound.calls k calling is in
     let same : c.point ≡ point = same_Some c.point point (sym c.is ∙ there) in
     record {
       frame = point.frame;
       next = calling.next;
-      walk = walked code s h calling.point point there;
+      walk = h.walked calling.point point there;
       calls = subst (λ (p : Point). Calls code p.procedure p.at p.frame calling.target calling.next) same c.calls;
       depth = e;
     }
@@ -62,11 +61,11 @@ site-of code s calling one point depth same there e =
     (record { point = point; there = there; caller = refl; target = refl; depth = e })
 
 -- a point of a procedure
-pub stands-at : (code : Code) (s : Search) → IsSound code s → (n : ℕ) (point : Point) (p : Procedure) (depth : ℤ) (bytes : ℕ) → slice_get s.points.keys n ≡ Some point → point.procedure ≡ p → depth ≡ depth_of (role_of code point.procedure) point.frame → pos bytes ≡ depth →
+pub stands-at : (code : Code) (s : Search) → IsFound code s → (n : ℕ) (point : Point) (p : Procedure) (depth : ℤ) (bytes : ℕ) → slice_get s.points.keys n ≡ Some point → point.procedure ≡ p → depth ≡ depth_of (role_of code point.procedure) point.frame → pos bytes ≡ depth →
     EndsWith code p bytes (record { procedure = p; at = point.at; depth = depth })
 stands-at code s h n point p depth bytes is same e sum = record {
   procedure = refl;
-  stands = subst (λ q. StandsAt code (record { procedure = q; at = point.at; depth = depth })) same (record { frame = point.frame; walk = walked code s h n point is; depth = e });
+  stands = subst (λ q. StandsAt code (record { procedure = q; at = point.at; depth = depth })) same (record { frame = point.frame; walk = h.walked n point is; depth = e });
   sum = sum;
 }
 

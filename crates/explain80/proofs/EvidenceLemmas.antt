@@ -7,8 +7,8 @@ use Rattle.flow80.specs.declared.code.LookFault.{LookFault}
 use Rattle.flow80.specs.declared.refusal.Refusal.{Refusal}
 use Rattle.flow80.specs.declared.refusal.Refusal.TheVariants.{HeightsDiffer, UnevenArguments, ShortArguments}
 use Rattle.flow80.specs.Faults.{Holds, LooksWrong, MovesWrong}
-use Rattle.explain80.specs.declared.point.Point.{Point}
-use Rattle.explain80.specs.declared.route.Route.{Route}
+use Rattle.walks80.specs.declared.point.Point.{Point}
+use Rattle.walks80.specs.declared.route.Route.{Route}
 use Rattle.explain80.specs.declared.explanation.Explanation.{Explanation}
 use Rattle.explain80.specs.declared.explanation.Explanation.TheVariants.{Ways}
 use Rattle.explain80.specs.declared.evidence.Pair.{Pair}
@@ -20,10 +20,11 @@ use Rattle.explain80.specs.declared.sought.Kind.TheVariants.{Fault, Clash}
 use Rattle.explain80.specs.declared.sought.Evidence.{Evidence}
 use Rattle.explain80.specs.declared.sought.Evidence.TheVariants.{One, Two}
 use Rattle.flow80.specs.Code.{Code}
-use Rattle.explain80.specs.Ways.{IsRoute}
-use Rattle.explain80.specs.Search.{point_of}
+use Rattle.walks80.specs.declared.search.Search.{Search}
+use Rattle.walks80.specs.Ways.{IsRoute, IsWalked}
+use Rattle.walks80.specs.Search.{Has, IsWhole, point_of}
 use Rattle.explain80.specs.Shows.{ByOneWay, LooksWrongAt, MovesWrongAt, Shows}
-use Rattle.explain80.specs.Sought.{AreWithin, EvidenceOf, IsEvidence, IsSoughtFor, ShowsKind, ShowsSought}
+use Rattle.explain80.specs.Sought.{AreWithin, EvidenceOf, IsEvidence, IsSoughtFor, NoEvidenceOf, NoWalksShow, ShowsKind, ShowsSought}
 
 module _ (code : Code) (points : List Point) (pair : Pair) (route other : Route)
     (one_route : (last : Point) → slice_get points pair.one ≡ Some last → IsRoute code route last)
@@ -82,3 +83,12 @@ within code points at (Fault fault) (One number) e = slice_get_within points num
 within code points at (Fault fault) (Two pair) e = absurd e
 within code points at (Clash clash) (One number) e = absurd e
 within code points at (Clash clash) (Two pair) e = (slice_get_within points pair.one e.one e.is_one, slice_get_within points pair.other e.other e.is_other)
+
+-- what none of a whole search's points shows, no walks show
+module _ (code : Code) (s : Search) (whole : IsWhole code s) where
+  has_walked : (point : Point) → IsWalked code point → Has s.points.keys point
+  has_walked point walk = whole.has point.procedure point.at point.frame walk
+
+  pub no-walks : (at : ℕ) (kind : Kind) → NoEvidenceOf code s.points.keys at kind → NoWalksShow code at kind
+  no-walks at (Fault fault) none = λ point walk there. let h = has_walked point walk in none.none h.number point h.is there
+  no-walks at (Clash clash) none = λ one other walk walk_other there. let h = has_walked one walk in let k = has_walked other walk_other in none.none h.number k.number one other h.is k.is there

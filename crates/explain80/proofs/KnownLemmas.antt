@@ -5,17 +5,16 @@ use Rattle.bounds80.specs.declared.procedure.Procedure.{Procedure}
 use Rattle.bounds80.specs.declared.procedure.Procedure.TheVariants.{Main, Entry}
 use Rattle.flow80.specs.Code.{Code}
 use Rattle.flow80.specs.Walks.{Calls}
-use Rattle.explain80.specs.declared.point.Point.{Point}
-use Rattle.explain80.specs.declared.origin.CallingPoint.{CallingPoint}
-use Rattle.explain80.specs.declared.route.Call.{Call}
-use Rattle.explain80.specs.declared.search.Search.{Search}
+use Rattle.walks80.specs.declared.point.Point.{Point}
+use Rattle.walks80.specs.declared.origin.CallingPoint.{CallingPoint}
+use Rattle.walks80.specs.declared.route.Call.{Call}
+use Rattle.walks80.specs.declared.search.Search.{Search}
 use Rattle.explain80.specs.Known.{AreKnown, IsKnown}
 use Rattle.explain80.specs.Ring.{Chained, IsRingOf}
-use Rattle.explain80.specs.Search.{CallersAreThere, HasCall, IsSound}
+use Rattle.walks80.specs.Search.{CallersAreThere, HasCall, IsFound}
 use Rattle.explain80.specs.Shows.{RingOf}
-use Rattle.explain80.specs.Ways.{IsCalled, Lead}
+use Rattle.walks80.specs.Ways.{IsCalled, Lead}
 use Rattle.explain80.proofs.ListLemmas.{there_is}
-use Rattle.explain80.proofs.WayLemmas.{walked}
 
 -- a call that is noted is known
 pub known-at : (s : Search) (calls : List Call) → AreKnown s (length s.calls.items) calls → (n target : ℕ) (point : Point) → HasCall s.calls.items n target → slice_get s.points.keys n ≡ Some point →
@@ -31,18 +30,18 @@ known-at s calls known n target point h is =
           ∙ ap (λ t. record { caller = point.procedure; at = point.at; target = t }) (ap (λ (c : CallingPoint). c.target) same ∙ h.same)),
     )
 
-pub callers : (code : Code) (s : Search) → IsSound code s → CallersAreThere s
-callers code s h = record { there = λ k call is. let c = h.calls k call is in slice_get_within s.points.keys call.point c.point c.is }
+pub callers : (code : Code) (s : Search) → IsFound code s → CallersAreThere s
+callers code s h = record { there = λ k call is. let c = h.sound.calls k call is in slice_get_within s.points.keys call.point c.point c.is }
 
-module _ (code : Code) (s : Search) (h : IsSound code s) where
+module _ (code : Code) (s : Search) (h : IsFound code s) where
   known_called : (k : ℕ) (call : Call) → IsKnown s k call → IsCalled code call
   known_called k call known =
-      let c = h.calls k known.calling known.is in
+      let c = h.sound.calls k known.calling known.is in
       let same : c.point ≡ known.point = same_Some c.point known.point (sym c.is ∙ known.there) in
       subst (IsCalled code) (sym known.same) (record {
         frame = known.point.frame;
         next = known.calling.next;
-        walk = walked code s h known.calling.point known.point known.there;
+        walk = h.walked known.calling.point known.point known.there;
         calls = subst (λ (p : Point). Calls code p.procedure p.at p.frame known.calling.target known.calling.next) same c.calls;
       })
 

@@ -1,14 +1,10 @@
 pub mod ListLemmas
-pub mod SearchLemmas
-pub mod MoveLemmas
-pub mod WayLemmas
 pub mod ShownLemmas
-pub mod ClosedLemmas
 pub mod EvidenceLemmas
 pub mod RecursionLemmas
 pub mod RingLemmas
 pub mod KnownLemmas
 pub mod ChainLemmas
+pub mod ClashLemmas
 pub mod BoundLemmas
-pub mod CountLemmas
-pub mod GroupLemmas
+pub mod StopLemmas

@@ -6,23 +6,22 @@ use Rattle.bounds80.specs.declared.procedure.Procedure.TheVariants.{Entry}
 use Rattle.flow80.specs.Code.{Code}
 use Rattle.flow80.specs.Walks.{Calls, Walk}
 use Rattle.flow80.specs.Faults.{Leads, Recurs, here, further}
-use Rattle.explain80.specs.declared.route.Call.{Call}
-use Rattle.explain80.specs.declared.search.Search.{Search}
+use Rattle.walks80.specs.declared.route.Call.{Call}
+use Rattle.walks80.specs.declared.search.Search.{Search}
 use Rattle.explain80.specs.Known.{AreKnown, HasNoRing}
 use Rattle.explain80.specs.Ring.{Chained}
-use Rattle.explain80.specs.Search.{IsClosed, point_of}
+use Rattle.walks80.specs.Search.{IsWhole, point_of}
 use Rattle.explain80.proofs.ListLemmas.{contains-at}
-use Rattle.explain80.proofs.ClosedLemmas.{has_walk}
 use Rattle.explain80.proofs.KnownLemmas.{known-at}
 use Rattle.explain80.proofs.RingLemmas.{chained-push}
 
-module _ (code : Code) (s : Search) (closed : IsClosed code s.points.keys s.exits.items s.calls.items) where
+module _ (code : Code) (s : Search) (whole : IsWhole code s) where
   module _ (calls : List Call) (known : AreKnown s (length s.calls.items) calls) where
     -- the call of a walk is known
     called-known : (p : Procedure) (at : ℕ) (f : StackFrame) (target next : ℕ) → Walk code p at f → Calls code p at f target next → (k : ℕ) × (slice_get calls k ≡ Some (record { caller = p; at = at; target = target }))
     called-known p at f target next walk call =
-        let has = has_walk code s.points.keys s.exits.items s.calls.items closed p at f walk in
-        known-at s calls known has.number target (point_of p at f) ((closed.calls_there has.number (point_of p at f) has.is).noted target next call) has.is
+        let has = whole.has p at f walk in
+        known-at s calls known has.number target (point_of p at f) ((whole.calls_there has.number (point_of p at f) has.is).noted target next call) has.is
 
     chained : (p q : Procedure) → Leads code p q → (led : List Call) × Chained calls p led q
     chained _ _ (here p q e) = ([], e)

@@ -5,10 +5,10 @@ use Rattle.std.proofs.lemmas.Bool.{cases_eq}
 use Rattle.std.proofs.lemmas.List.{get_or-set_other, reverse-append}
 use Rattle.bounds80.specs.declared.procedure.Procedure.{Procedure}
 use Rattle.bounds80.specs.declared.procedure.Procedure.TheVariants.{Main, Entry}
-use Rattle.explain80.specs.declared.route.Call.{Call}
+use Rattle.walks80.specs.declared.route.Call.{Call}
 use Rattle.explain80.specs.declared.ring.Reach.{Reach}
 use Rattle.explain80.specs.Ring.{AreComplete, AreLinked, AreMarked, AreReached, Chained, EntersAt, IsEntered, IsFollowed, IsFurther, IsLed, IsLedBack, NoneLeadBack, ReachesFrom}
-use Rattle.explain80.specs.Search.{Extends}
+use Rattle.walks80.specs.Search.{Extends}
 use Rattle.explain80.proofs.ListLemmas.{extends-push, slice_get-append, slice_get-extends, slice_get-last, slice_get-push, there_is}
 
 module _ (calls : List Call) (first : Call) where

@@ -8,12 +8,12 @@ use Rattle.flow80.specs.declared.refusal.Refusal.TheVariants.{FetchOutside, Unus
 use Rattle.flow80.specs.Code.{Code}
 use Rattle.flow80.specs.Walks.{Calls, Returns, Walk, begins, goes_on, enters, comes_back}
 use Rattle.flow80.specs.Faults.{LooksWrong, MovesWrong, Differ, Uneven, Short, Recurs, CallsFrom, Leads, here, further}
-use Rattle.explain80.specs.declared.point.Point.{Point}
-use Rattle.explain80.specs.declared.route.Call.{Call}
-use Rattle.explain80.specs.declared.route.Route.{Route}
+use Rattle.walks80.specs.declared.point.Point.{Point}
+use Rattle.walks80.specs.declared.route.Call.{Call}
+use Rattle.walks80.specs.declared.route.Route.{Route}
 use Rattle.explain80.specs.declared.explanation.Explanation.{Explanation}
 use Rattle.explain80.specs.declared.explanation.Explanation.TheVariants.{Way as OneWay, Ways as TwoWays, Ring}
-use Rattle.explain80.specs.Ways.{IsWalked, Follows, Way, Starts, IsCalled, Lead, IsRoute}
+use Rattle.walks80.specs.Ways.{IsWalked, Follows, Way, Starts, IsCalled, Lead, IsRoute}
 use Rattle.explain80.specs.Shows.{LooksWrongAt, MovesWrongAt, DifferAt, UnevenAt, ShortAt, ByOneWay, ByTwoWays, RingOf, ByRing, ShownHolds}
 
 module _ (code : Code) where

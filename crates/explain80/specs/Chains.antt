@@ -11,9 +11,9 @@ use Rattle.flow80.specs.Code.{Code}
 use Rattle.flow80.specs.Walks.{Calls, Walk, role_of}
 use Rattle.flow80.specs.Faults.{Recurs}
 use Rattle.flow80.specs.Use.{IsBound, Use}
-use Rattle.explain80.specs.declared.point.Point.{Point}
-use Rattle.explain80.specs.declared.origin.CallingPoint.{CallingPoint}
-use Rattle.explain80.specs.declared.search.Search.{Search}
+use Rattle.walks80.specs.declared.point.Point.{Point}
+use Rattle.walks80.specs.declared.origin.CallingPoint.{CallingPoint}
+use Rattle.walks80.specs.declared.search.Search.{Search}
 use Rattle.explain80.specs.declared.chain.Chain.{Chain}
 use Rattle.explain80.specs.declared.chain.Standing.{Standing}
 

@@ -1,13 +1,15 @@
 -- Points of a search that show a refusal, and that none of them does. (This project's own.)
-use Rattle.std.specs.Prelude.{◌≡◌, ℕ, List, slice_get, Some}
+use Rattle.std.specs.Prelude.{◌≡◌, ◌≢◌, ◌≤◌, ◌⊎◌, ℕ, Bool, true, false, List, Option, None, Some, get_or, length, slice_get}
 use Rattle.flow80.specs.Code.{Code}
-use Rattle.flow80.specs.Walks.{Calls}
-use Rattle.explain80.specs.declared.point.Point.{Point}
+use Rattle.flow80.specs.Walks.{Calls, Returns as ReturnsWith}
+use Rattle.bounds80.specs.Chains.{slot_of}
+use Rattle.walks80.specs.declared.point.Point.{Point}
 use Rattle.explain80.specs.declared.evidence.Fault.{Fault}
 use Rattle.explain80.specs.declared.evidence.Fault.TheVariants.{Look, Frame}
 use Rattle.explain80.specs.declared.evidence.Clash.{Clash}
 use Rattle.explain80.specs.declared.evidence.Clash.TheVariants.{Heights, Returns, Shortage}
 use Rattle.explain80.specs.declared.evidence.Pair.{Pair}
+use Rattle.explain80.specs.declared.clashes.Count.{Count}
 use Rattle.explain80.specs.Shows.{LooksWrongAt, MovesWrongAt, DifferAt, UnevenAt, ShortAt}
 
 -- the instruction at the address may not be executed at this point
@@ -45,3 +47,31 @@ pub record ArePair (points : List Point) (There : Point → Point → Type 0) (p
 
 pub record AreNoPair (points : List Point) (There : Point → Point → Type 0) : Type 0 where
   pub none : (i j : ℕ) (one other : Point) → slice_get points i ≡ Some one → slice_get points j ≡ Some other → There one other → ⊥
+
+-- of clashes between points of one procedure: what a point may differ by, or none if it can't
+abbrev pub CountOf : Code → ℕ → Clash → Point → Option Count → Type 0
+CountOf code at Heights point (Some count) = (point.at ≡ at)
+    × (count ≡ record { taken = point.frame.taken; words = length point.frame.words })
+CountOf code at Heights point None = point.at ≢ at
+CountOf code at Returns point (Some count) = ReturnsWith code point.procedure point.at point.frame count.taken × (count.words ≡ 0)
+CountOf code at Returns point None = (taken : ℕ) → ReturnsWith code point.procedure point.at point.frame taken → ⊥
+CountOf code at Shortage point count = Unit {0}
+
+abbrev pub IsOfCounts : Clash → Type 0
+IsOfCounts Heights = Unit {0}
+IsOfCounts Returns = Unit {0}
+IsOfCounts Shortage = ⊥
+
+-- at a procedure's place, the count is its first, or it has two
+abbrev pub IsNoted : (firsts : List (Option Count)) → (mixed : List Bool) → (place : ℕ) → Count → Type 0
+IsNoted firsts mixed place count = (get_or firsts place None ≡ Some count) ⊎ (get_or mixed place false ≡ true)
+
+-- a procedure with two counts is marked
+pub record AreMixed (code : Code) (at : ℕ) (clash : Clash) (points : List Point) (mixed : List Bool) : Type 0 where
+  pub marked : (i j : ℕ) (one other : Point) (a b : Count) → slice_get points i ≡ Some one → slice_get points j ≡ Some other
+      → other.procedure ≡ one.procedure → CountOf code at clash one (Some a) → CountOf code at clash other (Some b) → a ≢ b
+      → get_or mixed (slot_of one.procedure) false ≡ true
+
+-- no point has taken more words than the table says of its procedure
+pub record AreMost (points : List Point) (most : List ℕ) : Type 0 where
+  pub most_of : (k : ℕ) (point : Point) → slice_get points k ≡ Some point → point.frame.taken ≤ get_or most (slot_of point.procedure) 0

@@ -1,9 +1,9 @@
 -- The calls of a search's points. (This project's own.)
 use Rattle.std.specs.Prelude.{◌≡◌, ℕ, List, length, slice_get, Some}
-use Rattle.explain80.specs.declared.point.Point.{Point}
-use Rattle.explain80.specs.declared.origin.CallingPoint.{CallingPoint}
-use Rattle.explain80.specs.declared.route.Call.{Call}
-use Rattle.explain80.specs.declared.search.Search.{Search}
+use Rattle.walks80.specs.declared.point.Point.{Point}
+use Rattle.walks80.specs.declared.origin.CallingPoint.{CallingPoint}
+use Rattle.walks80.specs.declared.route.Call.{Call}
+use Rattle.walks80.specs.declared.search.Search.{Search}
 use Rattle.explain80.specs.Ring.{NoneLeadBack}
 
 -- the call of the point that is noted under a number

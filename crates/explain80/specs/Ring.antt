@@ -2,7 +2,7 @@
 use Rattle.std.specs.Prelude.{◌≡◌, ◌<◌, ◌⊎◌, ℕ, Bool, true, false, List, [], ◌∷◌, Contains, Some, get_or, length, reverse, slice_get}
 use Rattle.bounds80.specs.declared.procedure.Procedure.{Procedure}
 use Rattle.bounds80.specs.declared.procedure.Procedure.TheVariants.{Entry}
-use Rattle.explain80.specs.declared.route.Call.{Call}
+use Rattle.walks80.specs.declared.route.Call.{Call}
 use Rattle.explain80.specs.declared.ring.Reach.{Reach}
 
 -- calls of a list lead from one procedure to another

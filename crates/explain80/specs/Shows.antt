@@ -14,12 +14,12 @@ use Rattle.flow80.specs.declared.code.LookFault.TheVariants.{Outside, Unused, En
 use Rattle.flow80.specs.Code.{Code}
 use Rattle.flow80.specs.Walks.{Calls, Returns, role_of}
 use Rattle.flow80.specs.Faults.{Holds}
-use Rattle.explain80.specs.declared.point.Point.{Point}
-use Rattle.explain80.specs.declared.route.Call.{Call}
-use Rattle.explain80.specs.declared.route.Route.{Route}
+use Rattle.walks80.specs.declared.point.Point.{Point}
+use Rattle.walks80.specs.declared.route.Call.{Call}
+use Rattle.walks80.specs.declared.route.Route.{Route}
 use Rattle.explain80.specs.declared.explanation.Explanation.{Explanation}
 use Rattle.explain80.specs.declared.explanation.Explanation.TheVariants.{Way as OneWay, Ways as TwoWays, Ring}
-use Rattle.explain80.specs.Ways.{IsRoute, Lead}
+use Rattle.walks80.specs.Ways.{IsRoute, Lead}
 
 -- at this point no instruction may be executed
 pub record LooksWrongAt (code : Code) (at : ℕ) (fault : LookFault) (point : Point) : Type 0 where

@@ -4,14 +4,14 @@ use Rattle.flow80.specs.Code.{Code}
 use Rattle.flow80.specs.declared.refusal.Refusal.{Refusal}
 use Rattle.flow80.specs.declared.refusal.Refusal.TheVariants.{Recursion, StackTooSmall, TooManyPoints, Memory}
 use Rattle.flow80.specs.Faults.{Holds}
-use Rattle.explain80.specs.declared.point.Point.{Point}
+use Rattle.walks80.specs.declared.point.Point.{Point}
 use Rattle.explain80.specs.declared.explanation.Explanation.{Explanation}
 use Rattle.explain80.specs.declared.sought.Sought.{Sought}
 use Rattle.explain80.specs.declared.sought.Kind.{Kind}
 use Rattle.explain80.specs.declared.sought.Kind.TheVariants.{Fault, Clash}
 use Rattle.explain80.specs.declared.sought.Evidence.{Evidence}
 use Rattle.explain80.specs.declared.sought.Evidence.TheVariants.{One, Two}
-use Rattle.explain80.specs.Ways.{IsWalked}
+use Rattle.walks80.specs.Ways.{IsWalked}
 use Rattle.explain80.specs.Shows.{ByOneWay, ByTwoWays, Shows}
 use Rattle.explain80.specs.Evidence.{ArePair, AreNoPair, ClashAt, FaultAt, IsOne, IsNoOne}
 

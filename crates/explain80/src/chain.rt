@@ -7,23 +7,21 @@ ghost use Rattle.frames80.specs.Calls.{depth_of};
 ghost use Rattle.flow80.specs.Walks.{role_of as role_in};
 ghost use Rattle.verify80.specs.Looking.{code_of};
 ghost use Rattle.bounds80.specs.declared.graph.Depth.{Depth as DepthSeen};
-ghost use Rattle.explain80.specs.declared.point.Point.{Point as PointSeen};
+ghost use Rattle.walks80.specs.declared.point.Point.{Point as PointSeen};
 ghost use Rattle.explain80.specs.declared.fault.Unexplained.TheVariants.{Limit, NotShown};
-ghost use Rattle.explain80.specs.declared.fault.Stop.TheVariants.{Limit as StopsByLimit};
-ghost use Rattle.explain80.specs.Counts.{ComesToMore, GoesDeep, IsDeep};
+ghost use Rattle.walks80.specs.declared.fault.Stop.TheVariants.{Limit as StopsByLimit};
+ghost use Rattle.walks80.specs.Counts.{ComesToMore, GoesDeep, IsDeep};
 ghost use Rattle.explain80.specs.Chains.{AddsUp, AreDepthsOf, AreGreatestOf, AreSitesOf, CallsAt, ChainsTo, EndsWith, IsNextCall, IsNotTheBound, NoneStands, NoNextCall};
-ghost use Rattle.explain80.specs.Search.{IsClosed, IsSound, IsUnderWay};
+ghost use Rattle.walks80.specs.Search.{IsFound, IsWhole};
 
-use crate::fault::{Stop, Unexplained};
-use crate::looked::{MOST_WORDS, role_of};
-use crate::point::Point;
-use crate::search::Search;
+use crate::fault::Unexplained;
 use bounds80::{Bounds, BoundsFault, CallSite, Depth, SLOTS, find_bounds, slot, table};
 use flow80::{Code, Procedure};
 use frames80::depth;
 use image80::Image;
 use std::alloc::{AllocError, Global};
 use verify80::ImageCode;
+use walks80::{MOST_WORDS, Point, Search, Stop, role_of};
 
 /// The most calls that bounds are found of.
 const MOST_CALLS: usize = 262_144;
@@ -111,201 +109,199 @@ fn chain_of<C: Code>(
     if !search.grow(alloc, program, limit)? {
         return Err(Unexplained::Limit);
     }
-    match search.chain_to(alloc, program, bytes)? {
+    match chain_to(alloc, program, &search, bytes)? {
         Some(chain) => Ok(chain),
         None => Err(Unexplained::NotShown),
     }
 }
 
-impl Search {
-    /// A chain that comes to a sum, if that is the bound by the points that were found.
-    fn chain_to<C: Code>(
-        &self,
-        alloc: Global,
-        program: &C,
-        bytes: u64,
-    ) -> Result<Option<Chain>, Stop>
-        requires way { IsUnderWay (C.code program.now) self.now }
-        requires closed { IsClosed (C.code program.now) self.now.points.keys self.now.exits.items self.now.calls.items }
-        ensures chain { IfOk result (λ chain. IfSome chain (ChainsTo (C.code program.now) bytes)) }
-        ensures none { IfOk result (λ chain. IfNone chain (IsNotTheBound (C.code program.now) bytes)) }
-        ensures limited { result ≡ Err StopsByLimit → GoesDeep (C.code program.now) ⊎ ComesToMore (C.code program.now) 2097152 }
-    {
-        let depths = self.depths(alloc, program)?;
-        let sites = self.sites(alloc, program)?;
-        if sites.len() > MOST_CALLS {
-            return Err(Stop::Limit);
-        }
-        let bounds = match find_bounds(alloc, &depths, &sites) {
-            Ok(bounds) => bounds,
-            Err(BoundsFault::Recursion(_)) => return Ok(None),
-            Err(BoundsFault::Memory) => return Err(Stop::Memory),
-        };
-        if bounds.get(Procedure::Main) != bytes {
-            return Ok(None);
-        }
-        self.chain_by(alloc, program, &sites, &bounds)
+/// A chain that comes to a sum, if that is the bound by the points that were found.
+fn chain_to<C: Code>(
+    alloc: Global,
+    program: &C,
+    search: &Search,
+    bytes: u64,
+) -> Result<Option<Chain>, Stop>
+    requires found { IsFound (C.code program.now) search.now }
+    requires whole { IsWhole (C.code program.now) search.now }
+    ensures chain { IfOk result (λ chain. IfSome chain (ChainsTo (C.code program.now) bytes)) }
+    ensures none { IfOk result (λ chain. IfNone chain (IsNotTheBound (C.code program.now) bytes)) }
+    ensures limited { result ≡ Err StopsByLimit → GoesDeep (C.code program.now) ⊎ ComesToMore (C.code program.now) 2097152 }
+{
+    let depths = depths(alloc, program, search)?;
+    let sites = sites(alloc, program, search)?;
+    if sites.len() > MOST_CALLS {
+        return Err(Stop::Limit);
     }
-
-    /// The depth of each point.
-    fn depths<C: Code>(&self, alloc: Global, program: &C) -> Result<Vec<Depth>, Stop>
-        requires { IsSound (C.code program.now) self.now }
-        ensures all { IfOk result (λ depths. AreDepthsOf (C.code program.now) self.now.points.keys depths.items) }
-        ensures modest { IfOk result (λ depths. All (λ d. IsModest d.depth) depths.items) }
-        ensures limited { result ≡ Err StopsByLimit → GoesDeep (C.code program.now) }
-    {
-        let mut depths = Vec::new(alloc);
-        for point in self.points.as_slice() {
-            let depth = depth_at(program, point)?;
-            let procedure = point.procedure;
-            push(&mut depths, Depth { procedure, depth })?;
-        }
-        Ok(depths)
+    let bounds = match find_bounds(alloc, &depths, &sites) {
+        Ok(bounds) => bounds,
+        Err(BoundsFault::Recursion(_)) => return Ok(None),
+        Err(BoundsFault::Memory) => return Err(Stop::Memory),
+    };
+    if bounds.get(Procedure::Main) != bytes {
+        return Ok(None);
     }
+    chain_by(alloc, program, search, &sites, &bounds)
+}
 
-    /// The calls, with the depth of each.
-    fn sites<C: Code>(&self, alloc: Global, program: &C) -> Result<Vec<CallSite>, Stop>
-        requires { IsSound (C.code program.now) self.now }
-        ensures all { IfOk result (λ sites. AreSitesOf (C.code program.now) self.now sites.items) }
-        ensures calls { IfOk result (λ sites. All (CallsAt (C.code program.now)) sites.items) }
-        ensures modest { IfOk result (λ sites. All (λ s. IsModest s.depth) sites.items) }
-        ensures limited { result ≡ Err StopsByLimit → GoesDeep (C.code program.now) }
-    {
-        let mut sites = Vec::new(alloc);
-        for number in 0..self.calls.len() {
-            let calling = self.calls.get(number);
-            let caller = &self.points[calling.point];
-            let depth = depth_at(program, caller)?;
-            push(&mut sites, site_of(caller, depth, calling.target))?;
-        }
-        Ok(sites)
+/// The depth of each point.
+fn depths<C: Code>(alloc: Global, program: &C, search: &Search) -> Result<Vec<Depth>, Stop>
+    requires { IsFound (C.code program.now) search.now }
+    ensures all { IfOk result (λ depths. AreDepthsOf (C.code program.now) search.now.points.keys depths.items) }
+    ensures modest { IfOk result (λ depths. All (λ d. IsModest d.depth) depths.items) }
+    ensures limited { result ≡ Err StopsByLimit → GoesDeep (C.code program.now) }
+{
+    let mut depths = Vec::new(alloc);
+    for point in search.points.as_slice() {
+        let depth = depth_at(program, point)?;
+        let procedure = point.procedure;
+        push(&mut depths, Depth { procedure, depth })?;
     }
+    Ok(depths)
+}
 
-    /// The chain that the bounds add up.
-    fn chain_by<C: Code>(
-        &self,
-        alloc: Global,
-        program: &C,
-        sites: &[CallSite],
-        bounds: &Bounds,
-    ) -> Result<Option<Chain>, Stop>
-        requires sound { IsSound (C.code program.now) self.now }
-        requires calls { All (CallsAt (C.code program.now)) sites.now }
-        ensures chain { IfOk result (λ chain. IfSome chain (ChainsTo (C.code program.now) (bytes_of bounds.now Main))) }
-        ensures none { IfOk result (λ chain. IfNone chain ((depths : List DepthSeen)
-            → AreGreatestOf (C.code program.now) self.now depths sites.now bounds.now → ⊥)) }
-        ensures limited { result ≡ Err StopsByLimit → GoesDeep (C.code program.now) }
-    {
-        let likely_points = self.likely_points(alloc, program, bounds)?;
-        let likely_calls = likely_calls(alloc, sites, bounds)?;
-        let mut calls = Vec::new(alloc);
-        let mut procedure = Procedure::Main;
-        loop {
-            let bytes = bounds.get(procedure);
-            if let Some(last) = self.likely_last(program, &likely_points, procedure, bytes)? {
-                return Ok(Some(Chain { calls, last }));
-            }
-            let Some(call) = next_call(sites, &likely_calls, bounds, procedure) else {
-                let Some(last) = self.last_of(program, procedure, bytes)? else {
-                    return Ok(None);
-                };
-                return Ok(Some(Chain { calls, last }));
+/// The calls, with the depth of each.
+fn sites<C: Code>(alloc: Global, program: &C, search: &Search) -> Result<Vec<CallSite>, Stop>
+    requires { IsFound (C.code program.now) search.now }
+    ensures all { IfOk result (λ sites. AreSitesOf (C.code program.now) search.now sites.items) }
+    ensures calls { IfOk result (λ sites. All (CallsAt (C.code program.now)) sites.items) }
+    ensures modest { IfOk result (λ sites. All (λ s. IsModest s.depth) sites.items) }
+    ensures limited { result ≡ Err StopsByLimit → GoesDeep (C.code program.now) }
+{
+    let mut sites = Vec::new(alloc);
+    for number in 0..search.calls.len() {
+        let calling = search.calls.get(number);
+        let caller = &search.points[calling.point];
+        let depth = depth_at(program, caller)?;
+        push(&mut sites, site_of(caller, depth, calling.target))?;
+    }
+    Ok(sites)
+}
+
+/// The chain that the bounds add up.
+fn chain_by<C: Code>(
+    alloc: Global,
+    program: &C,
+    search: &Search,
+    sites: &[CallSite],
+    bounds: &Bounds,
+) -> Result<Option<Chain>, Stop>
+    requires found { IsFound (C.code program.now) search.now }
+    requires calls { All (CallsAt (C.code program.now)) sites.now }
+    ensures chain { IfOk result (λ chain. IfSome chain (ChainsTo (C.code program.now) (bytes_of bounds.now Main))) }
+    ensures none { IfOk result (λ chain. IfNone chain ((depths : List DepthSeen)
+        → AreGreatestOf (C.code program.now) search.now depths sites.now bounds.now → ⊥)) }
+    ensures limited { result ≡ Err StopsByLimit → GoesDeep (C.code program.now) }
+{
+    let likely_points = likely_points(alloc, program, search, bounds)?;
+    let likely_calls = likely_calls(alloc, sites, bounds)?;
+    let mut calls = Vec::new(alloc);
+    let mut procedure = Procedure::Main;
+    loop {
+        let bytes = bounds.get(procedure);
+        if let Some(last) = likely_last(program, search, &likely_points, procedure, bytes)? {
+            return Ok(Some(Chain { calls, last }));
+        }
+        let Some(call) = next_call(sites, &likely_calls, bounds, procedure) else {
+            let Some(last) = last_of(program, search, procedure, bytes)? else {
+                return Ok(None);
             };
-            push(&mut calls, call)?;
-            procedure = Procedure::Entry(call.target);
-        }
+            return Ok(Some(Chain { calls, last }));
+        };
+        push(&mut calls, call)?;
+        procedure = Procedure::Entry(call.target);
     }
+}
 
-    /// For each procedure, the number of the first of its points that has its bound on the stack. What is answered doesn't rest on
-    /// this table, only how soon.
-    fn likely_points<C: Code>(
-        &self,
-        alloc: Global,
-        program: &C,
-        bounds: &Bounds,
-    ) -> Result<Vec<Option<usize>>, Stop>
-        requires { IsSound (C.code program.now) self.now }
-        ensures table { IfOk result (λ likely. length likely.items ≡ 65537) }
-        ensures limited { result ≡ Err StopsByLimit → GoesDeep (C.code program.now) }
-    {
-        let mut likely = table(alloc, None, SLOTS)?;
-        for number in 0..self.points.len() {
-            let point = &self.points[number];
-            let depth = depth_at(program, point)?;
-            let place = slot(point.procedure);
-            if likely[place].is_none() && comes_to(depth, bounds.get(point.procedure)) {
-                likely[place] = Some(number);
-            }
+/// For each procedure, the number of the first of its points that has its bound on the stack. What is answered doesn't rest on
+/// this table, only how soon.
+fn likely_points<C: Code>(
+    alloc: Global,
+    program: &C,
+    search: &Search,
+    bounds: &Bounds,
+) -> Result<Vec<Option<usize>>, Stop>
+    requires { IsFound (C.code program.now) search.now }
+    ensures table { IfOk result (λ likely. length likely.items ≡ 65537) }
+    ensures limited { result ≡ Err StopsByLimit → GoesDeep (C.code program.now) }
+{
+    let mut likely = table(alloc, None, SLOTS)?;
+    for number in 0..search.points.len() {
+        let point = &search.points[number];
+        let depth = depth_at(program, point)?;
+        let place = slot(point.procedure);
+        if likely[place].is_none() && comes_to(depth, bounds.get(point.procedure)) {
+            likely[place] = Some(number);
         }
-        Ok(likely)
     }
+    Ok(likely)
+}
 
-    /// Where a procedure has so many bytes on the stack, if it is where the table says.
-    fn likely_last<C: Code>(
-        &self,
-        program: &C,
-        likely: &[Option<usize>],
-        procedure: Procedure,
-        bytes: u64,
-    ) -> Result<Option<Standing>, Stop>
-        requires sound { IsSound (C.code program.now) self.now }
-        requires table { length likely.now ≡ 65537 }
-        ensures last { IfOk result (λ last. IfSome last (EndsWith (C.code program.now) procedure bytes)) }
-        ensures limited { result ≡ Err StopsByLimit → GoesDeep (C.code program.now) }
-    {
-        let named = likely[slot(procedure)];
-        match named {
-            Some(number) if number < self.points.len() => {
-                self.last_at(program, number, procedure, bytes)
-            }
-            _ => Ok(None),
+/// Where a procedure has so many bytes on the stack, if it is where the table says.
+fn likely_last<C: Code>(
+    program: &C,
+    search: &Search,
+    likely: &[Option<usize>],
+    procedure: Procedure,
+    bytes: u64,
+) -> Result<Option<Standing>, Stop>
+    requires found { IsFound (C.code program.now) search.now }
+    requires table { length likely.now ≡ 65537 }
+    ensures last { IfOk result (λ last. IfSome last (EndsWith (C.code program.now) procedure bytes)) }
+    ensures limited { result ≡ Err StopsByLimit → GoesDeep (C.code program.now) }
+{
+    let named = likely[slot(procedure)];
+    match named {
+        Some(number) if number < search.points.len() => {
+            last_at(program, search, number, procedure, bytes)
         }
+        _ => Ok(None),
     }
+}
 
-    /// Where the point with this number is, if it is of a procedure, with so many bytes on the stack.
-    fn last_at<C: Code>(
-        &self,
-        program: &C,
-        number: usize,
-        procedure: Procedure,
-        bytes: u64,
-    ) -> Result<Option<Standing>, Stop>
-        requires sound { IsSound (C.code program.now) self.now }
-        requires there { number < length self.now.points.keys }
-        ensures last { IfOk result (λ last. IfSome last (EndsWith (C.code program.now) procedure bytes)) }
-        ensures none { IfOk result (λ last. IfNone last ((point : PointSeen) → slice_get self.now.points.keys number ≡ Some point
-            → point.procedure ≡ procedure → pos bytes ≡ depth_of (role_in (C.code program.now) point.procedure) point.frame → ⊥)) }
-        ensures limited { result ≡ Err StopsByLimit → GoesDeep (C.code program.now) }
-    {
-        let point = &self.points[number];
-        if is_of(point, procedure) {
-            let depth = depth_at(program, point)?;
-            if comes_to(depth, bytes) {
-                return Ok(Some(Standing::new(procedure, point.at, depth)));
-            }
+/// Where the point with this number is, if it is of a procedure, with so many bytes on the stack.
+fn last_at<C: Code>(
+    program: &C,
+    search: &Search,
+    number: usize,
+    procedure: Procedure,
+    bytes: u64,
+) -> Result<Option<Standing>, Stop>
+    requires found { IsFound (C.code program.now) search.now }
+    requires there { number < length search.now.points.keys }
+    ensures last { IfOk result (λ last. IfSome last (EndsWith (C.code program.now) procedure bytes)) }
+    ensures none { IfOk result (λ last. IfNone last ((point : PointSeen) → slice_get search.now.points.keys number ≡ Some point
+        → point.procedure ≡ procedure → pos bytes ≡ depth_of (role_in (C.code program.now) point.procedure) point.frame → ⊥)) }
+    ensures limited { result ≡ Err StopsByLimit → GoesDeep (C.code program.now) }
+{
+    let point = &search.points[number];
+    if is_of(point, procedure) {
+        let depth = depth_at(program, point)?;
+        if comes_to(depth, bytes) {
+            return Ok(Some(Standing::new(procedure, point.at, depth)));
         }
-        Ok(None)
     }
+    Ok(None)
+}
 
-    /// Where a procedure has so many bytes on the stack.
-    fn last_of<C: Code>(
-        &self,
-        program: &C,
-        procedure: Procedure,
-        bytes: u64,
-    ) -> Result<Option<Standing>, Stop>
-        requires { IsSound (C.code program.now) self.now }
-        ensures last { IfOk result (λ last. IfSome last (EndsWith (C.code program.now) procedure bytes)) }
-        ensures none { IfOk result (λ last. IfNone last (NoneStands (C.code program.now) self.now.points.keys procedure bytes)) }
-        ensures limited { result ≡ Err StopsByLimit → GoesDeep (C.code program.now) }
-    {
-        for number in 0..self.points.len() {
-            if let Some(last) = self.last_at(program, number, procedure, bytes)? {
-                return Ok(Some(last));
-            }
+/// Where a procedure has so many bytes on the stack.
+fn last_of<C: Code>(
+    program: &C,
+    search: &Search,
+    procedure: Procedure,
+    bytes: u64,
+) -> Result<Option<Standing>, Stop>
+    requires { IsFound (C.code program.now) search.now }
+    ensures last { IfOk result (λ last. IfSome last (EndsWith (C.code program.now) procedure bytes)) }
+    ensures none { IfOk result (λ last. IfNone last (NoneStands (C.code program.now) search.now.points.keys procedure bytes)) }
+    ensures limited { result ≡ Err StopsByLimit → GoesDeep (C.code program.now) }
+{
+    for number in 0..search.points.len() {
+        if let Some(last) = last_at(program, search, number, procedure, bytes)? {
+            return Ok(Some(last));
         }
-        Ok(None)
     }
+    Ok(None)
 }
 
 /// Appends a value.

@@ -3,17 +3,15 @@
 ghost use Rattle.std.specs.Prelude.{◌≡◌, ◌↔◌, ◌⊎◌, ℕ, true, Err, IfOk, IfSome, IfNone};
 ghost use Rattle.frames80.specs.Calls.{room};
 ghost use Rattle.flow80.specs.Walks.{Returns, called, returning};
-ghost use Rattle.explain80.specs.declared.fault.Stop.TheVariants.{Limit};
-ghost use Rattle.explain80.specs.Counts.{HasDeep, IsDeep};
-ghost use Rattle.explain80.specs.Evidence.{ArePair, AreNoPair, CallsTo, ClashAt, FaultAt, IsOne, IsNoOne};
+ghost use Rattle.walks80.specs.declared.fault.Stop.TheVariants.{Limit};
+ghost use Rattle.walks80.specs.Counts.{HasDeep, IsDeep};
+ghost use Rattle.explain80.specs.Evidence.{CallsTo, ClashAt, FaultAt, IsOne, IsNoOne};
 ghost use Rattle.explain80.specs.Shows.{DifferAt, ShortAt, UnevenAt};
 
-use crate::fault::Stop;
-use crate::looked::{Looked, look_at, role_of};
-use crate::point::Point;
 use flow80::{Code, LookFault, Procedure};
 use frames80::{Frame, FrameFault, Moves, Role};
 use std::alloc::Global;
+use walks80::{Looked, Point, Stop, look_at, role_of};
 
 /// Why an instruction may not be executed.
 #[derive(Clone, Copy)]
@@ -101,31 +99,8 @@ fn is_same_look(one: LookFault, other: LookFault) -> bool
     }
 }
 
-/// The first two points that clash so, the first of them at an address.
-///
-/// # Errors
-/// `Limit` if a frame has more than 1,000,000 words, or as many taken; `Memory` if memory runs out.
-pub(crate) fn find_clash<C: Code>(
-    alloc: Global,
-    program: &C,
-    points: &[Point],
-    at: u16,
-    clash: Clash,
-) -> Result<Option<Pair>, Stop>
-    ensures found { IfOk result (λ found. IfSome found (ArePair points.now (ClashAt (C.code program.now) at clash))) }
-    ensures none { IfOk result (λ found. IfNone found (AreNoPair points.now (ClashAt (C.code program.now) at clash))) }
-    ensures limited { result ≡ Err Limit → HasDeep points.now }
-{
-    for one in 0..points.len() {
-        if let Some(other) = find_other(alloc, program, points, &points[one], at, clash)? {
-            return Ok(Some(Pair { one, other }));
-        }
-    }
-    Ok(None)
-}
-
 /// The first point that clashes so with one at an address.
-fn find_other<C: Code>(
+pub(crate) fn find_other<C: Code>(
     alloc: Global,
     program: &C,
     points: &[Point],
@@ -218,18 +193,18 @@ fn is_shortage<C: Code>(
     ensures no { IfOk result (λ r. ShortAt (C.code program.now) one.now.at one.now other.now → r ≡ true) }
     ensures limited { result ≡ Err Limit → IsDeep one.now ⊎ IsDeep other.now }
 {
-    if other.frame.taken == 0 {
+    let room = room(&one.frame, role_of(program, one.procedure));
+    if other.frame.taken as usize <= room {
         return Ok(false);
     }
     let Some(target) = target_called(alloc, program, one)? else {
         return Ok(false);
     };
-    let room = room(&one.frame, role_of(program, one.procedure));
-    Ok(other.procedure == Procedure::Entry(target) && room < other.frame.taken as usize)
+    Ok(other.procedure == Procedure::Entry(target))
 }
 
 /// How many words a callee may take: those above the bottom word, and in the main program all.
-fn room(frame: &Frame, role: Role) -> usize
+pub(crate) fn room(frame: &Frame, role: Role) -> usize
     ensures { result ≡ room role frame.now.words }
 {
     match role {
@@ -239,7 +214,11 @@ fn room(frame: &Frame, role: Role) -> usize
 }
 
 /// How many words a point's procedure has taken where the point returns; `None` if it doesn't.
-fn words_taken<C: Code>(alloc: Global, program: &C, point: &Point) -> Result<Option<u32>, Stop>
+pub(crate) fn words_taken<C: Code>(
+    alloc: Global,
+    program: &C,
+    point: &Point,
+) -> Result<Option<u32>, Stop>
     ensures returns { IfOk result (λ r.
         IfSome r (Returns (C.code program.now) point.now.procedure point.now.at point.now.frame)) }
     ensures none { IfOk result (λ r. IfNone r ((taken : ℕ)
@@ -265,7 +244,11 @@ fn returning(moves: &Moves) -> Option<u32>
 }
 
 /// The address that a point calls; `None` if it doesn't call.
-fn target_called<C: Code>(alloc: Global, program: &C, point: &Point) -> Result<Option<u16>, Stop>
+pub(crate) fn target_called<C: Code>(
+    alloc: Global,
+    program: &C,
+    point: &Point,
+) -> Result<Option<u16>, Stop>
     ensures calls { IfOk result (λ r. IfSome r (CallsTo (C.code program.now) point.now)) }
     ensures none { IfOk result (λ r. IfNone r ((target : ℕ) → CallsTo (C.code program.now) point.now target → ⊥)) }
     ensures limited { result ≡ Err Limit → IsDeep point.now }

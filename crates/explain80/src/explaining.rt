@@ -1,21 +1,23 @@
 //! A refusal is explained.
 
-ghost use Rattle.std.specs.Prelude.{◌≡◌, ◌⊎◌, IfOk, Err};
+ghost use Rattle.std.specs.Prelude.{◌≡◌, ◌⊎◌, ◌<◌, IfOk, Err};
 ghost use Rattle.flow80.specs.Faults.{Holds, Recurs};
 ghost use Rattle.verify80.specs.Looking.{code_of};
 ghost use Rattle.explain80.specs.declared.fault.Unexplained.TheVariants.{Limit, NotShown};
-ghost use Rattle.explain80.specs.Counts.{ComesToMore, GoesDeep};
+ghost use Rattle.walks80.specs.Counts.{ComesToMore, GoesDeep};
 ghost use Rattle.explain80.specs.Shows.{ByRing, Shows};
 ghost use Rattle.explain80.specs.Sought.{IsNotShown, IsOfNoWay, NoWalksShow, ShowsSought};
 
 use crate::explanation::Explanation;
 use crate::fault::Unexplained;
-use crate::search::Search;
+use crate::recursion::ring;
+use crate::showing::show;
 use crate::sought::{Evidence, Sought};
 use flow80::{Code, Refusal};
 use image80::Image;
 use std::alloc::Global;
 use verify80::ImageCode;
+use walks80::Search;
 
 /// At which weight a search is looked through first.
 const FIRST_WEIGHT: usize = 1_024;
@@ -95,7 +97,7 @@ fn explain_recursion<C: Code>(
     let mut weight = FIRST_WEIGHT;
     loop {
         let is_whole = search.grow(alloc, program, weight)?;
-        if let Some(shown) = search.ring(alloc, at)? {
+        if let Some(shown) = ring(alloc, &search, at)? {
             return Ok(shown);
         }
         if is_whole {
@@ -104,7 +106,7 @@ fn explain_recursion<C: Code>(
         if weight >= limit {
             return Err(Unexplained::Limit);
         }
-        weight = weight.saturating_mul(2);
+        weight = next_weight(weight, limit);
     }
 }
 
@@ -124,7 +126,7 @@ fn explain_sought<C: Code>(
     loop {
         let is_whole = search.grow(alloc, program, weight)?;
         if let Some(evidence) = sought.find(alloc, program, search.points.as_slice())? {
-            return Ok(search.show(alloc, evidence)?);
+            return Ok(show(alloc, &search, evidence)?);
         }
         if is_whole {
             return Err(Unexplained::NotShown);
@@ -132,6 +134,15 @@ fn explain_sought<C: Code>(
         if weight >= limit {
             return Err(Unexplained::Limit);
         }
-        weight = weight.saturating_mul(2);
+        weight = next_weight(weight, limit);
     }
+}
+
+/// The weight of the next round: twice as much, and no more than the limit.
+fn next_weight(weight: usize, limit: usize) -> usize
+    requires some { 0 < weight }
+    requires less { weight < limit }
+    ensures { weight < result }
+{
+    weight.saturating_mul(2).min(limit)
 }

@@ -1,6 +1,6 @@
 //! What shows a refusal.
 
-use crate::route::{Call, Route};
+use walks80::{Call, Route};
 
 /// What shows a refusal.
 #[derive(Debug, Drop)]

@@ -2,6 +2,7 @@
 
 use std::alloc::AllocError;
 use thiserror::Error;
+use walks80::Stop;
 
 /// Why there is no explanation.
 #[derive(Clone, Copy, PartialEq, Eq, Debug, Error)]
@@ -17,29 +18,9 @@ pub enum Unexplained {
     Memory,
 }
 
-/// Why a search stops before it is done.
-#[derive(Clone, Copy)]
-pub(crate) enum Stop {
-    /// A frame has more words than are followed, or more were taken.
-    Limit,
-    /// Out of memory.
-    Memory,
-}
-
-impl From<AllocError> for Stop {
-    ghost use Rattle.std.specs.Prelude.{◌≡◌};
-    ghost use Rattle.explain80.specs.declared.fault.Stop.TheVariants.{Memory};
-
-    ghost from_gives = { λ _ stop. stop ≡ Memory };
-
-    fn from(_: AllocError) -> Stop {
-        Stop::Memory
-    }
-}
-
 impl From<Stop> for Unexplained {
     ghost use Rattle.std.specs.Prelude.{◌≡◌, ◌≢◌};
-    ghost use Rattle.explain80.specs.declared.fault.Stop.TheVariants.{Limit as StopsByLimit};
+    ghost use Rattle.walks80.specs.declared.fault.Stop.TheVariants.{Limit as StopsByLimit};
     ghost use Rattle.explain80.specs.declared.fault.Unexplained.TheVariants.{Limit, NotShown};
 
     ghost from_gives = { λ stop fault. (fault ≢ NotShown) × (fault ≡ Limit → stop ≡ StopsByLimit) };

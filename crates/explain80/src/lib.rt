@@ -1,6 +1,6 @@
 //! Explanations: why a program is refused, shown by ways through its procedures that lead to the fault.
 //!
-//! It is a second, plain program beside the verifier's: it follows the walks one by one, breadth first, and merges no frames.
+//! It is a second, plain program beside the verifier's: it follows the walks one by one, breadth first, and merges no frames (`walks80`).
 //! What it answers is proved to show what it was asked for, and of the refusals 1 to 16 it gives up only by the limit or memory.
 //!
 //! | Item | What it is |
@@ -13,24 +13,17 @@
 //! | [`what_is_shown_holds`], [`chains_are_uses`] | what an explanation shows holds of the program, and a chain uses the stack, as contracts |
 #![tactic(auto)]
 
-mod calls;
 mod chain;
+mod clashes;
 mod evidence;
-mod exits;
 mod explaining;
 mod explanation;
 mod fault;
-mod groups;
 mod laws;
-mod looked;
-mod origin;
-mod point;
 mod recursion;
 mod ring;
-mod route;
-mod search;
+mod showing;
 mod sought;
-mod ways;
 
 pub use bounds80::CallSite;
 pub use chain::{Chain, Standing, find_chain};
@@ -40,6 +33,5 @@ pub use fault::Unexplained;
 pub use flow80::{Code, ProcRow, Procedure, Refusal, Report};
 pub use frames80::{Frame, Word};
 pub use laws::{chains_are_uses, what_is_shown_holds};
-pub use point::Point;
-pub use route::{Call, Route};
 pub use verify80::measure;
+pub use walks80::{Call, Point, Route};

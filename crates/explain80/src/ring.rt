@@ -2,15 +2,15 @@
 
 ghost use Rattle.std.specs.Prelude.{◌≡◌, ◌↔◌, ◌<◌, true, List, length, slice_get, Some, Contains, IfOk, IfNone, IfSome, OnOk};
 ghost use Rattle.bounds80.specs.declared.procedure.Procedure.TheVariants.{Entry};
-ghost use Rattle.explain80.specs.declared.route.Call.{Call as CallSeen};
+ghost use Rattle.walks80.specs.declared.route.Call.{Call as CallSeen};
 ghost use Rattle.explain80.specs.declared.ring.Reach.{Reach as ReachSeen};
 ghost use Rattle.explain80.specs.Ring.{AreComplete, AreLinked, AreMarked, AreReached, EntersAt, IsEntered, IsLed, IsRingOf, NoneLeadBack, ReachesFrom};
-ghost use Rattle.explain80.specs.Search.{Extends};
+ghost use Rattle.walks80.specs.Search.{Extends};
 
-use crate::route::Call;
 use bounds80::table;
 use flow80::Procedure;
 use std::alloc::{AllocError, Global};
+use walks80::Call;
 
 /// How many addresses there are.
 pub(crate) const ADDRESSES: usize = 65_536;

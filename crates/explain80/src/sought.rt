@@ -2,16 +2,16 @@
 
 ghost use Rattle.std.specs.Prelude.{◌≡◌, Err, IfOk, IfSome, IfNone};
 ghost use Rattle.explain80.specs.declared.sought.Kind.TheVariants.{Fault as KindOfFault, Clash as KindOfClash};
-ghost use Rattle.explain80.specs.declared.fault.Stop.TheVariants.{Limit};
-ghost use Rattle.explain80.specs.Counts.{HasDeep};
+ghost use Rattle.walks80.specs.declared.fault.Stop.TheVariants.{Limit};
+ghost use Rattle.walks80.specs.Counts.{HasDeep};
 ghost use Rattle.explain80.specs.Sought.{IsEvidence, IsNoEvidence, IsSoughtFor, IsOfNoWay};
 
-use crate::evidence::{Clash, Fault, Pair, find_clash, find_fault};
-use crate::fault::Stop;
-use crate::point::Point;
+use crate::clashes::find_clash;
+use crate::evidence::{Clash, Fault, Pair, find_fault};
 use flow80::{Code, LookFault, Refusal};
 use frames80::FrameFault;
 use std::alloc::Global;
+use walks80::{Point, Stop};
 
 /// What shows a refusal, at an address.
 #[derive(Clone, Copy)]

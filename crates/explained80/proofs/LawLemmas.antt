@@ -2,7 +2,7 @@
 use Rattle.std.proofs.Common.{◌≡◌, ◌≢◌, Bool, true, false, List, [], ◌∷◌, refl, ap, sym, subst, ◌∙◌, true≢false}
 use Rattle.std.specs.List.{AllByRecursion}
 use Rattle.frames80.specs.StackFrame.{StackFrame}
-use Rattle.explain80.specs.declared.point.Point.{Point}
+use Rattle.walks80.specs.declared.point.Point.{Point}
 use Rattle.explained80.specs.Explained.{has_other_frame, runs_of, with_point}
 use Rattle.explained80.specs.Laws.{joined, AreLongestRuns, EndsBefore}
 use Rattle.explained80.proofs.RunLemmas.{joins, own_frame, same_frame, stays}

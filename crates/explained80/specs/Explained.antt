@@ -17,9 +17,9 @@ use Rattle.explain80.specs.declared.chain.Chain.{Chain}
 use Rattle.explain80.specs.declared.chain.Standing.{Standing}
 use Rattle.explain80.specs.declared.explanation.Explanation.{Explanation}
 use Rattle.explain80.specs.declared.explanation.Explanation.TheVariants.{Way, Ways, Ring}
-use Rattle.explain80.specs.declared.point.Point.{Point}
-use Rattle.explain80.specs.declared.route.Call.{Call}
-use Rattle.explain80.specs.declared.route.Route.{Route}
+use Rattle.walks80.specs.declared.point.Point.{Point}
+use Rattle.walks80.specs.declared.route.Call.{Call}
+use Rattle.walks80.specs.declared.route.Route.{Route}
 use Rattle.explained80.specs.Frames.{frame_text}
 use Rattle.explained80.specs.Instructions.{instruction_text}
 

@@ -1,7 +1,7 @@
 -- What holds of every way's lines, over the definitions alone.
 use Rattle.std.specs.Prelude.{◌≡◌, ◌≢◌, List, [], ◌∷◌, ◌++◌}
 use Rattle.std.specs.List.{AllByRecursion}
-use Rattle.explain80.specs.declared.point.Point.{Point}
+use Rattle.walks80.specs.declared.point.Point.{Point}
 use Rattle.explained80.specs.Explained.{runs_of}
 
 -- one after another, the points of runs

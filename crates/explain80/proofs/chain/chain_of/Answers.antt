@@ -1,6 +1,6 @@
 use Rattle.std.proofs.Common.{inl, inr, ap}
 use Rattle.std.specs.Prelude.{Err, Ok}
-use Rattle.explain80.proofs.CountLemmas.{less, unexplained_by}
+use Rattle.explain80.proofs.StopLemmas.{less, unexplained_by}
 use Rattle.explain80.proofs.chain.chain_of.Goals as goal
 
 pub returns-then-not-branch-clause-limited : goal.returns-then-not-branch-clause-limited

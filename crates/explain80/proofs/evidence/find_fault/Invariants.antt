@@ -1,5 +1,5 @@
 use Rattle.std.specs.Prelude.{◌≡◌, ◌<◌, ℕ, slice_get, Some}
-use Rattle.explain80.specs.declared.point.Point.{Point}
+use Rattle.walks80.specs.declared.point.Point.{Point}
 use Rattle.explain80.specs.Evidence.{FaultAt}
 use Rattle.explain80.proofs.evidence.find_fault.Given as goal
 

@@ -2,24 +2,23 @@ use Rattle.std.proofs.Common.{inl, inr, ap, subst}
 use Rattle.std.specs.Prelude.{Err, IfNone, IfSome, Ok}
 use Rattle.flow80.specs.Code.{Code}
 use Rattle.explain80.specs.Known.{HasNoRing}
-use Rattle.explain80.specs.Search.{IsSound}
+use Rattle.walks80.specs.Search.{IsFound}
 use Rattle.explain80.specs.Shows.{ByRing}
-use Rattle.explain80.proofs.CountLemmas.{less, unexplained_by}
-use Rattle.explain80.proofs.WayLemmas.{ordered}
+use Rattle.explain80.proofs.StopLemmas.{less, unexplained_by}
 use Rattle.explain80.proofs.KnownLemmas.{callers}
 use Rattle.explain80.proofs.RecursionLemmas.{no-recursion}
 use Rattle.explain80.proofs.explaining.explain_recursion.Goals as goal
 
 pub ring-requires-clause-ordered : goal.ring-requires-clause-ordered
-ring-requires-clause-ordered g c = ordered (g.C.Code.code c.args.program.now) c.grow.new.self c.in_ok-is_whole.ensures.way.sound
+ring-requires-clause-ordered g c = c.in_ok-is_whole.ensures.found.ordered
 
 pub ring-requires-clause-callers : goal.ring-requires-clause-callers
-ring-requires-clause-callers g c = callers (g.C.Code.code c.args.program.now) c.grow.new.self c.in_ok-is_whole.ensures.way.sound
+ring-requires-clause-callers g c = callers (g.C.Code.code c.args.program.now) c.grow.new.self c.in_ok-is_whole.ensures.found
 
 pub returns-in-Some-clause-shown : goal.returns-in-Some-clause-shown
 returns-in-Some-clause-shown g c =
-    subst (λ r. IfSome r (λ shown. (code : Code) → IsSound code c.grow.new.self → ByRing code c.args.at shown)) c.in-Some.is c.in_ok-shown.ensures.shown
-    (g.C.Code.code c.args.program.now) c.in_ok-is_whole.ensures.way.sound
+    subst (λ r. IfSome r (λ shown. (code : Code) → IsFound code c.grow.new.self → ByRing code c.args.at shown)) c.in-Some.is c.in_ok-shown.ensures.shown
+    (g.C.Code.code c.args.program.now) c.in_ok-is_whole.ensures.found
 
 pub returns-then-is_whole-clause-none : goal.returns-then-is_whole-clause-none
 returns-then-is_whole-clause-none g c = λ e recurs.

@@ -1,5 +1,5 @@
 use Rattle.std.specs.Prelude.{◌<◌, ◌-◌}
-use Rattle.explain80.specs.Search.{IsUnderWay}
+use Rattle.walks80.specs.Search.{IsUnderWay}
 use Rattle.explain80.proofs.explaining.explain_recursion.Given as goal
 
 abbrev pub invariant-loop-search : goal.invariant-loop-search

@@ -1,15 +1,13 @@
 use Rattle.std.proofs.Common.{inl, inr, ap, subst}
 use Rattle.std.specs.Prelude.{Err, IfNone, IfSome, Ok}
-use Rattle.explain80.specs.Counts.{HasDeep}
+use Rattle.walks80.specs.Counts.{HasDeep}
 use Rattle.explain80.specs.Sought.{IsEvidence, IsNoEvidence}
-use Rattle.explain80.proofs.CountLemmas.{goes-deep, less, unexplained_by}
-use Rattle.explain80.proofs.WayLemmas.{ordered}
-use Rattle.explain80.proofs.EvidenceLemmas.{within}
-use Rattle.explain80.proofs.ClosedLemmas.{no-walks}
+use Rattle.explain80.proofs.StopLemmas.{goes-deep, less, unexplained_by}
+use Rattle.explain80.proofs.EvidenceLemmas.{no-walks, within}
 use Rattle.explain80.proofs.explaining.explain_sought.Goals as goal
 
 pub show-requires-clause-ordered : goal.show-requires-clause-ordered
-show-requires-clause-ordered g c = ordered (g.C.Code.code c.args.program.now) c.grow.new.self c.in_ok-is_whole.ensures.way.sound
+show-requires-clause-ordered g c = c.in_ok-is_whole.ensures.found.ordered
 
 pub show-requires-clause-there : goal.show-requires-clause-there
 show-requires-clause-there g c =
@@ -25,7 +23,7 @@ returns-then-is_whole-clause-none g c = λ e.
     let sought = c.args.sought in
     let new = c.grow.new.self in
     let none = subst (λ r. IfNone r (IsNoEvidence code c.as_slice.result.now sought)) c.in_default.is c.in_ok-evidence.ensures.none in
-    no-walks code new.points.keys new.exits.items new.calls.items (c.in_ok-is_whole.ensures.whole (ap (λ b. Ok b) c.if-is_whole.true)) sought.at sought.kind
+    no-walks code new (c.in_ok-is_whole.ensures.whole (ap (λ b. Ok b) c.if-is_whole.true)) sought.at sought.kind
     (subst (λ points. IsNoEvidence code points sought) c.as_slice.ensures.keys none)
 
 pub returns-in_err-is_whole-clause-limited : goal.returns-in_err-is_whole-clause-limited
@@ -40,5 +38,5 @@ returns-then-weight-limit-clause-limited g c = λ _.
 pub returns-in_err-evidence-clause-limited : goal.returns-in_err-evidence-clause-limited
 returns-in_err-evidence-clause-limited g c = λ e.
     let stop = unexplained_by c.from_residual-in_err-evidence.result c.in_err-evidence.field-0.0 c.from_residual-in_err-evidence.ensures.1 e in
-    inr (goes-deep (g.C.Code.code c.args.program.now) c.grow.new.self c.in_ok-is_whole.ensures.way.sound
+    inr (goes-deep (g.C.Code.code c.args.program.now) c.grow.new.self c.in_ok-is_whole.ensures.found
     (subst HasDeep c.as_slice.ensures.keys (c.in_err-evidence.ensures.limited (ap (λ s. Err s) stop))))

@@ -1,6 +1,6 @@
 use Rattle.std.specs.Prelude.{◌≡◌, ◌<◌, List, length, slice_get, Some}
 use Rattle.bounds80.specs.declared.procedure.Procedure.TheVariants.{Entry}
-use Rattle.explain80.specs.declared.route.Call.{Call}
+use Rattle.walks80.specs.declared.route.Call.{Call}
 use Rattle.explain80.specs.declared.ring.Reach.{Reach}
 use Rattle.explain80.specs.Ring.{IsLedBack, ReachesFrom}
 use Rattle.explain80.proofs.ring.calls_back.Given as goal

@@ -3,7 +3,7 @@ use Rattle.std.proofs.lemmas.List.{get_or_read, length-set}
 use Rattle.std.proofs.lemmas.List.Elements.{Contains-get_or}
 use Rattle.std.proofs.lemmas.Option.{same_Some, slice_get-get_or}
 use Rattle.bounds80.specs.declared.procedure.Procedure.TheVariants.{Entry}
-use Rattle.explain80.specs.declared.route.Call.{Call}
+use Rattle.walks80.specs.declared.route.Call.{Call}
 use Rattle.explain80.specs.declared.ring.Reach.{Reach}
 use Rattle.explain80.specs.Ring.{IsEntered}
 use Rattle.explain80.proofs.ListLemmas.{extends-on, extends-push, one_more}

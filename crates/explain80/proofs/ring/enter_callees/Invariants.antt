@@ -1,8 +1,8 @@
 use Rattle.std.specs.Prelude.{◌≡◌, ◌<◌, ℕ, Some, length, slice_get}
 use Rattle.bounds80.specs.declared.procedure.Procedure.TheVariants.{Entry}
-use Rattle.explain80.specs.declared.route.Call.{Call}
+use Rattle.walks80.specs.declared.route.Call.{Call}
 use Rattle.explain80.specs.Ring.{AreMarked, AreReached, EntersAt, IsEntered}
-use Rattle.explain80.specs.Search.{Extends}
+use Rattle.walks80.specs.Search.{Extends}
 use Rattle.explain80.proofs.ring.enter_callees.Given as goal
 
 abbrev pub invariant-loop-call : goal.invariant-loop-call
