@@ -1,13 +1,10 @@
 -- Walks that are gone step by step: the point to which each step leads has a walk.
-use Rattle.std.specs.Prelude.{◌≡◌, ◌≤◌, ◌<◌, ◌++◌, ◌∷◌, ◌⊎◌, ℕ, [], List, Option, Some, None, Ok, Err, length, slice_get, refl}
-use Rattle.std.proofs.Common.{sym, ◌∙◌, subst, ap, inl, inr}
-use Rattle.decode80.specs.declared.fetching.Fetched.{Fetched}
-use Rattle.frames80.specs.declared.fault.FrameFault.TheVariants.{ReturnNotOwn as FrameReturnNotOwn}
+use Rattle.std.specs.Prelude.{◌≡◌, false, ◌≤◌, ◌++◌, ◌∷◌, ◌⊎◌, ℕ, [], List, Option, Some, None, length, slice_get, refl}
+use Rattle.std.proofs.Common.{sym, subst, inl, inr}
 use Rattle.frames80.specs.declared.effect.Effect.{Effect}
 use Rattle.frames80.specs.StackFrame.{StackFrame, entry_frame, main_frame}
-use Rattle.frames80.specs.Effects.{effect_of}
-use Rattle.frames80.specs.Moves.{changed, moves_of}
-use Rattle.frames80.specs.Calls.{room, returned}
+use Rattle.frames80.specs.Moves.{changed}
+use Rattle.frames80.specs.Calls.{agree, room, returned}
 use Rattle.interned80.specs.Admitted.{move_of}
 use Rattle.interned80.specs.Frames.{frame_at, IsFrame, StayNumbered}
 use Rattle.bounds80.specs.declared.procedure.Procedure.{Procedure}
@@ -15,7 +12,7 @@ use Rattle.bounds80.specs.declared.procedure.Procedure.TheVariants.{Main, Entry}
 use Rattle.flow80.specs.declared.walks.WalkedPoint.{WalkedPoint}
 use Rattle.flow80.specs.declared.walks.Walks.{Walks}
 use Rattle.flow80.specs.Code.{Code}
-use Rattle.flow80.specs.Faults.{MovesWrong}
+use Rattle.flow80.specs.Faults.{Differ}
 use Rattle.flow80.specs.Walks.{Walk, begins, goes_on, enters, comes_back, LeadsTo, Calls, Returns, called, returning, role_of}
 use Rattle.flow80.specs.Walked.{AreWalked, IsCallee, IsMovingFrom, IsWalked, change_of}
 use Rattle.flow80.proofs.FrameLemmas.{stays_there, stays_at}
@@ -49,6 +46,18 @@ module _ (code : Code) where
           by : (slice_get old.points.items i ≡ Some q) ⊎ ((i ≡ length old.points.items) × (q ≡ point)) → IsWalked code old.frames q
           by (inl before) = w.each i q before
           by (inr last) = subst (IsWalked code old.frames) (sym last.1) one
+
+  -- two walks come to one point with different counts
+  pub differs : (frames : List StackFrame) (one other : WalkedPoint) → IsWalked code frames one → IsWalked code frames other → one.procedure ≡ other.procedure → one.at ≡ other.at →
+      agree (frame_at frames one.frame) (frame_at frames other.frame) ≡ false → Differ code one.at
+  differs frames one other w v procedure address apart = record {
+    procedure = one.procedure;
+    one = frame_at frames one.frame;
+    other = frame_at frames other.frame;
+    walk_one = w.walk;
+    walk_other = subst (λ (q : Procedure). Walk code q one.at (frame_at frames other.frame)) (sym procedure) (subst (λ at. Walk code other.procedure at (frame_at frames other.frame)) (sym address) v.walk);
+    differ = apart;
+  }
 
   -- the main program begins
   pub begins_there : (frames : List StackFrame) (id : ℕ) → IsFrame frames id main_frame → IsWalked code frames (point_of Main code.start id)

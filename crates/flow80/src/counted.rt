@@ -146,6 +146,14 @@ impl Counted {
         self.points.get(number as usize).copied()
     }
 
+    /// A point has these counts after all.
+    pub(crate) fn recount(&mut self, number: u32, taken: u32, height: u32) {
+        if let Some(point) = self.points.get_mut(number as usize) {
+            point.taken = taken;
+            point.height = height;
+        }
+    }
+
     /// The number of the point of an address of a procedure.
     pub(crate) fn number(&self, procedure: Procedure, at: u16) -> Option<u32> {
         self.numbers.get(procedure, at)

@@ -23,6 +23,7 @@ mod laws;
 mod marks;
 mod numbers;
 mod order;
+mod origins;
 mod pending;
 mod places;
 mod points;

@@ -11,4 +11,6 @@ pub(crate) enum Step {
     Enters(u32),
     /// The instruction of the first point calls a procedure, which returns from the second.
     ComesBack(u32, u32),
+    /// No step: the walks of two steps come to one point with different counts.
+    Differs(u32, u32),
 }

@@ -7,13 +7,14 @@
 
 use crate::chains::{Chains, Turn, Way};
 use crate::code::Code;
-use crate::counted::{Counted, CountedPoint, Lists, counts_after};
-use crate::places::{PAIRS, effect_at, narrow, narrow_address, pair_place, starts, word_place};
+use crate::counted::{Counted, CountedPoint, Link, Lists, counts_after};
+use crate::origins::{Origin, moved_to, origin_of};
+use crate::places::{PAIRS, effect_at, narrow, narrow_address, starts, word_place};
 use crate::step::Step;
 use crate::walks::change_of;
 use bounds80::Procedure;
 use decode80::Fetched;
-use frames80::{Change, Effect, FramePair, effect_of};
+use frames80::{Change, Effect, effect_of};
 use std::alloc::{AllocError, Global};
 use std::mem;
 
@@ -27,19 +28,18 @@ struct Place {
     place: u64,
 }
 
-/// Where the word of a place comes from over one instruction.
+/// A place that is to be traced back: over each way to its point, or from one point alone.
 #[derive(Clone, Copy)]
-enum Origin {
-    Same,
-    Moved(u64),
-    Other,
+struct Trace {
+    place: Place,
+    from: Option<u32>,
 }
 
-/// Where another word goes on from a point: the next point, and its place there.
-#[derive(Clone, Copy)]
-struct Source {
-    turn: Turn,
-    place: u64,
+/// How many words a point has taken, and how many it has.
+#[derive(Clone, Copy, PartialEq, Eq)]
+struct Counts {
+    taken: u32,
+    height: u32,
 }
 
 /// How a procedure returns: the step to its return, and how many words it has taken there.
@@ -61,15 +61,15 @@ struct Tracing {
     /// For each entry how its procedure returns.
     exits: Vec<Option<Exit>>,
     chains: Chains,
-    /// For each point how another word goes on from it to a return.
-    sources: Vec<Option<Source>>,
-    /// The places that are still to be traced back, and those that come after them.
-    places: Vec<Place>,
-    later: Vec<Place>,
-    /// For each entry the points and the places that wait for a return of its procedure.
+    /// What is still to be traced back, and what comes after that.
+    traces: Vec<Trace>,
+    later: Vec<Trace>,
+    /// For each entry the points that wait for a return of its procedure.
     callers: Lists,
-    waiting: Lists,
-    waits: Vec<Place>,
+    /// For each entry the traces that wait for a return of its procedure, and for each point those that wait for a step to it.
+    at_calls: Lists,
+    at_points: Lists,
+    waits: Vec<Trace>,
     is_found: bool,
 }
 
@@ -94,8 +94,6 @@ impl Tracing {
     fn new<C: Code>(alloc: Global, program: &C) -> Result<Tracing, AllocError> {
         let counted = Counted::new(alloc, program)?;
         let points = counted.len() as usize;
-        let mut sources = Vec::new(alloc);
-        sources.resize(points, None)?;
         let mut exits = Vec::new(alloc);
         exits.resize(65536, None)?;
         Ok(Tracing {
@@ -105,11 +103,11 @@ impl Tracing {
             left: Vec::new(alloc),
             exits,
             chains: Chains::new(alloc),
-            sources,
-            places: Vec::new(alloc),
+            traces: Vec::new(alloc),
             later: Vec::new(alloc),
             callers: Lists::new(alloc, 65536)?,
-            waiting: Lists::new(alloc, 65536)?,
+            at_calls: Lists::new(alloc, 65536)?,
+            at_points: Lists::new(alloc, points)?,
             waits: Vec::new(alloc),
             is_found: false,
         })
@@ -120,14 +118,22 @@ impl Tracing {
     /// # Errors
     /// `AllocError` if memory runs out.
     fn search<C: Code>(&mut self, program: &C) -> Result<(), AllocError> {
-        let start = self.step(Step::Begins)?;
-        self.reach(program, Procedure::Main, program.start(), start)?;
+        let counts = Counts {
+            taken: 0,
+            height: 0,
+        };
+        self.come(
+            program,
+            Procedure::Main,
+            program.start(),
+            counts,
+            Step::Begins,
+        )?;
         self.go_forth(program)?;
-        self.begin_at_returns(program)?;
-        // The bound is never met: each place of a point comes once, and once more for each call before it.
+        // The bound is never met: each place of a point comes once, and once more for each way to it that waits.
         for _ in 0..u64::MAX {
-            mem::swap(&mut self.places, &mut self.later);
-            if self.is_found || self.places.is_empty() {
+            mem::swap(&mut self.traces, &mut self.later);
+            if self.is_found || self.traces.is_empty() {
                 break;
             }
             self.go_back(program)?;
@@ -220,32 +226,12 @@ impl Tracing {
         from: CountedPoint,
         at: u16,
     ) -> Result<(), AllocError> {
-        let Some(to) = self.counted.number(from.procedure, at) else {
-            return Ok(());
-        };
-        if self.step_to(to) != NONE || !self.leads(program, from, to) {
-            return Ok(());
-        }
-        let step = self.step(Step::GoesOn(self.step_to(number), at))?;
-        self.reach(program, from.procedure, at, step)
-    }
-
-    /// Whether a point leads to another with the counts that the other has.
-    fn leads<C: Code>(&self, program: &C, from: CountedPoint, to: u32) -> bool {
-        let Some(to) = self.counted.point(to) else {
-            return false;
-        };
-        let Some(effect) = effect_at(program, from.at) else {
-            return false;
-        };
-        let is_refused = match effect {
-            Effect::Change(Change::SetStack(address)) => address != program.top(),
-            Effect::ReturnIf => matches!(from.procedure, Procedure::Main) || from.height != 1,
-            _ => false,
-        };
-        match counts_after(from, change_of(effect)) {
-            Some((taken, height)) => !is_refused && taken == to.taken && height == to.height,
-            None => false,
+        match counts_on(program, from) {
+            Some(counts) => {
+                let step = Step::GoesOn(self.step_to(number), at);
+                self.come(program, from.procedure, at, counts, step)
+            }
+            None => Ok(()),
         }
     }
 
@@ -262,98 +248,105 @@ impl Tracing {
         next: u16,
     ) -> Result<(), AllocError> {
         let call = self.step_to(number);
-        if let Some(start) = self.counted.number(Procedure::Entry(target), target) {
-            if self.step_to(start) == NONE {
-                let step = self.step(Step::Enters(call))?;
-                self.reach(program, Procedure::Entry(target), target, step)?;
-            }
-        }
+        let entry = Counts {
+            taken: 0,
+            height: 1,
+        };
+        let enters = Step::Enters(call);
+        self.come(program, Procedure::Entry(target), target, entry, enters)?;
         let Some(exit) = self.exit_of(target) else {
             return self.callers.add(usize::from(target), number);
         };
-        let Some(to) = self.counted.number(from.procedure, next) else {
-            return Ok(());
-        };
-        if self.step_to(to) != NONE || !self.leads_over(from, exit.taken, to) {
-            return Ok(());
+        match counts_over(from, exit.taken) {
+            Some(counts) => {
+                let back = Step::ComesBack(call, exit.step);
+                self.come(program, from.procedure, next, counts, back)
+            }
+            None => Ok(()),
         }
-        let step = self.step(Step::ComesBack(call, exit.step))?;
-        self.reach(program, from.procedure, next, step)
     }
 
-    /// Whether a call leads to a point with the counts that it has.
-    fn leads_over(&self, from: CountedPoint, taken: u32, to: u32) -> bool {
-        let Some(to) = self.counted.point(to) else {
-            return false;
-        };
-        let kept = match from.procedure {
-            Procedure::Main => 0,
-            Procedure::Entry(_) => 1,
-        };
-        taken <= from.height.saturating_sub(kept)
-            && to.taken == from.taken
-            && to.height == from.height.saturating_sub(taken)
-    }
-
-    /// A step comes to a point.
+    /// A walk comes to a point by a step: for the first time, or with the same counts as before, or a fault is found.
     ///
     /// # Errors
     /// `AllocError` if memory runs out.
-    fn reach<C: Code>(
+    fn come<C: Code>(
         &mut self,
         program: &C,
         procedure: Procedure,
         at: u16,
-        step: u32,
+        counts: Counts,
+        step: Step,
     ) -> Result<(), AllocError> {
         let Some(number) = self.counted.number(procedure, at) else {
             return Ok(());
         };
+        let before = self.step_to(number);
+        if before == NONE {
+            self.counted.recount(number, counts.taken, counts.height);
+            let step = self.step(step)?;
+            return self.reach(program, number, step);
+        }
+        if self.has(number, counts) {
+            return Ok(());
+        }
+        let other = self.step(step)?;
+        self.step(Step::Differs(before, other))?;
+        self.is_found = true;
+        Ok(())
+    }
+
+    /// Whether a point has these counts.
+    fn has(&self, number: u32, counts: Counts) -> bool {
+        match self.counted.point(number) {
+            Some(point) => point.taken == counts.taken && point.height == counts.height,
+            None => false,
+        }
+    }
+
+    /// A step comes to a point for the first time.
+    ///
+    /// # Errors
+    /// `AllocError` if memory runs out.
+    fn reach<C: Code>(&mut self, program: &C, number: u32, step: u32) -> Result<(), AllocError> {
         if let Some(reached) = self.reached.get_mut(number as usize) {
             *reached = step;
         }
         self.left.push(number)?;
-        if let Some(Some(source)) = self.sources.get(number as usize).copied() {
-            self.find_from(program, number, source)?;
-        }
+        let waiting = self.at_points.newest(number as usize);
+        self.wake(waiting, false)?;
         let Some(point) = self.counted.point(number) else {
             return Ok(());
         };
-        if is_deep_return(program, point) {
-            self.find(step, at)?;
+        if !is_return(program, point) {
+            return Ok(());
         }
-        if starts(program, point) {
-            self.start(program, number, point)?;
+        if point.height != 1 {
+            return self.find(step, point.at);
         }
-        Ok(())
+        let place = Place {
+            point: number,
+            place: word_place(0),
+        };
+        self.chain(program, place, Way::End)
     }
 
-    /// A step comes to the start of a procedure.
+    /// A chain comes to the start of a procedure: with a pair, which is another word, or with the return address.
     ///
     /// # Errors
     /// `AllocError` if memory runs out.
     fn start<C: Code>(
         &mut self,
         program: &C,
-        number: u32,
-        point: CountedPoint,
+        place: Place,
+        procedure: Procedure,
     ) -> Result<(), AllocError> {
-        let step = self.step_to(number);
-        for place in 0..PAIRS {
-            if self.chains.way(number, place) != Way::Unknown {
-                let (last, end) = self.follow(
-                    program,
-                    step,
-                    Place {
-                        point: number,
-                        place,
-                    },
-                )?;
-                self.find_at(last, end)?;
-            }
+        if place.place < PAIRS {
+            let (last, end) = self.follow(program, self.step_to(place.point), place)?;
+            return self.find_at(last, end);
         }
-        if self.chains.way(number, word_place(0)) != Way::Unknown {
-            self.exit(program, number, point.procedure)?;
+        if place.place == word_place(0) {
+            return self.exit(program, place.point, procedure);
         }
         Ok(())
     }
@@ -389,7 +382,8 @@ impl Tracing {
             });
         }
         self.wake_points(entry)?;
-        self.wake_places(entry)
+        let waiting = self.at_calls.newest(usize::from(entry));
+        self.wake(waiting, true)
     }
 
     /// The points that wait for a return go on.
@@ -408,40 +402,24 @@ impl Tracing {
         Ok(())
     }
 
-    /// The places that wait for a return are traced again.
+    /// The traces of a list go on: one of those at calls, or of those at points.
     ///
     /// # Errors
     /// `AllocError` if memory runs out.
-    fn wake_places(&mut self, entry: u16) -> Result<(), AllocError> {
-        let mut link = self.waiting.newest(usize::from(entry));
+    fn wake(&mut self, newest: Option<Link>, at_calls: bool) -> Result<(), AllocError> {
+        let mut link = newest;
         for _ in 0..u32::MAX {
             let Some(waiting) = link else {
                 break;
             };
-            if let Some(place) = self.waits.get(waiting.item as usize).copied() {
-                self.later.push(place)?;
+            if let Some(trace) = self.waits.get(waiting.item as usize).copied() {
+                self.later.push(trace)?;
             }
-            link = self.waiting.before(waiting);
-        }
-        Ok(())
-    }
-
-    /// The search goes back from the one word of each return.
-    ///
-    /// # Errors
-    /// `AllocError` if memory runs out.
-    fn begin_at_returns<C: Code>(&mut self, program: &C) -> Result<(), AllocError> {
-        for number in 0..self.counted.len() {
-            let Some(point) = self.counted.point(number) else {
-                break;
+            link = if at_calls {
+                self.at_calls.before(waiting)
+            } else {
+                self.at_points.before(waiting)
             };
-            if is_return(program, point) && point.height == 1 {
-                let place = Place {
-                    point: number,
-                    place: word_place(0),
-                };
-                self.chain(program, place, Way::End)?;
-            }
         }
         Ok(())
     }
@@ -456,11 +434,16 @@ impl Tracing {
             if self.is_found {
                 break;
             }
-            let Some(place) = self.places.pop() else {
+            let Some(trace) = self.traces.pop() else {
                 break;
             };
-            self.trace_cases(program, place)?;
-            self.trace(program, place)?;
+            match trace.from {
+                Some(from) => self.trace_to(program, from, trace.place)?,
+                None => {
+                    self.trace_cases(program, trace.place)?;
+                    self.trace(program, trace.place)?;
+                }
+            }
             self.go_forth(program)?;
         }
         Ok(())
@@ -496,7 +479,7 @@ impl Tracing {
                 break;
             };
             if let Some(from) = self.counted.number(to.procedure, narrow_address(case.item)) {
-                self.trace_by(program, Effect::Case, from, place)?;
+                self.trace_to(program, from, place)?;
             }
             link = self.counted.case_before(case);
         }
@@ -513,6 +496,10 @@ impl Tracing {
         number: u32,
         place: Place,
     ) -> Result<(), AllocError> {
+        if self.step_to(number) == NONE {
+            let waits = self.wait(number, place)?;
+            return self.at_points.add(number as usize, waits);
+        }
         let Some(from) = self.counted.point(number) else {
             return Ok(());
         };
@@ -525,6 +512,19 @@ impl Tracing {
             Some(effect) => self.trace_by(program, effect, number, place),
             None => Ok(()),
         }
+    }
+
+    /// A trace from a point waits; gives its number.
+    ///
+    /// # Errors
+    /// `AllocError` if memory runs out.
+    fn wait(&mut self, from: u32, place: Place) -> Result<u32, AllocError> {
+        let number = narrow(self.waits.len() as u64);
+        self.waits.push(Trace {
+            place,
+            from: Some(from),
+        })?;
+        Ok(number)
     }
 
     /// Traces a place back over an instruction, or over a conditional call that isn't taken.
@@ -541,7 +541,11 @@ impl Tracing {
         let Some(from) = self.counted.point(number) else {
             return Ok(());
         };
-        if !self.leads(program, from, place.point) {
+        let leads = match counts_on(program, from) {
+            Some(counts) => self.has(place.point, counts),
+            None => false,
+        };
+        if !leads {
             return Ok(());
         }
         let turn = Turn {
@@ -562,7 +566,7 @@ impl Tracing {
                     },
                 )
             }
-            Origin::Other => self.source(program, number, turn, place.place),
+            Origin::Other => self.find_from(program, number, turn, place.place),
         }
     }
 
@@ -581,11 +585,14 @@ impl Tracing {
             return Ok(());
         };
         let Some(exit) = self.exit_of(target) else {
-            let waits = narrow(self.waits.len() as u64);
-            self.waits.push(place)?;
-            return self.waiting.add(usize::from(target), waits);
+            let waits = self.wait(number, place)?;
+            return self.at_calls.add(usize::from(target), waits);
         };
-        if !self.leads_over(from, exit.taken, place.point) {
+        let leads = match counts_over(from, exit.taken) {
+            Some(counts) => self.has(place.point, counts),
+            None => false,
+        };
+        if !leads {
             return Ok(());
         }
         let turn = Turn {
@@ -594,7 +601,7 @@ impl Tracing {
             moves: false,
         };
         if place.place < PAIRS {
-            self.source(program, number, turn, place.place)
+            self.find_from(program, number, turn, place.place)
         } else {
             self.chain_from(program, number, place.place, turn)
         }
@@ -614,7 +621,7 @@ impl Tracing {
         self.chain(program, Place { point, place }, Way::On(turn))
     }
 
-    /// A place has a chain: if it is new, it is to be traced; and at the start of a procedure that was reached the chain is whole.
+    /// A place has a chain: if it is new, it is to be traced; and at the start of a procedure the chain is whole.
     ///
     /// # Errors
     /// `AllocError` if memory runs out.
@@ -622,38 +629,14 @@ impl Tracing {
         if !self.chains.add(place.point, place.place, way)? {
             return Ok(());
         }
-        self.later.push(place)?;
-        let Some(point) = self.counted.point(place.point) else {
-            return Ok(());
-        };
-        if self.step_to(place.point) != NONE && starts(program, point) {
-            self.start(program, place.point, point)?;
+        self.later.push(Trace { place, from: None })?;
+        match self.counted.point(place.point) {
+            Some(point) if starts(program, point) => self.start(program, place, point.procedure),
+            _ => Ok(()),
         }
-        Ok(())
     }
 
-    /// Another word goes on from a point to a return: the walk is found, if the point was reached.
-    ///
-    /// # Errors
-    /// `AllocError` if memory runs out.
-    fn source<C: Code>(
-        &mut self,
-        program: &C,
-        number: u32,
-        turn: Turn,
-        place: u64,
-    ) -> Result<(), AllocError> {
-        let source = Source { turn, place };
-        if self.step_to(number) != NONE {
-            return self.find_from(program, number, source);
-        }
-        if let Some(kept) = self.sources.get_mut(number as usize) {
-            *kept = Some(source);
-        }
-        Ok(())
-    }
-
-    /// The walk is found: to a point, and on from there.
+    /// The walk is found: another word goes on from a point to a place of the next one, and from there to a return.
     ///
     /// # Errors
     /// `AllocError` if memory runs out.
@@ -661,12 +644,13 @@ impl Tracing {
         &mut self,
         program: &C,
         number: u32,
-        source: Source,
+        turn: Turn,
+        place: u64,
     ) -> Result<(), AllocError> {
-        let step = self.turn(program, self.step_to(number), number, source.turn)?;
+        let step = self.turn(program, self.step_to(number), number, turn)?;
         let place = Place {
-            point: source.turn.to,
-            place: source.place,
+            point: turn.to,
+            place,
         };
         let (last, end) = self.follow(program, step, place)?;
         self.find_at(last, end)
@@ -770,60 +754,32 @@ fn is_return<C: Code>(program: &C, point: CountedPoint) -> bool {
         )
 }
 
-/// Whether a return is at a point that has another number of words than one.
-fn is_deep_return<C: Code>(program: &C, point: CountedPoint) -> bool {
-    point.height != 1 && is_return(program, point)
-}
-
-/// Where the word of a place comes from over an instruction.
-fn origin_of(effect: Effect, from: CountedPoint, place: u64) -> Origin {
-    match effect {
-        Effect::Change(change) => origin_by(change, from, place),
-        _ => Origin::Same,
+/// The counts after the instruction of a point, calls aside; `None` if it leads nowhere.
+fn counts_on<C: Code>(program: &C, from: CountedPoint) -> Option<Counts> {
+    let effect = effect_at(program, from.at)?;
+    let is_refused = match effect {
+        Effect::Change(Change::SetStack(address)) => address != program.top(),
+        Effect::ReturnIf => from.procedure == Procedure::Main || from.height != 1,
+        _ => false,
+    };
+    if is_refused {
+        return None;
     }
+    let (taken, height) = counts_after(from, change_of(effect))?;
+    Some(Counts { taken, height })
 }
 
-/// Where the word of a place comes from over a change.
-fn origin_by(change: Change, from: CountedPoint, place: u64) -> Origin {
-    let hl = pair_place(FramePair::Hl);
-    let de = pair_place(FramePair::De);
-    match change {
-        Change::Push(pair) if place == word_place(from.height) => Origin::Moved(pair_place(pair)),
-        Change::PushAny if place == word_place(from.height) => Origin::Other,
-        Change::Pop(pair) if place == pair_place(pair) => top_of(from),
-        Change::Swap if place == hl => top_of(from),
-        Change::Swap if place == top_place(from) => Origin::Moved(hl),
-        Change::Exchange if place == de => Origin::Moved(hl),
-        Change::Exchange if place == hl => Origin::Moved(de),
-        Change::Forget(pair) if place == pair_place(pair) => Origin::Other,
-        _ => Origin::Same,
+/// The counts after a call of a procedure that takes so many words; `None` if the caller has fewer.
+fn counts_over(from: CountedPoint, taken: u32) -> Option<Counts> {
+    let kept = match from.procedure {
+        Procedure::Main => 0,
+        Procedure::Entry(_) => 1,
+    };
+    if taken > from.height.saturating_sub(kept) {
+        return None;
     }
-}
-
-/// The word on top of a point's words; another one if it has none.
-fn top_of(from: CountedPoint) -> Origin {
-    if from.height == 0 {
-        Origin::Other
-    } else {
-        Origin::Moved(top_place(from))
-    }
-}
-
-/// The place of the top word of a point that has words.
-fn top_place(from: CountedPoint) -> u64 {
-    word_place(from.height.saturating_sub(1))
-}
-
-/// Where the word of a place moves over an instruction.
-fn moved_to(effect: Option<Effect>, from: CountedPoint, place: u64) -> u64 {
-    let hl = pair_place(FramePair::Hl);
-    let de = pair_place(FramePair::De);
-    match effect {
-        Some(Effect::Change(Change::Push(_))) => word_place(from.height),
-        Some(Effect::Change(Change::Pop(pair))) => pair_place(pair),
-        Some(Effect::Change(Change::Swap)) if place == hl => top_place(from),
-        Some(Effect::Change(Change::Exchange)) if place == hl => de,
-        Some(Effect::Change(Change::Swap | Change::Exchange)) => hl,
-        _ => place,
-    }
+    Some(Counts {
+        taken: from.taken,
+        height: from.height.saturating_sub(taken),
+    })
 }

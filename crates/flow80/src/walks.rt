@@ -20,7 +20,7 @@ use crate::survey::target_of;
 use crate::table::role_of;
 use bounds80::Procedure;
 use frames80::{CallFault, Change, Effect, FrameFault, effect_of};
-use interned80::{FrameId, Frames};
+use interned80::{FrameId, Frames, MeetFault};
 use std::alloc::{AllocError, Global};
 
 /// The most words that a frame has taken that is followed.
@@ -41,10 +41,10 @@ pub(crate) struct Walks {
     points: Vec<WalkedPoint>,
 }
 
-/// Goes over steps until one can't be taken, or leads to a return whose word isn't the return address.
+/// Goes over steps until one can't be taken, or a refusal is seen to hold.
 ///
 /// # Errors
-/// `ReturnNotOwn`, if it holds; or `Memory`.
+/// `ReturnNotOwn` or `HeightsDiffer`, if it holds; or `Memory`.
 pub(crate) fn go_along<C: Code>(alloc: Global, program: &C, steps: &[Step]) -> Result<(), Refusal>
     ensures { IfErr result (HoldsAnyway (C.code program.now)) }
 {
@@ -64,7 +64,7 @@ impl Walks {
     /// Takes a step, and gives whether it is there.
     ///
     /// # Errors
-    /// `ReturnNotOwn`, if it holds; or `Memory`.
+    /// `ReturnNotOwn` or `HeightsDiffer`, if it holds; or `Memory`.
     fn take<C: Code>(&mut self, program: &C, step: Step) -> Result<bool, Refusal>
         requires { AreWalked (C.code program.now) self.old }
         ensures walked { OnOk result (AreWalked (C.code program.now) self.new) }
@@ -82,7 +82,7 @@ impl Walks {
     /// The point to which a step leads, if the step is there.
     ///
     /// # Errors
-    /// `ReturnNotOwn`, if it holds; or `Memory`.
+    /// `ReturnNotOwn` or `HeightsDiffer`, if it holds; or `Memory`.
     fn next<C: Code>(&mut self, program: &C, step: Step) -> Result<Option<WalkedPoint>, Refusal>
         requires { AreWalked (C.code program.now) self.old }
         ensures walked { OnOk result (AreWalked (C.code program.now) self.new) }
@@ -101,6 +101,10 @@ impl Walks {
             },
             Step::ComesBack(call, exit) => match (self.point(call), self.point(exit)) {
                 (Some(call), Some(exit)) => self.come_back(program, &call, &exit),
+                _ => Ok(None),
+            },
+            Step::Differs(one, other) => match (self.point(one), self.point(other)) {
+                (Some(one), Some(other)) => self.differ(program, &one, &other),
                 _ => Ok(None),
             },
         }
@@ -246,6 +250,46 @@ impl Walks {
             Err(CallFault::ShortArguments) => Ok(None),
             Err(CallFault::Memory) => Err(Refusal::Memory),
         }
+    }
+
+    /// Refuses the program if two walks come to one point with different counts.
+    ///
+    /// # Errors
+    /// `HeightsDiffer`, if it holds; or `Memory`.
+    fn differ<C: Code>(
+        &mut self,
+        program: &C,
+        one: &WalkedPoint,
+        other: &WalkedPoint,
+    ) -> Result<Option<WalkedPoint>, Refusal>
+        requires walked { AreWalked (C.code program.now) self.old }
+        requires one { IsWalked (C.code program.now) self.old.frames one.now }
+        requires other { IsWalked (C.code program.now) self.old.frames other.now }
+        ensures walked { OnOk result (AreWalked (C.code program.now) self.new) }
+        ensures next { IfOk result (λ next. IfSome next (IsWalked (C.code program.now) self.new.frames)) }
+        ensures refused { IfErr result (HoldsAnyway (C.code program.now)) }
+    {
+        if !is_one_point(one, other) {
+            return Ok(None);
+        }
+        match self.frames.meet(one.frame, other.frame) {
+            Ok(_) => Ok(None),
+            Err(MeetFault::HeightsDiffer) => Err(Refusal::HeightsDiffer(one.at)),
+            Err(MeetFault::Memory) => Err(Refusal::Memory),
+        }
+    }
+}
+
+/// Whether two points are one address of one procedure.
+fn is_one_point(one: &WalkedPoint, other: &WalkedPoint) -> bool
+    ensures { result ≡ true → (one.now.procedure ≡ other.now.procedure) × (one.now.at ≡ other.now.at) }
+{
+    match (one.procedure, other.procedure) {
+        (Procedure::Main, Procedure::Main) => one.at == other.at,
+        (Procedure::Entry(entry), Procedure::Entry(other_entry)) => {
+            entry == other_entry && one.at == other.at
+        }
+        _ => false,
     }
 }
 

@@ -1,4 +1,4 @@
-use Rattle.std.proofs.Common.{◌≡◌, sym, subst, ℕ}
+use Rattle.std.proofs.Common.{sym, subst}
 use Rattle.flow80.specs.Walked.{IsWalked}
 use Rattle.flow80.proofs.WalkedLemmas.{all_stay, begins_there, point_of}
 use Rattle.bounds80.specs.declared.procedure.Procedure.TheVariants.{Main}

@@ -1,4 +1,4 @@
-use Rattle.std.proofs.Common.{◌≡◌, ◌≤◌, subst}
+use Rattle.std.proofs.Common.{◌≤◌, subst}
 use Rattle.std.specs.Prelude.{IfSome}
 use Rattle.frames80.specs.declared.role.Role.{Role}
 use Rattle.frames80.specs.Calls.{room, returned}

@@ -1,4 +1,4 @@
-use Rattle.std.proofs.Common.{◌≡◌, subst, List}
+use Rattle.std.proofs.Common.{subst}
 use Rattle.std.specs.Prelude.{IfSome}
 use Rattle.frames80.specs.declared.effect.Change.{Change}
 use Rattle.frames80.specs.Moves.{changed}

@@ -1,4 +1,4 @@
-use Rattle.std.proofs.Common.{◌≡◌, subst}
+use Rattle.std.proofs.Common.{subst}
 use Rattle.std.specs.Prelude.{IfSome}
 use Rattle.flow80.specs.Walked.{IsWalked}
 use Rattle.flow80.proofs.WalkedLemmas.{all_and_one}
