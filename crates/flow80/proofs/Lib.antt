@@ -17,3 +17,4 @@ pub mod GraphLemmas
 pub mod RefusedLemmas
 pub mod AcceptLemmas
 pub mod MeasureLemmas
+pub mod WalkedLemmas

@@ -15,3 +15,4 @@ pub mod Known
 pub mod Numbers
 pub mod PointStore
 pub mod Survey
+pub mod Walked

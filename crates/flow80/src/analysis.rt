@@ -14,6 +14,8 @@ use crate::report::Report;
 use crate::rows::list_rows;
 use crate::stack::bound_stack;
 use crate::table::Table;
+use crate::tracing::find_steps;
+use crate::walks::go_along;
 use crate::wants::find_wants;
 use bounds80::Procedure;
 use std::alloc::Global;
@@ -53,6 +55,7 @@ pub fn measure<C: Code>(alloc: Global, program: &C) -> Result<Report, Refusal>
     if let Some(report) = measure_asked(alloc, program)? {
         return Ok(report);
     }
+    refuse_return(alloc, program)?;
     measure_whole(alloc, program)
 }
 
@@ -91,6 +94,14 @@ fn fill_asked_and_report<C: Code>(
         Err(refusal) if refusal.rests_on_a_word() => Ok(None),
         Err(refusal) => Err(refusal),
     }
+}
+
+/// Refuses a program if a walk is found to a return with another word than the return address.
+fn refuse_return<C: Code>(alloc: Global, program: &C) -> Result<(), Refusal>
+    ensures refused { IfErr result (HoldsAnyway (C.code program.now)) }
+{
+    let steps = find_steps(alloc, program)?;
+    go_along(alloc, program, &steps)
 }
 
 /// Measures a program, however many looks it takes.

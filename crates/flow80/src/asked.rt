@@ -6,15 +6,15 @@
 use crate::code::Code;
 use crate::counted::{Counted, CountedPoint};
 use crate::numbers::Numbers;
+use crate::places::{
+    PAIRS, bit, block_of, effect_at, key, narrow, narrow_address, pair_place, starts, word_place,
+};
 use bounds80::Procedure;
 use decode80::Fetched;
 use frames80::{Change, Effect, FramePair, effect_of};
 use interned80::Asked;
 use std::alloc::{AllocError, Global};
 use std::collections::BTreeMap;
-
-/// The places of BC, DE and HL; the words of the stack follow, from the bottom up.
-const PAIRS: u64 = 3;
 
 /// Places of a point, 64 in a block, a bit for each: which are asked for, and to which of them another word may come.
 #[derive(Clone, Copy)]
@@ -506,65 +506,4 @@ fn origin_of(
         _ => {}
     }
     origin
-}
-
-/// What the instruction at an address does.
-fn effect_at<C: Code>(program: &C, at: u16) -> Option<Effect> {
-    match program.look(at) {
-        Ok(found) => Some(effect_of(found.instr)),
-        Err(_) => None,
-    }
-}
-
-/// Whether a procedure starts at a point.
-fn starts<C: Code>(program: &C, point: CountedPoint) -> bool {
-    match point.procedure {
-        Procedure::Main => point.at == program.start(),
-        Procedure::Entry(entry) => point.at == entry,
-    }
-}
-
-/// The place of a pair.
-fn pair_place(pair: FramePair) -> u64 {
-    match pair {
-        FramePair::Bc => 0,
-        FramePair::De => 1,
-        FramePair::Hl => 2,
-    }
-}
-
-/// The place of a word, with so many beneath it.
-fn word_place(beneath: u32) -> u64 {
-    u64::from(beneath).wrapping_add(PAIRS)
-}
-
-/// The block of a place.
-fn block_of(place: u64) -> u32 {
-    narrow(place / 64)
-}
-
-/// The bit of a place in its block.
-fn bit(place: u64) -> u64 {
-    1u64.wrapping_shl(narrow(place % 64))
-}
-
-/// The key of a block of a point.
-fn key(point: u32, block: u32) -> u64 {
-    u64::from(point).wrapping_shl(32) | u64::from(block)
-}
-
-/// A number of 32 bits; the greatest for one that is greater.
-fn narrow(number: u64) -> u32 {
-    match u32::try_from(number) {
-        Ok(number) => number,
-        Err(_) => u32::MAX,
-    }
-}
-
-/// An address that was widened.
-fn narrow_address(number: u32) -> u16 {
-    match u16::try_from(number) {
-        Ok(address) => address,
-        Err(_) => u16::MAX,
-    }
 }

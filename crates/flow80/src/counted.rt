@@ -31,7 +31,7 @@ pub(crate) struct Link {
 
 /// Lists by number, each the newest first.
 #[derive(Drop)]
-struct Lists {
+pub(crate) struct Lists {
     newest: Vec<u32>,
     links: Vec<Link>,
 }
@@ -41,7 +41,7 @@ impl Lists {
     ///
     /// # Errors
     /// `AllocError` if memory runs out.
-    fn new(alloc: Global, count: usize) -> Result<Lists, AllocError> {
+    pub(crate) fn new(alloc: Global, count: usize) -> Result<Lists, AllocError> {
         let mut newest = Vec::new(alloc);
         newest.resize(count, NONE)?;
         Ok(Lists {
@@ -63,7 +63,7 @@ impl Lists {
     ///
     /// # Errors
     /// `AllocError` if memory runs out.
-    fn add(&mut self, list: usize, item: u32) -> Result<(), AllocError> {
+    pub(crate) fn add(&mut self, list: usize, item: u32) -> Result<(), AllocError> {
         let Ok(number) = u32::try_from(self.links.len()) else {
             return Err(AllocError);
         };
@@ -78,13 +78,13 @@ impl Lists {
     }
 
     /// The newest link of a list.
-    fn newest(&self, list: usize) -> Option<Link> {
+    pub(crate) fn newest(&self, list: usize) -> Option<Link> {
         let newest = self.newest.get(list)?;
         self.links.get(*newest as usize).copied()
     }
 
     /// The link before one.
-    fn before(&self, link: Link) -> Option<Link> {
+    pub(crate) fn before(&self, link: Link) -> Option<Link> {
         self.links.get(link.before as usize).copied()
     }
 }
@@ -144,6 +144,14 @@ impl Counted {
     /// The point with this number.
     pub(crate) fn point(&self, number: u32) -> Option<CountedPoint> {
         self.points.get(number as usize).copied()
+    }
+
+    /// A point has these counts after all.
+    pub(crate) fn recount(&mut self, number: u32, taken: u32, height: u32) {
+        if let Some(point) = self.points.get_mut(number as usize) {
+            point.taken = taken;
+            point.height = height;
+        }
     }
 
     /// The number of the point of an address of a procedure.
@@ -346,7 +354,7 @@ impl Counted {
 }
 
 /// The counts after a change: the words taken and those on the stack; `None` if it is refused.
-fn counts_after(point: CountedPoint, change: Change) -> Option<(u32, u32)> {
+pub(crate) fn counts_after(point: CountedPoint, change: Change) -> Option<(u32, u32)> {
     let is_main = matches!(point.procedure, Procedure::Main);
     match change {
         Change::Keep | Change::Exchange | Change::Forget(_) => Some((point.taken, point.height)),

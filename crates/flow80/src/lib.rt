@@ -14,6 +14,7 @@
 mod analysis;
 mod asked;
 mod callers;
+mod chains;
 mod code;
 mod counted;
 mod fill;
@@ -22,15 +23,20 @@ mod laws;
 mod marks;
 mod numbers;
 mod order;
+mod origins;
 mod pending;
+mod places;
 mod points;
 mod refusal;
 mod report;
 mod rows;
 mod site;
 mod stack;
+mod step;
 mod survey;
 mod table;
+mod tracing;
+mod walks;
 mod wants;
 
 pub use analysis::{analyze, measure};

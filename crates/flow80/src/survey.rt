@@ -107,7 +107,7 @@ fn look_at<C: Code>(
 }
 
 /// The address that an effect calls.
-fn target_of(effect: Effect) -> Option<u16>
+pub(crate) fn target_of(effect: Effect) -> Option<u16>
     ensures { (frame : StackFrame) → result ≡ called (move_of effect frame) }
 {
     match effect {

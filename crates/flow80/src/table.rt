@@ -405,7 +405,7 @@ fn no_exits(alloc: Global) -> Result<Vec<Option<u32>>, AllocError>
 }
 
 /// The role of a procedure.
-fn role_of<C: Code>(program: &C, procedure: Procedure) -> Role
+pub(crate) fn role_of<C: Code>(program: &C, procedure: Procedure) -> Role
     ensures { result ≡ role_of (C.code program.now) procedure }
 {
     match procedure {

@@ -1,0 +1,41 @@
+-- Points to which walks come, each with the very frame that the walk has there. (This project's own.)
+use Rattle.std.specs.Prelude.{◌≡◌, ◌<◌, ℕ, List, Option, Some, None, length, slice_get}
+use Rattle.decode80.specs.declared.fetching.Fetched.{Fetched}
+use Rattle.frames80.specs.declared.effect.Change.{Change}
+use Rattle.frames80.specs.declared.effect.Change.TheVariants.{Keep}
+use Rattle.frames80.specs.declared.effect.Effect.{Effect}
+use Rattle.frames80.specs.declared.effect.Effect.TheVariants.{Change as Changes}
+use Rattle.frames80.specs.StackFrame.{StackFrame}
+use Rattle.interned80.specs.Admitted.{move_of}
+use Rattle.interned80.specs.Frames.{frame_at}
+use Rattle.bounds80.specs.declared.procedure.Procedure.{Procedure}
+use Rattle.bounds80.specs.declared.procedure.Procedure.TheVariants.{Entry}
+use Rattle.flow80.specs.declared.walks.WalkedPoint.{WalkedPoint}
+use Rattle.flow80.specs.declared.walks.Walks.{Walks}
+use Rattle.flow80.specs.Code.{Code}
+use Rattle.flow80.specs.Walks.{Walk, Moving}
+
+-- a walk comes to the point with its frame
+pub record IsWalked (code : Code) (frames : List StackFrame) (point : WalkedPoint) : Type 0 where
+  pub there : point.frame < length frames
+  pub walk : Walk code point.procedure point.at (frame_at frames point.frame)
+
+-- a walk comes to each of the points
+pub record AreWalked (code : Code) (walks : Walks) : Type 0 where
+  pub each : (i : ℕ) (point : WalkedPoint) → slice_get walks.points.items i ≡ Some point → IsWalked code walks.frames point
+
+-- the instruction of the point has this effect, and this is the address after it
+pub record IsMovingFrom (code : Code) (frames : List StackFrame) (point : WalkedPoint) (effect : Effect) (next : ℕ) : Type 0 where
+  pub found : Fetched
+  pub moving : Moving code point.procedure point.at (frame_at frames point.frame) found (move_of effect (frame_at frames point.frame))
+  pub after : next ≡ found.next
+
+-- the change that an effect makes before it leads on
+abbrev pub change_of : Effect → Change
+change_of (Changes change) = change
+change_of _ = Keep
+
+-- the procedure is the one that is called
+abbrev pub IsCallee : Procedure → (called : Option ℕ) → Type 0
+IsCallee procedure None = ⊥
+IsCallee procedure (Some target) = procedure ≡ Entry target
