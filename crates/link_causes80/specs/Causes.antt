@@ -1,10 +1,10 @@
 -- Where in the modules the cause of a fault of LINK is, line by line.
 -- (ISIS-II User's Guide, LINK: multiply defined publics, segments that overflow, several main modules. The form of the lines is
 -- this project's own.)
-use Rattle.std.specs.Prelude.{◌≡◌, ℕ, nat_eq, if◌then◌else◌, Option, Some, None, option_map, List, [], ◌∷◌, ◌++◌, codes, filter_map, map, take, slice_get, slice_index_or}
+use Rattle.std.specs.Prelude.{◌≡◌, ℕ, if◌then◌else◌, Option, Some, None, option_map, List, [], ◌∷◌, ◌++◌, codes, filter_map, map, take, slice_get, slice_index_or}
 use Rattle.std.specs.List.{flat_map, enumerate_from}
 use Rattle.std.specs.Option.{option_map_or}
-use Rattle.std.specs.Cmp.Lexicographic.{pointwise}
+use Rattle.omf_core.specs.Name.{same_name}
 use Rattle.omf_parts.specs.declared.segment.Segment.{Segment}
 use Rattle.omf_parts.specs.declared.symbols.Common.{Common}
 use Rattle.omf_parts.specs.declared.symbols.Public.{Public}
@@ -27,7 +27,7 @@ files_with root_files library_files taken = root_files ++ map (λ place. slice_i
 
 -- the number of a module, if a public has the name; and once for each of its publics that has it
 abbrev pub declaration : List ℕ → ℕ → Public → Option ℕ
-declaration name number p = if pointwise nat_eq p.name name then Some number else None
+declaration name number p = if same_name p.name name then Some number else None
 
 abbrev pub declarations_in : List ℕ → ℕ × ModuleValue → List ℕ
 declarations_in name m = filter_map (declaration name m.0) m.1.publics

@@ -2,22 +2,13 @@
 use Rattle.std.specs.Prelude.{ℕ, ◌==◌, Bool, if◌then◌else◌, List, [], ◌∷◌, ◌++◌, codes, find, slice_index_or}
 use Rattle.std.specs.Option.{option_map_or}
 use Rattle.decode80.specs.Text.{word_text}
+use Rattle.omf_core.specs.SegmentId.{segment_word}
 use Rattle.omf_parts.specs.declared.segment.Segment.{Segment}
 use Rattle.omf_parts.specs.declared.symbols.Common.{Common}
 
 -- the module with a number, by its name, and its file
 abbrev pub module_words : (files : List (List ℕ)) → (number : ℕ) → (name : List ℕ) → List ℕ
 module_words files number name = name ++ (codes " of " ++ slice_index_or files number [])
-
--- the word of a segment
-abbrev pub segment_word : ℕ → List ℕ
-segment_word id =
-    if id == 0 then codes "ABSOLUTE"
-    else if id == 1 then codes "CODE"
-    else if id == 2 then codes "DATA"
-    else if id == 3 then codes "STACK"
-    else if id == 4 then codes "MEMORY"
-    else codes "COMMON"
 
 -- a blank and the name of the common of this id, if it has one
 abbrev pub common_part : List Common → ℕ → List ℕ

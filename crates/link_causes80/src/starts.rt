@@ -5,7 +5,7 @@ ghost use Rattle.omf_parts.specs.Segments.{segment_in};
 ghost use Rattle.omf_relocation.specs.Place.{part_start, is_laid_out, rounded};
 ghost use Rattle.link80.specs.Linked.{moved, parts_end};
 
-use omf_body::segment_id::{CODE, DATA};
+use omf_core::segment_id::{CODE, DATA};
 use omf_parts::{Module, Segment};
 use std::marker::Model;
 

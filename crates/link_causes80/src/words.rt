@@ -1,11 +1,11 @@
 //! Words of the lines.
 
 ghost use Rattle.std.specs.Prelude.{◌≡◌, ◌++◌, [], map, slice_index_or, OnOk};
-ghost use Rattle.link_causes80.specs.Lines.{module_words, segment_word, common_part, place_words, paged_part, part_words};
+ghost use Rattle.link_causes80.specs.Lines.{module_words, common_part, place_words, paged_part, part_words};
 
 use decode80::word_digits;
-use omf_body::segment_id::{ABSOLUTE, CODE, DATA, MEMORY, STACK};
 use omf_core::Name;
+use omf_core::segment_id::word_of;
 use omf_parts::{Common, Segment};
 use std::alloc::AllocError;
 
@@ -63,20 +63,6 @@ fn paged_word(paged: bool) -> &'static [u8]
     ensures { result.now ≡ paged_part paged }
 {
     if paged { b" PAGED".as_slice() } else { &[] }
-}
-
-/// The word of a segment.
-fn word_of(id: u8) -> &'static [u8]
-    ensures { result.now ≡ segment_word id }
-{
-    match id {
-        ABSOLUTE => b"ABSOLUTE".as_slice(),
-        CODE => b"CODE".as_slice(),
-        DATA => b"DATA".as_slice(),
-        STACK => b"STACK".as_slice(),
-        MEMORY => b"MEMORY".as_slice(),
-        _ => b"COMMON".as_slice(),
-    }
 }
 
 /// Appends a blank and the name of the common of this id, if it has one.

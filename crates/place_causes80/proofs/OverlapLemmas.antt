@@ -4,6 +4,7 @@ use Rattle.std.specs.List.{AllByRecursion}
 use Rattle.std.specs.Option.{option_or}
 use Rattle.std.proofs.Common.{cond, ◌∙◌, ap, sym, subst, get_or, drop-cons, take_all, length-drop, arith}
 use Rattle.std.proofs.lemmas.List.{drop_more}
+use Rattle.omf_core.specs.SegmentId.{absolute_id}
 use Rattle.omf_parts.specs.Contents.{ContentValue}
 use Rattle.place80.specs.declared.placed_segments.Placed.{Placed}
 use Rattle.place80.specs.PlaceFault.{overlaps, pairs, absolute_place, absolute_places, with_each}
@@ -49,9 +50,9 @@ content_first : (segments : List Placed) (c : ContentValue) (cs : List ContentVa
     first_sharing (with_each segments (absolute_places (c ∷ cs)))
     ≡ option_or (first_of_content segments c) (first_sharing (with_each segments (absolute_places cs)))
 content_first segments c cs =
-    elim (c.segment == 0) as
+    elim (c.segment == absolute_id) as
     (λ b. first_sharing (with_each segments
-    (map absolute_place (cond b (c ∷ filter (λ c. c.segment == 0) cs) (filter (λ c. c.segment == 0) cs))))
+    (map absolute_place (cond b (c ∷ filter (λ c. c.segment == absolute_id) cs) (filter (λ c. c.segment == absolute_id) cs))))
     ≡ option_or (cond b (first_sharing (beside_each (absolute_place c) segments)) None)
     (first_sharing (with_each segments (absolute_places cs))))
     [ true ↦ sharing_of_both (beside_each (absolute_place c) segments) (with_each segments (absolute_places cs)) | false ↦ refl ]

@@ -4,9 +4,9 @@
 use Rattle.std.specs.Prelude.{ℕ, List, [], ◌∷◌, ◌++◌, codes}
 use Rattle.std.specs.Option.{option_map_or}
 use Rattle.decode80.specs.Text.{word_text}
+use Rattle.omf_core.specs.SegmentId.{code_id, segment_word}
 use Rattle.omf_parts.specs.declared.symbols.Common.{Common}
 use Rattle.omf_parts.specs.declared.symbols.Public.{Public}
-use Rattle.omf_parts.specs.Segments.{code_id}
 use Rattle.omf_parts.specs.Modules.{ModuleValue}
 use Rattle.place80.specs.declared.options.Options.{Options}
 use Rattle.place80.specs.declared.placed_segments.Placed.{Placed}
@@ -14,7 +14,7 @@ use Rattle.place80.specs.declared.place_fault.PlaceFault.{PlaceFault}
 use Rattle.place80.specs.declared.place_fault.PlaceFault.TheVariants.{Unresolved, NoStart, OutsideMemory, Overlap, HighNotPaged, StartNotCode, Memory}
 use Rattle.place80.specs.Layout.{layout_of, place_among, placed_in}
 use Rattle.place_causes80.specs.declared.uses.Use.{Use}
-use Rattle.place_causes80.specs.Lines.{segment_word, common_part, place_words, number_text}
+use Rattle.place_causes80.specs.Lines.{common_part, place_words, number_text}
 use Rattle.place_causes80.specs.Uses.{first_use_of, alike, first_high}
 use Rattle.place_causes80.specs.Places.{first_outside, first_overlap}
 

@@ -1,10 +1,10 @@
 -- The fixups that LOCATE can't do: the first that refers to a name, and the first that takes the high byte of an address which
 -- isn't a multiple of 256; and names that differ in case alone.
 -- (ISIS-II User's Guide, LOCATE: unresolved references. That such high bytes are refused is this project's own.)
-use Rattle.std.specs.Prelude.{ℕ, nat_eq, Bool, false, not, ◌&&◌, if◌then◌else◌, Option, Some, None, List, [], ◌∷◌, find, map}
+use Rattle.std.specs.Prelude.{ℕ, Bool, false, not, ◌&&◌, if◌then◌else◌, Option, Some, None, List, [], ◌∷◌, find, map}
 use Rattle.std.specs.Option.{option_or}
-use Rattle.std.specs.Cmp.Lexicographic.{pointwise}
 use Rattle.std.specs.Char.{to_ascii_lowercase}
+use Rattle.omf_core.specs.Name.{same_name}
 use Rattle.omf_parts.specs.declared.fixup.Fixup.{Fixup}
 use Rattle.omf_parts.specs.declared.fixup.Target.{Target}
 use Rattle.omf_parts.specs.declared.fixup.Target.TheVariants as target
@@ -38,7 +38,7 @@ first_use word is_sought contents = first_given (first_use_in word is_sought) co
 
 abbrev pub refers_to : (externals : List (List ℕ)) → (name : List ℕ) → Target → Bool
 refers_to externals name (target.Segment id) = false
-refers_to externals name (target.External index) = pointwise nat_eq (name_at externals index) name
+refers_to externals name (target.External index) = same_name (name_at externals index) name
 
 abbrev pub no_word : Target → ℕ
 no_word target = 0
@@ -49,7 +49,7 @@ first_use_of m name = first_use no_word (λ f. refers_to m.externals name f.targ
 -- a name that differs, but is the same in lower case
 abbrev pub differs_in_case : List ℕ → List ℕ → Bool
 differs_in_case other name =
-    pointwise nat_eq (map to_ascii_lowercase other) (map to_ascii_lowercase name) && not (pointwise nat_eq other name)
+    same_name (map to_ascii_lowercase other) (map to_ascii_lowercase name) && not (same_name other name)
 
 -- the first public with such a name
 abbrev pub alike : ModuleValue → (name : List ℕ) → Option Public

@@ -1,10 +1,8 @@
 //! The lines of a fault.
 
-ghost use Rattle.std.specs.Prelude.{◌≡◌, ◌++◌, [], OnOk};
-ghost use Rattle.std.specs.Option.{option_map_or};
+ghost use Rattle.std.specs.Prelude.{◌≡◌, ◌++◌, OnOk};
 ghost use Rattle.place80.specs.Layout.{layout_of};
-ghost use Rattle.place_causes80.specs.Causes.{cause_text, use_line, alike_line, unresolved_text, outside_text, overlap_text, high_text, start_text};
-ghost use Rattle.place_causes80.specs.Uses.{first_use_of, alike};
+ghost use Rattle.place_causes80.specs.Causes.{cause_text, unresolved_text, outside_text, overlap_text, high_text, start_text};
 
 use crate::laying_out::layout_of;
 use crate::lines::{
@@ -64,29 +62,8 @@ pub fn append_cause(
 fn append_unresolved(text: &mut Vec<u8>, program: &Module, name: &Name) -> Result<(), AllocError>
     ensures { OnOk result (text.new.items ≡ text.old.items ++ unresolved_text program.now name.now) }
 {
-    append_first_use(text, program, name)?;
-    append_first_alike(text, program, name)
-}
-
-/// Appends the line of the first fixup that refers to the name.
-fn append_first_use(text: &mut Vec<u8>, program: &Module, name: &Name) -> Result<(), AllocError>
-    ensures { OnOk result (text.new.items ≡ text.old.items
-        ++ option_map_or (use_line program.now.commons) (first_use_of program.now name.now) []) }
-{
-    match first_use_of(program, name) {
-        Some(found) => append_use(text, program.commons(), found),
-        None => Ok(()),
-    }
-}
-
-/// Appends the line of the first public whose name differs in case alone.
-fn append_first_alike(text: &mut Vec<u8>, program: &Module, name: &Name) -> Result<(), AllocError>
-    ensures { OnOk result (text.new.items ≡ text.old.items ++ option_map_or alike_line (alike program.now name.now) []) }
-{
-    match alike(program, name) {
-        Some(public) => append_alike(text, public),
-        None => Ok(()),
-    }
+    append_use(text, program.commons(), first_use_of(program, name))?;
+    append_alike(text, alike(program, name))
 }
 
 /// Appends the line of the first segment that is outside memory.
@@ -111,10 +88,7 @@ fn append_overlap(
 ) -> Result<(), AllocError>
     ensures { OnOk result (text.new.items ≡ text.old.items ++ overlap_text program.now segments.now) }
 {
-    match first_overlap(program, segments) {
-        Some((first, second)) => append_pair(text, program.commons(), first, second),
-        None => Ok(()),
-    }
+    append_pair(text, program.commons(), first_overlap(program, segments))
 }
 
 /// Appends the line of the first high byte.
@@ -125,10 +99,7 @@ fn append_high_byte(
 ) -> Result<(), AllocError>
     ensures { OnOk result (text.new.items ≡ text.old.items ++ high_text program.now segments.now) }
 {
-    match first_high(segments, program) {
-        Some(found) => append_high(text, program, found),
-        None => Ok(()),
-    }
+    append_high(text, program, first_high(segments, program))
 }
 
 /// Appends the lines of the start and of CODE.
@@ -139,8 +110,5 @@ fn append_start_of(
 ) -> Result<(), AllocError>
     ensures { OnOk result (text.new.items ≡ text.old.items ++ start_text program.now segments.now) }
 {
-    match program.start() {
-        Some(start) => append_start(text, program.commons(), segments, start),
-        None => Ok(()),
-    }
+    append_start(text, program.commons(), segments, program.start())
 }

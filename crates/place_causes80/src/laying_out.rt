@@ -4,7 +4,7 @@ ghost use Rattle.std.specs.Prelude.{◌≡◌, ◌≤◌, ◌<◌, ◌+◌, leng
 ghost use Rattle.omf_relocation.specs.Place.{rounded};
 ghost use Rattle.place80.specs.Layout.{common_ids, order_of, given_base, given_length, placed_after, layout_of};
 
-use omf_body::segment_id::{CODE, DATA, FIRST_COMMON, MEMORY, STACK, UNNAMED_COMMON};
+use omf_core::segment_id::{CODE, DATA, FIRST_COMMON, MEMORY, STACK, UNNAMED_COMMON};
 use omf_parts::{Common, Module, Segment, has_common_id};
 use place80::{Options, Placed};
 use std::alloc::{AllocError, Global};

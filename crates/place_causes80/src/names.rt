@@ -1,8 +1,8 @@
 //! The first fixup that refers to a name, and a public whose name differs in case alone.
 
-ghost use Rattle.std.specs.Prelude.{◌≡◌, nat_eq, map, option_copied};
-ghost use Rattle.std.specs.Cmp.Lexicographic.{pointwise};
+ghost use Rattle.std.specs.Prelude.{◌≡◌, map, option_copied};
 ghost use Rattle.std.specs.Char.{to_ascii_lowercase};
+ghost use Rattle.omf_core.specs.Name.{same_name};
 ghost use Rattle.omf_relocation.specs.ImageByte.{name_at};
 ghost use Rattle.place_causes80.specs.Uses.{refers_to, first_given, use_of, no_word, first_use_in, first_use_of, differs_in_case, alike};
 
@@ -79,7 +79,7 @@ fn differs_in_case(other: &[u8], name: &[u8]) -> bool
 
 /// Whether two names are the same in lower case.
 fn is_same_in_lower_case(other: &[u8], name: &[u8]) -> bool
-    ensures { result ≡ pointwise nat_eq (map to_ascii_lowercase other.now) (map to_ascii_lowercase name.now) }
+    ensures { result ≡ same_name (map to_ascii_lowercase other.now) (map to_ascii_lowercase name.now) }
 {
     other.eq_ignore_ascii_case(name)
 }

@@ -1,19 +1,18 @@
 //! The segments that don't fit.
 
-ghost use Rattle.std.specs.Prelude.{◌≡◌, ◌+◌, ◌≤◌, ◌∷◌, ◌++◌, [], nat_lt, length};
-ghost use Rattle.std.specs.List.{AllByRecursion, list_any};
-ghost use Rattle.place80.specs.PlaceFault.{passes_memory, is_outside, overlaps, pairs, absolute_place, absolute_places, with_each};
-ghost use Rattle.place80.specs.Restart.{restart_place};
-ghost use Rattle.place_causes80.specs.Places.{first_outside, first_sharing, beside_each, first_overlap};
+ghost use Rattle.std.specs.Prelude.{◌≡◌, ◌+◌, ◌≤◌, nat_lt, length};
+ghost use Rattle.std.specs.List.{list_any};
+ghost use Rattle.place80.specs.PlaceFault.{passes_memory, is_outside, overlaps, pairs, all_pairs, absolute_place, absolute_places, with_each};
+ghost use Rattle.place_causes80.specs.Places.{first_outside, first_sharing, beside_each, restart_pairs, first_overlap};
 ghost use Rattle.place_causes80.specs.Words.{first_of_content};
 
-use omf_body::segment_id::{ABSOLUTE, MEMORY};
+use omf_core::segment_id::{ABSOLUTE, MEMORY};
 use omf_parts::{Content, Module};
 use omf_relocation::laws::sound_modules_keep_rules;
 use place80::Placed;
 
 /// Two places that share an address.
-type Pair = (Placed, Placed);
+pub(crate) type Pair = (Placed, Placed);
 
 /// The first segment that is outside memory.
 pub(crate) fn first_outside(program: &Module, segments: &[Placed]) -> Option<Placed>
@@ -57,25 +56,24 @@ fn passes_memory(size: u32, content: &Content) -> bool
 }
 
 /// The first two that share an address, those of the program before those with a restart.
+#[tactic(auto, using(crate::proofs::OverlapLemmas::found_first, crate::proofs::OverlapLemmas::found_among_others))]
 pub(crate) fn first_overlap(program: &Module, segments: &[Placed]) -> Option<Pair>
     ensures { result ≡ first_overlap program.now segments.now }
 {
-    sound_modules_keep_rules();
-    let contents = program.contents();
-    match first_of_program(contents, segments) {
+    match first_of_program(program, segments) {
         Some(pair) => Some(pair),
-        None => first_of_restart(contents, segments),
+        None => first_of_restart(program, segments),
     }
 }
 
 /// The first two segments, or else the first absolute content with the first segment.
-fn first_of_program(contents: &[Content], segments: &[Placed]) -> Option<Pair>
-    requires { AllByRecursion (λ c. length c.bytes ≤ 65531) contents.now }
-    ensures { result ≡ first_sharing (pairs segments.now ++ with_each segments.now (absolute_places contents.now)) }
+#[tactic(auto, using(crate::proofs::OverlapLemmas::found_first, crate::proofs::OverlapLemmas::found_among_others))]
+fn first_of_program(program: &Module, segments: &[Placed]) -> Option<Pair>
+    ensures { result ≡ first_sharing (all_pairs program.now segments.now) }
 {
     match first_of_segments(segments) {
         Some(pair) => Some(pair),
-        None => first_of_contents(contents, segments),
+        None => first_of_contents(program, segments),
     }
 }
 
@@ -114,10 +112,11 @@ fn overlaps(place: Placed, other: Placed) -> bool
 }
 
 /// The first absolute content with the first segment.
-fn first_of_contents(contents: &[Content], segments: &[Placed]) -> Option<Pair>
-    requires { AllByRecursion (λ c. length c.bytes ≤ 65531) contents.now }
-    ensures { result ≡ first_sharing (with_each segments.now (absolute_places contents.now)) }
+fn first_of_contents(program: &Module, segments: &[Placed]) -> Option<Pair>
+    ensures { result ≡ first_sharing (with_each segments.now (absolute_places program.now.contents)) }
 {
+    sound_modules_keep_rules();
+    let contents = program.contents();
     for content in contents {
         if let Some(pair) = first_of_content(content, segments) {
             return Some(pair);
@@ -151,10 +150,9 @@ fn absolute_place(content: &Content) -> Placed
 }
 
 /// The restart with the first segment, or else the first absolute content with the restart.
-fn first_of_restart(contents: &[Content], segments: &[Placed]) -> Option<Pair>
-    requires { AllByRecursion (λ c. length c.bytes ≤ 65531) contents.now }
-    ensures { result ≡ first_sharing (beside_each restart_place segments.now
-        ++ with_each (restart_place ∷ []) (absolute_places contents.now)) }
+#[tactic(auto, using(crate::proofs::OverlapLemmas::found_first, crate::proofs::OverlapLemmas::found_among_others))]
+fn first_of_restart(program: &Module, segments: &[Placed]) -> Option<Pair>
+    ensures { result ≡ first_sharing (restart_pairs program.now segments.now) }
 {
     let restart = Placed {
         id: ABSOLUTE,
@@ -163,6 +161,6 @@ fn first_of_restart(contents: &[Content], segments: &[Placed]) -> Option<Pair>
     };
     match first_beside(restart, segments) {
         Some(pair) => Some(pair),
-        None => first_of_contents(contents, [restart].as_slice()),
+        None => first_of_contents(program, [restart].as_slice()),
     }
 }

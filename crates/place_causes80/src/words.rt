@@ -1,10 +1,10 @@
 //! Words of the lines.
 
 ghost use Rattle.std.specs.Prelude.{◌≡◌, ◌++◌, ◌<◌, OnOk};
-ghost use Rattle.place_causes80.specs.Lines.{segment_word, common_part, place_words, number_text};
+ghost use Rattle.place_causes80.specs.Lines.{common_part, place_words, number_text};
 
 use decode80::word_digits;
-use omf_body::segment_id::{ABSOLUTE, CODE, DATA, MEMORY, STACK};
+use omf_core::segment_id::word_of;
 use omf_parts::Common;
 use std::alloc::AllocError;
 
@@ -32,20 +32,6 @@ pub(crate) fn append_number(text: &mut Vec<u8>, number: u32) -> Result<(), Alloc
     } else {
         text.push(b'1')?;
         text.extend_from_slice(&word_digits((number % 65536) as u16))
-    }
-}
-
-/// The word of a segment.
-pub(crate) fn word_of(id: u8) -> &'static [u8]
-    ensures { result.now ≡ segment_word id }
-{
-    match id {
-        ABSOLUTE => b"ABSOLUTE".as_slice(),
-        CODE => b"CODE".as_slice(),
-        DATA => b"DATA".as_slice(),
-        STACK => b"STACK".as_slice(),
-        MEMORY => b"MEMORY".as_slice(),
-        _ => b"COMMON".as_slice(),
     }
 }
 

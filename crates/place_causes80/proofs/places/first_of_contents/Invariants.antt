@@ -9,6 +9,6 @@ use Rattle.place_causes80.proofs.places.first_of_contents.Given as goal
 abbrev pub invariant-loop-content : goal.invariant-loop-content
 invariant-loop-content l = record {
   found : first_sharing (with_each l.segments (absolute_places (drop l.content-index l.contents)))
-      ≡ first_sharing (with_each l.segments (absolute_places l.contents));
+      ≡ first_sharing (with_each l.segments (absolute_places l.program.contents));
   few : AllByRecursion (λ (c : ContentValue). length c.bytes ≤ 65531) (drop l.content-index l.contents);
 }
