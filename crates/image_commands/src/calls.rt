@@ -1,8 +1,8 @@
 //! `plm80 calls`: the calls of a located program, or its refusal.
 
-use crate::helpers::calls_text::{CallGraph, graph_text, list_text};
 use clap::ArgMatches;
 use console80::{Argument, Console, IMAGE, Kind, REGIONS, Reported, Syntax};
+use graph80::{CallGraph, graph_text, list_text};
 use image80::Image;
 use loader80::{Vouched, vouch};
 use naming80::{NAMES, NamedFiles, Names, named_refusal};
@@ -89,9 +89,10 @@ fn calls_text(
     names: &Names,
 ) -> Result<Vec<u8>, AllocError> {
     let graph = CallGraph::of(alloc, vouched)?;
+    let (image, publics) = (vouched.image(), names.publics());
     if dot {
-        graph_text(alloc, vouched, &graph, names)
+        graph_text(alloc, image, publics, &graph)
     } else {
-        list_text(alloc, vouched, &graph, names)
+        list_text(alloc, image, publics, &graph)
     }
 }

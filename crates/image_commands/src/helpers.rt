@@ -1,4 +1,3 @@
-//! What the commands of located programs share, and the texts of `calls`.
+//! What the commands of located programs share.
 
-pub(crate) mod calls_text;
 pub(crate) mod subject;

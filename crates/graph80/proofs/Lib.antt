@@ -1,0 +1,4 @@
+pub mod BoundLemmas
+pub mod ChainLemmas
+pub mod NodeLemmas
+pub mod TextLemmas

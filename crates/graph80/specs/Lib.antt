@@ -1,0 +1,5 @@
+pub mod Nodes
+pub mod Chain
+pub mod Laws
+pub mod ListText
+pub mod GraphText
