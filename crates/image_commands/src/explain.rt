@@ -1,7 +1,6 @@
 //! `plm80 explain`: why the verifier refuses a located program, shown by ways through its procedures.
 
 use crate::check::named_report;
-use crate::helpers::subject::Subject;
 use console80::{Console, Reported, Syntax};
 use explain80::{Unexplained, explain, find_chain, measure};
 use explained80::{chain_text, explanation_text};
@@ -45,6 +44,13 @@ pub const EXPLAIN: Syntax<'static> = Syntax {
     after_help: AFTER_HELP,
     arguments: NAMED_FILES,
 };
+
+/// The image that is shown, and its names.
+#[derive(Clone, Copy)]
+struct Subject<'a> {
+    image: &'a Image,
+    names: &'a Names,
+}
 
 /// Prints the report on the image, or its refusal and what shows it, and gives the exit status.
 pub fn explain_files(console: Console<'_>, files: NamedFiles<'_>) -> Result<u8, Reported> {

@@ -16,7 +16,6 @@ mod calls;
 mod cases;
 mod check;
 mod explain;
-mod helpers;
 mod list;
 mod regions;
 mod stores;

@@ -1,3 +1,0 @@
-//! What the commands of located programs share.
-
-pub(crate) mod subject;
