@@ -1,3 +1,5 @@
+//! The bytes of a dump, by their addresses.
+
 ghost use Rattle.std.specs.Prelude.{◌≡◌, ◌≤◌, ◌+◌, length};
 ghost use Rattle.find80.specs.Places.{dump_byte};
 

@@ -4,17 +4,17 @@ use Rattle.std.specs.List.{AllByRecursion, list_any, last_or}
 use Rattle.std.proofs.Common.{refl, sym, ◌∙◌, ap, subst, arith, inl, inr}
 use Rattle.std.proofs.lemmas.Bool.{and_parts, eqb-true, lt-ltb, le-ltb, le-leb, lt-leb, ltb-true, leb-true, true≢false, cases_lt}
 use Rattle.std.proofs.lemmas.List.FromFn.{length-map-range_with_len, get_or-map-range_with_len}
+use Rattle.omf_core.specs.SegmentId.{code_id}
 use Rattle.omf_parts.specs.Contents.{ContentValue}
-use Rattle.omf_parts.specs.Segments.{code_id}
 use Rattle.omf_parts.specs.Modules.{ModuleValue}
 use Rattle.omf_parts.specs.Rules.{end_of}
 use Rattle.omf_relocation.specs.Place.{Bases, place_in}
-use Rattle.omf_relocation.specs.ImageByte.{ByteChunk, patch_with, target_word, chunk_of, chunk_covers, distance}
+use Rattle.omf_relocation.specs.ImageByte.{ByteChunk, patch_with, target_word, chunk_of, chunk_covers, distance, last_over}
 use Rattle.omf_relocation.specs.Patches.{byte_with}
 use Rattle.omf_relocation.specs.SoundModules.{RulesOf, LiesIn, HasItsFixups, PartsOfOneStartAtZero}
 use Rattle.pattern80.specs.CodeBytes.{byte_by}
 use Rattle.pattern80.specs.Modules.{covers, covers_code, byte_in, code_byte_at, code_length}
-use Rattle.found80.specs.Chunks.{is_code, code_chunks, last_over, chunk_byte}
+use Rattle.found80.specs.Chunks.{is_code, code_chunks, chunk_byte}
 use Rattle.found80.proofs.BaseLemmas.{Agrees}
 use Rattle.found80.proofs.ByteLemmas.{byte_same}
 

@@ -4,22 +4,22 @@ use Rattle.std.specs.List.{AllByRecursion, cons_option, last_or, range_with_len}
 use Rattle.std.specs.Option.{option_map_or}
 use Rattle.std.proofs.Common.{refl, sym, ◌∙◌, ap, subst, arith, inl, inr}
 use Rattle.std.proofs.lemmas.Bool.{and_parts, eqb-true, leb-true, ltb-true, cases_lt}
+use Rattle.omf_core.specs.SegmentId.{code_id}
 use Rattle.omf_body.specs.declared.field.Field.{Field}
 use Rattle.omf_body.specs.declared.field.Field.TheVariants as field
 use Rattle.omf_parts.specs.declared.fixup.Fixup.{Fixup}
 use Rattle.omf_parts.specs.Contents.{ContentValue}
-use Rattle.omf_parts.specs.Segments.{code_id}
 use Rattle.omf_parts.specs.Modules.{ModuleValue}
 use Rattle.omf_parts.specs.Rules.{end_of}
 use Rattle.omf_relocation.specs.Place.{Bases}
-use Rattle.omf_relocation.specs.ImageByte.{ByteChunk, chunk_of, chunk_covers, distance}
+use Rattle.omf_relocation.specs.ImageByte.{ByteChunk, chunk_of, chunk_covers, distance, last_over}
 use Rattle.omf_relocation.specs.SoundModules.{RulesOf, LiesIn, HasItsFixups, CommonsByName, PartsOfOneStartAtZero}
 use Rattle.pattern80.specs.declared.code_byte.CodeByte.{CodeByte}
 use Rattle.pattern80.specs.declared.resolving.Resolved.{Resolved}
 use Rattle.pattern80.specs.CodeBytes.{byte_by}
 use Rattle.pattern80.specs.Modules.{resolved, has_byte, plain_byte, field_byte, fixup_byte, byte_by_fixups, byte_in, covers, covers_code, code_byte_at, code_length, code_bytes}
 use Rattle.find80.specs.Places.{dump_byte, LiesWith, LiesAt}
-use Rattle.found80.specs.Chunks.{is_code, code_chunks, is_covered, last_over, chunk_byte}
+use Rattle.found80.specs.Chunks.{is_code, code_chunks, is_covered, chunk_byte}
 use Rattle.found80.specs.Lies.{LiesByBases, HasModule}
 use Rattle.found80.proofs.BaseLemmas.{Agrees, values_of, value_segment, bases_agree, bases_by, values_agree}
 use Rattle.found80.proofs.ChunkLemmas.{none_some, last_map, last_passes, last_is, any_last, mapped_from, offset_at, there_again, back_there, last_over_is, content_byte}

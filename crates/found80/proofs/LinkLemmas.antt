@@ -4,11 +4,11 @@ use Rattle.std.specs.List.{AllByRecursion, last_or, flat_map, enumerate_from}
 use Rattle.std.specs.Option.{option_map_or}
 use Rattle.std.proofs.Common.{refl, sym, ◌∙◌, ap, arith}
 use Rattle.std.proofs.lemmas.Bool.{eqb-true, ltb-true, true≢false}
+use Rattle.omf_core.specs.SegmentId.{code_id}
 use Rattle.omf_parts.specs.declared.fixup.Fixup.{Fixup}
 use Rattle.omf_parts.specs.declared.fixup.Target.{Target}
 use Rattle.omf_parts.specs.declared.fixup.Target.TheVariants as target
 use Rattle.omf_parts.specs.Contents.{ContentValue}
-use Rattle.omf_parts.specs.Segments.{code_id}
 use Rattle.omf_parts.specs.Modules.{ModuleValue}
 use Rattle.omf_parts.specs.Rules.{has_target}
 use Rattle.omf_relocation.specs.declared.patching.Patch.{Patch}

@@ -7,10 +7,10 @@ use Rattle.omf_parts.specs.declared.fixup.Target.TheVariants as target
 use Rattle.omf_parts.specs.Modules.{ModuleValue}
 use Rattle.omf_parts.specs.Rules.{has_target}
 use Rattle.omf_relocation.specs.Place.{Bases, word_of, place_in}
-use Rattle.omf_relocation.specs.ImageByte.{ByteChunk, name_at}
+use Rattle.omf_relocation.specs.ImageByte.{ByteChunk, name_at, last_over}
 use Rattle.pattern80.specs.CodeBytes.{number_of}
 use Rattle.pattern80.specs.Modules.{first_with}
-use Rattle.found80.specs.Chunks.{code_chunks, is_covered, last_over, chunk_byte}
+use Rattle.found80.specs.Chunks.{code_chunks, is_covered, chunk_byte}
 use Rattle.find80.specs.declared.words.Word.{Word}
 use Rattle.find80.specs.Places.{dump_byte, is_listed}
 use Rattle.find80.specs.Words.{has_word}
