@@ -1,11 +1,14 @@
 -- The names that commands print: those of an image's file if they are asked for, behind or before the lines of a text.
 -- (As the symbols of ISIS-II's debuggers; the form of the lines is this project's own.)
-use Rattle.std.specs.Prelude.{◌≡◌, ℕ, ◌-◌, Bool, true, false, nat_eq, if◌then◌else◌, List, [], ◌∷◌, ◌++◌, length, take, drop}
+use Rattle.std.specs.Prelude.{◌≡◌, ℕ, ◌-◌, Bool, true, false, nat_eq, if◌then◌else◌, Option, Some, None, List, [], ◌∷◌, ◌++◌, length, take, drop}
 use Rattle.std.specs.Cmp.Lexicographic.{pointwise}
 use Rattle.image80.specs.declared.range.Range.{Range}
 use Rattle.omf_parts.specs.declared.symbols.Public.{Public}
 use Rattle.names80.specs.NameText.{name_text}
 use Rattle.publics80.specs.ImagePublics.{HasPublics}
+use Rattle.flow80.specs.declared.refusal.Refusal.{Refusal}
+use Rattle.flow80.specs.Refusal.{refusal_address}
+use Rattle.loader80.specs.TranscriptText.{refusal_line}
 
 -- the publics by which addresses are named: those that the image's file has if they are asked for, else none
 abbrev pub AreNamesOf : (asked : Bool) (file : List ℕ) → List Public → Type 0
@@ -20,3 +23,12 @@ is_line text = pointwise nat_eq (drop (length text - 1) text) (10 ∷ [])
 abbrev pub named_end : List Range → List Public → (address : ℕ) → List ℕ → List ℕ
 named_end code publics address text =
     if is_line text then take (length text - 1) text ++ (name_text code publics address ++ 10 ∷ []) else text
+
+-- a line with the name of an address, if there is one
+abbrev pub named_if : List Range → List Public → Option ℕ → List ℕ → List ℕ
+named_if code publics None text = text
+named_if code publics (Some address) text = named_end code publics address text
+
+-- the line of a refusal, with the name of the address that it names
+abbrev pub named_refusal_line : List Range → List Public → Refusal → List ℕ
+named_refusal_line code publics refusal = named_if code publics (refusal_address refusal) (refusal_line refusal)

@@ -1,5 +1,8 @@
 //! Refusals with the names of their addresses.
 
+ghost use Rattle.std.specs.Prelude.{◌≡◌, IfOk};
+ghost use Rattle.naming80.specs.Printed.{named_refusal_line};
+
 use crate::names::Names;
 use console80::{Console, Reported};
 use image80::Image;
@@ -38,7 +41,9 @@ pub fn named_refusal(
     image: &Image,
     refusal: Refusal,
     names: &Names,
-) -> Result<Vec<u8>, AllocError> {
+) -> Result<Vec<u8>, AllocError>
+    ensures { IfOk result (λ text. text.items ≡ named_refusal_line image.now.regions.code names.now refusal) }
+{
     if let Refusal::Memory = refusal {
         return Err(AllocError);
     }
