@@ -1,5 +1,5 @@
 -- The calls of which the main program's bound is made. (This project's own.)
-use Rattle.std.specs.Prelude.{ℕ, zero, suc, ◌==◌, Bool, ◌&&◌, ℤ, pos, ◌+ℤ◌, List, [], ◌∷◌, Option, find, length}
+use Rattle.std.specs.Prelude.{ℕ, zero, suc, ◌==◌, Bool, ◌&&◌, pos, ◌+ℤ◌, List, [], ◌∷◌, Option, find, length}
 use Rattle.std.specs.Option.{option_and_then, option_map_or}
 use Rattle.std.specs.Ordering.{int_eq}
 use Rattle.bounds80.specs.declared.procedure.Procedure.{Procedure}
