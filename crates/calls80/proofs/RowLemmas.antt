@@ -9,7 +9,7 @@ use Rattle.std.proofs.lemmas.Cmp.{ranked}
 use Rattle.std.proofs.lemmas.List.Elements.{All-contains, All-nil}
 use Rattle.bounds80.specs.declared.procedure.Procedure.TheVariants.{Main, Entry}
 use Rattle.flow80.specs.declared.report.ProcRow.{ProcRow}
-use Rattle.flow80.specs.Code.{Code}
+use Rattle.code80.specs.Code.{Code}
 use Rattle.flow80.specs.FittingLaws.{NoFault}
 use Rattle.flow80.specs.Rows.{Occurs, ReturnsWith, IsRow, AreRows}
 use Rattle.calls80.specs.Calls.{AreCalls, IsCall}

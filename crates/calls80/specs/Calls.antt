@@ -3,8 +3,8 @@ use Rattle.std.specs.Prelude.{◌≡◌, ◌<◌, ℕ, ℤ, List, All, AllPairs,
 use Rattle.frames80.specs.StackFrame.{StackFrame}
 use Rattle.frames80.specs.Calls.{depth_of}
 use Rattle.bounds80.specs.declared.procedure.Procedure.{Procedure}
-use Rattle.flow80.specs.Code.{Code}
-use Rattle.flow80.specs.Walks.{Walk, Calls, role_of}
+use Rattle.code80.specs.Code.{Code, role_of}
+use Rattle.flow80.specs.Walks.{Walk, Calls}
 use Rattle.calls80.specs.declared.calls.Call.{Call}
 
 -- a walk of the procedure is at the call, with its depth

@@ -6,8 +6,8 @@ use Rattle.frames80.specs.Calls.{depth_of}
 use Rattle.bounds80.specs.declared.procedure.Procedure.{Procedure}
 use Rattle.bounds80.specs.declared.procedure.Procedure.TheVariants.{Main, Entry}
 use Rattle.flow80.specs.declared.report.ProcRow.{ProcRow}
-use Rattle.flow80.specs.Code.{Code}
-use Rattle.flow80.specs.Walks.{Walk, Calls, role_of}
+use Rattle.code80.specs.Code.{Code, role_of}
+use Rattle.flow80.specs.Walks.{Walk, Calls}
 use Rattle.calls80.specs.declared.calls.Call.{Call}
 use Rattle.calls80.specs.declared.counts.Counts.{Counts}
 use Rattle.calls80.specs.declared.points.Point.{Point}

@@ -5,7 +5,7 @@ use Rattle.frames80.specs.declared.effect.Effect.TheVariants.{Change, Halt, Jump
 use Rattle.bounds80.specs.declared.procedure.Procedure.{Procedure}
 use Rattle.bounds80.specs.declared.procedure.Procedure.TheVariants.{Main, Entry}
 use Rattle.flow80.specs.declared.report.ProcRow.{ProcRow}
-use Rattle.flow80.specs.Code.{Code}
+use Rattle.code80.specs.Code.{Code}
 use Rattle.flow80.specs.Rows.{ReturnsWith}
 use Rattle.calls80.specs.declared.counts.Counts.{Counts}
 use Rattle.calls80.specs.declared.ways.Way.{Way}

@@ -10,7 +10,8 @@ ghost use Rattle.calls80.specs.Ways.{SayTakes};
 use crate::counts::Counts;
 use crate::points::Point;
 use crate::ways::{Way, ways};
-use flow80::{Code, Procedure};
+use code80::Code;
+use flow80::Procedure;
 use std::alloc::{AllocError, Global};
 use verify80::{ImageCode, ProcRow};
 

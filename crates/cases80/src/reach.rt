@@ -6,8 +6,8 @@ ghost use Rattle.verify80.specs.Looking.{declared_targets};
 
 use crate::leads::{falls_to, target_of};
 use bounds80::table;
+use code80::Code;
 use decode80::{Instr, fetch};
-use flow80::Code;
 use std::alloc::{AllocError, Global};
 use verify80::ImageCode;
 

@@ -9,8 +9,8 @@ use crate::reach::Visited;
 use crate::table::{Run, Table, goal_at, run_of, stride};
 use crate::trail::Trail;
 use bounds80::table;
+use code80::Code;
 use decode80::{Instr, ahead, fetch};
-use flow80::Code;
 use std::alloc::{AllocError, Global};
 use verify80::ImageCode;
 

@@ -3,8 +3,8 @@
 use crate::chain::first_before;
 use crate::changes::may_change;
 use crate::leads::{falls_to, target_of};
+use code80::Code;
 use decode80::{Instr, Pair, StackPair, fetch};
-use flow80::Code;
 use std::alloc::{AllocError, Global};
 use verify80::ImageCode;
 

@@ -11,8 +11,8 @@ use Rattle.bounds80.specs.declared.graph.CallSite.{CallSite}
 use Rattle.bounds80.specs.declared.graph.Depth.{Depth}
 use Rattle.bounds80.specs.declared.procedure.Procedure.{Procedure}
 use Rattle.bounds80.specs.declared.procedure.Procedure.TheVariants.{Main, Entry}
-use Rattle.flow80.specs.Code.{Code}
-use Rattle.flow80.specs.Walks.{Calls, Walk, begins, enters, role_of}
+use Rattle.code80.specs.Code.{Code, role_of}
+use Rattle.flow80.specs.Walks.{Calls, Walk, begins, enters}
 use Rattle.flow80.specs.Faults.{CallsFrom, Leads, Recurs, here, further}
 use Rattle.flow80.specs.Use.{Chains, EndsChain, Use, last, through}
 use Rattle.walks80.specs.declared.point.Point.{Point}

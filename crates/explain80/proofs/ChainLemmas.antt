@@ -8,8 +8,8 @@ use Rattle.bounds80.specs.declared.graph.CallSite.{CallSite}
 use Rattle.bounds80.specs.declared.procedure.Procedure.{Procedure}
 use Rattle.bounds80.specs.declared.procedure.Procedure.TheVariants.{Main, Entry}
 use Rattle.frames80.specs.Calls.{depth_of}
-use Rattle.flow80.specs.Code.{Code}
-use Rattle.flow80.specs.Walks.{Calls, role_of}
+use Rattle.code80.specs.Code.{Code, role_of}
+use Rattle.flow80.specs.Walks.{Calls}
 use Rattle.flow80.specs.Use.{Use, last, through}
 use Rattle.explain80.specs.declared.chain.Standing.{Standing}
 use Rattle.walks80.specs.declared.point.Point.{Point}

@@ -10,8 +10,8 @@ use Rattle.frames80.specs.Moves.{moves_of}
 use Rattle.frames80.specs.Calls.{agree}
 use Rattle.bounds80.specs.declared.procedure.Procedure.{Procedure}
 use Rattle.bounds80.specs.Chains.{slot_of}
-use Rattle.flow80.specs.Code.{Code}
-use Rattle.flow80.specs.Walks.{Calls, Moving, Returns, called, returning, role_of}
+use Rattle.code80.specs.Code.{Code, role_of}
+use Rattle.flow80.specs.Walks.{Calls, Moving, Returns, called, returning}
 use Rattle.walks80.specs.declared.point.Point.{Point}
 use Rattle.explain80.specs.declared.clashes.Count.{Count}
 use Rattle.explain80.specs.declared.evidence.Clash.{Clash}

@@ -3,7 +3,7 @@ use Rattle.std.proofs.Common.{◌≡◌, ℕ, List, Some, length, slice_get, ref
 use Rattle.std.proofs.lemmas.Option.{slice_get_within}
 use Rattle.frames80.specs.declared.fault.FrameFault.{FrameFault}
 use Rattle.bounds80.specs.declared.procedure.Procedure.TheVariants.{Entry}
-use Rattle.flow80.specs.declared.code.LookFault.{LookFault}
+use Rattle.code80.specs.declared.code.LookFault.{LookFault}
 use Rattle.flow80.specs.declared.refusal.Refusal.{Refusal}
 use Rattle.flow80.specs.declared.refusal.Refusal.TheVariants.{HeightsDiffer, UnevenArguments, ShortArguments}
 use Rattle.flow80.specs.Faults.{Holds, LooksWrong, MovesWrong}
@@ -19,7 +19,7 @@ use Rattle.explain80.specs.declared.sought.Kind.{Kind}
 use Rattle.explain80.specs.declared.sought.Kind.TheVariants.{Fault, Clash}
 use Rattle.explain80.specs.declared.sought.Evidence.{Evidence}
 use Rattle.explain80.specs.declared.sought.Evidence.TheVariants.{One, Two}
-use Rattle.flow80.specs.Code.{Code}
+use Rattle.code80.specs.Code.{Code}
 use Rattle.walks80.specs.declared.search.Search.{Search}
 use Rattle.walks80.specs.Ways.{IsRoute, IsWalked}
 use Rattle.walks80.specs.Search.{Has, IsWhole, point_of}

@@ -2,7 +2,7 @@
 use Rattle.std.proofs.Common.{◌≡◌, ◌≢◌, ◌≤◌, ◌<◌, ℕ, ◌∙◌, sym, ap, arith}
 use Rattle.std.specs.Prelude.{Result, Ok, Err}
 use Rattle.std.specs.Result.{IsErrAnd}
-use Rattle.flow80.specs.Code.{Code}
+use Rattle.code80.specs.Code.{Code}
 use Rattle.walks80.specs.declared.fault.Stop.{Stop}
 use Rattle.walks80.specs.declared.fault.Stop.TheVariants.{Limit}
 use Rattle.walks80.specs.declared.search.Search.{Search}

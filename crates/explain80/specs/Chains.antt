@@ -7,8 +7,8 @@ use Rattle.bounds80.specs.declared.graph.CallSite.{CallSite}
 use Rattle.bounds80.specs.declared.graph.Depth.{Depth}
 use Rattle.bounds80.specs.declared.procedure.Procedure.{Procedure}
 use Rattle.bounds80.specs.declared.procedure.Procedure.TheVariants.{Main, Entry}
-use Rattle.flow80.specs.Code.{Code}
-use Rattle.flow80.specs.Walks.{Calls, Walk, role_of}
+use Rattle.code80.specs.Code.{Code, role_of}
+use Rattle.flow80.specs.Walks.{Calls, Walk}
 use Rattle.flow80.specs.Faults.{Recurs}
 use Rattle.flow80.specs.Use.{IsBound, Use}
 use Rattle.walks80.specs.declared.point.Point.{Point}

@@ -1,6 +1,6 @@
 -- Points of a search that show a refusal, and that none of them does. (This project's own.)
 use Rattle.std.specs.Prelude.{◌≡◌, ◌≢◌, ◌≤◌, ◌⊎◌, ℕ, Bool, true, false, List, Option, None, Some, get_or, length, slice_get}
-use Rattle.flow80.specs.Code.{Code}
+use Rattle.code80.specs.Code.{Code}
 use Rattle.flow80.specs.Walks.{Calls, Returns as ReturnsWith}
 use Rattle.bounds80.specs.Chains.{slot_of}
 use Rattle.walks80.specs.declared.point.Point.{Point}

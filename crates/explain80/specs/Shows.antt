@@ -9,10 +9,10 @@ use Rattle.frames80.specs.Calls.{room, agree}
 use Rattle.bounds80.specs.declared.procedure.Procedure.TheVariants.{Main, Entry}
 use Rattle.flow80.specs.declared.refusal.Refusal.{Refusal}
 use Rattle.flow80.specs.declared.refusal.Refusal.TheVariants.{FetchOutside, UnusedOpcode, EnablesInterrupts, Sphl, Pchl, StackByByte, SetsStack, DirectStore, PopsBelow, ReturnNotOwn, ReturnFromMain, HeightsDiffer, UnevenArguments, ShortArguments, Recursion, StackTooSmall, TooManyPoints, Memory}
-use Rattle.flow80.specs.declared.code.LookFault.{LookFault}
-use Rattle.flow80.specs.declared.code.LookFault.TheVariants.{Outside, Unused, EnablesInterrupts as LooksAtEi, Pchl as LooksAtPchl, DirectStore as LooksAtStore}
-use Rattle.flow80.specs.Code.{Code}
-use Rattle.flow80.specs.Walks.{Calls, Returns, role_of}
+use Rattle.code80.specs.declared.code.LookFault.{LookFault}
+use Rattle.code80.specs.declared.code.LookFault.TheVariants.{Outside, Unused, EnablesInterrupts as LooksAtEi, Pchl as LooksAtPchl, DirectStore as LooksAtStore}
+use Rattle.code80.specs.Code.{Code, role_of}
+use Rattle.flow80.specs.Walks.{Calls, Returns}
 use Rattle.flow80.specs.Faults.{Holds}
 use Rattle.walks80.specs.declared.point.Point.{Point}
 use Rattle.walks80.specs.declared.route.Call.{Call}

@@ -1,6 +1,6 @@
 -- What shows a refusal, and the points that show it. (This project's own.)
 use Rattle.std.specs.Prelude.{◌<◌, ℕ, List}
-use Rattle.flow80.specs.Code.{Code}
+use Rattle.code80.specs.Code.{Code}
 use Rattle.flow80.specs.declared.refusal.Refusal.{Refusal}
 use Rattle.flow80.specs.declared.refusal.Refusal.TheVariants.{Recursion, StackTooSmall, TooManyPoints, Memory}
 use Rattle.flow80.specs.Faults.{Holds}

@@ -4,7 +4,7 @@ ghost use Rattle.std.specs.Prelude.{◌≡◌, ◌↔◌, ◌⊎◌, ◌<◌, �
 ghost use Rattle.bounds80.specs.Chains.{IsModest, bytes_of};
 ghost use Rattle.bounds80.specs.declared.procedure.Procedure.TheVariants.{Main};
 ghost use Rattle.frames80.specs.Calls.{depth_of};
-ghost use Rattle.flow80.specs.Walks.{role_of as role_in};
+ghost use Rattle.code80.specs.Code.{role_of as role_in};
 ghost use Rattle.verify80.specs.Looking.{code_of};
 ghost use Rattle.bounds80.specs.declared.graph.Depth.{Depth as DepthSeen};
 ghost use Rattle.walks80.specs.declared.point.Point.{Point as PointSeen};
@@ -16,12 +16,13 @@ ghost use Rattle.walks80.specs.Search.{IsFound, IsWhole};
 
 use crate::fault::Unexplained;
 use bounds80::{Bounds, BoundsFault, CallSite, Depth, SLOTS, find_bounds, slot, table};
-use flow80::{Code, Procedure};
+use code80::{Code, role_of};
+use flow80::Procedure;
 use frames80::depth;
 use image80::Image;
 use std::alloc::{AllocError, Global};
 use verify80::ImageCode;
-use walks80::{MOST_WORDS, Point, Search, Stop, role_of};
+use walks80::{MOST_WORDS, Point, Search, Stop};
 
 /// The most calls that bounds are found of.
 const MOST_CALLS: usize = 262_144;

@@ -12,9 +12,10 @@ ghost use Rattle.walks80.specs.Search.{Has};
 
 use crate::evidence::{Clash, Pair, find_other, room, target_called, words_taken};
 use bounds80::{SLOTS, slot, table};
-use flow80::{Code, Procedure};
+use code80::{Code, role_of};
+use flow80::Procedure;
 use std::alloc::{AllocError, Global};
-use walks80::{Point, Stop, role_of};
+use walks80::{Point, Stop};
 
 /// What two points of a procedure differ by.
 #[derive(Clone, Copy)]

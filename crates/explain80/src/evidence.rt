@@ -8,10 +8,11 @@ ghost use Rattle.walks80.specs.Counts.{HasDeep, IsDeep};
 ghost use Rattle.explain80.specs.Evidence.{CallsTo, ClashAt, FaultAt, IsOne, IsNoOne};
 ghost use Rattle.explain80.specs.Shows.{DifferAt, ShortAt, UnevenAt};
 
-use flow80::{Code, LookFault, Procedure};
+use code80::{Code, LookFault, role_of};
+use flow80::Procedure;
 use frames80::{Frame, FrameFault, Moves, Role};
 use std::alloc::Global;
-use walks80::{Looked, Point, Stop, look_at, role_of};
+use walks80::{Looked, Point, Stop, look_at};
 
 /// Why an instruction may not be executed.
 #[derive(Clone, Copy)]

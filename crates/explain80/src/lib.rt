@@ -30,7 +30,7 @@ pub use chain::{Chain, Standing, find_chain};
 pub use explaining::explain;
 pub use explanation::Explanation;
 pub use fault::Unexplained;
-pub use flow80::{Code, ProcRow, Procedure, Refusal, Report};
+pub use flow80::{ProcRow, Procedure, Refusal, Report};
 pub use frames80::{Frame, Word};
 pub use laws::{chains_are_uses, what_is_shown_holds};
 pub use verify80::measure;

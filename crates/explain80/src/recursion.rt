@@ -1,7 +1,7 @@
 //! The ring of calls that shows a recursion, in a search.
 
 ghost use Rattle.std.specs.Prelude.{IfNone, IfOk, IfSome, length};
-ghost use Rattle.flow80.specs.Code.{Code as CodeSeen};
+ghost use Rattle.code80.specs.Code.{Code as CodeSeen};
 ghost use Rattle.walks80.specs.Search.{AreOrdered, CallersAreThere, IsFound};
 ghost use Rattle.explain80.specs.Known.{AreKnown, HasNoRing};
 ghost use Rattle.explain80.specs.Shows.{ByRing};

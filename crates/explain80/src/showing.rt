@@ -1,7 +1,7 @@
 //! The explanation that points of a search give.
 
 ghost use Rattle.std.specs.Prelude.{IfOk, length};
-ghost use Rattle.flow80.specs.Code.{Code as CodeSeen};
+ghost use Rattle.code80.specs.Code.{Code as CodeSeen};
 ghost use Rattle.walks80.specs.Search.{AreOrdered, IsFound};
 ghost use Rattle.explain80.specs.Sought.{AreWithin, IsEvidence, ShowsSought};
 ghost use Rattle.explain80.specs.declared.sought.Sought.{Sought};

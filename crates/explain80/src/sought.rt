@@ -8,7 +8,8 @@ ghost use Rattle.explain80.specs.Sought.{IsEvidence, IsNoEvidence, IsSoughtFor, 
 
 use crate::clashes::find_clash;
 use crate::evidence::{Clash, Fault, Pair, find_fault};
-use flow80::{Code, LookFault, Refusal};
+use code80::{Code, LookFault};
+use flow80::Refusal;
 use frames80::FrameFault;
 use std::alloc::Global;
 use walks80::{Point, Stop};

@@ -11,8 +11,7 @@ use Rattle.machine80.specs.Effects.{target}
 use Rattle.machine80.specs.Step.{Machine, Turn, Next, Stop, fetch, step_of}
 use Rattle.machine80.specs.World.{World, world_at, turn_at, next_world, following, world_after, places_then, refuses, returns, fetched_by, FetchesInside}
 use Rattle.machine80.specs.Run.{world_of}
-use Rattle.flow80.specs.Code.{Code}
-use Rattle.flow80.specs.Walks.{role_of}
+use Rattle.code80.specs.Code.{Code, role_of}
 use Rattle.verify80.specs.Looking.{code_of, declared_targets}
 use Rattle.soundness80.specs.Starts.{IsStart, IsWorldFrom, NeverGoesWrongFromPowerOn}
 use Rattle.soundness80.specs.Reached.{IsReached, StandsOnWalk, IsBehindCall, StaysOnWalks}

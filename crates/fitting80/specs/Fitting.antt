@@ -5,7 +5,7 @@ use Rattle.std.specs.Prelude.{◌≡◌, ◌<◌, ℕ, true, Bool, List, Contain
 use Rattle.decode80.specs.declared.fetching.Fetched.{Fetched}
 use Rattle.frames80.specs.Effects.{effect_of}
 use Rattle.bounds80.specs.declared.procedure.Procedure.TheVariants.{Entry}
-use Rattle.flow80.specs.Code.{Code}
+use Rattle.code80.specs.Code.{Code}
 use Rattle.flow80.specs.Rows.{ReturnsWith}
 use Rattle.soundness80.specs.Reached.{IsReached}
 use Rattle.spans80.specs.declared.pairs.Pairs.{Pairs}

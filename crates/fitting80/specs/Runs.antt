@@ -3,7 +3,7 @@ use Rattle.std.specs.Prelude.{◌≡◌, ◌<◌, ℕ, List, Option, None, Some,
 use Rattle.image80.specs.Image.{Located}
 use Rattle.machine80.specs.Step.{Machine}
 use Rattle.machine80.specs.World.{World}
-use Rattle.flow80.specs.Code.{Code}
+use Rattle.code80.specs.Code.{Code}
 use Rattle.verify80.specs.Looking.{code_of}
 use Rattle.soundness80.specs.Starts.{IsStart, IsWorldFrom, NeverGoesWrongFromPowerOn}
 use Rattle.soundness80.specs.Reached.{StaysOnWalks}

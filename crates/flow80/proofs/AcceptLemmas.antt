@@ -7,11 +7,11 @@ use Rattle.frames80.specs.Calls.{returned, depth_of}
 use Rattle.bounds80.specs.declared.procedure.Procedure.{Procedure}
 use Rattle.bounds80.specs.declared.procedure.Procedure.TheVariants.{Main, Entry}
 use Rattle.flow80.specs.declared.report.ProcRow.{ProcRow}
-use Rattle.flow80.specs.declared.code.LookFault.TheVariants.{Outside, Unused, EnablesInterrupts as LooksAtEi, Pchl as LooksAtPchl, DirectStore as LooksAtStore}
+use Rattle.code80.specs.declared.code.LookFault.TheVariants.{Outside, Unused, EnablesInterrupts as LooksAtEi, Pchl as LooksAtPchl, DirectStore as LooksAtStore}
 use Rattle.flow80.specs.declared.refusal.Refusal.{Refusal}
 use Rattle.flow80.specs.declared.refusal.Refusal.TheVariants.{FetchOutside, UnusedOpcode, EnablesInterrupts, Sphl, Pchl, StackByByte, SetsStack, DirectStore, PopsBelow, ReturnNotOwn, ReturnFromMain, HeightsDiffer, UnevenArguments, ShortArguments, Recursion, StackTooSmall, TooManyPoints, Memory}
-use Rattle.flow80.specs.Code.{Code}
-use Rattle.flow80.specs.Walks.{Walk, begins, goes_on, enters, comes_back, Calls, role_of}
+use Rattle.code80.specs.Code.{Code, role_of}
+use Rattle.flow80.specs.Walks.{Walk, begins, goes_on, enters, comes_back, Calls}
 use Rattle.flow80.specs.Use.{last, through, IsBound}
 use Rattle.flow80.specs.Faults.{HoldsAnyway, Many, most_points}
 use Rattle.flow80.specs.Fitting.{FrameFits, Fits}

@@ -8,8 +8,8 @@ use Rattle.bounds80.specs.declared.procedure.Procedure.{Procedure}
 use Rattle.bounds80.specs.declared.procedure.Procedure.TheVariants.{Main, Entry}
 use Rattle.bounds80.specs.declared.graph.Depth.{Depth}
 use Rattle.bounds80.specs.declared.graph.CallSite.{CallSite}
-use Rattle.flow80.specs.Code.{Code}
-use Rattle.flow80.specs.Walks.{Walk, begins, goes_on, enters, comes_back, Calls, role_of}
+use Rattle.code80.specs.Code.{Code, role_of}
+use Rattle.flow80.specs.Walks.{Walk, begins, goes_on, enters, comes_back, Calls}
 use Rattle.flow80.specs.Use.{Use, last as use_last, through as use_through, EndsChain, Chains}
 use Rattle.flow80.specs.Faults.{CallsFrom, Leads, here as leads_here, further as leads_further, Recurs}
 use Rattle.bounds80.specs.Chains.{bytes_of, HasLast, CallsBy, Chain, last, through, Reaches, here, further, Cycles, AreEntered, AreGreatest}

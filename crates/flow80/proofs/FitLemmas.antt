@@ -12,9 +12,9 @@ use Rattle.frames80.specs.Places.{SameCounts, Covers}
 use Rattle.bounds80.specs.declared.procedure.Procedure.{Procedure}
 use Rattle.bounds80.specs.declared.procedure.Procedure.TheVariants.{Main, Entry}
 use Rattle.interned80.specs.Admitted.{move_of}
-use Rattle.flow80.specs.declared.code.LookFault.{LookFault}
-use Rattle.flow80.specs.Code.{Code}
-use Rattle.flow80.specs.Walks.{Walk, begins, goes_on, enters, comes_back, Calls, Returns, Moving, LeadsTo, called, returning, role_of}
+use Rattle.code80.specs.declared.code.LookFault.{LookFault}
+use Rattle.code80.specs.Code.{Code, role_of}
+use Rattle.flow80.specs.Walks.{Walk, begins, goes_on, enters, comes_back, Calls, Returns, Moving, LeadsTo, called, returning}
 use Rattle.flow80.specs.Faults.{LooksWrong, MovesWrong, Differ, Uneven, Short}
 use Rattle.flow80.specs.Fitting.{Table, Has, Closes, CallFits, Fits}
 use Rattle.flow80.specs.Shown.{FrameLaws}

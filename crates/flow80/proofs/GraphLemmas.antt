@@ -14,8 +14,8 @@ use Rattle.bounds80.specs.declared.procedure.Procedure.{Procedure}
 use Rattle.bounds80.specs.declared.graph.Depth.{Depth}
 use Rattle.bounds80.specs.declared.graph.CallSite.{CallSite}
 use Rattle.interned80.specs.Admitted.{move_of}
-use Rattle.flow80.specs.Code.{Code}
-use Rattle.flow80.specs.Walks.{Walk, Calls, called, role_of}
+use Rattle.code80.specs.Code.{Code, role_of}
+use Rattle.flow80.specs.Walks.{Walk, Calls, called}
 use Rattle.flow80.specs.Points.{Point}
 use Rattle.bounds80.specs.Chains.{IsModest}
 use Rattle.flow80.specs.Graph.{HasDepth, HasCall, IsGraph}

@@ -10,7 +10,7 @@ use Rattle.frames80.specs.Calls.{words_met, merged, agree}
 use Rattle.frames80.specs.Places.{word_at, SameCounts, Covers}
 use Rattle.bounds80.specs.declared.procedure.Procedure.{Procedure}
 use Rattle.bounds80.specs.declared.procedure.Procedure.TheVariants.{Entry}
-use Rattle.flow80.specs.Code.{Code}
+use Rattle.code80.specs.Code.{Code}
 use Rattle.flow80.specs.declared.refusal.Refusal.TheVariants.{HeightsDiffer, TooManyPoints}
 use Rattle.flow80.specs.Faults.{most_points, Many, Differ}
 use Rattle.flow80.specs.Rows.{ReturnsWith}
@@ -306,7 +306,7 @@ flows_added known p to g k covers same small room fits none = record {
   more = let e = length_grown known.points (record { procedure = p; at = to; frame = k }) in omega arith;
   stands = λ exact code stands shown. stands_added exact code known (record { procedure = p; at = to; frame = k }) stands (shown_kept exact code p to g k known.forgets stands.mode covers same shown);
   goes = record { same = λ e. absurd (true≢false e); less = λ _. goes_added known (record { procedure = p; at = to; frame = k }) room within };
-  has = λ e. absurd (true≢false e);
+  there = λ e. absurd (true≢false e);
 }
   where
     within : IsWithin (length known.points + 1) k
@@ -318,7 +318,7 @@ flows_too_many known new p to g small full none = record {
   small = tt;
   more = tt;
   goes = tt;
-  has = tt;
+  there = tt;
   stands = λ exact code stands shown. many exact code known (record { procedure = p; at = to; frame = g }) stands small (let few = small.points in omega arith) shown none;
 }
 
@@ -336,7 +336,7 @@ flows_same laws known p to i g at small same unchanged = record {
   more = omega arith;
   stands = λ exact code stands shown. stands;
   goes = record { same = λ _. refl; less = λ e. absurd (true≢false (sym e)) };
-  has = λ _. record {
+  there = λ _. record {
     number = i;
     point = at.point;
     there = at.stands;
@@ -362,7 +362,7 @@ flows_replaced laws known p to i g at small same changed = record {
       (shown_merged laws exact code at.point.procedure at.point.at at.point.frame g (stands.points i at.point at.stands)
       (shown_there exact code at.point p to g at.in_procedure at.at_address shown) same);
   goes = record { same = λ e. absurd (true≢false e); less = λ _. goes_replaced known i (merged at.point.frame g) at.point at.stands (owns_met at.point.frame g (counts_agree at.point.frame g same) changed) };
-  has = λ e. absurd (true≢false e);
+  there = λ e. absurd (true≢false e);
 }
 
 pub flows_differ : (known new : Known) (p : Procedure) (to i : ℕ) (g : StackFrame) → (at : IsPointAt known.points p to i) →
@@ -371,7 +371,7 @@ flows_differ known new p to i g at apart = record {
   small = tt;
   more = tt;
   goes = tt;
-  has = tt;
+  there = tt;
   stands = λ exact code stands shown.
       subst (λ a. Differ code a) at.at_address
       (differ exact code at.point.procedure at.point.at at.point.frame g (stands.points i at.point at.stands) (shown_there exact code at.point p to g at.in_procedure at.at_address shown) apart);

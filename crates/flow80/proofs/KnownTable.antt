@@ -13,12 +13,12 @@ use Rattle.frames80.specs.Calls.{returned}
 use Rattle.bounds80.specs.declared.procedure.Procedure.{Procedure}
 use Rattle.bounds80.specs.declared.procedure.Procedure.TheVariants.{Main, Entry}
 use Rattle.interned80.specs.Admitted.{move_of}
-use Rattle.flow80.specs.Code.{Code}
-use Rattle.flow80.specs.Walks.{Moving, returning, role_of}
-use Rattle.flow80.specs.Points.{Point, AreApart, is_at, same_procedure}
+use Rattle.code80.specs.Code.{Code, role_of}
+use Rattle.flow80.specs.Walks.{Moving, returning}
+use Rattle.code80.specs.PointNumbers.{same_procedure, same_is, is_same}
+use Rattle.flow80.specs.Points.{Point, AreApart, is_at}
 use Rattle.flow80.specs.Fitting.{Table, Has, FrameCloses, Closes}
 use Rattle.flow80.proofs.MoveLemmas.{fault_of, moved_is}
-use Rattle.flow80.proofs.NumberLemmas.{same_is, is_same}
 use Rattle.flow80.specs.Known.{Known, HasPoint, Follows, AllClosed, takes_of}
 
 -- the frame of the first point of that address of that procedure

@@ -6,10 +6,9 @@ pub mod Slices
 pub mod KnownLemmas
 pub mod StepLemmas
 pub mod PointLemmas
-pub mod NumberLemmas
 pub mod CycleLemmas
 pub mod VisitLemmas
-pub mod LookLemmas
+pub mod ManyVisits
 pub mod KnownTable
 pub mod SurveyLemmas
 pub mod PigeonLemmas

@@ -5,7 +5,7 @@ use Rattle.std.proofs.lemmas.Int.{ints}
 use Rattle.flow80.specs.declared.report.ProcRow.{ProcRow}
 use Rattle.flow80.specs.declared.refusal.Refusal.{Refusal}
 use Rattle.flow80.specs.declared.refusal.Refusal.TheVariants.{HeightsDiffer, Recursion, StackTooSmall, Memory}
-use Rattle.flow80.specs.Code.{Code}
+use Rattle.code80.specs.Code.{Code}
 use Rattle.flow80.specs.Faults.{Holds, Overruns}
 use Rattle.flow80.specs.Accepted.{IsMeasured, IsAccepted}
 

@@ -11,9 +11,8 @@ use Rattle.flow80.specs.declared.points.StoredPoint.{StoredPoint}
 use Rattle.interned80.specs.Frames.{frame_at, IsFrame, StayNumbered}
 use Rattle.flow80.proofs.FrameLemmas.{stays_there, stays_at}
 use Rattle.flow80.specs.Points.{Point, with_frame, AreApart, AreAddresses, IsPointAt, IsNoPoint, Reframes}
-use Rattle.flow80.specs.declared.numbers.Numbers.{Numbers}
-use Rattle.flow80.specs.Numbers.{procedure_number, number_at, same_place, SameNumbers, Puts}
-use Rattle.flow80.proofs.NumberLemmas.{number_below}
+use Rattle.code80.specs.declared.point_numbers.PointNumbers.{PointNumbers}
+use Rattle.code80.specs.PointNumbers.{procedure_number, number_at, same_place, SameNumbers, Puts, NumbersAreOfAddresses}
 use Rattle.flow80.specs.PointStore.{point_of, points_of, IsStoredAt, AreStored}
 
 module _ {X : Type 0} where
@@ -84,7 +83,7 @@ module _ (old new : List StackFrame) (s : StayNumbered old new) where
       let rest = points_of-stays stored (λ i q e. framed (suc i) q e) in
       λ j. here j ∷ rest j
 
-  pub AreStored-stays : (stored : List StoredPoint) (numbers : Numbers) → AreStored old stored numbers → AreStored new stored numbers
+  pub AreStored-stays : (stored : List StoredPoint) (numbers : PointNumbers) → AreStored old stored numbers → AreStored new stored numbers
   AreStored-stays stored numbers h = record {
     framed = λ i point e. stays_there old new s point.frame (h.framed i point e);
     numbered = h.numbered;
@@ -100,8 +99,8 @@ stored_at frames [] i point e = absurd (none-some point e)
 stored_at frames (q ∷ stored) zero point e = (q, refl, same_Some (point_of frames q) point e)
 stored_at frames (q ∷ stored) (suc i) point e = stored_at frames stored i point e
 
-module _ (frames : List StackFrame) (stored : List StoredPoint) (numbers : Numbers) (h : AreStored frames stored numbers) where
-  pub AreStored-same : (after : Numbers) → SameNumbers numbers after → AreStored frames stored after
+module _ (frames : List StackFrame) (stored : List StoredPoint) (numbers : PointNumbers) (h : AreStored frames stored numbers) where
+  pub AreStored-same : (after : PointNumbers) → SameNumbers numbers after → AreStored frames stored after
   AreStored-same after s = record {
     framed = h.framed;
     numbered = λ i point e. s.same point.procedure point.at ∙ h.numbered i point e;
@@ -120,8 +119,8 @@ module _ (frames : List StackFrame) (stored : List StoredPoint) (numbers : Numbe
         same_Some i j (sym (number_of i a ea) ∙ ap (λ p. number_at numbers p a.at) ep ∙ ap (λ t. number_at numbers b.procedure t) et ∙ number_of j b eb);
   }
 
-  pub AreAddresses-stored : AreAddresses (points_of frames stored)
-  AreAddresses-stored = record { within = λ i point there. number_below numbers point.procedure point.at i (number_of i point there) }
+  pub AreAddresses-stored : NumbersAreOfAddresses → AreAddresses (points_of frames stored)
+  AreAddresses-stored below = record { within = λ i point there. below numbers point.procedure point.at i (number_of i point there) }
 
   pub IsPointAt-number : (procedure : Procedure) (at i : ℕ) → number_at numbers procedure at ≡ Some i → IsPointAt (points_of frames stored) procedure at i
   IsPointAt-number procedure at i e =
@@ -134,7 +133,7 @@ module _ (frames : List StackFrame) (stored : List StoredPoint) (numbers : Numbe
         none-some i (sym e ∙ sym (ap (λ p. number_at numbers p point.at) ep ∙ ap (λ t. number_at numbers procedure t) et) ∙ number_of i point there);
   }
 
-  module _ (after : Numbers) (point : StoredPoint) (framed : point.frame < length frames) (puts : Puts numbers after point.procedure point.at (length stored))
+  module _ (after : PointNumbers) (point : StoredPoint) (framed : point.frame < length frames) (puts : Puts numbers after point.procedure point.at (length stored))
       (new : IsNoPoint (points_of frames stored) point.procedure point.at) where
     pub AreStored-added : AreStored frames (stored ++ point ∷ []) after
     AreStored-added = record { framed = within; numbered = own; stands = found }
@@ -226,7 +225,7 @@ module _ (frames : List StackFrame) (stored : List StoredPoint) (next : StoredPo
   }
 
 -- the frame of a point that is stored has the number that is stored
-pub framed_at : (frames : List StackFrame) (stored : List StoredPoint) (numbers : Numbers) → AreStored frames stored numbers → (i : ℕ) (q : StoredPoint) → slice_get stored i ≡ Some q →
+pub framed_at : (frames : List StackFrame) (stored : List StoredPoint) (numbers : PointNumbers) → AreStored frames stored numbers → (i : ℕ) (q : StoredPoint) → slice_get stored i ≡ Some q →
     IfSome (slice_get (points_of frames stored) i) (λ (p : Point). IsFrame frames q.frame p.frame)
 framed_at frames stored numbers h i q there =
     subst (λ (o : Option Point). IfSome o (λ (p : Point). IsFrame frames q.frame p.frame)) (sym (point_at frames stored i q there))

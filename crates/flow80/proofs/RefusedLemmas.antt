@@ -3,7 +3,7 @@ use Rattle.std.specs.Prelude.{◌≡◌, Bool, true, false, refl, Result, Ok, Er
 use Rattle.std.proofs.Common.{ap, sym, subst, ◌∙◌, true≢false}
 use Rattle.flow80.specs.declared.refusal.Refusal.{Refusal}
 use Rattle.flow80.specs.declared.refusal.Refusal.TheVariants.{FetchOutside, UnusedOpcode, EnablesInterrupts, Sphl, Pchl, StackByByte, SetsStack, DirectStore, PopsBelow, ReturnFromMain, HeightsDiffer, UnevenArguments, ShortArguments, Recursion, StackTooSmall, ReturnNotOwn, TooManyPoints, Memory}
-use Rattle.flow80.specs.Code.{Code}
+use Rattle.code80.specs.Code.{Code}
 use Rattle.flow80.specs.Refusal.{rests_on_a_word}
 use Rattle.flow80.specs.Faults.{HoldsAnyway}
 use Rattle.flow80.specs.Known.{Known, Refused, is_exact, nothing_known}

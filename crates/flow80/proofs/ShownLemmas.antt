@@ -20,9 +20,9 @@ use Rattle.frames80.specs.Places.{Place, word_at, Source, From, Unknown, sourced
 use Rattle.bounds80.specs.declared.procedure.Procedure.{Procedure}
 use Rattle.bounds80.specs.declared.procedure.Procedure.TheVariants.{Main, Entry}
 use Rattle.interned80.specs.Admitted.{move_of}
-use Rattle.flow80.specs.declared.code.LookFault.{LookFault}
-use Rattle.flow80.specs.Code.{Code}
-use Rattle.flow80.specs.Walks.{Walk, begins, goes_on, enters, comes_back, Calls, Moving, LeadsTo, called, returning, role_of}
+use Rattle.code80.specs.declared.code.LookFault.{LookFault}
+use Rattle.code80.specs.Code.{Code, role_of}
+use Rattle.flow80.specs.Walks.{Walk, begins, goes_on, enters, comes_back, Calls, Moving, LeadsTo, called, returning}
 use Rattle.flow80.specs.Faults.{LooksWrong, MovesWrong, Differ, Uneven, Short}
 use Rattle.flow80.specs.Rows.{ReturnsWith}
 use Rattle.flow80.specs.Shown.{Query, Whole, At, Asks, MayBeAny, Shows, IsShown, AtMove, FrameLaws}

@@ -20,15 +20,15 @@ use Rattle.flow80.specs.declared.report.ProcRow.{ProcRow}
 use Rattle.flow80.specs.declared.refusal.Refusal.{Refusal}
 use Rattle.flow80.specs.declared.refusal.Refusal.TheVariants.{ShortArguments}
 use Rattle.flow80.specs.declared.site.Site.{Site}
-use Rattle.flow80.specs.Code.{Code}
-use Rattle.flow80.specs.Walks.{Walk, Moving, Calls, called, role_of}
+use Rattle.code80.specs.Code.{Code, role_of}
+use Rattle.flow80.specs.Walks.{Walk, Moving, Calls, called}
 use Rattle.flow80.specs.Points.{Point, IsPointAt, IsNoPoint}
 use Rattle.bounds80.specs.Chains.{slot_of, bytes_of}
 use Rattle.flow80.specs.Shown.{Whole, FrameLaws}
 use Rattle.flow80.specs.Known.{Known, Refused, Stands, IsShort}
 use Rattle.flow80.specs.Survey.{IsSeen, IsCallOf, noted, IsMoveAt, IsEntered, TakesAt, AreWants, AreMarked, depth_at, call_at, IsDepthAt, IsCallAt, IsSurvey, row_of, IsRowIn, AreListed}
 use Rattle.flow80.proofs.FitLemmas.{found_same}
-use Rattle.flow80.proofs.LookLemmas.{split}
+use Rattle.flow80.proofs.ManyVisits.{split}
 use Rattle.flow80.proofs.ShownLemmas.{asks_whole, short}
 
 -- one number more below a count

@@ -15,20 +15,21 @@ use Rattle.frames80.specs.Moves.{moves_of}
 use Rattle.frames80.specs.Calls.{returned}
 use Rattle.bounds80.specs.declared.procedure.Procedure.{Procedure}
 use Rattle.interned80.specs.Admitted.{move_of}
-use Rattle.interned80.specs.Frames.{frame_at}
-use Rattle.flow80.specs.declared.code.LookFault.{LookFault}
-use Rattle.flow80.specs.declared.code.LookFault.TheVariants.{Outside, Unused, EnablesInterrupts, Pchl, DirectStore}
+use Rattle.interned80.specs.Frames.{frame_at, StayNumbered}
+use Rattle.code80.specs.declared.code.LookFault.{LookFault}
+use Rattle.code80.specs.declared.code.LookFault.TheVariants.{Outside, Unused, EnablesInterrupts, Pchl, DirectStore}
 use Rattle.flow80.specs.declared.refusal.Refusal.{Refusal}
 use Rattle.flow80.specs.Refusal.{refusal_of, look_refusal}
-use Rattle.flow80.specs.Code.{Code}
-use Rattle.flow80.specs.Walks.{role_of}
+use Rattle.code80.specs.Code.{Code, role_of}
 use Rattle.flow80.specs.Faults.{LooksWrong}
 use Rattle.flow80.specs.Points.{Point}
 use Rattle.flow80.specs.declared.site.Site.{Site}
 use Rattle.flow80.specs.Survey.{IsMoveAt, EffectIsAt}
 use Rattle.flow80.specs.Shown.{Asks, IsShown, FrameLaws}
-use Rattle.flow80.specs.Known.{Known, Refused, KnownFrames, IsWithin, Stands, Goes, Carries, Steps, Follows, IsClosed, Visits}
+use Rattle.flow80.specs.Known.{Known, Refused, KnownFrames, IsWithin, IsSmall, CanLead, Stands, Carries, IsMoving, Steps, Follows, IsClosed, Visits}
+use Rattle.flow80.proofs.FrameLemmas.{stays_there, stays_at}
 use Rattle.flow80.proofs.MoveLemmas.{moved_is, query_of}
+use Rattle.flow80.proofs.StepLemmas.{advances_as}
 use Rattle.flow80.proofs.ShownLemmas.{looks_wrong, moves_wrong, moves_wrong_by_counts}
 
 pub some_at : {A : Type 0} (xs : List A) (i : ℕ) → i < length xs → (x : A) × (slice_get xs i ≡ Some x)
@@ -118,19 +119,27 @@ carries_by (Refuse fault) f = tt
 visits_follow : (code : Code) (known new : Known) (i : ℕ) (p : Procedure) (at : ℕ) (targets : List ℕ) (next : ℕ) (role : Role) (f : StackFrame) (found : Fetched) (moves : Moves) (result : Result Bool Refusal) →
     AtPoint code known i p at f → code.look at ≡ Ok found → targets ≡ code.targets at → found.next ≡ next → role ≡ role_of code p → moves_of role (effect_of found.instr) f ≡ Ok moves →
     Steps known new p at targets next role moves result → Visits code known new i result
-visits_follow code known new i p at targets next role f found moves result here looked same_targets same_next same_role moved steps = record {
-  small = steps.small;
-  more = steps.more;
-  stands = λ exact stands. steps.stands exact code f found stands (record { shown = shown_at exact code known i p at f here stands; looked = looked; moved = moved_here }) carries same_targets same_next same_role;
-  goes = steps.goes;
-  closed = by result steps.goes steps.follows;
-}
+visits_follow code known new i p at targets next role f found moves result here looked same_targets same_next same_role moved steps =
+    advances_as steps
+    (λ exact seen stands same. subst (λ (c : Code). Stands exact c known → IsMoving p at targets next role moves exact c) (sym same) (is_moving exact) stands)
+    (λ same follows. close (follows f carries) same)
   where
     moved_here : moves_of (role_of code p) (effect_of found.instr) f ≡ Ok moves
     moved_here = subst (λ (r : Role). moves_of r (effect_of found.instr) f ≡ Ok moves) same_role moved
 
     carries : Carries moves f
     carries = subst (λ (m : Moves). Carries m f) (sym (moved_is role (effect_of found.instr) f moves moved).move) (carries_by (effect_of found.instr) f)
+
+    is_moving : (exact : Bool) → Stands exact code known → IsMoving p at targets next role moves exact code
+    is_moving exact stands = record {
+      frame = f;
+      found = found;
+      move = record { shown = shown_at exact code known i p at f here stands; looked = looked; moved = moved_here };
+      carries = carries;
+      targets_are = same_targets;
+      after = same_next;
+      role_is = same_role;
+    }
 
     close : Follows new p targets f next moves → new ≡ known → (point : Point) → slice_get new.points i ≡ Some point → IsClosed code new point
     close follows same point there =
@@ -152,11 +161,6 @@ visits_follow code known new i p at targets next role f found moves result here 
               (subst (λ n. Follows new p (code.targets at) f n moves) (sym same_next) (subst (λ (t : List ℕ). Follows new p t f next moves) same_targets follows))));
         }
 
-    by : (r : Result Bool Refusal) → IfOk r (λ flag. Goes known new flag) → IfOk r (λ flag. flag ≡ false → (g : StackFrame) → Carries moves g → Follows new p targets g next moves) →
-        IfOk r (λ flag. flag ≡ false → (point : Point) → slice_get new.points i ≡ Some point → IsClosed code new point)
-    by (Ok flag) goes follows = λ same. close (follows same f carries) (goes.same same)
-    by (Err refusal) goes follows = tt
-
 -- the effect at a point, with the number of its frame
 pub effect_at_point : (code : Code) (table : KnownFrames) (i : ℕ) (p : Procedure) (at : ℕ) (found : Fetched) (role : Role) (effect : Effect) (frame : ℕ) →
     AtPoint code table.known i p at (frame_at table.frames frame) → code.look at ≡ Ok found → role ≡ role_of code p →
@@ -176,12 +180,22 @@ visits_moves code known new i site targets moves result m same_targets steps =
     (subst (λ n. code.look n ≡ Ok m.found) (sym m.address) m.moving.looked) same_targets (sym m.next) (m.role ∙ ap (role_of code) (sym m.procedure))
     (subst (λ (r : Role). moves_of r (effect_of m.found.instr) m.point.frame ≡ Ok moves) (sym m.role) m.moving.moved) steps
 
--- a frame that is within so many points is within more
-pub more_within : (n m : ℕ) (f : StackFrame) → n ≤ m → IsWithin n f → IsWithin (m + 1) f
-more_within n m f more is = record { taken = let t = is.taken in omega arith; words = let w = is.words in omega arith }
+-- a frame that can lead on can do so after a step, which leaves it its number, and within one word more
+pub can_still_lead : (before after : KnownFrames) (frame : ℕ) → IsSmall after.known → length before.known.points ≤ length after.known.points → StayNumbered before.frames after.frames →
+    CanLead before frame (length before.known.points) → CanLead after frame (length after.known.points)
+can_still_lead before after frame small more stays can = record {
+  small = small;
+  there = stays_there before.frames after.frames stays frame can.there;
+  fits = rw (stays_at before.frames after.frames stays frame can.there)
+      (record { taken = let t = can.fits.taken in omega arith; words = let w = can.fits.words in omega arith });
+}
 
-pub within_more : (n m : ℕ) (f : StackFrame) → n ≤ m → IsWithin n f → IsWithin m f
-within_more n m f more is = record { taken = let t = is.taken in omega arith; words = let w = is.words in omega arith }
+pub can_lead_more : (table : KnownFrames) (frame most : ℕ) → CanLead table frame most → CanLead table frame (most + 1)
+can_lead_more table frame most can = record {
+  small = can.small;
+  there = can.there;
+  fits = record { taken = let t = can.fits.taken in omega arith; words = let w = can.fits.words in omega arith };
+}
 
 -- what a callee leaves is no more than there was
 pub returned_within : (n m taken : ℕ) (f : StackFrame) → n ≤ m → IsWithin n f → IsWithin (m + 1) (returned taken f)

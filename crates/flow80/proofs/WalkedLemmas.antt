@@ -11,10 +11,11 @@ use Rattle.bounds80.specs.declared.procedure.Procedure.{Procedure}
 use Rattle.bounds80.specs.declared.procedure.Procedure.TheVariants.{Main, Entry}
 use Rattle.flow80.specs.declared.walks.WalkedPoint.{WalkedPoint}
 use Rattle.flow80.specs.declared.walks.Walks.{Walks}
-use Rattle.flow80.specs.Code.{Code}
+use Rattle.code80.specs.Code.{Code, role_of}
 use Rattle.flow80.specs.Faults.{Differ}
-use Rattle.flow80.specs.Walks.{Walk, begins, goes_on, enters, comes_back, LeadsTo, Calls, Returns, called, returning, role_of}
-use Rattle.flow80.specs.Walked.{AreWalked, IsCallee, IsMovingFrom, IsWalked, change_of}
+use Rattle.flow80.specs.Walks.{Walk, begins, goes_on, enters, comes_back, LeadsTo, Calls, Returns, called, returning}
+use Rattle.frames80.specs.Effects.{change_of}
+use Rattle.flow80.specs.Walked.{AreWalked, IsCallee, IsMovingFrom, IsWalked}
 use Rattle.flow80.proofs.FrameLemmas.{stays_there, stays_at}
 use Rattle.flow80.proofs.PointLemmas.{slice_get-push}
 

@@ -4,7 +4,7 @@ use Rattle.bounds80.specs.declared.procedure.Procedure.TheVariants.{Main}
 use Rattle.flow80.specs.declared.refusal.Refusal.{Refusal}
 use Rattle.flow80.specs.declared.refusal.Refusal.TheVariants.{Memory}
 use Rattle.flow80.specs.declared.report.ProcRow.{ProcRow}
-use Rattle.flow80.specs.Code.{Code}
+use Rattle.code80.specs.Code.{Code}
 use Rattle.flow80.specs.Use.{IsBound}
 use Rattle.flow80.specs.Faults.{Holds, HoldsAnyway}
 use Rattle.flow80.specs.Fitting.{IsFitted}

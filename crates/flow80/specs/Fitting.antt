@@ -9,8 +9,8 @@ use Rattle.frames80.specs.Calls.{room, returned, depth_of}
 use Rattle.frames80.specs.Places.{Covers}
 use Rattle.bounds80.specs.declared.procedure.Procedure.{Procedure}
 use Rattle.bounds80.specs.declared.procedure.Procedure.TheVariants.{Main, Entry}
-use Rattle.flow80.specs.Code.{Code}
-use Rattle.flow80.specs.Walks.{Moving, LeadsTo, called, returning, role_of}
+use Rattle.code80.specs.Code.{Code, role_of}
+use Rattle.flow80.specs.Walks.{Moving, LeadsTo, called, returning}
 
 -- frames by procedure and address, and for each procedure how many words it takes where it returns, how many it wants, and
 -- how many bytes of stack it needs below its return address

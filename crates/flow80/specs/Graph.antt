@@ -5,8 +5,8 @@ use Rattle.frames80.specs.Calls.{depth_of}
 use Rattle.bounds80.specs.declared.procedure.Procedure.{Procedure}
 use Rattle.bounds80.specs.declared.graph.Depth.{Depth}
 use Rattle.bounds80.specs.declared.graph.CallSite.{CallSite}
-use Rattle.flow80.specs.Code.{Code}
-use Rattle.flow80.specs.Walks.{Walk, Calls, role_of}
+use Rattle.code80.specs.Code.{Code, role_of}
+use Rattle.flow80.specs.Walks.{Walk, Calls}
 use Rattle.flow80.specs.Use.{IsBound}
 use Rattle.flow80.specs.Faults.{Recurs}
 use Rattle.bounds80.specs.Chains.{bytes_of}

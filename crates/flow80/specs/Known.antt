@@ -1,6 +1,6 @@
 -- What the verifier knows while it goes over the points: the points with their frames, and for each entry how many words
 -- its procedure takes where it returns, once a return was seen. (This project's own.)
-use Rattle.std.specs.Prelude.{◌≡◌, ◌⊎◌, ◌≤◌, ◌<◌, ◌+◌, ◌*◌, ◌-◌, ℕ, Bool, true, false, List, [], Contains, length, sum_by, count_by, Option, Some, None, slice_get, slice_index_or, is_none, replicate, Result, OnOk, IfOk, IfErr, MatchResult}
+use Rattle.std.specs.Prelude.{◌≡◌, ◌⊎◌, ◌≤◌, ◌<◌, ◌+◌, ◌*◌, ◌-◌, ℕ, Bool, true, false, List, [], Contains, length, sum_by, count_by, Option, Some, None, slice_get, slice_index_or, is_none, replicate, Result, Ok, OnOk, IfOk, MatchResult}
 use Rattle.decode80.specs.declared.fetching.Fetched.{Fetched}
 use Rattle.frames80.specs.declared.word.Word.{Word}
 use Rattle.frames80.specs.declared.word.Word.TheVariants.{Own, Any}
@@ -13,8 +13,8 @@ use Rattle.frames80.specs.Places.{Covers}
 use Rattle.interned80.specs.Frames.{frame_at}
 use Rattle.bounds80.specs.declared.procedure.Procedure.{Procedure}
 use Rattle.bounds80.specs.declared.procedure.Procedure.TheVariants.{Main, Entry}
-use Rattle.flow80.specs.Code.{Code}
-use Rattle.flow80.specs.Walks.{Moving, LeadsTo, called, returning, role_of}
+use Rattle.code80.specs.Code.{Code, role_of}
+use Rattle.flow80.specs.Walks.{Moving, LeadsTo, called, returning}
 use Rattle.flow80.specs.declared.refusal.Refusal.{Refusal}
 use Rattle.flow80.specs.declared.refusal.Refusal.TheVariants.{ReturnNotOwn, ShortArguments, Memory}
 use Rattle.flow80.specs.Faults.{most_points, HoldsAnyway}
@@ -123,15 +123,19 @@ pub record Follows (known : Known) (p : Procedure) (targets : List ℕ) (f : Sta
       HasPoint known p next (returned taken f)
   pub return : (entry taken : ℕ) → p ≡ Entry entry → returning moves ≡ Some taken → exit_of known.exits entry ≡ Some taken
 
--- what comes of a frame that leads to a point: the table stays small and shown, it changes nothing or is nearer to its end,
--- and if it changes nothing the frame was covered; or a refusal holds
-pub record Flows (old new : Known) (p : Procedure) (to : ℕ) (g : StackFrame) (result : Result Bool Refusal) : Type 0 where
+-- what comes of a step of the table, if what leads to it is shown: the table stays small and shown, it changes nothing or is nearer to
+-- its end, and if it changes nothing this is in it; or a refusal holds
+pub record Advances (Shown : Bool → Code → Type 0) (There : Known → Type 0) (old new : Known) (result : Result Bool Refusal) : Type 0 where
   pub small : OnOk result (IsSmall new)
   pub more : OnOk result (length old.points ≤ length new.points)
-  pub stands : (exact : Bool) (code : Code) → Stands exact code old → IsShown exact code p to g →
+  pub stands : (exact : Bool) (code : Code) → Stands exact code old → Shown exact code →
       MatchResult result (λ _. Stands exact code new) (λ refusal. Refused exact code refusal)
   pub goes : IfOk result (λ changed. Goes old new changed)
-  pub has : IfOk result (λ changed. changed ≡ false → HasPoint new p to g)
+  pub there : IfOk result (λ changed. changed ≡ false → There new)
+
+-- what comes of a frame that leads to a point
+abbrev pub Flows : (old new : Known) → Procedure → (to : ℕ) → StackFrame → Result Bool Refusal → Type 0
+Flows old new p to g result = Advances (λ exact code. IsShown exact code p to g) (λ known. HasPoint known p to g) old new result
 
 -- a call carries the caller's frame
 abbrev pub Carries : Moves → StackFrame → Type 0
@@ -145,49 +149,53 @@ Carries (Case _) f = Unit {0}
 Carries (Return _) f = Unit {0}
 Carries (MaybeReturn _ _) f = Unit {0}
 
+-- an instruction is there that moves so: with these targets, this address after it, and in this role
+pub record IsMoving (p : Procedure) (at : ℕ) (targets : List ℕ) (next : ℕ) (role : Role) (moves : Moves) (exact : Bool) (code : Code) : Type 0 where
+  pub frame : StackFrame
+  pub found : Fetched
+  pub move : AtMove exact code p at frame found moves
+  pub carries : Carries moves frame
+  pub targets_are : targets ≡ code.targets at
+  pub after : found.next ≡ next
+  pub role_is : role ≡ role_of code p
+
 -- what comes of a point's move: as of one frame, for each way that it leads
-pub record Steps (old new : Known) (p : Procedure) (at : ℕ) (targets : List ℕ) (next : ℕ) (role : Role) (moves : Moves)
-    (result : Result Bool Refusal) : Type 0 where
-  pub small : OnOk result (IsSmall new)
-  pub more : OnOk result (length old.points ≤ length new.points)
-  pub stands : (exact : Bool) (code : Code) (f : StackFrame) (found : Fetched) → Stands exact code old →
-      AtMove exact code p at f found moves → Carries moves f → targets ≡ code.targets at → found.next ≡ next →
-      role ≡ role_of code p → MatchResult result (λ _. Stands exact code new) (λ refusal. Refused exact code refusal)
-  pub goes : IfOk result (λ changed. Goes old new changed)
-  pub follows : IfOk result (λ changed. changed ≡ false → (f : StackFrame) → Carries moves f → Follows new p targets f next moves)
+abbrev pub Steps : (old new : Known) → Procedure → (at : ℕ) → (targets : List ℕ) → (next : ℕ) → Role → Moves → Result Bool Refusal → Type 0
+Steps old new p at targets next role moves result = Advances (IsMoving p at targets next role moves)
+    (λ known. (f : StackFrame) → Carries moves f → Follows known p targets f next moves) old new result
 
--- how far a PCHL has come that leads to each of its targets: what was shown stays shown if the targets are, it changed nothing
--- or is nearer to its end, and if it changed nothing the first targets are in the table
-pub record GoesToFirst (old now : Known) (p : Procedure) (f : StackFrame) (targets : List ℕ) (count : ℕ)
-    (changed : Bool) : Type 0 where
-  pub small : IsSmall now
-  pub more : length old.points ≤ length now.points
-  pub stands : (exact : Bool) (code : Code) → Stands exact code old → ((to : ℕ) → Contains targets to → IsShown exact code p to f) →
-      Stands exact code now
-  pub goes : Goes old now changed
-  pub has : changed ≡ false → (i : ℕ) → i < count → (to : ℕ) → HasPoint now p (slice_index_or targets i to) f
+-- how far a PCHL has come that leads to each of its targets: to the first so many
+abbrev pub GoesToFirst : (old now : Known) → Procedure → StackFrame → (targets : List ℕ) → (count : ℕ) → (changed : Bool) → Type 0
+GoesToFirst old now p f targets count changed = Advances (λ exact code. (to : ℕ) → Contains targets to → IsShown exact code p to f)
+    (λ known. (i : ℕ) → i < count → (to : ℕ) → HasPoint known p (slice_index_or targets i to) f) old now (Ok changed)
 
--- what comes of a return with so many words taken
-pub record Exits (old new : Known) (p : Procedure) (at taken : ℕ) (result : Result Bool Refusal) : Type 0 where
-  pub small : OnOk result (IsSmall new)
-  pub more : OnOk result (length old.points ≤ length new.points)
-  pub stands : (exact : Bool) (code : Code) → Stands exact code old → (returns : ReturnsWith code p taken) → returns.at ≡ at →
-      MatchResult result (λ _. Stands exact code new) (λ refusal. Refused exact code refusal)
-  pub goes : IfOk result (λ changed. Goes old new changed)
-  pub has : IfOk result (λ changed. changed ≡ false → (entry : ℕ) → p ≡ Entry entry → exit_of new.exits entry ≡ Some taken)
+-- a procedure returns at an address with so many words taken
+pub record ReturnsAt (p : Procedure) (at taken : ℕ) (code : Code) : Type 0 where
+  pub returns : ReturnsWith code p taken
+  pub here : returns.at ≡ at
+
+-- what comes of a return
+abbrev pub Exits : (old new : Known) → Procedure → (at taken : ℕ) → Result Bool Refusal → Type 0
+Exits old new p at taken result = Advances (λ exact code. ReturnsAt p at taken code)
+    (λ known. (entry : ℕ) → p ≡ Entry entry → exit_of known.exits entry ≡ Some taken) old new result
+
+-- an instruction is there that calls a procedure: with this address after it, and in this role
+pub record IsCalling (p : Procedure) (at next : ℕ) (role : Role) (g : StackFrame) (target : ℕ) (exact : Bool) (code : Code) : Type 0 where
+  pub found : Fetched
+  pub moves : Moves
+  pub move : AtMove exact code p at g found moves
+  pub calls : called moves ≡ Some target
+  pub after : found.next ≡ next
+  pub role_is : role ≡ role_of code p
+
+-- the callee's entry is in the table, and, if a return of it was seen, what the caller has after it
+pub record HasCalled (known : Known) (p : Procedure) (next : ℕ) (g : StackFrame) (target : ℕ) : Type 0 where
+  pub enters : HasPoint known (Entry target) target entry_frame
+  pub after : (taken : ℕ) → exit_of known.exits target ≡ Some taken → HasPoint known p next (returned taken g)
 
 -- what comes of a call
-pub record CallsOut (old new : Known) (p : Procedure) (at next : ℕ) (role : Role) (g : StackFrame) (target : ℕ)
-    (result : Result Bool Refusal) : Type 0 where
-  pub small : OnOk result (IsSmall new)
-  pub more : OnOk result (length old.points ≤ length new.points)
-  pub stands : (exact : Bool) (code : Code) (found : Fetched) (moves : Moves) → Stands exact code old →
-      AtMove exact code p at g found moves → called moves ≡ Some target → found.next ≡ next → role ≡ role_of code p →
-      MatchResult result (λ _. Stands exact code new) (λ refusal. Refused exact code refusal)
-  pub goes : IfOk result (λ changed. Goes old new changed)
-  pub enters : IfOk result (λ changed. changed ≡ false → HasPoint new (Entry target) target entry_frame)
-  pub after : IfOk result (λ changed. changed ≡ false → (taken : ℕ) → exit_of new.exits target ≡ Some taken →
-      HasPoint new p next (returned taken g))
+abbrev pub CallsOut : (old new : Known) → Procedure → (at next : ℕ) → Role → StackFrame → (target : ℕ) → Result Bool Refusal → Type 0
+CallsOut old new p at next role g target result = Advances (IsCalling p at next role g target) (λ known. HasCalled known p next g target) old new result
 
 -- why a caller's frame does not come back: out of memory, or it has too few words
 abbrev pub IsShort : (at room taken : ℕ) → Refusal → Type 0
@@ -200,32 +208,19 @@ pub record IsClosed (code : Code) (known : Known) (point : Point) : Type 0 where
   pub moving : Moving code point.procedure point.at point.frame found moves
   pub follows : Follows known point.procedure (code.targets point.at) point.frame found.next moves
 
--- what comes of a look at a point
-pub record Visits (code : Code) (old new : Known) (i : ℕ) (result : Result Bool Refusal) : Type 0 where
-  pub small : OnOk result (IsSmall new)
-  pub more : OnOk result (length old.points ≤ length new.points)
-  pub stands : (exact : Bool) → Stands exact code old →
-      MatchResult result (λ _. Stands exact code new) (λ refusal. Refused exact code refusal)
-  pub goes : IfOk result (λ changed. Goes old new changed)
-  pub closed : IfOk result (λ changed. changed ≡ false → (point : Point) → slice_get new.points i ≡ Some point →
-      IsClosed code new point)
+-- what comes of a visit of a point
+abbrev pub Visits : Code → (old new : Known) → (i : ℕ) → Result Bool Refusal → Type 0
+Visits code old new i result = Advances (λ exact seen. seen ≡ code)
+    (λ known. (point : Point) → slice_get known.points i ≡ Some point → IsClosed code known point) old new result
 
 -- all points are closed, and the start is among them
 pub record AllClosed (code : Code) (known : Known) : Type 0 where
   pub start : HasPoint known Main code.start main_frame
   pub points : (i : ℕ) (point : Point) → slice_get known.points i ≡ Some point → IsClosed code known point
 
--- how far a step of many looks has come: what was shown stays shown, and it changed nothing or is nearer to its end
-pub record Ongoing (code : Code) (old now : Known) (changed : Bool) : Type 0 where
-  pub small : IsSmall now
-  pub more : length old.points ≤ length now.points
-  pub stands : (exact : Bool) → Stands exact code old → Stands exact code now
-  pub goes : Goes old now changed
-
--- what comes of many looks
-pub record Looks (code : Code) (old new : Known) (result : Result Bool Refusal) : Type 0 where
-  pub ongoing : IfOk result (Ongoing code old new)
-  pub refused : IfErr result (λ refusal. (exact : Bool) → Stands exact code old → Refused exact code refusal)
+-- what comes of many visits, one after another
+abbrev pub ManyVisits : Code → (old new : Known) → Result Bool Refusal → Type 0
+ManyVisits code old new result = Advances (λ exact seen. seen ≡ code) (λ known. Unit {0}) old new result
 
 -- what comes of a sweep: what was shown stays shown, and the measure doesn't rise; if the last part of it changed something,
 -- it falls

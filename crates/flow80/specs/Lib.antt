@@ -1,5 +1,4 @@
 pub mod Refusal
-pub mod Code
 pub mod Walks
 pub mod Use
 pub mod Faults
@@ -12,7 +11,6 @@ pub mod Points
 pub mod Graph
 pub mod Shown
 pub mod Known
-pub mod Numbers
 pub mod PointStore
 pub mod Survey
 pub mod Walked

@@ -5,8 +5,8 @@ use Rattle.interned80.specs.Frames.{frame_at}
 use Rattle.bounds80.specs.declared.procedure.Procedure.{Procedure}
 use Rattle.flow80.specs.declared.points.StoredPoint.{StoredPoint}
 use Rattle.flow80.specs.Points.{Point}
-use Rattle.flow80.specs.declared.numbers.Numbers.{Numbers}
-use Rattle.flow80.specs.Numbers.{number_at}
+use Rattle.code80.specs.declared.point_numbers.PointNumbers.{PointNumbers}
+use Rattle.code80.specs.PointNumbers.{number_at}
 
 -- the point that is stored
 abbrev pub point_of : List StackFrame → StoredPoint → Point
@@ -23,7 +23,7 @@ pub record IsStoredAt (stored : List StoredPoint) (procedure : Procedure) (at i 
   pub at_address : point.at ≡ at
 
 -- each point that is stored has a frame, and the number that is kept of its address is its own
-pub record AreStored (frames : List StackFrame) (stored : List StoredPoint) (numbers : Numbers) : Type 0 where
+pub record AreStored (frames : List StackFrame) (stored : List StoredPoint) (numbers : PointNumbers) : Type 0 where
   pub framed : (i : ℕ) (point : StoredPoint) → slice_get stored i ≡ Some point → point.frame < length frames
   pub numbered : (i : ℕ) (point : StoredPoint) → slice_get stored i ≡ Some point →
       number_at numbers point.procedure point.at ≡ Some i

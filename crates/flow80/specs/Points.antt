@@ -2,7 +2,7 @@
 use Rattle.std.specs.Prelude.{◌≡◌, ◌<◌, ℕ, Bool, true, false, ◌&&◌, nat_eq, List, Some, slice_get, slice_set}
 use Rattle.frames80.specs.StackFrame.{StackFrame}
 use Rattle.bounds80.specs.declared.procedure.Procedure.{Procedure}
-use Rattle.bounds80.specs.declared.procedure.Procedure.TheVariants.{Main, Entry}
+use Rattle.code80.specs.PointNumbers.{same_procedure}
 
 -- a point: an address of a procedure, and a frame there
 pub record Point : Type 0 where
@@ -14,13 +14,6 @@ pub record Point : Type 0 where
 pub record StoredPoints : Type 0 where
   pub points : List Point
   pub frames : List StackFrame
-
--- whether two procedures are the same
-abbrev pub same_procedure : Procedure → Procedure → Bool
-same_procedure Main Main = true
-same_procedure Main (Entry b) = false
-same_procedure (Entry a) Main = false
-same_procedure (Entry a) (Entry b) = nat_eq a b
 
 -- whether a point is that address of that procedure
 abbrev pub is_at : Procedure → ℕ → Point → Bool

@@ -5,7 +5,7 @@ use Rattle.frames80.specs.StackFrame.{StackFrame}
 use Rattle.bounds80.specs.declared.procedure.Procedure.{Procedure}
 use Rattle.bounds80.specs.declared.procedure.Procedure.TheVariants.{Entry}
 use Rattle.flow80.specs.declared.report.ProcRow.{ProcRow}
-use Rattle.flow80.specs.Code.{Code}
+use Rattle.code80.specs.Code.{Code}
 use Rattle.flow80.specs.Walks.{Walk, Returns}
 use Rattle.flow80.specs.Use.{IsBound}
 

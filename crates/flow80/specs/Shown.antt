@@ -9,8 +9,8 @@ use Rattle.frames80.specs.Effects.{effect_of}
 use Rattle.frames80.specs.Moves.{moves_of}
 use Rattle.frames80.specs.Places.{Place, word_at, Covers, ChangesByPlaces, ReturnsByPlaces, MeetsByPlaces, CountsAlone, CoveredGoesAlong, ReturnRefused}
 use Rattle.bounds80.specs.declared.procedure.Procedure.{Procedure}
-use Rattle.flow80.specs.Code.{Code}
-use Rattle.flow80.specs.Walks.{Walk, role_of}
+use Rattle.code80.specs.Code.{Code, role_of}
+use Rattle.flow80.specs.Walks.{Walk}
 
 -- what may be asked of a frame: nothing, or one place that may be any word
 pub data Query : Type 0 where

@@ -12,8 +12,8 @@ use Rattle.bounds80.specs.declared.graph.Depth.{Depth}
 use Rattle.bounds80.specs.declared.graph.CallSite.{CallSite}
 use Rattle.flow80.specs.declared.report.ProcRow.{ProcRow}
 use Rattle.flow80.specs.declared.site.Site.{Site}
-use Rattle.flow80.specs.Code.{Code}
-use Rattle.flow80.specs.Walks.{Moving, Calls, called, role_of}
+use Rattle.code80.specs.Code.{Code, role_of}
+use Rattle.flow80.specs.Walks.{Moving, Calls, called}
 use Rattle.flow80.specs.Points.{Point, AreAddresses}
 use Rattle.flow80.specs.Graph.{AreBounds, NoneRecurs}
 use Rattle.bounds80.specs.Chains.{bytes_of, slot_of}

@@ -1,10 +1,7 @@
 -- Points to which walks come, each with the very frame that the walk has there. (This project's own.)
 use Rattle.std.specs.Prelude.{◌≡◌, ◌<◌, ℕ, List, Option, Some, None, length, slice_get}
 use Rattle.decode80.specs.declared.fetching.Fetched.{Fetched}
-use Rattle.frames80.specs.declared.effect.Change.{Change}
-use Rattle.frames80.specs.declared.effect.Change.TheVariants.{Keep}
 use Rattle.frames80.specs.declared.effect.Effect.{Effect}
-use Rattle.frames80.specs.declared.effect.Effect.TheVariants.{Change as Changes}
 use Rattle.frames80.specs.StackFrame.{StackFrame}
 use Rattle.interned80.specs.Admitted.{move_of}
 use Rattle.interned80.specs.Frames.{frame_at}
@@ -12,7 +9,7 @@ use Rattle.bounds80.specs.declared.procedure.Procedure.{Procedure}
 use Rattle.bounds80.specs.declared.procedure.Procedure.TheVariants.{Entry}
 use Rattle.flow80.specs.declared.walks.WalkedPoint.{WalkedPoint}
 use Rattle.flow80.specs.declared.walks.Walks.{Walks}
-use Rattle.flow80.specs.Code.{Code}
+use Rattle.code80.specs.Code.{Code}
 use Rattle.flow80.specs.Walks.{Walk, Moving}
 
 -- a walk comes to the point with its frame
@@ -29,11 +26,6 @@ pub record IsMovingFrom (code : Code) (frames : List StackFrame) (point : Walked
   pub found : Fetched
   pub moving : Moving code point.procedure point.at (frame_at frames point.frame) found (move_of effect (frame_at frames point.frame))
   pub after : next ≡ found.next
-
--- the change that an effect makes before it leads on
-abbrev pub change_of : Effect → Change
-change_of (Changes change) = change
-change_of _ = Keep
 
 -- the procedure is the one that is called
 abbrev pub IsCallee : Procedure → (called : Option ℕ) → Type 0

@@ -5,23 +5,22 @@ ghost use Rattle.flow80.specs.Accepted.{IsAccepted, IsMeasured};
 ghost use Rattle.flow80.specs.Faults.{Holds, HoldsAnyway};
 ghost use Rattle.flow80.specs.Known.{IsFilled, Refused, is_exact, nothing_known};
 
-use crate::asked::AskedPlaces;
-use crate::code::Code;
-use crate::fill::{fill, fill_within};
+use crate::fill::fill;
 use crate::laws::frame_laws;
 use crate::refusal::Refusal;
 use crate::report::Report;
 use crate::rows::list_rows;
 use crate::stack::bound_stack;
 use crate::table::Table;
-use crate::tracing::find_steps;
 use crate::walks::go_along;
 use crate::wants::find_wants;
 use bounds80::Procedure;
+use code80::Code;
+use origins80::{AskedPlaces, find_steps};
 use std::alloc::Global;
 
-/// How many looks a program gets at first, beside those for each of its points.
-const SOON: u64 = 20_000;
+/// How many visits a program gets at first, beside those for each of its points.
+const FIRST_VISITS: u64 = 20_000;
 
 /// Goes over every walk of every procedure of a program, and reports on its procedures and its stack. A program of which a
 /// refusal holds isn't accepted, and one of which none holds is refused only if memory runs out.
@@ -59,12 +58,12 @@ pub fn measure<C: Code>(alloc: Global, program: &C) -> Result<Report, Refusal>
     measure_whole(alloc, program)
 }
 
-/// Measures a program if a few looks at each point are enough.
+/// Measures a program if a few visits of each point are enough.
 fn measure_soon<C: Code>(alloc: Global, program: &C) -> Result<Option<Report>, Refusal>
     ensures measured { IfOk result (λ r. IfSome r (λ r. IsMeasured (C.code program.now) r.procedures.items r.stack_bytes)) }
     ensures refused { IfErr result (HoldsAnyway (C.code program.now)) }
 {
-    let mut table = Table::new(alloc, program, None, SOON)?;
+    let mut table = Table::new(alloc, program, None, FIRST_VISITS)?;
     fill_and_report(alloc, program, &mut table)
 }
 
@@ -104,7 +103,7 @@ fn refuse_return<C: Code>(alloc: Global, program: &C) -> Result<(), Refusal>
     go_along(alloc, program, &steps)
 }
 
-/// Measures a program, however many looks it takes.
+/// Measures a program, however many visits it takes.
 fn measure_whole<C: Code>(alloc: Global, program: &C) -> Result<Report, Refusal>
     ensures measured { IfOk result (λ r. IsMeasured (C.code program.now) r.procedures.items r.stack_bytes) }
     ensures refused { IfErr result (HoldsAnyway (C.code program.now)) }
@@ -123,7 +122,7 @@ fn fill_whole_and_report<C: Code>(
     ensures measured { IfOk result (λ r. IsMeasured (C.code program.now) r.procedures.items r.stack_bytes) }
     ensures refused { IfErr result (Refused (is_exact table.old.known.forgets) (C.code program.now)) }
 {
-    fill(program, table)?;
+    fill(program, table, false)?;
     report_on(alloc, program, table)
 }
 
@@ -137,7 +136,7 @@ fn fill_and_report<C: Code>(
     ensures measured { IfOk result (λ r. IfSome r (λ r. IsMeasured (C.code program.now) r.procedures.items r.stack_bytes)) }
     ensures refused { IfErr result (Refused (is_exact table.old.known.forgets) (C.code program.now)) }
 {
-    if !fill_within(program, table)? {
+    if !fill(program, table, true)? {
         return Ok(None);
     }
     Ok(Some(report_on(alloc, program, table)?))

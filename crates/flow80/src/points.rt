@@ -7,8 +7,8 @@ ghost use Rattle.frames80.specs.Calls.{agree, merged, returned, room};
 ghost use Rattle.interned80.specs.Frames.{frame_at, IsFrame, IsLesserFrame, StayNumbered};
 ghost use Rattle.flow80.specs.Points.{AreAddresses, AreApart, IsPointAt, IsNoPoint, Reframes};
 
-use crate::numbers::Numbers;
 use bounds80::Procedure;
+use code80::{PointNumbers, numbers_are_of_addresses};
 use frames80::{CallFault, Change, Role};
 use interned80::{Asked, FrameId, Frames, MeetFault};
 use std::alloc::{AllocError, Global};
@@ -28,7 +28,7 @@ struct StoredPoint {
 pub(crate) struct Points {
     frames: Frames,
     stored: Vec<StoredPoint>,
-    numbers: Numbers,
+    numbers: PointNumbers,
 }
 
 impl Model for Points {
@@ -54,7 +54,7 @@ impl Points {
         Ok(Points {
             frames: Frames::new(alloc),
             stored: Vec::new(alloc),
-            numbers: Numbers::new(alloc)?,
+            numbers: PointNumbers::new(alloc)?,
         })
     }
 
@@ -64,6 +64,7 @@ impl Points {
         ensures apart { AreApart self.now.points }
         ensures addresses { AreAddresses self.now.points }
     {
+        numbers_are_of_addresses();
         self.stored.len()
     }
 

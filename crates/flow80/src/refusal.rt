@@ -3,7 +3,7 @@
 ghost use Rattle.std.specs.Prelude.{◌≡◌};
 ghost use Rattle.flow80.specs.Refusal.{refusal_code, refusal_name, refusal_address, refusal_of, look_refusal, rests_on_a_word};
 
-use crate::code::LookFault;
+use code80::LookFault;
 use frames80::FrameFault;
 use std::alloc::AllocError;
 use std::error::Error;

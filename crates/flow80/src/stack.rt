@@ -4,12 +4,12 @@ ghost use Rattle.std.specs.Prelude.{◌≡◌, IfOk, IfErr, length};
 ghost use Rattle.flow80.specs.Known.{IsFilled, Refused, is_exact};
 ghost use Rattle.flow80.specs.Survey.{AreWants, IsBounded};
 
-use crate::code::Code;
 use crate::laws::frame_laws;
 use crate::refusal::Refusal;
 use crate::survey::find_calls;
 use crate::table::Table;
 use bounds80::{Bounds, BoundsFault, find_bounds};
+use code80::Code;
 use std::alloc::Global;
 
 /// The most bytes of stack that each procedure needs below its return address, its callees' included.

@@ -7,11 +7,11 @@ ghost use Rattle.flow80.specs.Walks.{called};
 ghost use Rattle.frames80.specs.StackFrame.{StackFrame};
 ghost use Rattle.interned80.specs.Admitted.{move_of};
 
-use crate::code::Code;
 use crate::laws::frame_laws;
 use crate::refusal::Refusal;
 use crate::table::Table;
 use bounds80::{CallSite, Depth, Procedure, slot};
+use code80::Code;
 use frames80::Effect;
 use std::alloc::{AllocError, Global};
 

@@ -3,7 +3,7 @@
 ghost use Rattle.std.specs.Prelude.{◌≡◌, ◌+◌, ◌<◌, ◌≤◌, ℕ, Bool, is_some, List, false, true, Some, None, Ok, Err, IfOk, IfErr, OnOk, IfSome, length, replicate, slice_get};
 ghost use Rattle.bounds80.specs.declared.procedure.Procedure.TheVariants.{Main, Entry};
 ghost use Rattle.flow80.specs.Points.{AreAddresses, IsPointAt, IsNoPoint};
-ghost use Rattle.flow80.specs.Known.{CanLead, IsSmall, Stands, Flows, Exits, CallsOut, Steps, Visits, Looks, Sweeps, Lessens, Refused, AreClosed, AllClosed, IsShort, exit_of, nothing_known};
+ghost use Rattle.flow80.specs.Known.{CanLead, IsSmall, Stands, Flows, Exits, CallsOut, Steps, Visits, ManyVisits, Sweeps, Lessens, Refused, AreClosed, AllClosed, IsShort, exit_of, nothing_known};
 ghost use Rattle.frames80.specs.declared.moves.Moves.TheVariants.{Either, Case, MaybeCall, MaybeReturn};
 ghost use Rattle.frames80.specs.Calls.{room, returned};
 ghost use Rattle.frames80.specs.Moves.{changed};
@@ -11,29 +11,28 @@ ghost use Rattle.frames80.specs.StackFrame.{entry_frame, main_frame};
 ghost use Rattle.interned80.specs.Admitted.{move_of};
 ghost use Rattle.interned80.specs.Frames.{frame_at, IsFrame, StayNumbered};
 ghost use Rattle.flow80.specs.Survey.{EffectIsAt, IsEntered};
-ghost use Rattle.flow80.specs.Walks.{role_of};
+ghost use Rattle.code80.specs.Code.{role_of};
 
 mod leading;
 
-use crate::asked::AskedPlaces;
-use crate::callers::Callers;
-use crate::code::Code;
 use crate::laws::frame_laws;
-use crate::pending::Pending;
 use crate::points::Points;
 use crate::refusal::Refusal;
 use crate::site::Site;
 use bounds80::Procedure;
+use code80::{Code, role_of};
 use frames80::{CallFault, Change, Effect, Role, effect_of};
 use interned80::{FrameId, Frames, MeetFault};
+use origins80::AskedPlaces;
 use std::alloc::{AllocError, Global};
 use std::marker::Model;
+use worklist80::{Callers, Pending};
 
 /// The most points that are visited.
 const MOST_POINTS: usize = 262_144;
 
 /// How many visits each point is worth. In most programs a point is visited once or twice.
-const LOOKS_FOR_A_POINT: u64 = 4;
+const VISITS_FOR_A_POINT: u64 = 4;
 
 /// What is known so far: the points with their frames, how many words each procedure takes where it returns, once a return of
 /// it was seen, and the points that are still to be visited.
@@ -46,7 +45,7 @@ pub(crate) struct Table {
     /// What returns ask for, if whatever they don't ask for is forgotten.
     asked: Option<AskedPlaces>,
     /// How many points may still be visited before [`Table::is_spent`].
-    looks: u64,
+    visits_left: u64,
 }
 
 impl Model for Table {
@@ -70,7 +69,7 @@ impl Table {
         alloc: Global,
         program: &C,
         asked: Option<AskedPlaces>,
-        looks: u64,
+        visits_left: u64,
     ) -> Result<Table, AllocError>
         ensures { IfOk result (λ table. table.known ≡ nothing_known (is_some asked)) }
     {
@@ -82,7 +81,7 @@ impl Table {
             callers,
             pending: Pending::new(alloc, program)?,
             asked,
-            looks,
+            visits_left,
         })
     }
 
@@ -115,8 +114,10 @@ impl Table {
         let lesser = self.lessen(procedure, to, frame)?;
         self.points.add(procedure, to, lesser)?;
         // A table that is spent stays so.
-        self.looks = self.looks.saturating_add(self.looks.min(LOOKS_FOR_A_POINT));
-        self.look_again(number, to)?;
+        self.visits_left = self
+            .visits_left
+            .saturating_add(self.visits_left.min(VISITS_FOR_A_POINT));
+        self.visit_again(number, to)?;
         Ok(true)
     }
 
@@ -169,7 +170,7 @@ impl Table {
             return Ok(false);
         }
         self.points.replace(i, merged);
-        self.look_again(i, to)?;
+        self.visit_again(i, to)?;
         Ok(true)
     }
 
@@ -274,7 +275,7 @@ impl Table {
     /// Visits the points that wait, and those that come of it.
     fn drain<C: Code>(&mut self, program: &C) -> Result<bool, Refusal>
         requires { IsSmall self.old.known }
-        ensures { Looks (C.code program.now) self.old.known self.new.known result }
+        ensures { ManyVisits (C.code program.now) self.old.known self.new.known result }
     {
         let mut changed = false;
         // (The bound is never met: a point is put there only if a frame has changed, which no frame can do for ever. Nothing
@@ -291,7 +292,7 @@ impl Table {
 
     /// Whether as many points were visited as were allowed.
     pub(crate) fn is_spent(&self) -> bool {
-        self.looks == 0
+        self.visits_left == 0
     }
 
     /// The next point that waits, unless as many were visited as are allowed.
@@ -299,7 +300,7 @@ impl Table {
         ensures same { self.new ≡ self.old }
         ensures there { IfSome result (λ point. point < length self.new.known.points) }
     {
-        self.looks = self.looks.checked_sub(1)?;
+        self.visits_left = self.visits_left.checked_sub(1)?;
         match self.pending.take() {
             Some(point) if point < self.points.len() => Some(point),
             _ => None,
@@ -309,7 +310,7 @@ impl Table {
     /// Visits every point once.
     fn pass<C: Code>(&mut self, program: &C) -> Result<bool, Refusal>
         requires { IsSmall self.old.known }
-        ensures looks { Looks (C.code program.now) self.old.known self.new.known result }
+        ensures visits { ManyVisits (C.code program.now) self.old.known self.new.known result }
         ensures closed { IfOk result (λ changed. changed ≡ false →
             AreClosed (C.code program.now) self.new.known (length self.new.known.points)) }
     {
@@ -386,7 +387,7 @@ impl Table {
     }
 
     /// Notes that the point of an address is to be visited again.
-    fn look_again(&mut self, point: usize, at: u16) -> Result<(), AllocError>
+    fn visit_again(&mut self, point: usize, at: u16) -> Result<(), AllocError>
         ensures { self.new ≡ self.old }
     {
         self.pending.add(point, at)
@@ -397,19 +398,6 @@ impl Table {
 fn no_exits(alloc: Global) -> Result<Vec<Option<u32>>, AllocError>
     ensures { IfOk result (λ exits. exits.items ≡ replicate 65536 None) }
 {
-    let mut exits = Vec::new(alloc);
-    while exits.len() < 65536 {
-        exits.push(None)?;
-    }
+    let exits = vec![in alloc; None; 65536]?;
     Ok(exits)
-}
-
-/// The role of a procedure.
-pub(crate) fn role_of<C: Code>(program: &C, procedure: Procedure) -> Role
-    ensures { result ≡ role_of (C.code program.now) procedure }
-{
-    match procedure {
-        Procedure::Main => Role::Main { top: program.top() },
-        Procedure::Entry(_) => Role::Entry,
-    }
 }

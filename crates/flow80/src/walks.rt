@@ -8,19 +8,19 @@ ghost use Rattle.frames80.specs.StackFrame.{StackFrame};
 ghost use Rattle.frames80.specs.Moves.{changed};
 ghost use Rattle.interned80.specs.Admitted.{move_of};
 ghost use Rattle.interned80.specs.Frames.{StayNumbered};
-ghost use Rattle.flow80.specs.Code.{Code as CodeSeen};
+ghost use Rattle.code80.specs.Code.{Code as CodeSeen, role_of};
 ghost use Rattle.flow80.specs.Faults.{HoldsAnyway};
-ghost use Rattle.flow80.specs.Walked.{AreWalked, IsCallee, IsMovingFrom, IsWalked, change_of};
-ghost use Rattle.flow80.specs.Walks.{LeadsTo, called, returning, role_of};
+ghost use Rattle.frames80.specs.Effects.{change_of};
+ghost use Rattle.flow80.specs.Walked.{AreWalked, IsCallee, IsMovingFrom, IsWalked};
+ghost use Rattle.flow80.specs.Walks.{LeadsTo, called, returning};
 
-use crate::code::Code;
 use crate::refusal::Refusal;
-use crate::step::Step;
 use crate::survey::target_of;
-use crate::table::role_of;
 use bounds80::Procedure;
-use frames80::{CallFault, Change, Effect, FrameFault, effect_of};
+use code80::{Code, role_of};
+use frames80::{CallFault, Effect, FrameFault, effect_of};
 use interned80::{FrameId, Frames, MeetFault};
+use origins80::Step;
 use std::alloc::{AllocError, Global};
 
 /// The most words that a frame has taken that is followed.
@@ -176,7 +176,7 @@ impl Walks {
         if self.frames.taken(from.frame) > MOST_TAKEN {
             return Ok(None);
         }
-        let frame = self.frames.change(from.frame, change_of(effect))?;
+        let frame = self.frames.change(from.frame, effect.change())?;
         Ok(Some(WalkedPoint {
             procedure: from.procedure,
             at: to,
@@ -328,16 +328,6 @@ fn leads_to(effect: Effect, targets: &[u16], next: u16, to: u16) -> bool
         Effect::JumpIf(address) => to == next || to == address,
         Effect::Case => targets.contains(&to),
         Effect::Halt | Effect::Call(_) | Effect::Return | Effect::Refuse(_) => false,
-    }
-}
-
-/// The change that an effect makes before it leads on.
-pub(crate) fn change_of(effect: Effect) -> Change
-    ensures { result ≡ change_of effect }
-{
-    match effect {
-        Effect::Change(change) => change,
-        _ => Change::Keep,
     }
 }
 

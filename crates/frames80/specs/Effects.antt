@@ -104,3 +104,16 @@ effect_of (Out _) = Changes Keep
 effect_of Ei = Changes Keep
 effect_of Di = Changes Keep
 effect_of Nop = Changes Keep
+
+-- the change that an effect makes before it goes on
+abbrev pub change_of : Effect → Change
+change_of (Changes change) = change
+change_of Halt = Keep
+change_of (Jump _) = Keep
+change_of (JumpsIf _) = Keep
+change_of Case = Keep
+change_of (Calls _) = Keep
+change_of (CallsIf _) = Keep
+change_of Return = Keep
+change_of ReturnsIf = Keep
+change_of (Refuse _) = Keep

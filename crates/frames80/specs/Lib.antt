@@ -4,6 +4,7 @@ pub mod FrameView
 pub mod FrameEquality
 pub mod Fault
 pub mod Effects
+pub mod Holding
 pub mod Moves
 pub mod Calls
 pub mod Places

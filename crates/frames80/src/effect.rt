@@ -1,5 +1,8 @@
 //! What instructions do to a frame: the kinds of effect.
 
+ghost use Rattle.std.specs.Prelude.{◌≡◌};
+ghost use Rattle.frames80.specs.Effects.{change_of};
+
 use crate::fault::FrameFault;
 use crate::frame_pair::FramePair;
 
@@ -49,4 +52,24 @@ pub enum Effect {
     ReturnIf,
     /// It is refused in every frame.
     Refuse(FrameFault),
+}
+
+impl Effect {
+    /// The change that the effect makes before it goes on: none, unless it is one.
+    pub fn change(self) -> Change
+        ensures { result ≡ change_of self }
+    {
+        match self {
+            Effect::Change(change) => change,
+            Effect::Halt
+            | Effect::Jump(_)
+            | Effect::Case
+            | Effect::JumpIf(_)
+            | Effect::Call(_)
+            | Effect::CallIf(_)
+            | Effect::Return
+            | Effect::ReturnIf
+            | Effect::Refuse(_) => Change::Keep,
+        }
+    }
 }

@@ -3,6 +3,7 @@
 ghost use Rattle.std.specs.Prelude.{◌≡◌, ◌+◌, ◌<◌, ◌≤◌, IfOk, reverse};
 
 use crate::frame_pair::FramePair;
+use crate::holding::Holding;
 use crate::word::Word;
 use std::alloc::{AllocError, Global};
 use std::hash::{Hash, Hasher};
@@ -40,6 +41,7 @@ impl Model for Frame {
 
 impl Frame {
     ghost use Rattle.frames80.specs.StackFrame.{entry_frame, main_frame, pair_in, with_pair, popped, top_word, of_words};
+    ghost use Rattle.frames80.specs.Holding.{holding_of};
 
     /// The frame at the start of a procedure that is called: its one word is its return address.
     ///
@@ -93,6 +95,17 @@ impl Frame {
             FramePair::Bc => self.bc,
             FramePair::De => self.de,
             FramePair::Hl => self.hl,
+        }
+    }
+
+    /// What the words are to a pop and to a return.
+    pub fn holding(&self) -> Holding
+        ensures { result ≡ holding_of self.now.words }
+    {
+        match self.words.as_slice() {
+            [] => Holding::Nothing,
+            [Word::Own] => Holding::ReturnAddress,
+            _ => Holding::Others,
         }
     }
 

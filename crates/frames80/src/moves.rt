@@ -1,11 +1,11 @@
 //! What becomes of a frame at an instruction.
 
-ghost use Rattle.std.specs.Prelude.{◌≡◌, ◌≢◌, ◌≤◌, length, IfOk, IfErr, Ok, Err, None, Some};
+ghost use Rattle.std.specs.Prelude.{◌≡◌, ◌≢◌, ◌≤◌, length, IfOk, IfErr, Ok, Err};
 ghost use Rattle.frames80.specs.Effects.{effect_of};
-ghost use Rattle.frames80.specs.Moves.{moves_of, changed, fault_of, change_fault, pop_fault, load_fault, return_fault};
+ghost use Rattle.frames80.specs.Moves.{moves_of, changed};
 
 use crate::effect::{Change, Effect};
-use crate::fault::FrameFault::{self, PopsBelow, ReturnFromMain, ReturnNotOwn, SetsStack};
+use crate::fault::FrameFault;
 use crate::frame::Frame;
 use crate::frame_pair::FramePair;
 use crate::role::Role;
@@ -54,7 +54,7 @@ pub fn next(alloc: Global, frame: &Frame, instr: Instr, role: Role) -> Result<Mo
     ensures refused { IfErr (moves_of role (effect_of instr) frame.now) (λ fault. result ≡ Err fault) }
 {
     let effect = effect_of(instr);
-    if let Some(fault) = fault_of(role, effect, frame) {
+    if let Some(fault) = frame.holding().fault_of(role, effect) {
         return Err(fault);
     }
     Ok(match effect {
@@ -69,67 +69,6 @@ pub fn next(alloc: Global, frame: &Frame, instr: Instr, role: Role) -> Result<Mo
         Effect::ReturnIf => Moves::MaybeReturn(frame.copy(alloc)?, frame.taken),
         Effect::Refuse(fault) => return Err(fault),
     })
-}
-
-/// Why an effect that isn't refused in every frame is refused in this one.
-fn fault_of(role: Role, effect: Effect, frame: &Frame) -> Option<FrameFault>
-    ensures { result ≡ fault_of role effect frame.now.words }
-{
-    match effect {
-        Effect::Change(change) => change_fault(role, change, frame),
-        Effect::Return | Effect::ReturnIf => return_fault(role, frame),
-        Effect::Halt
-        | Effect::Jump(_)
-        | Effect::JumpIf(_)
-        | Effect::Case
-        | Effect::Call(_)
-        | Effect::CallIf(_)
-        | Effect::Refuse(_) => None,
-    }
-}
-
-/// Why a change is refused.
-fn change_fault(role: Role, change: Change, frame: &Frame) -> Option<FrameFault>
-    ensures { result ≡ change_fault role change frame.now.words }
-{
-    match change {
-        Change::Pop(_) | Change::Drop | Change::Swap => pop_fault(role, frame),
-        Change::SetStack(address) => load_fault(role, address),
-        Change::Keep | Change::Push(_) | Change::PushAny | Change::Exchange | Change::Forget(_) =>
-            None,
-    }
-}
-
-/// Why a pop is refused.
-fn pop_fault(role: Role, frame: &Frame) -> Option<FrameFault>
-    ensures { result ≡ pop_fault role frame.now.words }
-{
-    match role {
-        Role::Main { .. } if frame.words.is_empty() => Some(PopsBelow),
-        Role::Main { .. } | Role::Entry => None,
-    }
-}
-
-/// Why a load of the stack pointer is refused.
-fn load_fault(role: Role, address: u16) -> Option<FrameFault>
-    ensures { result ≡ load_fault role address }
-{
-    match role {
-        Role::Main { top } if top == address => None,
-        Role::Main { .. } | Role::Entry => Some(SetsStack),
-    }
-}
-
-/// Why a return is refused.
-fn return_fault(role: Role, frame: &Frame) -> Option<FrameFault>
-    ensures { result ≡ return_fault role frame.now.words }
-{
-    let own_alone = matches!(frame.words.as_slice(), [Word::Own]);
-    match role {
-        Role::Main { .. } => Some(ReturnFromMain),
-        Role::Entry if own_alone => None,
-        Role::Entry => Some(ReturnNotOwn),
-    }
 }
 
 /// The frame after a change.

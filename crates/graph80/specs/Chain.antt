@@ -4,7 +4,7 @@ use Rattle.std.specs.Option.{option_and_then, option_map_or}
 use Rattle.std.specs.Ordering.{int_eq}
 use Rattle.bounds80.specs.declared.procedure.Procedure.{Procedure}
 use Rattle.bounds80.specs.declared.procedure.Procedure.TheVariants.{Main, Entry}
-use Rattle.flow80.specs.Points.{same_procedure}
+use Rattle.code80.specs.PointNumbers.{same_procedure}
 use Rattle.calls80.specs.declared.calls.Call.{Call}
 use Rattle.graph80.specs.declared.call_graph.Node.{Node}
 use Rattle.graph80.specs.declared.chain.Link.{Link}

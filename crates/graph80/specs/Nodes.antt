@@ -3,8 +3,8 @@ use Rattle.std.specs.Prelude.{◌≡◌, ℕ, ◌+◌, Bool, List, ◌∷◌, Op
 use Rattle.std.specs.Option.{option_map_or}
 use Rattle.bounds80.specs.declared.procedure.Procedure.{Procedure}
 use Rattle.bounds80.specs.declared.procedure.Procedure.TheVariants.{Main, Entry}
-use Rattle.flow80.specs.Code.{Code}
-use Rattle.flow80.specs.Points.{same_procedure}
+use Rattle.code80.specs.Code.{Code}
+use Rattle.code80.specs.PointNumbers.{same_procedure}
 use Rattle.flow80.specs.declared.report.ProcRow.{ProcRow}
 use Rattle.loader80.specs.Vouched.{Voucher}
 use Rattle.calls80.specs.Calls.{AreCalls}

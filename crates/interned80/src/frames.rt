@@ -11,9 +11,9 @@ use crate::changes::change_frame;
 use crate::fault::MeetFault;
 use crate::forgetting::{Asked, forget_word, forget_words};
 use crate::frame_id::FrameId;
+use crate::holding::holding_of;
 use crate::kept::{Kept, keep, kept_at};
 use crate::meets::meet_frames;
-use crate::refusal::refusal_of;
 use crate::stacks::{EMPTY, Stacks};
 use frames80::{CallFault, Change, Effect, FrameFault, Role, Word};
 use indexmap::IndexSet;
@@ -87,7 +87,7 @@ impl Frames {
             return Some(fault);
         }
         let kept = kept_at(&self.kept, frame);
-        refusal_of(&self.stacks, kept.words, role, effect)
+        holding_of(&self.stacks, kept.words).fault_of(role, effect)
     }
 
     /// The number of a frame after a change. The frame has up to 1,000,000 words taken.

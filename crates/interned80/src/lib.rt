@@ -15,12 +15,12 @@ mod fault;
 mod forgetting;
 mod frame_id;
 mod frames;
+mod holding;
 mod kept;
 mod link;
 mod meets;
 mod owns;
 mod pair;
-mod refusal;
 mod stacks;
 #[cfg(test)]
 mod tests;

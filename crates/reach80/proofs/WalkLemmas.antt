@@ -15,9 +15,9 @@ use Rattle.frames80.specs.Moves.{moves_of, changed, change_fault, return_fault, 
 use Rattle.frames80.specs.Calls.{room, returned}
 use Rattle.bounds80.specs.declared.procedure.Procedure.{Procedure}
 use Rattle.bounds80.specs.declared.procedure.Procedure.TheVariants.{Main, Entry}
-use Rattle.flow80.specs.declared.code.LookFault.{LookFault}
-use Rattle.flow80.specs.Code.{Code}
-use Rattle.flow80.specs.Walks.{Walk, begins, goes_on, enters, comes_back, Moving, LeadsTo, Calls, called, returning, role_of}
+use Rattle.code80.specs.declared.code.LookFault.{LookFault}
+use Rattle.code80.specs.Code.{Code, role_of}
+use Rattle.flow80.specs.Walks.{Walk, begins, goes_on, enters, comes_back, Moving, LeadsTo, Calls, called, returning}
 use Rattle.flow80.specs.FittingLaws.{NoFault}
 use Rattle.soundness80.specs.Reached.{IsReached}
 use Rattle.reach80.specs.Reached.{found_at}

@@ -1,7 +1,7 @@
 -- The addresses of a program that walks come to, with the instruction at each. (This project's own.)
 use Rattle.std.specs.Prelude.{◌≡◌, ℕ, List, Option, None, Some, Ok, slice_index_or}
 use Rattle.decode80.specs.declared.fetching.Fetched.{Fetched}
-use Rattle.flow80.specs.Code.{Code}
+use Rattle.code80.specs.Code.{Code}
 use Rattle.soundness80.specs.Reached.{IsReached}
 
 -- the instruction that a table has at an address, if it has one there

@@ -7,7 +7,7 @@ use Rattle.frames80.specs.declared.effect.Effect.TheVariants.{Change, Halt, Jump
 use Rattle.frames80.specs.Effects.{effect_of}
 use Rattle.bounds80.specs.declared.procedure.Procedure.TheVariants.{Entry}
 use Rattle.flow80.specs.declared.report.ProcRow.{ProcRow}
-use Rattle.flow80.specs.Code.{Code}
+use Rattle.code80.specs.Code.{Code}
 use Rattle.flow80.specs.Rows.{ReturnsWith}
 use Rattle.soundness80.specs.Reached.{IsReached}
 use Rattle.reach80.specs.Reached.{found_at}

@@ -8,8 +8,8 @@ ghost use Rattle.reach80.specs.Reached.{AreReached, found_at};
 ghost use Rattle.reach80.specs.Search.{GoesOn, IsFollowed, IsSearch, SayReturns};
 
 use crate::rows::returns;
+use code80::Code;
 use decode80::Fetched;
-use flow80::Code;
 use frames80::{Effect, effect_of};
 use std::alloc::{AllocError, Global};
 use verify80::{ImageCode, ProcRow};

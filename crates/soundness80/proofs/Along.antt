@@ -13,7 +13,8 @@ use Rattle.machine80.specs.Step.{Machine}
 use Rattle.machine80.specs.Run.{world_of}
 use Rattle.machine80.specs.World.{World, world_at, next_world, following, refuses, returns}
 use Rattle.bounds80.specs.declared.procedure.Procedure.TheVariants.{Main}
-use Rattle.flow80.specs.Walks.{begins, role_of}
+use Rattle.code80.specs.Code.{role_of}
+use Rattle.flow80.specs.Walks.{begins}
 use Rattle.flow80.specs.Fitting.{Table, Fits, IsFitted}
 use Rattle.flow80.specs.FittingLaws.{NoFault}
 use Rattle.verify80.specs.Looking.{code_of}

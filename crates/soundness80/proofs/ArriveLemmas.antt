@@ -22,7 +22,8 @@ use Rattle.machine80.specs.Step.{Machine}
 use Rattle.machine80.specs.World.{World}
 use Rattle.bounds80.specs.declared.procedure.Procedure.{Procedure}
 use Rattle.bounds80.specs.declared.procedure.Procedure.TheVariants.{Main, Entry}
-use Rattle.flow80.specs.Walks.{called, role_of}
+use Rattle.code80.specs.Code.{role_of}
+use Rattle.flow80.specs.Walks.{called}
 use Rattle.flow80.specs.Fitting.{Table, Has, CallFits, Fits}
 use Rattle.verify80.specs.Looking.{code_of}
 use Rattle.soundness80.proofs.StackLemmas.{pointer, stack_word, Written, Touches, touches_pushed, touches_popped, after_pop, after_push, word_on_top, word_pushed, word_swapped}

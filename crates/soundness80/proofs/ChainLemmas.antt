@@ -13,8 +13,7 @@ use Rattle.machine80.specs.Step.{Machine}
 use Rattle.machine80.specs.World.{World}
 use Rattle.bounds80.specs.declared.procedure.Procedure.{Procedure}
 use Rattle.bounds80.specs.declared.procedure.Procedure.TheVariants.{Main, Entry}
-use Rattle.flow80.specs.Code.{Code}
-use Rattle.flow80.specs.Walks.{role_of}
+use Rattle.code80.specs.Code.{Code, role_of}
 use Rattle.flow80.specs.Fitting.{Table, Has}
 use Rattle.soundness80.proofs.StackLemmas.{pointer, stack_word, SameWords}
 use Rattle.soundness80.proofs.StoreLemmas.{SameCode}

@@ -37,7 +37,8 @@ use Rattle.machine80.specs.Step.{Machine, Next, guard, execute, proceeded, with_
 use Rattle.machine80.specs.World.{World, places_after, returns, IsNewest}
 use Rattle.bounds80.specs.declared.procedure.Procedure.{Procedure}
 use Rattle.bounds80.specs.declared.procedure.Procedure.TheVariants.{Main, Entry}
-use Rattle.flow80.specs.Walks.{LeadsTo, called, returning, role_of}
+use Rattle.code80.specs.Code.{role_of}
+use Rattle.flow80.specs.Walks.{LeadsTo, called, returning}
 use Rattle.flow80.specs.Fitting.{Table, Has, CallFits, Fits}
 use Rattle.verify80.specs.Looking.{code_of, is_declared, declared_targets}
 use Rattle.soundness80.proofs.StackLemmas.{pointer, stack_word, Touches, touches_none, after_pop, word_on_top}

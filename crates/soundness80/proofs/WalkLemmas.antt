@@ -16,9 +16,9 @@ use Rattle.frames80.specs.Calls.{room, returned}
 use Rattle.machine80.specs.World.{IsNewest}
 use Rattle.bounds80.specs.declared.procedure.Procedure.{Procedure}
 use Rattle.bounds80.specs.declared.procedure.Procedure.TheVariants.{Main, Entry}
-use Rattle.flow80.specs.declared.code.LookFault.{LookFault}
-use Rattle.flow80.specs.Code.{Code}
-use Rattle.flow80.specs.Walks.{Walk, goes_on, enters, comes_back, Moving, LeadsTo, Calls, Returns, called, returning, role_of}
+use Rattle.code80.specs.declared.code.LookFault.{LookFault}
+use Rattle.code80.specs.Code.{Code, role_of}
+use Rattle.flow80.specs.Walks.{Walk, goes_on, enters, comes_back, Moving, LeadsTo, Calls, Returns, called, returning}
 use Rattle.flow80.specs.FittingLaws.{NoFault}
 use Rattle.soundness80.specs.Reached.{IsBehindCall}
 use Rattle.soundness80.proofs.StepLemmas.{unless_ok}

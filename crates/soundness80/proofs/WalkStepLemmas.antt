@@ -26,7 +26,8 @@ use Rattle.machine80.specs.Effects.{target, word_in}
 use Rattle.machine80.specs.Step.{Machine, Next, execute, proceeded, with_input}
 use Rattle.machine80.specs.World.{World, places_after, returns, IsNewest}
 use Rattle.bounds80.specs.declared.procedure.Procedure.{Procedure}
-use Rattle.flow80.specs.Walks.{returning, role_of}
+use Rattle.code80.specs.Code.{role_of}
+use Rattle.flow80.specs.Walks.{returning}
 use Rattle.verify80.specs.Looking.{code_of, is_declared, declared_targets}
 use Rattle.soundness80.specs.Reached.{IsBehindCall}
 use Rattle.soundness80.proofs.StoreLemmas.{is_plain}

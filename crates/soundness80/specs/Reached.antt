@@ -8,7 +8,7 @@ use Rattle.machine80.specs.Step.{Machine}
 use Rattle.machine80.specs.World.{World, fetched_by, returns}
 use Rattle.bounds80.specs.declared.procedure.Procedure.{Procedure}
 use Rattle.bounds80.specs.declared.procedure.Procedure.TheVariants.{Entry}
-use Rattle.flow80.specs.Code.{Code}
+use Rattle.code80.specs.Code.{Code}
 use Rattle.flow80.specs.Walks.{Walk, Calls}
 use Rattle.flow80.specs.Rows.{ReturnsWith}
 use Rattle.verify80.specs.Looking.{code_of}

@@ -20,7 +20,7 @@ use Rattle.machine80.specs.Ports.{next_input}
 use Rattle.machine80.specs.Effects.{pointed_bytes, stack_bytes}
 use Rattle.machine80.specs.Step.{Machine, Turn, Next, Stop, fetch, first_outside, ends_at, guard, guarded, execute, turn_of, jump_end, leads_outside, proceeded, with_input, step_on, step_of}
 use Rattle.machine80.specs.World.{World, turn_at, fetched_by, refuses, IsProperEnd}
-use Rattle.flow80.specs.Code.{Code}
+use Rattle.code80.specs.Code.{Code}
 use Rattle.verify80.specs.Looking.{code_of, is_pchl}
 use Rattle.soundness80.specs.Starts.{IsStart, IsWorldFrom, NeverGoesWrongFromPowerOn}
 use Rattle.soundness80.specs.Reached.{IsReached, StaysOnWalks}

@@ -8,7 +8,7 @@ use Rattle.machine80.specs.Step.{Machine}
 use Rattle.machine80.specs.World.{World}
 use Rattle.bounds80.specs.declared.procedure.Procedure.TheVariants.{Entry}
 use Rattle.flow80.specs.declared.report.ProcRow.{ProcRow}
-use Rattle.flow80.specs.Code.{Code}
+use Rattle.code80.specs.Code.{Code}
 use Rattle.flow80.specs.Rows.{AreRows, IsRow, ReturnsWith}
 use Rattle.verify80.specs.Looking.{code_of, declared_targets}
 use Rattle.soundness80.specs.Starts.{IsStart, IsWorldFrom}

@@ -10,7 +10,7 @@ use Rattle.machine80.specs.declared.end.End.TheVariants.{Halt, InputEnd, OutputR
 use Rattle.machine80.specs.Effects.{pointed_bytes}
 use Rattle.machine80.specs.Step.{Machine, Stop}
 use Rattle.machine80.specs.World.{World, IsWorldOf, turn_at, fetched_by}
-use Rattle.flow80.specs.Code.{Code}
+use Rattle.code80.specs.Code.{Code}
 use Rattle.verify80.specs.Looking.{code_of, is_pchl}
 use Rattle.soundness80.specs.Starts.{IsStart, IsWorldFrom}
 use Rattle.soundness80.specs.Reached.{IsReached}

@@ -22,9 +22,10 @@ use Rattle.frames80.specs.Moves.{changed, change_fault, moves_of, return_fault, 
 use Rattle.frames80.specs.StackFrame.{StackFrame}
 use Rattle.bounds80.specs.declared.procedure.Procedure.{Procedure}
 use Rattle.flow80.specs.Faults.{Holds}
-use Rattle.flow80.specs.declared.code.LookFault.TheVariants.{Outside as LooksOutside}
+use Rattle.code80.specs.declared.code.LookFault.TheVariants.{Outside as LooksOutside}
 use Rattle.flow80.specs.declared.refusal.Refusal.TheVariants.{FetchOutside}
-use Rattle.flow80.specs.Walks.{LeadsTo, Walk, called, role_of}
+use Rattle.code80.specs.Code.{role_of}
+use Rattle.flow80.specs.Walks.{LeadsTo, Walk, called}
 use Rattle.flow80.specs.Walks.Walk.{begins, goes_on, enters, comes_back}
 use Rattle.image80.specs.declared.range.Range.{Range}
 use Rattle.image80.specs.Case.{DeclaredCase}

@@ -8,7 +8,7 @@ use Rattle.walks80.specs.declared.fault.Stop.TheVariants.{Limit}
 use Rattle.std.proofs.Math.Nat.{le-mul_of_pos_right}
 use Rattle.std.proofs.lemmas.Option.{same_Some, none-some}
 use Rattle.std.proofs.lemmas.List.Sums.{sum_by-append, sum_by-cons}
-use Rattle.flow80.specs.Code.{Code}
+use Rattle.code80.specs.Code.{Code}
 use Rattle.walks80.specs.declared.point.Point.{Point}
 use Rattle.walks80.specs.declared.search.Search.{Search}
 use Rattle.walks80.specs.Counts.{AreDistinct, ComesToMore, GoesDeep, HasDeep, weight_of, weight_of_all}

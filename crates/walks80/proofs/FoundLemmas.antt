@@ -1,6 +1,6 @@
 -- What a search on its way has found, and what one has that is closed.
 use Rattle.std.proofs.Common.{◌<◌, ◌≤◌, ◌*◌, ℕ, length, arith}
-use Rattle.flow80.specs.Code.{Code}
+use Rattle.code80.specs.Code.{Code}
 use Rattle.walks80.specs.declared.search.Search.{Search}
 use Rattle.walks80.specs.Search.{IsClosed, IsFound, IsUnderWay, IsWhole}
 use Rattle.walks80.proofs.ClosedLemmas.{has_walk}

@@ -12,8 +12,8 @@ use Rattle.frames80.specs.Calls.{room}
 use Rattle.frames80.specs.declared.role.Role.{Role}
 use Rattle.bounds80.specs.declared.procedure.Procedure.{Procedure}
 use Rattle.bounds80.specs.declared.procedure.Procedure.TheVariants.{Entry}
-use Rattle.flow80.specs.Code.{Code}
-use Rattle.flow80.specs.Walks.{Calls, GoesOn, LeadsTo, Moving, called, returning, role_of}
+use Rattle.code80.specs.Code.{Code, role_of}
+use Rattle.flow80.specs.Walks.{Calls, GoesOn, LeadsTo, Moving, called, returning}
 use Rattle.walks80.specs.declared.point.Point.{Point}
 use Rattle.walks80.specs.declared.origin.Exit.{Exit}
 use Rattle.walks80.specs.declared.origin.CallingPoint.{CallingPoint}

@@ -1,7 +1,7 @@
 -- What a search counts against its limit. (This project's own.)
 use Rattle.std.specs.Prelude.{◌≡◌, ◌<◌, ◌+◌, ◌*◌, ℕ, List, length, slice_get, Some}
 use Rattle.std.specs.List.{sum_by}
-use Rattle.flow80.specs.Code.{Code}
+use Rattle.code80.specs.Code.{Code}
 use Rattle.walks80.specs.declared.point.Point.{Point}
 use Rattle.walks80.specs.Ways.{IsWalked}
 

@@ -10,8 +10,8 @@ use Rattle.frames80.specs.Calls.{room, returned}
 use Rattle.frames80.specs.declared.role.Role.{Role}
 use Rattle.bounds80.specs.declared.procedure.Procedure.{Procedure}
 use Rattle.bounds80.specs.declared.procedure.Procedure.TheVariants.{Main, Entry}
-use Rattle.flow80.specs.Code.{Code}
-use Rattle.flow80.specs.Walks.{Begins as BeginsAt, Calls, Enters as EntersAt, GoesOn as GoesOnTo, GoesOnAfter, LeadsTo, Moving, Returns, Walk, called, returning, role_of}
+use Rattle.code80.specs.Code.{Code, role_of}
+use Rattle.flow80.specs.Walks.{Begins as BeginsAt, Calls, Enters as EntersAt, GoesOn as GoesOnTo, GoesOnAfter, LeadsTo, Moving, Returns, Walk, called, returning}
 use Rattle.walks80.specs.declared.point.Point.{Point}
 use Rattle.walks80.specs.declared.origin.Origin.{Origin}
 use Rattle.walks80.specs.declared.origin.Origin.TheVariants.{Begins, GoesOn, Enters, ComesBack}

@@ -4,7 +4,7 @@ use Rattle.std.specs.Prelude.{◌≡◌, ◌⊎◌, ℕ, List, [], ◌∷◌}
 use Rattle.frames80.specs.StackFrame.{StackFrame}
 use Rattle.bounds80.specs.declared.procedure.Procedure.{Procedure}
 use Rattle.bounds80.specs.declared.procedure.Procedure.TheVariants.{Main, Entry}
-use Rattle.flow80.specs.Code.{Code}
+use Rattle.code80.specs.Code.{Code}
 use Rattle.flow80.specs.Walks.{Begins, Calls, Enters, GoesOn, GoesOnAfter, Returns, Walk}
 use Rattle.walks80.specs.declared.point.Point.{Point}
 use Rattle.walks80.specs.declared.route.Call.{Call}

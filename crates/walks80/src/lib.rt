@@ -4,7 +4,7 @@
 //! |---|---|
 //! | [`Search`] | the points that were found, and the calls among them; `grow` finds more, `route` leads to one |
 //! | [`Point`], [`Route`], [`Call`] | a point of a walk, and the calls and the way that lead to it |
-//! | [`look_at`], [`Looked`], [`role_of`] | what the instruction at a point makes of its frame |
+//! | [`look_at`], [`Looked`] | what the instruction at a point makes of its frame |
 //! | [`Origin`], [`Exit`], [`CallingPoint`], [`Calls`], [`Exits`] | where points come from, where procedures return and call |
 //! | [`Stop`] | why a search stops before it is done |
 #![tactic(auto)]
@@ -23,8 +23,8 @@ mod ways;
 pub use calls::Calls;
 pub use exits::Exits;
 pub use fault::Stop;
-pub use flow80::{Code, Procedure};
-pub use looked::{Looked, MOST_WORDS, look_at, role_of};
+pub use flow80::Procedure;
+pub use looked::{Looked, MOST_WORDS, look_at};
 pub use origin::{CallingPoint, Exit, Origin};
 pub use point::Point;
 pub use route::{Call, Route};

@@ -1,14 +1,14 @@
 //! A look at a point.
 
 ghost use Rattle.std.specs.Prelude.{◌≡◌, ◌<◌, ◌+◌, Err, IfOk, length};
-ghost use Rattle.flow80.specs.Walks.{role_of};
 ghost use Rattle.walks80.specs.declared.fault.Stop.TheVariants.{Limit};
 ghost use Rattle.walks80.specs.Counts.{IsDeep};
 ghost use Rattle.walks80.specs.Search.{IsBack, IsLooked};
 
 use crate::fault::Stop;
 use crate::point::Point;
-use flow80::{Code, LookFault, Procedure};
+use code80::{Code, LookFault};
+use flow80::Procedure;
 use frames80::{CallFault, Frame, FrameFault, Moves, Role, after, next};
 use std::alloc::Global;
 
@@ -46,16 +46,6 @@ pub fn look_at<C: Code>(alloc: Global, program: &C, point: &Point) -> Result<Loo
         Ok(moves) => Ok(Looked::Moved(moves, found.next)),
         Err(FrameFault::Memory) => Err(Stop::Memory),
         Err(fault) => Ok(Looked::Stuck(fault)),
-    }
-}
-
-/// What a procedure is.
-pub fn role_of<C: Code>(program: &C, procedure: Procedure) -> Role
-    ensures { result ≡ role_of (C.code program.now) procedure }
-{
-    match procedure {
-        Procedure::Main => Role::Main { top: program.top() },
-        Procedure::Entry(_) => Role::Entry,
     }
 }
 

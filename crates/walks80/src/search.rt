@@ -13,10 +13,11 @@ ghost use Rattle.walks80.specs.Search.{BacksFrom, BacksTo, CoversMove, Grows, Ha
 use crate::calls::Calls;
 use crate::exits::Exits;
 use crate::fault::Stop;
-use crate::looked::{Looked, back, look_at, role_of};
+use crate::looked::{Looked, back, look_at};
 use crate::origin::{CallingPoint, Exit, Origin};
 use crate::point::Point;
-use flow80::{Code, Procedure};
+use code80::{Code, role_of};
+use flow80::Procedure;
 use frames80::{Frame, Moves};
 use indexmap::IndexSet;
 use std::alloc::{AllocError, Global};

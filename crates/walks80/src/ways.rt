@@ -2,7 +2,7 @@
 
 ghost use Rattle.std.specs.Prelude.{◌≡◌, ◌<◌, ◌≤◌, IfOk, IfSome, IfNone, Some, length, slice_get};
 ghost use Rattle.bounds80.specs.declared.procedure.Procedure.TheVariants.{Main};
-ghost use Rattle.flow80.specs.Code.{Code as CodeSeen};
+ghost use Rattle.code80.specs.Code.{Code as CodeSeen};
 ghost use Rattle.walks80.specs.declared.point.Point.{Point};
 ghost use Rattle.walks80.specs.Search.{AreOrdered, HasNoBefore, IsBefore, IsCallTo, IsSound, IsWayTo, Leads};
 ghost use Rattle.walks80.specs.Ways.{IsRoute, Lead};

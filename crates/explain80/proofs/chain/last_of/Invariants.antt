@@ -1,6 +1,6 @@
 use Rattle.std.specs.Prelude.{◌≡◌, ◌<◌, ℕ, Some, pos, slice_get}
 use Rattle.frames80.specs.Calls.{depth_of}
-use Rattle.flow80.specs.Walks.{role_of}
+use Rattle.code80.specs.Code.{role_of}
 use Rattle.walks80.specs.declared.point.Point.{Point}
 use Rattle.explain80.proofs.chain.last_of.Given as goal
 

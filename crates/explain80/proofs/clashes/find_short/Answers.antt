@@ -2,7 +2,7 @@ use Rattle.std.proofs.Common.{◌∙◌, ℕ, get_or, ap, sym, subst}
 use Rattle.std.specs.Prelude.{IfNone, IfSome}
 use Rattle.bounds80.specs.Chains.{slot_of}
 use Rattle.bounds80.specs.declared.procedure.Procedure.TheVariants.{Entry}
-use Rattle.flow80.specs.Walks.{role_of}
+use Rattle.code80.specs.Code.{role_of}
 use Rattle.frames80.specs.Calls.{room}
 use Rattle.explain80.specs.Evidence.{CallsTo}
 use Rattle.explain80.proofs.ClashLemmas.{calls_once, not_short}

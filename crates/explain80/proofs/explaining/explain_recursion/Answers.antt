@@ -1,6 +1,6 @@
 use Rattle.std.proofs.Common.{inl, inr, ap, subst}
 use Rattle.std.specs.Prelude.{Err, IfNone, IfSome, Ok}
-use Rattle.flow80.specs.Code.{Code}
+use Rattle.code80.specs.Code.{Code}
 use Rattle.explain80.specs.Known.{HasNoRing}
 use Rattle.walks80.specs.Search.{IsFound}
 use Rattle.explain80.specs.Shows.{ByRing}

@@ -1,7 +1,7 @@
 use Rattle.std.proofs.Common.{sym, subst, refl, Bool, true≢false}
 use Rattle.std.proofs.lemmas.Result.{err_from_is_err_and}
 use Rattle.flow80.specs.Known.{Stands, is_exact}
-use Rattle.flow80.proofs.LookLemmas.{nothing_stands, nothing_small, same_mode}
+use Rattle.flow80.proofs.ManyVisits.{nothing_stands, nothing_small, same_mode}
 use Rattle.flow80.proofs.fill.fill.Goals as goal
 
 pub loop-changes-init : goal.loop-changes-init
@@ -32,7 +32,7 @@ pub returns-clause-filled : goal.returns-clause-filled
 returns-clause-filled g c =
     let i = c.loop-changes.invariant in
     let code = g.C.Code.code c.args.program.now in
-    record {
+    λ _. record {
       small = i.small;
       stands = subst (λ (e : Bool). Stands e code c.loop-changes.table.known) i.stands.mode i.stands;
       closed = i.closed c.loop-changes-test.false;

@@ -1,10 +1,10 @@
-use Rattle.std.proofs.Common.{◌≡◌, ◌∙◌, ap, arith, None, replicate, length}
+use Rattle.std.specs.Prelude.{◌≡◌, ℕ, Option, None, Some, refl}
 use Rattle.flow80.proofs.table.no_exits.Goals as goal
 
+-- a copy of None is None
+only_none : (IsCopy : Option ℕ → Type 0) → ((x : ℕ) → IsCopy (Some x) → ⊥) → (y : Option ℕ) → IsCopy y → y ≡ None
+only_none IsCopy never None copy = refl
+only_none IsCopy never (Some x) copy = absurd (never x copy)
+
 pub returns : goal.returns
-returns c =
-    let long = c.loop-exits-test.false in
-    let few = c.loop-exits.invariant.few in
-    let whole = c.loop-exits.exits.ok.0 in
-    let count : length c.loop-exits.exits.items ≡ 65536 = omega (arith, c.len.ensures) in
-    c.loop-exits.invariant.items ∙ ap (λ n. replicate n None) count
+returns c = c.in_ok-exits.ensures.items_if_clones_equal (only_none _ (λ x copy. copy))

@@ -4,7 +4,7 @@ use Rattle.frames80.specs.StackFrame.{StackFrame}
 use Rattle.interned80.specs.Frames.{frame_at}
 use Rattle.flow80.specs.declared.points.StoredPoint.{StoredPoint}
 use Rattle.flow80.specs.Points.{Point, IsNoPoint, StoredPoints}
-use Rattle.flow80.specs.Numbers.{Puts}
+use Rattle.code80.specs.PointNumbers.{Puts}
 use Rattle.flow80.specs.PointStore.{AreStored, point_of, points_of}
 use Rattle.flow80.proofs.PointLemmas.{points_of-added, AreStored-same, AreStored-added}
 use Rattle.flow80.proofs.points.Points.add.Goals as goal

@@ -11,4 +11,4 @@ returns-clause-apart c =
 pub returns-clause-addresses : goal.returns-clause-addresses
 returns-clause-addresses c =
     let fields = c.self.inside in
-    subst AreAddresses (ap (λ (s : StoredPoints). s.points) c.self.view_is) (AreAddresses-stored fields.frames fields.stored.items fields.numbers c.self.invariant)
+    subst AreAddresses (ap (λ (s : StoredPoints). s.points) c.self.view_is) (AreAddresses-stored fields.frames fields.stored.items fields.numbers c.self.invariant c.numbers_are_of_addresses.ensures)

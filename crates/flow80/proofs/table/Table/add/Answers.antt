@@ -34,7 +34,7 @@ returns-clause-flows c =
     ∙ ap (λ (x : Known). x.points ++ point ∷ []) same in
     let exits : c.self-2.inside.exits.items ≡ known.exits = ap (λ (t : KnownFrames). t.known.exits) c.self-2.view_is ∙ ap (λ (x : Known). x.exits) same in
     let forgets : is_some c.self-2.inside.asked ≡ known.forgets = ap (λ (t : KnownFrames). t.known.forgets) c.self-2.view_is ∙ ap (λ (x : Known). x.forgets) same in
-    let after : c.look_again.new.self.known ≡ added known point =
-    ap (λ (t : KnownFrames). t.known) c.look_again.ensures ∙ (λ i. record { points = grown i; exits = exits i; forgets = forgets i }) in
+    let after : c.visit_again.new.self.known ≡ added known point =
+    ap (λ (t : KnownFrames). t.known) c.visit_again.ensures ∙ (λ i. record { points = grown i; exits = exits i; forgets = forgets i }) in
     subst (λ (x : Known). Flows known x c.args.procedure c.args.to g (Ok true)) (sym after)
     (flows_added known c.args.procedure c.args.to g k lesser.covers lesser.same c.requires.frame.small few c.requires.frame.fits c.requires.new)

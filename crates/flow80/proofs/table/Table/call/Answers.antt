@@ -6,7 +6,7 @@ use Rattle.interned80.specs.Frames.{frame_at}
 use Rattle.flow80.specs.Known.{Known, KnownFrames, Flows, CallsOut, IsShort, exit_of}
 use Rattle.flow80.proofs.FrameLemmas.{stays_there, stays_at}
 use Rattle.flow80.proofs.VisitLemmas.{returned_within}
-use Rattle.flow80.proofs.StepLemmas.{calls_refused, calls_waiting, calls_back, calls_back_refused, calls_not_back}
+use Rattle.flow80.proofs.StepLemmas.{calls_refused, calls_waiting, calls_back, calls_not_back}
 use Rattle.flow80.proofs.table.Table.call.Goals as goal
 
 pub come_back-requires : goal.come_back-requires
@@ -72,7 +72,7 @@ returns-in_err-went_on-in-Some-clause-calls c =
     let second : Flows mid.known c.flow.new.self.known s.procedure s.next (returned taken f) (Err c.in_err-went_on-in-Some.field-0.0) =
     subst (λ (k : Known). Flows k c.flow.new.self.known s.procedure s.next (returned taken f) (Err c.in_err-went_on-in-Some.field-0.0)) c.in_ok-back-in-Some.ensures.known
     (subst (λ (g : StackFrame). Flows c.come_back.new.self.known c.flow.new.self.known s.procedure s.next g (Err c.in_err-went_on-in-Some.field-0.0)) is c.in_err-went_on-in-Some.ensures.flows) in
-    rw (p.1, p.2) (calls_back_refused c.frame_laws.ensures table.known mid.known c.flow.new.self.known s.procedure s.at s.next s.role f c.args.target taken c.in_ok-entered.entered c.in_err-went_on-in-Some.field-0.0 c.in_ok-entered.ensures.flows exit enough second)
+    rw (p.1, p.2) (calls_back c.frame_laws.ensures table.known mid.known c.flow.new.self.known s.procedure s.at s.next s.role f c.args.target taken c.in_ok-entered.entered (Err c.in_err-went_on-in-Some.field-0.0) c.in_ok-entered.ensures.flows exit enough second)
 
 pub returns-in_ok-went_on-in-Some-clause-calls : goal.returns-in_ok-went_on-in-Some-clause-calls
 returns-in_ok-went_on-in-Some-clause-calls c =
@@ -88,4 +88,4 @@ returns-in_ok-went_on-in-Some-clause-calls c =
     let second : Flows mid.known c.flow.new.self.known s.procedure s.next (returned taken f) (Ok c.in_ok-went_on-in-Some.went_on) =
     subst (λ (k : Known). Flows k c.flow.new.self.known s.procedure s.next (returned taken f) (Ok c.in_ok-went_on-in-Some.went_on)) c.in_ok-back-in-Some.ensures.known
     (subst (λ (g : StackFrame). Flows c.come_back.new.self.known c.flow.new.self.known s.procedure s.next g (Ok c.in_ok-went_on-in-Some.went_on)) is c.in_ok-went_on-in-Some.ensures.flows) in
-    calls_back c.frame_laws.ensures table.known mid.known c.flow.new.self.known s.procedure s.at s.next s.role f c.args.target taken c.in_ok-entered.entered c.in_ok-went_on-in-Some.went_on c.in_ok-entered.ensures.flows exit enough second
+    calls_back c.frame_laws.ensures table.known mid.known c.flow.new.self.known s.procedure s.at s.next s.role f c.args.target taken c.in_ok-entered.entered (Ok c.in_ok-went_on-in-Some.went_on) c.in_ok-entered.ensures.flows exit enough second

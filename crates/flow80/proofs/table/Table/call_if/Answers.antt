@@ -5,23 +5,15 @@ use Rattle.frames80.specs.StackFrame.{StackFrame}
 use Rattle.frames80.specs.declared.moves.Moves.TheVariants.{MaybeCall}
 use Rattle.interned80.specs.Frames.{frame_at}
 use Rattle.flow80.specs.Known.{CallsOut}
-use Rattle.flow80.proofs.FrameLemmas.{stays_there, stays_at}
-use Rattle.flow80.proofs.VisitLemmas.{within_more}
-use Rattle.flow80.proofs.StepLemmas.{steps_first_refused, steps_maybe_call, steps_maybe_call_refused}
+use Rattle.flow80.proofs.FrameLemmas.{stays_at}
+use Rattle.flow80.proofs.VisitLemmas.{can_still_lead}
+use Rattle.flow80.proofs.StepLemmas.{steps_first_refused, steps_maybe_call}
 use Rattle.flow80.proofs.table.Table.call_if.Goals as goal
 
 pub call-requires : goal.call-requires
 call-requires c =
-    let frame = c.args.site.now.frame in
-    let before = c.args.self.now.frames in
-    let after = c.flow.new.self.frames in
-    let stays = c.in_ok-one.ensures.stays in
-    record {
-      small = c.in_ok-one.ensures.flows.small;
-      there = stays_there before after stays frame c.requires.there;
-      fits = rw (stays_at before after stays frame c.requires.there)
-          (within_more _ _ (frame_at before frame) c.in_ok-one.ensures.flows.more c.requires.fits);
-    }
+    let one = c.in_ok-one.ensures in
+    can_still_lead c.args.self.now c.flow.new.self c.args.site.now.frame one.flows.small one.flows.more one.stays c.requires
 
 pub returns-in_err-one-clause-steps : goal.returns-in_err-one-clause-steps
 returns-in_err-one-clause-steps c targets =
@@ -29,7 +21,7 @@ returns-in_err-one-clause-steps c targets =
     let table = c.args.self.now in
     let s = c.args.site.now in
     let f = frame_at table.frames s.frame in
-    rw (p.1, p.2) (steps_first_refused c.frame_laws.ensures table.known c.flow.new.self.known s.procedure s.at targets s.next s.next s.role (MaybeCall f c.args.target) f c.in_err-one.field-0.0 (refl, refl) c.in_err-one.ensures.flows c.flow.new.self.known)
+    rw (p.1, p.2) (steps_first_refused c.frame_laws.ensures table.known c.flow.new.self.known s.procedure s.at targets s.next s.next s.role (MaybeCall f c.args.target) f c.in_err-one.field-0.0 (refl, refl) c.in_err-one.ensures.flows)
 
 pub returns-in_err-other-clause-steps : goal.returns-in_err-other-clause-steps
 returns-in_err-other-clause-steps c targets =
@@ -40,7 +32,7 @@ returns-in_err-other-clause-steps c targets =
     let f = frame_at table.frames s.frame in
     let calls : CallsOut mid.known c.call.new.self.known s.procedure s.at s.next s.role f c.args.target (Err c.in_err-other.field-0.0) =
     subst (λ (g : StackFrame). CallsOut mid.known c.call.new.self.known s.procedure s.at s.next s.role g c.args.target (Err c.in_err-other.field-0.0)) (stays_at table.frames mid.frames c.in_ok-one.ensures.stays s.frame c.requires.there) c.in_err-other.ensures.calls in
-    rw (p.1, p.2) (steps_maybe_call_refused c.frame_laws.ensures table.known mid.known c.call.new.self.known s.procedure s.at targets s.next s.role f c.args.target c.in_ok-one.one c.in_err-other.field-0.0 c.in_ok-one.ensures.flows calls)
+    rw (p.1, p.2) (steps_maybe_call c.frame_laws.ensures table.known mid.known c.call.new.self.known s.procedure s.at targets s.next s.role f c.args.target c.in_ok-one.one (Err c.in_err-other.field-0.0) c.in_ok-one.ensures.flows calls)
 
 pub returns-clause-steps : goal.returns-clause-steps
 returns-clause-steps c targets =
@@ -50,4 +42,4 @@ returns-clause-steps c targets =
     let f = frame_at table.frames s.frame in
     let calls : CallsOut mid.known c.call.new.self.known s.procedure s.at s.next s.role f c.args.target (Ok c.in_ok-other.other) =
     subst (λ (g : StackFrame). CallsOut mid.known c.call.new.self.known s.procedure s.at s.next s.role g c.args.target (Ok c.in_ok-other.other)) (stays_at table.frames mid.frames c.in_ok-one.ensures.stays s.frame c.requires.there) c.in_ok-other.ensures.calls in
-    steps_maybe_call c.frame_laws.ensures table.known mid.known c.call.new.self.known s.procedure s.at targets s.next s.role f c.args.target c.in_ok-one.one c.in_ok-other.other c.in_ok-one.ensures.flows calls
+    steps_maybe_call c.frame_laws.ensures table.known mid.known c.call.new.self.known s.procedure s.at targets s.next s.role f c.args.target c.in_ok-one.one (Ok c.in_ok-other.other) c.in_ok-one.ensures.flows calls

@@ -1,8 +1,11 @@
 use Rattle.std.proofs.lemmas.Result.{err_from_is_err_and}
 use Rattle.std.proofs.Common.{Ok, Err, subst}
 use Rattle.flow80.specs.Known.{KnownFrames, Visits}
-use Rattle.flow80.proofs.LookLemmas.{ongoing_more, ongoing_visit, visit_refused, more_refused}
+use Rattle.flow80.proofs.ManyVisits.{visits_none, visits_more, visits_visit}
 use Rattle.flow80.proofs.table.Table.drain.Goals as goal
+
+pub loop-init : goal.loop-init
+loop-init g c = visits_none (g.C.Code.code c.args.program.now) c.args.self.now.known c.requires
 
 pub returns-in_err-here : goal.returns-in_err-here
 returns-in_err-here g c =
@@ -10,11 +13,11 @@ returns-in_err-here g c =
     let code = g.C.Code.code c.args.program.now in
     let now = c.loop.self.known in
     let new = c.visit.new.self.known in
-    rw (p.1, p.2) (more_refused code c.args.self.now.known now new c.loop.changed c.in_err-here.field-0.0 c.loop.invariant (visit_refused code now new new c.in-Some.point c.in_err-here.field-0.0
-    (subst (λ (t : KnownFrames). Visits code t.known new c.in-Some.point (Err c.in_err-here.field-0.0)) c.next_pending.ensures.same c.in_err-here.ensures)) new)
+    rw (p.1, p.2) (visits_more code c.args.self.now.known now new c.loop.changed (Err c.in_err-here.field-0.0) c.loop.invariant (visits_visit code now new c.in-Some.point (Err c.in_err-here.field-0.0)
+    (subst (λ (t : KnownFrames). Visits code t.known new c.in-Some.point (Err c.in_err-here.field-0.0)) c.next_pending.ensures.same c.in_err-here.ensures)))
 
 pub loop-preserved : goal.loop-preserved
 loop-preserved g c =
     let code = g.C.Code.code c.args.program.now in
-    ongoing_more code c.args.self.now.known c.loop.self.known c.visit.new.self.known c.loop.changed c.in_ok-here.here c.loop.invariant (ongoing_visit code c.loop.self.known c.visit.new.self.known c.in-Some.point c.in_ok-here.here
+    visits_more code c.args.self.now.known c.loop.self.known c.visit.new.self.known c.loop.changed (Ok c.in_ok-here.here) c.loop.invariant (visits_visit code c.loop.self.known c.visit.new.self.known c.in-Some.point (Ok c.in_ok-here.here)
     (subst (λ (t : KnownFrames). Visits code t.known c.visit.new.self.known c.in-Some.point (Ok c.in_ok-here.here)) c.next_pending.ensures.same c.in_ok-here.ensures))

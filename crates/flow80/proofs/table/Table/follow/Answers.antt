@@ -6,7 +6,7 @@ use Rattle.frames80.specs.declared.moves.Moves.TheVariants.{On, Jump, Return, Ma
 use Rattle.interned80.specs.Admitted.{move_of}
 use Rattle.interned80.specs.Frames.{frame_at}
 use Rattle.flow80.specs.Known.{KnownFrames, Steps}
-use Rattle.flow80.proofs.StepLemmas.{steps_one, on_way, jump_way, steps_return}
+use Rattle.flow80.proofs.StepLemmas.{steps_one, on_way, jump_way, steps_call, steps_return}
 use Rattle.flow80.proofs.table.Table.follow.Goals as goal
 
 pub returns-in-Change : goal.returns-in-Change
@@ -33,6 +33,14 @@ returns-in-JumpIf c =
     let s = c.args.site.now in
     subst (λ (e : Effect). Steps table.known c.branch-self.new.self.known s.procedure s.at c.args.targets.now s.next s.role (move_of e (frame_at table.frames s.frame)) c.branch-self.result) (sym c.in-JumpIf.is)
     (c.branch-self.ensures.steps c.args.targets.now)
+
+pub returns-in-Call : goal.returns-in-Call
+returns-in-Call c =
+    let table = c.args.self.now in
+    let s = c.args.site.now in
+    let f = frame_at table.frames s.frame in
+    subst (λ (e : Effect). Steps table.known c.call.new.self.known s.procedure s.at c.args.targets.now s.next s.role (move_of e f) c.call.result) (sym c.in-Call.is)
+    (steps_call c.frame_laws.ensures table.known c.call.new.self.known s.procedure s.at c.args.targets.now s.next s.role f c.in-Call.target c.call.result c.call.ensures.calls)
 
 pub returns-in-CallIf : goal.returns-in-CallIf
 returns-in-CallIf c =

@@ -65,7 +65,7 @@ returns-clause-flows c =
     c.replace.ensures.reframed.reframed at.point (ap (λ (ps : List Point). slice_get ps c.args.i) points ∙ at.stands)
     ∙ ap (λ (ps : List Point). slice_set ps c.args.i (with_frame (frame_at c.meet.new.self.frames c.in-Ok.merged) at.point)) points
     ∙ ap (λ (f : StackFrame). slice_set table.known.points c.args.i (with_frame f at.point)) (c.in-Ok.ensures.merged.is ∙ met) in
-    let after : c.look_again.new.self.known ≡ replaced table.known c.args.i (merged at.point.frame g) at.point =
-    ap (λ (t : KnownFrames). t.known) c.look_again.ensures ∙ (λ i. record { points = reframed i; exits = (c.self.view_is i).known.exits; forgets = (c.self.view_is i).known.forgets }) in
+    let after : c.visit_again.new.self.known ≡ replaced table.known c.args.i (merged at.point.frame g) at.point =
+    ap (λ (t : KnownFrames). t.known) c.visit_again.ensures ∙ (λ i. record { points = reframed i; exits = (c.self.view_is i).known.exits; forgets = (c.self.view_is i).known.forgets }) in
     subst (λ (k : Known). Flows table.known k c.args.procedure c.args.to g (Ok true)) (sym after)
     (flows_replaced c.frame_laws.ensures table.known c.args.procedure c.args.to c.args.i g at c.requires.small same changed)

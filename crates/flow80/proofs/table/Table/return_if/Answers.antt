@@ -1,8 +1,8 @@
-use Rattle.std.specs.Prelude.{refl}
+use Rattle.std.specs.Prelude.{Ok, Err, refl}
 use Rattle.std.proofs.lemmas.Result.{err_from_is_err_and}
 use Rattle.frames80.specs.declared.moves.Moves.TheVariants.{MaybeReturn}
 use Rattle.interned80.specs.Frames.{frame_at}
-use Rattle.flow80.proofs.StepLemmas.{steps_first_refused, steps_maybe_return, steps_maybe_return_refused}
+use Rattle.flow80.proofs.StepLemmas.{steps_first_refused, steps_maybe_return}
 use Rattle.flow80.proofs.table.Table.return_if.Goals as goal
 
 pub returns-in_err-one-clause-steps : goal.returns-in_err-one-clause-steps
@@ -11,7 +11,7 @@ returns-in_err-one-clause-steps c targets =
     let table = c.args.self.now in
     let s = c.args.site.now in
     let f = frame_at table.frames s.frame in
-    rw (p.1, p.2) (steps_first_refused c.frame_laws.ensures table.known c.flow.new.self.known s.procedure s.at targets s.next s.next s.role (MaybeReturn f c.args.taken) f c.in_err-one.field-0.0 (refl, refl) c.in_err-one.ensures.flows c.flow.new.self.known)
+    rw (p.1, p.2) (steps_first_refused c.frame_laws.ensures table.known c.flow.new.self.known s.procedure s.at targets s.next s.next s.role (MaybeReturn f c.args.taken) f c.in_err-one.field-0.0 (refl, refl) c.in_err-one.ensures.flows)
 
 pub returns-in_err-other-clause-steps : goal.returns-in_err-other-clause-steps
 returns-in_err-other-clause-steps c targets =
@@ -19,11 +19,11 @@ returns-in_err-other-clause-steps c targets =
     let table = c.args.self.now in
     let s = c.args.site.now in
     let f = frame_at table.frames s.frame in
-    rw (p.1, p.2) (steps_maybe_return_refused c.frame_laws.ensures table.known c.flow.new.self.known c.exit.new.self.known s.procedure s.at targets s.next s.role f c.args.taken c.in_ok-one.one c.in_err-other.field-0.0 c.in_ok-one.ensures.flows c.in_err-other.ensures.exits)
+    rw (p.1, p.2) (steps_maybe_return c.frame_laws.ensures table.known c.flow.new.self.known c.exit.new.self.known s.procedure s.at targets s.next s.role f c.args.taken c.in_ok-one.one (Err c.in_err-other.field-0.0) c.in_ok-one.ensures.flows c.in_err-other.ensures.exits)
 
 pub returns-clause-steps : goal.returns-clause-steps
 returns-clause-steps c targets =
     let table = c.args.self.now in
     let s = c.args.site.now in
     let f = frame_at table.frames s.frame in
-    steps_maybe_return c.frame_laws.ensures table.known c.flow.new.self.known c.exit.new.self.known s.procedure s.at targets s.next s.role f c.args.taken c.in_ok-one.one c.in_ok-other.other c.in_ok-one.ensures.flows c.in_ok-other.ensures.exits
+    steps_maybe_return c.frame_laws.ensures table.known c.flow.new.self.known c.exit.new.self.known s.procedure s.at targets s.next s.role f c.args.taken c.in_ok-one.one (Ok c.in_ok-other.other) c.in_ok-one.ensures.flows c.in_ok-other.ensures.exits

@@ -8,7 +8,7 @@ use Rattle.flow80.proofs.WalkedLemmas.{all_stay, leads_there}
 use Rattle.flow80.proofs.walks.Walks.go_on.Goals as goal
 
 pub returns-clause-walked : goal.returns-clause-walked
-returns-clause-walked g c = all_stay (g.C.Code.code c.args.program.now) c.args.self.now c.change.new.self c.change.ensures.stays c.requires.walked
+returns-clause-walked g c = all_stay (g.C.Code.code c.args.program.now) c.args.self.now c.change-2.new.self c.change-2.ensures.stays c.requires.walked
 
 pub returns-clause-next : goal.returns-clause-next
 returns-clause-next g c =
@@ -17,5 +17,5 @@ returns-clause-next g c =
     let from = c.args.from.now in
     let effect = c.in-Some.effect in
     let moving = subst (λ o. IfSome o (λ m. IsMovingFrom code old from m.0 m.1)) c.in-Some.is c.in_ok-effect.ensures.moves in
-    leads_there code old c.change.new.self from c.requires.from effect c.in-Some.next moving c.targets.result.now c.args.to c.in_ok-frame.frame c.targets.ensures (c.leads_to.ensures c.if-not-leads_to.false)
-    (subst (λ (change : Change). IsFrame c.change.new.self c.in_ok-frame.frame (changed change (frame_at old from.frame))) c.change_of.ensures c.in_ok-frame.ensures.changed)
+    leads_there code old c.change-2.new.self from c.requires.from effect c.in-Some.next moving c.targets.result.now c.args.to c.in_ok-frame.frame c.targets.ensures (c.leads_to.ensures c.if-not-leads_to.false)
+    (subst (λ (change : Change). IsFrame c.change-2.new.self c.in_ok-frame.frame (changed change (frame_at old from.frame))) c.change.ensures c.in_ok-frame.ensures.changed)

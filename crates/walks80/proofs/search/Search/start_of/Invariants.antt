@@ -1,5 +1,5 @@
 use Rattle.std.specs.Prelude.{◌<◌, ◌≤◌, length}
-use Rattle.flow80.specs.Code.{Code}
+use Rattle.code80.specs.Code.{Code}
 use Rattle.walks80.specs.Search.{Leads, IsSound}
 use Rattle.walks80.proofs.search.Search.start_of.Given as goal
 

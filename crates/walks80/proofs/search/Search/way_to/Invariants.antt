@@ -1,5 +1,5 @@
 use Rattle.std.specs.Prelude.{◌≡◌, ◌<◌, length, slice_get, Some}
-use Rattle.flow80.specs.Code.{Code}
+use Rattle.code80.specs.Code.{Code}
 use Rattle.walks80.specs.declared.point.Point.{Point}
 use Rattle.walks80.specs.Search.{IsBackwards, IsSound}
 use Rattle.walks80.proofs.search.Search.way_to.Given as goal

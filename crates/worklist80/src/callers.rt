@@ -1,0 +1,78 @@
+//! The points that wait for a callee's return.
+
+use crate::marks::Marks;
+use crate::pending::Pending;
+use std::alloc::{AllocError, Global};
+
+/// No link.
+const NONE: usize = usize::MAX;
+
+/// A point at a call and its address, and the link before it of the same callee.
+#[derive(Clone, Copy)]
+struct Link {
+    point: usize,
+    at: u16,
+    before: usize,
+}
+
+/// For each entry, the points at calls of it, each once, the newest first: they are visited again when the callee's return is
+/// seen. What the verifier answers doesn't rest on this list, only how soon.
+#[derive(Drop)]
+pub struct Callers {
+    newest: Vec<usize>,
+    links: Vec<Link>,
+    linked: Marks,
+}
+
+impl Callers {
+    /// No callers.
+    ///
+    /// # Errors
+    /// `AllocError` if memory runs out.
+    pub fn new(alloc: Global) -> Result<Callers, AllocError> {
+        Ok(Callers {
+            newest: vec![in alloc; NONE; 65536]?,
+            links: Vec::new(alloc),
+            linked: Marks::new(alloc),
+        })
+    }
+
+    /// The point of an address waits for a callee. (The instruction there calls no other.)
+    ///
+    /// # Errors
+    /// `AllocError` if memory runs out.
+    pub fn add(&mut self, entry: u16, point: usize, at: u16) -> Result<(), AllocError> {
+        if self.linked.add(point)? {
+            return Ok(());
+        }
+        let number = self.links.len();
+        if let Some(newest) = self.newest.get_mut(usize::from(entry)) {
+            self.links.push(Link {
+                point,
+                at,
+                before: *newest,
+            })?;
+            *newest = number;
+        }
+        Ok(())
+    }
+
+    /// Notes that the points that wait for a callee are to be visited again.
+    ///
+    /// # Errors
+    /// `AllocError` if memory runs out.
+    pub fn wake(&mut self, entry: u16, pending: &mut Pending) -> Result<(), AllocError> {
+        let mut at = match self.newest.get(usize::from(entry)) {
+            Some(newest) => *newest,
+            None => NONE,
+        };
+        for _ in 0..self.links.len() {
+            let Some(link) = self.links.get(at) else {
+                break;
+            };
+            pending.add(link.point, link.at)?;
+            at = link.before;
+        }
+        Ok(())
+    }
+}
