@@ -1,7 +1,10 @@
 //! Upper case hexadecimal digits.
 
-ghost use Rattle.std.specs.Prelude.{◌≡◌, ◌≢◌, ℕ, ◌<◌, [], ◌∷◌, IfSome, IfNone};
+ghost use Rattle.std.specs.Prelude.{◌≡◌, ◌≢◌, ℕ, ◌<◌, [], ◌∷◌, ◌++◌, IfSome, IfNone, OnOk};
+ghost use Rattle.std.specs.List.{flat_map};
 ghost use Rattle.decode80.specs.Text.{byte_text, digit_text, word_text};
+
+use std::alloc::AllocError;
 
 /// The digits of 0 to 15.
 static DIGITS: [u8; 16] = *b"0123456789ABCDEF";
@@ -21,6 +24,19 @@ pub fn byte_digits(byte: u8) -> [u8; 2]
     let [high] = digit(byte / 16);
     let [low] = digit(byte % 16);
     [high, low]
+}
+
+/// Appends two digits for each byte.
+///
+/// # Errors
+/// `AllocError` only if memory runs out; the digits of the first bytes may then have been appended.
+pub fn append_digits(bytes: &[u8], out: &mut Vec<u8>) -> Result<(), AllocError>
+    ensures { OnOk result (out.new.items ≡ out.old.items ++ flat_map byte_text bytes.now) }
+{
+    for byte in bytes {
+        out.extend_from_slice(&byte_digits(*byte))?;
+    }
+    Ok(())
 }
 
 /// A word in four digits.

@@ -2,10 +2,9 @@
 
 ghost use Rattle.std.specs.Prelude.{◌≡◌, ◌+◌, ◌<◌, ◌≤◌, ◌++◌, length, IfOk, IfSome, OnOk};
 ghost use Rattle.std.specs.List.{flat_map};
-ghost use Rattle.decode80.specs.Text.{byte_text};
 ghost use Rattle.listing80.specs.Listing.{bytes_from, columns, instruction_line_of, instruction_of, line_length, list_line, listing_of, range_lines};
 
-use decode80::{Instr, byte_digits, decode, spelling_laws, word_digits, write_text};
+use decode80::{Instr, append_digits, decode, spelling_laws, word_digits, write_text};
 use image80::{Image, Range};
 use machine80::{Bus, FlatBus};
 use std::alloc::{AllocError, Global};
@@ -154,15 +153,5 @@ pub fn append_columns(at: u16, bytes: &[u8], text: &mut Vec<u8>) -> Result<(), A
     let blanks = b"      ".as_slice();
     text.extend_from_slice(&blanks[2 * bytes.len()..])?;
     text.push(b' ')?;
-    Ok(())
-}
-
-/// Appends two digits for each byte.
-fn append_digits(bytes: &[u8], text: &mut Vec<u8>) -> Result<(), AllocError>
-    ensures { OnOk result (text.new.items ≡ text.old.items ++ flat_map byte_text bytes.now) }
-{
-    for byte in bytes {
-        text.extend_from_slice(&byte_digits(*byte))?;
-    }
     Ok(())
 }

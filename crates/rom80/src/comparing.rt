@@ -7,7 +7,7 @@ ghost use Rattle.rom80.specs.Compare.{AreDifferences, LieWithin, run_of, same_co
 
 use crate::extracting::bytes_over;
 use crate::fault::RomFault;
-use decode80::{byte_digits, word_digits};
+use decode80::{append_digits, word_digits};
 use image80::Image;
 use std::alloc::{AllocError, Global};
 
@@ -218,10 +218,7 @@ fn append_shown(
 {
     let begin = usize::from(range.first - first);
     let count = SHOWN.min(range.length as usize);
-    for byte in &bytes[begin..begin + count] {
-        text.extend_from_slice(&byte_digits(*byte))?;
-    }
-    Ok(())
+    append_digits(&bytes[begin..begin + count], text)
 }
 
 /// How many bytes are the same.
