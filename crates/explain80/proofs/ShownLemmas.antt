@@ -1,20 +1,19 @@
--- What an explanation shows holds of the program.
+-- The last point of a route is one that a walk comes to, and a ring of calls is a recursion.
 use Rattle.std.proofs.Common.{◌≡◌, ◌⊎◌, inl, inr, ℕ, List, [], ◌∷◌, refl, sym, ◌∙◌, ap, subst}
-use Rattle.frames80.specs.declared.fault.FrameFault.{FrameFault}
+use Rattle.frames80.specs.StackFrame.{StackFrame}
 use Rattle.bounds80.specs.declared.procedure.Procedure.{Procedure}
 use Rattle.bounds80.specs.declared.procedure.Procedure.TheVariants.{Main, Entry}
-use Rattle.code80.specs.declared.code.LookFault.{LookFault}
-use Rattle.flow80.specs.declared.refusal.Refusal.TheVariants.{FetchOutside, UnusedOpcode, EnablesInterrupts, Sphl, Pchl, StackByByte, SetsStack, DirectStore, PopsBelow, ReturnNotOwn, ReturnFromMain, HeightsDiffer, UnevenArguments, ShortArguments, Recursion, StackTooSmall, TooManyPoints, Memory}
 use Rattle.code80.specs.Code.{Code}
-use Rattle.flow80.specs.Walks.{Calls, Returns, Walk, begins, goes_on, enters, comes_back}
-use Rattle.flow80.specs.Faults.{LooksWrong, MovesWrong, Differ, Uneven, Short, Recurs, CallsFrom, Leads, here, further}
+use Rattle.flow80.specs.Walks.{Calls, Walk, begins, goes_on, enters, comes_back}
+use Rattle.flow80.specs.Faults.{Recurs, CallsFrom, Leads, here, further}
 use Rattle.walks80.specs.declared.point.Point.{Point}
 use Rattle.walks80.specs.declared.route.Call.{Call}
 use Rattle.walks80.specs.declared.route.Route.{Route}
 use Rattle.explain80.specs.declared.explanation.Explanation.{Explanation}
 use Rattle.explain80.specs.declared.explanation.Explanation.TheVariants.{Way as OneWay, Ways as TwoWays, Ring}
 use Rattle.walks80.specs.Ways.{IsWalked, Follows, Way, Starts, IsCalled, Lead, IsRoute}
-use Rattle.explain80.specs.Shows.{LooksWrongAt, MovesWrongAt, DifferAt, UnevenAt, ShortAt, ByOneWay, ByTwoWays, RingOf, ByRing, ShownHolds}
+use Rattle.walks80.specs.Search.{point_of}
+use Rattle.explain80.specs.Shows.{RingOf, ByRing}
 
 module _ (code : Code) where
   followed : (one other : Point) → Follows code one other → IsWalked code one → IsWalked code other
@@ -51,7 +50,11 @@ module _ (code : Code) where
   same_target : (a b : ℕ) → Entry a ≡ Entry b → a ≡ b
   same_target a b e = cc
 
-  reached : (route : Route) (last : Point) → IsRoute code route last → IsWalked code last
+  -- a route to a point is one to the point of these parts
+  pub to_point : (route : Route) (last : Point) (p : Procedure) (at : ℕ) → IsRoute code route last → last.procedure ≡ p → last.at ≡ at → IsRoute code route (point_of p at last.frame)
+  to_point route last p at is of_p is_at = subst (IsRoute code route) (λ i. record { procedure = of_p i; at = is_at i; frame = last.frame }) is
+
+  pub reached : (route : Route) (last : Point) → IsRoute code route last → IsWalked code last
   reached route last is = walked is.first is.rest last is.way (begun is.starts)
     where
       begun : Starts code is.first → IsWalked code is.first
@@ -79,79 +82,8 @@ module _ (code : Code) where
       from : (call : Call) (q : Procedure) → call.caller ≡ q → IsCalled code call → CallsFrom code q call.target
       from call q is called = subst (λ p. CallsFrom code p call.target) is (record { at = call.at; frame = called.frame; next = called.next; walk = called.walk; call = called.calls })
 
-  looks : (at : ℕ) (fault : LookFault) (shown : Explanation) → ByOneWay code (LooksWrongAt code at fault) shown → LooksWrong code at fault
-  looks at fault (OneWay route) s =
-      let walk = reached route s.last s.is_route in
-      record { procedure = s.last.procedure; frame = s.last.frame; walk = subst (λ a. Walk code s.last.procedure a s.last.frame) s.there.at_fault walk; looked = s.there.looked }
-  looks at fault (TwoWays a b) s = absurd s
-  looks at fault (Ring a b) s = absurd s
-
-  moves : (at : ℕ) (fault : FrameFault) (shown : Explanation) → ByOneWay code (MovesWrongAt code at fault) shown → MovesWrong code at fault
-  moves at fault (OneWay route) s =
-      let walk = reached route s.last s.is_route in
-      record { procedure = s.last.procedure; frame = s.last.frame; found = s.there.found; walk = subst (λ a. Walk code s.last.procedure a s.last.frame) s.there.at_fault walk; looked = s.there.looked; moved = s.there.moved }
-  moves at fault (TwoWays a b) s = absurd s
-  moves at fault (Ring a b) s = absurd s
-
-  differ : (at : ℕ) (shown : Explanation) → ByTwoWays code (DifferAt at) shown → Differ code at
-  differ at (TwoWays route other) s =
-      let walk = reached route s.last s.is_route in
-      let second = reached other s.other_last s.other_route in
-      record {
-        procedure = s.last.procedure;
-        one = s.last.frame;
-        other = s.other_last.frame;
-        walk_one = subst (λ a. Walk code s.last.procedure a s.last.frame) s.there.one_at walk;
-        walk_other = subst (λ p. Walk code p at s.other_last.frame) s.there.procedure (subst (λ a. Walk code s.other_last.procedure a s.other_last.frame) s.there.other_at second);
-        differ = s.there.differ;
-      }
-  differ at (OneWay a) s = absurd s
-  differ at (Ring a b) s = absurd s
-
-  uneven : (at : ℕ) (shown : Explanation) → ByTwoWays code (UnevenAt code at) shown → Uneven code at
-  uneven at (TwoWays route other) s =
-      let one = s.last in
-      let two = s.other_last in
-      let walk : Walk code one.procedure one.at one.frame = reached route one s.is_route in
-      let second : Walk code two.procedure two.at two.frame = reached other two s.other_route in
-      record {
-        procedure = one.procedure;
-        other = two.at;
-        frame = one.frame;
-        other_frame = two.frame;
-        taken = s.there.taken;
-        other_taken = s.there.other_taken;
-        walk = subst (λ a. Walk code one.procedure a one.frame) s.there.one_at walk;
-        returns = subst (λ a. Returns code one.procedure a one.frame s.there.taken) s.there.one_at s.there.returns;
-        walk_other = subst (λ p. Walk code p two.at two.frame) s.there.procedure second;
-        returns_other = subst (λ p. Returns code p two.at two.frame s.there.other_taken) s.there.procedure s.there.other_returns;
-        differ = s.there.differ;
-      }
-  uneven at (OneWay a) s = absurd s
-  uneven at (Ring a b) s = absurd s
-
-  short : (at : ℕ) (shown : Explanation) → ByTwoWays code (ShortAt code at) shown → Short code at
-  short at (TwoWays route other) s =
-      let one = s.last in
-      let two = s.other_last in
-      let walk : Walk code one.procedure one.at one.frame = reached route one s.is_route in
-      let second : Walk code two.procedure two.at two.frame = reached other two s.other_route in
-      record {
-        procedure = one.procedure;
-        frame = one.frame;
-        target = s.there.target;
-        next = s.there.next;
-        inside = two.at;
-        callee = two.frame;
-        walk = subst (λ a. Walk code one.procedure a one.frame) s.there.one_at walk;
-        call = subst (λ a. Calls code one.procedure a one.frame s.there.target s.there.next) s.there.one_at s.there.call;
-        walk_callee = subst (λ p. Walk code p two.at two.frame) s.there.procedure second;
-        short = s.there.short;
-      }
-  short at (OneWay a) s = absurd s
-  short at (Ring a b) s = absurd s
-
-  recurs : (at : ℕ) (shown : Explanation) → ByRing code at shown → Recurs code at
+  -- a ring recurs
+  pub recurs : (at : ℕ) (shown : Explanation) → ByRing code at shown → Recurs code at
   recurs at (Ring calls ring) s = by calls.items ring.items s
     where
       by : (calls ring : List Call) → RingOf code at calls ring → Recurs code at
@@ -169,23 +101,3 @@ module _ (code : Code) where
           }
   recurs at (OneWay a) s = absurd s
   recurs at (TwoWays a b) s = absurd s
-
-pub shown_holds : ShownHolds
-shown_holds code (FetchOutside at) shown s = looks code at _ shown s
-shown_holds code (UnusedOpcode at) shown s = looks code at _ shown s
-shown_holds code (EnablesInterrupts at) shown s = looks code at _ shown s
-shown_holds code (DirectStore at) shown s = looks code at _ shown s
-shown_holds code (Pchl at) shown s = looks code at _ shown s
-shown_holds code (Sphl at) shown s = moves code at _ shown s
-shown_holds code (StackByByte at) shown s = moves code at _ shown s
-shown_holds code (SetsStack at) shown s = moves code at _ shown s
-shown_holds code (PopsBelow at) shown s = moves code at _ shown s
-shown_holds code (ReturnNotOwn at) shown s = moves code at _ shown s
-shown_holds code (ReturnFromMain at) shown s = moves code at _ shown s
-shown_holds code (HeightsDiffer at) shown s = differ code at shown s
-shown_holds code (UnevenArguments at) shown s = uneven code at shown s
-shown_holds code (ShortArguments at) shown s = short code at shown s
-shown_holds code (Recursion at) shown s = recurs code at shown s
-shown_holds code (StackTooSmall need has) shown s = absurd s
-shown_holds code TooManyPoints shown s = absurd s
-shown_holds code Memory shown s = absurd s

@@ -1,6 +1,8 @@
 -- Points of a search that show a refusal, and that none of them does. (This project's own.)
-use Rattle.std.specs.Prelude.{◌≡◌, ◌≢◌, ◌≤◌, ◌⊎◌, ℕ, Bool, true, false, List, Option, None, Some, get_or, length, slice_get}
-use Rattle.code80.specs.Code.{Code}
+use Rattle.std.specs.Prelude.{◌≡◌, ◌≢◌, ◌<◌, ◌≤◌, ◌⊎◌, ℕ, Bool, true, false, List, Option, None, Some, get_or, length, slice_get}
+use Rattle.code80.specs.Code.{Code, role_of}
+use Rattle.frames80.specs.Calls.{room, agree}
+use Rattle.bounds80.specs.declared.procedure.Procedure.TheVariants.{Entry}
 use Rattle.flow80.specs.Walks.{Calls, Returns as ReturnsWith}
 use Rattle.bounds80.specs.Chains.{slot_of}
 use Rattle.walks80.specs.declared.point.Point.{Point}
@@ -10,12 +12,39 @@ use Rattle.explain80.specs.declared.evidence.Clash.{Clash}
 use Rattle.explain80.specs.declared.evidence.Clash.TheVariants.{Heights, Returns, Shortage}
 use Rattle.explain80.specs.declared.evidence.Pair.{Pair}
 use Rattle.explain80.specs.declared.clashes.Count.{Count}
-use Rattle.explain80.specs.Shows.{LooksWrongAt, MovesWrongAt, DifferAt, UnevenAt, ShortAt}
+use Rattle.walks80.specs.declared.looked.Looked.TheVariants.{Wrong, Stuck}
+use Rattle.walks80.specs.Search.{IsLooked}
 
--- the instruction at the address may not be executed at this point
+-- a point is at an address, and the instruction there may not be executed at this point
 abbrev pub FaultAt : Code → ℕ → Fault → Point → Type 0
-FaultAt code at (Look fault) point = LooksWrongAt code at fault point
-FaultAt code at (Frame fault) point = MovesWrongAt code at fault point
+FaultAt code at (Look fault) point = (point.at ≡ at) × IsLooked code point (Wrong fault)
+FaultAt code at (Frame fault) point = (point.at ≡ at) × IsLooked code point (Stuck fault)
+
+-- two points are at one address of one procedure, with different counts
+pub record DifferAt (at : ℕ) (one other : Point) : Type 0 where
+  pub one_at : one.at ≡ at
+  pub other_at : other.at ≡ at
+  pub procedure : other.procedure ≡ one.procedure
+  pub differ : agree one.frame other.frame ≡ false
+
+-- two points of one procedure return with different numbers of words taken
+pub record UnevenAt (code : Code) (at : ℕ) (one other : Point) : Type 0 where
+  pub one_at : one.at ≡ at
+  pub procedure : other.procedure ≡ one.procedure
+  pub taken : ℕ
+  pub other_taken : ℕ
+  pub returns : ReturnsWith code one.procedure one.at one.frame taken
+  pub other_returns : ReturnsWith code other.procedure other.at other.frame other_taken
+  pub differ : taken ≢ other_taken
+
+-- a point calls, and another, of the callee, has taken more words than the caller has to give
+pub record ShortAt (code : Code) (at : ℕ) (one other : Point) : Type 0 where
+  pub one_at : one.at ≡ at
+  pub target : ℕ
+  pub next : ℕ
+  pub call : Calls code one.procedure one.at one.frame target next
+  pub procedure : other.procedure ≡ Entry target
+  pub short : room (role_of code one.procedure) one.frame.words < other.frame.taken
 
 -- two points clash so, the first of them at an address
 abbrev pub ClashAt : Code → ℕ → Clash → (one other : Point) → Type 0

@@ -5,14 +5,16 @@ use Rattle.flow80.specs.declared.refusal.Refusal.{Refusal}
 use Rattle.flow80.specs.declared.refusal.Refusal.TheVariants.{Recursion, StackTooSmall, TooManyPoints, Memory}
 use Rattle.flow80.specs.Faults.{Holds}
 use Rattle.walks80.specs.declared.point.Point.{Point}
+use Rattle.walks80.specs.declared.route.Route.{Route}
 use Rattle.explain80.specs.declared.explanation.Explanation.{Explanation}
+use Rattle.explain80.specs.declared.explanation.Explanation.TheVariants.{Way as OneWay, Ways as TwoWays}
 use Rattle.explain80.specs.declared.sought.Sought.{Sought}
 use Rattle.explain80.specs.declared.sought.Kind.{Kind}
 use Rattle.explain80.specs.declared.sought.Kind.TheVariants.{Fault, Clash}
 use Rattle.explain80.specs.declared.sought.Evidence.{Evidence}
 use Rattle.explain80.specs.declared.sought.Evidence.TheVariants.{One, Two}
-use Rattle.walks80.specs.Ways.{IsWalked}
-use Rattle.explain80.specs.Shows.{ByOneWay, ByTwoWays, Shows}
+use Rattle.walks80.specs.Ways.{IsRoute, IsWalked}
+use Rattle.explain80.specs.Shows.{Shows}
 use Rattle.explain80.specs.Evidence.{ArePair, AreNoPair, ClashAt, FaultAt, IsOne, IsNoOne}
 
 -- points of a list show what is sought
@@ -33,10 +35,25 @@ NoEvidenceOf code points at (Clash clash) = AreNoPair points (ClashAt code at cl
 abbrev pub IsNoEvidence : Code → List Point → Sought → Type 0
 IsNoEvidence code points sought = NoEvidenceOf code points sought.at sought.kind
 
+-- a route leads to a point at which there is this
+pub record EndsWhere (code : Code) (There : Point → Type 0) (route : Route) : Type 0 where
+  pub last : Point
+  pub is_route : IsRoute code route last
+  pub there : There last
+
+-- two routes lead to points at which there is this
+pub record BothEndWhere (code : Code) (There : Point → Point → Type 0) (route other : Route) : Type 0 where
+  pub last : Point
+  pub other_last : Point
+  pub is_route : IsRoute code route last
+  pub other_route : IsRoute code other other_last
+  pub there : There last other_last
+
 -- an explanation shows what is sought
 abbrev pub ShowsKind : Code → ℕ → Kind → Explanation → Type 0
-ShowsKind code at (Fault fault) shown = ByOneWay code (FaultAt code at fault) shown
-ShowsKind code at (Clash clash) shown = ByTwoWays code (ClashAt code at clash) shown
+ShowsKind code at (Fault fault) (OneWay route) = EndsWhere code (FaultAt code at fault) route
+ShowsKind code at (Clash clash) (TwoWays route other) = BothEndWhere code (ClashAt code at clash) route other
+ShowsKind code at _ _ = ⊥
 
 abbrev pub ShowsSought : Code → Sought → Explanation → Type 0
 ShowsSought code sought shown = ShowsKind code sought.at sought.kind shown

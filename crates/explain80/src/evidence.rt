@@ -5,8 +5,7 @@ ghost use Rattle.frames80.specs.Calls.{room};
 ghost use Rattle.flow80.specs.Walks.{Returns, called, returning};
 ghost use Rattle.walks80.specs.declared.fault.Stop.TheVariants.{Limit};
 ghost use Rattle.walks80.specs.Counts.{HasDeep, IsDeep};
-ghost use Rattle.explain80.specs.Evidence.{CallsTo, ClashAt, FaultAt, IsOne, IsNoOne};
-ghost use Rattle.explain80.specs.Shows.{DifferAt, ShortAt, UnevenAt};
+ghost use Rattle.explain80.specs.Evidence.{CallsTo, ClashAt, DifferAt, FaultAt, IsOne, IsNoOne, ShortAt, UnevenAt};
 
 use code80::{Code, LookFault, role_of};
 use flow80::Procedure;

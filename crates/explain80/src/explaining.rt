@@ -2,10 +2,11 @@
 
 ghost use Rattle.std.specs.Prelude.{◌≡◌, ◌⊎◌, ◌<◌, IfOk, Err};
 ghost use Rattle.flow80.specs.Faults.{Holds, Recurs};
+ghost use Rattle.flow80.specs.declared.refusal.Refusal.TheVariants.{Recursion};
 ghost use Rattle.verify80.specs.Looking.{code_of};
 ghost use Rattle.explain80.specs.declared.fault.Unexplained.TheVariants.{Limit, NotShown};
 ghost use Rattle.walks80.specs.Counts.{ComesToMore, GoesDeep};
-ghost use Rattle.explain80.specs.Shows.{ByRing, Shows};
+ghost use Rattle.explain80.specs.Shows.{Shows};
 ghost use Rattle.explain80.specs.Sought.{IsNotShown, IsOfNoWay, NoWalksShow, ShowsSought};
 
 use crate::explanation::Explanation;
@@ -90,7 +91,7 @@ fn explain_recursion<C: Code>(
     at: u16,
     limit: usize,
 ) -> Result<Explanation, Unexplained>
-    ensures shown { IfOk result (ByRing (C.code program.now) at) }
+    ensures shown { IfOk result (Shows (C.code program.now) (Recursion at)) }
     ensures none { result ≡ Err NotShown → Recurs (C.code program.now) at → ⊥ }
     ensures limited { result ≡ Err Limit → ComesToMore (C.code program.now) limit ⊎ GoesDeep (C.code program.now) }
 {

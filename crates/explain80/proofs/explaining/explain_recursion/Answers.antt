@@ -7,6 +7,7 @@ use Rattle.explain80.specs.Shows.{ByRing}
 use Rattle.explain80.proofs.StopLemmas.{less, unexplained_by}
 use Rattle.explain80.proofs.KnownLemmas.{callers}
 use Rattle.explain80.proofs.RecursionLemmas.{no-recursion}
+use Rattle.explain80.proofs.ShownLemmas.{recurs}
 use Rattle.explain80.proofs.explaining.explain_recursion.Goals as goal
 
 pub ring-requires-clause-ordered : goal.ring-requires-clause-ordered
@@ -17,8 +18,9 @@ ring-requires-clause-callers g c = callers (g.C.Code.code c.args.program.now) c.
 
 pub returns-in-Some-clause-shown : goal.returns-in-Some-clause-shown
 returns-in-Some-clause-shown g c =
-    subst (λ r. IfSome r (λ shown. (code : Code) → IsFound code c.grow.new.self → ByRing code c.args.at shown)) c.in-Some.is c.in_ok-shown.ensures.shown
-    (g.C.Code.code c.args.program.now) c.in_ok-is_whole.ensures.found
+    let code = g.C.Code.code c.args.program.now in
+    let ring = subst (λ r. IfSome r (λ shown. (code : Code) → IsFound code c.grow.new.self → ByRing code c.args.at shown)) c.in-Some.is c.in_ok-shown.ensures.shown code c.in_ok-is_whole.ensures.found in
+    record { fault = recurs code c.args.at c.in-Some.shown ring; leads = ring }
 
 pub returns-then-is_whole-clause-none : goal.returns-then-is_whole-clause-none
 returns-then-is_whole-clause-none g c = λ e recurs.
