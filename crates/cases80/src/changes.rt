@@ -17,35 +17,14 @@ pub(crate) fn may_change(instr: Instr, pair: Pair) -> bool {
         Instr::Pop(StackPair::Hl) => pair == Pair::Hl,
         Instr::Xchg => pair != Pair::Bc,
         Instr::Call(_) | Instr::CallIf(_, _) | Instr::Rst(_) => true,
-        Instr::Store(_)
-        | Instr::MviMemory(_)
-        | Instr::InrMemory
-        | Instr::DcrMemory
-        | Instr::Operate(_, _)
-        | Instr::Jmp(_)
-        | Instr::JumpIf(_, _)
-        | Instr::Ret
-        | Instr::ReturnIf(_)
-        | Instr::Push(_)
-        | Instr::Pop(StackPair::Psw)
-        | Instr::Stax(_)
-        | Instr::Ldax(_)
-        | Instr::Shld(_)
-        | Instr::Sta(_)
-        | Instr::Lda(_)
-        | Instr::Rotate(_)
-        | Instr::Daa
-        | Instr::Cma
-        | Instr::Stc
-        | Instr::Cmc
-        | Instr::Pchl
-        | Instr::Sphl
-        | Instr::In(_)
-        | Instr::Out(_)
-        | Instr::Ei
-        | Instr::Di
-        | Instr::Nop
-        | Instr::Hlt => false,
+        Instr::Store(_) | Instr::MviMemory(_) => false,
+        Instr::InrMemory | Instr::DcrMemory | Instr::Operate(_, _) => false,
+        Instr::Rotate(_) | Instr::Daa | Instr::Cma | Instr::Stc | Instr::Cmc => false,
+        Instr::Stax(_) | Instr::Ldax(_) | Instr::Sta(_) | Instr::Lda(_) | Instr::Shld(_) => false,
+        Instr::Jmp(_) | Instr::JumpIf(_, _) | Instr::Pchl => false,
+        Instr::Ret | Instr::ReturnIf(_) => false,
+        Instr::Push(_) | Instr::Pop(StackPair::Psw) | Instr::Sphl => false,
+        Instr::In(_) | Instr::Out(_) | Instr::Ei | Instr::Di | Instr::Nop | Instr::Hlt => false,
     }
 }
 
@@ -76,40 +55,16 @@ pub(crate) fn may_change_a(instr: Instr) -> bool {
         Instr::Operate(operation, operand) => !leaves_or_doubles(operation, operand),
         Instr::Rotate(rotation) => rotation != Rotation::Left,
         Instr::Call(_) | Instr::CallIf(_, _) | Instr::Rst(_) => true,
-        Instr::Mov(_, _)
-        | Instr::Load(_)
-        | Instr::Store(_)
-        | Instr::Mvi(_, _)
-        | Instr::MviMemory(_)
-        | Instr::Lxi(_, _)
-        | Instr::Dad(_)
-        | Instr::Inx(_)
-        | Instr::Dcx(_)
-        | Instr::Inr(_)
-        | Instr::InrMemory
-        | Instr::Dcr(_)
-        | Instr::DcrMemory
-        | Instr::Jmp(_)
-        | Instr::JumpIf(_, _)
-        | Instr::Ret
-        | Instr::ReturnIf(_)
-        | Instr::Push(_)
-        | Instr::Pop(_)
-        | Instr::Stax(_)
-        | Instr::Shld(_)
-        | Instr::Lhld(_)
-        | Instr::Sta(_)
-        | Instr::Stc
-        | Instr::Cmc
-        | Instr::Xthl
-        | Instr::Pchl
-        | Instr::Xchg
-        | Instr::Sphl
-        | Instr::Out(_)
-        | Instr::Ei
-        | Instr::Di
-        | Instr::Nop
-        | Instr::Hlt => false,
+        Instr::Mov(_, _) | Instr::Load(_) | Instr::Store(_) | Instr::Mvi(_, _) => false,
+        Instr::MviMemory(_) | Instr::Lxi(_, _) => false,
+        Instr::Inr(_) | Instr::InrMemory | Instr::Dcr(_) | Instr::DcrMemory => false,
+        Instr::Dad(_) | Instr::Inx(_) | Instr::Dcx(_) => false,
+        Instr::Stc | Instr::Cmc => false,
+        Instr::Stax(_) | Instr::Sta(_) | Instr::Shld(_) | Instr::Lhld(_) => false,
+        Instr::Jmp(_) | Instr::JumpIf(_, _) | Instr::Pchl => false,
+        Instr::Ret | Instr::ReturnIf(_) => false,
+        Instr::Push(_) | Instr::Pop(_) | Instr::Xthl | Instr::Xchg | Instr::Sphl => false,
+        Instr::Out(_) | Instr::Ei | Instr::Di | Instr::Nop | Instr::Hlt => false,
     }
 }
 
@@ -136,40 +91,15 @@ pub(crate) fn may_change_carry(instr: Instr) -> bool {
         | Instr::Call(_)
         | Instr::CallIf(_, _)
         | Instr::Rst(_) => true,
-        Instr::Mov(_, _)
-        | Instr::Load(_)
-        | Instr::Store(_)
-        | Instr::Mvi(_, _)
-        | Instr::MviMemory(_)
-        | Instr::Lxi(_, _)
-        | Instr::Inx(_)
-        | Instr::Dcx(_)
-        | Instr::Inr(_)
-        | Instr::InrMemory
-        | Instr::Dcr(_)
-        | Instr::DcrMemory
-        | Instr::Jmp(_)
-        | Instr::JumpIf(_, _)
-        | Instr::Ret
-        | Instr::ReturnIf(_)
-        | Instr::Push(_)
-        | Instr::Pop(_)
-        | Instr::Stax(_)
-        | Instr::Ldax(_)
-        | Instr::Shld(_)
-        | Instr::Lhld(_)
-        | Instr::Sta(_)
-        | Instr::Lda(_)
-        | Instr::Cma
-        | Instr::Xthl
-        | Instr::Pchl
-        | Instr::Xchg
-        | Instr::Sphl
-        | Instr::In(_)
-        | Instr::Out(_)
-        | Instr::Ei
-        | Instr::Di
-        | Instr::Nop
-        | Instr::Hlt => false,
+        Instr::Mov(_, _) | Instr::Load(_) | Instr::Store(_) | Instr::Mvi(_, _) => false,
+        Instr::MviMemory(_) | Instr::Lxi(_, _) => false,
+        Instr::Inr(_) | Instr::InrMemory | Instr::Dcr(_) | Instr::DcrMemory => false,
+        Instr::Inx(_) | Instr::Dcx(_) | Instr::Cma => false,
+        Instr::Stax(_) | Instr::Ldax(_) | Instr::Sta(_) | Instr::Lda(_) => false,
+        Instr::Shld(_) | Instr::Lhld(_) => false,
+        Instr::Jmp(_) | Instr::JumpIf(_, _) | Instr::Pchl => false,
+        Instr::Ret | Instr::ReturnIf(_) => false,
+        Instr::Push(_) | Instr::Pop(_) | Instr::Xthl | Instr::Xchg | Instr::Sphl => false,
+        Instr::In(_) | Instr::Out(_) | Instr::Ei | Instr::Di | Instr::Nop | Instr::Hlt => false,
     }
 }

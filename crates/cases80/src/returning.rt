@@ -67,7 +67,17 @@ fn height_after(height: Option<i32>, instr: Instr) -> Option<i32> {
         Instr::Push(_) => Some(height.wrapping_add(1)),
         Instr::Pop(_) => Some(height.wrapping_sub(1)),
         Instr::Lxi(Pair::Sp, _) | Instr::Inx(Pair::Sp) | Instr::Dcx(Pair::Sp) | Instr::Sphl => None,
-        _ => Some(height),
+        Instr::Mov(_, _) | Instr::Load(_) | Instr::Store(_) | Instr::Xchg => Some(height),
+        Instr::Mvi(_, _) | Instr::MviMemory(_) | Instr::Lxi(_, _) => Some(height),
+        Instr::Inr(_) | Instr::InrMemory | Instr::Dcr(_) | Instr::DcrMemory => Some(height),
+        Instr::Dad(_) | Instr::Inx(_) | Instr::Dcx(_) | Instr::Operate(_, _) => Some(height),
+        Instr::Rotate(_) | Instr::Daa | Instr::Cma | Instr::Stc | Instr::Cmc => Some(height),
+        Instr::Stax(_) | Instr::Ldax(_) | Instr::Sta(_) | Instr::Lda(_) => Some(height),
+        Instr::Shld(_) | Instr::Lhld(_) | Instr::Xthl => Some(height),
+        Instr::Jmp(_) | Instr::JumpIf(_, _) | Instr::Pchl => Some(height),
+        Instr::Call(_) | Instr::CallIf(_, _) | Instr::Rst(_) => Some(height),
+        Instr::Ret | Instr::ReturnIf(_) | Instr::In(_) | Instr::Out(_) => Some(height),
+        Instr::Ei | Instr::Di | Instr::Nop | Instr::Hlt => Some(height),
     }
 }
 

@@ -149,36 +149,13 @@ pub fn pairs_after(instr: Instr, pairs: Pairs) -> Pairs
             de: pairs.hl,
             hl: pairs.de,
         },
-        Instr::Store(_)
-        | Instr::MviMemory(_)
-        | Instr::InrMemory
-        | Instr::DcrMemory
-        | Instr::Stax(_)
-        | Instr::Ldax(_)
-        | Instr::Sta(_)
-        | Instr::Lda(_)
-        | Instr::Shld(_)
-        | Instr::Operate(_, _)
-        | Instr::Rotate(_)
-        | Instr::Daa
-        | Instr::Cma
-        | Instr::Stc
-        | Instr::Cmc
-        | Instr::Jmp(_)
-        | Instr::JumpIf(_, _)
-        | Instr::Call(_)
-        | Instr::CallIf(_, _)
-        | Instr::Ret
-        | Instr::ReturnIf(_)
-        | Instr::Rst(_)
-        | Instr::Push(_)
-        | Instr::Pchl
-        | Instr::Sphl
-        | Instr::In(_)
-        | Instr::Out(_)
-        | Instr::Ei
-        | Instr::Di
-        | Instr::Nop
-        | Instr::Hlt => pairs,
+        Instr::Store(_) | Instr::MviMemory(_) | Instr::InrMemory | Instr::DcrMemory => pairs,
+        Instr::Stax(_) | Instr::Ldax(_) | Instr::Sta(_) | Instr::Lda(_) | Instr::Shld(_) => pairs,
+        Instr::Operate(_, _) | Instr::Rotate(_) | Instr::Daa | Instr::Cma => pairs,
+        Instr::Stc | Instr::Cmc => pairs,
+        Instr::Jmp(_) | Instr::JumpIf(_, _) | Instr::Pchl => pairs,
+        Instr::Call(_) | Instr::CallIf(_, _) | Instr::Rst(_) => pairs,
+        Instr::Ret | Instr::ReturnIf(_) | Instr::Push(_) | Instr::Sphl => pairs,
+        Instr::In(_) | Instr::Out(_) | Instr::Ei | Instr::Di | Instr::Nop | Instr::Hlt => pairs,
     }
 }
