@@ -31,10 +31,7 @@ impl Search {
         ensures points { IfOk result (λ search. search.points.items ≡ replicate 65536 None) }
         ensures queue { IfOk result (λ search. search.queue.items ≡ []) }
     {
-        let mut points = Vec::new(alloc);
-        while points.len() < 65536 {
-            points.push(None)?;
-        }
+        let points = vec![in alloc; None; 65536]?;
         Ok(Search {
             points,
             queue: Vec::new(alloc),

@@ -1,6 +1,5 @@
 -- The last point of a route is one that a walk comes to, and a ring of calls is a recursion.
 use Rattle.std.proofs.Common.{◌≡◌, ◌⊎◌, inl, inr, ℕ, List, [], ◌∷◌, refl, sym, ◌∙◌, ap, subst}
-use Rattle.frames80.specs.StackFrame.{StackFrame}
 use Rattle.bounds80.specs.declared.procedure.Procedure.{Procedure}
 use Rattle.bounds80.specs.declared.procedure.Procedure.TheVariants.{Main, Entry}
 use Rattle.code80.specs.Code.{Code}

@@ -1,5 +1,6 @@
--- Texts that grow, and texts that are filled up.
+-- Texts that grow, and texts that are filled up; what an Ok gives.
 use Rattle.std.proofs.Common.{◌≡◌, ℕ, ◌+◌, ◌-◌, List, ◌++◌, length, drop, codes, ap, ◌∙◌, arith, append_assoc, length-append}
+use Rattle.std.specs.Prelude.{Result, Ok, Err, OnOk}
 use Rattle.explained80.specs.Instructions.{filled}
 
 -- a text that is filled up to ten places behind another one
@@ -15,3 +16,8 @@ filled_up old text one all before e e₁ e₂ =
 -- two texts behind another one
 pub grown_by_two : (old one two some all : List ℕ) → some ≡ old ++ one → all ≡ some ++ two → all ≡ old ++ (one ++ two)
 grown_by_two old one two some all first second = second ∙ ap (λ (l : List ℕ). l ++ two) first ∙ append_assoc old one two
+
+-- what follows from what an answer's Ok gives
+pub on_ok : {A E : Type 0} (P Q : Type 0) (r : Result A E) → (P → Q) → OnOk r P → OnOk r Q
+on_ok P Q (Ok x) more p = more p
+on_ok P Q (Err e) more p = tt

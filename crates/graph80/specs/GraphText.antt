@@ -1,7 +1,7 @@
 -- The calls of a program as a graph for Graphviz. (Words and quotes: The DOT Language, Graphviz. What stands in labels is this
 -- project's own.)
 use Rattle.std.specs.Prelude.{ℕ, ◌==◌, Bool, ◌||◌, if◌then◌else◌, List, [], ◌∷◌, ◌++◌, codes}
-use Rattle.std.specs.Fmt.{decimal, signed_decimal}
+use Rattle.std.specs.Fmt.{signed_decimal}
 use Rattle.std.specs.List.{flat_map, list_any}
 use Rattle.image80.specs.Image.{Located}
 use Rattle.omf_parts.specs.declared.symbols.Public.{Public}
@@ -12,7 +12,7 @@ use Rattle.calls80.specs.declared.calls.Call.{Call}
 use Rattle.graph80.specs.declared.call_graph.Node.{Node}
 use Rattle.graph80.specs.declared.chain.Link.{Link}
 use Rattle.graph80.specs.Chain.{chain_of, is_link}
-use Rattle.graph80.specs.ListText.{with_address}
+use Rattle.graph80.specs.ListText.{bound_text, node_word, with_address}
 
 -- what a procedure is called in the graph: MAIN, or its entry
 abbrev pub entry_id : (entry : ℕ) → List ℕ
@@ -32,21 +32,14 @@ escaped byte = if byte == 34 || byte == 92 then 92 ∷ byte ∷ [] else byte ∷
 abbrev pub escaped_name : Located → List Public → (address : ℕ) → List ℕ
 escaped_name image publics address = flat_map escaped (name_text image.regions.code publics address)
 
-abbrev pub label_word : Procedure → List ℕ
-label_word Main = codes "MAIN "
-label_word (Entry entry) = []
-
 abbrev pub label_begin : Node → List ℕ
-label_begin node = codes " [label=\"" ++ with_address (label_word node.procedure) node.address
+label_begin node = codes " [label=\"" ++ with_address (node_word [] node.procedure) node.address
 
--- the bound, on a line of its own in the label
-abbrev pub box_end : (bound : ℕ) → List ℕ
-box_end bound = codes "\\nBOUND " ++ (decimal bound ++ codes "\"];\n")
-
--- the box of a procedure: in its label the address, the name and the bound
+-- the box of a procedure: in its label the address, the name and, on a line of its own, the bound
 abbrev pub box_line : Located → List Public → Node → List ℕ
 box_line image publics node =
-    node_id node.procedure ++ (label_begin node ++ (escaped_name image publics node.address ++ box_end node.bound))
+    node_id node.procedure ++ (label_begin node
+    ++ (escaped_name image publics node.address ++ (bound_text (codes "\\n") node.bound ++ codes "\"];\n")))
 
 -- ---- edges
 

@@ -22,17 +22,20 @@ end_text image publics address = name_text image.regions.code publics address ++
 
 -- ---- procedures
 
-abbrev pub node_word : Procedure → List ℕ
-node_word Main = codes "MAIN "
-node_word (Entry entry) = codes "PROC "
+-- the word before a procedure's address, that of an entry being given
+abbrev pub node_word : (entry_word : List ℕ) → Procedure → List ℕ
+node_word entry_word Main = codes "MAIN "
+node_word entry_word (Entry entry) = entry_word
 
-abbrev pub bound_text : (bound : ℕ) → List ℕ
-bound_text bound = codes " BOUND " ++ decimal bound
+-- a text, and a bound behind it
+abbrev pub bound_text : (before : List ℕ) → (bound : ℕ) → List ℕ
+bound_text before bound = before ++ (codes "BOUND " ++ decimal bound)
 
 -- the line of a procedure, with its name
 abbrev pub node_line : Located → List Public → Node → List ℕ
 node_line image publics node =
-    with_address (node_word node.procedure) node.address ++ (bound_text node.bound ++ end_text image publics node.address)
+    with_address (node_word (codes "PROC ") node.procedure) node.address
+    ++ (bound_text (codes " ") node.bound ++ end_text image publics node.address)
 
 -- ---- calls
 

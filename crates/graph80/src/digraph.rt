@@ -2,11 +2,11 @@
 
 ghost use Rattle.std.specs.Prelude.{◌≡◌, ◌++◌, IfOk, OnOk};
 ghost use Rattle.std.specs.List.{flat_map};
-ghost use Rattle.graph80.specs.GraphText.{box_end, box_line, edge_end, edge_label, edge_line, edges, entry_id, escaped, escaped_name, graph_text, label_begin, label_word, node_id};
+ghost use Rattle.graph80.specs.GraphText.{box_line, edge_end, edge_label, edge_line, edges, entry_id, escaped, escaped_name, graph_text, label_begin, node_id};
 
 use crate::call_graph::{CallGraph, Node};
 use crate::chain::{Link, chain_of, is_in};
-use crate::words::append_address;
+use crate::words::{append_address, append_bound, node_word};
 use calls80::{Call, Procedure};
 use image80::Image;
 use names80::append_name;
@@ -66,7 +66,8 @@ fn append_box(
     append_id(text, node.procedure)?;
     append_label(text, node)?;
     append_escaped_name(alloc, text, image, publics, node.address)?;
-    append_box_end(alloc, text, node.bound)
+    append_bound(alloc, text, b"\\n".as_slice(), node.bound)?;
+    text.extend_from_slice(b"\"];\n".as_slice())
 }
 
 /// Appends what a procedure is called in the graph.
@@ -93,25 +94,11 @@ fn append_label(text: &mut Vec<u8>, node: &Node) -> Result<(), AllocError>
     ensures { OnOk result (text.new.items ≡ text.old.items ++ label_begin node.now) }
 {
     text.extend_from_slice(b" [label=\"".as_slice())?;
-    append_address(text, label_word(node.procedure), node.address)
-}
-
-/// The word before an address in a label.
-fn label_word(procedure: Procedure) -> &'static [u8]
-    ensures { result.now ≡ label_word procedure }
-{
-    match procedure {
-        Procedure::Main => b"MAIN ".as_slice(),
-        Procedure::Entry(_) => b"".as_slice(),
-    }
-}
-
-/// Appends the bound, and ends the label.
-fn append_box_end(alloc: Global, text: &mut Vec<u8>, bound: u64) -> Result<(), AllocError>
-    ensures { OnOk result (text.new.items ≡ text.old.items ++ box_end bound) }
-{
-    let shown = format!(in alloc; "\\nBOUND {bound}\"];\n")?;
-    text.extend_from_slice(shown.as_bytes())
+    append_address(
+        text,
+        node_word(node.procedure, b"".as_slice()),
+        node.address,
+    )
 }
 
 /// Appends the name of an address inside a label.

@@ -2,12 +2,12 @@
 
 ghost use Rattle.std.specs.Prelude.{◌≡◌, ◌++◌, IfOk, OnOk};
 ghost use Rattle.std.specs.List.{flat_map};
-ghost use Rattle.graph80.specs.ListText.{bound_text, call_line, depth_text, list_text, needs_text, node_line, node_lines, node_word};
+ghost use Rattle.graph80.specs.ListText.{call_line, depth_text, list_text, needs_text, node_line, node_lines};
 
 use crate::call_graph::{CallGraph, Node};
 use crate::needs::needs;
-use crate::words::{append_address, append_end};
-use calls80::{Call, Procedure};
+use crate::words::{append_address, append_bound, append_end, node_word};
+use calls80::Call;
 use image80::Image;
 use omf_parts::Public;
 use std::alloc::{AllocError, Global};
@@ -58,27 +58,13 @@ fn append_node_line(
 ) -> Result<(), AllocError>
     ensures { OnOk result (text.new.items ≡ text.old.items ++ node_line image.now publics.now node.now) }
 {
-    append_address(text, node_word(node.procedure), node.address)?;
-    append_bound(alloc, text, node.bound)?;
+    append_address(
+        text,
+        node_word(node.procedure, b"PROC ".as_slice()),
+        node.address,
+    )?;
+    append_bound(alloc, text, b" ".as_slice(), node.bound)?;
     append_end(alloc, text, image, publics, node.address)
-}
-
-/// The word before a procedure's address.
-fn node_word(procedure: Procedure) -> &'static [u8]
-    ensures { result.now ≡ node_word procedure }
-{
-    match procedure {
-        Procedure::Main => b"MAIN ".as_slice(),
-        Procedure::Entry(_) => b"PROC ".as_slice(),
-    }
-}
-
-/// Appends a bound.
-fn append_bound(alloc: Global, text: &mut Vec<u8>, bound: u64) -> Result<(), AllocError>
-    ensures { OnOk result (text.new.items ≡ text.old.items ++ bound_text bound) }
-{
-    let shown = format!(in alloc; " BOUND {bound}")?;
-    text.extend_from_slice(shown.as_bytes())
 }
 
 /// Appends a line for each call.

@@ -1,8 +1,9 @@
-//! Addresses and their names.
+//! The words of a list and of a graph: addresses, their names, and bounds.
 
 ghost use Rattle.std.specs.Prelude.{◌≡◌, ◌++◌, OnOk};
-ghost use Rattle.graph80.specs.ListText.{end_text, with_address};
+ghost use Rattle.graph80.specs.ListText.{bound_text, end_text, node_word, with_address};
 
+use calls80::Procedure;
 use decode80::word_digits;
 use image80::Image;
 use names80::append_name;
@@ -34,4 +35,28 @@ pub(crate) fn append_end(
     append_name(alloc, publics, image.regions.code(), address, text)?;
     text.push(b'\n')?;
     Ok(())
+}
+
+/// The word before a procedure's address: the main program's, or that of an entry.
+pub(crate) fn node_word(procedure: Procedure, entry_word: &'static [u8]) -> &'static [u8]
+    ensures { result.now ≡ node_word entry_word.now procedure }
+{
+    match procedure {
+        Procedure::Main => b"MAIN ".as_slice(),
+        Procedure::Entry(_) => entry_word,
+    }
+}
+
+/// Appends a text, and a bound behind it.
+pub(crate) fn append_bound(
+    alloc: Global,
+    text: &mut Vec<u8>,
+    before: &[u8],
+    bound: u64,
+) -> Result<(), AllocError>
+    ensures { OnOk result (text.new.items ≡ text.old.items ++ bound_text before.now bound) }
+{
+    text.extend_from_slice(before)?;
+    let shown = format!(in alloc; "BOUND {bound}")?;
+    text.extend_from_slice(shown.as_bytes())
 }

@@ -30,10 +30,7 @@ impl Search {
         ensures found { IfOk result (λ search. search.found.items ≡ replicate 65536 None) }
         ensures queue { IfOk result (λ search. search.queue.items ≡ []) }
     {
-        let mut found = Vec::new(alloc);
-        while found.len() < 65536 {
-            found.push(None)?;
-        }
+        let found = vec![in alloc; None; 65536]?;
         Ok(Search {
             found,
             queue: Vec::new(alloc),

@@ -1,9 +1,10 @@
-use Rattle.std.proofs.Common.{◌≡◌, ◌∙◌, ap, arith, None, replicate, length}
+use Rattle.std.proofs.Common.{◌≡◌, Option, None, Some, refl}
 use Rattle.calls80.proofs.search.Search.new.Goals as goal
 
+-- what no Some is, is None
+none_of : {X : Type 0} (Is : Option X → Type 0) → ((x : X) → Is (Some x) → ⊥) → (y : Option X) → Is y → y ≡ None
+none_of Is none None is = refl
+none_of Is none (Some x) is = absurd (none x is)
+
 pub returns-clause-points : goal.returns-clause-points
-returns-clause-points c =
-    let long = c.loop-points-test.false in
-    let few = c.loop-points.invariant.few in
-    let count : length c.loop-points.points.items ≡ 65536 = omega (arith, c.len.ensures, c.loop-points.points.ok.0) in
-    c.loop-points.invariant.items ∙ ap (λ n. replicate n None) count
+returns-clause-points c = c.in_ok-points.ensures.items_if_clones_equal (none_of _ (λ x is. is))
