@@ -1,8 +1,8 @@
 -- The values of targets that a dump leaves only one word for.
 use Rattle.std.specs.Prelude.{◌≡◌, ◌↔◌, ℕ, ◌%◌, ◌<◌, ◌≤◌, ◌==◌, ◌&&◌, nat_le, nat_lt, Bool, true, false, List, slice_index_or}
-use Rattle.std.specs.List.{list_any}
+use Rattle.std.specs.List.{list_any, All, AllPairs}
 use Rattle.pattern80.specs.declared.code_byte.CodeByte.{CodeByte}
-use Rattle.pattern80.specs.CodeBytes.{number_of}
+use Rattle.pattern80.specs.CodeBytes.{number_of, has_small_id}
 use Rattle.find80.specs.declared.candidates.Candidates.{Candidates}
 use Rattle.find80.specs.declared.candidates.Candidates.TheVariants.{Any, Low, Window}
 use Rattle.find80.specs.declared.words.Word.{Word}
@@ -18,6 +18,19 @@ pub record AreOnlyWords (first : ℕ) (dump : List ℕ) (code : List CodeByte) (
   pub within : (number word : ℕ) → has_word words number word ≡ true → (2 ≤ number) × (number < count)
   pub each : (number word : ℕ) → 2 ≤ number → number < count →
       (has_word words number word ≡ true) ↔ ((word < 65536) × IsOnly first dump code address number word)
+
+-- the words come by ascending numbers of their targets
+abbrev pub AreAscending : List Word → Type 0
+AreAscending words = AllPairs (λ (v w : Word). number_of v.target < number_of w.target) words
+
+-- the word's target is one that its number alone says
+abbrev pub IsOfATarget : Word → Type 0
+IsOfATarget w = has_small_id w.target ≡ true
+
+-- so do these, all with numbers below one
+pub record AreAscendingBelow (stop : ℕ) (words : List Word) : Type 0 where
+  pub below : All (λ (w : Word). number_of w.target < stop) words
+  pub ascending : AreAscending words
 
 -- this word is the only candidate
 abbrev pub is_single : Candidates → ℕ → Bool

@@ -1,10 +1,11 @@
 //! The values of a module's targets at a place.
 
 ghost use Rattle.std.specs.Prelude.{◌≡◌, ℕ, ◌<◌, ◌≤◌, ◌+◌, ◌&&◌, ◌==◌, ◌||◌, List, [], length, true, IfOk, OnOk, IfSome, IfNone, slice_index_or};
+ghost use Rattle.std.specs.List.{AllByRecursion};
 ghost use Rattle.pattern80.specs.CodeBytes.{number_of};
 ghost use Rattle.find80.specs.declared.candidates.Candidates.TheVariants.{Any};
 ghost use Rattle.find80.specs.Places.{AreBelow, LiesAt, IsClearBut};
-ghost use Rattle.find80.specs.Words.{AreOnlyWords, AreSingle, has_word, is_single};
+ghost use Rattle.find80.specs.Words.{AreOnlyWords, AreAscending, AreAscendingBelow, AreSingle, IsOfATarget, has_word, is_single};
 
 use crate::candidates::Candidates;
 use crate::solving::{any_table, solve};
@@ -37,6 +38,8 @@ pub fn words_at(
     requires few { count ≤ 65792 }
     requires below { AreBelow count code.now }
     ensures some { IfOk result (λ found. IfSome found (λ words. AreOnlyWords first dump.now code.now address count words.items)) }
+    ensures ascending { IfOk result (λ found. IfSome found (λ words. AreAscending words.items)) }
+    ensures targets { IfOk result (λ found. IfSome found (λ words. AllByRecursion IsOfATarget words.items)) }
     ensures none { IfOk result (λ found. IfNone found (LiesAt first dump.now code.now address → ⊥)) }
 {
     let mut table = any_table(alloc, count)?;
@@ -57,6 +60,8 @@ fn words_by(
     requires below { AreBelow (length table.old) code.now }
     requires clear { IsClearBut [] table.old }
     ensures some { IfOk result (λ found. IfSome found (λ words. AreOnlyWords first dump.now code.now address (length table.old) words.items)) }
+    ensures ascending { IfOk result (λ found. IfSome found (λ words. AreAscending words.items)) }
+    ensures targets { IfOk result (λ found. IfSome found (λ words. AllByRecursion IsOfATarget words.items)) }
     ensures none { IfOk result (λ found. IfNone found (LiesAt first dump.now code.now address → ⊥)) }
 {
     if solve(first, dump, address, code, table) < code.len() {
@@ -69,7 +74,9 @@ fn words_by(
 /// The values that have one candidate.
 fn single_words(alloc: Global, table: &[Candidates]) -> Result<Vec<Word>, AllocError>
     requires { length table.now ≤ 65792 }
-    ensures { IfOk result (λ words. AreSingle table.now (length table.now) words.items) }
+    ensures single { IfOk result (λ words. AreSingle table.now (length table.now) words.items) }
+    ensures ascending { IfOk result (λ words. AreAscending words.items) }
+    ensures targets { IfOk result (λ words. AllByRecursion IsOfATarget words.items) }
 {
     let mut words = Vec::new(alloc);
     for number in 2..table.len() {
@@ -84,8 +91,12 @@ fn push_single(
     number: usize,
     candidates: Candidates,
 ) -> Result<(), AllocError>
-    requires { number < 65792 }
-    ensures { OnOk result ((n word : ℕ) → has_word words.new.items n word ≡ (has_word words.old.items n word || (number == n && is_single candidates word))) }
+    requires number { number < 65792 }
+    requires order { AreAscendingBelow number words.old.items }
+    requires targets { AllByRecursion IsOfATarget words.old.items }
+    ensures order { OnOk result (AreAscendingBelow (number + 1) words.new.items) }
+    ensures targets { OnOk result (AllByRecursion IsOfATarget words.new.items) }
+    ensures words { OnOk result ((n word : ℕ) → has_word words.new.items n word ≡ (has_word words.old.items n word || (number == n && is_single candidates word))) }
 {
     if let Candidates::Window(word, 0) = candidates {
         let target = target_of(number);

@@ -6,3 +6,4 @@ pub mod LieLemmas
 pub mod WordLemmas
 pub mod FindLemmas
 pub mod LinkLemmas
+pub mod TargetLemmas

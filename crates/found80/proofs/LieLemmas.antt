@@ -54,7 +54,7 @@ one_of_all {A} P f start (suc n) all o le lt b e = elim (cases_lt start o) [
     head None e all = elim (none_some b e) [ ]
     head (Some x) e all = subst P (same_some x b e) all.0
 
-all_of_each : {A : Type 0} (P : A → Type 0) (f : ℕ → Option A) (start n : ℕ) → ((o : ℕ) → o < start + n → (b : A) → f o ≡ Some b → P b)
+pub all_of_each : {A : Type 0} (P : A → Type 0) (f : ℕ → Option A) (start n : ℕ) → ((o : ℕ) → o < start + n → (b : A) → f o ≡ Some b → P b)
     → AllByRecursion P (filter_map f (range_with_len start n))
 all_of_each P f start zero each = tt
 all_of_each {A} P f start (suc n) each = go (all_of_each P f (start + 1) n (λ o lt b e. each o (omega arith) b e)) (f start) (λ b e. each start (omega arith) b e)
@@ -126,7 +126,7 @@ all_same [] = tt
 all_same (k ∷ ks) = (refl, all_same ks)
 
 -- the last content in CODE over an offset
-last_sound : (m : ModuleValue) → RulesOf m → (o : ℕ) (c : ContentValue) → last_or None (filter (covers_code o) m.contents) ≡ Some c
+pub last_sound : (m : ModuleValue) → RulesOf m → (o : ℕ) (c : ContentValue) → last_or None (filter (covers_code o) m.contents) ≡ Some c
     → (covers_code o c ≡ true) × (LiesIn m c × HasItsFixups m c)
 last_sound m rules o c e = last_passes (covers_code o) (λ c. LiesIn m c × HasItsFixups m c) None m.contents c
     (both (LiesIn m) (HasItsFixups m) m.contents rules.contents rules.fixups) (λ z s. elim (none_some z s) [ ]) e

@@ -1,8 +1,8 @@
 -- Words that only one choice of bases leaves are those that only one choice of values does.
-use Rattle.std.specs.Prelude.{◌≡◌, ℕ, ◌+◌, ◌%◌, ◌<◌, ◌≤◌, ◌==◌, Bool, true, if◌then◌else◌, Some, List, [], ◌∷◌, length, IsTrue}
-use Rattle.std.specs.List.{AllByRecursion}
+use Rattle.std.specs.Prelude.{◌≡◌, ℕ, ◌+◌, ◌%◌, ◌<◌, ◌≤◌, ◌==◌, ◌||◌, Bool, true, false, if◌then◌else◌, Some, List, [], ◌∷◌, length, IsTrue}
+use Rattle.std.specs.List.{AllByRecursion, list_any}
 use Rattle.std.proofs.Common.{refl, sym, ◌∙◌, ap, arith, inl, inr}
-use Rattle.std.proofs.lemmas.Bool.{ne_eqb, eq-eqb, ltb-true, cases_lt}
+use Rattle.std.proofs.lemmas.Bool.{ne_eqb, eq-eqb, ltb-true, true≢false, cases_Bool, cases_lt}
 use Rattle.omf_parts.specs.declared.fixup.Target.{Target}
 use Rattle.omf_parts.specs.declared.fixup.Target.TheVariants as target
 use Rattle.omf_parts.specs.Modules.{ModuleValue}
@@ -21,43 +21,58 @@ use Rattle.found80.proofs.LieLemmas.{by_bases, with_values, lies_as_module}
 
 -- ---- a value without a byte in the code may be any word
 
-module _ (value : ℕ → ℕ) (count number word : ℕ) (free : count ≤ number) where
+module _ (value : ℕ → ℕ) (number word : ℕ) where
   abbrev changed : ℕ → ℕ
   changed n = if n == number then word else value n
 
   changed_at : changed number ≡ word
   changed_at = ap (λ (t : Bool). if t then word else value number) (eq-eqb number number refl)
 
-  changed_other : (n : ℕ) → n < number → changed n ≡ value n
-  changed_other n lt = ap (λ (t : Bool). if t then word else value n) (ne_eqb n number (λ e. omega arith))
+  changed_other : (n : ℕ) → (n == number) ≡ false → changed n ≡ value n
+  changed_other n other = ap (λ (t : Bool). if t then word else value n) other
 
-  byte_kept : (b : CodeByte) → number_of b.target < count → byte_by changed b ≡ byte_by value b
-  byte_kept b lt = ap (λ (v : ℕ). half_of b.half ((v + b.addend) % 65536)) (changed_other (number_of b.target) (omega arith))
-
-  bytes_kept : (first : ℕ) (dump : List ℕ) (address : ℕ) (bs : List CodeByte) → AreBelow count bs
+  bytes_kept : (first : ℕ) (dump : List ℕ) (address : ℕ) (bs : List CodeByte) → list_any (λ b. number_of b.target == number) bs ≡ false
       → AllByRecursion (λ b. dump_byte first dump ((address + b.offset) % 65536) ≡ Some (byte_by value b)) bs
       → AllByRecursion (λ b. dump_byte first dump ((address + b.offset) % 65536) ≡ Some (byte_by changed b)) bs
-  bytes_kept first dump address [] below has = tt
-  bytes_kept first dump address (b ∷ bs) below has =
-      (has.0 ∙ ap (λ (x : ℕ). Some x) (sym (byte_kept b below.0)), bytes_kept first dump address bs below.1 has.1)
+  bytes_kept first dump address [] none has = tt
+  bytes_kept first dump address (b ∷ bs) none has =
+      let parts = or_none (number_of b.target == number) (list_any (λ b. number_of b.target == number) bs) none in
+      (has.0 ∙ ap (λ (v : ℕ). Some (half_of b.half ((v + b.addend) % 65536))) (sym (changed_other (number_of b.target) parts.0)), bytes_kept first dump address bs parts.1 has.1)
+    where
+      or_none : (a b : Bool) → (a || b) ≡ false → (a ≡ false) × (b ≡ false)
+      or_none true b e = elim (true≢false e) [ ]
+      or_none false b e = (refl, e)
 
-  pub lies_changed : (first : ℕ) (dump : List ℕ) (code : List CodeByte) (address : ℕ) → 2 ≤ number → AreBelow count code
+  lies_changed : (first : ℕ) (dump : List ℕ) (code : List CodeByte) (address : ℕ) → 2 ≤ number → list_any (λ b. number_of b.target == number) code ≡ false
       → LiesWith first dump code address value → LiesWith first dump code address changed
-  lies_changed first dump code address two below lies = record {
-    absolute = changed_other 0 (omega arith) ∙ lies.absolute;
-    here = changed_other 1 (omega arith) ∙ lies.here;
-    bytes = bytes_kept first dump address code below lies.bytes;
+  lies_changed first dump code address two none lies = record {
+    absolute = changed_other 0 (ne_eqb 0 number (λ e. omega (arith, two, e))) ∙ lies.absolute;
+    here = changed_other 1 (ne_eqb 1 number (λ e. omega (arith, two, e))) ∙ lies.here;
+    bytes = bytes_kept first dump address code none lies.bytes;
   }
 
-two_words : (first : ℕ) (dump : List ℕ) (code : List CodeByte) (address count number word : ℕ) → count ≤ number → 2 ≤ number → AreBelow count code
-    → LiesAt first dump code address → IsOnly first dump code address number word → ⊥
-two_words first dump code address count number word free two below lies only =
-    let one : changed lies.value count number 0 free number % 65536 ≡ word = only (changed lies.value count number 0 free) (lies_changed lies.value count number 0 free first dump code address two below lies.lies) in
-    let other : changed lies.value count number 1 free number % 65536 ≡ word = only (changed lies.value count number 1 free) (lies_changed lies.value count number 1 free first dump code address two below lies.lies) in
-    clash (changed lies.value count number 0 free number) (changed lies.value count number 1 free number) (changed_at lies.value count number 0 free) (changed_at lies.value count number 1 free) one other
+-- so a value with only one has a byte
+pub has_a_byte : (first : ℕ) (dump : List ℕ) (code : List CodeByte) (address number word : ℕ) → 2 ≤ number → LiesAt first dump code address
+    → IsOnly first dump code address number word → list_any (λ b. number_of b.target == number) code ≡ true
+has_a_byte first dump code address number word two lies only = elim (cases_Bool (list_any (λ b. number_of b.target == number) code)) [
+  | inl e ↦ e
+  | inr e ↦ elim (clash (changed lies.value number 0 number) (changed lies.value number 1 number) (changed_at lies.value number 0) (changed_at lies.value number 1)
+      (only (changed lies.value number 0) (lies_changed lies.value number 0 first dump code address two e lies.lies))
+      (only (changed lies.value number 1) (lies_changed lies.value number 1 first dump code address two e lies.lies))) [ ]
+]
   where
     clash : (a b : ℕ) → a ≡ 0 → b ≡ 1 → a % 65536 ≡ word → b % 65536 ≡ word → ⊥
     clash a b ea eb one other = omega arith
+
+-- and a number above those of all bytes has none
+none_above : (count number : ℕ) → count ≤ number → (bs : List CodeByte) → AreBelow count bs → list_any (λ b. number_of b.target == number) bs ≡ false
+none_above count number le [] below = refl
+none_above count number le (b ∷ bs) below =
+    ap (λ (t : Bool). t || list_any (λ b. number_of b.target == number) bs) (ne_eqb (number_of b.target) number (λ e. above below.0 e))
+    ∙ none_above count number le bs below.1
+  where
+    above : number_of b.target < count → number_of b.target ≡ number → ⊥
+    above lt e = omega (arith, le, lt, e)
 
 -- ---- the words of a module
 
@@ -99,7 +114,8 @@ module _ (first : ℕ) (dump : List ℕ) (m : ModuleValue) (address count : ℕ)
       let value-only = only_value t word has is only in
       elim (cases_lt (number_of t) count) [
         | inl lt ↦ (h.each (number_of t) word two lt).1 (small (h.lies.value (number_of t)) (value-only h.lies.value h.lies.lies), value-only)
-        | inr free ↦ elim (two_words first dump (code_bytes m) address count (number_of t) word free two below h.lies value-only) [ ]
+        | inr free ↦ elim (true≢false (sym (has_a_byte first dump (code_bytes m) address (number_of t) word two h.lies value-only)
+            ∙ none_above count (number_of t) free (code_bytes m) below)) [ ]
       ]
     where
       small : (v : ℕ) → v % 65536 ≡ word → word < 65536

@@ -1,12 +1,13 @@
 -- The places of a module's pattern are those of the module.
 use Rattle.std.specs.Prelude.{◌↔◌, ℕ, ◌<◌, List, length, IsTrue}
+use Rattle.std.specs.List.{AllByRecursion}
 use Rattle.omf_parts.specs.Modules.{ModuleValue}
 use Rattle.omf_parts.specs.Rules.{is_sound}
 use Rattle.pattern80.specs.Modules.{code_bytes, code_length}
 use Rattle.find80.specs.declared.words.Word.{Word}
 use Rattle.find80.specs.Places.{LiesAt, AreBelow, ArePlaces}
-use Rattle.find80.specs.Words.{AreOnlyWords}
-use Rattle.found80.specs.Lies.{HasModule, AreModulePlaces, AreModuleWords}
+use Rattle.find80.specs.Words.{AreOnlyWords, IsOfATarget}
+use Rattle.found80.specs.Lies.{HasModule, AreModulePlaces, AreModuleWords, MayBeListed}
 
 -- there are values with which the code lies at an address, and it has a byte, exactly if there are bases with which the module
 -- lies there
@@ -30,3 +31,10 @@ PatternWordsAreModuleWords =
     → IsTrue (is_sound m) → code_length m < 65536 → 0 < length (code_bytes m) → address < 65536
     → AreBelow count (code_bytes m) → AreOnlyWords first dump (code_bytes m) address count words
     → AreModuleWords first dump m address words
+
+-- which is that of a target that may be listed
+abbrev pub PatternWordsMayBeListed : Type 0
+PatternWordsMayBeListed =
+    (first : ℕ) (dump : List ℕ) (m : ModuleValue) (address count : ℕ) (words : List Word)
+    → IsTrue (is_sound m) → AreOnlyWords first dump (code_bytes m) address count words → AllByRecursion IsOfATarget words
+    → AllByRecursion (λ w. MayBeListed m w.target) words

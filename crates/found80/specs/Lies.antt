@@ -49,6 +49,12 @@ abbrev pub IsFirst : ModuleValue → Target → Type 0
 IsFirst m (target.Segment id) = ⊤
 IsFirst m (target.External index) = first_with (take index m.externals) (name_at m.externals index) ≡ index
 
+-- a target that may be listed: one that the module has, but for absolute bytes and CODE, and of externals of one name the first
+pub record MayBeListed (m : ModuleValue) (t : Target) : Type 0 where
+  pub has : IsTrue (has_target m.commons (length m.externals) t)
+  pub not_fixed : 2 ≤ number_of t
+  pub first : IsFirst m t
+
 -- The words are those of the targets that can have only one: each word that is listed is the only one, and each target with
 -- only one word is listed with it, but for absolute bytes and CODE, and an external under the first of its equal names.
 pub record AreModuleWords (first : ℕ) (dump : List ℕ) (m : ModuleValue) (address : ℕ) (words : List Word) : Type 0 where

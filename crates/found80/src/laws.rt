@@ -2,7 +2,7 @@
 //! said of the chunks that the module's contents are if LOCATE gives it bases. Each law is ensured by a function that does
 //! nothing.
 
-ghost use Rattle.found80.specs.Laws.{PatternsLieAsModules, PatternPlacesAreModulePlaces, PatternWordsAreModuleWords};
+ghost use Rattle.found80.specs.Laws.{PatternsLieAsModules, PatternPlacesAreModulePlaces, PatternWordsAreModuleWords, PatternWordsMayBeListed};
 ghost use Rattle.found80.specs.LinkLaws.{LinkHasTheBytes};
 
 use omf_relocation::laws::{
@@ -33,6 +33,13 @@ pub fn pattern_words_are_module_words()
     sound_modules_keep_rules();
     commons_are_found_by_name();
     parts_of_one_start_at_zero();
+}
+
+/// They are words of targets that the module has, but for absolute bytes and CODE, and of externals of one name of the first.
+pub fn pattern_words_may_be_listed()
+    ensures { PatternWordsMayBeListed }
+{
+    sound_modules_keep_rules();
 }
 
 /// If each module of a link lies in a dump with bases that go with those of the link, the dump has, at each address that only

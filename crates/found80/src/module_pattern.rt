@@ -1,12 +1,15 @@
 //! A module to look for in dumps.
 
 ghost use Rattle.std.specs.Prelude.{◌≡◌, ◌≤◌, ◌==◌, length, IfOk, IfSome, IfNone};
+ghost use Rattle.std.specs.List.{AllByRecursion};
 ghost use Rattle.omf_parts.specs.Rules.{IsModule};
 ghost use Rattle.pattern80.specs.Modules.{code_bytes, code_length};
-ghost use Rattle.found80.specs.Lies.{HasModule, AreModulePlaces, AreModuleWords};
+ghost use Rattle.find80.specs.Words.{AreAscending};
+ghost use Rattle.found80.specs.Lies.{HasModule, AreModulePlaces, AreModuleWords, MayBeListed};
 
 use crate::laws::{
-    pattern_places_are_module_places, pattern_words_are_module_words, patterns_lie_as_modules,
+    pattern_places_are_module_places, pattern_words_are_module_words, pattern_words_may_be_listed,
+    patterns_lie_as_modules,
 };
 use find80::{Word, count_of, places, words_at};
 use omf_parts::Module;
@@ -93,10 +96,13 @@ impl<'a> ModulePattern<'a> {
         address: u16,
     ) -> Result<Option<Vec<Word>>, AllocError>
         ensures some { IfOk result (λ found. IfSome found (λ words. AreModuleWords first dump.now self.now address words.items)) }
+        ensures ascending { IfOk result (λ found. IfSome found (λ words. AreAscending words.items)) }
+        ensures listed { IfOk result (λ found. IfSome found (λ words. AllByRecursion (λ w. MayBeListed self.now w.target) words.items)) }
         ensures none { IfOk result (λ found. IfNone found (HasModule first dump.now self.now address → ⊥)) }
     {
         patterns_lie_as_modules();
         pattern_words_are_module_words();
+        pattern_words_may_be_listed();
         let code = self.code();
         if has_none(code) {
             return Ok(None);

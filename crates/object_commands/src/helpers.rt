@@ -1,6 +1,5 @@
 //! What the commands of object files share, and the longer parts of one of them.
 
 pub(crate) mod causes;
-pub(crate) mod found_text;
 pub(crate) mod link_lines;
 pub(crate) mod locate_options;

@@ -1,6 +1,6 @@
 -- The bytes of a module's code if each target has a value.
 -- (8080 Object Module Formats: relocation, intersegment and external reference records.)
-use Rattle.std.specs.Prelude.{ℕ, ◌+◌, ◌/◌, ◌%◌, Bool, true, false}
+use Rattle.std.specs.Prelude.{ℕ, ◌+◌, ◌/◌, ◌%◌, nat_lt, Bool, true, false}
 use Rattle.omf_parts.specs.declared.fixup.Target.{Target}
 use Rattle.omf_parts.specs.declared.fixup.Target.TheVariants as target
 use Rattle.pattern80.specs.declared.code_byte.Half.{Half}
@@ -11,6 +11,11 @@ use Rattle.pattern80.specs.declared.code_byte.CodeByte.{CodeByte}
 abbrev pub number_of : Target → ℕ
 number_of (target.Segment id) = id
 number_of (target.External index) = 256 + index
+
+-- it is a segment with an id below 256, or an external; of these no two have one number
+abbrev pub has_small_id : Target → Bool
+has_small_id (target.Segment id) = nat_lt id 256
+has_small_id (target.External index) = true
 
 -- a half of a word
 abbrev pub half_of : Half → ℕ → ℕ

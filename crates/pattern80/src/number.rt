@@ -1,7 +1,7 @@
 //! The numbers by which the values of targets go.
 
-ghost use Rattle.std.specs.Prelude.{◌≡◌, ◌<◌};
-ghost use Rattle.pattern80.specs.CodeBytes.{number_of};
+ghost use Rattle.std.specs.Prelude.{◌≡◌, ◌<◌, true};
+ghost use Rattle.pattern80.specs.CodeBytes.{number_of, has_small_id};
 
 use omf_parts::Target;
 
@@ -18,7 +18,8 @@ pub fn number_of(target: Target) -> usize
 /// The target with this number.
 pub fn target_of(number: usize) -> Target
     requires { number < 65792 }
-    ensures { number_of result ≡ number }
+    ensures number { number_of result ≡ number }
+    ensures small { has_small_id result ≡ true }
 {
     if number < 256 {
         Target::Segment(number as u8)

@@ -19,4 +19,4 @@ returns-clause-some c =
     described_lies c.args.first c.args.dump.now c.args.code.now c.args.address c.solve.new.table (omega arith) (omega (arith, whole, c.requires.two)) table
     (subst (λ (n : ℕ). AreBelow n c.args.code.now) (sym whole) c.requires.below) in
     only_words c.args.first c.args.dump.now c.args.code.now c.args.address (length c.args.table.now) c.solve.new.table c.in_ok-words.words.items (omega arith) c.requires.below whole table lies
-    (subst (λ (n : ℕ). AreSingle c.solve.new.table n c.in_ok-words.words.items) whole c.in_ok-words.ensures)
+    (subst (λ (n : ℕ). AreSingle c.solve.new.table n c.in_ok-words.words.items) whole c.in_ok-words.ensures.single)

@@ -1,9 +1,10 @@
 use Rattle.std.proofs.Common.{◌≡◌, ◌∙◌, sym, subst, arith, List, length, eqb-true, Option, IfSome, Vec, Global}
+use Rattle.std.specs.List.{AllByRecursion}
 use Rattle.std.proofs.lemmas.Bool.{true≢false, eq-eqb}
 use Rattle.pattern80.specs.declared.code_byte.CodeByte.{CodeByte}
 use Rattle.find80.specs.declared.words.Word.{Word}
 use Rattle.find80.specs.Places.{AreBelow}
-use Rattle.find80.specs.Words.{AreOnlyWords}
+use Rattle.find80.specs.Words.{AreOnlyWords, IsOfATarget}
 use Rattle.found80.proofs.FindLemmas.{empty_nowhere, has_bytes}
 use Rattle.found80.proofs.module_pattern.ModulePattern.words_at.Goals as goal
 
@@ -26,3 +27,13 @@ returns-in-Some-clause-some c =
     let only = subst (λ (o : Option (Vec Word Global)). IfSome o (λ words. AreOnlyWords first dump code c.args.address c.count_of.result words.items)) c.in-Some.is c.in_ok-found.ensures.some in
     c.pattern_words_are_module_words.ensures first dump m c.args.address c.count_of.result c.in-Some.words.items c.code-code.ensures.rules.sound (omega (arith, short)) some (omega arith) below
     (subst (λ (l : List CodeByte). AreOnlyWords first dump l c.args.address c.count_of.result c.in-Some.words.items) c.code-code.ensures.bytes only)
+
+pub returns-in-Some-clause-listed : goal.returns-in-Some-clause-listed
+returns-in-Some-clause-listed c =
+    let first = c.args.first in
+    let dump = c.args.dump.now in
+    let code = c.code-code.result.now in
+    let only = subst (λ (o : Option (Vec Word Global)). IfSome o (λ words. AreOnlyWords first dump code c.args.address c.count_of.result words.items)) c.in-Some.is c.in_ok-found.ensures.some in
+    let targets = subst (λ (o : Option (Vec Word Global)). IfSome o (λ words. AllByRecursion IsOfATarget words.items)) c.in-Some.is c.in_ok-found.ensures.targets in
+    c.pattern_words_may_be_listed.ensures first dump c.args.self.now c.args.address c.count_of.result c.in-Some.words.items c.code-code.ensures.rules.sound
+    (subst (λ (l : List CodeByte). AreOnlyWords first dump l c.args.address c.count_of.result c.in-Some.words.items) c.code-code.ensures.bytes only) targets
