@@ -1,27 +1,26 @@
 -- The machine's pairs at each kind of instruction.
-use Rattle.std.specs.Prelude.{◌≡◌, ◌<◌, ◌≤◌, ℕ, ◌+◌, ◌-◌, ◌*◌, ◌/◌, ◌%◌, List, Bool, refl}
-use Rattle.std.proofs.Common.{arith, subst, sym}
+use Rattle.std.specs.Prelude.{◌≡◌, ◌<◌, ℕ, ◌+◌, ◌/◌, ◌%◌, List, refl}
+use Rattle.std.proofs.Common.{arith, subst}
 use Rattle.decode80.specs.declared.register.Register.{Register}
 use Rattle.decode80.specs.declared.register.Register.TheVariants.{A, B, C, D, E, H, L}
 use Rattle.decode80.specs.declared.pair.Pair.{Pair}
 use Rattle.decode80.specs.declared.pair.Pair.TheVariants.{Bc, De, Hl, Sp}
-use Rattle.decode80.specs.declared.pair.StackPair.{StackPair}
 use Rattle.decode80.specs.declared.pair.StackPair.TheVariants.{Bc as StackBc, De as StackDe, Hl as StackHl, Psw}
 use Rattle.decode80.specs.declared.instr.Instr.{Instr}
-use Rattle.decode80.specs.declared.instr.Instr.TheVariants.{Mov, Load, Store, Mvi, MviMemory, Lxi, Dad, Inx, Dcx, Inr, InrMemory, Dcr, DcrMemory, Operate, Jmp, JumpIf, Call, CallIf, Ret, ReturnIf, Rst, Push, Pop, Stax, Ldax, Shld, Lhld, Sta, Lda, Rotate, Daa, Cma, Stc, Cmc, Xthl, Pchl, Xchg, Sphl, In, Out, Ei, Di, Nop, Hlt}
+use Rattle.decode80.specs.declared.instr.Instr.TheVariants.{Mov, Load, Mvi, Lxi, Dad, Inx, Dcx, Inr, Dcr, Pop, Lhld, Xthl, Xchg}
 use Rattle.decode80.specs.Fetch.{ahead, behind}
 use Rattle.machine80.specs.declared.flags.Flags.{Flags}
 use Rattle.machine80.specs.declared.registers.Registers.{Registers}
 use Rattle.machine80.specs.declared.cpu.Cpu.{Cpu}
 use Rattle.machine80.specs.Arithmetic.{increment_answer, decrement_answer, byte_answer, pair_sum}
-use Rattle.machine80.specs.Cpu.{word, register_of, with_register, pair_of, with_pair, hl_of}
+use Rattle.machine80.specs.Cpu.{word, register_of, with_register, with_pair}
 use Rattle.machine80.specs.Effects.{changed}
 use Rattle.spans80.specs.declared.span.Span.{Span}
 use Rattle.spans80.specs.declared.span.ByteSpan.{ByteSpan}
 use Rattle.spans80.specs.declared.pairs.Pairs.{Pairs}
 use Rattle.spans80.specs.Bytes.{AreBytes}
 use Rattle.spans80.specs.Span.{Within, ByteWithin, any_word, any_byte, word_alone, byte_alone, next_span, previous_span, next_byte, previous_byte, sum_span}
-use Rattle.spans80.specs.Pairs.{Holds, half_of, with_half, span_of, with_span, pairs_after, anything}
+use Rattle.spans80.specs.Pairs.{Holds, half_of, with_half, with_span, pairs_after}
 use Rattle.spans80.proofs.SpanLemmas.{high_within, low_within, joined_within, any_word_within, any_byte_within, next_within, previous_within, next_byte_within, previous_byte_within, sum_within, sum_any}
 
 -- a register's byte is one of its half

@@ -1,19 +1,16 @@
 -- The machine's pairs along a step.
-use Rattle.std.specs.Prelude.{◌≡◌, ◌<◌, ℕ, ◌+◌, Bool, true, false, not, List, [], ◌∷◌, ◌++◌, Option, None, Some, refl, if◌then◌else◌}
+use Rattle.std.specs.Prelude.{◌≡◌, ℕ, Bool, true, false, Option, None, Some}
 use Rattle.std.proofs.Common.{subst, sym, ap, ◌∙◌}
 use Rattle.decode80.specs.declared.instr.Instr.{Instr}
 use Rattle.decode80.specs.declared.instr.Instr.TheVariants.{In, Out, Pchl, Hlt}
 use Rattle.decode80.specs.declared.fetching.Fetched.{Fetched}
 use Rattle.image80.specs.Regions.{Areas, targets_at}
 use Rattle.machine80.specs.declared.end.End.{End}
-use Rattle.machine80.specs.declared.cpu.Cpu.{Cpu}
-use Rattle.machine80.specs.declared.registers.Registers.{Registers}
 use Rattle.machine80.specs.Cpu.{hl_of}
 use Rattle.machine80.specs.Ports.{next_input}
-use Rattle.machine80.specs.Effects.{changed}
 use Rattle.machine80.specs.Step.{Machine, Turn, Next, Stop, fetch, guard, guarded, execute, turn_of, jump_end, proceeded, with_input, step_on, step_of}
 use Rattle.spans80.specs.declared.pairs.Pairs.{Pairs}
-use Rattle.spans80.specs.Bytes.{AreBytes, HoldsBytes}
+use Rattle.spans80.specs.Bytes.{AreBytes}
 use Rattle.spans80.specs.Pairs.{Holds, pairs_after}
 use Rattle.spans80.proofs.FollowLemmas.{changed_pairs}
 

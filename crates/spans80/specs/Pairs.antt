@@ -1,7 +1,6 @@
 -- What the three register pairs may be, and what becomes of that at each instruction. (The registers that each instruction
 -- writes are those of the Intel 8080 Microcomputer Systems User's Manual, chapter 4; that spans are followed is this project's
 -- own.)
-use Rattle.std.specs.Prelude.{ℕ}
 use Rattle.decode80.specs.declared.register.Register.{Register}
 use Rattle.decode80.specs.declared.register.Register.TheVariants.{A, B, C, D, E, H, L}
 use Rattle.decode80.specs.declared.pair.Pair.{Pair}
