@@ -2,9 +2,7 @@
 
 use console80::{Console, Reported, Syntax};
 use loader80::Vouched;
-use naming80::{NAMED_FILES, NamedFiles, Names, vouch_with_names};
-use report80::report_text;
-use std::alloc::{AllocError, Global};
+use naming80::{NAMED_FILES, NamedFiles, Names, named_report, vouch_with_names};
 
 const ABOUT: &str = "Verifies an image: prints a report, or the refusal";
 
@@ -47,14 +45,4 @@ fn print_report(console: Console<'_>, vouched: &Vouched, names: &Names) -> Resul
     };
     console.print(&text)?;
     Ok(0)
-}
-
-/// The report, with the names of procedures.
-pub fn named_report(
-    alloc: Global,
-    vouched: &Vouched,
-    names: &Names,
-) -> Result<Vec<u8>, AllocError> {
-    let text = report_text(alloc, vouched)?;
-    names.name(alloc, vouched.image().regions.code(), b"PROC ", text)
 }

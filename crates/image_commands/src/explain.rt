@@ -1,13 +1,11 @@
 //! `plm80 explain`: why the verifier refuses a located program, shown by ways through its procedures.
 
-use crate::check::named_report;
 use console80::{Console, Reported, Syntax};
-use explain80::{Unexplained, explain, find_chain, measure};
-use explained80::{chain_text, explanation_text};
+use explain80::measure;
+use explained80::{append_chain, append_explanation};
 use image80::Image;
-use loader80::{Refusal, refusal_text, vouch};
-use naming80::{NAMED_FILES, NamedFiles, Names, named_refusal};
-use report80::append_rows;
+use loader80::{Refusal, vouch};
+use naming80::{NAMED_FILES, NamedFiles, Names, named_refusal, named_refusal_report, named_report};
 use std::alloc::{AllocError, Global};
 
 /// The most that the points that are found weigh together: eight for a point, one for each word of its frame and each word taken, and as
@@ -45,13 +43,6 @@ pub const EXPLAIN: Syntax<'static> = Syntax {
     arguments: NAMED_FILES,
 };
 
-/// The image that is shown, and its names.
-#[derive(Clone, Copy)]
-struct Subject<'a> {
-    image: &'a Image,
-    names: &'a Names,
-}
-
 /// Prints the report on the image, or its refusal and what shows it, and gives the exit status.
 pub fn explain_files(console: Console<'_>, files: NamedFiles<'_>) -> Result<u8, Reported> {
     let (image, names) = files.read(console)?;
@@ -67,87 +58,43 @@ fn explained(alloc: Global, image: Image, names: &Names) -> Result<(Vec<u8>, u8)
     match vouch(alloc, image) {
         Ok(vouched) => {
             let mut text = named_report(alloc, &vouched, names)?;
-            let subject = Subject {
-                image: vouched.image(),
-                names,
-            };
-            append_chain(alloc, &mut text, subject, vouched.stack_bytes())?;
+            let (image, bytes) = (vouched.image(), vouched.stack_bytes());
+            append_chain(alloc, &mut text, image, names.publics(), bytes, LIMIT)?;
             Ok((text, 0))
         }
         Err((_, Refusal::Memory)) => Err(AllocError),
-        Err((image, refusal)) => {
-            let subject = Subject {
-                image: &image,
-                names,
-            };
-            Ok((refused(alloc, subject, refusal)?, 1))
-        }
+        Err((image, refusal)) => Ok((refused(alloc, &image, refusal, names)?, 1)),
     }
 }
 
 /// The refusal of an image, and what shows it.
-fn refused(alloc: Global, subject: Subject<'_>, refusal: Refusal) -> Result<Vec<u8>, AllocError> {
+fn refused(
+    alloc: Global,
+    image: &Image,
+    refusal: Refusal,
+    names: &Names,
+) -> Result<Vec<u8>, AllocError> {
     if let Refusal::StackTooSmall(need, _) = refusal {
-        return overrun(alloc, subject, refusal, need);
+        return overrun(alloc, image, refusal, need, names);
     }
-    let mut text = named_refusal(alloc, subject.image, refusal, subject.names)?;
-    match explain(alloc, subject.image, refusal, LIMIT) {
-        Ok(explanation) => {
-            let shown = explanation_text(
-                alloc,
-                subject.image,
-                subject.names.publics(),
-                refusal,
-                &explanation,
-            )?;
-            text.extend_from_slice(shown.as_slice())?;
-        }
-        Err(fault) => append_why(&mut text, fault)?,
-    }
+    let mut text = named_refusal(alloc, image, refusal, names)?;
+    append_explanation(alloc, &mut text, image, names.publics(), refusal, LIMIT)?;
     Ok(text)
 }
 
 /// The refusal of an image whose stack is too small, its procedures, and the chain of calls that needs most.
 fn overrun(
     alloc: Global,
-    subject: Subject<'_>,
+    image: &Image,
     refusal: Refusal,
     need: u64,
+    names: &Names,
 ) -> Result<Vec<u8>, AllocError> {
     // Nothing but its stack is wrong: if it can't be measured now, memory has run out.
-    let Ok(report) = measure(alloc, subject.image) else {
+    let Ok(report) = measure(alloc, image) else {
         return Err(AllocError);
     };
-    let mut text = refusal_text(alloc, refusal)?.into_bytes();
-    append_rows(alloc, &mut text, &report.procedures)?;
-    let image = subject.image;
-    let code = image.regions.code();
-    let mut text = subject.names.name(alloc, code, b"PROC ", text)?;
-    append_chain(alloc, &mut text, subject, need)?;
+    let mut text = named_refusal_report(alloc, image, refusal, &report.procedures, names)?;
+    append_chain(alloc, &mut text, image, names.publics(), need, LIMIT)?;
     Ok(text)
-}
-
-/// Appends the chain of calls that comes to so many bytes of stack.
-fn append_chain(
-    alloc: Global,
-    text: &mut Vec<u8>,
-    subject: Subject<'_>,
-    bytes: u64,
-) -> Result<(), AllocError> {
-    match find_chain(alloc, subject.image, bytes, LIMIT) {
-        Ok(chain) => {
-            let shown = chain_text(alloc, subject.image, subject.names.publics(), &chain)?;
-            text.extend_from_slice(shown.as_slice())
-        }
-        Err(fault) => append_why(text, fault),
-    }
-}
-
-/// Appends why nothing is shown.
-fn append_why(text: &mut Vec<u8>, fault: Unexplained) -> Result<(), AllocError> {
-    match fault {
-        Unexplained::Memory => Err(AllocError),
-        Unexplained::Limit => text.extend_from_slice(b"TOO MANY WAYS TO SHOW\n".as_slice()),
-        Unexplained::NotShown => Ok(()),
-    }
 }

@@ -1,14 +1,18 @@
 -- The names that commands print: those of an image's file if they are asked for, behind or before the lines of a text.
 -- (As the symbols of ISIS-II's debuggers; the form of the lines is this project's own.)
-use Rattle.std.specs.Prelude.{◌≡◌, ℕ, ◌-◌, Bool, true, false, nat_eq, if◌then◌else◌, Option, Some, None, List, [], ◌∷◌, ◌++◌, length, take, drop}
+use Rattle.std.specs.Prelude.{◌≡◌, ℕ, ◌-◌, Bool, true, false, nat_eq, if◌then◌else◌, Option, Some, None, List, [], ◌∷◌, ◌++◌, codes, length, take, drop}
 use Rattle.std.specs.Cmp.Lexicographic.{pointwise}
+use Rattle.std.specs.List.{flat_map}
 use Rattle.image80.specs.declared.range.Range.{Range}
 use Rattle.omf_parts.specs.declared.symbols.Public.{Public}
-use Rattle.names80.specs.NameText.{name_text}
+use Rattle.names80.specs.NameText.{name_text, named_text}
 use Rattle.publics80.specs.ImagePublics.{HasPublics}
 use Rattle.flow80.specs.declared.refusal.Refusal.{Refusal}
+use Rattle.flow80.specs.declared.report.ProcRow.{ProcRow}
 use Rattle.flow80.specs.Refusal.{refusal_address}
 use Rattle.loader80.specs.TranscriptText.{refusal_line}
+use Rattle.loader80.specs.Vouched.{Voucher}
+use Rattle.report80.specs.ReportText.{report_text, row_line}
 
 -- the publics by which addresses are named: those that the image's file has if they are asked for, else none
 abbrev pub AreNamesOf : (asked : Bool) (file : List ℕ) → List Public → Type 0
@@ -32,3 +36,13 @@ named_if code publics (Some address) text = named_end code publics address text
 -- the line of a refusal, with the name of the address that it names
 abbrev pub named_refusal_line : List Range → List Public → Refusal → List ℕ
 named_refusal_line code publics refusal = named_if code publics (refusal_address refusal) (refusal_line refusal)
+
+-- the report on an image, with the names of its procedures
+abbrev pub named_report : Voucher → List Public → List ℕ
+named_report program publics = named_text program.image.regions.code publics (codes "PROC ")
+    (report_text program.stack_bytes program.image.regions.stack.length program.rows)
+
+-- the line of a refusal and those of the procedures, with their names
+abbrev pub named_refusal_report : List Range → List Public → Refusal → List ProcRow → List ℕ
+named_refusal_report code publics refusal rows =
+    named_text code publics (codes "PROC ") (refusal_line refusal ++ flat_map row_line rows)

@@ -6,12 +6,15 @@
 //! | [`NamedFiles`], [`NAMED_FILES`] | the image, its regions and its names, which several commands read |
 //! | [`Names`] | the names of an image's addresses, put into texts |
 //! | [`vouch_with_names`], [`named_refusal`] | an image that is verified, or its refusal with a name |
+//! | [`named_report`], [`named_refusal_report`] | the report on an image, or its refusal and its procedures, with their names |
 #![tactic(auto)]
 
 mod named_files;
 mod names;
 mod refusing;
+mod reports;
 
 pub use named_files::{NAMED_FILES, NAMES, NamedFiles};
 pub use names::Names;
 pub use refusing::{named_refusal, vouch_with_names};
+pub use reports::{named_refusal_report, named_report};
