@@ -7,7 +7,7 @@ ghost use Rattle.walks80.specs.Search.{IsBack, IsLooked};
 
 use crate::fault::Stop;
 use crate::point::Point;
-use code80::{Code, LookFault};
+use code80::{Code, LookFault, role_of};
 use flow80::Procedure;
 use frames80::{CallFault, Frame, FrameFault, Moves, Role, after, next};
 use std::alloc::Global;
