@@ -1,6 +1,5 @@
 -- PointNumbers by procedure and address: in a table of the first point of each address, and a map of further ones.
 use Rattle.std.specs.Prelude.{◌≡◌, ◌≢◌, ◌<◌, ℕ, Bool, true, false, nat_lt, List, Option, Some, None, length, slice_index_or, slice_set, refl, if◌then◌else◌}
-use Rattle.std.specs.Cmp.{unsigned_Decides}
 use Rattle.std.specs.List.{All}
 use Rattle.std.specs.Ordering.{nat_cmp, is_eq}
 use Rattle.std.specs.BTreeMap.{get, is_at, IsEmpty, IsUnchanged, Updates}
@@ -10,7 +9,6 @@ use Rattle.std.proofs.lemmas.Bool.{cases_eq}
 use Rattle.std.proofs.lemmas.Bool.Decides.{nat_tests}
 use Rattle.std.proofs.lemmas.List.{get_or-set_same, get_or-set_other, get_or_past}
 use Rattle.bounds80.specs.declared.procedure.Procedure.{Procedure}
-use Rattle.bounds80.specs.declared.procedure.Procedure.TheVariants.{Main, Entry}
 use Rattle.code80.specs.declared.point_numbers.FirstPoint.{FirstPoint}
 use Rattle.code80.specs.declared.point_numbers.PointNumbers.{PointNumbers}
 use Rattle.code80.specs.PointNumbers.{same_procedure, same_is, is_same, procedure_number, place_number, number_of, is_free, number_at, same_place, HasNone, SameNumbers, Puts}

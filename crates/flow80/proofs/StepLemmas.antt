@@ -4,7 +4,6 @@ use Rattle.std.proofs.Common.{sym, ◌∙◌, subst, arith, inl, inr, true≢fal
 use Rattle.std.proofs.lemmas.Grind.{get_or_default_zero}
 use Rattle.std.proofs.lemmas.List.Elements.{Contains-get_or}
 use borrow.Author.Count.{below_more}
-use Rattle.decode80.specs.declared.fetching.Fetched.{Fetched}
 use Rattle.frames80.specs.declared.role.Role.{Role}
 use Rattle.frames80.specs.declared.moves.Moves.{Moves}
 use Rattle.frames80.specs.declared.moves.Moves.TheVariants.{End, On, Jump, Either, Case, Call, MaybeCall, Return, MaybeReturn}
@@ -17,7 +16,7 @@ use Rattle.flow80.specs.declared.refusal.Refusal.TheVariants.{UnevenArguments, S
 use Rattle.code80.specs.Code.{Code, role_of}
 use Rattle.flow80.specs.Walks.{LeadsTo, called, returning}
 use Rattle.flow80.specs.Shown.{IsShown, AtMove, FrameLaws}
-use Rattle.flow80.specs.Known.{Known, Refused, IsSmall, Stands, weight, Goes, HasPoint, Advances, Flows, Carries, IsMoving, Steps, GoesToFirst, exit_of, ReturnsAt, Exits, IsCalling, HasCalled, CallsOut, IsShort}
+use Rattle.flow80.specs.Known.{Known, Refused, IsSmall, Stands, weight, Goes, HasPoint, Advances, Flows, IsMoving, Steps, GoesToFirst, exit_of, ReturnsAt, Exits, IsCalling, CallsOut, IsShort}
 use Rattle.flow80.proofs.ShownLemmas.{shown_on, shown_entry, shown_after, exit_shown, exit_shown_at, taken_at_return, short, uneven}
 use Rattle.flow80.proofs.KnownLemmas.{with_exit, stands_exit, goes_exit}
 

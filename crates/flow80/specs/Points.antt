@@ -1,5 +1,5 @@
 -- The points that are known, each with what is known of its frame, in order of first sight. (This project's own.)
-use Rattle.std.specs.Prelude.{◌≡◌, ◌<◌, ℕ, Bool, true, false, ◌&&◌, nat_eq, List, Some, slice_get, slice_set}
+use Rattle.std.specs.Prelude.{◌≡◌, ◌<◌, ℕ, Bool, ◌&&◌, nat_eq, List, Some, slice_get, slice_set}
 use Rattle.frames80.specs.StackFrame.{StackFrame}
 use Rattle.bounds80.specs.declared.procedure.Procedure.{Procedure}
 use Rattle.code80.specs.PointNumbers.{same_procedure}
