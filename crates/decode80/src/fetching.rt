@@ -113,6 +113,16 @@ pub fn direct_bytes(instr: Instr) -> [Option<u16>; 2]
     match instr {
         Instr::Sta(address) => [Some(address), None],
         Instr::Shld(address) => [Some(address), Some(ahead(address, 1))],
-        _ => [None, None],
+        Instr::Mov(_, _) | Instr::Load(_) | Instr::Store(_) | Instr::Mvi(_, _) => [None, None],
+        Instr::MviMemory(_) | Instr::Lxi(_, _) | Instr::Dad(_) => [None, None],
+        Instr::Inx(_) | Instr::Dcx(_) | Instr::Inr(_) | Instr::Dcr(_) => [None, None],
+        Instr::InrMemory | Instr::DcrMemory | Instr::Operate(_, _) => [None, None],
+        Instr::Rotate(_) | Instr::Daa | Instr::Cma | Instr::Stc | Instr::Cmc => [None, None],
+        Instr::Jmp(_) | Instr::JumpIf(_, _) | Instr::Pchl => [None, None],
+        Instr::Call(_) | Instr::CallIf(_, _) | Instr::Rst(_) => [None, None],
+        Instr::Ret | Instr::ReturnIf(_) | Instr::Push(_) | Instr::Pop(_) => [None, None],
+        Instr::Stax(_) | Instr::Ldax(_) | Instr::Lhld(_) | Instr::Lda(_) => [None, None],
+        Instr::Xthl | Instr::Xchg | Instr::Sphl | Instr::In(_) | Instr::Out(_) => [None, None],
+        Instr::Ei | Instr::Di | Instr::Nop | Instr::Hlt => [None, None],
     }
 }

@@ -1,20 +1,21 @@
 -- What is found of modules in a dump, and the text of it. (The form of the lines is this project's own.)
 use Rattle.std.specs.Prelude.{◌≡◌, ℕ, ◌<◌, nat_lt, Bool, true, false, not, List, [], ◌++◌, length, take, filter}
-use Rattle.std.specs.List.{AllZip, concat, flat_map, list_any}
+use Rattle.std.specs.List.{AllByRecursion, AllZip, concat, flat_map, list_any}
 use Rattle.omf_parts.specs.Modules.{ModuleValue}
 use Rattle.pattern80.specs.Modules.{code_bytes}
 use Rattle.find80.specs.declared.words.Word.{Word}
 use Rattle.find80.specs.Places.{is_plain}
 use Rattle.find80.specs.Words.{AreAscending}
-use Rattle.found80.specs.Lies.{AreModulePlaces, AreModuleWords}
+use Rattle.found80.specs.Lies.{AreModulePlaces, AreModuleWords, MayBeListed}
 use Rattle.found_lines80.specs.declared.finding.Finding.{Finding}
 use Rattle.found_lines80.specs.declared.finding.Finding.TheVariants.{Short, Missing, There}
 use Rattle.found_lines80.specs.Lines.{place_text, more_line, missing_line, short_line, count_line}
 
--- the text of a place: its lines, with the words of the module's targets there, by ascending numbers
+-- the text of a place: its lines, with the words that the module's targets can only have there, by ascending numbers
 pub record IsPlaceText (first : ℕ) (dump : List ℕ) (m : ModuleValue) (address : ℕ) (text : List ℕ) : Type 0 where
   pub words : List Word
   pub are : AreModuleWords first dump m address words
+  pub listed : AllByRecursion (λ w. MayBeListed m w.target) words
   pub ascending : AreAscending words
   pub text_is : text ≡ place_text m address words
 
