@@ -1,5 +1,5 @@
 -- A word that is listed is that of a target which the module has, and of externals of one name of the first.
-use Rattle.std.specs.Prelude.{◌≡◌, ℕ, zero, suc, ◌+◌, ◌-◌, ◌%◌, ◌<◌, ◌≤◌, ◌==◌, ◌&&◌, ◌||◌, filter, nat_eq, nat_lt, cond, Bool, true, false, if◌then◌else◌, Option, Some, None, List, [], ◌∷◌, length, find, take, IsTrue}
+use Rattle.std.specs.Prelude.{◌≡◌, ℕ, zero, suc, ◌+◌, ◌-◌, ◌<◌, ◌≤◌, ◌==◌, ◌&&◌, ◌||◌, filter, nat_eq, cond, Bool, true, false, Some, None, List, [], ◌∷◌, length, find, take, IsTrue}
 use Rattle.std.specs.List.{AllByRecursion, list_any, last_or}
 use Rattle.std.specs.Option.{option_map_or}
 use Rattle.std.specs.Cmp.Lexicographic.{pointwise}
@@ -25,7 +25,7 @@ use Rattle.find80.specs.declared.words.Word.{Word}
 use Rattle.find80.specs.Words.{has_word, AreOnlyWords, IsOfATarget}
 use Rattle.found80.specs.Lies.{IsFirst, MayBeListed}
 use Rattle.found80.proofs.BaseLemmas.{small_id}
-use Rattle.found80.proofs.ChunkLemmas.{code_byte_is, mapped_from, last_map}
+use Rattle.found80.proofs.ChunkLemmas.{mapped_from, last_map}
 use Rattle.found80.proofs.LieLemmas.{all_of_each, last_sound}
 use Rattle.found80.proofs.NameLemmas.{first_name}
 use Rattle.found80.proofs.WordLemmas.{has_a_byte}
