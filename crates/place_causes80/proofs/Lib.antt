@@ -1,3 +1,4 @@
 mod PlacingLemmas
 mod OverlapLemmas
 mod TextLemmas
+mod LawLemmas

@@ -5,9 +5,11 @@
 //! | Item | What it is |
 //! |---|---|
 //! | [`append_cause`] | the lines of a fault |
+//! | [`laws`] | that the lines of segments which don't fit are of those that the fault names |
 #![tactic(auto)]
 
 mod causes;
+pub mod laws;
 mod laying_out;
 mod lines;
 mod names;
