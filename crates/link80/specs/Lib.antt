@@ -4,7 +4,7 @@ pub mod DuplicateLaws
 pub mod Linking
 pub mod LinkLaws
 pub mod Selection
-pub use Rattle.select80.specs.Selected
+pub use Rattle.link80_select.specs.Selected
 -- what the crate's own functions promise one another: no public contract cites these
 pub mod FirstSight
 pub mod Gathered

@@ -4,8 +4,8 @@ use Rattle.std.specs.Prelude.{◌≡◌, ◌↔◌, Some, List, ◌++◌, filter
 use Rattle.omf_parts.specs.Modules.{ModuleValue}
 use Rattle.link80.specs.declared.fault.LinkFault.{LinkFault}
 use Rattle.link80.specs.LinkFault.{link_fault}
-use Rattle.select80.specs.declared.chosen.Chosen.{Chosen}
-use Rattle.select80.specs.Selected.{module_at, IsChosen, AreAscending}
+use Rattle.link80_select.specs.declared.chosen.Chosen.{Chosen}
+use Rattle.link80_select.specs.Selected.{module_at, IsChosen, AreAscending}
 
 -- the places of all that are chosen and no others, in ascending order
 pub record IsSelection (roots : List ModuleValue) (libraries : List (List ModuleValue)) (taken : List Chosen) : Type 0 where

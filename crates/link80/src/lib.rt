@@ -5,7 +5,7 @@
 //! |---|---|
 //! | [`link`], [`Linked`] | modules, and what they need of libraries, linked into one |
 //! | [`select`] | which modules a link takes from its libraries |
-//! | [`Chosen`] | the place of a module in libraries (`select80`) |
+//! | [`Chosen`] | the place of a module in libraries (`link80_select`) |
 //! | [`LinkFault`] | why modules can't be linked |
 //! | [`laws`] | the linked module defines the bytes that its modules define |
 #![tactic(auto)]
@@ -27,6 +27,6 @@ mod starts;
 mod symbol_tables;
 
 pub use fault::LinkFault;
+pub use link80_select::Chosen;
 pub use linking::{Linked, link};
-pub use select80::Chosen;
 pub use selecting::select;

@@ -8,7 +8,7 @@ ghost use Rattle.link80.specs.Linked.{linked, linked_parts, linked_publics, star
 ghost use Rattle.link80.specs.LinkFault.{duplicate_public, link_fault, segment_too_long, too_many_externals};
 ghost use Rattle.link80.specs.Linking.{IsFirstFault, IsLinkOf};
 ghost use Rattle.link80.specs.Selection.{IsSelection, modules_with, CannotBeLinked};
-ghost use Rattle.select80.specs.Selected.{module_at};
+ghost use Rattle.link80_select.specs.Selected.{module_at};
 
 use crate::commons::JoinedModules;
 use crate::contents::linked_contents;
@@ -23,10 +23,10 @@ use crate::segments::linked_segments;
 use crate::selecting::select;
 use crate::starts::LaidModules;
 use crate::symbol_tables::SymbolTables;
+use link80_select::Chosen;
 use omf_core::Name;
 use omf_library::Library;
 use omf_parts::{Module, Parts, copy_names};
-use select80::Chosen;
 use std::alloc::{AllocError, Global};
 
 /// What a link makes: one module, the places of the modules that were taken from libraries, and the names that no module

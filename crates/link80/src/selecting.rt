@@ -1,12 +1,12 @@
 //! Which modules of its libraries a link takes.
 
 ghost use Rattle.std.specs.Prelude.{◌≡◌, ◌↔◌, Contains, IfOk, IfErr};
-ghost use Rattle.select80.specs.Selected.{IsChosen, AreAscending};
+ghost use Rattle.link80_select.specs.Selected.{IsChosen, AreAscending};
 
 use crate::fault::LinkFault;
+use link80_select::Chosen;
 use omf_library::Library;
 use omf_parts::Module;
-use select80::Chosen;
 use std::alloc::Global;
 
 /// The modules that a link of these roots takes from these libraries: the first that declares a name which a root has as
@@ -25,5 +25,5 @@ pub fn select(
     ensures ascending { IfOk result (λ taken. AreAscending taken.items) }
     ensures fault { IfErr result (λ fault. fault ≡ LinkFault.Memory) }
 {
-    Ok(select80::select(alloc, roots, libraries)?)
+    Ok(link80_select::select(alloc, roots, libraries)?)
 }

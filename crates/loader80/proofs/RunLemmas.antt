@@ -9,7 +9,7 @@ use Rattle.machine80.specs.declared.end.End.{End}
 use Rattle.machine80.specs.Step.{Machine, machine}
 use Rattle.machine80.specs.World.{world_at_start, IsProperEnd, NeverGoesWrong}
 use Rattle.machine80.specs.Run.{IsRun, Agrees, world_of}
-use Rattle.quick80.specs.Quick.{StaysRight}
+use Rattle.machine80_quick.specs.Quick.{StaysRight}
 
 -- some number of outputs agrees with each run
 pub most_for : Bool → List (ℕ × ℕ) → Option ℕ

@@ -1,11 +1,11 @@
 -- What a session answers and writes: a relation between the three texts, the answer and the text that is written.
 use Rattle.std.specs.Prelude.{◌≡◌, ◌≢◌, ℕ, ◌⊎◌, List, [], None, Some, Result, Ok, Err}
 use Rattle.image80.specs.declared.fault.RegionsFault.TheVariants.{Memory as RegionsMemory}
-use Rattle.absolute80.specs.declared.image_fault.ImageFault.TheVariants.{Memory as ImageMemory}
+use Rattle.image80_file.specs.declared.image_fault.ImageFault.TheVariants.{Memory as ImageMemory}
 use Rattle.image80.specs.Regions.{Areas}
 use Rattle.image80.specs.RegionsText.{Spells, Refuses}
 use Rattle.image80.specs.Image.{Located}
-use Rattle.absolute80.specs.ImageFile.{SpellsImage, FaultsImage, without_regions}
+use Rattle.image80_file.specs.ImageFile.{SpellsImage, FaultsImage, without_regions}
 use Rattle.machine80.specs.Ports.{lists_of}
 use Rattle.machine80.specs.Step.{Machine}
 use Rattle.machine80.specs.World.{world_at_start}
@@ -13,13 +13,13 @@ use Rattle.machine80.specs.Run.{IsRun}
 use Rattle.loader80.specs.declared.replies.Outcome.{Outcome}
 use Rattle.loader80.specs.declared.fault.SessionFault.{SessionFault}
 use Rattle.loader80.specs.declared.fault.SessionFault.TheVariants.{Read, Write, Image, Regions, Inputs, Refused, Memory, TooLong}
-use Rattle.flow80.specs.declared.refusal.Refusal.{Refusal}
-use Rattle.flow80.specs.declared.refusal.Refusal.TheVariants.{Memory as NoMemory}
+use Rattle.verify80_flow.specs.declared.refusal.Refusal.{Refusal}
+use Rattle.verify80_flow.specs.declared.refusal.Refusal.TheVariants.{Memory as NoMemory}
 use Rattle.loader80.specs.Texts.{Texts}
 use Rattle.loader80.specs.InputsText.{inputs_of, bad_line}
 use Rattle.loader80.specs.TranscriptText.{transcript, refusal_line}
-use Rattle.flow80.specs.declared.report.ProcRow.{ProcRow}
-use Rattle.flow80.specs.Faults.{Holds}
+use Rattle.verify80_flow.specs.declared.report.ProcRow.{ProcRow}
+use Rattle.verify80_flow.specs.Faults.{Holds}
 use Rattle.verify80.specs.Looking.{code_of}
 use Rattle.loader80.specs.Vouched.{IsVouched}
 

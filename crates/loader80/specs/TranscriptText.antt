@@ -5,9 +5,9 @@ use Rattle.std.specs.List.{flat_map}
 use Rattle.machine80.specs.declared.end.End.{End}
 use Rattle.machine80.specs.declared.end.End.TheVariants.{Halt, InputEnd, OutputRefused, StoreOutside, JumpOutside, Fetch, Stack, Direct}
 use Rattle.decode80.specs.Text.{byte_text, word_text}
-use Rattle.flow80.specs.declared.refusal.Refusal.{Refusal}
-use Rattle.flow80.specs.declared.refusal.Refusal.TheVariants.{StackTooSmall}
-use Rattle.flow80.specs.Refusal.{refusal_code, refusal_name, refusal_address}
+use Rattle.verify80_flow.specs.declared.refusal.Refusal.{Refusal}
+use Rattle.verify80_flow.specs.declared.refusal.Refusal.TheVariants.{StackTooSmall}
+use Rattle.verify80_flow.specs.Refusal.{refusal_code, refusal_name, refusal_address}
 
 -- the bytes of stack that the program is known to need at most
 abbrev pub stack_line : ℕ → List ℕ

@@ -1,8 +1,8 @@
 -- An image that was vouched for, and what is known of it.
 use Rattle.std.specs.Prelude.{ℕ, List}
 use Rattle.image80.specs.Image.{Located}
-use Rattle.flow80.specs.declared.report.ProcRow.{ProcRow}
-use Rattle.flow80.specs.Accepted.{IsAccepted}
+use Rattle.verify80_flow.specs.declared.report.ProcRow.{ProcRow}
+use Rattle.verify80_flow.specs.Accepted.{IsAccepted}
 use Rattle.machine80.specs.World.{NeverGoesWrong}
 use Rattle.verify80.specs.Looking.{code_of}
 

@@ -3,8 +3,8 @@
 ghost use Rattle.std.specs.Prelude.{◌≡◌};
 ghost use Rattle.loader80.specs.Fault.{session_code};
 
-use absolute80::ImageFault;
 use image80::RegionsFault;
+use image80_file::ImageFault;
 use thiserror::Error;
 use verify80::Refusal;
 

@@ -9,8 +9,8 @@ ghost use Rattle.machine80.specs.Run.{IsRun, Agrees};
 
 use crate::vouched::Vouched;
 use machine80::{Bus, Cpu, End, Ports};
-use quick80::laws::images_that_never_go_wrong_stay_right;
-use quick80::quick_advance;
+use machine80_quick::laws::images_that_never_go_wrong_stay_right;
+use machine80_quick::quick_advance;
 
 /// How a run ended.
 #[derive(Clone, Copy, Debug, PartialEq, Eq)]
@@ -25,7 +25,7 @@ pub struct Ended {
 
 /// Runs a vouched image from its start, for at most `steps` steps.
 ///
-/// It makes [quick steps](quick80::quick_step), which leave out the checks that the verifier has made needless.
+/// It makes [quick steps](machine80_quick::quick_step), which leave out the checks that the verifier has made needless.
 ///
 /// The bus holds the image's content, and the count of refused outputs is below the greatest `u64`. It is one higher
 /// after [`End::OutputRefused`], and stays otherwise.

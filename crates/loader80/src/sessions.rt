@@ -2,13 +2,13 @@
 
 ghost use Rattle.std.specs.Prelude.{◌≡◌, ◌+◌, ◌<◌, ◌≤◌, Some, IfOk, IfErr, IfSome, vec_len};
 ghost use Rattle.loader80.specs.Texts.{Texts};
-ghost use Rattle.streams80.specs.WholeText.{TakesAtMost};
+ghost use Rattle.loader80_streams.specs.WholeText.{TakesAtMost};
 ghost use Rattle.loader80.specs.Sends.{Sends, read_failures_at, write_failures_of, TextFault, text_limit};
 
 use crate::fault::SessionFault;
 use crate::replies::{Outcome, SessionTexts, answer_texts};
+use loader80_streams::{Failed, ReadAllFault, Sink, Source, read_all, write_all};
 use std::alloc::Global;
-use streams80::{Failed, ReadAllFault, Sink, Source, read_all, write_all};
 
 /// The greatest number of bytes of a text.
 pub const TEXT_LIMIT: usize = 1_048_576;

@@ -1,18 +1,18 @@
 //! An image that the verifier has accepted.
 
 ghost use Rattle.std.specs.Prelude.{◌≡◌, ◌≤◌, ℕ, IfOk, IfErr};
-ghost use Rattle.flow80.specs.Faults.{Holds};
-ghost use Rattle.flow80.specs.Fitting.{IsFitted};
+ghost use Rattle.verify80_flow.specs.Faults.{Holds};
+ghost use Rattle.verify80_flow.specs.Fitting.{IsFitted};
 ghost use Rattle.machine80.specs.World.{NeverGoesWrong};
 ghost use Rattle.verify80.specs.Looking.{code_of};
-ghost use Rattle.soundness80.specs.Starts.{NeverGoesWrongFromPowerOn};
+ghost use Rattle.verify80_soundness.specs.Starts.{NeverGoesWrongFromPowerOn};
 ghost use Rattle.loader80.specs.Vouched.{IsVouched};
 
 use image80::{Image, RegionMap};
-use soundness80::{fitted_images_never_go_wrong, images_never_go_wrong_from_power_on};
 use std::alloc::Global;
 use std::marker::Model;
 use verify80::{ProcRow, Refusal, Verified, verify_and_keep};
+use verify80_soundness::{fitted_images_never_go_wrong, images_never_go_wrong_from_power_on};
 
 /// An image that was vouched for: the verifier accepts it, so no run of it goes wrong.
 ///
@@ -40,12 +40,12 @@ impl Model for Vouched {
 impl Vouched {
     ghost use Rattle.std.specs.Prelude.{◌≡◌, ◌≤◌, length};
     ghost use Rattle.machine80.specs.World.{NeverGoesWrong};
-    ghost use Rattle.flow80.specs.Accepted.{IsAccepted};
+    ghost use Rattle.verify80_flow.specs.Accepted.{IsAccepted};
     ghost use Rattle.image80.specs.Image.{memory_of};
     ghost use Rattle.image80.specs.RegionMap.{Maps};
     ghost use Rattle.verify80.specs.Kept.{IsKept};
     ghost use Rattle.verify80.specs.Looking.{code_of};
-    ghost use Rattle.soundness80.specs.Starts.{NeverGoesWrongFromPowerOn};
+    ghost use Rattle.verify80_soundness.specs.Starts.{NeverGoesWrongFromPowerOn};
     ghost use Rattle.loader80.specs.Vouched.{IsVouched};
 
     /// An image that is accepted.

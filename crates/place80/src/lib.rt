@@ -6,7 +6,7 @@
 //! | [`place_of`] | the address of an offset in one of them: where a public name lies |
 //! | [`locate`], [`Options`], [`PlaceFault`] | a program made an image, where its segments go, and why it can't be located |
 //! | [`locate_with_restart`] | the same with a jump to the program's start at address 0 |
-//! | [`write_image`], [`read_image`], [`ImageFault`] | an image as an object file, and why bytes are no image, which stand in `absolute80` |
+//! | [`write_image`], [`read_image`], [`ImageFault`] | an image as an object file, and why bytes are no image, which stand in `image80_file` |
 //! | [`Image`], [`Chunk`] | a located program, which stands in `image80` |
 //! | [`Regions`], [`Range`], [`Case`], [`RegionMap`] | its regions, which stand there too |
 //! | [`write_regions`], [`read_regions`], [`RegionsFault`] | regions as a text, which stand in `image80` too |
@@ -27,12 +27,12 @@ mod place_fault;
 mod placed_segments;
 mod restarting;
 
-pub use absolute80::{ImageFault, read_image, write_image};
 pub use addresses::place_of;
 pub use image80::{
     Case, Chunk, Image, Range, RegionMap, Regions, RegionsFault, migrate_regions, read_regions,
     write_regions, write_regions2,
 };
+pub use image80_file::{ImageFault, read_image, write_image};
 pub use laying_out::layout;
 pub use locating::locate;
 pub use options::Options;

@@ -2,9 +2,9 @@
 
 ghost use Rattle.std.specs.Io.{ReadsAtMost};
 
-use bundle80::BundleFault;
-use console80::{Console, explain_regions};
 use loader80::SessionFault;
+use loader80_bundle::BundleFault;
+use plm80_console::{Console, explain_regions};
 use std::io;
 use std::io::{ErrorKind, Read};
 

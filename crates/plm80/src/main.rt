@@ -10,16 +10,16 @@ mod bundle_words;
 mod commands;
 
 use bundle_words::{CopiedReader, explain_bundle};
-pub use bundle80::{BUNDLE_LIMIT, BundleFault, bundle};
 use commands::{refuse_arguments, run_command};
-use console80::{Console, NotedWriter, Reported};
 use loader80::SessionFault;
-use run_commands::status_of;
+pub use loader80_bundle::{BUNDLE_LIMIT, BundleFault, bundle};
+use loader80_streams::{Reading, Writing};
+use plm80_console::{Console, NotedWriter, Reported};
+use plm80_runs::status_of;
 use std::alloc::AllocError;
 use std::env;
 use std::io::ErrorKind;
 use std::process::ExitCode;
-use streams80::{Reading, Writing};
 
 /// The steps that a bundle's run makes at most.
 const STEPS: u64 = 1_000_000;

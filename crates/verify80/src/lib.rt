@@ -15,7 +15,7 @@ mod image_code;
 mod laws;
 mod verifying;
 
-pub use flow80::{ProcRow, Refusal, Report};
 pub use image_code::ImageCode;
 pub use laws::looks_are_exact;
+pub use verify80_flow::{ProcRow, Refusal, Report};
 pub use verifying::{Verified, measure, verify, verify_and_keep};

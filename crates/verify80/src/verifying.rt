@@ -1,15 +1,15 @@
 //! The verifier over an image.
 
 ghost use Rattle.std.specs.Prelude.{IfOk, IfErr};
-ghost use Rattle.flow80.specs.Accepted.{IsAccepted, IsMeasured};
-ghost use Rattle.flow80.specs.Faults.{Holds, HoldsAnyway};
+ghost use Rattle.verify80_flow.specs.Accepted.{IsAccepted, IsMeasured};
+ghost use Rattle.verify80_flow.specs.Faults.{Holds, HoldsAnyway};
 ghost use Rattle.verify80.specs.Kept.{IsKept};
 ghost use Rattle.verify80.specs.Looking.{code_of};
 
 use crate::image_code::ImageCode;
-use flow80::{Refusal, Report, analyze};
 use image80::{Image, RegionMap};
 use std::alloc::Global;
+use verify80_flow::{Refusal, Report, analyze};
 
 /// What is found of an image that is accepted, with its memory and the map of its regions.
 #[derive(Drop)]
@@ -52,7 +52,7 @@ pub fn measure(alloc: Global, image: &Image) -> Result<Report, Refusal>
     ensures refused { IfErr result (HoldsAnyway (code_of image.now)) }
 {
     let code = ImageCode::new(alloc, image)?;
-    flow80::measure(alloc, &code)
+    verify80_flow::measure(alloc, &code)
 }
 
 /// Verifies an image, as [`verify`] does, and keeps what was made of it, so that a run needn't make it once more.

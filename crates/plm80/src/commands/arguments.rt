@@ -2,20 +2,20 @@
 
 use clap::error::ErrorKind;
 use clap::{ArgMatches, Command, Error};
-use console80::{Syntax, WHY};
-use image_commands::{
-    CALLS, CASES, CHECK, CallsArguments, CasesArguments, EXPLAIN, LIST, ListArguments, REGIONS,
-    RegionsArguments, STORES, SUGGEST, SuggestArguments,
-};
-use naming80::NamedFiles;
-use object_commands::{
+use plm80_console::{Syntax, WHY};
+use plm80_names::NamedFiles;
+use plm80_objects::{
     FIND, FindArguments, LIB, LINK, LOCATE, LibraryArguments, LinkArguments, LocateArguments, MAP,
     MODULE, MapArguments, ModuleArguments,
 };
-use rom_commands::{
+use plm80_programs::{
+    CALLS, CASES, CHECK, CallsArguments, CasesArguments, EXPLAIN, LIST, ListArguments, REGIONS,
+    RegionsArguments, STORES, SUGGEST, SuggestArguments,
+};
+use plm80_rom::{
     ABSOLUTE, AbsoluteArguments, COMPARE, CompareArguments, EXTRACT, ExtractArguments,
 };
-use run_commands::{
+use plm80_runs::{
     COVER, CoverArguments, INPUTS, InputsArguments, RUN, RunArguments, TRACE, TraceArguments,
 };
 use std::alloc::{AllocError, Global};

@@ -1,5 +1,5 @@
 use Rattle.std.proofs.Common.{◌≡◌, ◌++◌, drop, filter_map}
-use Rattle.select80.specs.Selected.{module_at}
+use Rattle.link80_select.specs.Selected.{module_at}
 use Rattle.link80.specs.Selection.{modules_with}
 use Rattle.link80.proofs.linking.modules_with.Given as goal
 

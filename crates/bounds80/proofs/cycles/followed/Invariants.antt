@@ -1,6 +1,0 @@
-use Rattle.std.proofs.Common.{◌≡◌, length, take}
-use Rattle.bounds80.specs.Sums.{AreFollowed}
-use Rattle.bounds80.proofs.cycles.followed.Given as goal
-
-abbrev pub invariant-loop-call : goal.invariant-loop-call
-invariant-loop-call l = (AreFollowed l.calls (take l.call-index l.calls) l.next.items) × (length l.next.items ≡ 65537)

@@ -1,6 +1,0 @@
-use Rattle.std.proofs.Common.{map}
-use Rattle.bounds80.specs.Sums.{AreIdle}
-use Rattle.bounds80.proofs.worklist.idle.Given as goal
-
-abbrev pub invariant-loop-slot : goal.invariant-loop-slot
-invariant-loop-slot l = AreIdle (map (λ v. v.items) l.callers) l.counts l.slot l.slots.items

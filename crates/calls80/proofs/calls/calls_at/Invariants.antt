@@ -1,6 +1,0 @@
-use Rattle.verify80.specs.Looking.{code_of}
-use Rattle.calls80.specs.Search.{AreCallsBelow}
-use Rattle.calls80.proofs.calls.calls_at.Given as goal
-
-abbrev pub invariant-loop-address : goal.invariant-loop-address
-invariant-loop-address l = AreCallsBelow (code_of l.code) l.procedure l.address l.calls.items

@@ -1,8 +1,0 @@
-use Rattle.cases80.specs.Covered.{is_covered}
-use Rattle.cases80.specs.Marks.{AreMarks}
-use Rattle.cases80.proofs.covered.find_covered.Given as goal
-
-abbrev pub invariant-loop-address : goal.invariant-loop-address
-invariant-loop-address l = record {
-  marks : AreMarks (is_covered l.code l.reached) l.address l.marks.items;
-}

@@ -1,9 +1,0 @@
-use Rattle.std.proofs.Common.{[], sym, subst}
-use Rattle.cases80.specs.Reach.{IsDone}
-use Rattle.cases80.proofs.ReachLemmas.{done_none}
-use Rattle.cases80.proofs.reach.Visited.new.Goals as goal
-
-pub returns : goal.returns
-returns c = λ image.
-    let marks = c.in_ok-table.field-0.items in
-    subst (IsDone image [] marks) (sym c.new.ensures.items) (done_none image marks c.in_ok-table.ensures.values c.in_ok-table.ensures.places)

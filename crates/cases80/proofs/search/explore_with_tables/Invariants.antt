@@ -1,7 +1,0 @@
-use Rattle.cases80.specs.Suggested.{IsExplored}
-use Rattle.cases80.proofs.search.explore_with_tables.Given as goal
-
-abbrev pub invariant-loop : goal.invariant-loop
-invariant-loop l = record {
-  explored : IsExplored l.code l.visited.marks.items l.visited.order.items;
-}

@@ -1,7 +1,0 @@
-use Rattle.cases80.specs.Suggested.{AreSuggestedBelow}
-use Rattle.cases80.proofs.suggesting.suggest_cases.Given as goal
-
-abbrev pub invariant-loop-address : goal.invariant-loop-address
-invariant-loop-address l = record {
-  so_far : AreSuggestedBelow l.image l.search-inside.reached.items l.search-inside.taken.items l.address l.found.cases.items l.found.tableless.items;
-}

@@ -1,6 +1,0 @@
-use Rattle.std.proofs.Common.{Some, ap, sym, ◌∙◌}
-use Rattle.cases80.specs.Suggested.IsLimit.{compared}
-use Rattle.cases80.proofs.table.limit_of.Goals as goal
-
-pub returns-in-Some-compared_byte-clause-is : goal.returns-in-Some-compared_byte-clause-is
-returns-in-Some-compared_byte-clause-is c = compared c.in-Some.at (sym c.compared_byte.ensures ∙ c.in-Some-compared_byte.is ∙ ap Some (sym c.from.ensures))

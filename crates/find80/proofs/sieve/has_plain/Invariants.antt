@@ -1,8 +1,0 @@
--- the bytes so far
-use Rattle.std.proofs.Common.{◌≡◌, true, take}
-use Rattle.std.specs.List.{list_all}
-use Rattle.find80.specs.Places.{fits_if_plain}
-use Rattle.find80.proofs.sieve.has_plain.Given as goal
-
-abbrev pub invariant-loop-byte : goal.invariant-loop-byte
-invariant-loop-byte l = list_all (fits_if_plain l.first l.dump l.address) (take l.byte-index l.code) ≡ true

@@ -1,5 +1,0 @@
-use Rattle.flow80.specs.Survey.{AreListed}
-use Rattle.flow80.proofs.rows.list_rows.Given as goal
-
-abbrev pub invariant-loop-address : goal.invariant-loop-address
-invariant-loop-address l = record { listed : AreListed l.table.known l.wants l.bounds l.address l.rows.items }

@@ -1,5 +1,0 @@
-use Rattle.std.specs.Prelude.{is_some}
-use Rattle.flow80.proofs.table.Table.new.Goals as goal
-
-pub returns : goal.returns
-returns g c = λ i. record { points = (c.in_ok-new.ensures i).points; exits = c.in_ok-exits.ensures i; forgets = is_some c.args.asked }

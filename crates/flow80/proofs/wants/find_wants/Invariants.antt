@@ -1,6 +1,0 @@
-use Rattle.std.proofs.Common.{◌≡◌, length}
-use Rattle.flow80.specs.Survey.{AreWants}
-use Rattle.flow80.proofs.wants.find_wants.Given as goal
-
-abbrev pub invariant-loop-point : goal.invariant-loop-point
-invariant-loop-point l = (AreWants l.table.known.points l.wants.items l.point) × (length l.wants.items ≡ 65537)

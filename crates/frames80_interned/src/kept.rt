@@ -1,0 +1,86 @@
+//! Frames as they are kept.
+
+ghost use Rattle.std.specs.Prelude.{◌≡◌, ◌<◌, ◌⊎◌, ◌++◌, ◌∷◌, [], List, Some, slice_get, length, IfOk};
+ghost use Rattle.frames80.specs.declared.word.Word.{Word};
+ghost use Rattle.frames80.specs.StackFrame.{of_words, pair_in};
+ghost use Rattle.frames80.specs.Moves.{holding};
+ghost use Rattle.frames80_interned.specs.Stacks.{words_at};
+ghost use Rattle.frames80_interned.specs.Kept.{frame_of, pairs_of};
+
+use crate::frame_id::FrameId;
+use frames80::{FramePair, Word};
+use indexmap::IndexSet;
+use std::alloc::AllocError;
+
+/// A frame whose words are those of a stack that has a number.
+#[derive(Clone, Copy, PartialEq, Eq, Hash)]
+pub(crate) struct Kept {
+    pub(crate) taken: u32,
+    /// The number of the stack.
+    pub(crate) words: u32,
+    pub(crate) bc: Word,
+    pub(crate) de: Word,
+    pub(crate) hl: Word,
+}
+
+impl Kept {
+    /// A frame whose pairs may hold anything.
+    pub(crate) fn of_words(taken: u32, words: u32) -> Kept
+        ensures frame { (stacks : List (List Word)) → frame_of stacks result ≡ of_words taken (words_at stacks words) }
+        ensures words { result.words ≡ words }
+    {
+        Kept {
+            taken,
+            words,
+            bc: Word::Any,
+            de: Word::Any,
+            hl: Word::Any,
+        }
+    }
+
+    /// What a pair holds.
+    pub(crate) fn pair(self, pair: FramePair) -> Word
+        ensures { result ≡ pair_in (pairs_of self) pair }
+    {
+        match pair {
+            FramePair::Bc => self.bc,
+            FramePair::De => self.de,
+            FramePair::Hl => self.hl,
+        }
+    }
+
+    /// The frame with this word in a pair.
+    pub(crate) fn holding(self, pair: FramePair, word: Word) -> Kept
+        ensures frame { (stacks : List (List Word)) → frame_of stacks result ≡ holding pair word (frame_of stacks self) }
+        ensures words { result.words ≡ self.words }
+    {
+        match pair {
+            FramePair::Bc => Kept { bc: word, ..self },
+            FramePair::De => Kept { de: word, ..self },
+            FramePair::Hl => Kept { hl: word, ..self },
+        }
+    }
+}
+
+/// The frame that has a number.
+pub(crate) fn kept_at(frames: &IndexSet<Kept>, id: FrameId) -> Kept
+    requires { id < length frames.now.keys }
+    ensures { slice_get frames.now.keys id ≡ Some result }
+{
+    frames[id.index()]
+}
+
+/// The number of a frame, which is added if it wasn't there before.
+///
+/// # Errors
+/// `AllocError` if memory runs out, and if there are 4,294,967,295 frames already.
+pub(crate) fn keep(frames: &mut IndexSet<Kept>, kept: Kept) -> Result<FrameId, AllocError>
+    ensures number { IfOk result (λ id. slice_get frames.new.keys id ≡ Some kept) }
+    ensures grows { (frames.new.keys ≡ frames.old.keys) ⊎ (frames.new.keys ≡ frames.old.keys ++ kept ∷ []) }
+{
+    if frames.len() >= u32::MAX as usize {
+        return Err(AllocError);
+    }
+    let (index, _) = frames.insert_full(kept)?;
+    Ok(FrameId::new(index as u32))
+}

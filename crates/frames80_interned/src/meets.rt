@@ -1,0 +1,261 @@
+//! How kept frames meet at a point.
+
+ghost use Rattle.std.specs.Prelude.{◌≡◌, ◌<◌, ◌↔◌, ◌++◌, ℕ, true, false, drop, length, Err, IfOk, OnOk};
+ghost use Rattle.frames80.specs.Word.{met};
+ghost use Rattle.frames80.specs.Calls.{agree, merged, words_met};
+ghost use Rattle.frames80_interned.specs.declared.link.Link.{Link};
+ghost use Rattle.frames80_interned.specs.declared.meets.Top.TheVariants as top;
+ghost use Rattle.frames80_interned.specs.Stacks.{words_at, IsLink, IsMet, IsStack, StacksStay};
+ghost use Rattle.frames80_interned.specs.Kept.{frame_of, IsKept};
+ghost use Rattle.frames80_interned.specs.Meets.{IsMeeting};
+
+use crate::fault::MeetFault;
+use crate::kept::Kept;
+use crate::link::Link;
+use crate::pair::Pair;
+use crate::stacks::{STRIDE, Stacks};
+use frames80::Word;
+use std::alloc::AllocError;
+
+/// The words that two stacks have above a stack that lies in both.
+#[derive(Drop)]
+struct Meeting {
+    /// What is known of both words at each place, top first.
+    words: Vec<Word>,
+    /// The number of the stack in both.
+    rest: u32,
+    /// Whether one of the words isn't that of the first stack.
+    changed: bool,
+}
+
+/// What two stacks have on top.
+enum Top {
+    /// A word each.
+    Words(Link, Link),
+    /// The number of the stack of what is known of both.
+    Met(u32),
+}
+
+/// The frame that is known of both: a word or a pair is the return address only if it is in both.
+///
+/// # Errors
+/// `HeightsDiffer` exactly where the frames differ in the words taken or in the number of words; `Memory` only if they don't
+/// and memory runs out.
+pub(crate) fn meet_frames(stacks: &mut Stacks, one: Kept, other: Kept) -> Result<Kept, MeetFault>
+    requires one { one.words < length stacks.old }
+    requires other { other.words < length stacks.old }
+    ensures agree { OnOk result (agree (frame_of stacks.old one) (frame_of stacks.old other) ≡ true) }
+    ensures merged { IfOk result (λ kept. IsKept stacks.new kept (merged (frame_of stacks.old one) (frame_of stacks.old other))) }
+    ensures unchanged { IfOk result (λ kept. merged (frame_of stacks.old one) (frame_of stacks.old other)
+        ≡ frame_of stacks.old one → kept ≡ one) }
+    ensures differ { result ≡ Err MeetFault.HeightsDiffer → agree (frame_of stacks.old one) (frame_of stacks.old other) ≡ false }
+    ensures memory { result ≡ Err MeetFault.Memory → agree (frame_of stacks.old one) (frame_of stacks.old other) ≡ true }
+    ensures stays { StacksStay stacks.old stacks.new }
+{
+    if one.taken != other.taken || stacks.height(one.words) != stacks.height(other.words) {
+        return Err(MeetFault::HeightsDiffer);
+    }
+    let words = meet_words(stacks, one.words, other.words)?;
+    Ok(Kept {
+        taken: one.taken,
+        words,
+        bc: meet_word(one.bc, other.bc),
+        de: meet_word(one.de, other.de),
+        hl: meet_word(one.hl, other.hl),
+    })
+}
+
+/// The number of the stack of what is known of both words at each place. It is that of the first stack if that doesn't change.
+///
+/// Deep stacks that meet again and again take few steps, since every so many words the pair is kept: those that aren't kept yet
+/// meet first, from the bottom up.
+///
+/// # Errors
+/// `AllocError` if memory runs out.
+fn meet_words(stacks: &mut Stacks, one: u32, other: u32) -> Result<u32, AllocError>
+    requires one { one < length stacks.old }
+    requires other { other < length stacks.old }
+    requires even { length (words_at stacks.old one) ≡ length (words_at stacks.old other) }
+    ensures met { IfOk result (λ number.
+        IsStack stacks.new number (words_met (words_at stacks.old one) (words_at stacks.old other))) }
+    ensures unchanged { IfOk result (λ number. words_met (words_at stacks.old one) (words_at stacks.old other)
+        ≡ words_at stacks.old one → number ≡ one) }
+    ensures stays { StacksStay stacks.old stacks.new }
+{
+    let pair = Pair { one, other };
+    let mut depth = depth_to_met(stacks, pair);
+    while depth >= STRIDE {
+        depth -= STRIDE;
+        meet_beneath(stacks, pair, depth)?;
+    }
+    meet_to_kept(stacks, pair)
+}
+
+/// The pair beneath a pair of stacks, without so many words on top of each.
+fn beneath(stacks: &Stacks, pair: Pair, depth: u32) -> Pair
+    requires one { pair.one < length stacks.now }
+    requires other { pair.other < length stacks.now }
+    ensures one { IsStack stacks.now result.one (drop depth (words_at stacks.now pair.one)) }
+    ensures other { IsStack stacks.now result.other (drop depth (words_at stacks.now pair.other)) }
+{
+    Pair {
+        one: stacks.beneath(pair.one, depth),
+        other: stacks.beneath(pair.other, depth),
+    }
+}
+
+/// How far down two stacks the pairs end that are neither the same nor kept; of pairs that may be kept each other one is `STRIDE` words
+/// further. What is answered elsewhere doesn't rest on it, only how soon.
+fn depth_to_met(stacks: &Stacks, pair: Pair) -> u32
+    requires one { pair.one < length stacks.now }
+    requires other { pair.other < length stacks.now }
+{
+    if pair.one == pair.other {
+        return 0;
+    }
+    let height = stacks.height(pair.one);
+    let mut depth = height % STRIDE;
+    while depth < height {
+        let lower = beneath(stacks, pair, depth);
+        if lower.one == lower.other || stacks.met(lower).is_some() {
+            return depth;
+        }
+        depth = depth.saturating_add(STRIDE);
+    }
+    depth
+}
+
+/// Meets the pair beneath a pair of stacks, and keeps what is known of both.
+///
+/// # Errors
+/// `AllocError` if memory runs out.
+fn meet_beneath(stacks: &mut Stacks, pair: Pair, depth: u32) -> Result<(), AllocError>
+    requires one { pair.one < length stacks.old }
+    requires other { pair.other < length stacks.old }
+    requires even { length (words_at stacks.old pair.one) ≡ length (words_at stacks.old pair.other) }
+    ensures { StacksStay stacks.old stacks.new }
+{
+    let lower = beneath(stacks, pair, depth);
+    let number = meet_to_kept(stacks, lower)?;
+    stacks.keep_met(lower, number)
+}
+
+/// Meets two stacks from the top down to a pair that is kept.
+///
+/// # Errors
+/// `AllocError` if memory runs out.
+fn meet_to_kept(stacks: &mut Stacks, pair: Pair) -> Result<u32, AllocError>
+    requires one { pair.one < length stacks.old }
+    requires other { pair.other < length stacks.old }
+    requires even { length (words_at stacks.old pair.one) ≡ length (words_at stacks.old pair.other) }
+    ensures met { IfOk result (λ number.
+        IsStack stacks.new number (words_met (words_at stacks.old pair.one) (words_at stacks.old pair.other))) }
+    ensures unchanged { IfOk result (λ number. words_met (words_at stacks.old pair.one) (words_at stacks.old pair.other)
+        ≡ words_at stacks.old pair.one → number ≡ pair.one) }
+    ensures stays { StacksStay stacks.old stacks.new }
+{
+    let meeting = meet_tops(stacks, pair)?;
+    if meeting.changed {
+        push_all(stacks, meeting.rest, meeting.words)
+    } else {
+        Ok(pair.one)
+    }
+}
+
+/// Goes down both stacks until they are the same from there on, or a pair that is kept.
+///
+/// # Errors
+/// `AllocError` if memory runs out.
+fn meet_tops(stacks: &Stacks, pair: Pair) -> Result<Meeting, AllocError>
+    requires one { pair.one < length stacks.now }
+    requires other { pair.other < length stacks.now }
+    requires even { length (words_at stacks.now pair.one) ≡ length (words_at stacks.now pair.other) }
+    ensures { IfOk result (λ meeting. IsMeeting stacks.now (words_at stacks.now pair.one) (words_at stacks.now pair.other) meeting) }
+{
+    let mut words = Vec::new(stacks.alloc());
+    let mut left = pair;
+    let mut changed = false;
+    loop {
+        match tops(stacks, left) {
+            Top::Words(link, other_link) => {
+                let word = meet_word(link.word, other_link.word);
+                words.push(word)?;
+                changed |= differs(word, link.word);
+                left = Pair {
+                    one: link.below,
+                    other: other_link.below,
+                };
+            }
+            Top::Met(rest) => {
+                changed |= is_another(rest, left.one);
+                return Ok(Meeting {
+                    words,
+                    rest,
+                    changed,
+                });
+            }
+        }
+    }
+}
+
+/// The words on top of two stacks, or what is known of both stacks if they are the same, have no words, or are kept.
+fn tops(stacks: &Stacks, pair: Pair) -> Top
+    requires one { pair.one < length stacks.now }
+    requires other { pair.other < length stacks.now }
+    requires even { length (words_at stacks.now pair.one) ≡ length (words_at stacks.now pair.other) }
+    ensures one { (one other : Link) → result ≡ top.Words one other → IsLink stacks.now pair.one one }
+    ensures other { (one other : Link) → result ≡ top.Words one other → IsLink stacks.now pair.other other }
+    ensures met { (number : ℕ) → result ≡ top.Met number → IsMet stacks.now pair number }
+{
+    if pair.one == pair.other {
+        return Top::Met(pair.one);
+    }
+    if let Some(number) = stacks.met(pair) {
+        return Top::Met(number);
+    }
+    match (stacks.top(pair.one), stacks.top(pair.other)) {
+        (Some(link), Some(other_link)) => Top::Words(link, other_link),
+        _ => Top::Met(pair.one),
+    }
+}
+
+/// The number of the stack with these words, top first, on top of it.
+///
+/// # Errors
+/// `AllocError` if memory runs out.
+pub(crate) fn push_all(stacks: &mut Stacks, below: u32, words: Vec<Word>) -> Result<u32, AllocError>
+    requires { below < length stacks.old }
+    ensures pushed { IfOk result (λ number. IsStack stacks.new number (words.items ++ words_at stacks.old below)) }
+    ensures stays { StacksStay stacks.old stacks.new }
+{
+    let mut left = words;
+    let mut number = below;
+    while let Some(word) = left.pop() {
+        number = stacks.push(number, word)?;
+    }
+    Ok(number)
+}
+
+/// Whether two numbers differ.
+fn is_another(one: u32, other: u32) -> bool
+    ensures { (result ≡ false) ↔ (one ≡ other) }
+{
+    one != other
+}
+
+/// Whether two words differ.
+fn differs(one: Word, other: Word) -> bool
+    ensures { (result ≡ false) ↔ (one ≡ other) }
+{
+    one != other
+}
+
+/// What is known of both words.
+fn meet_word(one: Word, other: Word) -> Word
+    ensures { result ≡ met one other }
+{
+    match one {
+        Word::Own => other,
+        Word::Any => Word::Any,
+    }
+}

@@ -1,0 +1,21 @@
+//! The laws of images as object files, over the definitions alone.
+
+ghost use Rattle.image80_file.specs.ImageFile.{WrittenImageIsSpelled, OneImage, OneImageFault, NeverBothImage};
+
+use omf_module::laws::{one_file_reading, written_file_is_spelled};
+
+/// What is written of an image spells that image, but for its regions, which an object file doesn't hold.
+pub fn written_image_is_spelled()
+    ensures { WrittenImageIsSpelled }
+{
+    written_file_is_spelled();
+}
+
+/// Bytes spell one image at most, or have one first fault, and never both.
+pub fn one_image_reading()
+    ensures image { OneImage }
+    ensures fault { OneImageFault }
+    ensures never_both { NeverBothImage }
+{
+    one_file_reading();
+}

@@ -1,0 +1,49 @@
+//! How long a run may last, and which of its instructions are shown.
+
+ghost use Rattle.std.specs.Prelude.{◌≡◌, ◌+◌, ◌<◌, min};
+ghost use Rattle.loader80_trace.specs.Traces.{last_number};
+
+use loader80::Ended;
+
+/// How long a run may last.
+#[derive(Clone, Copy, Debug, PartialEq, Eq)]
+pub struct Limits {
+    /// Steps at most.
+    pub steps: u64,
+    /// Outputs at most; the next one is refused.
+    pub outputs: usize,
+}
+
+/// Some instructions of a run.
+#[derive(Clone, Copy, Debug, PartialEq, Eq)]
+pub struct Span {
+    /// How many steps come before the first of them.
+    pub from: u64,
+    /// How many there are at most.
+    pub count: u64,
+}
+
+impl Span {
+    /// The last instructions of a run that ended so, `count` of them at most: the last is the one that ended it, or the next one
+    /// if the steps were used up. `count` must be at least 1.
+    pub fn last_of(ended: &Ended, count: u64) -> Span
+        requires { 0 < count }
+        ensures count { result.count ≡ min count (last_number ended.now.end ended.now.steps + 1) }
+        ensures last { result.from + result.count ≡ last_number ended.now.end ended.now.steps + 1 }
+    {
+        let last = match ended.end {
+            None => ended.steps,
+            Some(_) => ended.steps.saturating_sub(1),
+        };
+        if count > last {
+            return Span {
+                from: 0,
+                count: last + 1,
+            };
+        }
+        Span {
+            from: last - (count - 1),
+            count,
+        }
+    }
+}

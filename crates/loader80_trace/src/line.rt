@@ -1,0 +1,120 @@
+//! The line of one instruction of a run.
+
+ghost use Rattle.std.specs.Prelude.{◌≡◌, ◌-◌, ◌≤◌, ◌++◌, codes, drop, length, OnOk};
+ghost use Rattle.decode80.specs.Spelling.{spelling};
+ghost use Rattle.decode80.specs.Text.{byte_text, text, word_text};
+ghost use Rattle.image80_listing.specs.Listing.{columns};
+ghost use Rattle.loader80_trace.specs.Lines.{byte_shown, filled, instruction_line, number_text, registers_text};
+
+use decode80::{Instr, Pair, byte_digits, encode, word_digits, write_text};
+use image80_listing::append_columns;
+use machine80::Cpu;
+use std::alloc::{AllocError, Global};
+use std::fmt::Write;
+
+/// Appends the line of an instruction, with the byte that it takes from a port or gives to one, and the registers before it.
+pub(crate) fn append_line(
+    alloc: Global,
+    instr: Instr,
+    byte: Option<u8>,
+    before: &Cpu,
+    line: &mut Vec<u8>,
+) -> Result<(), AllocError>
+    ensures { OnOk result (line.new.items ≡ line.old.items ++ instruction_line instr byte before.now) }
+{
+    append_bytes(before.pc, instr, line)?;
+    append_filled(alloc, instr, byte, line)?;
+    append_registers(before, line)?;
+    line.push(b'\n')?;
+    Ok(())
+}
+
+/// Appends the columns before an instruction's text.
+fn append_bytes(at: u16, instr: Instr, line: &mut Vec<u8>) -> Result<(), AllocError>
+    ensures { OnOk result (line.new.items ≡ line.old.items ++ columns at (spelling instr)) }
+{
+    let (bytes, length) = encode(instr);
+    append_columns(at, &bytes[..length], line)
+}
+
+/// Appends an instruction's text and its byte, filled with spaces to ten places.
+fn append_filled(
+    alloc: Global,
+    instr: Instr,
+    byte: Option<u8>,
+    line: &mut Vec<u8>,
+) -> Result<(), AllocError>
+    ensures { OnOk result (line.new.items ≡ line.old.items ++ filled (text instr ++ byte_shown byte)) }
+{
+    let before = line.len();
+    write_text(alloc, instr, line)?;
+    append_shown(byte, line)?;
+    fill_from(before, line)?;
+    Ok(())
+}
+
+/// Appends the byte of a port behind its number, if there is one.
+fn append_shown(byte: Option<u8>, line: &mut Vec<u8>) -> Result<(), AllocError>
+    ensures { OnOk result (line.new.items ≡ line.old.items ++ byte_shown byte) }
+{
+    match byte {
+        None => Ok(()),
+        Some(byte) => append_byte(b"=", byte, line),
+    }
+}
+
+/// Appends spaces up to ten places from `before` on.
+fn fill_from(before: usize, line: &mut Vec<u8>) -> Result<(), AllocError>
+    requires { before ≤ length line.old.items }
+    ensures { OnOk result (line.new.items ≡ line.old.items ++ drop (length line.old.items - before) (codes "          ")) }
+{
+    let spaces = b"          ".as_slice();
+    let shown = spaces.len().min(line.len() - before);
+    line.extend_from_slice(&spaces[shown..])
+}
+
+/// Appends a bar and the registers.
+fn append_registers(cpu: &Cpu, line: &mut Vec<u8>) -> Result<(), AllocError>
+    ensures { OnOk result (line.new.items ≡ line.old.items ++ registers_text cpu.now) }
+{
+    append_byte(b" | A=", cpu.registers.a, line)?;
+    append_byte(b" F=", cpu.flags_byte(), line)?;
+    append_word(b" BC=", cpu.pair(Pair::Bc), line)?;
+    append_word(b" DE=", cpu.pair(Pair::De), line)?;
+    append_word(b" HL=", cpu.pair(Pair::Hl), line)?;
+    append_word(b" SP=", cpu.sp, line)?;
+    Ok(())
+}
+
+/// Appends a name and the two digits of a byte.
+fn append_byte(name: &[u8], byte: u8, line: &mut Vec<u8>) -> Result<(), AllocError>
+    ensures { OnOk result (line.new.items ≡ line.old.items ++ (name.now ++ byte_text byte)) }
+{
+    line.extend_from_slice(name)?;
+    line.extend_from_slice(&byte_digits(byte))
+}
+
+/// Appends a name and the four digits of a word.
+fn append_word(name: &[u8], word: u16, line: &mut Vec<u8>) -> Result<(), AllocError>
+    ensures { OnOk result (line.new.items ≡ line.old.items ++ (name.now ++ word_text word)) }
+{
+    line.extend_from_slice(name)?;
+    line.extend_from_slice(&word_digits(word))
+}
+
+/// Appends the number of a line, if lines are numbered.
+pub(crate) fn append_number(
+    alloc: Global,
+    numbered: bool,
+    number: u64,
+    line: &mut Vec<u8>,
+) -> Result<(), AllocError>
+    ensures { OnOk result (line.new.items ≡ line.old.items ++ number_text numbered number) }
+{
+    if !numbered {
+        return Ok(());
+    }
+    let mut text = String::new(alloc);
+    write!(text, "{number} ")?;
+    line.extend_from_slice(text.as_bytes())
+}

@@ -1,0 +1,106 @@
+//! A line of a module.
+
+ghost use Rattle.std.specs.Prelude.{◌≡◌, ◌++◌, ◌∷◌, OnOk};
+ghost use Rattle.omf_text.specs.ModuleText.{
+  common_part,
+  place_part,
+  segment_line,
+  public_line,
+  external_line,
+  content_line,
+};
+
+use decode80::word_digits;
+use omf_core::Name;
+use omf_core::segment_id::word_of;
+use omf_parts::{Common, Content, Public, Segment};
+use std::alloc::AllocError;
+
+/// Appends the line of a segment.
+pub(crate) fn append_segment(
+    text: &mut Vec<u8>,
+    commons: &[Common],
+    id: u8,
+    segment: Segment,
+) -> Result<(), AllocError>
+    ensures { OnOk result (text.new.items ≡ text.old.items ++ segment_line commons.now (id, segment)) }
+{
+    append_place(text, id, segment.length)?;
+    if segment.paged {
+        text.extend_from_slice(b" PAGED".as_slice())?;
+    }
+    append_common(text, commons, id)?;
+    text.push(b'\n')?;
+    Ok(())
+}
+
+/// Appends the line of a public name.
+pub(crate) fn append_public(
+    text: &mut Vec<u8>,
+    commons: &[Common],
+    public: &Public,
+) -> Result<(), AllocError>
+    ensures { OnOk result (text.new.items ≡ text.old.items ++ public_line commons.now public.now) }
+{
+    text.extend_from_slice(b"PUBLIC ".as_slice())?;
+    append_place(text, public.segment, public.offset)?;
+    append_common(text, commons, public.segment)?;
+    text.push(b' ')?;
+    text.extend_from_slice(public.name.bytes())?;
+    text.push(b'\n')?;
+    Ok(())
+}
+
+/// Appends the line of an external name.
+pub(crate) fn append_external(text: &mut Vec<u8>, name: &Name) -> Result<(), AllocError>
+    ensures { OnOk result (text.new.items ≡ text.old.items ++ external_line name.now) }
+{
+    text.extend_from_slice(b"NEEDS ".as_slice())?;
+    text.extend_from_slice(name.bytes())?;
+    text.push(b'\n')?;
+    Ok(())
+}
+
+/// Appends the line of a content.
+pub(crate) fn append_content(
+    text: &mut Vec<u8>,
+    commons: &[Common],
+    content: &Content,
+) -> Result<(), AllocError>
+    ensures { OnOk result (text.new.items ≡ text.old.items ++ content_line commons.now content.now) }
+{
+    text.extend_from_slice(b"CONTENT ".as_slice())?;
+    append_place(text, content.segment, content.offset)?;
+    text.push(b' ')?;
+    text.extend_from_slice(&word_digits((content.bytes.len() % 65536) as u16))?;
+    append_common(text, commons, content.segment)?;
+    text.push(b'\n')?;
+    Ok(())
+}
+
+/// Appends a place in a segment: its word and the offset.
+pub(crate) fn append_place(text: &mut Vec<u8>, id: u8, offset: u16) -> Result<(), AllocError>
+    ensures { OnOk result (text.new.items ≡ text.old.items ++ place_part id offset) }
+{
+    text.extend_from_slice(word_of(id))?;
+    text.push(b' ')?;
+    text.extend_from_slice(&word_digits(offset))
+}
+
+/// Appends a blank and the name of the common of this id, if it has one.
+pub(crate) fn append_common(
+    text: &mut Vec<u8>,
+    commons: &[Common],
+    id: u8,
+) -> Result<(), AllocError>
+    ensures { OnOk result (text.new.items ≡ text.old.items ++ common_part commons.now id) }
+{
+    for common in commons {
+        if common.id == id {
+            text.push(b' ')?;
+            text.extend_from_slice(common.name.bytes())?;
+            return Ok(());
+        }
+    }
+    Ok(())
+}

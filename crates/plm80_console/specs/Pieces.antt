@@ -1,0 +1,79 @@
+-- What becomes of feeds that take all bytes of a file, piece after piece.
+use Rattle.std.specs.Prelude.{◌≡◌, ℕ, Bool, true, false, ◌==◌, List, [], ◌∷◌, Option, Some, None, Result, Ok, Err}
+use Rattle.omf_core.specs.Kind.{kind_byte}
+use Rattle.omf_core.specs.declared.kind.RecordKind.TheVariants.{LibraryHeader}
+use Rattle.loader80_streams.specs.WholeText.{read_all_failures}
+use Rattle.omf_module.specs.FileFeed.{FileFeedValue, LastingFileFault}
+use Rattle.omf_module.specs.Reading.{OrNoMemory as OrNoModuleMemory}
+use Rattle.omf_module.specs.Spelled.{SpellsFile, FaultsFile}
+use Rattle.omf_library.specs.Fault.{OrNoMemory as OrNoLibraryMemory}
+use Rattle.omf_library.specs.LibraryFeed.{LibraryFeedValue, LastingLibraryFault}
+use Rattle.omf_library.specs.Spelled.{SpellsLibrary, FaultsLibrary}
+use Rattle.plm80_console.specs.declared.link_feed.LinkFeed.{LinkFeed}
+use Rattle.plm80_console.specs.declared.link_feed.LinkFeed.TheVariants as feed
+use Rattle.plm80_console.specs.declared.link_feed.LinkFile.{LinkFile}
+use Rattle.plm80_console.specs.declared.link_feed.LinkFile.TheVariants as file
+use Rattle.plm80_console.specs.declared.file_fault.FileFault.{FileFault}
+use Rattle.plm80_console.specs.declared.file_fault.FileFault.TheVariants as fault
+
+-- A feed was given these bytes: it has them, or it keeps a fault that they have whatever follows.
+pub record HasTaken {Fault : Type 0} (Lasting : List ℕ → Fault → Type 0) (has : List ℕ) (kept : Option Fault)
+    (bytes : List ℕ) : Type 0 where
+  pub all : kept ≡ None → has ≡ bytes
+  pub lasts : (fault : Fault) → kept ≡ Some fault → Lasting bytes fault
+
+abbrev pub HasTakenFile : FileFeedValue → List ℕ → Type 0
+HasTakenFile feed bytes = HasTaken LastingFileFault feed.bytes feed.kept bytes
+
+abbrev pub HasTakenLibrary : LibraryFeedValue → List ℕ → Type 0
+HasTakenLibrary feed bytes = HasTaken LastingLibraryFault feed.bytes feed.kept bytes
+
+-- The first byte of a file says what it is: a library begins with the kind of its header, which no object file begins with.
+-- (8080 Object Module Formats: library header record.)
+abbrev pub begins_library : List ℕ → Bool
+begins_library [] = false
+begins_library (byte ∷ bytes) = byte == kind_byte LibraryHeader
+
+-- a byte has come, and says which of both it is
+pub record HasBegun (is_library : Bool) (bytes : List ℕ) : Type 0 where
+  pub first : ℕ
+  pub rest : List ℕ
+  pub is : bytes ≡ first ∷ rest
+  pub kind : (first == kind_byte LibraryHeader) ≡ is_library
+
+-- an object file or a library, which is known once a byte has come
+abbrev pub HasTakenEither : LinkFeed → List ℕ → Type 0
+HasTakenEither (feed.Empty alloc) bytes = bytes ≡ []
+HasTakenEither (feed.ObjectFile f) bytes = HasTakenFile f bytes × HasBegun false bytes
+HasTakenEither (feed.Library f) bytes = HasTakenLibrary f bytes × HasBegun true bytes
+
+-- what a file is by its first byte: the modules of an object file, or a library
+abbrev pub SpellsEither : List ℕ → LinkFile → Type 0
+SpellsEither bytes (file.Modules ms) = SpellsFile bytes ms.items × (begins_library bytes ≡ false)
+SpellsEither bytes (file.Library ms) = SpellsLibrary bytes ms × (begins_library bytes ≡ true)
+
+-- why bytes that were read whole aren't what their first byte says
+abbrev pub FaultsEither : List ℕ → FileFault → Type 0
+FaultsEither bytes (fault.Unread f) = Unit {0}
+FaultsEither bytes (fault.Module f) = OrNoModuleMemory (FaultsFile bytes) f × (begins_library bytes ≡ false)
+FaultsEither bytes (fault.Library f) = OrNoLibraryMemory (FaultsLibrary bytes) f × (begins_library bytes ≡ true)
+
+-- why they are no object file, whatever their first byte says
+abbrev pub FaultsObjectFile : List ℕ → FileFault → Type 0
+FaultsObjectFile bytes (fault.Unread f) = Unit {0}
+FaultsObjectFile bytes (fault.Module f) = OrNoModuleMemory (FaultsFile bytes) f
+FaultsObjectFile bytes (fault.Library f) = ⊥
+
+-- what was answered of a file whose bytes were all read
+abbrev pub WasRead : {A : Type 0} → Result A FileFault → Type 0
+WasRead (Ok x) = Unit {0}
+WasRead (Err (fault.Unread f)) = ⊥
+WasRead (Err (fault.Module f)) = Unit {0}
+WasRead (Err (fault.Library f)) = Unit {0}
+
+-- how many reads that failed an answer stands for: one that says so, and no other
+abbrev pub file_failures : {A : Type 0} → Result A FileFault → ℕ
+file_failures (Ok x) = 0
+file_failures (Err (fault.Unread f)) = read_all_failures {A = Unit {0}} (Err f)
+file_failures (Err (fault.Module f)) = 0
+file_failures (Err (fault.Library f)) = 0

@@ -1,0 +1,29 @@
+//! The modules of object files, for the commands that take them.
+
+use crate::console::{Console, Reported};
+use crate::files::LateFile;
+use crate::link_feed::read_object_file;
+use loader80_streams::Reading;
+use omf_module::Module;
+
+/// The modules of the object file of this path, in order.
+pub fn read_modules(console: Console<'_>, path: &str) -> Result<Vec<Module>, Reported> {
+    let mut file = LateFile::new(console.runtime(), path);
+    let mut source = Reading::new(&mut file);
+    match read_object_file(console.alloc(), &mut source) {
+        Ok(modules) => Ok(modules),
+        Err(fault) => Err(fault.report(console, path, file.failure())),
+    }
+}
+
+/// Appends modules that were read.
+pub fn append_modules(
+    console: Console<'_>,
+    modules: &mut Vec<Module>,
+    read: &mut Vec<Module>,
+) -> Result<(), Reported> {
+    match modules.append(read) {
+        Ok(()) => Ok(()),
+        Err(_) => Err(console.report_memory()),
+    }
+}

@@ -1,0 +1,13 @@
+use Rattle.std.specs.Prelude.{◌≡◌, List, length, vec_len}
+use Rattle.std.proofs.Common.{ap, sym, ◌∙◌, arith}
+use Rattle.omf_parts.specs.declared.symbols.Public.{Public}
+use Rattle.image80_names.specs.NameText.{labelled_text}
+use Rattle.plm80_names.proofs.PrintedLemmas.{none_if}
+use Rattle.plm80_names.proofs.names.Names.label.Goals as goal
+
+pub returns-then-is_empty-clause-labelled : goal.returns-then-is_empty-clause-labelled
+returns-then-is_empty-clause-labelled c =
+    let publics = c.self.inside.publics in
+    let counted : length publics.items ≡ vec_len publics = omega (arith, publics.ok.0) in
+    let none = none_if publics.items (vec_len publics) counted (sym c.is_empty.ensures ∙ c.if-is_empty.true) in
+    sym (ap (λ (ps : List Public). labelled_text ps c.args.numbered c.args.text.items) (sym c.self.view_is ∙ none) ∙ (c.texts_without_names_are_as_before.ensures c.args.text.items).0 c.args.numbered)

@@ -1,0 +1,152 @@
+//! The names of an image's addresses, as commands print them.
+
+ghost use Rattle.std.specs.Prelude.{◌≡◌, ◌==◌, ◌++◌, [], length, IfOk, OnOk};
+ghost use Rattle.image80_names.specs.NameText.{label_text, labelled_text, name_text, named_text};
+ghost use Rattle.plm80_names.specs.Printed.{named_end, AreNamesOf};
+
+use image80::Range;
+use image80_names::laws::texts_without_names_are_as_before;
+use image80_names::{append_label, append_name, label_lines, name_line, name_lines};
+use omf_module::{Cause, Public};
+use place80_publics::read_publics;
+use plm80_console::{Console, Reported};
+use std::alloc::{AllocError, Global};
+use std::marker::Model;
+
+/// The publics of an image, by which its addresses are named; none if names aren't printed. A contract sees their list.
+#[derive(Drop)]
+pub struct Names {
+    publics: Vec<Public>,
+}
+
+impl Model for Names {
+    ghost use Rattle.std.specs.Prelude.{List};
+    ghost use Rattle.omf_parts.specs.declared.symbols.Public.{Public};
+
+    ghost Value = { List Public };
+
+    ghost view = { λ n. n.publics.items };
+}
+
+impl Names {
+    /// The names that the bytes of the image's file have, if they are asked for.
+    pub fn of(
+        console: Console<'_>,
+        asked: bool,
+        path: &str,
+        bytes: &[u8],
+    ) -> Result<Names, Reported>
+        ensures { IfOk result (AreNamesOf asked bytes.now) }
+    {
+        if !asked {
+            return Ok(Names {
+                publics: Vec::new(console.alloc()),
+            });
+        }
+        match read_publics(console.alloc(), bytes) {
+            Ok(publics) => Ok(Names { publics }),
+            Err(fault) => match fault.cause {
+                Cause::Memory => Err(console.report_memory()),
+                _ => Err(console.report_file(path, fault)),
+            },
+        }
+    }
+
+    /// The publics by which addresses are named.
+    pub fn publics(&self) -> &[Public]
+        ensures { result.now ≡ self.now }
+    {
+        &self.publics
+    }
+
+    /// Whether there are none.
+    pub fn is_empty(&self) -> bool
+        ensures { result ≡ (length self.now == 0) }
+    {
+        self.publics.is_empty()
+    }
+
+    /// Lines of instructions, each that has a name with a line for it before. The lines of a trace are numbered. Without names
+    /// it is the text as it was.
+    ///
+    /// # Errors
+    /// `AllocError` only if memory runs out.
+    pub fn label(&self, alloc: Global, numbered: bool, text: Vec<u8>) -> Result<Vec<u8>, AllocError>
+        ensures labelled { IfOk result (λ labelled. labelled.items ≡ labelled_text self.now numbered text.items) }
+        ensures without { IfOk result (λ labelled. self.now ≡ [] → labelled.items ≡ text.items) }
+    {
+        texts_without_names_are_as_before();
+        if self.publics.is_empty() {
+            return Ok(text);
+        }
+        label_lines(alloc, &self.publics, numbered, &text)
+    }
+
+    /// A text, with a name behind each of its lines that begins with this word and an address. Without names it is the text as it
+    /// was.
+    ///
+    /// # Errors
+    /// `AllocError` only if memory runs out.
+    pub fn name(
+        &self,
+        alloc: Global,
+        code: &[Range],
+        word: &[u8],
+        text: Vec<u8>,
+    ) -> Result<Vec<u8>, AllocError>
+        ensures named { IfOk result (λ named. named.items ≡ named_text code.now self.now word.now text.items) }
+        ensures without { IfOk result (λ named. self.now ≡ [] → named.items ≡ text.items) }
+    {
+        texts_without_names_are_as_before();
+        if self.publics.is_empty() {
+            return Ok(text);
+        }
+        name_lines(alloc, &self.publics, code, word, &text)
+    }
+
+    /// The text of one line, with the name of an address behind it. Without names it is the text as it was.
+    ///
+    /// # Errors
+    /// `AllocError` only if memory runs out.
+    pub fn name_end(
+        &self,
+        alloc: Global,
+        code: &[Range],
+        address: u16,
+        text: Vec<u8>,
+    ) -> Result<Vec<u8>, AllocError>
+        ensures named { IfOk result (λ named. named.items ≡ named_end code.now self.now address text.items) }
+        ensures without { IfOk result (λ named. self.now ≡ [] → named.items ≡ text.items) }
+    {
+        match text.strip_suffix(b"\n") {
+            Some(line) => name_line(alloc, &self.publics, code, address, line),
+            None => Ok(text),
+        }
+    }
+
+    /// Appends the name of an address behind a line.
+    ///
+    /// # Errors
+    /// `AllocError` only if memory runs out.
+    pub fn append(
+        &self,
+        alloc: Global,
+        code: &[Range],
+        address: u16,
+        text: &mut Vec<u8>,
+    ) -> Result<(), AllocError>
+        ensures { OnOk result (text.new.items ≡ text.old.items ++ name_text code.now self.now address) }
+    {
+        append_name(alloc, &self.publics, code, address, text)
+    }
+
+    /// Appends the line of the name of an address.
+    ///
+    /// # Errors
+    /// `AllocError` only if memory runs out.
+    pub fn append_label(&self, address: u16, text: &mut Vec<u8>) -> Result<(), AllocError>
+        ensures { OnOk result (text.new.items ≡ text.old.items ++ label_text self.now address) }
+    {
+        append_label(&self.publics, address, text)
+    }
+}

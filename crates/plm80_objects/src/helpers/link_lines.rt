@@ -1,0 +1,88 @@
+//! The lines that `link` prints.
+
+ghost use Rattle.link80.specs.Selection.{IsSelection};
+ghost use Rattle.link80_parts.specs.Parts.{IsMade};
+
+use crate::link::LinkFiles;
+use link80::{Chosen, Linked};
+use link80_parts::{append_parts, append_unresolved};
+use link80_reasons::append_reasons;
+use omf_core::Name;
+use omf_library::Library;
+use std::alloc::{AllocError, Global};
+
+/// Which lines are printed beside those of the modules that were taken and of the unresolved names.
+#[derive(Clone, Copy)]
+pub(crate) struct LinkLines {
+    pub map: bool,
+    pub reasons: bool,
+}
+
+/// A line for each module that was taken, with its reason if it is wanted; one for each unresolved name, or with the map one for
+/// each module that needs it; and with the map one for each part.
+pub(crate) fn lines_of(
+    alloc: Global,
+    wanted: LinkLines,
+    linked: &Linked,
+    files: &LinkFiles<'_>,
+) -> Result<Vec<u8>, AllocError>
+    requires selection { IsSelection files.now.roots.items files.now.libraries.items linked.now.taken.items }
+    requires made { IsMade files.now.roots.items files.now.libraries.items linked.now }
+{
+    let mut lines = Vec::new(alloc);
+    if wanted.reasons {
+        append_reasons(
+            alloc,
+            &mut lines,
+            &files.roots,
+            &files.libraries,
+            &linked.taken,
+            &files.paths,
+        )?;
+    } else {
+        append_taken(&mut lines, &linked.taken, &files.libraries)?;
+    }
+    if wanted.map {
+        append_unresolved(alloc, &mut lines, &files.roots, &files.libraries, linked)?;
+        append_parts(alloc, &mut lines, &files.roots, &files.libraries, linked)?;
+    } else {
+        append_names(&mut lines, &linked.unresolved)?;
+    }
+    Ok(lines)
+}
+
+/// Appends a line for each module that was taken.
+fn append_taken(
+    lines: &mut Vec<u8>,
+    taken: &[Chosen],
+    libraries: &[Library],
+) -> Result<(), AllocError> {
+    for chosen in taken {
+        if let Some(name) = name_at(libraries, *chosen) {
+            append_line(lines, b"TAKEN ".as_slice(), name)?;
+        }
+    }
+    Ok(())
+}
+
+/// The name of the module at a place in the libraries.
+fn name_at(libraries: &[Library], place: Chosen) -> Option<&Name> {
+    let library = libraries.get(place.library)?;
+    Some(library.modules.get(place.module)?.name())
+}
+
+/// Appends a line for each name that no module declares.
+fn append_names(lines: &mut Vec<u8>, names: &[Name]) -> Result<(), AllocError> {
+    for name in names {
+        append_line(lines, b"UNRESOLVED ".as_slice(), name)?;
+    }
+    Ok(())
+}
+
+/// Appends a line of a word and a name.
+fn append_line(lines: &mut Vec<u8>, word: &[u8], name: &Name) -> Result<(), AllocError> {
+    lines.extend_from_slice(word)?;
+    lines.extend_from_slice(name.bytes())?;
+    lines.push(b'\n')?;
+    Ok(())
+}

@@ -1,0 +1,94 @@
+//! The options of LOCATE, which `locate` and `map` take.
+
+use clap::ArgMatches;
+use place80::Options;
+use plm80_console::{Argument, Console, Kind, OptionText, Reported};
+
+/// The base of CODE.
+pub const CODE_BASE: Argument<'static> = Argument {
+    name: "code",
+    kind: Kind::Number("BASE"),
+    help: "Base of CODE [default: 3000]",
+};
+
+/// The base of STACK.
+pub const STACK_BASE: Argument<'static> = Argument {
+    name: "stack",
+    kind: Kind::Number("BASE"),
+    help: "Base of STACK, its lowest address",
+};
+
+/// The base of the unnamed common.
+pub const COMMON_BASE: Argument<'static> = Argument {
+    name: "common",
+    kind: Kind::Number("BASE"),
+    help: "Base of the unnamed common",
+};
+
+/// The base of DATA.
+pub const DATA_BASE: Argument<'static> = Argument {
+    name: "data",
+    kind: Kind::Number("BASE"),
+    help: "Base of DATA",
+};
+
+/// The base of MEMORY.
+pub const MEMORY_BASE: Argument<'static> = Argument {
+    name: "memory",
+    kind: Kind::Number("BASE"),
+    help: "Base of MEMORY",
+};
+
+/// The length of STACK.
+pub const STACK_SIZE: Argument<'static> = Argument {
+    name: "stack-size",
+    kind: Kind::Number("SIZE"),
+    help: "Length of STACK, in place of the module's",
+};
+
+/// The length of MEMORY.
+pub const MEMORY_SIZE: Argument<'static> = Argument {
+    name: "memory-size",
+    kind: Kind::Number("SIZE"),
+    help: "Length of MEMORY, in place of the module's",
+};
+
+/// The values of the options, if they are given.
+#[derive(Clone, Copy)]
+pub struct LocateTexts<'a> {
+    code: Option<OptionText<'a>>,
+    stack: Option<OptionText<'a>>,
+    common: Option<OptionText<'a>>,
+    data_base: Option<OptionText<'a>>,
+    memory: Option<OptionText<'a>>,
+    stack_size: Option<OptionText<'a>>,
+    memory_size: Option<OptionText<'a>>,
+}
+
+impl<'a> LocateTexts<'a> {
+    /// The options as clap has read them.
+    pub fn of(matches: &ArgMatches<'a>) -> LocateTexts<'a> {
+        LocateTexts {
+            code: OptionText::given(matches, CODE_BASE.name),
+            stack: OptionText::given(matches, STACK_BASE.name),
+            common: OptionText::given(matches, COMMON_BASE.name),
+            data_base: OptionText::given(matches, DATA_BASE.name),
+            memory: OptionText::given(matches, MEMORY_BASE.name),
+            stack_size: OptionText::given(matches, STACK_SIZE.name),
+            memory_size: OptionText::given(matches, MEMORY_SIZE.name),
+        }
+    }
+
+    /// The numbers of the options.
+    pub fn numbers(self, console: Console<'_>) -> Result<Options, Reported> {
+        Ok(Options {
+            code: console.word_if_given(self.code)?,
+            stack: console.word_if_given(self.stack)?,
+            common: console.word_if_given(self.common)?,
+            data_base: console.word_if_given(self.data_base)?,
+            memory: console.word_if_given(self.memory)?,
+            stack_size: console.word_if_given(self.stack_size)?,
+            memory_size: console.word_if_given(self.memory_size)?,
+        })
+    }
+}

@@ -1,0 +1,95 @@
+//! `plm80 lib`: a library of the modules of object files.
+
+use clap::ArgMatches;
+use omf_library::{LibraryPutFault, write_library};
+use omf_module::Module;
+use plm80_console::{
+    Argument, Console, Kind, Reported, Syntax, append_modules, path_of, read_modules,
+};
+use std::alloc::{AllocError, Global};
+
+/// The arguments of `lib`.
+#[derive(Drop)]
+pub struct LibraryArguments<'a> {
+    library: &'a str,
+    files: Vec<&'a str>,
+}
+
+const ABOUT: &str = "Writes a library of all modules of object files, in order";
+
+const AFTER_HELP: &str = "\
+OUT comes first, and is replaced. With OUT forgotten that is the first object
+file: it is kept beside the library as OUT~ (OUT~1, OUT~2 .. if that exists).
+
+The library has the modules of the first file, then those of the second, and so
+on, with an index of their names, places and public names. It is written only if
+every file could be read.
+
+Example: plm80 lib routines.lib routines.obj
+
+Faults and what to do: docs/FAULTS.md (installed: share/doc/plm80), man plm80.";
+
+/// `lib` and its arguments.
+pub const LIB: Syntax<'static> = Syntax {
+    name: "lib",
+    about: ABOUT,
+    after_help: AFTER_HELP,
+    arguments: &[
+        Argument {
+            name: "OUT",
+            kind: Kind::Written,
+            help: "The file to write the library to; it is replaced",
+        },
+        Argument {
+            name: "FILE",
+            kind: Kind::Paths,
+            help: "The object files to read, each of one or more modules",
+        },
+    ],
+};
+
+impl<'a> LibraryArguments<'a> {
+    /// The arguments as clap has read them.
+    pub fn of(alloc: Global, matches: &ArgMatches<'a>) -> Result<LibraryArguments<'a>, AllocError> {
+        Ok(LibraryArguments {
+            library: path_of(matches, "OUT"),
+            files: Vec::from_slice(alloc, matches.get_strs("FILE").unwrap_or(&[]))?,
+        })
+    }
+}
+
+/// Writes the library of all modules of the object files. No file is created or changed before every other fault is
+/// excluded.
+pub fn write_library_file(
+    console: Console<'_>,
+    arguments: &LibraryArguments<'_>,
+) -> Result<u8, Reported> {
+    let modules = modules_of(console, &arguments.files)?;
+    write_modules(console, arguments.library, &modules)
+}
+
+/// Writes the library of these modules to the file of this path.
+fn write_modules(console: Console<'_>, path: &str, modules: &[Module]) -> Result<u8, Reported> {
+    let library = library_of(console, modules)?;
+    console.replace_keeping_objects(path, &library)?;
+    Ok(0)
+}
+
+/// The modules of the object files of these paths, in order. Each file is checked before the next one is opened.
+fn modules_of(console: Console<'_>, paths: &[&str]) -> Result<Vec<Module>, Reported> {
+    let mut modules = Vec::new(console.alloc());
+    for path in paths {
+        append_modules(console, &mut modules, &mut read_modules(console, path)?)?;
+    }
+    Ok(modules)
+}
+
+/// The bytes of the library of these modules.
+fn library_of(console: Console<'_>, modules: &[Module]) -> Result<Vec<u8>, Reported> {
+    let mut library = Vec::new(console.alloc());
+    match write_library(console.alloc(), modules, &mut library) {
+        Ok(()) => Ok(library),
+        Err(LibraryPutFault::Memory) => Err(console.report_memory()),
+        Err(fault) => Err(console.report(fault)),
+    }
+}

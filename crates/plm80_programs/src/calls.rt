@@ -1,0 +1,98 @@
+//! `plm80 calls`: the calls of a located program, or its refusal.
+
+use clap::ArgMatches;
+use image80::Image;
+use loader80::{Vouched, vouch};
+use plm80_console::{Argument, Console, IMAGE, Kind, REGIONS, Reported, Syntax};
+use plm80_names::{NAMES, NamedFiles, Names, named_refusal};
+use std::alloc::{AllocError, Global};
+use verify80_graph::{CallGraph, graph_text, list_text};
+
+/// The arguments of `calls`.
+#[derive(Clone, Copy)]
+pub struct CallsArguments<'a> {
+    files: NamedFiles<'a>,
+    dot: bool,
+}
+
+const ABOUT: &str = "Verifies an image, and prints which procedure calls which, and how deep";
+
+const AFTER_HELP: &str = "\
+A line for main and for each procedure has the bytes of stack that it needs below
+its return address (BOUND). Below it is a line for each of its calls: where it
+stands (AT), the bytes that the procedure has on the stack there (DEPTH), what it
+calls, and the bytes that the call needs, its return address included (NEEDS). The
+bound is the greatest depth plus needs. With --dot it is a graph for Graphviz: in
+bold the calls of which the main program's bound is made. --names prints behind
+a procedure its name, as check does, and behind a call that of its target; in a
+graph they stand in the labels.
+
+Example: plm80 calls readings.img readings.regions
+
+Faults and what to do: docs/FAULTS.md (installed: share/doc/plm80), man plm80.";
+
+/// `calls` and its arguments.
+pub const CALLS: Syntax<'static> = Syntax {
+    name: "calls",
+    about: ABOUT,
+    after_help: AFTER_HELP,
+    arguments: &[
+        IMAGE,
+        REGIONS,
+        Argument {
+            name: "dot",
+            kind: Kind::Flag,
+            help: "Print a graph for Graphviz",
+        },
+        NAMES,
+    ],
+};
+
+impl<'a> CallsArguments<'a> {
+    /// The arguments as clap has read them.
+    pub fn of(matches: &ArgMatches<'a>) -> CallsArguments<'a> {
+        CallsArguments {
+            files: NamedFiles::of(matches),
+            dot: matches.get_flag("dot"),
+        }
+    }
+}
+
+/// Prints the calls of the image, or its refusal, and gives the exit status.
+pub fn show_calls(console: Console<'_>, arguments: CallsArguments<'_>) -> Result<u8, Reported> {
+    let (image, names) = arguments.files.read(console)?;
+    let Ok((text, status)) = verdict(console.alloc(), image, arguments.dot, &names) else {
+        return Err(console.report_memory());
+    };
+    console.print(&text)?;
+    Ok(status)
+}
+
+/// What is printed of an image, and the exit status.
+fn verdict(
+    alloc: Global,
+    image: Image,
+    dot: bool,
+    names: &Names,
+) -> Result<(Vec<u8>, u8), AllocError> {
+    match vouch(alloc, image) {
+        Ok(vouched) => Ok((calls_text(alloc, &vouched, dot, names)?, 0)),
+        Err((image, refusal)) => Ok((named_refusal(alloc, &image, refusal, names)?, 1)),
+    }
+}
+
+/// The calls of an image that is accepted, as lines or as a graph.
+fn calls_text(
+    alloc: Global,
+    vouched: &Vouched,
+    dot: bool,
+    names: &Names,
+) -> Result<Vec<u8>, AllocError> {
+    let graph = CallGraph::of(alloc, vouched)?;
+    let (image, publics) = (vouched.image(), names.publics());
+    if dot {
+        graph_text(alloc, image, publics, &graph)
+    } else {
+        list_text(alloc, image, publics, &graph)
+    }
+}

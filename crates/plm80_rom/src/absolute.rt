@@ -1,0 +1,186 @@
+//! `plm80 absolute`: the image of bytes as they are.
+
+use clap::ArgMatches;
+use image80::Image;
+use image80_file::write_image;
+use plm80_console::{
+    Argument, Console, Kind, OptionText, Reported, Syntax, path_of, word_of_digits,
+};
+use rom80::{Dumps, RomFault};
+use std::alloc::{AllocError, Global};
+
+/// The arguments of `absolute`.
+#[derive(Drop)]
+pub struct AbsoluteArguments<'a> {
+    bytes: &'a str,
+    image: &'a str,
+    first: OptionText<'a>,
+    start: OptionText<'a>,
+    name: OptionText<'a>,
+    /// Further dumps, each as `hhhh=FILE`.
+    further: Vec<&'a str>,
+}
+
+const ABOUT: &str = "Writes an image of raw bytes, such as a PROM's";
+
+const AFTER_HELP: &str = "\
+BIN has the bytes of the addresses from FIRST on, up to FFFF at most, and nothing
+else. Each --rom names another PROM by its address, an equals sign and its file,
+as --rom 1000=high.bin; no two may share an address. Addresses are one to four
+hexadecimal digits in either case, without h or 0x. You write the regions of the
+image by hand, as docs/FIRMWARE.md shows in 'Absolute firmware'.
+
+Example: plm80 absolute rom.bin rom.img --first 0 --start 0 --name ROM
+
+Faults and what to do: docs/FAULTS.md (installed: share/doc/plm80), man plm80.";
+
+/// The name of the option for further dumps.
+const FURTHER: &str = "rom";
+
+/// `absolute` and its arguments.
+pub const ABSOLUTE: Syntax<'static> = Syntax {
+    name: "absolute",
+    about: ABOUT,
+    after_help: AFTER_HELP,
+    arguments: &[
+        Argument {
+            name: "BIN",
+            kind: Kind::Path,
+            help: "The bytes to read",
+        },
+        Argument {
+            name: "IMAGE",
+            kind: Kind::Written,
+            help: "The file to write the image to, an absolute object file",
+        },
+        Argument {
+            name: "first",
+            kind: Kind::Required("FIRST"),
+            help: "The address of the first byte",
+        },
+        Argument {
+            name: "start",
+            kind: Kind::Required("START"),
+            help: "The address where the program starts",
+        },
+        Argument {
+            name: "name",
+            kind: Kind::Required("NAME"),
+            help: "The name of the image's module",
+        },
+        Argument {
+            name: FURTHER,
+            kind: Kind::PathsAt("ADDRESS=FILE"),
+            help: "Another file of bytes, and the address of the first",
+        },
+    ],
+};
+
+impl<'a> AbsoluteArguments<'a> {
+    /// The arguments as clap has read them.
+    pub fn of(
+        alloc: Global,
+        matches: &ArgMatches<'a>,
+    ) -> Result<AbsoluteArguments<'a>, AllocError> {
+        Ok(AbsoluteArguments {
+            bytes: path_of(matches, "BIN"),
+            image: path_of(matches, "IMAGE"),
+            first: OptionText::of(matches, "first"),
+            start: OptionText::of(matches, "start"),
+            name: OptionText::of(matches, "name"),
+            further: Vec::from_slice(alloc, matches.get_strs(FURTHER).unwrap_or(&[]))?,
+        })
+    }
+}
+
+/// A file of bytes, and the address of the first of them.
+#[derive(Clone, Copy)]
+struct RomFile<'a> {
+    first: u16,
+    path: &'a str,
+}
+
+/// Writes the image of the bytes. No file is created or changed before every other fault is excluded.
+pub fn write_absolute(
+    console: Console<'_>,
+    arguments: &AbsoluteArguments<'_>,
+) -> Result<u8, Reported> {
+    let start = console.word(arguments.start)?;
+    let files = files_of(console, arguments)?;
+    let name = console.name(arguments.name)?;
+    let dumps = read_dumps(console, &files)?;
+    write_file(
+        console,
+        arguments.image,
+        &dumps.into_image(console.alloc(), name, start),
+    )
+}
+
+/// The files of the arguments with their addresses, in order.
+fn files_of<'a>(
+    console: Console<'_>,
+    arguments: &AbsoluteArguments<'a>,
+) -> Result<Vec<RomFile<'a>>, Reported> {
+    let mut files = Vec::new(console.alloc());
+    let first = RomFile {
+        first: console.word(arguments.first)?,
+        path: arguments.bytes,
+    };
+    add_file(console, &mut files, first)?;
+    for further in &arguments.further {
+        add_file(console, &mut files, file_of(console, further)?)?;
+    }
+    Ok(files)
+}
+
+fn add_file<'a>(
+    console: Console<'_>,
+    files: &mut Vec<RomFile<'a>>,
+    file: RomFile<'a>,
+) -> Result<(), Reported> {
+    match files.push(file) {
+        Ok(()) => Ok(()),
+        Err(_) => Err(console.report_memory()),
+    }
+}
+
+/// The file that an address, an equals sign and a path name.
+fn file_of<'a>(console: Console<'_>, text: &'a str) -> Result<RomFile<'a>, Reported> {
+    let option = OptionText::new(FURTHER, text);
+    let Some((first, path)) = text.split_once('=') else {
+        return Err(console.report_number(option, "an address, an equals sign and a file"));
+    };
+    match word_of_digits(first) {
+        Some(first) => Ok(RomFile { first, path }),
+        None => Err(console.report_number(option, "an address of one to four hexadecimal digits")),
+    }
+}
+
+/// The dumps that the files hold. Each file is checked before the next one is opened.
+fn read_dumps(console: Console<'_>, files: &[RomFile<'_>]) -> Result<Dumps, Reported> {
+    let mut dumps = Dumps::new(console.alloc());
+    for file in files {
+        add_dump(console, &mut dumps, *file)?;
+    }
+    Ok(dumps)
+}
+
+/// Adds the dump that a file holds.
+fn add_dump(console: Console<'_>, dumps: &mut Dumps, file: RomFile<'_>) -> Result<(), Reported> {
+    let bytes = console.read_whole(file.path)?;
+    match dumps.add(console.alloc(), file.first, &bytes) {
+        Ok(()) => Ok(()),
+        Err(RomFault::Memory) => Err(console.report_memory()),
+        Err(fault) => Err(console.report_file(file.path, fault)),
+    }
+}
+
+/// Writes the image to the file of this path.
+fn write_file(console: Console<'_>, path: &str, image: &Image) -> Result<u8, Reported> {
+    let mut file = Vec::new(console.alloc());
+    if write_image(console.alloc(), image, &mut file).is_err() {
+        return Err(console.report_memory());
+    }
+    console.replace(path, &file)?;
+    Ok(0)
+}

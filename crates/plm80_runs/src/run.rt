@@ -1,0 +1,93 @@
+//! `plm80 run`: the transcript of a located program's run.
+
+use crate::helpers::run_arguments::{INPUTS, LimitTexts, OUTPUTS, RunFiles, STEPS};
+use crate::helpers::session_files::run_session;
+use crate::helpers::watching::{Watch, watch_run};
+use clap::ArgMatches;
+use plm80_console::{Argument, Console, IMAGE, Kind, OptionText, REGIONS, Reported, Syntax};
+use plm80_names::NAMES;
+
+/// The arguments of `run`.
+#[derive(Clone, Copy)]
+pub struct RunArguments<'a> {
+    files: RunFiles<'a>,
+    limits: LimitTexts<'a>,
+    last: OptionText<'a>,
+    dump: Option<&'a str>,
+    names: bool,
+}
+
+const ABOUT: &str = "Verifies an image and runs it: prints the transcript, or the refusal";
+
+const AFTER_HELP: &str = "\
+N is a decimal number, at most 18446744073709551615. A line of INPUTS is a port,
+a blank and the bytes that the program reads there, all of two hexadecimal
+digits, as in 02 41FF; an empty file is no input.
+
+The transcript is printed when the run has ended: a line for the bytes of stack
+that the program needs, a line for each byte that it writes to a port, and a
+line for how it ended and after how many steps. --last prints the last N
+instructions before that line, as trace does but for the number: the last one is
+the one that ended the run, or the next one if the steps were used up. --dump
+writes the memory that the run leaves, 65536 bytes. --names prints names as
+check and list do: before an instruction the one at its address, behind the last
+line that of its address.
+
+Example: plm80 run readings.img readings.regions readings.inputs --steps 5000
+
+Faults and what to do: docs/FAULTS.md (installed: share/doc/plm80), man plm80.";
+
+/// `run` and its arguments.
+pub const RUN: Syntax<'static> = Syntax {
+    name: "run",
+    about: ABOUT,
+    after_help: AFTER_HELP,
+    arguments: &[
+        IMAGE,
+        REGIONS,
+        INPUTS,
+        STEPS,
+        OUTPUTS,
+        Argument {
+            name: "last",
+            kind: Kind::Count("0"),
+            help: "Instructions to print before the last line, at most",
+        },
+        Argument {
+            name: "dump",
+            kind: Kind::WrittenIfGiven("OUT"),
+            help: "The file to write the memory at the end to",
+        },
+        NAMES,
+    ],
+};
+
+impl<'a> RunArguments<'a> {
+    /// The arguments as clap has read them.
+    pub fn of(matches: &ArgMatches<'a>) -> RunArguments<'a> {
+        RunArguments {
+            files: RunFiles::of(matches),
+            limits: LimitTexts::of(matches),
+            last: OptionText::of(matches, "last"),
+            dump: matches.get_str("dump"),
+            names: matches.get_flag(NAMES.name),
+        }
+    }
+}
+
+/// Runs the image of the files, and gives the exit status: a session, if nothing but its transcript is asked for.
+pub fn run_files(console: Console<'_>, arguments: RunArguments<'_>) -> Result<u8, Reported> {
+    let limits = arguments.limits.numbers(console)?;
+    let last = console.count(arguments.last)?;
+    if last == 0 && arguments.dump.is_none() && !arguments.names {
+        return run_session(console, arguments.files, limits);
+    }
+    let watch = Watch {
+        files: arguments.files,
+        limits,
+        last,
+        dump: arguments.dump,
+        names: arguments.names,
+    };
+    watch_run(console, watch)
+}

@@ -1,0 +1,116 @@
+-- The places before an address, as the next one is looked at.
+use Rattle.std.specs.Prelude.{◌≡◌, ℕ, zero, suc, ◌+◌, ◌-◌, ◌<◌, ◌==◌, ◌||◌, Bool, true, false, Option, Some, None, IfSome, List, [], ◌∷◌, ◌++◌, length, filter, slice_index_or}
+use Rattle.std.specs.List.{list_any}
+use Rattle.std.proofs.Common.{append-nil, refl, sym, ◌∙◌, ap, subst, arith, get_or, ◌⊎◌, inl, inr}
+use Rattle.std.proofs.lemmas.Bool.{eqb-true, eq-eqb, or_cases, true≢false, cases_lt}
+use Rattle.std.proofs.lemmas.List.Recursion.{or_at}
+use Rattle.std.proofs.lemmas.List.Folds.{list_any-append}
+use Rattle.std.proofs.lemmas.List.Quantifiers.{all_pairs_push}
+use Rattle.rom80_pattern.specs.declared.code_byte.CodeByte.{CodeByte}
+use Rattle.rom80_find.specs.Runs.{IsAnswer, IsAnswerBefore}
+use Rattle.rom80_find.specs.Places.{LiesAt, place_of, is_free, is_known_fixup, ArePlaces, is_listed}
+use Rattle.rom80_find.specs.Sieve.{AreSieved}
+use Rattle.rom80_find.proofs.LiesLemmas.{lies_plain, parts_lie}
+use Rattle.rom80_find.proofs.RepeatLemmas.{lies_some, rest_lies}
+
+before_or_here : (at a : ℕ) → a < at + 1 → (a < at) ⊎ (at ≡ a)
+before_or_here at a lt = elim (cases_lt a at) [ inl k ↦ inl k | inr k ↦ inr (omega arith) ]
+
+only : (at a : ℕ) → is_listed (at ∷ []) a ≡ true → at ≡ a
+only at a h = elim (or_cases (at == a) false h) [ inl e ↦ eqb-true at a e | inr e ↦ elim (true≢false (sym e)) [ ] ]
+
+listed_at : (places : List ℕ) (k d : ℕ) → k < length places → is_listed places (get_or places k d) ≡ true
+listed_at places k d lt =
+    or_at (λ (xs : List ℕ). list_any (λ p. p == get_or places k d) xs) (λ (p : ℕ). p == get_or places k d) refl (λ _ _. refl) places k d lt (eq-eqb (get_or places k d) (get_or places k d) refl)
+
+listed-append : (places more : List ℕ) (a : ℕ) → is_listed (places ++ more) a ≡ (is_listed places a || is_listed more a)
+listed-append places more a = list_any-append (λ (p : ℕ). p == a) places more
+
+or-right : (x y : Bool) → y ≡ true → (x || y) ≡ true
+or-right true y e = refl
+or-right false y e = e
+
+or-left : (x y : Bool) → x ≡ true → (x || y) ≡ true
+or-left x y e = ap (λ (t : Bool). t || y) e
+
+module _ (first : ℕ) (dump : List ℕ) (code : List CodeByte) (at : ℕ) (places : List ℕ) (h : ArePlaces first dump code at places) where
+  -- the code doesn't lie there
+  pub not_there : (LiesAt first dump code at → ⊥) → ArePlaces first dump code (at + 1) places
+  not_there away = record {
+    lies = λ a e. (omega (arith, (h.lies a e).0), (h.lies a e).1);
+    all = λ a lt l. elim (before_or_here at a lt) [
+      | inl k ↦ h.all a k l
+      | inr e ↦ elim (away (subst (λ (x : ℕ). LiesAt first dump code x) (sym e) l)) [ ]
+    ];
+    ascending = h.ascending;
+  }
+
+  -- it does
+  pub there : LiesAt first dump code at → ArePlaces first dump code (at + 1) (places ++ at ∷ [])
+  there lies = record {
+    lies = λ a e. elim (or_cases (is_listed places a) (is_listed (at ∷ []) a) (sym (listed-append places (at ∷ []) a) ∙ e)) [
+      | inl k ↦ (omega (arith, (h.lies a k).0), (h.lies a k).1)
+      | inr k ↦ (omega (arith, only at a k), subst (λ (x : ℕ). LiesAt first dump code x) (only at a k) lies)
+    ];
+    all = λ a lt l. listed-append places (at ∷ []) a ∙ (elim (before_or_here at a lt) [
+      | inl k ↦ or-left (is_listed places a) (is_listed (at ∷ []) a) (h.all a k l)
+      | inr e ↦ or-right (is_listed places a) (is_listed (at ∷ []) a) (or-left (at == a) false (eq-eqb at a e))
+    ]);
+    ascending = all_pairs_push (λ (p q : ℕ). p < q) places at h.ascending (λ k d lt. (h.lies (get_or places k d) (listed_at places k d lt)).0);
+  }
+
+pub none_yet : (first : ℕ) (dump : List ℕ) (code : List CodeByte) → ArePlaces first dump code 0 []
+none_yet first dump code = record {
+  lies = λ a e. elim (true≢false (sym e)) [ ];
+  all = λ a lt l. elim (lt_zero a lt) [ ];
+  ascending = λ i j d ij lj. elim (lt_zero j lj) [ ];
+}
+  where
+    lt_zero : (a : ℕ) → a < 0 → ⊥
+    lt_zero a lt = omega arith
+
+-- one address, by what is left of the sieve and the bytes in fixups
+module _ (first : ℕ) (dump : List ℕ) (code : List CodeByte) (at : ℕ) (lt : at < 65536) (alive : List Bool) (sieved : AreSieved first dump code alive) where
+  pub sieved_away : slice_index_or alive at false ≡ false → LiesAt first dump code at → ⊥
+  sieved_away e l = true≢false (sym (lies_plain first dump code at l) ∙ (sym (sieved.each at lt) ∙ e))
+
+  -- its bytes lie there
+  pub lies_here : slice_index_or alive at false ≡ true → LiesAt first dump (filter is_known_fixup code) at → LiesAt first dump (filter is_free code) at
+      → LiesAt first dump code at
+  lies_here e known free = parts_lie first dump code at (sym (sieved.each at lt) ∙ e) (rest_lies first dump code at known free)
+
+  -- so the answer at it says whether it is the next place
+  module _ (known free : List CodeByte) (is-known : known ≡ filter is_known_fixup code) (is-free : free ≡ filter is_free code) (here : Bool)
+      (is-here : slice_index_or alive at false ≡ here) (places : List ℕ) (h : ArePlaces first dump code at places) where
+    pub next_places : (answer : Option Bool) (new : List ℕ)
+        → IfSome answer (λ _. (here ≡ true) × LiesAt first dump known at)
+        → IfSome answer (λ lies. IsAnswer first dump free at lies)
+        → (answer ≡ None → here ≡ true → LiesAt first dump known at → ⊥)
+        → new ≡ places ++ place_of answer at
+        → ArePlaces first dump code (at + 1) new
+    next_places None new k f none is = subst (λ (l : List ℕ). ArePlaces first dump code (at + 1) l) (sym (is ∙ append-nil places))
+        (not_there first dump code at places h (away here refl))
+      where
+        away : (t : Bool) → here ≡ t → LiesAt first dump code at → ⊥
+        away true e l = none refl e (subst (λ (r : List CodeByte). LiesAt first dump r at) (sym is-known) (lies_some first dump code at is_known_fixup l))
+        away false e l = sieved_away (is-here ∙ e) l
+    next_places (Some true) new k f none is = subst (λ (l : List ℕ). ArePlaces first dump code (at + 1) l) (sym is)
+        (there first dump code at places h (lies_here (is-here ∙ k.0) (subst (λ (r : List CodeByte). LiesAt first dump r at) is-known k.1)
+        (subst (λ (r : List CodeByte). LiesAt first dump r at) is-free (f.yes refl))))
+    next_places (Some false) new k f none is = subst (λ (l : List ℕ). ArePlaces first dump code (at + 1) l) (sym (is ∙ append-nil places))
+        (not_there first dump code at places h (λ l. f.no refl (subst (λ (r : List CodeByte). LiesAt first dump r at) (sym is-free) (lies_some first dump code at is_free l))))
+
+pub before_next : (first : ℕ) (dump : List ℕ) (code free : List CodeByte) (at : ℕ) → free ≡ code → (answer : Option Bool)
+    → IfSome answer (λ lies. IsAnswer first dump free at lies) → IsAnswerBefore first dump code (at + 1) answer
+before_next first dump code free at is None h = tt
+before_next first dump code free at is (Some lies) h = λ one.
+    let same : at ≡ at + 1 - 1 = omega arith in
+    subst (λ (n : ℕ). IsAnswer first dump code n lies) same (subst (λ (l : List CodeByte). IsAnswer first dump l at lies) is h)
+
+pub same_default : {A : Type 0} (xs : List A) (i : ℕ) (d e : A) → i < length xs → get_or xs i d ≡ get_or xs i e
+same_default [] i d e lt = elim lt [ ]
+same_default (x ∷ xs) zero d e lt = refl
+same_default (x ∷ xs) (suc i) d e lt = same_default xs i d e (omega arith)
+
+pub found_at : (alive : List Bool) (at : ℕ) (b r : Bool) → length alive ≡ 65536 → at < 65536 → r ≡ get_or alive at r → r ≡ b → slice_index_or alive at false ≡ b
+found_at alive at b r whole lt is e = same_default alive at false r (omega arith) ∙ (sym is ∙ e)

@@ -1,0 +1,93 @@
+//! The values that a target may have, as bytes of a dump leave them.
+
+ghost use Rattle.std.specs.Prelude.{◌≡◌, ◌<◌, ◌+◌, ◌%◌, ◌==◌, ◌&&◌, ℕ, false, IfSome, IfNone};
+ghost use Rattle.rom80_find.specs.Candidates.{is_candidate, is_half, is_in_window};
+
+use rom80_pattern::Half;
+
+/// The values that a target may have. There is always one.
+#[derive(Clone, Copy, Debug, PartialEq, Eq)]
+pub enum Candidates {
+    /// Every word.
+    Any,
+    /// The words with this low byte.
+    Low(u8),
+    /// The words from the first on, so many of them after it, with 0000 after FFFF.
+    Window(u16, u8),
+}
+
+impl Candidates {
+    /// Those of them with which the half of their sum with the addend is this byte, if there are any.
+    pub fn narrowed(self, half: Half, addend: u16, byte: u8) -> Option<Candidates>
+        ensures some { IfSome result (λ narrowed. (word : ℕ) → word < 65536 →
+            is_candidate narrowed word ≡ (is_candidate self word && is_half half addend byte word)) }
+        ensures none { IfNone result ((word : ℕ) → word < 65536 →
+            (is_candidate self word && is_half half addend byte word) ≡ false) }
+    {
+        match half {
+            Half::Low => self.with_low(byte.wrapping_sub((addend % 256) as u8)),
+            Half::High => self.within(u16::from_be_bytes([byte, 0]).wrapping_sub(addend)),
+        }
+    }
+
+    /// Those with this low byte.
+    fn with_low(self, low: u8) -> Option<Candidates>
+        ensures some { IfSome result (λ narrowed. (word : ℕ) → word < 65536 →
+            is_candidate narrowed word ≡ (is_candidate self word && (word % 256 == low))) }
+        ensures none { IfNone result ((word : ℕ) → word < 65536 →
+            (is_candidate self word && (word % 256 == low)) ≡ false) }
+    {
+        match self {
+            Candidates::Any => Some(Candidates::Low(low)),
+            Candidates::Low(other) => { if other == low { Some(self) } else { None } }
+            Candidates::Window(first, more) => low_in_window(first, more, low),
+        }
+    }
+
+    /// Those of the 256 words from this one on.
+    fn within(self, start: u16) -> Option<Candidates>
+        ensures some { IfSome result (λ narrowed. (word : ℕ) → word < 65536 →
+            is_candidate narrowed word ≡ (is_candidate self word && is_in_window start 255 word)) }
+        ensures none { IfNone result ((word : ℕ) → word < 65536 →
+            (is_candidate self word && is_in_window start 255 word) ≡ false) }
+    {
+        match self {
+            Candidates::Any => Some(Candidates::Window(start, 255)),
+            Candidates::Low(low) => low_in_window(start, 255, low),
+            Candidates::Window(first, more) => common_window(first, more, start),
+        }
+    }
+}
+
+/// The word of a window with this low byte, if there is one.
+fn low_in_window(first: u16, more: u8, low: u8) -> Option<Candidates>
+    ensures some { IfSome result (λ narrowed. (word : ℕ) → word < 65536 →
+        is_candidate narrowed word ≡ (is_in_window first more word && (word % 256 == low))) }
+    ensures none { IfNone result ((word : ℕ) → word < 65536 →
+        (is_in_window first more word && (word % 256 == low)) ≡ false) }
+{
+    let after = low.wrapping_sub((first % 256) as u8);
+    if after <= more {
+        Some(Candidates::Window(first.wrapping_add(u16::from(after)), 0))
+    } else {
+        None
+    }
+}
+
+/// What a window and the 256 words from `start` on have in common.
+fn common_window(first: u16, more: u8, start: u16) -> Option<Candidates>
+    ensures some { IfSome result (λ narrowed. (word : ℕ) → word < 65536 →
+        is_candidate narrowed word ≡ (is_in_window first more word && is_in_window start 255 word)) }
+    ensures none { IfNone result ((word : ℕ) → word < 65536 →
+        (is_in_window first more word && is_in_window start 255 word) ≡ false) }
+{
+    let ahead = start.wrapping_sub(first);
+    if ahead <= u16::from(more) {
+        return Some(Candidates::Window(start, more - ahead as u8));
+    }
+    let behind = first.wrapping_sub(start);
+    if behind > 255 {
+        return None;
+    }
+    Some(Candidates::Window(first, more.min(255 - behind as u8)))
+}

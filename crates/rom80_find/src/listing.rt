@@ -1,0 +1,82 @@
+//! The addresses at which a module's code lies.
+
+ghost use Rattle.std.specs.Prelude.{◌≡◌, ◌<◌, ◌≤◌, ◌++◌, IfOk, OnOk};
+ghost use Rattle.rom80_pattern.specs.CodeBytes.{number_of};
+ghost use Rattle.rom80_find.specs.Places.{AreBelow, ArePlaces, place_of};
+
+use crate::fixup_bytes::fixup_bytes;
+use crate::next::lies_next;
+use crate::runs::run_starts;
+use crate::sieve::sieve;
+use crate::solving::any_table;
+use omf_parts::Target;
+use rom80_pattern::CodeByte;
+use std::alloc::{AllocError, Global};
+
+/// The addresses at which the code lies in a dump that stands from the address `first` on, in ascending order: those for which
+/// there are values of its targets with which the dump has all its bytes. The targets have numbers below `count`.
+///
+/// The time grows with the number of bytes of the code times 65536, in steps of many addresses at once, and with the number of
+/// its bytes in fixups for each address at which the others fit, but for those at which the dump repeats the byte before.
+///
+/// # Errors
+/// `AllocError` only if memory ran out.
+pub fn places(
+    alloc: Global,
+    first: u16,
+    dump: &[u8],
+    code: &[CodeByte],
+    count: usize,
+) -> Result<Vec<u16>, AllocError>
+    requires two { 2 ≤ count }
+    requires below { AreBelow count code.now }
+    ensures { IfOk result (λ places. ArePlaces first dump.now code.now 65536 places.items) }
+{
+    let starts = run_starts(alloc, first, dump)?;
+    let alive = sieve(alloc, first, dump, code, &starts)?;
+    let bytes = fixup_bytes(alloc, code)?;
+    let mut table = any_table(alloc, count)?;
+    let mut places = Vec::new(alloc);
+    let mut before = None;
+    for at in 0..65536usize {
+        before = lies_next(
+            first, dump, at as u16, alive[at], &bytes, &starts, before, &mut table,
+        );
+        push_place(&mut places, at as u16, before)?;
+    }
+    Ok(places)
+}
+
+/// Appends the address, if the answer is that the code lies there.
+fn push_place(places: &mut Vec<u16>, address: u16, answer: Option<bool>) -> Result<(), AllocError>
+    ensures { OnOk result (places.new.items ≡ places.old.items ++ place_of answer address) }
+{
+    if let Some(true) = answer {
+        places.push(address)?;
+    }
+    Ok(())
+}
+
+/// One more than the greatest number of a target in the code, and at least 2, for absolute bytes and CODE.
+pub fn count_of(code: &[CodeByte]) -> usize
+    ensures two { 2 ≤ result }
+    ensures few { result ≤ 65792 }
+    ensures below { AreBelow result code.now }
+{
+    let mut count = 2;
+    for byte in code {
+        count = count.max(after(byte.target));
+    }
+    count
+}
+
+/// One more than the number of a target.
+fn after(target: Target) -> usize
+    ensures above { number_of target < result }
+    ensures few { result ≤ 65792 }
+{
+    match target {
+        Target::Segment(id) => usize::from(id) + 1,
+        Target::External(index) => 257 + usize::from(index),
+    }
+}

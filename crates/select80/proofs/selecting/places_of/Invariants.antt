@@ -1,7 +1,0 @@
--- the places so far, and those of the libraries that are left
-use Rattle.std.proofs.Common.{◌≡◌, ◌++◌, drop}
-use Rattle.select80.specs.Selecting.{places_from}
-use Rattle.select80.proofs.selecting.places_of.Given as goal
-
-abbrev pub invariant-loop-number : goal.invariant-loop-number
-invariant-loop-number l = l.places.items ++ places_from l.number (drop l.number l.libraries) ≡ places_from 0 l.libraries

@@ -1,5 +1,0 @@
-use Rattle.stores80.specs.Listing.{AreOpenBelow}
-use Rattle.stores80.proofs.listing.open_stores.Given as goal
-
-abbrev pub invariant-loop-at : goal.invariant-loop-at
-invariant-loop-at l = AreOpenBelow l.regions l.reached l.table l.at l.stores.items

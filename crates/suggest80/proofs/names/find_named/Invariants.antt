@@ -1,7 +1,0 @@
-use Rattle.suggest80.specs.Names.{AreNamedBelow}
-use Rattle.suggest80.proofs.names.find_named.Given as goal
-
-abbrev pub invariant-loop-address : goal.invariant-loop-address
-invariant-loop-address l = record {
-  named : AreNamedBelow l.code l.reached l.address l.named.items;
-}

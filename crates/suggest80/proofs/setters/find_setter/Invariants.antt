@@ -1,7 +1,0 @@
-use Rattle.suggest80.specs.Names.{SetsNone}
-use Rattle.suggest80.proofs.setters.find_setter.Given as goal
-
-abbrev pub invariant-loop-address : goal.invariant-loop-address
-invariant-loop-address l = record {
-  none : SetsNone l.code l.reached l.fn.from l.address;
-}

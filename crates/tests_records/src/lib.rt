@@ -1,0 +1,20 @@
+//! Tests at the limits, from outside, by public names: of many parts, and if memory runs out.
+//!
+//! | Module | What it tests |
+//! |---|---|
+//! | `many` | `omf_core` to `omf_library`: modules, files and records of many parts |
+//! | `many_lines` | `image80`: regions of many lines |
+//! | `many_contents` | `machine80`: memories of images of many contents |
+//! | `lent` | `omf_core` to `image80_file`: what was lent, if memory runs out |
+//!
+//! What the program makes of many parts is in the tables of `tests/commands`.
+#![tactic(auto)]
+
+#[cfg(test)]
+mod lent;
+#[cfg(test)]
+mod many;
+#[cfg(test)]
+mod many_contents;
+#[cfg(test)]
+mod many_lines;

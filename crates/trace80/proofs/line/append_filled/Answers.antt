@@ -1,6 +1,0 @@
-use Rattle.std.proofs.Common.{arith}
-use Rattle.trace80.proofs.LineLemmas.{filled_up}
-use Rattle.trace80.proofs.line.append_filled.Goals as goal
-
-pub returns : goal.returns
-returns c = filled_up c.args.line.now.items _ _ _ _ _ c.len-before.result (omega (arith, c.len-before.ensures)) c.in_ok-write_text.ensures.ok c.in_ok-append_shown.ensures c.in_ok-fill_from.ensures

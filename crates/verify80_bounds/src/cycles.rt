@@ -1,0 +1,41 @@
+//! Calls that lead back to their own procedure.
+
+ghost use Rattle.std.specs.Prelude.{◌≡◌, ◌<◌, IfOk, length};
+ghost use Rattle.verify80_bounds.specs.Chains.{Cycles};
+ghost use Rattle.verify80_bounds.specs.Sums.{AreStuck, AreFollowed};
+
+use crate::graph::CallSite;
+use crate::procedure::{Procedure, SLOTS, slot};
+use crate::sums::table;
+use std::alloc::{AllocError, Global};
+
+/// A table of one call of each procedure that has any.
+fn followed(alloc: Global, calls: &[CallSite], other: CallSite) -> Result<Vec<CallSite>, AllocError>
+    ensures followed { IfOk result (λ v. AreFollowed calls.now calls.now v.items) }
+    ensures places { IfOk result (λ v. length v.items ≡ 65537) }
+{
+    let mut next = table(alloc, other, SLOTS)?;
+    for call in calls {
+        let caller = slot(call.caller);
+        next[caller] = *call;
+    }
+    Ok(next)
+}
+
+/// The address of a call that leads back to its own procedure, if each callee of the calls has a call among them: one of
+/// each is followed, until a procedure is met twice.
+pub(crate) fn cycle(alloc: Global, calls: &[CallSite]) -> Result<u16, AllocError>
+    requires some { 0 < length calls.now }
+    requires stuck { AreStuck calls.now }
+    ensures { IfOk result (λ at. Cycles calls.now at) }
+{
+    let next = followed(alloc, calls, calls[0])?;
+    let mut met = table(alloc, false, SLOTS)?;
+    let mut call = next[slot(calls[0].caller)];
+    while !met[slot(call.caller)] {
+        let caller = slot(call.caller);
+        met[caller] = true;
+        call = next[slot(Procedure::Entry(call.target))];
+    }
+    Ok(call.at)
+}

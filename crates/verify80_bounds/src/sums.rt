@@ -1,0 +1,61 @@
+//! The greatest sums of bytes over chains of calls, while calls are absorbed into them.
+
+ghost use Rattle.std.specs.Prelude.{◌≡◌, All, IfOk, length};
+ghost use Rattle.verify80_bounds.specs.Chains.{IsModest};
+ghost use Rattle.verify80_bounds.specs.Sums.{IsRaised, IsSumAfter, AreDepths, AreSmall};
+
+use crate::graph::{CallSite, Depth};
+use crate::procedure::{Procedure, SLOTS, slot};
+use std::alloc::{AllocError, Global};
+
+/// A sum, or a number of bytes if that is greater.
+fn raise(sum: u64, bytes: i64) -> u64
+    ensures { IsRaised sum bytes result }
+{
+    if bytes > 0 && bytes as u64 > sum {
+        bytes as u64
+    } else {
+        sum
+    }
+}
+
+/// A table with the same value at each place.
+///
+/// # Errors
+/// `AllocError` only if memory runs out.
+pub fn table<T: Copy>(alloc: Global, value: T, places: usize) -> Result<Vec<T>, AllocError>
+    ensures places { IfOk result (λ v. length v.items ≡ places) }
+    ensures values { IfOk result (λ v. All (λ x. x ≡ value) v.items) }
+{
+    let mut table = Vec::with_capacity(alloc, places)?;
+    for _ in 0..places {
+        table.push(value)?;
+    }
+    Ok(table)
+}
+
+/// The greatest depth of each procedure, or 0.
+pub(crate) fn greatest_depths(alloc: Global, depths: &[Depth]) -> Result<Vec<u64>, AllocError>
+    requires { All (λ d. IsModest d.depth) depths.now }
+    ensures depths { IfOk result (λ v. AreDepths depths.now v.items) }
+    ensures slots { IfOk result (λ v. length v.items ≡ 65537) }
+{
+    let mut sums = table(alloc, 0, SLOTS)?;
+    for depth in depths {
+        let place = slot(depth.procedure);
+        sums[place] = raise(sums[place], depth.depth);
+    }
+    Ok(sums)
+}
+
+/// Absorbs a call: its caller's sum is at least what goes through the call.
+pub(crate) fn absorb(sums: &mut [u64], call: &CallSite)
+    requires slots { length sums.old ≡ 65537 }
+    requires modest { IsModest call.now.depth }
+    requires small { AreSmall sums.old 0 }
+    ensures { IsSumAfter sums.old call.now sums.new }
+{
+    let below = sums[slot(Procedure::Entry(call.target))];
+    let caller = slot(call.caller);
+    sums[caller] = raise(sums[caller], call.depth + 2 + below as i64);
+}

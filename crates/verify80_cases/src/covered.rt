@@ -1,0 +1,54 @@
+//! The bytes of the instructions that the program may come to.
+
+ghost use Rattle.std.specs.Prelude.{◌≡◌, ◌<◌, length, IfOk};
+ghost use Rattle.verify80_cases.specs.Covered.{is_covered, size_at};
+ghost use Rattle.verify80_cases.specs.Marks.{AreMarks};
+
+use decode80::{FetchFault, behind, fetch};
+use std::alloc::{AllocError, Global};
+use verify80::ImageCode;
+
+/// For each address whether it is in an instruction at a marked address.
+///
+/// # Errors
+/// `AllocError` only if memory runs out.
+pub fn find_covered(
+    alloc: Global,
+    code: &ImageCode<'_>,
+    reached: &[bool],
+) -> Result<Vec<bool>, AllocError>
+    requires { length reached.now ≡ 65536 }
+    ensures { IfOk result (λ marks. AreMarks (is_covered code.now reached.now) 65536 marks.items) }
+{
+    let mut marks = Vec::new(alloc);
+    for address in 0..65_536_u32 {
+        marks.push(is_covered(code, reached, address as u16))?;
+    }
+    Ok(marks)
+}
+
+/// How many bytes the instruction at a marked address has; 0 if the address isn't marked, or the code has no instruction there.
+#[tactic(auto, unfolding(crate::specs::Covered::size_at))]
+fn size_at(code: &ImageCode<'_>, reached: &[bool], at: u16) -> u16
+    requires { length reached.now ≡ 65536 }
+    ensures { result ≡ size_at code.now reached.now at }
+{
+    if !reached[usize::from(at)] {
+        return 0;
+    }
+    match fetch(at, code) {
+        Ok(found) => behind(found.next, at),
+        Err(FetchFault::Unused) => 1,
+        Err(FetchFault::Outside) => 0,
+    }
+}
+
+/// Whether an address is in an instruction at a marked address: one that begins there, or one or two addresses before it.
+fn is_covered(code: &ImageCode<'_>, reached: &[bool], address: u16) -> bool
+    requires { length reached.now ≡ 65536 }
+    ensures { result ≡ is_covered code.now reached.now address }
+{
+    size_at(code, reached, address) > 0
+        || (address >= 1 && size_at(code, reached, address - 1) > 1)
+        || (address >= 2 && size_at(code, reached, address - 2) > 2)
+}

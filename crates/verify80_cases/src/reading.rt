@@ -1,0 +1,180 @@
+//! The tables that are found on the way, and the targets that they have.
+
+ghost use Rattle.std.specs.Prelude.{◌≡◌, IfOk, IfSome, true};
+ghost use Rattle.verify80_cases.specs.Suggested.{is_target};
+
+use crate::chain::first_before;
+use crate::marks::{is_marked, mark};
+use crate::reach::Visited;
+use crate::table::{Run, Table, goal_at, run_of, stride};
+use crate::trail::Trail;
+use decode80::{Instr, ahead, fetch};
+use frames80_code::Code;
+use std::alloc::{AllocError, Global};
+use verify80::ImageCode;
+use verify80_bounds::table;
+
+/// How many addresses there are.
+const ADDRESSES: usize = 65_536;
+
+/// The tables that were found so far.
+#[derive(Drop)]
+pub(crate) struct Reader {
+    /// For each PCHL that isn't declared its table.
+    pub(crate) tables: Vec<Option<Table>>,
+    /// For each address whether it belongs to an instruction that was reached.
+    taken: Vec<bool>,
+    /// For each address whether a table there was begun.
+    begun: Vec<bool>,
+    /// How many of the addresses that were entered are known.
+    known: usize,
+    /// The rest of each table that isn't read to its end.
+    unfinished: Vec<Run>,
+}
+
+impl Reader {
+    /// No table is found.
+    pub(crate) fn new(alloc: Global) -> Result<Reader, AllocError> {
+        Ok(Reader {
+            tables: vec![in alloc; None; 65536]?,
+            taken: table(alloc, false, ADDRESSES)?,
+            begun: table(alloc, false, ADDRESSES)?,
+            known: 0,
+            unfinished: Vec::new(alloc),
+        })
+    }
+
+    /// The next target that a table has: of the table that was found last, since all that a target leads to is known before the next
+    /// one is read.
+    pub(crate) fn next_target(
+        &mut self,
+        code: &ImageCode<'_>,
+        visited: &Visited,
+    ) -> Result<Option<u16>, AllocError>
+        ensures { IfOk result (λ target. IfSome target (λ at. is_target code.now at ≡ true)) }
+    {
+        self.notice(code, visited)?;
+        // Each table is taken out for good in the end.
+        for _ in 0..u64::MAX {
+            let Some(rest) = self.unfinished.pop() else {
+                break;
+            };
+            if let Some(goal) = first_goal(code, visited, &self.taken, rest) {
+                if let Some(next) = behind_first(rest) {
+                    self.unfinished.push(next)?;
+                }
+                return Ok(Some(goal));
+            }
+        }
+        Ok(None)
+    }
+
+    /// Takes note of the addresses that were entered since.
+    fn notice(&mut self, code: &ImageCode<'_>, visited: &Visited) -> Result<(), AllocError> {
+        let from = self.known;
+        let to = visited.order.len();
+        for number in from..to {
+            self.take(code, visited.order[number]);
+        }
+        for number in from..to {
+            self.begin(code, visited, visited.order[number])?;
+        }
+        self.known = to;
+        Ok(())
+    }
+
+    /// Marks the bytes of the instruction at an address.
+    fn take(&mut self, code: &ImageCode<'_>, at: u16) {
+        let Ok(found) = fetch(at, code) else {
+            return;
+        };
+        for place in 0..3 {
+            let address = ahead(at, place);
+            if address == found.next {
+                return;
+            }
+            mark(&mut self.taken, address);
+        }
+    }
+
+    /// Notes the table of the PCHL at an address, if there is one that isn't declared and its table is seen, and begins to read it,
+    /// unless that was done before.
+    fn begin(
+        &mut self,
+        code: &ImageCode<'_>,
+        visited: &Visited,
+        at: u16,
+    ) -> Result<(), AllocError> {
+        let Some(table) = table_at(code, visited, at) else {
+            return Ok(());
+        };
+        if let Some(noted) = self.tables.get_mut(usize::from(at)) {
+            *noted = Some(table);
+        }
+        let Some(run) = run_of(code, table) else {
+            return Ok(());
+        };
+        if !is_marked(&self.begun, run.first) {
+            mark(&mut self.begun, run.first);
+            self.unfinished.push(run)?;
+        }
+        Ok(())
+    }
+}
+
+/// Where PCHL goes by the first entry of what is left of a table.
+fn first_goal(code: &ImageCode<'_>, visited: &Visited, taken: &[bool], rest: Run) -> Option<u16>
+    ensures { IfSome result (λ at. is_target code.now at ≡ true) }
+{
+    if rest.limit == 0 {
+        return None;
+    }
+    goal_at(
+        code,
+        &visited.marks,
+        taken,
+        rest.kind,
+        usize::from(rest.first),
+    )
+}
+
+/// What is left of a table behind its first entry: nothing past the end of memory.
+fn behind_first(rest: Run) -> Option<Run> {
+    let limit = rest.limit.checked_sub(1)?;
+    let first = usize::from(rest.first) + stride(rest.kind);
+    if first >= ADDRESSES {
+        return None;
+    }
+    Some(Run {
+        kind: rest.kind,
+        first: first as u16,
+        limit,
+    })
+}
+
+/// The table of the PCHL at an address, if there is one that isn't declared, and its table is seen.
+fn table_at(code: &ImageCode<'_>, visited: &Visited, at: u16) -> Option<Table> {
+    match fetch(at, code) {
+        Ok(found) if found.instr == Instr::Pchl && code.targets(at).is_empty() => {
+            trail_to(code, &visited.marks, at).table()
+        }
+        _ => None,
+    }
+}
+
+/// What the instructions before an address have left.
+fn trail_to(code: &ImageCode<'_>, reached: &[bool], at: u16) -> Trail {
+    let mut trail = Trail::unknown();
+    let mut place = first_before(code, reached, at);
+    for _ in 0..65_536_u32 {
+        let Ok(found) = fetch(place, code) else {
+            break;
+        };
+        if place == at {
+            break;
+        }
+        trail = trail.after(place, found.instr);
+        place = found.next;
+    }
+    trail
+}

@@ -1,0 +1,191 @@
+//! An image that is gone through, and what it suggests for a PCHL.
+
+ghost use Rattle.std.specs.Prelude.{◌≡◌, IfOk, IfSome, true};
+ghost use Rattle.verify80_cases.specs.Suggested.{IsExplored, IsNote, IsSearched, IsSuggestedCase, goes_on_behind, is_open};
+
+use crate::covered::find_covered;
+use crate::marks::is_marked;
+use crate::reach::Visited;
+use crate::reading::Reader;
+use crate::returning::{find_heights, has_return_address};
+use crate::table::{Table, address_of, goals_of, is_free, is_undeclared, run_of};
+use frames80_code::Code;
+use image80::{Case, Image};
+use std::alloc::{AllocError, Global};
+use std::marker::Model;
+use verify80::ImageCode;
+
+/// A case that a table suggests.
+#[derive(Drop)]
+pub struct SuggestedCase {
+    pub case: Case,
+    /// The address of the table.
+    pub table: u16,
+    /// The address behind its last entry, up to 65536.
+    pub end: u32,
+    /// Whether it may be longer: no code that is reached stands behind it, CODE goes on there, and no comparison bounds the index.
+    pub may_go_on: bool,
+}
+
+/// What there is to say of a PCHL that is reached and has no declared targets.
+#[derive(Clone, Copy, Debug, PartialEq, Eq)]
+pub enum Note {
+    /// Its table, at an address, is taken to end at another one, but nothing that is reached shows it.
+    MayEnd { table: u16, end: u32 },
+    /// No table is seen for the one at this address.
+    Tableless(u16),
+    /// The one at this address returns: HL has the return address of its procedure.
+    Returns(u16),
+}
+
+/// An image that was gone through, along each branch, behind each call whether it returns or not, from a PCHL to its declared targets,
+/// and to those that its table has.
+#[derive(Drop)]
+pub struct Search {
+    /// For each address whether it was reached.
+    reached: Vec<bool>,
+    /// For each address whether it is in an instruction that was reached.
+    taken: Vec<bool>,
+    /// For each PCHL that isn't declared its table.
+    tables: Vec<Option<Table>>,
+    /// For each address how many words a procedure has on the stack there.
+    heights: Vec<Option<i32>>,
+}
+
+impl Model for Search {
+    ghost use Rattle.verify80_cases.specs.Suggested.{Searched};
+
+    ghost Value = { Searched };
+
+    ghost view = { λ s. record { reached = s.reached.items; taken = s.taken.items } };
+}
+
+impl Search {
+    /// Goes through an image.
+    ///
+    /// # Errors
+    /// `AllocError` only if memory runs out.
+    pub fn of(alloc: Global, code: &ImageCode<'_>) -> Result<Search, AllocError>
+        ensures { IfOk result (λ search. IsSearched code.now search.reached search.taken) }
+    {
+        let (visited, reader) = explore_with_tables(alloc, code)?;
+        let taken = find_covered(alloc, code, &visited.marks)?;
+        let heights = find_heights(alloc, code, &visited.order)?;
+        Ok(Search {
+            reached: visited.marks,
+            taken,
+            tables: reader.tables,
+            heights,
+        })
+    }
+
+    /// Whether an address holds a PCHL that is reached and has no declared targets.
+    pub fn is_open(&self, image: &Image, code: &ImageCode<'_>, at: u16) -> bool
+        requires { code.now ≡ image.now }
+        ensures { result ≡ is_open image.now self.now.reached at }
+    {
+        is_marked(&self.reached, at) && is_undeclared(image, code, at)
+    }
+
+    /// The case of such a PCHL, if a table is seen for it.
+    ///
+    /// # Errors
+    /// `AllocError` only if memory runs out.
+    pub fn suggest(
+        &self,
+        alloc: Global,
+        image: &Image,
+        code: &ImageCode<'_>,
+        at: u16,
+    ) -> Result<Option<SuggestedCase>, AllocError>
+        requires seen { code.now ≡ image.now }
+        requires reached { is_open image.now self.now.reached at ≡ true }
+        ensures { IfOk result (λ found. IfSome found (λ found.
+            IsSuggestedCase image.now self.now.reached self.now.taken found × (found.case.at ≡ at))) }
+    {
+        let Some(table) = self.table(at) else {
+            return Ok(None);
+        };
+        case_of_table(alloc, image, code, &self.reached, &self.taken, at, table)
+    }
+
+    /// The table of the undeclared PCHL at an address, if one was seen.
+    fn table(&self, at: u16) -> Option<Table> {
+        *self.tables.get(usize::from(at))?
+    }
+
+    /// What there is to say of such a PCHL beside the case that is suggested for it.
+    pub fn note(&self, code: &ImageCode<'_>, at: u16, found: &Option<SuggestedCase>) -> Option<Note>
+        ensures { IsNote at found.now result }
+    {
+        match found {
+            Some(found) if found.may_go_on => Some(Note::MayEnd {
+                table: found.table,
+                end: found.end,
+            }),
+            Some(_) => None,
+            None if has_return_address(code, &self.reached, &self.heights, at) => Some(
+                Note::Returns(at),
+            ),
+            None => Some(Note::Tableless(at)),
+        }
+    }
+}
+
+/// A walk over an image, and the tables that are found on it and followed.
+fn explore_with_tables(alloc: Global, code: &ImageCode<'_>) -> Result<(Visited, Reader), AllocError>
+    ensures { IfOk result (λ found. IsExplored code.now found.0.marks.items found.0.order.items) }
+{
+    let mut reader = Reader::new(alloc)?;
+    let mut visited = Visited::new(alloc)?;
+    visited.explore(code, code.start())?;
+    // Each table has an end.
+    for _ in 0..u64::MAX {
+        let Some(target) = reader.next_target(code, &visited)? else {
+            break;
+        };
+        visited.explore(code, target)?;
+    }
+    Ok((visited, reader))
+}
+
+/// The case of a PCHL that goes by a table; `None` if the table has no entry.
+fn case_of_table(
+    alloc: Global,
+    image: &Image,
+    code: &ImageCode<'_>,
+    reached: &[bool],
+    taken: &[bool],
+    at: u16,
+    table: Table,
+) -> Result<Option<SuggestedCase>, AllocError>
+    requires seen { code.now ≡ image.now }
+    requires reached { is_open image.now reached.now at ≡ true }
+    ensures { IfOk result (λ found. IfSome found (λ found.
+        IsSuggestedCase image.now reached.now taken.now found × (found.case.at ≡ at))) }
+{
+    let Some(run) = run_of(code, table) else {
+        return Ok(None);
+    };
+    let mut targets = goals_of(alloc, code, reached, taken, run)?;
+    let count = targets.len();
+    if count == 0 {
+        return Ok(None);
+    }
+    targets.sort_unstable();
+    targets.dedup();
+    let end = address_of(run.kind, run.first, count);
+    Ok(Some(SuggestedCase {
+        case: Case { at, targets },
+        table: run.first,
+        end: end as u32,
+        may_go_on: count < run.limit && goes_on_behind(code, taken, end),
+    }))
+}
+
+/// Whether CODE goes on at an address with a byte that belongs to nothing that is reached, and with one behind it.
+fn goes_on_behind(code: &ImageCode<'_>, taken: &[bool], end: usize) -> bool
+    ensures { result ≡ goes_on_behind code.now taken.now end }
+{
+    end < 65_535 && is_free(code, taken, end as u16) && is_free(code, taken, (end + 1) as u16)
+}

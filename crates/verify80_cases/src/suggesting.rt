@@ -1,0 +1,83 @@
+//! The cases that an image suggests.
+
+ghost use Rattle.std.specs.Prelude.{◌≡◌, IfOk};
+ghost use Rattle.verify80_cases.specs.Suggested.{AreSuggested};
+
+use crate::search::{Note, Search};
+use image80::{Case, Image};
+use std::alloc::{AllocError, Global};
+use verify80::ImageCode;
+
+/// The cases that the tables of an image suggest, and the PCHLs for which no table is seen, both by address; and what there is to say
+/// of either, in the order of the PCHLs.
+#[derive(Drop)]
+pub struct Suggestions {
+    pub cases: Vec<Case>,
+    pub tableless: Vec<u16>,
+    pub notes: Vec<Note>,
+}
+
+/// For each PCHL that no case names and that the program may reach, the case that its table suggests. The table's address is that of an
+/// LXI. It is a table of words if a word is loaded through HL to which the pair was added, and exchanged: its words are those from there
+/// on, as long as both bytes are code and belong to no instruction that is reached, and an instruction in the code begins at the word.
+/// It is a table of JMPs if the PCHL goes to the address to which the pair was added, and these are its targets. A comparison with a
+/// number of entries ends it too.
+///
+/// What is reached follows each branch, goes on behind each CALL whether it returns or not, and goes to the suggested targets: more than
+/// the verifier's walks do. Nothing rests on it, for a run that jumps elsewhere ends there.
+///
+/// # Errors
+/// `AllocError` only if memory runs out.
+pub fn suggest_cases(alloc: Global, image: &Image) -> Result<Suggestions, AllocError>
+    ensures { IfOk result (λ found. AreSuggested image.now found.cases.items found.tableless.items) }
+{
+    let code = ImageCode::new(alloc, image)?;
+    let search = Search::of(alloc, &code)?;
+    let mut found = Suggestions {
+        cases: Vec::new(alloc),
+        tableless: Vec::new(alloc),
+        notes: Vec::new(alloc),
+    };
+    for address in 0..65_536_u32 {
+        found.add(alloc, image, &code, &search, address as u16)?;
+    }
+    Ok(found)
+}
+
+impl Suggestions {
+    ghost use Rattle.std.specs.Prelude.{◌+◌, OnOk};
+    ghost use Rattle.verify80_cases.specs.Suggested.{AreSuggestedBelow};
+
+    /// Appends what a PCHL suggests whose address is above those of the others, if there is one at an address.
+    fn add(
+        &mut self,
+        alloc: Global,
+        image: &Image,
+        code: &ImageCode<'_>,
+        search: &Search,
+        at: u16,
+    ) -> Result<(), AllocError>
+        requires seen { code.now ≡ image.now }
+        requires before { AreSuggestedBelow image.now search.now.reached search.now.taken at self.old.cases.items self.old.tableless.items }
+        ensures { OnOk result (AreSuggestedBelow image.now search.now.reached search.now.taken (at + 1) self.new.cases.items self.new.tableless.items) }
+    {
+        if !search.is_open(image, code, at) {
+            return Ok(());
+        }
+        let suggested = search.suggest(alloc, image, code, at)?;
+        push_given(&mut self.notes, search.note(code, at, &suggested))?;
+        match suggested {
+            Some(found) => self.cases.push(found.case)?,
+            None => self.tableless.push(at)?,
+        }
+        Ok(())
+    }
+}
+
+/// Appends a note, if there is one.
+fn push_given(notes: &mut Vec<Note>, note: Option<Note>) -> Result<(), AllocError> {
+    if let Some(note) = note {
+        notes.push(note)?;
+    }
+    Ok(())
+}

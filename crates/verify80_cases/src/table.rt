@@ -1,0 +1,226 @@
+//! The entries of a table.
+
+ghost use Rattle.std.specs.Prelude.{◌≡◌, ◌+◌, ◌*◌, ◌<◌, ◌≤◌, ◌&&◌, Some, None, All, IfOk, IfSome, length, if◌then◌else◌};
+ghost use Rattle.verify80_cases.specs.Suggested.{AreEntries, IsBegun, IsLimit, compared_byte, goal_of, is_entry, is_free, is_jump, is_target, is_undeclared, is_word, loaded_word, stride, word_in};
+ghost use Rattle.verify80.specs.LookLaws.{fetch_at};
+ghost use Rattle.image80.specs.Image.{memory_of};
+
+use crate::marks::is_marked;
+use decode80::{Instr, Operand, Operation, Program, fetch};
+use image80::Image;
+use std::alloc::{AllocError, Global};
+use verify80::ImageCode;
+
+/// The opcode of JMP.
+const JMP: u8 = 0xC3;
+/// The opcode of PCHL.
+const PCHL: u8 = 0xE9;
+/// More entries than a table can have.
+const NO_LIMIT: usize = 65_536;
+
+/// What a table consists of.
+#[derive(Clone, Copy, Debug, PartialEq, Eq)]
+pub enum TableKind {
+    /// The words that PCHL goes to, low byte first.
+    Words,
+    /// JMPs that PCHL goes to.
+    Jumps,
+}
+
+/// A table by which a PCHL goes.
+#[derive(Clone, Copy)]
+pub(crate) struct Table {
+    /// The LXI that has its address.
+    pub(crate) lxi: u16,
+    pub(crate) kind: TableKind,
+    /// The CPI that bounds its index.
+    pub(crate) comparison: Option<u16>,
+}
+
+/// The address of a table's first entry, and how many entries it has at most, if they don't end before.
+#[derive(Clone, Copy)]
+pub(crate) struct Run {
+    pub(crate) kind: TableKind,
+    pub(crate) first: u16,
+    pub(crate) limit: usize,
+}
+
+/// Whether an address holds a PCHL in the code for which no targets are declared.
+pub(crate) fn is_undeclared(image: &Image, code: &ImageCode<'_>, at: u16) -> bool
+    requires { code.now ≡ image.now }
+    ensures { result ≡ is_undeclared image.now at }
+{
+    code.is_code(at) && code.byte(at) == PCHL && image.regions.targets(at).is_none()
+}
+
+/// The word that the LXI at an address loads.
+fn loaded_word(code: &ImageCode<'_>, at: u16) -> Option<u16>
+    ensures { result ≡ loaded_word (fetch_at code.now.regions (memory_of code.now.chunks) at) }
+{
+    match fetch(at, code) {
+        Ok(found) => match found.instr {
+            Instr::Lxi(_, word) => Some(word),
+            _ => None,
+        },
+        Err(_) => None,
+    }
+}
+
+/// The byte that the CPI at an address compares A with.
+fn compared_byte(code: &ImageCode<'_>, at: u16) -> Option<u8>
+    ensures { result ≡ compared_byte (fetch_at code.now.regions (memory_of code.now.chunks) at) }
+{
+    match fetch(at, code) {
+        Ok(found) => match found.instr {
+            Instr::Operate(Operation::Compare, Operand::Immediate(byte)) => Some(byte),
+            _ => None,
+        },
+        Err(_) => None,
+    }
+}
+
+/// How many entries a table has at most: as many as the byte of a CPI.
+fn limit_of(code: &ImageCode<'_>, comparison: Option<u16>) -> usize
+    ensures is { IsLimit code.now result }
+    ensures small { result ≤ 65536 }
+{
+    let Some(at) = comparison else {
+        return NO_LIMIT;
+    };
+    match compared_byte(code, at) {
+        Some(byte) => usize::from(byte),
+        None => NO_LIMIT,
+    }
+}
+
+/// The entries of a table, if its address is that of an LXI.
+pub(crate) fn run_of(code: &ImageCode<'_>, table: Table) -> Option<Run>
+    ensures begun { IfSome result (λ run. IsBegun code.now run.first run.limit) }
+    ensures small { IfSome result (λ run. run.limit ≤ 65536) }
+{
+    let first = loaded_word(code, table.lxi)?;
+    Some(Run {
+        kind: table.kind,
+        first,
+        limit: limit_of(code, table.comparison),
+    })
+}
+
+/// The address of an entry of a table.
+pub(crate) fn address_of(kind: TableKind, first: u16, number: usize) -> usize
+    requires { number ≤ 65536 }
+    ensures is { result ≡ first + stride kind * number }
+    ensures small { result ≤ 262143 }
+{
+    match kind {
+        TableKind::Words => usize::from(first) + 2 * number,
+        TableKind::Jumps => usize::from(first) + 3 * number,
+    }
+}
+
+/// The bytes of an entry.
+pub(crate) fn stride(kind: TableKind) -> usize
+    ensures { result ≡ stride kind }
+{
+    match kind {
+        TableKind::Words => 2,
+        TableKind::Jumps => 3,
+    }
+}
+
+/// Whether an address is code, and isn't marked as taken.
+pub(crate) fn is_free(code: &ImageCode<'_>, taken: &[bool], address: u16) -> bool
+    ensures { result ≡ is_free code.now taken.now address }
+{
+    code.is_code(address) && !is_marked(taken, address)
+}
+
+/// Whether an instruction stands at an address, all in the code.
+fn is_target(code: &ImageCode<'_>, address: u16) -> bool
+    ensures { result ≡ is_target code.now address }
+{
+    code.is_code(address) && fetch(address, code).is_ok()
+}
+
+/// The word at an address.
+fn word_at(code: &ImageCode<'_>, address: u16) -> u16
+    requires { address + 2 ≤ 65536 }
+    ensures { result ≡ word_in (memory_of code.now.chunks) address }
+{
+    u16::from_le_bytes([code.byte(address), code.byte(address + 1)])
+}
+
+/// Where PCHL goes by an entry at an address, if a table may have one there.
+pub(crate) fn goal_at(
+    code: &ImageCode<'_>,
+    reached: &[bool],
+    taken: &[bool],
+    kind: TableKind,
+    address: usize,
+) -> Option<u16>
+    ensures { result ≡ (if is_entry kind code.now reached.now taken.now address then Some (goal_of kind (memory_of code.now.chunks) address) else None) }
+{
+    if address > 65_535 {
+        return None;
+    }
+    let at = address as u16;
+    match kind {
+        TableKind::Words if is_word(code, taken, at) => Some(word_at(code, at)),
+        TableKind::Jumps if is_jump(code, reached, taken, at) => Some(at),
+        _ => None,
+    }
+}
+
+/// Whether a table may have a word at an address: its two bytes are free, and an instruction stands at the address that it is.
+fn is_word(code: &ImageCode<'_>, taken: &[bool], address: u16) -> bool
+    ensures { result ≡ is_word code.now taken.now address }
+{
+    address <= 65_534
+        && is_free(code, taken, address)
+        && is_free(code, taken, address + 1)
+        && is_target(code, word_at(code, address))
+}
+
+/// Whether a table may have a JMP at an address: it stands there all in the code, and is reached or its three bytes are free.
+fn is_jump(code: &ImageCode<'_>, reached: &[bool], taken: &[bool], address: u16) -> bool
+    ensures { result ≡ is_jump code.now reached.now taken.now address }
+{
+    address <= 65_533
+        && code.byte(address) == JMP
+        && is_target(code, address)
+        && (is_marked(reached, address) || are_free(code, taken, address))
+}
+
+/// Whether the three bytes from an address on are code, and none is marked as taken.
+fn are_free(code: &ImageCode<'_>, taken: &[bool], address: u16) -> bool
+    requires inside { address + 3 ≤ 65536 }
+    ensures { result ≡ (is_free code.now taken.now address && (is_free code.now taken.now (address + 1) && is_free code.now taken.now (address + 2))) }
+{
+    is_free(code, taken, address)
+        && is_free(code, taken, address + 1)
+        && is_free(code, taken, address + 2)
+}
+
+/// Where PCHL goes by the entries of a table from an address on, up to a limit.
+pub(crate) fn goals_of(
+    alloc: Global,
+    code: &ImageCode<'_>,
+    reached: &[bool],
+    taken: &[bool],
+    table: Run,
+) -> Result<Vec<u16>, AllocError>
+    requires { table.limit ≤ 65536 }
+    ensures entries { IfOk result (λ goals. AreEntries code.now reached.now taken.now table.kind table.first table.limit goals.items) }
+    ensures few { IfOk result (λ goals. length goals.items ≤ table.limit) }
+    ensures words { IfOk result (λ goals. All (λ goal. goal < 65536) goals.items) }
+{
+    let mut goals = Vec::new(alloc);
+    for number in 0..table.limit {
+        let address = address_of(table.kind, table.first, number);
+        let Some(goal) = goal_at(code, reached, taken, table.kind, address) else {
+            return Ok(goals);
+        };
+        goals.push(goal)?;
+    }
+    Ok(goals)
+}

@@ -1,0 +1,28 @@
+-- What is known of a program that is measured, and of one that is accepted. (This project's own.)
+use Rattle.std.specs.Prelude.{◌≢◌, ◌≤◌, ℕ, List}
+use Rattle.verify80_bounds.specs.declared.procedure.Procedure.TheVariants.{Main}
+use Rattle.verify80_flow.specs.declared.refusal.Refusal.{Refusal}
+use Rattle.verify80_flow.specs.declared.refusal.Refusal.TheVariants.{Memory}
+use Rattle.verify80_flow.specs.declared.report.ProcRow.{ProcRow}
+use Rattle.frames80_code.specs.Code.{Code}
+use Rattle.verify80_flow.specs.Use.{IsBound}
+use Rattle.verify80_flow.specs.Faults.{Holds, HoldsAnyway}
+use Rattle.verify80_flow.specs.Fitting.{IsFitted}
+use Rattle.verify80_flow.specs.Rows.{AreRows}
+
+-- a table of frames fits the program with so many bytes of stack, which are the most that a chain of its calls uses; the rows are
+-- those of its procedures; and no refusal holds of it, but that the stack may be too small
+pub record IsMeasured (code : Code) (listed : List ProcRow) (bytes : ℕ) : Type 0 where
+  pub fitted : IsFitted code bytes
+  pub bound : IsBound code Main bytes
+  pub rows : AreRows code listed
+  pub none_holds : (refusal : Refusal) → refusal ≢ Memory → HoldsAnyway code refusal → ⊥
+
+-- a table of frames fits the program with so many bytes of stack, which are the most that a chain of its calls uses and no more
+-- than there are; the rows are those of its procedures; and no refusal holds of it
+pub record IsAccepted (code : Code) (listed : List ProcRow) (bytes : ℕ) : Type 0 where
+  pub fitted : IsFitted code bytes
+  pub bound : IsBound code Main bytes
+  pub within : bytes ≤ code.stack
+  pub rows : AreRows code listed
+  pub none_holds : (refusal : Refusal) → refusal ≢ Memory → Holds code refusal → ⊥

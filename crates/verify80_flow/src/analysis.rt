@@ -1,0 +1,158 @@
+//! The whole analysis of a program.
+
+ghost use Rattle.std.specs.Prelude.{◌≡◌, IfOk, IfErr, IfSome};
+ghost use Rattle.verify80_flow.specs.Accepted.{IsAccepted, IsMeasured};
+ghost use Rattle.verify80_flow.specs.Faults.{Holds, HoldsAnyway};
+ghost use Rattle.verify80_flow.specs.Known.{IsFilled, Refused, is_exact, nothing_known};
+
+use crate::fill::fill;
+use crate::laws::frame_laws;
+use crate::refusal::Refusal;
+use crate::report::Report;
+use crate::rows::list_rows;
+use crate::stack::bound_stack;
+use crate::table::Table;
+use crate::walks::go_along;
+use crate::wants::find_wants;
+use frames80_code::Code;
+use std::alloc::Global;
+use verify80_bounds::Procedure;
+use verify80_origins::{AskedPlaces, find_steps};
+
+/// How many visits a program gets at first, beside those for each of its points.
+const FIRST_VISITS: u64 = 20_000;
+
+/// Goes over every walk of every procedure of a program, and reports on its procedures and its stack. A program of which a
+/// refusal holds isn't accepted, and one of which none holds is refused only if memory runs out.
+///
+/// # Errors
+/// A refusal that holds, or `Memory`.
+pub fn analyze<C: Code>(alloc: Global, program: &C) -> Result<Report, Refusal>
+    ensures accepted { IfOk result (λ r. IsAccepted (C.code program.now) r.procedures.items r.stack_bytes) }
+    ensures refused { IfErr result (Holds (C.code program.now)) }
+{
+    let report = measure(alloc, program)?;
+    let stack = program.stack();
+    if report.stack_bytes > u64::from(stack) {
+        return Err(Refusal::StackTooSmall(report.stack_bytes, stack));
+    }
+    Ok(report)
+}
+
+/// Goes over a program as [`analyze`] does, and reports on it however small its stack is: on one too that is refused for nothing
+/// but that.
+///
+/// # Errors
+/// A refusal that holds, but never `StackTooSmall`; or `Memory`.
+pub fn measure<C: Code>(alloc: Global, program: &C) -> Result<Report, Refusal>
+    ensures measured { IfOk result (λ r. IsMeasured (C.code program.now) r.procedures.items r.stack_bytes) }
+    ensures refused { IfErr result (HoldsAnyway (C.code program.now)) }
+{
+    if let Some(report) = measure_soon(alloc, program)? {
+        return Ok(report);
+    }
+    if let Some(report) = measure_asked(alloc, program)? {
+        return Ok(report);
+    }
+    refuse_return(alloc, program)?;
+    measure_whole(alloc, program)
+}
+
+/// Measures a program if a few visits of each point are enough.
+fn measure_soon<C: Code>(alloc: Global, program: &C) -> Result<Option<Report>, Refusal>
+    ensures measured { IfOk result (λ r. IfSome r (λ r. IsMeasured (C.code program.now) r.procedures.items r.stack_bytes)) }
+    ensures refused { IfErr result (HoldsAnyway (C.code program.now)) }
+{
+    let mut table = Table::new(alloc, program, None, FIRST_VISITS)?;
+    fill_and_report(alloc, program, &mut table)
+}
+
+/// Measures a program by frames that have forgotten what no return asks for. It is unanswered if a return has another word, which may
+/// be for what was forgotten.
+fn measure_asked<C: Code>(alloc: Global, program: &C) -> Result<Option<Report>, Refusal>
+    ensures measured { IfOk result (λ r. IfSome r (λ r. IsMeasured (C.code program.now) r.procedures.items r.stack_bytes)) }
+    ensures refused { IfErr result (HoldsAnyway (C.code program.now)) }
+{
+    let asked = AskedPlaces::find(alloc, program)?;
+    let mut table = Table::new(alloc, program, Some(asked), u64::MAX)?;
+    fill_asked_and_report(alloc, program, &mut table)
+}
+
+/// Fills an empty table for a program and reports on it, unless a return has another word.
+fn fill_asked_and_report<C: Code>(
+    alloc: Global,
+    program: &C,
+    table: &mut Table,
+) -> Result<Option<Report>, Refusal>
+    requires { table.old.known ≡ nothing_known table.old.known.forgets }
+    ensures measured { IfOk result (λ r. IfSome r (λ r. IsMeasured (C.code program.now) r.procedures.items r.stack_bytes)) }
+    ensures refused { IfErr result (HoldsAnyway (C.code program.now)) }
+{
+    match fill_and_report(alloc, program, table) {
+        Ok(report) => Ok(report),
+        Err(refusal) if refusal.rests_on_a_word() => Ok(None),
+        Err(refusal) => Err(refusal),
+    }
+}
+
+/// Refuses a program if a walk is found to a return with another word than the return address.
+fn refuse_return<C: Code>(alloc: Global, program: &C) -> Result<(), Refusal>
+    ensures refused { IfErr result (HoldsAnyway (C.code program.now)) }
+{
+    let steps = find_steps(alloc, program)?;
+    go_along(alloc, program, &steps)
+}
+
+/// Measures a program, however many visits it takes.
+fn measure_whole<C: Code>(alloc: Global, program: &C) -> Result<Report, Refusal>
+    ensures measured { IfOk result (λ r. IsMeasured (C.code program.now) r.procedures.items r.stack_bytes) }
+    ensures refused { IfErr result (HoldsAnyway (C.code program.now)) }
+{
+    let mut table = Table::new(alloc, program, None, u64::MAX)?;
+    fill_whole_and_report(alloc, program, &mut table)
+}
+
+/// Fills an empty table for a program and reports on it.
+fn fill_whole_and_report<C: Code>(
+    alloc: Global,
+    program: &C,
+    table: &mut Table,
+) -> Result<Report, Refusal>
+    requires { table.old.known ≡ nothing_known table.old.known.forgets }
+    ensures measured { IfOk result (λ r. IsMeasured (C.code program.now) r.procedures.items r.stack_bytes) }
+    ensures refused { IfErr result (Refused (is_exact table.old.known.forgets) (C.code program.now)) }
+{
+    fill(program, table, false)?;
+    report_on(alloc, program, table)
+}
+
+/// Fills an empty table for a program and reports on it, unless it is spent before.
+fn fill_and_report<C: Code>(
+    alloc: Global,
+    program: &C,
+    table: &mut Table,
+) -> Result<Option<Report>, Refusal>
+    requires { table.old.known ≡ nothing_known table.old.known.forgets }
+    ensures measured { IfOk result (λ r. IfSome r (λ r. IsMeasured (C.code program.now) r.procedures.items r.stack_bytes)) }
+    ensures refused { IfErr result (Refused (is_exact table.old.known.forgets) (C.code program.now)) }
+{
+    if !fill(program, table, true)? {
+        return Ok(None);
+    }
+    Ok(Some(report_on(alloc, program, table)?))
+}
+
+/// Reports on a program whose table is filled.
+fn report_on<C: Code>(alloc: Global, program: &C, table: &Table) -> Result<Report, Refusal>
+    requires { IsFilled (C.code program.now) table.now.known }
+    ensures measured { IfOk result (λ r. IsMeasured (C.code program.now) r.procedures.items r.stack_bytes) }
+    ensures refused { IfErr result (Refused (is_exact table.now.known.forgets) (C.code program.now)) }
+{
+    frame_laws();
+    let wants = find_wants(alloc, table)?;
+    let bounds = bound_stack(alloc, program, table, &wants)?;
+    Ok(Report {
+        procedures: list_rows(alloc, table, &wants, &bounds)?,
+        stack_bytes: bounds.get(Procedure::Main),
+    })
+}

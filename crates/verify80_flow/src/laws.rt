@@ -1,0 +1,15 @@
+//! The laws of frames, in one place.
+
+ghost use Rattle.verify80_flow.specs.Shown.{FrameLaws};
+
+use frames80::{counts_decide, covered_goes_along, places_move};
+
+/// What holds of all frames. (The functions that carry the laws have no code.)
+#[inline]
+pub(crate) fn frame_laws()
+    ensures { FrameLaws }
+{
+    places_move();
+    counts_decide();
+    covered_goes_along();
+}

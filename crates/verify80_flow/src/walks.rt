@@ -1,0 +1,349 @@
+//! Walks that are gone step by step, with the very frame that each has at each point: no frames are merged.
+//!
+//! The steps are taken from a list that may be wrong in any way. A step that isn't there isn't taken, so each point that is noted
+//! is one to which a walk comes.
+
+ghost use Rattle.std.specs.Prelude.{◌≡◌, ◌++◌, ◌∷◌, [], true, Some, OnOk, IfOk, IfErr, IfSome};
+ghost use Rattle.frames80.specs.StackFrame.{StackFrame};
+ghost use Rattle.frames80.specs.Moves.{changed};
+ghost use Rattle.frames80_interned.specs.Admitted.{move_of};
+ghost use Rattle.frames80_interned.specs.Frames.{StayNumbered};
+ghost use Rattle.frames80_code.specs.Code.{Code as CodeSeen, role_of};
+ghost use Rattle.verify80_flow.specs.Faults.{HoldsAnyway};
+ghost use Rattle.frames80.specs.Effects.{change_of};
+ghost use Rattle.verify80_flow.specs.Walked.{AreWalked, IsCallee, IsMovingFrom, IsWalked};
+ghost use Rattle.verify80_flow.specs.Walks.{LeadsTo, called, returning};
+
+use crate::refusal::Refusal;
+use crate::survey::target_of;
+use frames80::{CallFault, Effect, FrameFault, effect_of};
+use frames80_code::{Code, role_of};
+use frames80_interned::{FrameId, Frames, MeetFault};
+use std::alloc::{AllocError, Global};
+use verify80_bounds::Procedure;
+use verify80_origins::Step;
+
+/// The most words that a frame has taken that is followed.
+const MOST_TAKEN: u32 = 1_000_000;
+
+/// A point to which a walk comes, its frame by number.
+#[derive(Clone, Copy)]
+pub(crate) struct WalkedPoint {
+    procedure: Procedure,
+    at: u16,
+    frame: FrameId,
+}
+
+/// The points to which the steps so far have come, and their frames.
+#[derive(Drop)]
+pub(crate) struct Walks {
+    frames: Frames,
+    points: Vec<WalkedPoint>,
+}
+
+/// Goes over steps until one can't be taken, or a refusal is seen to hold.
+///
+/// # Errors
+/// `ReturnNotOwn` or `HeightsDiffer`, if it holds; or `Memory`.
+pub(crate) fn go_along<C: Code>(alloc: Global, program: &C, steps: &[Step]) -> Result<(), Refusal>
+    ensures { IfErr result (HoldsAnyway (C.code program.now)) }
+{
+    let mut walks = Walks {
+        frames: Frames::new(alloc),
+        points: Vec::new(alloc),
+    };
+    for step in steps {
+        if !walks.take(program, *step)? {
+            break;
+        }
+    }
+    Ok(())
+}
+
+impl Walks {
+    /// Takes a step, and gives whether it is there.
+    ///
+    /// # Errors
+    /// `ReturnNotOwn` or `HeightsDiffer`, if it holds; or `Memory`.
+    fn take<C: Code>(&mut self, program: &C, step: Step) -> Result<bool, Refusal>
+        requires { AreWalked (C.code program.now) self.old }
+        ensures walked { OnOk result (AreWalked (C.code program.now) self.new) }
+        ensures refused { IfErr result (HoldsAnyway (C.code program.now)) }
+    {
+        match self.next(program, step)? {
+            Some(point) => {
+                self.add(point)?;
+                Ok(true)
+            }
+            None => Ok(false),
+        }
+    }
+
+    /// The point to which a step leads, if the step is there.
+    ///
+    /// # Errors
+    /// `ReturnNotOwn` or `HeightsDiffer`, if it holds; or `Memory`.
+    fn next<C: Code>(&mut self, program: &C, step: Step) -> Result<Option<WalkedPoint>, Refusal>
+        requires { AreWalked (C.code program.now) self.old }
+        ensures walked { OnOk result (AreWalked (C.code program.now) self.new) }
+        ensures next { IfOk result (λ next. IfSome next (IsWalked (C.code program.now) self.new.frames)) }
+        ensures refused { IfErr result (HoldsAnyway (C.code program.now)) }
+    {
+        match step {
+            Step::Begins => self.begin(program),
+            Step::GoesOn(from, to) => match self.point(from) {
+                Some(from) => self.go_on(program, &from, to),
+                None => Ok(None),
+            },
+            Step::Enters(call) => match self.point(call) {
+                Some(call) => self.enter(program, &call),
+                None => Ok(None),
+            },
+            Step::ComesBack(call, exit) => match (self.point(call), self.point(exit)) {
+                (Some(call), Some(exit)) => self.come_back(program, &call, &exit),
+                _ => Ok(None),
+            },
+            Step::Differs(one, other) => match (self.point(one), self.point(other)) {
+                (Some(one), Some(other)) => self.differ(program, &one, &other),
+                _ => Ok(None),
+            },
+        }
+    }
+
+    /// Notes a point.
+    ///
+    /// # Errors
+    /// `AllocError` if memory runs out.
+    fn add(&mut self, point: WalkedPoint) -> Result<(), AllocError>
+        ensures points { OnOk result (self.new.points.items ≡ self.old.points.items ++ point ∷ []) }
+        ensures frames { self.new.frames ≡ self.old.frames }
+    {
+        self.points.push(point)?;
+        Ok(())
+    }
+
+    /// The point to which a step came, if there are so many.
+    fn point(&self, step: u32) -> Option<WalkedPoint>
+        ensures { IfSome result (λ point. (code : CodeSeen) → AreWalked code self.now → IsWalked code self.now.frames point) }
+    {
+        let number = step as usize;
+        if number >= self.points.len() {
+            return None;
+        }
+        Some(self.points[number])
+    }
+
+    /// The main program begins.
+    ///
+    /// # Errors
+    /// `Memory`.
+    fn begin<C: Code>(&mut self, program: &C) -> Result<Option<WalkedPoint>, Refusal>
+        requires { AreWalked (C.code program.now) self.old }
+        ensures walked { OnOk result (AreWalked (C.code program.now) self.new) }
+        ensures next { IfOk result (λ next. IfSome next (IsWalked (C.code program.now) self.new.frames)) }
+        ensures refused { IfErr result (HoldsAnyway (C.code program.now)) }
+    {
+        let frame = self.frames.main_entry()?;
+        Ok(Some(WalkedPoint {
+            procedure: Procedure::Main,
+            at: program.start(),
+            frame,
+        }))
+    }
+
+    /// The instruction of a point leads on to an address.
+    ///
+    /// # Errors
+    /// `ReturnNotOwn`, if it holds; or `Memory`.
+    fn go_on<C: Code>(
+        &mut self,
+        program: &C,
+        from: &WalkedPoint,
+        to: u16,
+    ) -> Result<Option<WalkedPoint>, Refusal>
+        requires walked { AreWalked (C.code program.now) self.old }
+        requires from { IsWalked (C.code program.now) self.old.frames from.now }
+        ensures walked { OnOk result (AreWalked (C.code program.now) self.new) }
+        ensures next { IfOk result (λ next. IfSome next (IsWalked (C.code program.now) self.new.frames)) }
+        ensures refused { IfErr result (HoldsAnyway (C.code program.now)) }
+    {
+        let Some((effect, next)) = look_at(program, &self.frames, from)? else {
+            return Ok(None);
+        };
+        if !leads_to(effect, program.targets(from.at), next, to) {
+            return Ok(None);
+        }
+        if self.frames.taken(from.frame) > MOST_TAKEN {
+            return Ok(None);
+        }
+        let frame = self.frames.change(from.frame, effect.change())?;
+        Ok(Some(WalkedPoint {
+            procedure: from.procedure,
+            at: to,
+            frame,
+        }))
+    }
+
+    /// The instruction of a point calls a procedure.
+    ///
+    /// # Errors
+    /// `ReturnNotOwn`, if it holds; or `Memory`.
+    fn enter<C: Code>(
+        &mut self,
+        program: &C,
+        call: &WalkedPoint,
+    ) -> Result<Option<WalkedPoint>, Refusal>
+        requires walked { AreWalked (C.code program.now) self.old }
+        requires call { IsWalked (C.code program.now) self.old.frames call.now }
+        ensures walked { OnOk result (AreWalked (C.code program.now) self.new) }
+        ensures next { IfOk result (λ next. IfSome next (IsWalked (C.code program.now) self.new.frames)) }
+        ensures refused { IfErr result (HoldsAnyway (C.code program.now)) }
+    {
+        let Some((effect, _)) = look_at(program, &self.frames, call)? else {
+            return Ok(None);
+        };
+        let Some(target) = target_of(effect) else {
+            return Ok(None);
+        };
+        let frame = self.frames.entry()?;
+        Ok(Some(WalkedPoint {
+            procedure: Procedure::Entry(target),
+            at: target,
+            frame,
+        }))
+    }
+
+    /// The instruction of a point calls a procedure, which returns from another point.
+    ///
+    /// # Errors
+    /// `ReturnNotOwn`, if it holds; or `Memory`.
+    fn come_back<C: Code>(
+        &mut self,
+        program: &C,
+        call: &WalkedPoint,
+        exit: &WalkedPoint,
+    ) -> Result<Option<WalkedPoint>, Refusal>
+        requires walked { AreWalked (C.code program.now) self.old }
+        requires call { IsWalked (C.code program.now) self.old.frames call.now }
+        requires exit { IsWalked (C.code program.now) self.old.frames exit.now }
+        ensures walked { OnOk result (AreWalked (C.code program.now) self.new) }
+        ensures next { IfOk result (λ next. IfSome next (IsWalked (C.code program.now) self.new.frames)) }
+        ensures refused { IfErr result (HoldsAnyway (C.code program.now)) }
+    {
+        let Some((effect, next)) = look_at(program, &self.frames, call)? else {
+            return Ok(None);
+        };
+        let Some((leaving, _)) = look_at(program, &self.frames, exit)? else {
+            return Ok(None);
+        };
+        if !is_return(leaving) || !is_of_callee(exit.procedure, effect) {
+            return Ok(None);
+        }
+        let taken = self.frames.taken(exit.frame);
+        let role = role_of(program, call.procedure);
+        match self.frames.after(call.frame, role, taken) {
+            Ok(frame) => Ok(Some(WalkedPoint {
+                procedure: call.procedure,
+                at: next,
+                frame,
+            })),
+            Err(CallFault::ShortArguments) => Ok(None),
+            Err(CallFault::Memory) => Err(Refusal::Memory),
+        }
+    }
+
+    /// Refuses the program if two walks come to one point with different counts.
+    ///
+    /// # Errors
+    /// `HeightsDiffer`, if it holds; or `Memory`.
+    fn differ<C: Code>(
+        &mut self,
+        program: &C,
+        one: &WalkedPoint,
+        other: &WalkedPoint,
+    ) -> Result<Option<WalkedPoint>, Refusal>
+        requires walked { AreWalked (C.code program.now) self.old }
+        requires one { IsWalked (C.code program.now) self.old.frames one.now }
+        requires other { IsWalked (C.code program.now) self.old.frames other.now }
+        ensures walked { OnOk result (AreWalked (C.code program.now) self.new) }
+        ensures next { IfOk result (λ next. IfSome next (IsWalked (C.code program.now) self.new.frames)) }
+        ensures refused { IfErr result (HoldsAnyway (C.code program.now)) }
+    {
+        if !is_one_point(one, other) {
+            return Ok(None);
+        }
+        match self.frames.meet(one.frame, other.frame) {
+            Ok(_) => Ok(None),
+            Err(MeetFault::HeightsDiffer) => Err(Refusal::HeightsDiffer(one.at)),
+            Err(MeetFault::Memory) => Err(Refusal::Memory),
+        }
+    }
+}
+
+/// Whether two points are one address of one procedure.
+fn is_one_point(one: &WalkedPoint, other: &WalkedPoint) -> bool
+    ensures { result ≡ true → (one.now.procedure ≡ other.now.procedure) × (one.now.at ≡ other.now.at) }
+{
+    match (one.procedure, other.procedure) {
+        (Procedure::Main, Procedure::Main) => one.at == other.at,
+        (Procedure::Entry(entry), Procedure::Entry(other_entry)) => {
+            entry == other_entry && one.at == other.at
+        }
+        _ => false,
+    }
+}
+
+/// What the instruction of a point does, and the address after it; `None` if it is refused for anything but a return's word.
+///
+/// # Errors
+/// `ReturnNotOwn`, if it holds.
+fn look_at<C: Code>(
+    program: &C,
+    frames: &Frames,
+    point: &WalkedPoint,
+) -> Result<Option<(Effect, u16)>, Refusal>
+    requires { IsWalked (C.code program.now) frames.now point.now }
+    ensures moves { IfOk result (λ moves. IfSome moves (λ m. IsMovingFrom (C.code program.now) frames.now point.now m.0 m.1)) }
+    ensures refused { IfErr result (HoldsAnyway (C.code program.now)) }
+{
+    let Ok(found) = program.look(point.at) else {
+        return Ok(None);
+    };
+    let effect = effect_of(found.instr);
+    let role = role_of(program, point.procedure);
+    match frames.fault_of(point.frame, role, effect) {
+        None => Ok(Some((effect, found.next))),
+        Some(FrameFault::ReturnNotOwn) => Err(Refusal::ReturnNotOwn(point.at)),
+        Some(_) => Ok(None),
+    }
+}
+
+/// Whether an effect leads on to an address, in its own procedure; a PCHL leads to the targets that are declared for it.
+fn leads_to(effect: Effect, targets: &[u16], next: u16, to: u16) -> bool
+    ensures { result ≡ true → (f : StackFrame) → LeadsTo (move_of effect f) targets.now next to (changed (change_of effect) f) }
+{
+    match effect {
+        Effect::Change(_) | Effect::CallIf(_) | Effect::ReturnIf => to == next,
+        Effect::Jump(address) => to == address,
+        Effect::JumpIf(address) => to == next || to == address,
+        Effect::Case => targets.contains(&to),
+        Effect::Halt | Effect::Call(_) | Effect::Return | Effect::Refuse(_) => false,
+    }
+}
+
+/// Whether an effect is a return.
+fn is_return(effect: Effect) -> bool
+    ensures { result ≡ true → (f : StackFrame) → returning (move_of effect f) ≡ Some f.taken }
+{
+    matches!(effect, Effect::Return | Effect::ReturnIf)
+}
+
+/// Whether a procedure is the one that an effect calls.
+fn is_of_callee(procedure: Procedure, effect: Effect) -> bool
+    ensures { result ≡ true → (f : StackFrame) → IsCallee procedure (called (move_of effect f)) }
+{
+    match (procedure, target_of(effect)) {
+        (Procedure::Entry(entry), Some(target)) => entry == target,
+        _ => false,
+    }
+}

@@ -1,0 +1,27 @@
+-- How far data goes on.
+use Rattle.std.specs.Prelude.{◌≡◌, ◌⊎◌, ℕ, ◌+◌, ◌<◌, ◌≤◌, true, false}
+use Rattle.std.proofs.Common.{subst, inl, inr, arith}
+use Rattle.image80.specs.Regions.{Areas, in_data}
+use Rattle.verify80_stores.specs.DataReach.{ReachesTo}
+
+first_or_later : (a n : ℕ) → n ≤ a → (a ≡ n) ⊎ (n + 1 ≤ a)
+first_or_later a n h = grind arith
+
+pub end_goes_on : (regions : Areas) (n end : ℕ) → ReachesTo regions (n + 1) end → in_data regions n ≡ true → ReachesTo regions n end
+end_goes_on regions n end reaches data_here = record {
+  data_ranges = λ a from below. go a below (first_or_later a n from);
+  ends = reaches.ends;
+  up = (let h = reaches.up in omega arith);
+  within = reaches.within;
+} where
+  go : (a : ℕ) → a < end → (a ≡ n) ⊎ (n + 1 ≤ a) → in_data regions a ≡ true
+  go a below (inl same) = subst (λ k. in_data regions k ≡ true) (let e : n ≡ a = cc in e) data_here
+  go a below (inr later) = reaches.data_ranges a later below
+
+pub end_here : (regions : Areas) (n : ℕ) → n < 65536 → in_data regions n ≡ false → ReachesTo regions n n
+end_here regions n small none = record {
+  data_ranges = λ a from below. absurd (omega arith);
+  ends = λ h. none;
+  up = omega arith;
+  within = omega arith;
+}

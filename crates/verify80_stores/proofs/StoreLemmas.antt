@@ -1,0 +1,259 @@
+-- The stores of runs, by what is listed.
+use Rattle.std.specs.Prelude.{◌≡◌, ◌≢◌, ◌⊎◌, ◌↔◌, ℕ, zero, suc, ◌<◌, Bool, true, false, not, List, [], ◌∷◌, All, Any, Contains, Option, None, Some, Result, Ok, Err, is_some, length, slice_get, slice_index_or, find, refl, if◌then◌else◌}
+use Rattle.std.proofs.Common.{subst, sym, ap, ◌∙◌, inl, inr, arith, get_or}
+use Rattle.std.proofs.lemmas.Bool.Decides.{nat_tests}
+use Rattle.std.proofs.lemmas.List.Elements.{Contains-get_or, All-contains, All-nil, All-cons}
+use Rattle.decode80.specs.declared.instr.Instr.{Instr}
+use Rattle.decode80.specs.declared.instr.Instr.TheVariants.{Store, MviMemory, InrMemory, DcrMemory, Stax, In, Out, Pchl, Hlt}
+use Rattle.decode80.specs.declared.pair.IndexPair.TheVariants.{Bc, De}
+use Rattle.decode80.specs.declared.fetching.Fetched.{Fetched}
+use Rattle.decode80.specs.Fetch.{direct_bytes}
+use Rattle.image80.specs.Range.{in_range}
+use Rattle.image80.specs.Regions.{Areas, in_data, targets_at}
+use Rattle.image80.specs.Image.{Located}
+use Rattle.machine80.specs.declared.end.End.{End}
+use Rattle.machine80.specs.declared.end.End.TheVariants.{Halt, InputEnd, OutputRefused, StoreOutside, JumpOutside, Fetch, Stack, Direct}
+use Rattle.machine80.specs.declared.registers.Registers.{Registers}
+use Rattle.machine80.specs.declared.cpu.Cpu.{Cpu}
+use Rattle.machine80.specs.Cpu.{hl_of, index_pair_of}
+use Rattle.machine80.specs.Ports.{next_input}
+use Rattle.machine80.specs.Effects.{pointed_bytes, stack_bytes}
+use Rattle.machine80.specs.Step.{Machine, Turn, Next, Stop, fetch, first_outside, ends_at, guard, guarded, execute, turn_of, jump_end, leads_outside, proceeded, with_input, step_on, step_of}
+use Rattle.machine80.specs.World.{World, turn_at, fetched_by, refuses, IsProperEnd}
+use Rattle.frames80_code.specs.Code.{Code}
+use Rattle.verify80.specs.Looking.{code_of, is_pchl}
+use Rattle.verify80_soundness.specs.Starts.{IsStart, IsWorldFrom, NeverGoesWrongFromPowerOn}
+use Rattle.verify80_soundness.specs.Reached.{IsReached, StaysOnWalks}
+use Rattle.verify80_reach.specs.Reached.{AreReached}
+use Rattle.verify80_spans.specs.declared.span.Span.{Span}
+use Rattle.verify80_spans.specs.declared.pairs.Pairs.{Pairs}
+use Rattle.verify80_spans.specs.Bytes.{HoldsBytes}
+use Rattle.verify80_spans.specs.Span.{Within}
+use Rattle.verify80_spans.specs.Pairs.{Holds, anything}
+use Rattle.verify80_fitting.specs.Fitting.{pairs_at}
+use Rattle.verify80_fitting.specs.Runs.{KeepsTo, RunsKeepTo}
+use Rattle.verify80_stores.specs.declared.stores.OpenStore.{OpenStore}
+use Rattle.verify80_stores.specs.Pointers.{pointer_span, stores_by_pair}
+use Rattle.verify80_stores.specs.Stores.{IsReachedAs, AreReachedAs, IsOpen, GoesAsListed, EndsAsListed, StoresGoAsListed, RunsEndAsListed, AreStoresOf}
+use Rattle.verify80_stores.specs.Listing.{AreAllBelow, AreOpenBelow, IsListed, is_kind, reached_at, known, span_of, span_at}
+use Rattle.verify80_stores.proofs.TableLemmas.{IsThere, there_if_reached, reached_if_there}
+
+-- an instruction stores by a pair whatever the pairs are
+by_any_pair : (i : Instr) (p : Pairs) (s : Span) → pointer_span i p ≡ Some s → stores_by_pair i ≡ true
+by_any_pair (Store from) p s h = refl
+by_any_pair (MviMemory byte) p s h = refl
+by_any_pair InrMemory p s h = refl
+by_any_pair DcrMemory p s h = refl
+by_any_pair (Stax pair) p s h = refl
+by_any_pair i p s h = cc
+
+-- the address that a pair points to is one of its span
+record Points (i : Instr) (p : Pairs) (address : ℕ) : Type 0 where
+  span : Span
+  is : pointer_span i p ≡ Some span
+  within : Within span address
+
+alone : (x y : ℕ) → Contains (x ∷ []) y → x ≡ y
+alone x y (zero, inside, same) = same
+alone x y (suc k, inside, same) = absurd (omega arith)
+
+points_by : (i : Instr) (p : Pairs) (r : Registers) (address : ℕ) → Holds p r → Contains (pointed_bytes i r) address → Points i p address
+points_by (Store from) p r address holds there = record { span = p.hl; is = refl; within = subst (λ a. Within p.hl a) (alone (hl_of r) address there) holds.hl }
+points_by (MviMemory byte) p r address holds there = record { span = p.hl; is = refl; within = subst (λ a. Within p.hl a) (alone (hl_of r) address there) holds.hl }
+points_by InrMemory p r address holds there = record { span = p.hl; is = refl; within = subst (λ a. Within p.hl a) (alone (hl_of r) address there) holds.hl }
+points_by DcrMemory p r address holds there = record { span = p.hl; is = refl; within = subst (λ a. Within p.hl a) (alone (hl_of r) address there) holds.hl }
+points_by (Stax Bc) p r address holds there = record { span = p.bc; is = refl; within = subst (λ a. Within p.bc a) (alone (index_pair_of r Bc) address there) holds.bc }
+points_by (Stax De) p r address holds there = record { span = p.de; is = refl; within = subst (λ a. Within p.de a) (alone (index_pair_of r De) address there) holds.de }
+points_by i p r address holds there = absurd (omega (arith, there.1))
+
+-- an address is listed, or it isn't
+listed_or_not : (at : ℕ) (stores : List OpenStore) → Any (λ store. store.at ≡ at) stores ⊎ All (λ store. store.at ≢ at) stores
+listed_or_not at [] = inr (All-nil (λ (store : OpenStore). store.at ≢ at))
+listed_or_not at (store ∷ stores) = go (nat_same store.at at) (listed_or_not at stores) where
+  nat_same : (a b : ℕ) → (a ≡ b) ⊎ (a ≢ b)
+  nat_same a b = grind arith
+
+  go : (store.at ≡ at) ⊎ (store.at ≢ at) → Any (λ store. store.at ≡ at) stores ⊎ All (λ store. store.at ≢ at) stores → Any (λ store. store.at ≡ at) (store ∷ stores) ⊎ All (λ store. store.at ≢ at) (store ∷ stores)
+  go (inl same) rest = inl (0, store, omega arith, refl, same)
+  go (inr other) (inl (k, x, inside, is, same)) = inl (suc k, x, omega arith, is, same)
+  go (inr other) (inr none) = inr (All-cons (λ (store : OpenStore). store.at ≢ at) store stores other none)
+
+-- the first address outside is one of the list, and is outside
+first_step : (inside : ℕ → Bool) (x : ℕ) (xs : List ℕ) (a : ℕ) (b : Bool) → inside x ≡ b → (first_outside inside xs ≡ Some a → Contains xs a × (inside a ≡ false)) → first_outside inside (x ∷ xs) ≡ Some a →
+    Contains (x ∷ xs) a × (inside a ≡ false)
+first_step inside x xs a true e rest h =
+    let step : first_outside inside (x ∷ xs) ≡ first_outside inside xs = ap (λ t. if not t then Some x else first_outside inside xs) e in
+    let more = rest (sym step ∙ h) in
+    ((suc more.0.0, omega (arith, more.0.1), more.0.2), more.1)
+first_step inside x xs a false e rest h =
+    let step : first_outside inside (x ∷ xs) ≡ Some x = ap (λ t. if not t then Some x else first_outside inside xs) e in
+    let same : x ≡ a = cc in
+    ((0, omega arith, same), ap inside (sym same) ∙ e)
+
+first_is : (inside : ℕ → Bool) (xs : List ℕ) (a : ℕ) → first_outside inside xs ≡ Some a → Contains xs a × (inside a ≡ false)
+first_is inside [] a h = cc
+first_is inside (x ∷ xs) a h = first_step inside x xs a (inside x) refl (λ rest. first_is inside xs a rest) h
+
+-- a guard's end is at a store through a pair only if the pair points outside data
+store_guard : (first second third : Option ℕ) (a : ℕ) → ends_at first Stack (ends_at second Direct (ends_at third StoreOutside None)) ≡ Some (StoreOutside a) → third ≡ Some a
+store_guard None None None a h = cc
+store_guard None None (Some b) a h = (let e : b ≡ a = cc in ap (λ x. Some x) e)
+store_guard None (Some b) third a h = cc
+store_guard (Some b) second third a h = cc
+
+jump_guard : (first second third : Option ℕ) (to : ℕ) → ends_at first Stack (ends_at second Direct (ends_at third StoreOutside None)) ≡ Some (JumpOutside to) → ⊥
+jump_guard None None None to h = cc
+jump_guard None None (Some b) to h = cc
+jump_guard None (Some b) third to h = cc
+jump_guard (Some b) second third to h = cc
+
+-- no instruction that is executed ends at a store, and PCHL alone at a jump
+no_input_end : (next port : ℕ) (m : Machine) (byte : Option ℕ) (e : End) → ((p : ℕ) → InputEnd p ≡ e → ⊥) → with_input m next port byte ≡ Stop e → ⊥
+no_input_end next port m None e other h = other port (let same : InputEnd port ≡ e = cc in same)
+no_input_end next port m (Some byte) e other h = cc
+
+no_output_end : (regions : Areas) (refused : Bool) (next port : ℕ) (m : Machine) (e : End) → ((p : ℕ) → OutputRefused p ≡ e → ⊥) → execute regions refused (Out port) next m ≡ Stop e → ⊥
+no_output_end regions true next port m e other h = other port (let same : OutputRefused port ≡ e = cc in same)
+no_output_end regions false next port m e other h = cc
+
+no_jump_store : (outside : Bool) (to a : ℕ) (after : Machine) → turn_of (if outside then Some (JumpOutside to) else None) after ≡ Stop (StoreOutside a) → ⊥
+no_jump_store true to a after h = cc
+no_jump_store false to a after h = cc
+
+no_store : (regions : Areas) (refused : Bool) (i : Instr) (next : ℕ) (m : Machine) (a : ℕ) → execute regions refused i next m ≡ Stop (StoreOutside a) → ⊥
+no_store regions refused Hlt next m a h = cc
+no_store regions refused (In port) next m a h = no_input_end next port m (next_input m.inputs port) (StoreOutside a) (λ p e. cc) h
+no_store regions refused (Out port) next m a h = no_output_end regions refused next port m (StoreOutside a) (λ p e. cc) h
+no_store regions refused Pchl next m a h = no_jump_store (leads_outside (targets_at regions m.cpu.pc) (hl_of m.cpu.registers)) (hl_of m.cpu.registers) a (proceeded Pchl next m) h
+no_store regions refused i next m a h = cc
+
+jump_is : (regions : Areas) (refused : Bool) (i : Instr) (next : ℕ) (m : Machine) (to : ℕ) → execute regions refused i next m ≡ Stop (JumpOutside to) → is_pchl i ≡ true
+jump_is regions refused Hlt next m to h = cc
+jump_is regions refused (In port) next m to h = absurd (no_input_end next port m (next_input m.inputs port) (JumpOutside to) (λ p e. cc) h)
+jump_is regions refused (Out port) next m to h = absurd (no_output_end regions refused next port m (JumpOutside to) (λ p e. cc) h)
+jump_is regions refused Pchl next m to h = refl
+jump_is regions refused i next m to h = cc
+
+store_ends : (regions : Areas) (g : Option End) (refused : Bool) (found : Fetched) (m : Machine) (a : ℕ) → guard regions found.instr m.cpu ≡ g → guarded regions g refused found m ≡ Stop (StoreOutside a) →
+    Contains (pointed_bytes found.instr m.cpu.registers) a × (in_data regions a ≡ false)
+store_ends regions None refused found m a is h = absurd (no_store regions refused found.instr found.next m a h)
+store_ends regions (Some e) refused found m a is h =
+    let same : e ≡ StoreOutside a = cc in
+    first_is (in_data regions) (pointed_bytes found.instr m.cpu.registers) a
+    (store_guard (first_outside (in_range regions.stack) (stack_bytes found.instr m.cpu)) (first_outside (in_data regions) (direct_bytes found.instr)) (first_outside (in_data regions) (pointed_bytes found.instr m.cpu.registers)) a
+    (is ∙ ap (λ (x : End). Some x) same))
+
+jump_ends : (regions : Areas) (g : Option End) (refused : Bool) (found : Fetched) (m : Machine) (to : ℕ) → guard regions found.instr m.cpu ≡ g → guarded regions g refused found m ≡ Stop (JumpOutside to) → is_pchl found.instr ≡ true
+jump_ends regions None refused found m to is h = jump_is regions refused found.instr found.next m to h
+jump_ends regions (Some e) refused found m to is h =
+    let same : e ≡ JumpOutside to = cc in
+    absurd (jump_guard (first_outside (in_range regions.stack) (stack_bytes found.instr m.cpu)) (first_outside (in_data regions) (direct_bytes found.instr)) (first_outside (in_data regions) (pointed_bytes found.instr m.cpu.registers)) to
+    (is ∙ ap (λ (x : End). Some x) same))
+
+module _ (image : Located) (bytes : ℕ) (reached : List (Option Fetched)) (table : List (Option Pairs)) (addresses : List ℕ) (stores : List OpenStore) (jumps : List ℕ) (sound : NeverGoesWrongFromPowerOn image bytes)
+    (walks : StaysOnWalks image) (are : AreReached (code_of image) reached) (whole : length reached ≡ 65536) (keeps : RunsKeepTo image table) (each_store : AreAllBelow reached stores_by_pair 65536 addresses)
+    (open_below : AreOpenBelow image.regions reached table 65536 stores) (each_jump : AreAllBelow reached is_pchl 65536 jumps) where
+  -- a world stands at an instruction that is reached
+  record Here (w : World) (found : Fetched) : Type 0 where
+    there : reached_at reached w.machine.cpu.pc ≡ Some found
+    small : w.machine.cpu.pc < 65536
+
+  here_at : (start : Machine) → IsStart image start → (most : Option ℕ) (w : World) (found : Fetched) → IsWorldFrom image start most w → fetched_by image.regions w ≡ Some found → Here w found
+  here_at start begins most w found from fetched =
+      let stands = walks.stands start begins most w from in
+      let there = there_if_reached (code_of image) reached are w.machine.cpu.pc stands.reached in
+      let one : stands.found ≡ found = (let f : fetched_by image.regions w ≡ Some stands.found = stands.fetched in cc) in
+      let two : there.found ≡ stands.found = (let f : (code_of image).look w.machine.cpu.pc ≡ Ok there.found = there.looked in let g : (code_of image).look w.machine.cpu.pc ≡ Ok stands.found = stands.looked in cc) in
+      record { there = there.there ∙ ap (λ (f : Fetched). Some f) (two ∙ one); small = omega (arith, there.within, whole) }
+
+  goes : (start : Machine) → IsStart image start → HoldsBytes start → (most : Option ℕ) (w : World) (found : Fetched) → IsWorldFrom image start most w → fetched_by image.regions w ≡ Some found → (address : ℕ) →
+      Contains (pointed_bytes found.instr w.machine.cpu.registers) address → GoesAsListed image.regions stores w.machine.cpu.pc address
+  goes start begins held most w found from fetched address there =
+      let here = here_at start begins most w found from fetched in
+      let keep = keeps start begins held most w from in
+      let points = points_by found.instr keep.pairs w.machine.cpu.registers address keep.holds there in
+      let span : span_at reached table w.machine.cpu.pc ≡ Some points.span =
+      ap (λ (o : Option Fetched). span_of o (known (pairs_at table w.machine.cpu.pc))) here.there ∙ ap (λ (o : Option Pairs). span_of (Some found) (known o)) keep.there ∙ points.is in
+      record {
+        listed = λ k d inside same.
+            let store = get_or stores k d in
+            let other : span_at reached table w.machine.cpu.pc ≡ Some store.span = subst (λ n. span_at reached table n ≡ Some store.span) same (open_below.each k d inside).span in
+            subst (λ (s : Span). Within s address) (let e : points.span ≡ store.span = cc in e) points.within;
+        unlisted = λ none. open_below.rest w.machine.cpu.pc points.span here.small span none address points.within;
+      }
+
+  go_as_listed : StoresGoAsListed image stores
+  go_as_listed start begins held most w found from fetched k d inside =
+      goes start begins held most w found from fetched (get_or (pointed_bytes found.instr w.machine.cpu.registers) k d) (Contains-get_or (pointed_bytes found.instr w.machine.cpu.registers) k d inside)
+
+  outside_end : (w : World) (address : ℕ) → GoesAsListed image.regions stores w.machine.cpu.pc address → in_data image.regions address ≡ false →
+      Any (λ store. store.at ≡ w.machine.cpu.pc) stores ⊎ All (λ store. store.at ≢ w.machine.cpu.pc) stores → Any (λ store. (store.at ≡ w.machine.cpu.pc) × Within store.span address) stores
+  outside_end w address listed no_data (inl (k, store, inside, is, same)) =
+      let at : (get_or stores k store).at ≡ w.machine.cpu.pc = ap (λ (s : OpenStore). s.at) is ∙ same in
+      (k, store, inside, is, (same, subst (λ (s : OpenStore). Within s.span address) is (listed.listed k store inside at)))
+  outside_end w address listed no_data (inr none) = absurd (let e : in_data image.regions address ≡ true = listed.unlisted none in cc)
+
+  turn_there : (most : Option ℕ) (w : World) (found : Fetched) (e : End) → fetched_by image.regions w ≡ Some found → turn_at image.regions most w ≡ Stop e →
+      guarded image.regions (guard image.regions found.instr w.machine.cpu) (refuses most w.machine.outputs) found w.machine ≡ Stop e
+  turn_there most w found e fetched stops = sym (ap (λ (o : Option Fetched). step_on image.regions (refuses most w.machine.outputs) o w.machine) fetched) ∙ stops
+
+  ends_so : (start : Machine) → IsStart image start → HoldsBytes start → (most : Option ℕ) (w : World) (e : End) → IsWorldFrom image start most w → turn_at image.regions most w ≡ Stop e → IsProperEnd e → EndsAsListed stores jumps w.machine.cpu.pc e
+  ends_so start begins held most w Halt from stops proper = tt
+  ends_so start begins held most w (InputEnd port) from stops proper = tt
+  ends_so start begins held most w (OutputRefused port) from stops proper = tt
+  ends_so start begins held most w (StoreOutside address) from stops proper =
+      let stands = walks.stands start begins most w from in
+      let out = store_ends image.regions (guard image.regions stands.found.instr w.machine.cpu) (refuses most w.machine.outputs) stands.found w.machine address refl (turn_there most w stands.found (StoreOutside address) stands.fetched stops) in
+      outside_end w address (goes start begins held most w stands.found from stands.fetched address out.0) out.1 (listed_or_not w.machine.cpu.pc stores)
+  ends_so start begins held most w (JumpOutside to) from stops proper =
+      let stands = walks.stands start begins most w from in
+      let here = here_at start begins most w stands.found from stands.fetched in
+      let jump : is_pchl stands.found.instr ≡ true = jump_ends image.regions (guard image.regions stands.found.instr w.machine.cpu) (refuses most w.machine.outputs) stands.found w.machine to refl (turn_there most w stands.found (JumpOutside to) stands.fetched stops) in
+      each_jump.all w.machine.cpu.pc here.small (ap (λ (o : Option Fetched). is_kind is_pchl o) here.there ∙ jump)
+  ends_so start begins held most w (Fetch at) from stops proper = absurd proper
+  ends_so start begins held most w (Stack at) from stops proper = absurd proper
+  ends_so start begins held most w (Direct at) from stops proper = absurd proper
+
+  -- what is listed is what walks come to
+  kind_there : (kind : Instr → Bool) (at : ℕ) (o : Option Fetched) → reached_at reached at ≡ o → is_kind kind o ≡ true → IsReachedAs (code_of image) kind at
+  kind_there kind at None e is = cc
+  kind_there kind at (Some found) e is =
+      let walk = reached_if_there (code_of image) reached are at found e in
+      record { reached = walk.0; found = found; looked = walk.1; is = is }
+
+  there_of_kind : (kind : Instr → Bool) (xs : List ℕ) → AreAllBelow reached kind 65536 xs → (at : ℕ) → IsReachedAs (code_of image) kind at → Contains xs at
+  there_of_kind kind xs below at is =
+      let there = there_if_reached (code_of image) reached are at is.reached in
+      let same : is.found ≡ there.found = (let f : (code_of image).look at ≡ Ok there.found = there.looked in let g : (code_of image).look at ≡ Ok is.found = is.looked in cc) in
+      below.all at (omega (arith, there.within, whole)) (ap (λ (o : Option Fetched). is_kind kind o) there.there ∙ ap (λ (f : Fetched). kind f.instr) (sym same) ∙ is.is)
+
+  all_of_kind : (kind : Instr → Bool) (xs : List ℕ) → AreAllBelow reached kind 65536 xs → AreReachedAs (code_of image) kind xs
+  all_of_kind kind xs below = record {
+    ascending = below.ascending;
+    each = λ at. (λ there. kind_there kind at (reached_at reached at) refl (below.each at there).1, there_of_kind kind xs below at);
+  }
+
+  open_there : (store : OpenStore) → IsListed image.regions reached table 65536 store → IsOpen image store
+  open_there store l =
+      let walk = reached_if_there (code_of image) reached are store.at l.found l.there in
+      let span : pointer_span l.found.instr (known (pairs_at table store.at)) ≡ Some store.span = sym (ap (λ (o : Option Fetched). span_of o (known (pairs_at table store.at))) l.there) ∙ l.span in
+      record {
+        reached = walk.0;
+        found = l.found;
+        looked = walk.1;
+        instr = l.instr;
+        stores = by_any_pair store.instr (known (pairs_at table store.at)) store.span (subst (λ (i : Instr). pointer_span i (known (pairs_at table store.at)) ≡ Some store.span) l.instr span);
+        outside = l.outside;
+        within = l.within;
+        no_data = l.no_data;
+      }
+
+  pub are_stores : AreStoresOf image addresses stores jumps
+  are_stores = record {
+    each_store = all_of_kind stores_by_pair addresses each_store;
+    open_ascending = open_below.ascending;
+    each_open = λ k d inside. open_there (get_or stores k d) (open_below.each k d inside);
+    each_jump = all_of_kind is_pchl jumps each_jump;
+    stores_go = go_as_listed;
+    runs_end = λ start begins held most w e from stops. ends_so start begins held most w e from stops (sound.ends start begins most w e from stops);
+  }

@@ -1,0 +1,28 @@
+-- The runs of the watched machine are runs from power-on.
+use Rattle.std.specs.Prelude.{◌≡◌, ℕ, List, All, Option, Some}
+use Rattle.std.proofs.Common.{arith}
+use Rattle.image80.specs.Image.{Located, memory_of}
+use Rattle.machine80.specs.World.{World, IsWorldOf, world_at_start}
+use Rattle.verify80_soundness.specs.Starts.{IsStart, IsWorldFrom}
+use Rattle.verify80_soundness.specs.Soundness.{RunsBeginFromPowerOn}
+use Rattle.verify80_spans.specs.Bytes.{HasBytes, HoldsBytes}
+use Rattle.verify80_stores.specs.declared.stores.OpenStore.{OpenStore}
+use Rattle.verify80_stores.specs.Stores.{AreStoresOf, WatchedRunsGoAsListed}
+
+holds_bytes : (image : Located) (inputs : List (List ℕ)) (outputs : List (ℕ × ℕ)) → HasBytes (memory_of image.chunks) → All HasBytes inputs → HoldsBytes (world_at_start image inputs outputs).machine
+holds_bytes image inputs outputs memory waiting = record {
+  registers = record { a = omega arith; b = omega arith; c = omega arith; d = omega arith; e = omega arith; h = omega arith; l = omega arith };
+  memory = memory;
+  inputs = waiting;
+}
+
+pub watched_runs : (image : Located) (addresses : List ℕ) (stores : List OpenStore) (jumps : List ℕ) → RunsBeginFromPowerOn → HasBytes (memory_of image.chunks) → AreStoresOf image addresses stores jumps →
+    WatchedRunsGoAsListed image stores jumps
+watched_runs image addresses stores jumps begins memory listed = record {
+  stores_go = λ most w run waiting found fetched.
+      listed.stores_go (world_at_start image run.inputs run.outputs).machine (begins image run.inputs run.outputs) (holds_bytes image run.inputs run.outputs memory waiting) most w found
+      (record { steps = run.steps; is = run.is }) fetched;
+  runs_end = λ most w run waiting e stops.
+      listed.runs_end (world_at_start image run.inputs run.outputs).machine (begins image run.inputs run.outputs) (holds_bytes image run.inputs run.outputs memory waiting) most w e
+      (record { steps = run.steps; is = run.is }) stops;
+}

@@ -1,0 +1,10 @@
+use Rattle.std.proofs.Common.{◌≡◌, ℕ, ◌-◌, ◌<◌, ◌≤◌, length, get_or}
+use Rattle.verify80_stores.specs.DataReach.{ReachesTo}
+use Rattle.verify80_stores.proofs.data_ends.data_ends.Given as goal
+
+abbrev pub invariant-loop-above : goal.invariant-loop-above
+invariant-loop-above l = record {
+  whole : length l.ends.items ≡ 65536;
+  current : ReachesTo l.regions (65536 - l.above) l.end;
+  each : (from : ℕ) → 65536 - l.above ≤ from → from < 65536 → ReachesTo l.regions from (get_or l.ends.items from 0);
+}

@@ -1,0 +1,22 @@
+use Rattle.std.proofs.Common.{◌∙◌, subst}
+use Rattle.image80.specs.Image.{Located}
+use Rattle.image80.specs.Regions.{AreRegions}
+use Rattle.loader80.specs.Vouched.{IsVouched}
+use Rattle.verify80_stores.proofs.finding.runs_of.Goals as goal
+
+pub returns-clause-runs : goal.returns-clause-runs
+returns-clause-runs c =
+    let vouched = c.args.vouched.now in
+    let known : IsVouched vouched.image vouched.rows vouched.stack_bytes = c.image.ensures.vouched in
+    let rules : AreRegions vouched.image.regions = subst (λ (i : Located). AreRegions i.regions) (c.behind-vouched.view_is ∙ c.image.ensures.image) c.stack.ensures.rules in
+    record {
+      bytes = vouched.stack_bytes;
+      sound = c.images_never_go_wrong_from_power_on.ensures vouched.image vouched.stack_bytes rules known.accepted.fitted known.accepted.within;
+      walks = c.accepted_images_stay_on_walks.ensures vouched.image vouched.rows vouched.stack_bytes rules known.accepted;
+    }
+
+pub returns-clause-rows : goal.returns-clause-rows
+returns-clause-rows c =
+    let vouched = c.args.vouched.now in
+    let known : IsVouched vouched.image vouched.rows vouched.stack_bytes = c.image.ensures.vouched in
+    known.accepted.rows

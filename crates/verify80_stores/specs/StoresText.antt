@@ -1,0 +1,25 @@
+-- What is printed of the stores of a program. (The text of an instruction is that of the Intel 8080 Assembly Language Programming
+-- Manual; the lines are this project's own.)
+use Rattle.std.specs.Prelude.{ℕ, ◌-◌, List, [], ◌∷◌, ◌++◌, length, codes}
+use Rattle.std.specs.Fmt.{decimal}
+use Rattle.std.specs.List.{flat_map}
+use Rattle.decode80.specs.Text.{text, word_text}
+use Rattle.verify80_stores.specs.declared.stores.OpenStore.{OpenStore}
+
+-- how many of the stores are shown to stay in data
+abbrev pub count_line : (shown all : ℕ) → List ℕ
+count_line shown all = codes "STORES " ++ decimal shown ++ (codes " OF " ++ decimal all ++ 10 ∷ [])
+
+-- an open store: its address, its instruction, and the first and the last address that it may have
+unfoldable pub store_line : OpenStore → List ℕ
+store_line store =
+    codes "STORE " ++ (word_text store.at ++ 32 ∷ (text store.instr ++ 32 ∷ (word_text store.span.first ++ 32 ∷ (word_text store.span.last ++ 10 ∷ []))))
+
+-- a PCHL
+abbrev pub jump_line : ℕ → List ℕ
+jump_line at = codes "JUMP " ++ (word_text at ++ 10 ∷ [])
+
+-- all lines
+abbrev pub stores_text_of : (addresses : List ℕ) → (open_stores : List OpenStore) → (jumps : List ℕ) → List ℕ
+stores_text_of addresses open_stores jumps =
+    count_line (length addresses - length open_stores) (length addresses) ++ flat_map store_line open_stores ++ flat_map jump_line jumps

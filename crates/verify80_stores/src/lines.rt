@@ -1,0 +1,82 @@
+//! What is printed of the stores of a program.
+
+ghost use Rattle.std.specs.Prelude.{◌≡◌, ◌++◌, IfOk, OnOk};
+ghost use Rattle.std.specs.List.{flat_map};
+ghost use Rattle.verify80_stores.specs.StoresText.{count_line, jump_line, store_line, stores_text_of};
+
+use crate::stores::{OpenStore, Stores};
+use decode80::{word_digits, write_text};
+use std::alloc::{AllocError, Global};
+
+/// The lines of a program's stores: how many of its register-indirect stores are shown to stay in data, of how many, such as
+/// `STORES 11 OF 12`; each of the others, such as `STORE 011E MOV M,A 0000 FFFF`, with the first and the last address that it may
+/// have; and each PCHL, such as `JUMP 0065`.
+///
+/// # Errors
+/// `AllocError` only if memory runs out.
+pub fn stores_text(alloc: Global, stores: &Stores) -> Result<Vec<u8>, AllocError>
+    ensures { IfOk result (λ text.
+        text.items ≡ stores_text_of stores.now.addresses.items stores.now.open.items stores.now.jumps.items) }
+{
+    let all = stores.addresses.len();
+    let mut text = count_text(alloc, all.saturating_sub(stores.open.len()), all)?;
+    append_stores(alloc, &mut text, &stores.open)?;
+    append_jumps(&mut text, &stores.jumps)?;
+    Ok(text)
+}
+
+/// The line of the counts.
+fn count_text(alloc: Global, shown: usize, all: usize) -> Result<Vec<u8>, AllocError>
+    ensures { IfOk result (λ text. text.items ≡ count_line shown all) }
+{
+    let line = format!(in alloc; "STORES {shown} OF {all}\n")?;
+    Ok(line.into_bytes())
+}
+
+/// Appends the line of each open store.
+fn append_stores(alloc: Global, text: &mut Vec<u8>, stores: &[OpenStore]) -> Result<(), AllocError>
+    ensures { OnOk result (text.new.items ≡ text.old.items ++ flat_map store_line stores.now) }
+{
+    for store in stores {
+        append_store(alloc, text, *store)?;
+    }
+    Ok(())
+}
+
+/// Appends the line of an open store.
+#[tactic(auto, unfolding(crate::specs::StoresText::store_line))]
+fn append_store(alloc: Global, text: &mut Vec<u8>, store: OpenStore) -> Result<(), AllocError>
+    ensures { OnOk result (text.new.items ≡ text.old.items ++ store_line store) }
+{
+    let OpenStore { at, instr, span } = store;
+    text.extend_from_slice(b"STORE ".as_slice())?;
+    text.extend_from_slice(&word_digits(at))?;
+    text.push(b' ')?;
+    write_text(alloc, instr, text)?;
+    text.push(b' ')?;
+    text.extend_from_slice(&word_digits(span.first))?;
+    text.push(b' ')?;
+    text.extend_from_slice(&word_digits(span.last))?;
+    text.push(b'\n')?;
+    Ok(())
+}
+
+/// Appends the line of each PCHL.
+fn append_jumps(text: &mut Vec<u8>, jumps: &[u16]) -> Result<(), AllocError>
+    ensures { OnOk result (text.new.items ≡ text.old.items ++ flat_map jump_line jumps.now) }
+{
+    for at in jumps {
+        append_jump(text, *at)?;
+    }
+    Ok(())
+}
+
+/// Appends the line of a PCHL.
+fn append_jump(text: &mut Vec<u8>, at: u16) -> Result<(), AllocError>
+    ensures { OnOk result (text.new.items ≡ text.old.items ++ jump_line at) }
+{
+    text.extend_from_slice(b"JUMP ".as_slice())?;
+    text.extend_from_slice(&word_digits(at))?;
+    text.push(b'\n')?;
+    Ok(())
+}

@@ -1,0 +1,26 @@
+//! What is found of a program's register-indirect stores.
+
+use decode80::Instr;
+use verify80_spans::Span;
+
+/// The register-indirect stores of a program, and its jumps by PCHL, as far as its walks come to them. All lists are by address.
+#[derive(Debug, Drop)]
+pub struct Stores {
+    /// The address of each register-indirect store.
+    pub addresses: Vec<u16>,
+    /// Those that aren't shown to stay in data.
+    pub open: Vec<OpenStore>,
+    /// The address of each PCHL.
+    pub jumps: Vec<u16>,
+}
+
+/// A register-indirect store that isn't shown to stay in data. It may be harmless.
+#[derive(Clone, Copy, Debug, PartialEq, Eq)]
+pub struct OpenStore {
+    /// The address of the instruction.
+    pub at: u16,
+    /// The instruction.
+    pub instr: Instr,
+    /// The addresses that it may store to.
+    pub span: Span,
+}

@@ -1,0 +1,123 @@
+//! Regions of what is found of an image.
+
+ghost use Rattle.std.specs.Prelude.{◌≡◌, [], All, IfOk, length};
+ghost use Rattle.image80.specs.Case.{AreByAddress, IsCase};
+ghost use Rattle.verify80_cases.specs.Marks.{AreMarks, marked};
+ghost use Rattle.verify80_suggest.specs.Stack.{IsStack};
+ghost use Rattle.verify80_suggest.specs.Suggestion.{AreMarkTables, IsArranged, is_data, is_taken};
+
+use crate::bytes::is_in;
+use crate::ranges::ranges_of;
+use crate::setters::Setter;
+use crate::stack::stack_below;
+use crate::survey::Survey;
+use crate::with_cases::with_cases;
+use image80::{Case, Range, Regions};
+use std::alloc::{AllocError, Global};
+
+/// The stack of a program without an LXI SP.
+pub(crate) const NO_STACK: Range = Range {
+    first: 0,
+    length: 0,
+};
+
+/// The regions of what is found of an image, with these cases, and with a stack of so many bytes, if as many are free.
+///
+/// # Errors
+/// `AllocError` only if memory runs out.
+pub(crate) fn arrange(
+    alloc: Global,
+    survey: &Survey,
+    cases: &[Case],
+    ram: &[Range],
+    wanted: u64,
+) -> Result<Regions, AllocError>
+    requires tables { AreMarkTables survey.now }
+    requires by_address { AreByAddress cases.now }
+    requires each { All IsCase cases.now }
+    ensures { IfOk result (λ regions. IsArranged survey.now cases.now ram.now wanted regions) }
+{
+    let regions = without_cases(alloc, survey, ram, wanted)?;
+    with_cases(alloc, &regions, cases)
+}
+
+/// These regions without cases.
+fn without_cases(
+    alloc: Global,
+    survey: &Survey,
+    ram: &[Range],
+    wanted: u64,
+) -> Result<Regions, AllocError>
+    requires { AreMarkTables survey.now }
+    ensures { IfOk result (λ regions. IsArranged survey.now [] ram.now wanted regions) }
+{
+    let code = ranges_of(alloc, &survey.covered)?;
+    let taken = find_taken(alloc, survey)?;
+    let stack = stack_of(survey.first, &taken, wanted);
+    let marks = find_data(alloc, survey, ram, stack)?;
+    let data_ranges = ranges_of(alloc, &marks)?;
+    Ok(Regions::from_disjoint(alloc, code, stack, data_ranges))
+}
+
+/// For each address whether it isn't free for the stack.
+fn find_taken(alloc: Global, survey: &Survey) -> Result<Vec<bool>, AllocError>
+    requires { AreMarkTables survey.now }
+    ensures { IfOk result (λ marks. AreMarks (is_taken survey.now) 65536 marks.items) }
+{
+    let mut marks = Vec::new(alloc);
+    for address in 0..65_536_u32 {
+        marks.push(is_taken(survey, address as u16))?;
+    }
+    Ok(marks)
+}
+
+/// Whether an address isn't free for the stack.
+fn is_taken(survey: &Survey, address: u16) -> bool
+    requires { AreMarkTables survey.now }
+    ensures { result ≡ is_taken survey.now address }
+{
+    let index = usize::from(address);
+    survey.bytes[index] || survey.named[index] || survey.covered[index]
+}
+
+/// The stack below an LXI SP, in the bytes that aren't marked as taken.
+fn stack_of(first: Option<Setter>, taken: &[bool], wanted: u64) -> Range
+    requires { length taken.now ≡ 65536 }
+    ensures { IsStack (marked taken.now) first wanted result }
+{
+    match first {
+        Some(setter) => stack_below(setter.word, wanted, taken),
+        None => NO_STACK,
+    }
+}
+
+/// For each address whether it is data.
+fn find_data(
+    alloc: Global,
+    survey: &Survey,
+    ram: &[Range],
+    stack: Range,
+) -> Result<Vec<bool>, AllocError>
+    requires { AreMarkTables survey.now }
+    ensures { IfOk result (λ marks. AreMarks (is_data survey.now ram.now stack) 65536 marks.items) }
+{
+    let mut marks = Vec::new(alloc);
+    for address in 0..65_536_u32 {
+        marks.push(is_data(survey, ram, stack, address as u16))?;
+    }
+    Ok(marks)
+}
+
+/// Whether an address is data.
+fn is_data(survey: &Survey, ram: &[Range], stack: Range, address: u16) -> bool
+    requires { AreMarkTables survey.now }
+    ensures { result ≡ is_data survey.now ram.now stack address }
+{
+    let index = usize::from(address);
+    let in_ram = if ram.is_empty() {
+        survey.named[index] && !survey.bytes[index]
+    } else {
+        is_in(ram, address)
+    };
+    in_ram && !survey.covered[index] && !stack.contains(address)
+}

@@ -1,0 +1,50 @@
+//! Where the stack lies.
+
+ghost use Rattle.std.specs.Prelude.{◌≡◌, ◌-◌, ◌<◌, ◌≤◌, ℕ, true, false, length};
+ghost use Rattle.verify80_cases.specs.Marks.{marked};
+ghost use Rattle.verify80_suggest.specs.Stack.{IsBelow, end_of};
+
+use image80::Range;
+
+/// The stack that ends at the address that LXI SP names, 0 for the end of memory: so many bytes as are wanted, or the fewer ones
+/// that aren't marked as taken.
+pub(crate) fn stack_below(word: u16, wanted: u64, taken: &[bool]) -> Range
+    requires { length taken.now ≡ 65536 }
+    ensures { IsBelow (marked taken.now) (end_of word) wanted result }
+{
+    let end = end_of(word);
+    let length = count_free(end, wanted, taken);
+    Range {
+        first: ((end - length) % 65_536) as u16,
+        length: length as u16,
+    }
+}
+
+/// The address above the stack.
+fn end_of(word: u16) -> u32
+    ensures value { result ≡ end_of word }
+    ensures inside { result ≤ 65536 }
+{
+    if word == 0 { 65_536 } else { u32::from(word) }
+}
+
+/// How many bytes below an address aren't marked as taken, up to as many as are wanted and to 65,535.
+fn count_free(end: u32, wanted: u64, taken: &[bool]) -> u32
+    requires size { length taken.now ≡ 65536 }
+    requires inside { end ≤ 65536 }
+    ensures inside { result ≤ end }
+    ensures some { result ≤ 65535 }
+    ensures few { result ≤ wanted }
+    ensures free { (k : ℕ) → k < result → marked taken.now (end - 1 - k) ≡ false }
+    ensures cut { result < wanted → result < end → result < 65535 → marked taken.now (end - 1 - result) ≡ true }
+{
+    let mut free = 0_u32;
+    while free < 65_535
+        && free < end
+        && u64::from(free) < wanted
+        && !taken[(end - 1 - free) as usize]
+    {
+        free += 1;
+    }
+    free
+}

@@ -1,0 +1,91 @@
+//! The regions that an image suggests.
+
+ghost use Rattle.std.specs.Prelude.{◌≡◌, [], IfOk};
+ghost use Rattle.verify80_suggest.specs.Bytes.{may_be_code};
+ghost use Rattle.verify80_suggest.specs.Ranges.{Covers};
+ghost use Rattle.verify80_suggest.specs.Suggestion.{IsSuggestion, IsWanted};
+
+use crate::arranging::{NO_STACK, arrange};
+use crate::bytes::{find_bytes, find_room};
+use crate::ranges::ranges_of;
+use crate::setters::Setter;
+use crate::survey::survey_of;
+use crate::with_cases::with_cases;
+use image80::{Image, Range, Regions};
+use std::alloc::{AllocError, Global};
+use verify80::{Refusal, measure};
+use verify80_cases::{Note, suggest_cases};
+
+/// The bytes of stack that are wanted at least.
+const LEAST_STACK: u64 = 16;
+
+/// What there is to say of the regions that are suggested.
+#[derive(Drop)]
+pub struct Advice {
+    /// The LXI SP whose word is the stack's end, the first by address; `None` if there is none, and the stack is empty.
+    pub first: Option<Setter>,
+    /// The next one, if there are several.
+    pub second: Option<Setter>,
+    /// The PCHLs for which no table is seen, by address.
+    pub tableless: Vec<u16>,
+    /// What there is to say of the PCHLs, in their order.
+    pub notes: Vec<Note>,
+}
+
+/// Gives an image the regions that its bytes suggest, whatever regions it has.
+///
+/// It is gone through from its start, as [`verify80_cases::find_reachable`] does, with all its bytes as code that lie in the ranges of
+/// `rom`, or with all its bytes if there are no such ranges, and with the cases that its tables suggest. CODE is exactly the bytes
+/// of the instructions that are come to. STACK ends at the word of the first LXI SP, 0000 for the end of memory: it is sixteen
+/// bytes, or more if the image is refused for nothing but that, but only such as are free below that address, neither the image's
+/// nor named by an instruction. DATA is what STA, LDA, SHLD and LHLD name, but for CODE, STACK and the image's bytes; or, if `ram`
+/// has ranges, exactly these but for CODE and STACK. The cases are those of the tables.
+///
+/// # Errors
+/// `AllocError` only if memory runs out; the image then has any regions.
+pub fn suggest_regions(
+    alloc: Global,
+    image: &mut Image,
+    rom: &[Range],
+    ram: &[Range],
+) -> Result<Advice, AllocError>
+    ensures { IfOk result (λ advice.
+        IsSuggestion image.old rom.now ram.now advice.first advice.second advice.tableless.items image.new) }
+{
+    image.regions = base_regions(alloc, image, rom)?;
+    let found = suggest_cases(alloc, image)?;
+    image.regions = with_cases(alloc, &image.regions, &found.cases)?;
+    let survey = survey_of(alloc, image)?;
+    image.regions = arrange(alloc, &survey, &found.cases, ram, LEAST_STACK)?;
+    let wanted = wanted_stack(alloc, image)?;
+    image.regions = arrange(alloc, &survey, &found.cases, ram, wanted)?;
+    Ok(Advice {
+        first: survey.first,
+        second: survey.second,
+        tableless: found.tableless,
+        notes: found.notes,
+    })
+}
+
+/// The regions that have as code all bytes of an image that may be code, and no stack.
+fn base_regions(alloc: Global, image: &Image, rom: &[Range]) -> Result<Regions, AllocError>
+    ensures code { IfOk result (λ regions. Covers (may_be_code image.now.chunks rom.now) regions.code) }
+    ensures cases { IfOk result (λ regions. regions.cases ≡ []) }
+{
+    let bytes = find_bytes(alloc, &image.chunks)?;
+    let room = find_room(alloc, &bytes, rom)?;
+    let code = ranges_of(alloc, &room)?;
+    Ok(Regions::from_disjoint(alloc, code, NO_STACK, Vec::new(alloc)))
+}
+
+/// How many bytes of stack are wanted: as many as the image uses if it is refused for nothing but its stack, and sixteen at least.
+fn wanted_stack(alloc: Global, image: &Image) -> Result<u64, AllocError>
+    ensures { IfOk result (λ wanted. IsWanted image.now wanted) }
+{
+    match measure(alloc, image) {
+        Ok(report) if report.stack_bytes <= LEAST_STACK => Ok(LEAST_STACK),
+        Ok(report) => Ok(report.stack_bytes),
+        Err(Refusal::Memory) => Err(AllocError),
+        Err(_) => Ok(LEAST_STACK),
+    }
+}

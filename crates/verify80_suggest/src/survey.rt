@@ -1,0 +1,63 @@
+//! What is found of an image as it is gone through.
+
+ghost use Rattle.std.specs.Prelude.{IfOk};
+ghost use Rattle.verify80_suggest.specs.Suggestion.{IsFound};
+
+use crate::bytes::find_bytes;
+use crate::names::find_named;
+use crate::setters::{Setter, find_setters};
+use image80::Image;
+use std::alloc::{AllocError, Global};
+use std::marker::Model;
+use verify80::ImageCode;
+use verify80_cases::{find_covered, find_reachable};
+
+/// What is found of an image: for each address whether it has a byte there, whether the program may come to it, whether it is in an
+/// instruction to which it may come, and whether such an instruction names it; and the first two of these that set SP.
+#[derive(Drop)]
+pub(crate) struct Survey {
+    pub(crate) bytes: Vec<bool>,
+    pub(crate) reached: Vec<bool>,
+    pub(crate) covered: Vec<bool>,
+    pub(crate) named: Vec<bool>,
+    pub(crate) first: Option<Setter>,
+    pub(crate) second: Option<Setter>,
+}
+
+impl Model for Survey {
+    ghost use Rattle.verify80_suggest.specs.Suggestion.{Found};
+
+    ghost Value = { Found };
+
+    ghost view = { λ s. record {
+      bytes = s.bytes.items;
+      reached = s.reached.items;
+      covered = s.covered.items;
+      named = s.named.items;
+      first = s.first;
+      second = s.second;
+    } };
+}
+
+/// Goes through an image.
+///
+/// # Errors
+/// `AllocError` only if memory runs out.
+pub(crate) fn survey_of(alloc: Global, image: &Image) -> Result<Survey, AllocError>
+    ensures { IfOk result (λ survey. IsFound image.now survey) }
+{
+    let bytes = find_bytes(alloc, &image.chunks)?;
+    let code = ImageCode::new(alloc, image)?;
+    let reached = find_reachable(alloc, &code)?;
+    let covered = find_covered(alloc, &code, &reached)?;
+    let named = find_named(alloc, &code, &reached)?;
+    let setters = find_setters(&code, &reached);
+    Ok(Survey {
+        bytes,
+        reached,
+        covered,
+        named,
+        first: setters.first,
+        second: setters.second,
+    })
+}

@@ -1,0 +1,35 @@
+//! Regions with cases.
+
+ghost use Rattle.std.specs.Prelude.{◌≡◌, [], All, IfOk};
+ghost use Rattle.image80.specs.Case.{AreByAddress, IsCase};
+
+use image80::laws::text_of_regions_is_read_as_itself;
+use image80::{Case, Regions, read_regions};
+use std::alloc::{AllocError, Global};
+use verify80_cases::regions_with_cases;
+
+/// The same ranges with these cases, which are by address, one for an address at most. (Regions with cases are made by reading their
+/// text.)
+///
+/// # Errors
+/// `AllocError` only if memory runs out.
+pub(crate) fn with_cases(
+    alloc: Global,
+    regions: &Regions,
+    cases: &[Case],
+) -> Result<Regions, AllocError>
+    requires none { regions.now.cases ≡ [] }
+    requires by_address { AreByAddress cases.now }
+    requires each { All IsCase cases.now }
+    ensures { IfOk result (λ made. made ≡ record regions.now { cases = cases.now }) }
+{
+    text_of_regions_is_read_as_itself();
+    let _ranges = regions.code();
+    let Ok(text) = regions_with_cases(alloc, regions, cases) else {
+        return Err(AllocError);
+    };
+    match read_regions(alloc, &text) {
+        Ok(made) => Ok(made),
+        Err(_) => Err(AllocError),
+    }
+}
