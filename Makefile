@@ -99,7 +99,7 @@ commands: need-python3 build
 	@tests/commands/completion $(PROGRAM)
 	@tests/commands/fault_page
 
-# FAULTS=".." tries that alone, as FAULTS="program", FAULTS="tests_machine" or FAULTS="tests_links=1..20".
+# FAULTS=".." tries that alone, as FAULTS="program", FAULTS="tests_runs" or FAULTS="tests_links=1..20".
 faults: need-cc build
 	@tests/refused/run $(PROGRAM) $(FAULTS)
 

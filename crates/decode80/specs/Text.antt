@@ -22,6 +22,7 @@ use Rattle.decode80.specs.declared.rotation.Rotation.TheVariants.{Left, Right, L
 use Rattle.decode80.specs.declared.instr.Instr.{Instr}
 use Rattle.decode80.specs.declared.instr.Instr.TheVariants.{Mov, Load, Store, Mvi, MviMemory, Lxi, Dad, Inx, Dcx, Inr, InrMemory, Dcr, DcrMemory, Operate, Jmp, JumpIf, Call, CallIf, Ret, ReturnIf, Rst, Push, Pop, Stax, Ldax, Shld, Lhld, Sta, Lda, Rotate, Daa, Cma, Stc, Cmc, Xthl, Pchl, Xchg, Sphl, In, Out, Ei, Di, Nop, Hlt}
 use Rattle.decode80.specs.Restart.{restart_number}
+use Rattle.text80.specs.Digits.{digit_text, byte_text, word_text}
 
 abbrev pub register_text : Register → List ℕ
 register_text B = codes "B"
@@ -93,16 +94,6 @@ immediate_text Compare = codes "CPI"
 abbrev pub operate_text : Operation → Operand → List ℕ
 operate_text o (Immediate b) = immediate_text o
 operate_text o s = operation_text o
-
--- one upper case hexadecimal digit
-abbrev pub digit_text : ℕ → List ℕ
-digit_text n = slice_index (codes "0123456789ABCDEF") n ∷ []
-
-abbrev pub byte_text : ℕ → List ℕ
-byte_text b = digit_text (b / 16) ++ digit_text (b % 16)
-
-abbrev pub word_text : ℕ → List ℕ
-word_text w = byte_text (w / 256) ++ byte_text (w % 256)
 
 abbrev pub mnemonic : Instr → List ℕ
 mnemonic (Mov d s) = codes "MOV"

@@ -9,7 +9,6 @@
 //! | [`direct_bytes`] | the addresses that an instruction names to store to |
 //! | [`write_text`] | the text of an instruction, as `MOV A,M` |
 //! | [`spelling_laws`], [`fetch_reads_code_alone`] | what holds of all spellings and of what is fetched, as contracts |
-//! | [`byte_digits`], [`append_digits`], [`word_digits`], [`word_of_digits`] | upper case hexadecimal digits, written and read |
 //! | [`Instr`] | one of the 244 instructions, with its operands |
 //! | [`Register`], [`Pair`], [`StackPair`], [`IndexPair`] | the registers and register pairs that an operand names |
 //! | [`Condition`], [`Operation`], [`Operand`], [`Rotation`], [`Restart`] | what else an instruction names |
@@ -17,7 +16,6 @@
 
 mod condition;
 mod decoding;
-mod digits;
 mod encoding;
 mod fetching;
 mod instr;
@@ -33,7 +31,6 @@ mod text;
 
 pub use condition::Condition;
 pub use decoding::{decode, length_of};
-pub use digits::{append_digits, byte_digits, word_digits, word_of_digits};
 pub use encoding::encode;
 pub use fetching::{FetchFault, Fetched, Program, ahead, behind, direct_bytes, fetch};
 pub use instr::Instr;

@@ -3,11 +3,11 @@
 ghost use Rattle.std.specs.Prelude.{◌≡◌, ◌+◌, ◌<◌, ◌≤◌, ◌++◌, [], OnOk, OnErr, codes, drop, length, take, vec_len, vec_capacity};
 ghost use Rattle.decode80.specs.Text.{joined, mnemonic, operand_text, operand_texts, text};
 
-use crate::digits::{byte_digits, digit, word_digits};
 use crate::instr::Instr;
 use crate::mnemonics::mnemonic_of;
 use crate::operation::Operand;
 use std::alloc::{AllocError, Global};
+use text80::{byte_digits, digit, word_digits};
 
 /// Appends the text of an instruction: the mnemonic, and if it has operands a space and the operands joined by commas,
 /// as `MOV A,M`, `LXI SP,3200`, `IN 01`, `RST 7`, `RNZ`.

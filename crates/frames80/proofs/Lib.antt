@@ -4,3 +4,4 @@ pub mod Depths
 pub mod Meeting
 pub mod Returned
 pub mod PlaceLemmas
+pub mod NumberLemmas

@@ -1,3 +1,4 @@
+pub mod Procedures
 pub mod Word
 pub mod StackFrame
 pub mod FrameView
@@ -8,3 +9,6 @@ pub mod Holding
 pub mod Moves
 pub mod Calls
 pub mod Places
+pub mod Code
+-- what its own functions promise, and verify80_flow's points
+pub mod PointNumbers

@@ -3,6 +3,8 @@
 //! | Item | What it is |
 //! |---|---|
 //! | [`Frame`], [`Word`] | what is known of a procedure's words and register pairs at a point |
+//! | [`Procedure`] | the main program, or one that a call reaches |
+//! | [`table`], [`slot`], [`SLOTS`] | a table with a place for each procedure |
 //! | [`Role`] | the main program, or a procedure that is called |
 //! | [`next`], [`Moves`] | what becomes of a frame at an instruction, and where the procedure goes on |
 //! | [`effect_of`], [`Effect`], [`Change`] | the kinds of effect, and the table of instructions |
@@ -11,10 +13,16 @@
 //! | [`meet`] | two frames at one point |
 //! | [`depth`] | how many bytes of the stack a frame takes |
 //! | [`places_move`], [`counts_decide`], [`covered_goes_along`], [`equality_is_exact`] | what holds of all frames, as contracts |
+//! | [`Code`], [`LookFault`] | the program: the instruction at each address, the start and the stack |
+//! | [`role_of`] | what a procedure of it is to its frames |
+//! | [`PointNumbers`] | a number for each address of each procedure |
+//! | [`numbers_are_of_addresses`] | a number is kept only of an address of memory, as a contract |
 #![tactic(auto)]
 
 mod call;
+mod code;
 mod effect;
+mod effect_table;
 mod fault;
 mod frame;
 mod frame_pair;
@@ -23,12 +31,16 @@ mod holding;
 mod laws;
 mod merge;
 mod moves;
+mod point_numbers;
+mod procedure;
 mod role;
-mod table;
+mod tables;
 mod word;
 
 pub use call::after;
+pub use code::{Code, LookFault, role_of};
 pub use effect::{Change, Effect};
+pub use effect_table::effect_of;
 pub use fault::{CallFault, FrameFault, HeightsDiffer};
 pub use frame::Frame;
 pub use frame_pair::FramePair;
@@ -37,6 +49,8 @@ pub use holding::Holding;
 pub use laws::{counts_decide, covered_goes_along, equality_is_exact, places_move};
 pub use merge::meet;
 pub use moves::{Moves, next};
+pub use point_numbers::{PointNumbers, numbers_are_of_addresses};
+pub use procedure::{Procedure, SLOTS, slot};
 pub use role::Role;
-pub use table::effect_of;
+pub use tables::table;
 pub use word::Word;

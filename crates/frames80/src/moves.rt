@@ -5,11 +5,11 @@ ghost use Rattle.frames80.specs.Effects.{effect_of};
 ghost use Rattle.frames80.specs.Moves.{moves_of, changed};
 
 use crate::effect::{Change, Effect};
+use crate::effect_table::effect_of;
 use crate::fault::FrameFault;
 use crate::frame::Frame;
 use crate::frame_pair::FramePair;
 use crate::role::Role;
-use crate::table::effect_of;
 use crate::word::Word;
 use decode80::Instr;
 use std::alloc::{AllocError, Global};

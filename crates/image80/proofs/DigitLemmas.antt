@@ -3,7 +3,7 @@ use Rattle.std.proofs.Common.{◌≡◌, ℕ, zero, suc, ◌+◌, ◌-◌, ◌*�
 use Rattle.std.specs.Prelude.{codes, slice_index, if◌then◌else◌}
 use Rattle.std.specs.List.{list_all, range_with_len}
 use Rattle.std.proofs.lemmas.Bool.{eqb-true}
-use Rattle.decode80.specs.Text.{digit_text, word_text}
+use Rattle.text80.specs.Digits.{digit_text, word_text}
 use Rattle.image80.specs.declared.range.Range.{Range}
 use Rattle.image80.specs.Range.{IsInMemory}
 use Rattle.image80.specs.RegionsText.{range_text}

@@ -8,7 +8,7 @@ use Rattle.std.proofs.lemmas.List.Concat.{flat_map-append}
 use Rattle.std.proofs.lemmas.List.Elements.{All-nil, All-cons, All-head, All-tail, All-append, All-map, All-from_recursion, filter_map-append}
 use Rattle.std.proofs.lemmas.List.Sorted.{IsPermutation-refl}
 use Rattle.std.proofs.lemmas.List.Splits.{slice_split_at}
-use Rattle.decode80.specs.Text.{word_text}
+use Rattle.text80.specs.Digits.{word_text}
 use Rattle.image80.specs.declared.range.Range.{Range}
 use Rattle.image80.specs.declared.entry.Entry.{Entry}
 use Rattle.image80.specs.declared.entry.Entry.TheVariants.{Code, Stack, Data, Case}

@@ -6,7 +6,7 @@
 -- PL/M's DO CASE.)
 use Rattle.std.specs.Prelude.{◌≡◌, ℕ, ◌+◌, ◌==◌, Bool, true, false, nat_lt, List, [], ◌∷◌, ◌++◌, length, map, filter, filter_map, All, AllPairs, IsPermutation, codes, Option, Some, None}
 use Rattle.std.specs.List.{flat_map, list_any}
-use Rattle.decode80.specs.Text.{word_text}
+use Rattle.text80.specs.Digits.{word_text}
 use Rattle.image80.specs.declared.range.Range.{Range}
 use Rattle.image80.specs.declared.entry.Entry.{Entry}
 use Rattle.image80.specs.declared.entry.Entry.TheVariants.{Code, Stack, Data, Case}

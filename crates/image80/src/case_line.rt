@@ -1,16 +1,16 @@
 //! The CASE lines of a regions text.
 
 ghost use Rattle.std.specs.Prelude.{◌≡◌, ◌≢◌, ◌<◌, ℕ, List, [], ◌∷◌, ◌++◌, length, All, IsTrue, IfOk, IfSome, IfNone};
-ghost use Rattle.decode80.specs.Text.{word_text};
+ghost use Rattle.text80.specs.Digits.{word_text};
 ghost use Rattle.image80.specs.Case.{DeclaredCase};
 ghost use Rattle.image80.specs.CaseLine.{IsCaseLine};
 ghost use Rattle.image80.specs.Reading.{IsCaseOf};
 ghost use Rattle.image80.specs.RegionsText.{case_text, targets_text};
 
 use crate::case::Case;
-use decode80::word_of_digits;
 use std::alloc::{AllocError, Global};
 use std::marker::Model;
+use text80::word_of_digits;
 
 /// What a case line gives: its address and its targets as they stand, at least one.
 #[derive(Drop)]

@@ -7,8 +7,8 @@ ghost use Rattle.image80.specs.RegionsText.{range_text, entry_text, code_range, 
 use crate::case_line::{CaseLine, read_case};
 use crate::range::Range;
 use crate::version::Version;
-use decode80::word_of_digits;
 use std::alloc::{AllocError, Global};
+use text80::word_of_digits;
 
 /// What a line of a regions text gives.
 #[derive(Drop)]

@@ -11,8 +11,8 @@ use crate::laws::text_of_regions_is_read_as_itself;
 use crate::range::Range;
 use crate::regions::Regions;
 use crate::version::Version;
-use decode80::word_digits;
 use std::alloc::{AllocError, Global};
+use text80::word_digits;
 
 /// Appends the text of the regions, of version 2 if they have a case, of version 1 if they have none: the line
 /// `REGIONS 1` or `REGIONS 2`, the code lines by address, the stack line, the data lines by address, the case lines by

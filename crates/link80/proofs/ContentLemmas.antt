@@ -10,13 +10,13 @@ use Rattle.omf_parts.specs.declared.fixup.Target.{Target}
 use Rattle.omf_parts.specs.Contents.{ContentValue}
 use Rattle.omf_parts.specs.Modules.{ModuleValue}
 use Rattle.omf_parts.specs.Rules.{has_target}
-use Rattle.omf_relocation.specs.declared.patching.Patch.{Patch}
-use Rattle.omf_relocation.specs.Patches.{with_patches}
-use Rattle.omf_relocation.specs.PatchLaws.{patch_by, TwoWords, first_patch, second_patch, total_patch, AddsUp, TwoPassesAreOne}
-use Rattle.omf_relocation.specs.Place.{Bases, part_start, place_in}
-use Rattle.omf_relocation.specs.ImageByte.{target_word, patch_of, chunk_of}
-use Rattle.omf_relocation.specs.HighReferences.{is_high, loses_low_byte}
-use Rattle.omf_relocation.specs.SoundModules.{LiesIn, as_patch, HasItsFixups, PartsOfOneStartAtZero}
+use Rattle.omf_parts.specs.declared.patching.Patch.{Patch}
+use Rattle.omf_parts.specs.Patches.{with_patches}
+use Rattle.omf_parts.specs.PatchLaws.{patch_by, TwoWords, first_patch, second_patch, total_patch, AddsUp, TwoPassesAreOne}
+use Rattle.omf_parts.specs.Place.{Bases, part_start, place_in}
+use Rattle.omf_parts.specs.ImageByte.{target_word, patch_of, chunk_of}
+use Rattle.omf_parts.specs.HighReferences.{is_high, loses_low_byte}
+use Rattle.omf_parts.specs.SoundModules.{LiesIn, as_patch, HasItsFixups, PartsOfOneStartAtZero}
 use Rattle.link80.specs.Linked.{linked_reference, fixup_to, linked_fixup, linked_content, linked}
 use Rattle.link80.proofs.ListLemmas.{map_map}
 use Rattle.link80.proofs.PlaceLemmas.{Listed, few_commons, content_place}

@@ -12,7 +12,7 @@ use Rattle.omf_parts.specs.Segments.{empty_segment, is_fixed_id, segment_in}
 use Rattle.omf_parts.specs.Modules.{ModuleValue}
 use Rattle.omf_parts.specs.Rules.{each_after, is_new_common, IsModule}
 use Rattle.omf_parts.specs.SoundParts.{sound_parts}
-use Rattle.omf_relocation.specs.Place.{common_name, is_laid_out}
+use Rattle.omf_parts.specs.Place.{common_name, is_laid_out}
 use Rattle.link80.specs.FirstSight.{number_in}
 use Rattle.link80.specs.Joined.{joined_parts, with_parts, parts_of_commons, with_part_at, with_named_parts}
 use Rattle.link80.specs.Linked.{numbered_common, common_names, linked_commons, part_of, parts_end, greatest, linked_length, linked_segment}

@@ -11,9 +11,9 @@ use Rattle.omf_parts.specs.Contents.{ContentValue, offsets_by}
 use Rattle.omf_parts.specs.Segments.{segment_in}
 use Rattle.omf_parts.specs.Modules.{ModuleValue}
 use Rattle.omf_parts.specs.Rules.{IsModule, end_of}
-use Rattle.omf_relocation.specs.Patches.{is_inside_bytes}
-use Rattle.omf_relocation.specs.Place.{is_laid_out, part_start, starts_from}
-use Rattle.omf_relocation.specs.SoundModules.{SoundModulesKeepRules, LiesIn, HasItsFixups, as_patch}
+use Rattle.omf_parts.specs.Patches.{is_inside_bytes}
+use Rattle.omf_parts.specs.Place.{is_laid_out, part_start, starts_from}
+use Rattle.omf_parts.specs.SoundModules.{SoundModulesKeepRules, LiesIn, HasItsFixups, as_patch}
 use Rattle.link80.specs.Linked.{greatest, linked_commons, part_of, parts_end, linked_length}
 use Rattle.link80.specs.LinkFault.{segment_too_long}
 use Rattle.link80.specs.Movable.{CanBeMoved}

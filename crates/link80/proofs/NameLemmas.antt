@@ -7,8 +7,8 @@ use Rattle.std.proofs.Common.{◌∙◌, ap, sym, arith, inl, inr, cond, eqb-tru
 use Rattle.std.proofs.lemmas.Bool.{cases_Bool, and_parts, ne_eqb, not_from_false}
 use Rattle.omf_parts.specs.declared.symbols.Common.{Common}
 use Rattle.omf_parts.specs.Segments.{has_common_id}
-use Rattle.omf_relocation.specs.Place.{common_name}
-use Rattle.omf_relocation.specs.ImageByte.{name_at}
+use Rattle.omf_parts.specs.Place.{common_name}
+use Rattle.omf_parts.specs.ImageByte.{name_at}
 use Rattle.link80.specs.Linked.{distinct, numbered_common, id_of, index_of}
 
 -- ---- equal names

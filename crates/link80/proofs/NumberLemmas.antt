@@ -10,7 +10,7 @@ use Rattle.omf_parts.specs.declared.symbols.Public.{Public}
 use Rattle.link80.specs.FirstSight.{number_in}
 use Rattle.omf_parts.specs.Segments.{is_fixed_id}
 use Rattle.omf_parts.specs.Modules.{ModuleValue}
-use Rattle.omf_relocation.specs.Place.{common_name}
+use Rattle.omf_parts.specs.Place.{common_name}
 use Rattle.link80.specs.declared.fault.LinkFault.{LinkFault}
 use Rattle.link80.specs.declared.fault.LinkFault.TheVariants.{TooManyCommons}
 use Rattle.link80.specs.LinkFault.{too_many_commons}

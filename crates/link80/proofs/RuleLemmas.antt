@@ -16,10 +16,10 @@ use Rattle.omf_parts.specs.Contents.{ContentValue}
 use Rattle.omf_parts.specs.Segments.{is_fixed_id, has_common_id, has_segment, segment_in}
 use Rattle.omf_parts.specs.Modules.{ModuleValue}
 use Rattle.omf_parts.specs.Rules.{each_after, is_new_entry, is_new_common, has_target, is_fitting, has_fitting, lies_within, is_in_bounds, is_content, end_of, is_start}
-use Rattle.omf_relocation.specs.Patches.{byte_with}
-use Rattle.omf_relocation.specs.Place.{common_name, is_laid_out, starts_from, part_start}
-use Rattle.omf_relocation.specs.ImageByte.{name_at}
-use Rattle.omf_relocation.specs.SoundModules.{LiesIn, HasItsFixups, SoundModulesKeepRules, CommonsByName}
+use Rattle.omf_parts.specs.Patches.{byte_with}
+use Rattle.omf_parts.specs.Place.{common_name, is_laid_out, starts_from, part_start}
+use Rattle.omf_parts.specs.ImageByte.{name_at}
+use Rattle.omf_parts.specs.SoundModules.{LiesIn, HasItsFixups, SoundModulesKeepRules, CommonsByName}
 use Rattle.link80.specs.Linked.{common_names, linked_commons, id_of, linked_id, moved, linked_public, linked_publics, public_of, unresolved, index_of, to_place, to_public, linked_reference, link_patch, linked_content, linked_contents, part_of, parts_end, greatest, linked_length, linked_segment, linked_ids, moved_start, starts, linked_parts, distinct}
 use Rattle.link80.specs.LinkLaws.{LinkedModuleKeepsRules}
 use Rattle.link80.proofs.ListLemmas.{all_both}

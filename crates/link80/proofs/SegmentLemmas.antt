@@ -12,8 +12,8 @@ use Rattle.omf_parts.specs.declared.symbols.Common.{Common}
 use Rattle.omf_parts.specs.Segments.{empty_segment, is_fixed_id, has_common_id, has_segment, segment_in}
 use Rattle.omf_parts.specs.Modules.{ModuleValue}
 use Rattle.omf_parts.specs.Rules.{each_after, is_new_entry, is_new_common}
-use Rattle.omf_relocation.specs.Place.{common_name, rounded, starts_from}
-use Rattle.omf_relocation.specs.SoundModules.{CommonsByName}
+use Rattle.omf_parts.specs.Place.{common_name, rounded, starts_from}
+use Rattle.omf_parts.specs.SoundModules.{CommonsByName}
 use Rattle.link80.specs.Linked.{distinct, numbered_common, part_of, parts_end, greatest}
 use Rattle.link80.proofs.ListLemmas.{find_map}
 use Rattle.link80.proofs.NameLemmas.{has_name, name_is, name_itself, numbered}

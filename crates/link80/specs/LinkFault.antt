@@ -12,7 +12,7 @@ use Rattle.omf_parts.specs.declared.fixup.Target.TheVariants as target
 use Rattle.omf_parts.specs.declared.symbols.Public.{Public}
 use Rattle.omf_parts.specs.Contents.{ContentValue}
 use Rattle.omf_parts.specs.Modules.{ModuleValue}
-use Rattle.omf_relocation.specs.HighReferences.{is_high}
+use Rattle.omf_parts.specs.HighReferences.{is_high}
 use Rattle.link80.specs.declared.fault.LinkFault.{LinkFault}
 use Rattle.link80.specs.declared.fault.LinkFault.TheVariants.{DuplicatePublic, SegmentTooLong, TwoMains, HighNotPaged, TooManyCommons, Memory, TooManyExternals}
 use Rattle.link80.specs.Linked.{common_names, moved, linked_publics, unresolved, linked_length, starts}

@@ -5,9 +5,9 @@ use Rattle.std.specs.List.{AllByRecursion, enumerate_from}
 use Rattle.omf_parts.specs.Segments.{segment_in}
 use Rattle.omf_parts.specs.Modules.{ModuleValue}
 use Rattle.omf_parts.specs.Rules.{IsModule, keeps_rules}
-use Rattle.omf_relocation.specs.Place.{Bases, place_in}
-use Rattle.omf_relocation.specs.ImageByte.{chunks_of, image_byte}
-use Rattle.omf_relocation.specs.HighReferences.{any_loses_low_byte}
+use Rattle.omf_parts.specs.Place.{Bases, place_in}
+use Rattle.omf_parts.specs.ImageByte.{chunks_of, image_byte}
+use Rattle.omf_parts.specs.HighReferences.{any_loses_low_byte}
 use Rattle.link80.specs.Linked.{linked_length, linked_parts, linked, starts}
 use Rattle.link80.specs.LinkFault.{link_fault}
 

@@ -15,11 +15,11 @@ use Rattle.omf_parts.specs.declared.fixup.Target.TheVariants as target
 use Rattle.omf_parts.specs.Contents.{ContentValue}
 use Rattle.omf_parts.specs.Segments.{empty_segment, is_fixed_id, segment_in}
 use Rattle.omf_parts.specs.Modules.{ModuleValue, made_of}
-use Rattle.omf_relocation.specs.declared.patching.Patch.{Patch}
+use Rattle.omf_parts.specs.declared.patching.Patch.{Patch}
 use Rattle.link80.specs.declared.reference.Reference.{Reference}
-use Rattle.omf_relocation.specs.Patches.{with_patches}
-use Rattle.omf_relocation.specs.Place.{common_name, rounded, is_laid_out, part_start}
-use Rattle.omf_relocation.specs.ImageByte.{name_at}
+use Rattle.omf_parts.specs.Patches.{with_patches}
+use Rattle.omf_parts.specs.Place.{common_name, rounded, is_laid_out, part_start}
+use Rattle.omf_parts.specs.ImageByte.{name_at}
 
 -- names without those that stood before
 abbrev pub distinct : List (List ℕ) → List (List ℕ)

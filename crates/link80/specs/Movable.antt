@@ -3,8 +3,8 @@ use Rattle.std.specs.Prelude.{◌≡◌, ◌≤◌, ◌<◌, ◌⊎◌, ℕ, ◌
 use Rattle.std.specs.List.{AllByRecursion}
 use Rattle.omf_parts.specs.Contents.{ContentValue}
 use Rattle.omf_parts.specs.Modules.{ModuleValue}
-use Rattle.omf_relocation.specs.Place.{part_start}
-use Rattle.omf_relocation.specs.SoundModules.{HasItsFixups}
+use Rattle.omf_parts.specs.Place.{part_start}
+use Rattle.omf_parts.specs.SoundModules.{HasItsFixups}
 
 -- its offsets stay words: its part starts where its segment does, or ends at a word; and its fixups keep their rules
 pub record CanBeMoved (modules : List ModuleValue) (number : ℕ) (m : ModuleValue) (c : ContentValue) : Type 0 where

@@ -4,7 +4,7 @@ use Rattle.std.specs.Prelude.{◌≡◌, ℕ, ◌+◌, nat_le, if◌then◌else�
 use Rattle.omf_core.specs.SegmentId.{code_id, data_id, stack_id}
 use Rattle.omf_parts.specs.declared.segment.Segment.{Segment}
 use Rattle.omf_parts.specs.Modules.{ModuleValue}
-use Rattle.omf_relocation.specs.Place.{rounded, starts_from}
+use Rattle.omf_parts.specs.Place.{rounded, starts_from}
 use Rattle.link80.specs.Linked.{parts_end}
 use Rattle.link80.specs.LinkFault.{segment_too_long}
 

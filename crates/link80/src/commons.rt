@@ -2,7 +2,7 @@
 
 ghost use Rattle.std.specs.Prelude.{◌≡◌, ◌≢◌, ◌<◌, ◌≤◌, [], None, Some, is_some, length, slice_get, IfOk, IfErr, IfSome, OnOk};
 ghost use Rattle.omf_parts.specs.Segments.{is_fixed_id};
-ghost use Rattle.omf_relocation.specs.Place.{common_name, is_laid_out, part_start};
+ghost use Rattle.omf_parts.specs.Place.{common_name, is_laid_out, part_start};
 ghost use Rattle.link80.specs.FirstSight.{number_in, with_names};
 ghost use Rattle.link80.specs.Linked.{common_names, linked_commons, linked_id, moved, names_of_commons, parts_end};
 ghost use Rattle.link80.specs.LinkFault.{too_many_commons};

@@ -2,7 +2,7 @@
 
 ghost use Rattle.std.specs.Prelude.{◌≡◌, ◌≢◌, ◌<◌, ◌≤◌, None, Some, is_some, length, slice_get, slice_index, IfSome, IfOk, IfErr, OnOk, IsTrue};
 ghost use Rattle.omf_parts.specs.Segments.{has_segment, is_fixed_id, segment_in};
-ghost use Rattle.omf_relocation.specs.Place.{is_laid_out, part_start};
+ghost use Rattle.omf_parts.specs.Place.{is_laid_out, part_start};
 ghost use Rattle.link80.specs.Linked.{moved, parts_end};
 ghost use Rattle.link80.specs.LinkFault.{segment_too_long};
 ghost use Rattle.link80.specs.Starts.{laid_out, next_part};

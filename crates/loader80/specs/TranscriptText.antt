@@ -4,7 +4,7 @@ use Rattle.std.specs.Fmt.{decimal}
 use Rattle.std.specs.List.{flat_map}
 use Rattle.machine80.specs.declared.end.End.{End}
 use Rattle.machine80.specs.declared.end.End.TheVariants.{Halt, InputEnd, OutputRefused, StoreOutside, JumpOutside, Fetch, Stack, Direct}
-use Rattle.decode80.specs.Text.{byte_text, word_text}
+use Rattle.text80.specs.Digits.{byte_text, word_text}
 use Rattle.verify80_flow.specs.declared.refusal.Refusal.{Refusal}
 use Rattle.verify80_flow.specs.declared.refusal.Refusal.TheVariants.{StackTooSmall}
 use Rattle.verify80_flow.specs.Refusal.{refusal_code, refusal_name, refusal_address}

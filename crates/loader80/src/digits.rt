@@ -25,7 +25,7 @@ pub struct ByteDigits(pub u8);
 
 impl fmt::Display for ByteDigits {
     ghost use Rattle.std.specs.Prelude.{Some};
-    ghost use Rattle.decode80.specs.Text.{byte_text};
+    ghost use Rattle.text80.specs.Digits.{byte_text};
 
     ghost output = { λ byte. Some (byte_text byte.0) };
 
@@ -41,7 +41,7 @@ pub struct WordDigits(pub u16);
 
 impl fmt::Display for WordDigits {
     ghost use Rattle.std.specs.Prelude.{Some};
-    ghost use Rattle.decode80.specs.Text.{word_text};
+    ghost use Rattle.text80.specs.Digits.{word_text};
 
     ghost output = { λ word. Some (word_text word.0) };
 

@@ -1,7 +1,7 @@
 //! What is printed of a run, and of an image that is refused.
 ghost use Rattle.std.specs.Prelude.{◌≡◌, ◌++◌, IfOk, OnOk, string_bytes};
 ghost use Rattle.std.specs.List.{flat_map};
-ghost use Rattle.decode80.specs.Text.{byte_text, word_text};
+ghost use Rattle.text80.specs.Digits.{byte_text, word_text};
 ghost use Rattle.loader80.specs.TranscriptText.{after_steps, end_line, output_line, refusal_line, stack_line, transcript};
 
 use crate::digits::{ByteDigits, WordDigits};

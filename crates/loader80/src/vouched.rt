@@ -5,14 +5,16 @@ ghost use Rattle.verify80_flow.specs.Faults.{Holds};
 ghost use Rattle.verify80_flow.specs.Fitting.{IsFitted};
 ghost use Rattle.machine80.specs.World.{NeverGoesWrong};
 ghost use Rattle.verify80.specs.Looking.{code_of};
-ghost use Rattle.verify80_soundness.specs.Starts.{NeverGoesWrongFromPowerOn};
+ghost use Rattle.verify80.specs.Starts.{NeverGoesWrongFromPowerOn};
 ghost use Rattle.loader80.specs.Vouched.{IsVouched};
 
 use image80::{Image, RegionMap};
 use std::alloc::Global;
 use std::marker::Model;
-use verify80::{ProcRow, Refusal, Verified, verify_and_keep};
-use verify80_soundness::{fitted_images_never_go_wrong, images_never_go_wrong_from_power_on};
+use verify80::{
+    ProcRow, Refusal, Verified, fitted_images_never_go_wrong, images_never_go_wrong_from_power_on,
+    verify_and_keep,
+};
 
 /// An image that was vouched for: the verifier accepts it, so no run of it goes wrong.
 ///
@@ -45,7 +47,7 @@ impl Vouched {
     ghost use Rattle.image80.specs.RegionMap.{Maps};
     ghost use Rattle.verify80.specs.Kept.{IsKept};
     ghost use Rattle.verify80.specs.Looking.{code_of};
-    ghost use Rattle.verify80_soundness.specs.Starts.{NeverGoesWrongFromPowerOn};
+    ghost use Rattle.verify80.specs.Starts.{NeverGoesWrongFromPowerOn};
     ghost use Rattle.loader80.specs.Vouched.{IsVouched};
 
     /// An image that is accepted.

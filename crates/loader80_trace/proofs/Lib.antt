@@ -3,3 +3,4 @@ mod StepLemmas
 mod LineLemmas
 mod TraceLemmas
 mod CountLemmas
+mod CoverLemmas

@@ -5,7 +5,7 @@ use Rattle.decode80.specs.declared.instr.Instr.{Instr}
 use Rattle.decode80.specs.declared.instr.Instr.TheVariants.{In, Out}
 use Rattle.decode80.specs.declared.fetching.Fetched.{Fetched}
 use Rattle.decode80.specs.declared.pair.Pair.TheVariants.{Bc, De, Hl}
-use Rattle.decode80.specs.Text.{byte_text, word_text}
+use Rattle.text80.specs.Digits.{byte_text, word_text}
 use Rattle.image80.specs.Regions.{Areas}
 use Rattle.machine80.specs.declared.cpu.Cpu.{Cpu}
 use Rattle.machine80.specs.Cpu.{pair_of}

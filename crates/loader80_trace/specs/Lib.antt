@@ -3,3 +3,4 @@ pub mod Lines
 pub mod Traces
 pub mod Finished
 pub mod Counts
+pub mod Cover

@@ -7,7 +7,8 @@ use Rattle.decode80.specs.declared.instr.Instr.TheVariants.{In, Out}
 use Rattle.decode80.specs.declared.pair.Pair.TheVariants.{Bc, De, Hl}
 use Rattle.decode80.specs.declared.fetching.Fetched.{Fetched}
 use Rattle.decode80.specs.Spelling.{spelling}
-use Rattle.decode80.specs.Text.{text, byte_text, word_text}
+use Rattle.text80.specs.Digits.{byte_text, word_text}
+use Rattle.decode80.specs.Text.{text}
 use Rattle.image80.specs.Regions.{Areas}
 use Rattle.machine80.specs.declared.cpu.Cpu.{Cpu}
 use Rattle.machine80.specs.declared.end.End.{End}
@@ -16,7 +17,7 @@ use Rattle.machine80.specs.Flags.{flags_byte}
 use Rattle.machine80.specs.Ports.{next_input}
 use Rattle.machine80.specs.Step.{Machine, fetch}
 use Rattle.machine80.specs.World.{World}
-use Rattle.image80_listing.specs.Listing.{columns}
+use Rattle.image80_text.specs.Listing.{columns}
 
 -- the byte that an instruction takes from a port, if one waits there, or gives to one
 abbrev pub port_byte : Instr → Machine → Option ℕ

@@ -7,9 +7,12 @@
 //! | [`count_steps`], [`Counts`] | how often a run begins the instruction at each address |
 //! | [`memory_bytes`] | the bytes of a memory |
 //! | [`laws`] | a run goes on from where it was stopped, as a contract |
+//! | [`list_reached`] | the lines alone |
+//! | [`cover`] | the lines with how often each instruction was begun, and the sums |
 #![tactic(auto)]
 
 mod counting;
+mod cover;
 mod fault;
 mod finishing;
 pub mod laws;
@@ -20,6 +23,7 @@ mod stepping;
 mod tracing;
 
 pub use counting::{Counts, count_steps};
+pub use cover::{cover, list_reached};
 pub use fault::TraceFault;
 pub use finishing::{Finished, finish};
 pub use limits::{Limits, Span};

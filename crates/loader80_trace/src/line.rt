@@ -2,15 +2,17 @@
 
 ghost use Rattle.std.specs.Prelude.{◌≡◌, ◌-◌, ◌≤◌, ◌++◌, codes, drop, length, OnOk};
 ghost use Rattle.decode80.specs.Spelling.{spelling};
-ghost use Rattle.decode80.specs.Text.{byte_text, text, word_text};
-ghost use Rattle.image80_listing.specs.Listing.{columns};
+ghost use Rattle.text80.specs.Digits.{byte_text, word_text};
+ghost use Rattle.decode80.specs.Text.{text};
+ghost use Rattle.image80_text.specs.Listing.{columns};
 ghost use Rattle.loader80_trace.specs.Lines.{byte_shown, filled, instruction_line, number_text, registers_text};
 
-use decode80::{Instr, Pair, byte_digits, encode, word_digits, write_text};
-use image80_listing::append_columns;
+use decode80::{Instr, Pair, encode, write_text};
+use image80_text::append_columns;
 use machine80::Cpu;
 use std::alloc::{AllocError, Global};
 use std::fmt::Write;
+use text80::{byte_digits, word_digits};
 
 /// Appends the line of an instruction, with the byte that it takes from a port or gives to one, and the registers before it.
 pub(crate) fn append_line(

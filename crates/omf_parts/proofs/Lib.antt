@@ -2,3 +2,12 @@ pub mod RuleLemmas
 pub mod ListingLemmas
 pub mod MarkLemmas
 pub mod CanonicalLemmas
+pub mod PatchLemmas
+pub mod PatchingLemmas
+pub mod PatchedTwice
+pub mod TwoPasses
+pub mod WorkedPlaces
+pub mod AfterLemmas
+pub mod FixupLemmas
+pub mod SoundLemmas
+pub mod CommonLemmas

@@ -7,3 +7,9 @@ pub mod Segments
 pub mod FewSegments
 pub mod Laws
 pub mod Marks
+pub mod Place
+pub mod Patches
+pub mod ImageByte
+pub mod PatchLaws
+pub mod SoundModules
+pub mod HighReferences

@@ -10,6 +10,8 @@
 //! | [`copy_names`] | a copy of names |
 //! | [`laws`] | segments are kept |
 //! | [`PartsFault`] | why parts make no module |
+//! | [`Patch`], [`apply_patches`] | words that are added to a content's bytes, as its fixups say |
+//! | [`laws`] | what holds of patches, of parts and of the bytes that modules define |
 #![tactic(auto)]
 
 mod canonical_segments;
@@ -23,6 +25,8 @@ pub mod marks;
 mod modules;
 mod name_invariants;
 mod parts;
+mod patching;
+pub mod relocation_laws;
 mod rules;
 mod segment;
 mod symbols;
@@ -35,6 +39,7 @@ pub use fixup::{Fixup, Target};
 pub use modules::Module;
 pub use omf_body::Field;
 pub use parts::Parts;
+pub use patching::{Patch, apply_patches};
 pub use rules::{end_of, has_common_id, has_segment};
 pub use segment::Segment;
 pub use symbols::{Common, Public};

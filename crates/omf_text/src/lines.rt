@@ -10,11 +10,11 @@ ghost use Rattle.omf_text.specs.ModuleText.{
   content_line,
 };
 
-use decode80::word_digits;
 use omf_core::Name;
 use omf_core::segment_id::word_of;
 use omf_parts::{Common, Content, Public, Segment};
 use std::alloc::AllocError;
+use text80::word_digits;
 
 /// Appends the line of a segment.
 pub(crate) fn append_segment(

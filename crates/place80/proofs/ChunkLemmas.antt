@@ -9,12 +9,12 @@ use Rattle.std.proofs.lemmas.List.Elements.{All-nil, All-cons, All-head, All-tai
 use Rattle.omf_parts.specs.Contents.{ContentValue}
 use Rattle.omf_parts.specs.Segments.{segment_in, has_segment, empty_segment}
 use Rattle.omf_parts.specs.Modules.{ModuleValue}
-use Rattle.omf_relocation.specs.Place.{place_in}
-use Rattle.omf_relocation.specs.ImageByte.{patch_of, ByteChunk, chunk_of, chunks_of}
+use Rattle.omf_parts.specs.Place.{place_in}
+use Rattle.omf_parts.specs.ImageByte.{patch_of, ByteChunk, chunk_of, chunks_of}
 use Rattle.omf_parts.specs.Rules.{end_of, is_sound}
-use Rattle.omf_relocation.specs.declared.patching.Patch.{Patch}
-use Rattle.omf_relocation.specs.Patches.{byte_with, with_patches}
-use Rattle.omf_relocation.specs.SoundModules.{LiesIn}
+use Rattle.omf_parts.specs.declared.patching.Patch.{Patch}
+use Rattle.omf_parts.specs.Patches.{byte_with, with_patches}
+use Rattle.omf_parts.specs.SoundModules.{LiesIn}
 use Rattle.place80.specs.declared.options.Options.{Options}
 use Rattle.place80.specs.declared.placed_segments.Placed.{Placed}
 use Rattle.image80.specs.Image.{IsChunk}

@@ -13,3 +13,7 @@ pub mod LaidOut
 pub mod FitLemmas
 pub mod LocatedRegions
 mod RestartLemmas
+mod CausesPlacingLemmas
+mod CausesOverlapLemmas
+mod TextLemmas
+mod LawLemmas

@@ -6,9 +6,9 @@ use Rattle.std.proofs.lemmas.Bool.Decides.{nat_tests}
 use Rattle.omf_parts.specs.declared.symbols.Common.{Common}
 use Rattle.omf_parts.specs.Segments.{is_fixed_id, has_common_id, has_segment}
 use Rattle.omf_parts.specs.Modules.{ModuleValue}
-use Rattle.omf_relocation.specs.Place.{word_of, common_name, base_of, part_start, place_in}
+use Rattle.omf_parts.specs.Place.{word_of, common_name, base_of, part_start, place_in}
 use Rattle.omf_parts.specs.Rules.{each_after, is_new_common}
-use Rattle.omf_relocation.specs.SoundModules.{SoundModulesKeepRules, CommonsByName, PartsOfOneStartAtZero}
+use Rattle.omf_parts.specs.SoundModules.{SoundModulesKeepRules, CommonsByName, PartsOfOneStartAtZero}
 use Rattle.place80.specs.declared.placed_segments.Placed.{Placed}
 use Rattle.place80.specs.Layout.{base_in, top_in, bases_of}
 

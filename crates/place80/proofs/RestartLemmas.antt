@@ -14,7 +14,7 @@ use Rattle.image80.specs.Regions.{AreDisjoint, held}
 use Rattle.place80.specs.declared.placed_segments.Placed.{Placed}
 use Rattle.place80.specs.PlaceFault.{overlaps, pairs, first_over}
 use Rattle.omf_parts.specs.Modules.{ModuleValue}
-use Rattle.omf_relocation.specs.ImageByte.{image_byte}
+use Rattle.omf_parts.specs.ImageByte.{image_byte}
 use Rattle.place80.specs.declared.options.Options.{Options}
 use Rattle.place80.specs.Layout.{program_bases}
 use Rattle.place80.specs.Locating.{HoldsProgram, range_at, located_code, located_stack, located_data}

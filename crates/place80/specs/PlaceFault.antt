@@ -7,8 +7,8 @@ use Rattle.std.specs.Option.{option_or}
 use Rattle.omf_parts.specs.Contents.{ContentValue}
 use Rattle.omf_parts.specs.Segments.{absolute_id, code_id, memory_id}
 use Rattle.omf_parts.specs.Modules.{ModuleValue}
-use Rattle.omf_relocation.specs.Place.{Bases, place_in}
-use Rattle.omf_relocation.specs.HighReferences.{any_loses_low_byte}
+use Rattle.omf_parts.specs.Place.{Bases, place_in}
+use Rattle.omf_parts.specs.HighReferences.{any_loses_low_byte}
 use Rattle.place80.specs.declared.options.Options.{Options}
 use Rattle.place80.specs.declared.placed_segments.Placed.{Placed}
 use Rattle.place80.specs.declared.place_fault.PlaceFault.{PlaceFault}

@@ -7,7 +7,7 @@ use Rattle.decode80.specs.declared.instr.Instr.TheVariants.{Jmp}
 use Rattle.decode80.specs.Spelling.{spelling}
 use Rattle.omf_parts.specs.Segments.{absolute_id}
 use Rattle.omf_parts.specs.Modules.{ModuleValue}
-use Rattle.omf_relocation.specs.ImageByte.{image_byte}
+use Rattle.omf_parts.specs.ImageByte.{image_byte}
 use Rattle.image80.specs.declared.range.Range.{Range}
 use Rattle.image80.specs.Image.{PlacedBytes, byte_at}
 use Rattle.image80.specs.Regions.{Areas, Arranges}

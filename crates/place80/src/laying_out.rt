@@ -2,7 +2,7 @@
 
 ghost use Rattle.std.specs.Prelude.{◌≡◌, ◌⊎◌, ◌≤◌, ◌<◌, ◌+◌, None, Some, length, IfOk, IfErr, OnOk};
 ghost use Rattle.std.specs.List.{AllByRecursion};
-ghost use Rattle.omf_relocation.specs.Place.{rounded};
+ghost use Rattle.omf_parts.specs.Place.{rounded};
 ghost use Rattle.place80.specs.Layout.{common_ids, order_of, placed_after, layout_of};
 ghost use Rattle.place80.specs.PlaceFault.{layout_fault};
 ghost use Rattle.place80.specs.declared.place_fault.PlaceFault.TheVariants.{Memory};

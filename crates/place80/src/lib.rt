@@ -12,9 +12,12 @@
 //! | [`write_regions`], [`read_regions`], [`RegionsFault`] | regions as a text, which stand in `image80` too |
 //! | [`write_regions2`], [`migrate_regions`] | regions as a text of version 2, which stand there too |
 //! | [`laws`] | what holds of the definitions alone |
+//! | [`append_cause`] | the lines of a fault |
+//! | [`laws`] | that the lines of segments which don't fit are of those that the fault names |
 #![tactic(auto)]
 
 mod addresses;
+mod causes;
 pub mod laws;
 mod laying_out;
 mod located_chunks;
@@ -28,6 +31,8 @@ mod placed_segments;
 mod restarting;
 
 pub use addresses::place_of;
+pub use causes::append_cause;
+pub use causes::laws::{outside_is_shown, overlap_is_shown};
 pub use image80::{
     Case, Chunk, Image, Range, RegionMap, Regions, RegionsFault, migrate_regions, read_regions,
     write_regions, write_regions2,

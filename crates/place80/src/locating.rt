@@ -2,7 +2,7 @@
 
 ghost use Rattle.std.specs.Prelude.{◌≡◌, ◌⊎◌, false, None, Some, [], ◌∷◌, map, IfOk, IfErr, OnOk};
 ghost use Rattle.std.specs.List.{AllByRecursion};
-ghost use Rattle.omf_relocation.specs.HighReferences.{any_loses_low_byte};
+ghost use Rattle.omf_parts.specs.HighReferences.{any_loses_low_byte};
 ghost use Rattle.place80.specs.Layout.{layout_of, program_bases};
 ghost use Rattle.place80.specs.Locating.{CanBePlaced, Fit, HoldsProgram, ArrangesSegments, chunk_among, located_chunks, program_start};
 ghost use Rattle.place80.specs.PlaceFault.{locate_fault};
@@ -19,7 +19,7 @@ use image80::Image;
 use omf_body::segment_id::CODE;
 use omf_core::Name;
 use omf_module::Module;
-use omf_relocation::laws::{
+use omf_parts::relocation_laws::{
     commons_are_found_by_name, parts_of_one_start_at_zero, sound_modules_keep_rules,
 };
 use std::alloc::{AllocError, Global};

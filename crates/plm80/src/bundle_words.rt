@@ -3,7 +3,7 @@
 ghost use Rattle.std.specs.Io.{ReadsAtMost};
 
 use loader80::SessionFault;
-use loader80_bundle::BundleFault;
+use loader80_text::BundleFault;
 use plm80_console::{Console, explain_regions};
 use std::io;
 use std::io::{ErrorKind, Read};

@@ -5,14 +5,13 @@ mod arguments;
 use arguments::{Request, read_arguments};
 use plm80_console::{Console, Reported};
 use plm80_objects::{
-    describe_file, find_modules, link_files, locate_file, map_file, write_library_file,
+    compare_files, describe_file, extract_file, find_modules, link_files, locate_file, map_file,
+    write_absolute, write_library_file,
 };
 use plm80_programs::{
-    advise_file, check_files, explain_files, list_files, list_stores, migrate_file, show_calls,
-    suggest_for_files,
+    advise_file, check_files, cover_files, explain_files, list_files, list_stores, migrate_file,
+    run_files, show_calls, suggest_for_files, trace_files, write_inputs_file,
 };
-use plm80_rom::{compare_files, extract_file, write_absolute};
-use plm80_runs::{cover_files, run_files, trace_files, write_inputs_file};
 use std::process::ExitCode;
 
 /// Does the command, and gives the exit status: 1 if an image is refused, 2 at a fault, 3 or 4 as a run ends, and else 0. A fault is

@@ -5,14 +5,14 @@ use Rattle.std.specs.Cmp.Lexicographic.{pointwise}
 use Rattle.std.specs.List.{flat_map}
 use Rattle.image80.specs.declared.range.Range.{Range}
 use Rattle.omf_parts.specs.declared.symbols.Public.{Public}
-use Rattle.image80_names.specs.NameText.{name_text, named_text}
-use Rattle.place80_publics.specs.ImagePublics.{HasPublics}
+use Rattle.image80_text.specs.NameText.{name_text, named_text}
+use Rattle.place80_text.specs.ImagePublics.{HasPublics}
 use Rattle.verify80_flow.specs.declared.refusal.Refusal.{Refusal}
 use Rattle.verify80_flow.specs.declared.report.ProcRow.{ProcRow}
 use Rattle.verify80_flow.specs.Refusal.{refusal_address}
 use Rattle.loader80.specs.TranscriptText.{refusal_line}
 use Rattle.loader80.specs.Vouched.{Voucher}
-use Rattle.loader80_report.specs.ReportText.{report_text, row_line}
+use Rattle.loader80_text.specs.ReportText.{report_text, row_line}
 
 -- the publics by which addresses are named: those that the image's file has if they are asked for, else none
 abbrev pub AreNamesOf : (asked : Bool) (file : List ℕ) → List Public → Type 0

@@ -1,14 +1,14 @@
 //! The names of an image's addresses, as commands print them.
 
 ghost use Rattle.std.specs.Prelude.{◌≡◌, ◌==◌, ◌++◌, [], length, IfOk, OnOk};
-ghost use Rattle.image80_names.specs.NameText.{label_text, labelled_text, name_text, named_text};
+ghost use Rattle.image80_text.specs.NameText.{label_text, labelled_text, name_text, named_text};
 ghost use Rattle.plm80_names.specs.Printed.{named_end, AreNamesOf};
 
 use image80::Range;
-use image80_names::laws::texts_without_names_are_as_before;
-use image80_names::{append_label, append_name, label_lines, name_line, name_lines};
+use image80_text::laws::texts_without_names_are_as_before;
+use image80_text::{append_label, append_name, label_lines, name_line, name_lines};
 use omf_module::{Cause, Public};
-use place80_publics::read_publics;
+use place80_text::read_publics;
 use plm80_console::{Console, Reported};
 use std::alloc::{AllocError, Global};
 use std::marker::Model;

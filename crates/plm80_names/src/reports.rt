@@ -6,7 +6,7 @@ ghost use Rattle.plm80_names.specs.Printed.{named_refusal_report, named_report};
 use crate::names::Names;
 use image80::Image;
 use loader80::{ProcRow, Refusal, Vouched, refusal_text};
-use loader80_report::{append_rows, report_text};
+use loader80_text::{append_rows, report_text};
 use std::alloc::{AllocError, Global};
 
 /// The report on an image that was vouched for, with the names of its procedures behind their lines.

@@ -3,7 +3,7 @@
 use crate::link::read_file;
 use clap::ArgMatches;
 use plm80_console::{Argument, Console, Kind, LinkFile, OptionText, Reported, Syntax, path_of};
-use rom80_found_lines::{append_members, append_modules};
+use rom80_find::{append_members, append_modules};
 use std::alloc::{AllocError, Global};
 
 /// The arguments of `find`.

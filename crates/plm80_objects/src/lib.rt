@@ -8,8 +8,14 @@
 //! | [`map_file`] | `map`: where LOCATE would put a module's segments and public names |
 //! | [`describe_file`] | `module`: what an object file holds, module by module |
 //! | [`find_modules`] | `find`: where modules lie in a dump of a PROM |
+//! | [`write_absolute`] | `absolute`: the image of bytes as they are |
+//! | [`extract_file`] | `extract`: the bytes of an image's memory over a range |
+//! | [`compare_files`] | `compare`: where an image and a dump differ |
 #![tactic(auto)]
 
+mod absolute;
+mod compare;
+mod extract;
 mod find;
 mod helpers;
 mod library;
@@ -18,6 +24,9 @@ mod locate;
 mod map;
 mod module;
 
+pub use absolute::{ABSOLUTE, AbsoluteArguments, write_absolute};
+pub use compare::{COMPARE, CompareArguments, compare_files};
+pub use extract::{EXTRACT, ExtractArguments, extract_file};
 pub use find::{FIND, FindArguments, find_modules};
 pub use library::{LIB, LibraryArguments, write_library_file};
 pub use link::{LINK, LinkArguments, link_files};

@@ -2,7 +2,7 @@
 
 ghost use Rattle.std.specs.Prelude.{IfOk};
 ghost use Rattle.link80.specs.Selection.{IsSelection};
-ghost use Rattle.link80_parts.specs.Parts.{IsMade};
+ghost use Rattle.link80_text.specs.Parts.{IsMade};
 
 use crate::helpers::causes::report_link_fault;
 use crate::helpers::link_lines::{LinkLines, lines_of};

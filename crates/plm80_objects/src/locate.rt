@@ -10,7 +10,7 @@ use image80::{Image, write_regions};
 use image80_file::write_image;
 use omf_module::Module;
 use place80::{Options, PlaceFault, layout, locate, locate_with_restart};
-use place80_publics::write_image_with_publics;
+use place80_text::write_image_with_publics;
 use plm80_console::{Argument, Console, Kind, NewFile, Reported, Syntax, path_of, read_modules};
 use std::alloc::Global;
 

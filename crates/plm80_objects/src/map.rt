@@ -8,7 +8,7 @@ use crate::helpers::locate_options::{
 use crate::locate::one_module;
 use clap::ArgMatches;
 use place80::Options;
-use place80_map::map_text;
+use place80_text::map_text;
 use plm80_console::{Argument, Console, Kind, Reported, Syntax, path_of, read_modules};
 
 /// The arguments of `map`.

@@ -6,7 +6,7 @@ use loader80::{Vouched, vouch};
 use plm80_console::{Argument, Console, IMAGE, Kind, REGIONS, Reported, Syntax};
 use plm80_names::{NAMES, NamedFiles, Names, named_refusal};
 use std::alloc::{AllocError, Global};
-use verify80_graph::{CallGraph, graph_text, list_text};
+use verify80_calls::{CallGraph, graph_text, list_text};
 
 /// The arguments of `calls`.
 #[derive(Clone, Copy)]

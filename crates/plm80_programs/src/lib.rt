@@ -1,4 +1,5 @@
-//! The commands that look at a located program without a run: `list`, `check`, `explain`, `regions`, `cases`, `suggest`, `stores` and `calls`.
+//! The commands on located programs: `list`, `check`, `explain`, `regions`, `cases`, `suggest`, `stores` and `calls`, which look at one
+//! without a run, and `run`, `trace`, `cover` and `inputs`.
 //!
 //! | Item | What it is |
 //! |---|---|
@@ -10,22 +11,38 @@
 //! | [`advise_file`] | `suggest`: the regions that its bytes suggest |
 //! | [`list_stores`] | `stores`: its stores that may leave data, and its jumps by PCHL |
 //! | [`show_calls`] | `calls`: which procedure calls which, and how deep |
+//! | [`run_files`] | `run`: the transcript of a run, its last instructions, the memory that it leaves |
+//! | [`trace_files`] | `trace`: the instructions of a run, a line each |
+//! | [`cover_files`] | `cover`: the code, with how often a run began each instruction |
+//! | [`write_inputs_file`] | `inputs`: the text of a run's inputs, from words |
+//! | [`status_of`] | the exit status of a run |
 #![tactic(auto)]
 
 mod calls;
 mod cases;
 mod check;
+mod cover;
 mod explain;
+mod helpers;
+mod inputs;
 mod list;
 mod regions;
+mod run;
+mod status;
 mod stores;
 mod suggest;
+mod trace;
 
 pub use calls::{CALLS, CallsArguments, show_calls};
 pub use cases::{CASES, CasesArguments, suggest_for_files};
 pub use check::{CHECK, check_files};
+pub use cover::{COVER, CoverArguments, cover_files};
 pub use explain::{EXPLAIN, explain_files};
+pub use inputs::{INPUTS, InputsArguments, write_inputs_file};
 pub use list::{LIST, ListArguments, list_files};
 pub use regions::{REGIONS, RegionsArguments, migrate_file};
+pub use run::{RUN, RunArguments, run_files};
+pub use status::status_of;
 pub use stores::{STORES, list_stores};
 pub use suggest::{SUGGEST, SuggestArguments, advise_file};
+pub use trace::{TRACE, TraceArguments, trace_files};

@@ -2,9 +2,9 @@
 
 use clap::ArgMatches;
 use image80::Image;
-use image80_listing::listing;
+use image80_text::listing;
 use loader80::Vouched;
-use loader80_cover::list_reached;
+use loader80_trace::list_reached;
 use plm80_console::{Argument, Console, IMAGE, Kind, REGIONS, Reported, Syntax};
 use plm80_names::{NAMES, NamedFiles, Names, vouch_with_names};
 use std::alloc::{AllocError, Global};

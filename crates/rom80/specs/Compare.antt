@@ -2,7 +2,7 @@
 use Rattle.std.specs.Prelude.{◌≡◌, ℕ, ◌+◌, ◌-◌, ◌<◌, ◌≤◌, nat_lt, ◌==◌, Bool, not, ◌&&◌, if◌then◌else◌, List, [], ◌∷◌, ◌++◌, codes, length, take, drop, filter, min, slice_index}
 use Rattle.std.specs.List.{AllByRecursion, AllPairs, list_any, flat_map, range_with_len}
 use Rattle.std.specs.Fmt.{decimal}
-use Rattle.decode80.specs.Text.{byte_text, word_text}
+use Rattle.text80.specs.Digits.{byte_text, word_text}
 use Rattle.rom80.specs.declared.comparing.Difference.{Difference}
 use Rattle.rom80.specs.Rom.{is_among}
 

@@ -4,7 +4,7 @@
 use Rattle.std.specs.Prelude.{◌≡◌, ℕ, ◌+◌, ◌-◌, ◌%◌, nat_le, nat_lt, ◌&&◌, Bool, true, if◌then◌else◌, List, [], ◌∷◌, ◌++◌, codes, length, map, take, drop, slice_index}
 use Rattle.std.specs.List.{list_any, range_with_len, sum}
 use Rattle.std.specs.Option.{option_map_or}
-use Rattle.decode80.specs.Text.{word_text}
+use Rattle.text80.specs.Digits.{word_text}
 use Rattle.image80.specs.Image.{PlacedBytes, covers, byte_of, last_over}
 
 -- the byte at an address: that of the last chunk that covers it, and `fill` if none does

@@ -7,9 +7,9 @@ ghost use Rattle.rom80.specs.Compare.{AreDifferences, LieWithin, run_of, same_co
 
 use crate::extracting::bytes_over;
 use crate::fault::RomFault;
-use decode80::{append_digits, word_digits};
 use image80::Image;
 use std::alloc::{AllocError, Global};
+use text80::{append_digits, word_digits};
 
 /// Consecutive addresses at which the bytes of an image and of a dump differ.
 #[derive(Clone, Copy, Debug, PartialEq, Eq)]

@@ -6,9 +6,9 @@ ghost use Rattle.rom80.specs.Rom.{bytes_over, sum_line};
 
 use crate::fault::RomFault;
 use crate::memory::memory_of;
-use decode80::word_digits;
 use image80::Image;
 use std::alloc::{AllocError, Global};
+use text80::word_digits;
 
 /// The `length` bytes of the image's memory from the address `first` on: at each address that of the last chunk that covers it,
 /// and `fill` if none does, as in an erased PROM. The time grows with the number of the chunks' bytes, and not with that of

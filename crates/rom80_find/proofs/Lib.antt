@@ -5,3 +5,16 @@ pub mod PlaceLemmas
 pub mod WordLemmas
 pub mod RepeatLemmas
 pub mod RunLemmas
+pub mod ReadingLemmas
+pub mod NameLemmas
+pub mod FoundNameLemmas
+pub mod BaseLemmas
+pub mod ByteLemmas
+pub mod ChunkLemmas
+pub mod LieLemmas
+pub mod FoundWordLemmas
+pub mod FindLemmas
+pub mod LinkLemmas
+pub mod TargetLemmas
+pub mod LinesPlaceLemmas
+pub mod FindingLemmas

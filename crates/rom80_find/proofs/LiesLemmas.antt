@@ -5,8 +5,8 @@ use Rattle.std.specs.Option.{option_map_or}
 use Rattle.std.proofs.Common.{refl, sym, ◌∙◌, ap, subst, arith}
 use Rattle.std.proofs.lemmas.Bool.{and_parts, and_from, eq-eqb, eqb-true, ne_eqb, true≢false}
 use Rattle.std.proofs.lemmas.Bool.Decides.{nat_tests}
-use Rattle.rom80_pattern.specs.declared.code_byte.CodeByte.{CodeByte}
-use Rattle.rom80_pattern.specs.CodeBytes.{number_of, byte_by, half_of, is_low}
+use Rattle.rom80_find.specs.declared.pattern.code_byte.CodeByte.{CodeByte}
+use Rattle.rom80_find.specs.CodeBytes.{number_of, byte_by, half_of, is_low}
 use Rattle.rom80_find.specs.declared.candidates.Candidates.{Candidates}
 use Rattle.rom80_find.specs.declared.candidates.Candidates.TheVariants.{Any, Low, Window}
 use Rattle.rom80_find.specs.Candidates.{is_candidate, is_half}

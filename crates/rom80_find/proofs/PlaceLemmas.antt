@@ -6,7 +6,7 @@ use Rattle.std.proofs.lemmas.Bool.{eqb-true, eq-eqb, or_cases, true≢false, cas
 use Rattle.std.proofs.lemmas.List.Recursion.{or_at}
 use Rattle.std.proofs.lemmas.List.Folds.{list_any-append}
 use Rattle.std.proofs.lemmas.List.Quantifiers.{all_pairs_push}
-use Rattle.rom80_pattern.specs.declared.code_byte.CodeByte.{CodeByte}
+use Rattle.rom80_find.specs.declared.pattern.code_byte.CodeByte.{CodeByte}
 use Rattle.rom80_find.specs.Runs.{IsAnswer, IsAnswerBefore}
 use Rattle.rom80_find.specs.Places.{LiesAt, place_of, is_free, is_known_fixup, ArePlaces, is_listed}
 use Rattle.rom80_find.specs.Sieve.{AreSieved}

@@ -3,8 +3,8 @@ use Rattle.std.specs.Prelude.{◌≡◌, ℕ, zero, suc, ◌+◌, ◌-◌, ◌%�
 use Rattle.std.specs.List.{AllByRecursion}
 use Rattle.std.proofs.Common.{refl, sym, ◌∙◌, ap, arith}
 use Rattle.std.proofs.lemmas.Bool.{ne_eqb, leb-true, le-leb, true≢false}
-use Rattle.rom80_pattern.specs.declared.code_byte.CodeByte.{CodeByte}
-use Rattle.rom80_pattern.specs.CodeBytes.{number_of, byte_by, half_of}
+use Rattle.rom80_find.specs.declared.pattern.code_byte.CodeByte.{CodeByte}
+use Rattle.rom80_find.specs.CodeBytes.{number_of, byte_by, half_of}
 use Rattle.rom80_find.specs.Places.{dump_byte, LiesAt, is_free, is_plain, is_known_fixup}
 use Rattle.rom80_find.specs.Runs.{AreFree, AreFrom, AreUpTo, IsRepeated}
 

@@ -5,10 +5,10 @@ use Rattle.std.specs.Option.{option_map_or}
 use Rattle.std.proofs.Common.{refl, sym, ◌∙◌, ap, arith, get_or, take, below_more, get_or-set_other, get_or-set_same, set}
 use Rattle.std.proofs.lemmas.Bool.{and_parts, ne_eqb, true≢false}
 use Rattle.std.proofs.lemmas.List.Folds.{list_all_more}
-use Rattle.rom80_pattern.specs.declared.code_byte.Half.{Half}
-use Rattle.rom80_pattern.specs.declared.code_byte.Half.TheVariants as half
-use Rattle.rom80_pattern.specs.declared.code_byte.CodeByte.{CodeByte}
-use Rattle.rom80_pattern.specs.CodeBytes.{number_of, half_of, is_low}
+use Rattle.rom80_find.specs.declared.pattern.code_byte.Half.{Half}
+use Rattle.rom80_find.specs.declared.pattern.code_byte.Half.TheVariants as half
+use Rattle.rom80_find.specs.declared.pattern.code_byte.CodeByte.{CodeByte}
+use Rattle.rom80_find.specs.CodeBytes.{number_of, half_of, is_low}
 use Rattle.rom80_find.specs.Places.{dump_byte, fits, is_plain, fits_if_plain}
 use Rattle.rom80_find.specs.Candidates.{is_half}
 use Rattle.rom80_find.specs.Runs.{AreFrom, AreUpTo, IsOneRun}

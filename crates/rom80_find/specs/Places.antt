@@ -2,8 +2,8 @@
 use Rattle.std.specs.Prelude.{◌≡◌, ℕ, ◌+◌, ◌-◌, ◌%◌, ◌<◌, ◌≤◌, ◌==◌, Bool, true, false, not, ◌&&◌, ◌||◌, nat_le, nat_lt, if◌then◌else◌, Option, Some, None, List, [], ◌∷◌, length, slice_index, slice_index_or}
 use Rattle.std.specs.List.{AllByRecursion, AllPairs, list_all, list_any}
 use Rattle.std.specs.Option.{option_map_or}
-use Rattle.rom80_pattern.specs.declared.code_byte.CodeByte.{CodeByte}
-use Rattle.rom80_pattern.specs.CodeBytes.{number_of, byte_by, is_low}
+use Rattle.rom80_find.specs.declared.pattern.code_byte.CodeByte.{CodeByte}
+use Rattle.rom80_find.specs.CodeBytes.{number_of, byte_by, is_low}
 use Rattle.rom80_find.specs.declared.candidates.Candidates.{Candidates}
 use Rattle.rom80_find.specs.declared.candidates.Candidates.TheVariants.{Any}
 use Rattle.rom80_find.specs.Candidates.{is_candidate, is_half}

@@ -1,7 +1,7 @@
 -- Runs of equal bytes in a dump.
 use Rattle.std.specs.Prelude.{◌≡◌, ℕ, ◌+◌, ◌-◌, ◌%◌, ◌<◌, ◌≤◌, Bool, true, false, Option, List, length, slice_index, IfSome}
 use Rattle.std.specs.List.{AllByRecursion}
-use Rattle.rom80_pattern.specs.declared.code_byte.CodeByte.{CodeByte}
+use Rattle.rom80_find.specs.declared.pattern.code_byte.CodeByte.{CodeByte}
 use Rattle.rom80_find.specs.Places.{dump_byte, is_free, LiesAt}
 
 -- of each address below `stop`, all addresses twice, one from which on up to it the dump has the same byte, or none

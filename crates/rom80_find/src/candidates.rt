@@ -3,7 +3,7 @@
 ghost use Rattle.std.specs.Prelude.{◌≡◌, ◌<◌, ◌+◌, ◌%◌, ◌==◌, ◌&&◌, ℕ, false, IfSome, IfNone};
 ghost use Rattle.rom80_find.specs.Candidates.{is_candidate, is_half, is_in_window};
 
-use rom80_pattern::Half;
+use crate::pattern::Half;
 
 /// The values that a target may have. There is always one.
 #[derive(Clone, Copy, Debug, PartialEq, Eq)]

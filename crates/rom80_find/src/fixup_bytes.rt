@@ -1,12 +1,12 @@
 //! The bytes of a module's code that aren't outside fixups.
 
 ghost use Rattle.std.specs.Prelude.{◌≡◌, ◌≤◌, filter, nat_le, IfOk};
-ghost use Rattle.rom80_pattern.specs.CodeBytes.{number_of};
+ghost use Rattle.rom80_find.specs.CodeBytes.{number_of};
 ghost use Rattle.rom80_find.specs.Places.{is_known_fixup, is_free};
 ghost use Rattle.rom80_find.specs.Runs.{AreFrom, AreUpTo};
 
+use crate::pattern::{CodeByte, number_of};
 use crate::sieve::is_plain;
-use rom80_pattern::{CodeByte, number_of};
 use std::alloc::{AllocError, Global};
 
 /// The bytes in fixups of values that are known, those of other values, and the least and the greatest offset of the latter.

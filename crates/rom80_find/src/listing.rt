@@ -1,16 +1,16 @@
 //! The addresses at which a module's code lies.
 
 ghost use Rattle.std.specs.Prelude.{◌≡◌, ◌<◌, ◌≤◌, ◌++◌, IfOk, OnOk};
-ghost use Rattle.rom80_pattern.specs.CodeBytes.{number_of};
+ghost use Rattle.rom80_find.specs.CodeBytes.{number_of};
 ghost use Rattle.rom80_find.specs.Places.{AreBelow, ArePlaces, place_of};
 
 use crate::fixup_bytes::fixup_bytes;
 use crate::next::lies_next;
+use crate::pattern::CodeByte;
 use crate::runs::run_starts;
 use crate::sieve::sieve;
 use crate::solving::any_table;
 use omf_parts::Target;
-use rom80_pattern::CodeByte;
 use std::alloc::{AllocError, Global};
 
 /// The addresses at which the code lies in a dump that stands from the address `first` on, in ascending order: those for which

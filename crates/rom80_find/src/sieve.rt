@@ -8,9 +8,9 @@ ghost use Rattle.rom80_find.specs.Sieve.{IsRing, AreRings, AreSieved, IsSievedBy
 
 use crate::dump::byte_at;
 use crate::fixup_bytes::{greatest_offset, least_offset};
+use crate::pattern::{CodeByte, Half};
 use crate::runs::is_one_run;
 use omf_parts::Target;
-use rom80_pattern::{CodeByte, Half};
 use std::alloc::{AllocError, Global};
 
 /// How many addresses there are.

@@ -1,14 +1,14 @@
 //! The values that the targets of a module may have at one address.
 
 ghost use Rattle.std.specs.Prelude.{◌≡◌, ◌≢◌, ℕ, ◌<◌, ◌≤◌, ◌&&◌, ◌||◌, ◌==◌, not, true, false, List, [], length, IfOk, IfSome, IfNone, slice_index_or, take};
-ghost use Rattle.rom80_pattern.specs.CodeBytes.{number_of};
+ghost use Rattle.rom80_find.specs.CodeBytes.{number_of};
 ghost use Rattle.rom80_find.specs.declared.candidates.Candidates.TheVariants.{Any};
 ghost use Rattle.rom80_find.specs.Candidates.{is_candidate};
 ghost use Rattle.rom80_find.specs.Places.{Describes, IsClearBut, LiesAt, HasNone, AreBelow, in_table, fits, fits_for};
 
 use crate::candidates::Candidates;
 use crate::dump::byte_at;
-use rom80_pattern::{CodeByte, number_of};
+use crate::pattern::{CodeByte, number_of};
 use std::alloc::{AllocError, Global};
 
 /// Every word for so many values.

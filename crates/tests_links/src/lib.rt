@@ -24,6 +24,8 @@ mod feeds;
 #[cfg(test)]
 mod file_feeds;
 #[cfg(test)]
+mod image_names;
+#[cfg(test)]
 mod libraries;
 #[cfg(test)]
 mod library_feeds;

@@ -5,7 +5,7 @@ ghost use Rattle.std.specs.Prelude.{◌<◌};
 use crate::outside::{ByteSink, ByteSource, EndlessSource};
 use crate::pushing::{IMAGE, INPUTS, REGIONS, TRANSCRIPT};
 use loader80::{SessionFault, Sink, Source, session};
-use loader80_bundle::{BundleFault, bundle};
+use loader80_text::{BundleFault, bundle};
 use std::alloc::{AllocError, Global};
 use std::test::Fail;
 

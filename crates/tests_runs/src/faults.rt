@@ -2,7 +2,7 @@
 
 use image80::RegionsFault;
 use loader80::{InputsFault, SessionFault};
-use loader80_bundle::BundleFault;
+use loader80_text::BundleFault;
 use std::test::Fail;
 
 #[test]

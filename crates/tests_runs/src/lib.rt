@@ -19,10 +19,20 @@ mod failures;
 #[cfg(test)]
 mod faults;
 #[cfg(test)]
+mod frames;
+#[cfg(test)]
+mod machine;
+#[cfg(test)]
+mod memory;
+#[cfg(test)]
 mod outside;
 #[cfg(test)]
 mod pushing;
 #[cfg(test)]
+mod quick_steps;
+#[cfg(test)]
 mod sessions;
+#[cfg(test)]
+mod texts;
 #[cfg(test)]
 mod vouching;

@@ -10,8 +10,7 @@ use std::alloc::Global;
 use std::process::Abort;
 use std::test::Fail;
 use verify80::verify;
-use verify80_calls::{Procedure, find_calls};
-use verify80_reach::find_reached;
+use verify80_calls::{Procedure, find_calls, find_reached};
 use verify80_stores::find_stores;
 
 /// Its procedure.

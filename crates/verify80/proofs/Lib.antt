@@ -1,1 +1,13 @@
 pub mod LookLemmas
+pub mod StackLemmas
+pub mod StoreLemmas
+pub mod FetchLemmas
+pub mod PairLemmas
+pub mod ChainLemmas
+pub mod StepLemmas
+pub mod ArriveLemmas
+pub mod SafeLemmas
+pub mod Headline
+pub mod WalkLemmas
+pub mod WalkStepLemmas
+pub mod Along

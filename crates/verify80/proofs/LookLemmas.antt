@@ -7,8 +7,8 @@ use Rattle.decode80.specs.declared.fetching.Fetched.{Fetched}
 use Rattle.decode80.specs.declared.instr.Instr.{Instr}
 use Rattle.decode80.specs.declared.instr.Instr.TheVariants.{Ei, Pchl}
 use Rattle.image80.specs.Regions.{Areas}
-use Rattle.frames80_code.specs.declared.code.LookFault.{LookFault}
-use Rattle.frames80_code.specs.declared.code.LookFault.TheVariants.{Outside, Unused, EnablesInterrupts, Pchl as PchlUndeclared, DirectStore}
+use Rattle.frames80.specs.declared.code.LookFault.{LookFault}
+use Rattle.frames80.specs.declared.code.LookFault.TheVariants.{Outside, Unused, EnablesInterrupts, Pchl as PchlUndeclared, DirectStore}
 use Rattle.verify80.specs.Looking.{is_ei, is_pchl, halt_follows, is_declared, stores_in_data, admitted, looked, look_at}
 use Rattle.verify80.specs.LookLaws.{fetch_at, IsAdmitted, IsFaultAt, LooksFindWhatIsAdmitted, LooksAnswerFaultsThatHold}
 

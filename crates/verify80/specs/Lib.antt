@@ -1,3 +1,6 @@
 pub mod Looking
 pub mod LookLaws
 pub mod Kept
+pub mod Starts
+pub mod Reached
+pub mod Soundness

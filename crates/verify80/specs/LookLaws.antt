@@ -6,8 +6,8 @@ use Rattle.decode80.specs.declared.fetching.Fetched.{Fetched}
 use Rattle.decode80.specs.declared.instr.Instr.TheVariants.{Ei, Pchl}
 use Rattle.decode80.specs.Fetch.{fetch}
 use Rattle.image80.specs.Regions.{Areas, in_code}
-use Rattle.frames80_code.specs.declared.code.LookFault.{LookFault}
-use Rattle.frames80_code.specs.declared.code.LookFault.TheVariants.{Outside, Unused, EnablesInterrupts, Pchl as PchlUndeclared, DirectStore}
+use Rattle.frames80.specs.declared.code.LookFault.{LookFault}
+use Rattle.frames80.specs.declared.code.LookFault.TheVariants.{Outside, Unused, EnablesInterrupts, Pchl as PchlUndeclared, DirectStore}
 use Rattle.verify80.specs.Looking.{halt_follows, is_declared, stores_in_data, look_at}
 
 -- what a fetch answers at an address of a memory

@@ -15,9 +15,9 @@ use Rattle.decode80.specs.Spelling.{opcode}
 use Rattle.decode80.specs.Fetch.{ahead, direct_bytes, fetch}
 use Rattle.image80.specs.Image.{Located, memory_of}
 use Rattle.image80.specs.Regions.{Areas, in_code, in_data, top_of, targets_at}
-use Rattle.frames80_code.specs.declared.code.LookFault.{LookFault}
-use Rattle.frames80_code.specs.declared.code.LookFault.TheVariants.{Outside, Unused, EnablesInterrupts, Pchl as PchlUndeclared, DirectStore}
-use Rattle.frames80_code.specs.Code.{Code}
+use Rattle.frames80.specs.declared.code.LookFault.{LookFault}
+use Rattle.frames80.specs.declared.code.LookFault.TheVariants.{Outside, Unused, EnablesInterrupts, Pchl as PchlUndeclared, DirectStore}
+use Rattle.frames80.specs.Code.{Code}
 
 -- the byte after an address is a HLT in the code; after FFFF comes 0000, as for the program counter
 abbrev pub halt_follows : Areas → (memory : List ℕ) → (at : ℕ) → Bool

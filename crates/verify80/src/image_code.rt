@@ -8,7 +8,7 @@ ghost use Rattle.verify80.specs.Kept.{IsKept};
 ghost use Rattle.verify80.specs.Looking.{admitted, code_of, halt_follows, is_declared, stores_in_data};
 
 use decode80::{FetchFault, Fetched, Instr, Program, ahead, direct_bytes, fetch};
-use frames80_code::{Code, LookFault};
+use frames80::{Code, LookFault};
 use image80::{Image, RegionMap};
 use std::alloc::{AllocError, Global};
 use std::marker::Model;

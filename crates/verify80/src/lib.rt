@@ -9,13 +9,21 @@
 //! | [`Refusal`] | why an image is refused |
 //! | [`ImageCode`] | an image as the verifier looks at it, address by address |
 //! | [`looks_are_exact`] | what the analysis sees of an image, as a contract |
+//! | [`fitted_images_never_go_wrong`] | if a table of frames fits an image, no run of it goes wrong, as a contract |
+//! | [`images_never_go_wrong_from_power_on`], [`runs_begin_from_power_on`] | the same of runs from power-on, as contracts |
+//! | [`accepted_images_stay_on_walks`] | each run of an accepted image stays on its walks, as a contract |
 #![tactic(auto)]
 
 mod image_code;
 mod laws;
+mod promise;
 mod verifying;
 
 pub use image_code::ImageCode;
 pub use laws::looks_are_exact;
+pub use promise::{
+    accepted_images_stay_on_walks, fitted_images_never_go_wrong,
+    images_never_go_wrong_from_power_on, runs_begin_from_power_on,
+};
 pub use verify80_flow::{ProcRow, Refusal, Report};
 pub use verifying::{Verified, measure, verify, verify_and_keep};

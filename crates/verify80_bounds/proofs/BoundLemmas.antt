@@ -5,11 +5,12 @@ use Rattle.std.proofs.lemmas.List.{get_or-set_same, get_or-set_other, length-app
 use Rattle.std.proofs.lemmas.List.Elements.{Contains-append_left, Contains-append_right, Contains-append_cases, Contains-push_cases, Contains-push}
 use Rattle.std.proofs.lemmas.Bool.{cases_eq}
 use Rattle.std.proofs.lemmas.Int.{ints}
-use Rattle.verify80_bounds.specs.declared.procedure.Procedure.{Procedure}
-use Rattle.verify80_bounds.specs.declared.procedure.Procedure.TheVariants.{Main, Entry}
+use Rattle.frames80.specs.declared.procedure.Procedure.{Procedure}
+use Rattle.frames80.specs.declared.procedure.Procedure.TheVariants.{Main, Entry}
 use Rattle.verify80_bounds.specs.declared.graph.Depth.{Depth}
 use Rattle.verify80_bounds.specs.declared.graph.CallSite.{CallSite}
-use Rattle.verify80_bounds.specs.Chains.{slot_of, bytes_of, HasLast, through_call, Chain, last, through, AreEntered, IsModest}
+use Rattle.verify80_bounds.specs.Chains.{bytes_of, HasLast, through_call, Chain, last, through, AreEntered, IsModest}
+use Rattle.frames80.specs.Procedures.{slot_of}
 use Rattle.verify80_bounds.specs.Sums.{Ends, ends, IsSettled, IsAbsorbed, AreSums, IsRaised, AreSmall}
 
 -- no two procedures have one slot

@@ -1,7 +1,7 @@
 -- At the end: the sums are the greatest, and no call leads back.
 use Rattle.std.proofs.Common.{ℕ, List, [], refl, sym, subst, ◌∙◌}
-use Rattle.verify80_bounds.specs.declared.procedure.Procedure.{Procedure}
-use Rattle.verify80_bounds.specs.declared.procedure.Procedure.TheVariants.{Entry}
+use Rattle.frames80.specs.declared.procedure.Procedure.{Procedure}
+use Rattle.frames80.specs.declared.procedure.Procedure.TheVariants.{Entry}
 use Rattle.verify80_bounds.specs.declared.graph.Depth.{Depth}
 use Rattle.verify80_bounds.specs.declared.graph.CallSite.{CallSite}
 use Rattle.verify80_bounds.specs.Chains.{CallsBy, Reaches, here, further, Cycles, AreEntered, AreGreatest}

@@ -5,10 +5,11 @@ use Rattle.std.proofs.lemmas.List.{get_or-set_same, get_or-set_other, length-set
 use Rattle.std.proofs.lemmas.List.Elements.{Contains-push_cases, Contains-get_or}
 use Rattle.std.proofs.lemmas.List.Sums.{sum_by-set}
 use Rattle.std.proofs.lemmas.Bool.{cases_eq, false≢true}
-use Rattle.verify80_bounds.specs.declared.procedure.Procedure.{Procedure}
-use Rattle.verify80_bounds.specs.declared.procedure.Procedure.TheVariants.{Entry}
+use Rattle.frames80.specs.declared.procedure.Procedure.{Procedure}
+use Rattle.frames80.specs.declared.procedure.Procedure.TheVariants.{Entry}
 use Rattle.verify80_bounds.specs.declared.graph.CallSite.{CallSite}
-use Rattle.verify80_bounds.specs.Chains.{slot_of, CallsBy, Reaches, here, further, Cycles}
+use Rattle.verify80_bounds.specs.Chains.{CallsBy, Reaches, here, further, Cycles}
+use Rattle.frames80.specs.Procedures.{slot_of}
 use Rattle.verify80_bounds.specs.Sums.{AreStuck, AreFollowed, IsFollowed, IsFollowing}
 use Rattle.verify80_bounds.proofs.BoundLemmas.{slot_apart}
 use Rattle.verify80_bounds.proofs.SumLemmas.{no_call}

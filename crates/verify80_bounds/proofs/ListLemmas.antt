@@ -8,7 +8,7 @@ use Rattle.std.proofs.lemmas.List.Sums.{sum_by-append, sum_by-cons, get_or-le-su
 use Rattle.std.proofs.lemmas.Bool.{cases_eq}
 use Rattle.std.proofs.lemmas.Bool.Decides.{nat_tests}
 use Rattle.verify80_bounds.specs.declared.graph.CallSite.{CallSite}
-use Rattle.verify80_bounds.specs.Chains.{slot_of}
+use Rattle.frames80.specs.Procedures.{slot_of}
 use Rattle.verify80_bounds.specs.Sums.{joined, calls_of}
 use Rattle.verify80_bounds.proofs.BoundLemmas.{contains_more, contains_less, contains_middle, longer}
 

@@ -5,11 +5,12 @@ use Rattle.std.proofs.lemmas.List.{get_or-set_same, get_or-set_other, length-set
 use Rattle.std.proofs.lemmas.List.Elements.{All-contains, Contains-get_or, Contains-append_left, Contains-push_cases, Contains-push, All-from_get_or, All-head, All-tail}
 use Rattle.std.proofs.lemmas.List.Sums.{count_by-le-length}
 use Rattle.std.proofs.lemmas.Bool.{cases_eq}
-use Rattle.verify80_bounds.specs.declared.procedure.Procedure.{Procedure}
-use Rattle.verify80_bounds.specs.declared.procedure.Procedure.TheVariants.{Entry}
+use Rattle.frames80.specs.declared.procedure.Procedure.{Procedure}
+use Rattle.frames80.specs.declared.procedure.Procedure.TheVariants.{Entry}
 use Rattle.verify80_bounds.specs.declared.graph.Depth.{Depth}
 use Rattle.verify80_bounds.specs.declared.graph.CallSite.{CallSite}
-use Rattle.verify80_bounds.specs.Chains.{slot_of, HasLast, CallsBy, last, IsModest}
+use Rattle.verify80_bounds.specs.Chains.{HasLast, CallsBy, last, IsModest}
+use Rattle.frames80.specs.Procedures.{slot_of}
 use Rattle.verify80_bounds.specs.Sums.{AreSums, AreDepths, AreCounted, IsSettled, AreSmall, IsSumAfter, AreStuck, joined, calls_of, AreGrouped, AreIdle, IsWorklist, IsAdvance, AreLeft}
 use Rattle.verify80_bounds.proofs.BoundLemmas.{slot_apart, absorbed, small_then}
 use Rattle.verify80_bounds.proofs.SumLemmas.{no_call}

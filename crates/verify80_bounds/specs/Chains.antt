@@ -1,17 +1,14 @@
 -- The bytes of stack over chains of calls, from the depths of a program's frames and its calls. (This project's own.)
 use Rattle.std.specs.Prelude.{◌≡◌, ◌+◌, ℕ, ℤ, pos, negsuc, ◌+ℤ◌, ◌≤ℤ◌, List, Contains, slice_index}
-use Rattle.verify80_bounds.specs.declared.procedure.Procedure.{Procedure}
-use Rattle.verify80_bounds.specs.declared.procedure.Procedure.TheVariants.{Main, Entry}
+use Rattle.frames80.specs.declared.procedure.Procedure.{Procedure}
+use Rattle.frames80.specs.declared.procedure.Procedure.TheVariants.{Main, Entry}
+use Rattle.frames80.specs.Procedures.{slot_of}
 use Rattle.verify80_bounds.specs.declared.graph.Depth.{Depth}
 use Rattle.verify80_bounds.specs.declared.graph.CallSite.{CallSite}
 use Rattle.verify80_bounds.specs.declared.fault.BoundsFault.{BoundsFault}
 use Rattle.verify80_bounds.specs.declared.fault.BoundsFault.TheVariants.{Recursion, Memory}
 
--- where a table has a procedure, and the bytes that it has for it
-abbrev pub slot_of : Procedure → ℕ
-slot_of Main = 0
-slot_of (Entry entry) = entry + 1
-
+-- the bytes that a table has for a procedure
 abbrev pub bytes_of : List ℕ → Procedure → ℕ
 bytes_of sums p = slice_index sums (slot_of p)
 

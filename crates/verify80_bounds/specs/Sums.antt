@@ -1,11 +1,12 @@
 -- What holds of the sums while calls are absorbed into them, and of the calls that are left. (This project's own.)
 use Rattle.std.specs.Prelude.{◌≡◌, ◌<◌, ◌≤◌, ◌+◌, ◌*◌, ◌==◌, ◌⊎◌, ℕ, ℤ, pos, ◌≤ℤ◌, Bool, true, false, List, [], Contains, All, length, count_by, slice_index, slice_index_or, slice_set}
 use Rattle.std.specs.List.{flat_map}
-use Rattle.verify80_bounds.specs.declared.procedure.Procedure.{Procedure}
-use Rattle.verify80_bounds.specs.declared.procedure.Procedure.TheVariants.{Entry}
+use Rattle.frames80.specs.declared.procedure.Procedure.{Procedure}
+use Rattle.frames80.specs.declared.procedure.Procedure.TheVariants.{Entry}
 use Rattle.verify80_bounds.specs.declared.graph.Depth.{Depth}
 use Rattle.verify80_bounds.specs.declared.graph.CallSite.{CallSite}
-use Rattle.verify80_bounds.specs.Chains.{slot_of, bytes_of, HasLast, CallsBy, through_call, Chain, Reaches, AreEntered, IsModest}
+use Rattle.verify80_bounds.specs.Chains.{bytes_of, HasLast, CallsBy, through_call, Chain, Reaches, AreEntered, IsModest}
+use Rattle.frames80.specs.Procedures.{slot_of}
 
 -- every chain of the lists' calls from a procedure on ends
 pub data Ends (calls : List CallSite) : Procedure → Type 0 where

@@ -7,9 +7,9 @@ ghost use Rattle.verify80_bounds.specs.Sums.{AreSums, AreStuck};
 use crate::cycles::cycle;
 use crate::fault::BoundsFault;
 use crate::graph::{CallSite, Depth};
-use crate::procedure::{Procedure, slot};
 use crate::sums::greatest_depths;
 use crate::worklist::{advance, group, idle, left};
+use frames80::{Procedure, slot};
 use std::alloc::{AllocError, Global};
 use std::marker::Model;
 

@@ -5,8 +5,7 @@ ghost use Rattle.verify80_bounds.specs.Chains.{Cycles};
 ghost use Rattle.verify80_bounds.specs.Sums.{AreStuck, AreFollowed};
 
 use crate::graph::CallSite;
-use crate::procedure::{Procedure, SLOTS, slot};
-use crate::sums::table;
+use frames80::{Procedure, SLOTS, slot, table};
 use std::alloc::{AllocError, Global};
 
 /// A table of one call of each procedure that has any.

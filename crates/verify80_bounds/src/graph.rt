@@ -1,6 +1,6 @@
 //! The depths of a program's frames, and its calls.
 
-use crate::procedure::Procedure;
+use frames80::Procedure;
 
 /// The depth of a frame of a procedure, in bytes; negative if it has taken more words than it has.
 #[derive(Clone, Copy, Debug)]

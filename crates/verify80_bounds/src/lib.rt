@@ -4,8 +4,6 @@
 //! |---|---|
 //! | [`find_bounds`] | the most bytes of stack that each procedure needs, or a call that leads back to its own procedure |
 //! | [`Depth`], [`CallSite`] | the depths of a program's frames, and its calls |
-//! | [`Procedure`] | the main program, or one that a call reaches |
-//! | [`table`], [`slot`], [`SLOTS`] | a table with a place for each procedure |
 //! | [`Bounds`], [`BoundsFault`] | what is found, and why nothing is |
 #![tactic(auto)]
 
@@ -13,12 +11,9 @@ mod bounds;
 mod cycles;
 mod fault;
 mod graph;
-mod procedure;
 mod sums;
 mod worklist;
 
 pub use bounds::{Bounds, find_bounds};
 pub use fault::BoundsFault;
 pub use graph::{CallSite, Depth};
-pub use procedure::{Procedure, SLOTS, slot};
-pub use sums::table;

@@ -5,7 +5,7 @@ ghost use Rattle.verify80_bounds.specs.Chains.{IsModest};
 ghost use Rattle.verify80_bounds.specs.Sums.{IsRaised, IsSumAfter, AreDepths, AreSmall};
 
 use crate::graph::{CallSite, Depth};
-use crate::procedure::{Procedure, SLOTS, slot};
+use frames80::{Procedure, SLOTS, slot, table};
 use std::alloc::{AllocError, Global};
 
 /// A sum, or a number of bytes if that is greater.
@@ -17,21 +17,6 @@ fn raise(sum: u64, bytes: i64) -> u64
     } else {
         sum
     }
-}
-
-/// A table with the same value at each place.
-///
-/// # Errors
-/// `AllocError` only if memory runs out.
-pub fn table<T: Copy>(alloc: Global, value: T, places: usize) -> Result<Vec<T>, AllocError>
-    ensures places { IfOk result (λ v. length v.items ≡ places) }
-    ensures values { IfOk result (λ v. All (λ x. x ≡ value) v.items) }
-{
-    let mut table = Vec::with_capacity(alloc, places)?;
-    for _ in 0..places {
-        table.push(value)?;
-    }
-    Ok(table)
 }
 
 /// The greatest depth of each procedure, or 0.

@@ -5,8 +5,8 @@ ghost use Rattle.std.specs.Prelude.{◌≡◌, ◌<◌, ◌≤◌, All, IfOk, On
 ghost use Rattle.verify80_bounds.specs.Sums.{AreGrouped, AreIdle, AreLeft, IsWorklist, IsAdvance};
 
 use crate::graph::CallSite;
-use crate::procedure::{Procedure, SLOTS, slot};
-use crate::sums::{absorb, table};
+use crate::sums::absorb;
+use frames80::{Procedure, SLOTS, slot, table};
 use std::alloc::{AllocError, Global};
 
 /// For each procedure the calls to it, and how many calls it has itself.

@@ -2,3 +2,10 @@ pub mod WalkLemmas
 pub mod RowLemmas
 pub mod SearchLemmas
 pub mod CallLemmas
+pub mod ReachWalkLemmas
+pub mod ReachRowLemmas
+pub mod ReachSearchLemmas
+pub mod BoundLemmas
+pub mod ChainLemmas
+pub mod NodeLemmas
+pub mod TextLemmas

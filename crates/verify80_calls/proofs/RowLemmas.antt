@@ -7,9 +7,9 @@ use Rattle.std.proofs.lemmas.Bool.{cases_eq, eq-eqb, eqb-true}
 use Rattle.std.proofs.lemmas.Bool.Decides.{nat_tests}
 use Rattle.std.proofs.lemmas.Cmp.{ranked}
 use Rattle.std.proofs.lemmas.List.Elements.{All-contains, All-nil}
-use Rattle.verify80_bounds.specs.declared.procedure.Procedure.TheVariants.{Main, Entry}
+use Rattle.frames80.specs.declared.procedure.Procedure.TheVariants.{Main, Entry}
 use Rattle.verify80_flow.specs.declared.report.ProcRow.{ProcRow}
-use Rattle.frames80_code.specs.Code.{Code}
+use Rattle.frames80.specs.Code.{Code}
 use Rattle.verify80_flow.specs.FittingLaws.{NoFault}
 use Rattle.verify80_flow.specs.Rows.{Occurs, ReturnsWith, IsRow, AreRows}
 use Rattle.verify80_calls.specs.Calls.{AreCalls, IsCall}
@@ -18,7 +18,7 @@ use Rattle.verify80_calls.specs.Search.{Stands, start_of}
 use Rattle.verify80_calls.specs.Ways.{SayTakes, occurs_in, taken_by, takes_in}
 use Rattle.verify80_calls.proofs.WalkLemmas.{entry_stands, main_stands}
 use Rattle.verify80_flow.specs.Walks.{Walk}
-use Rattle.verify80_bounds.specs.declared.procedure.Procedure.{Procedure}
+use Rattle.frames80.specs.declared.procedure.Procedure.{Procedure}
 
 differ : (a b : ℕ) → a ≢ b → (a == b) ≡ false
 differ a b other = grind (arith, nat_tests)

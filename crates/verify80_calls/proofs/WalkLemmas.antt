@@ -16,10 +16,10 @@ use Rattle.frames80.specs.StackFrame.{StackFrame, entry_frame, main_frame}
 use Rattle.frames80.specs.Effects.{effect_of}
 use Rattle.frames80.specs.Moves.{moves_of, changed, change_fault, return_fault, unless}
 use Rattle.frames80.specs.Calls.{room, returned}
-use Rattle.verify80_bounds.specs.declared.procedure.Procedure.{Procedure}
-use Rattle.verify80_bounds.specs.declared.procedure.Procedure.TheVariants.{Main, Entry}
-use Rattle.frames80_code.specs.declared.code.LookFault.{LookFault}
-use Rattle.frames80_code.specs.Code.{Code, role_of}
+use Rattle.frames80.specs.declared.procedure.Procedure.{Procedure}
+use Rattle.frames80.specs.declared.procedure.Procedure.TheVariants.{Main, Entry}
+use Rattle.frames80.specs.declared.code.LookFault.{LookFault}
+use Rattle.frames80.specs.Code.{Code, role_of}
 use Rattle.verify80_flow.specs.Walks.{Walk, begins, goes_on, enters, comes_back, Moving, LeadsTo, Calls, called, returning}
 use Rattle.verify80_flow.specs.FittingLaws.{NoFault}
 use Rattle.verify80_flow.specs.declared.report.ProcRow.{ProcRow}

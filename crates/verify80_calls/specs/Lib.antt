@@ -1,5 +1,12 @@
 pub mod Calls
+pub mod Reached
+pub mod Nodes
+pub mod Chain
+pub mod Laws
+pub mod ListText
+pub mod GraphText
 -- what the crate's own functions promise one another: no public contract cites these
 pub mod Counts
 pub mod Ways
 pub mod Search
+pub mod ReachSearch

@@ -10,7 +10,7 @@ ghost use Rattle.verify80_calls.specs.Ways.{SayTakes};
 use crate::counts::Counts;
 use crate::points::Point;
 use crate::ways::{Way, ways};
-use frames80_code::Code;
+use frames80::Code;
 use std::alloc::{AllocError, Global};
 use verify80::{ImageCode, ProcRow};
 use verify80_flow::Procedure;

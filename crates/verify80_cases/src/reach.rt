@@ -6,10 +6,9 @@ ghost use Rattle.verify80.specs.Looking.{declared_targets};
 
 use crate::leads::{falls_to, target_of};
 use decode80::{Instr, fetch};
-use frames80_code::Code;
+use frames80::{Code, table};
 use std::alloc::{AllocError, Global};
 use verify80::ImageCode;
-use verify80_bounds::table;
 
 /// How many addresses there are.
 const ADDRESSES: usize = 65_536;

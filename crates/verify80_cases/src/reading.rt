@@ -9,10 +9,9 @@ use crate::reach::Visited;
 use crate::table::{Run, Table, goal_at, run_of, stride};
 use crate::trail::Trail;
 use decode80::{Instr, ahead, fetch};
-use frames80_code::Code;
+use frames80::{Code, table};
 use std::alloc::{AllocError, Global};
 use verify80::ImageCode;
-use verify80_bounds::table;
 
 /// How many addresses there are.
 const ADDRESSES: usize = 65_536;

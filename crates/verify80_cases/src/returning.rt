@@ -4,7 +4,7 @@ use crate::chain::first_before;
 use crate::changes::may_change;
 use crate::leads::{falls_to, target_of};
 use decode80::{Instr, Pair, StackPair, fetch};
-use frames80_code::Code;
+use frames80::Code;
 use std::alloc::{AllocError, Global};
 use verify80::ImageCode;
 

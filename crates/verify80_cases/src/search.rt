@@ -9,7 +9,7 @@ use crate::reach::Visited;
 use crate::reading::Reader;
 use crate::returning::{find_heights, has_return_address};
 use crate::table::{Table, address_of, goals_of, is_free, is_undeclared, run_of};
-use frames80_code::Code;
+use frames80::Code;
 use image80::{Case, Image};
 use std::alloc::{AllocError, Global};
 use std::marker::Model;

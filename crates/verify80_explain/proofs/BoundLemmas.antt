@@ -9,9 +9,9 @@ use Rattle.frames80.specs.Calls.{depth_of}
 use Rattle.verify80_bounds.specs.Chains.{AreEntered, AreGreatest, CallsBy, Chain, Cycles, HasLast, IsGreatest, Reaches, bytes_of, through_call, last as last_chain, through as through_chain, here as reaches_here, further as reaches_further}
 use Rattle.verify80_bounds.specs.declared.graph.CallSite.{CallSite}
 use Rattle.verify80_bounds.specs.declared.graph.Depth.{Depth}
-use Rattle.verify80_bounds.specs.declared.procedure.Procedure.{Procedure}
-use Rattle.verify80_bounds.specs.declared.procedure.Procedure.TheVariants.{Main, Entry}
-use Rattle.frames80_code.specs.Code.{Code, role_of}
+use Rattle.frames80.specs.declared.procedure.Procedure.{Procedure}
+use Rattle.frames80.specs.declared.procedure.Procedure.TheVariants.{Main, Entry}
+use Rattle.frames80.specs.Code.{Code, role_of}
 use Rattle.verify80_flow.specs.Walks.{Calls, Walk, begins, enters}
 use Rattle.verify80_flow.specs.Faults.{CallsFrom, Leads, Recurs, here, further}
 use Rattle.verify80_flow.specs.Use.{Chains, EndsChain, Use, last, through}

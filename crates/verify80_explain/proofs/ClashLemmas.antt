@@ -8,9 +8,9 @@ use Rattle.frames80.specs.StackFrame.{StackFrame}
 use Rattle.frames80.specs.Effects.{effect_of}
 use Rattle.frames80.specs.Moves.{moves_of}
 use Rattle.frames80.specs.Calls.{agree}
-use Rattle.verify80_bounds.specs.declared.procedure.Procedure.{Procedure}
-use Rattle.verify80_bounds.specs.Chains.{slot_of}
-use Rattle.frames80_code.specs.Code.{Code, role_of}
+use Rattle.frames80.specs.declared.procedure.Procedure.{Procedure}
+use Rattle.frames80.specs.Procedures.{slot_of}
+use Rattle.frames80.specs.Code.{Code, role_of}
 use Rattle.verify80_flow.specs.Walks.{Calls, Moving, Returns, called, returning}
 use Rattle.verify80_walks.specs.declared.point.Point.{Point}
 use Rattle.verify80_explain.specs.declared.clashes.Count.{Count}

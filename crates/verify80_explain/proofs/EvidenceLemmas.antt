@@ -2,8 +2,8 @@
 use Rattle.std.proofs.Common.{◌≡◌, ℕ, List, Some, Ok, Err, length, slice_get, refl, subst}
 use Rattle.std.proofs.lemmas.Option.{slice_get_within}
 use Rattle.frames80.specs.declared.fault.FrameFault.{FrameFault}
-use Rattle.verify80_bounds.specs.declared.procedure.Procedure.TheVariants.{Entry}
-use Rattle.frames80_code.specs.declared.code.LookFault.{LookFault}
+use Rattle.frames80.specs.declared.procedure.Procedure.TheVariants.{Entry}
+use Rattle.frames80.specs.declared.code.LookFault.{LookFault}
 use Rattle.verify80_flow.specs.declared.refusal.Refusal.{Refusal}
 use Rattle.verify80_flow.specs.declared.refusal.Refusal.TheVariants.{HeightsDiffer, UnevenArguments, ShortArguments}
 use Rattle.verify80_flow.specs.Faults.{Holds, LooksWrong, MovesWrong}
@@ -19,7 +19,7 @@ use Rattle.verify80_explain.specs.declared.sought.Kind.{Kind}
 use Rattle.verify80_explain.specs.declared.sought.Kind.TheVariants.{Fault, Clash}
 use Rattle.verify80_explain.specs.declared.sought.Evidence.{Evidence}
 use Rattle.verify80_explain.specs.declared.sought.Evidence.TheVariants.{One, Two}
-use Rattle.frames80_code.specs.Code.{Code}
+use Rattle.frames80.specs.Code.{Code}
 use Rattle.verify80_flow.specs.Walks.{Calls, Returns}
 use Rattle.verify80_walks.specs.declared.search.Search.{Search}
 use Rattle.verify80_walks.specs.Ways.{IsRoute, IsWalked}

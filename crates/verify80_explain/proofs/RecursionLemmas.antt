@@ -1,9 +1,9 @@
 -- A search that is closed has the calls of every recursion.
 use Rattle.std.proofs.Common.{◌≡◌, ℕ, List, [], ◌∷◌, ◌++◌, Some, length, slice_get, refl, subst, sym}
 use Rattle.frames80.specs.StackFrame.{StackFrame}
-use Rattle.verify80_bounds.specs.declared.procedure.Procedure.{Procedure}
-use Rattle.verify80_bounds.specs.declared.procedure.Procedure.TheVariants.{Entry}
-use Rattle.frames80_code.specs.Code.{Code}
+use Rattle.frames80.specs.declared.procedure.Procedure.{Procedure}
+use Rattle.frames80.specs.declared.procedure.Procedure.TheVariants.{Entry}
+use Rattle.frames80.specs.Code.{Code}
 use Rattle.verify80_flow.specs.Walks.{Calls, Walk}
 use Rattle.verify80_flow.specs.Faults.{Leads, Recurs, here, further}
 use Rattle.verify80_walks.specs.declared.route.Call.{Call}

@@ -3,8 +3,8 @@ use Rattle.std.proofs.Common.{◌≡◌, ◌≢◌, ◌<◌, ◌⊎◌, inl, inr
 use Rattle.std.proofs.lemmas.Option.{same_Some, slice_get_within}
 use Rattle.std.proofs.lemmas.Bool.{cases_eq}
 use Rattle.std.proofs.lemmas.List.{get_or-set_other, reverse-append}
-use Rattle.verify80_bounds.specs.declared.procedure.Procedure.{Procedure}
-use Rattle.verify80_bounds.specs.declared.procedure.Procedure.TheVariants.{Main, Entry}
+use Rattle.frames80.specs.declared.procedure.Procedure.{Procedure}
+use Rattle.frames80.specs.declared.procedure.Procedure.TheVariants.{Main, Entry}
 use Rattle.verify80_walks.specs.declared.route.Call.{Call}
 use Rattle.verify80_explain.specs.declared.ring.Reach.{Reach}
 use Rattle.verify80_explain.specs.Ring.{AreComplete, AreLinked, AreMarked, AreReached, Chained, EntersAt, IsEntered, IsFollowed, IsFurther, IsLed, IsLedBack, NoneLeadBack, ReachesFrom}

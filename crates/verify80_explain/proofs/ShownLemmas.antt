@@ -1,8 +1,8 @@
 -- The last point of a route is one that a walk comes to, and a ring of calls is a recursion.
 use Rattle.std.proofs.Common.{◌≡◌, ◌⊎◌, inl, inr, ℕ, List, [], ◌∷◌, refl, sym, ◌∙◌, ap, subst}
-use Rattle.verify80_bounds.specs.declared.procedure.Procedure.{Procedure}
-use Rattle.verify80_bounds.specs.declared.procedure.Procedure.TheVariants.{Main, Entry}
-use Rattle.frames80_code.specs.Code.{Code}
+use Rattle.frames80.specs.declared.procedure.Procedure.{Procedure}
+use Rattle.frames80.specs.declared.procedure.Procedure.TheVariants.{Main, Entry}
+use Rattle.frames80.specs.Code.{Code}
 use Rattle.verify80_flow.specs.Walks.{Calls, Walk, begins, goes_on, enters, comes_back}
 use Rattle.verify80_flow.specs.Faults.{Recurs, CallsFrom, Leads, here, further}
 use Rattle.verify80_walks.specs.declared.point.Point.{Point}

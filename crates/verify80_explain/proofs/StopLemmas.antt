@@ -2,7 +2,7 @@
 use Rattle.std.proofs.Common.{◌≡◌, ◌≢◌, ◌≤◌, ◌<◌, ℕ, ◌∙◌, sym, ap, arith}
 use Rattle.std.specs.Prelude.{Result, Ok, Err}
 use Rattle.std.specs.Result.{IsErrAnd}
-use Rattle.frames80_code.specs.Code.{Code}
+use Rattle.frames80.specs.Code.{Code}
 use Rattle.verify80_walks.specs.declared.fault.Stop.{Stop}
 use Rattle.verify80_walks.specs.declared.fault.Stop.TheVariants.{Limit}
 use Rattle.verify80_walks.specs.declared.search.Search.{Search}

@@ -5,9 +5,9 @@ use Rattle.frames80.specs.Calls.{depth_of}
 use Rattle.verify80_bounds.specs.Chains.{AreEntered, AreGreatest, HasLast, bytes_of}
 use Rattle.verify80_bounds.specs.declared.graph.CallSite.{CallSite}
 use Rattle.verify80_bounds.specs.declared.graph.Depth.{Depth}
-use Rattle.verify80_bounds.specs.declared.procedure.Procedure.{Procedure}
-use Rattle.verify80_bounds.specs.declared.procedure.Procedure.TheVariants.{Main, Entry}
-use Rattle.frames80_code.specs.Code.{Code, role_of}
+use Rattle.frames80.specs.declared.procedure.Procedure.{Procedure}
+use Rattle.frames80.specs.declared.procedure.Procedure.TheVariants.{Main, Entry}
+use Rattle.frames80.specs.Code.{Code, role_of}
 use Rattle.verify80_flow.specs.Walks.{Calls, Walk}
 use Rattle.verify80_flow.specs.Faults.{Recurs}
 use Rattle.verify80_flow.specs.Use.{IsBound, Use}

@@ -1,10 +1,10 @@
 -- Points of a search that show a refusal, and that none of them does. (This project's own.)
 use Rattle.std.specs.Prelude.{◌≡◌, ◌≢◌, ◌<◌, ◌≤◌, ◌⊎◌, ℕ, Bool, true, false, List, Option, None, Some, get_or, length, slice_get}
-use Rattle.frames80_code.specs.Code.{Code, role_of}
+use Rattle.frames80.specs.Code.{Code, role_of}
 use Rattle.frames80.specs.Calls.{room, agree}
-use Rattle.verify80_bounds.specs.declared.procedure.Procedure.TheVariants.{Entry}
+use Rattle.frames80.specs.declared.procedure.Procedure.TheVariants.{Entry}
 use Rattle.verify80_flow.specs.Walks.{Calls, Returns as ReturnsWith}
-use Rattle.verify80_bounds.specs.Chains.{slot_of}
+use Rattle.frames80.specs.Procedures.{slot_of}
 use Rattle.verify80_walks.specs.declared.point.Point.{Point}
 use Rattle.verify80_explain.specs.declared.evidence.Fault.{Fault}
 use Rattle.verify80_explain.specs.declared.evidence.Fault.TheVariants.{Look, Frame}

@@ -1,6 +1,6 @@
 -- What shows a refusal, and the points that show it. (This project's own.)
 use Rattle.std.specs.Prelude.{◌<◌, ℕ, List}
-use Rattle.frames80_code.specs.Code.{Code}
+use Rattle.frames80.specs.Code.{Code}
 use Rattle.verify80_flow.specs.declared.refusal.Refusal.{Refusal}
 use Rattle.verify80_flow.specs.declared.refusal.Refusal.TheVariants.{Recursion, StackTooSmall, TooManyPoints, Memory}
 use Rattle.verify80_flow.specs.Faults.{Holds}

@@ -2,9 +2,9 @@
 
 ghost use Rattle.std.specs.Prelude.{◌≡◌, ◌↔◌, ◌⊎◌, ◌<◌, ◌≤◌, ◌++◌, ◌∷◌, [], ℕ, List, Contains, Err, Some, pos, true, length, slice_get, All, IfNone, IfOk, IfSome, OnOk};
 ghost use Rattle.verify80_bounds.specs.Chains.{IsModest, bytes_of};
-ghost use Rattle.verify80_bounds.specs.declared.procedure.Procedure.TheVariants.{Main};
+ghost use Rattle.frames80.specs.declared.procedure.Procedure.TheVariants.{Main};
 ghost use Rattle.frames80.specs.Calls.{depth_of};
-ghost use Rattle.frames80_code.specs.Code.{role_of as role_in};
+ghost use Rattle.frames80.specs.Code.{role_of as role_in};
 ghost use Rattle.verify80.specs.Looking.{code_of};
 ghost use Rattle.verify80_bounds.specs.declared.graph.Depth.{Depth as DepthSeen};
 ghost use Rattle.verify80_walks.specs.declared.point.Point.{Point as PointSeen};
@@ -15,12 +15,11 @@ ghost use Rattle.verify80_explain.specs.Chains.{AddsUp, AreDepthsOf, AreGreatest
 ghost use Rattle.verify80_walks.specs.Search.{IsFound, IsWhole};
 
 use crate::fault::Unexplained;
-use frames80::depth;
-use frames80_code::{Code, role_of};
+use frames80::{Code, SLOTS, depth, role_of, slot, table};
 use image80::Image;
 use std::alloc::{AllocError, Global};
 use verify80::ImageCode;
-use verify80_bounds::{Bounds, BoundsFault, CallSite, Depth, SLOTS, find_bounds, slot, table};
+use verify80_bounds::{Bounds, BoundsFault, CallSite, Depth, find_bounds};
 use verify80_flow::Procedure;
 use verify80_walks::{MOST_WORDS, Point, Search, Stop};
 

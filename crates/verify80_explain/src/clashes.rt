@@ -11,9 +11,8 @@ ghost use Rattle.verify80_explain.specs.Evidence.{AreMixed, AreMost, AreNoPair, 
 ghost use Rattle.verify80_walks.specs.Search.{Has};
 
 use crate::evidence::{Clash, Pair, find_other, room, target_called, words_taken};
-use frames80_code::{Code, role_of};
+use frames80::{Code, SLOTS, role_of, slot, table};
 use std::alloc::{AllocError, Global};
-use verify80_bounds::{SLOTS, slot, table};
 use verify80_flow::Procedure;
 use verify80_walks::{Point, Stop};
 

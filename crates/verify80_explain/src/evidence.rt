@@ -7,8 +7,7 @@ ghost use Rattle.verify80_walks.specs.declared.fault.Stop.TheVariants.{Limit};
 ghost use Rattle.verify80_walks.specs.Counts.{HasDeep, IsDeep};
 ghost use Rattle.verify80_explain.specs.Evidence.{CallsTo, ClashAt, DifferAt, FaultAt, IsOne, IsNoOne, ShortAt, UnevenAt};
 
-use frames80::{Frame, FrameFault, Moves, Role};
-use frames80_code::{Code, LookFault, role_of};
+use frames80::{Code, Frame, FrameFault, LookFault, Moves, Role, role_of};
 use std::alloc::Global;
 use verify80_flow::Procedure;
 use verify80_walks::{Looked, Point, Stop, look_at};

@@ -14,7 +14,7 @@ use crate::fault::Unexplained;
 use crate::recursion::ring;
 use crate::showing::show;
 use crate::sought::{Evidence, Sought};
-use frames80_code::Code;
+use frames80::Code;
 use image80::Image;
 use std::alloc::Global;
 use verify80::ImageCode;

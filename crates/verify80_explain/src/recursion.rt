@@ -1,7 +1,7 @@
 //! The ring of calls that shows a recursion, in a search.
 
 ghost use Rattle.std.specs.Prelude.{IfNone, IfOk, IfSome, length};
-ghost use Rattle.frames80_code.specs.Code.{Code as CodeSeen};
+ghost use Rattle.frames80.specs.Code.{Code as CodeSeen};
 ghost use Rattle.verify80_walks.specs.Search.{AreOrdered, CallersAreThere, IsFound};
 ghost use Rattle.verify80_explain.specs.Known.{AreKnown, HasNoRing};
 ghost use Rattle.verify80_explain.specs.Shows.{ByRing};

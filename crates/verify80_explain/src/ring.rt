@@ -1,14 +1,14 @@
 //! The ring of calls by which a procedure calls itself.
 
 ghost use Rattle.std.specs.Prelude.{◌≡◌, ◌↔◌, ◌<◌, true, List, length, slice_get, Some, Contains, IfOk, IfNone, IfSome, OnOk};
-ghost use Rattle.verify80_bounds.specs.declared.procedure.Procedure.TheVariants.{Entry};
+ghost use Rattle.frames80.specs.declared.procedure.Procedure.TheVariants.{Entry};
 ghost use Rattle.verify80_walks.specs.declared.route.Call.{Call as CallSeen};
 ghost use Rattle.verify80_explain.specs.declared.ring.Reach.{Reach as ReachSeen};
 ghost use Rattle.verify80_explain.specs.Ring.{AreComplete, AreLinked, AreMarked, AreReached, EntersAt, IsEntered, IsLed, IsRingOf, NoneLeadBack, ReachesFrom};
 ghost use Rattle.verify80_walks.specs.Search.{Extends};
 
+use frames80::table;
 use std::alloc::{AllocError, Global};
-use verify80_bounds::table;
 use verify80_flow::Procedure;
 use verify80_walks::Call;
 

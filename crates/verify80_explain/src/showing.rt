@@ -1,7 +1,7 @@
 //! The explanation that points of a search give.
 
 ghost use Rattle.std.specs.Prelude.{IfOk, length};
-ghost use Rattle.frames80_code.specs.Code.{Code as CodeSeen};
+ghost use Rattle.frames80.specs.Code.{Code as CodeSeen};
 ghost use Rattle.verify80_walks.specs.Search.{AreOrdered, IsFound};
 ghost use Rattle.verify80_explain.specs.Sought.{AreWithin, IsEvidence, ShowsSought};
 ghost use Rattle.verify80_explain.specs.declared.sought.Sought.{Sought};

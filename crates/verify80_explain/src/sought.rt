@@ -8,8 +8,7 @@ ghost use Rattle.verify80_explain.specs.Sought.{IsEvidence, IsNoEvidence, IsSoug
 
 use crate::clashes::find_clash;
 use crate::evidence::{Clash, Fault, Pair, find_fault};
-use frames80::FrameFault;
-use frames80_code::{Code, LookFault};
+use frames80::{Code, FrameFault, LookFault};
 use std::alloc::Global;
 use verify80_flow::Refusal;
 use verify80_walks::{Point, Stop};

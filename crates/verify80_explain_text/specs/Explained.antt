@@ -2,13 +2,13 @@
 use Rattle.std.specs.Prelude.{ℕ, ℤ, Bool, not, ◌-◌, nat_le, if◌then◌else◌, List, [], ◌∷◌, ◌++◌, codes, length, take, drop}
 use Rattle.std.specs.Fmt.{decimal, signed_decimal}
 use Rattle.std.specs.List.{flat_map}
-use Rattle.decode80.specs.Text.{word_text}
+use Rattle.text80.specs.Digits.{word_text}
 use Rattle.image80.specs.Image.{Located}
 use Rattle.omf_parts.specs.declared.symbols.Public.{Public}
-use Rattle.image80_names.specs.NameText.{label_text, name_text}
+use Rattle.image80_text.specs.NameText.{label_text, name_text}
 use Rattle.verify80_bounds.specs.declared.graph.CallSite.{CallSite}
-use Rattle.verify80_bounds.specs.declared.procedure.Procedure.{Procedure}
-use Rattle.verify80_bounds.specs.declared.procedure.Procedure.TheVariants.{Main, Entry}
+use Rattle.frames80.specs.declared.procedure.Procedure.{Procedure}
+use Rattle.frames80.specs.declared.procedure.Procedure.TheVariants.{Main, Entry}
 use Rattle.verify80_flow.specs.declared.refusal.Refusal.{Refusal}
 use Rattle.verify80_flow.specs.declared.refusal.Refusal.TheVariants.{ShortArguments}
 use Rattle.frames80.specs.FrameEquality.{frame_eq}

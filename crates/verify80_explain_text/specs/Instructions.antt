@@ -10,7 +10,7 @@ use Rattle.decode80.specs.Spelling.{spelling}
 use Rattle.decode80.specs.Text.{text}
 use Rattle.image80.specs.Image.{Located, memory_of}
 use Rattle.image80.specs.Regions.{in_code}
-use Rattle.image80_listing.specs.Listing.{columns}
+use Rattle.image80_text.specs.Listing.{columns}
 
 -- the byte at an address of an image
 abbrev pub held_at : Located → ℕ → ℕ

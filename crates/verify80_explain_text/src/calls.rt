@@ -4,11 +4,11 @@ ghost use Rattle.std.specs.Prelude.{◌≡◌, ◌++◌, OnOk};
 ghost use Rattle.std.specs.List.{flat_map};
 ghost use Rattle.verify80_explain_text.specs.Explained.{call_line, call_text, end_text, procedure_text, with_address};
 
-use decode80::word_digits;
 use image80::Image;
-use image80_names::append_name;
+use image80_text::append_name;
 use omf_parts::Public;
 use std::alloc::{AllocError, Global};
+use text80::word_digits;
 use verify80_explain::{Call, Procedure};
 
 /// Appends a line for each call.

@@ -2,11 +2,11 @@
 
 ghost use Rattle.std.specs.Prelude.{◌≡◌, ◌-◌, ◌≤◌, ◌++◌, codes, drop, length, OnOk};
 ghost use Rattle.decode80.specs.Text.{text as text_of};
-ghost use Rattle.image80_listing.specs.Listing.{columns};
+ghost use Rattle.image80_text.specs.Listing.{columns};
 ghost use Rattle.verify80_explain_text.specs.Instructions.{byte_of, filled, found_text, instruction_text, unknown_text};
 
 use decode80::{Instr, Program, encode, fetch, write_text};
-use image80_listing::append_columns;
+use image80_text::append_columns;
 use std::alloc::{AllocError, Global};
 use verify80::ImageCode;
 

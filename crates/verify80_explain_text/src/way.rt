@@ -6,7 +6,7 @@ ghost use Rattle.verify80_explain_text.specs.Explained.{has_other_frame, left_ou
 
 use crate::frame::append_frame;
 use crate::instruction::append_instruction;
-use image80_names::append_label;
+use image80_text::append_label;
 use omf_parts::Public;
 use std::alloc::{AllocError, Global};
 use verify80::ImageCode;

@@ -10,11 +10,11 @@ use Rattle.frames80.specs.StackFrame.{StackFrame}
 use Rattle.frames80.specs.Effects.{effect_of}
 use Rattle.frames80.specs.Calls.{depth_of}
 use Rattle.frames80.specs.Places.{SameCounts, Covers}
-use Rattle.verify80_bounds.specs.declared.procedure.Procedure.{Procedure}
+use Rattle.frames80.specs.declared.procedure.Procedure.{Procedure}
 use Rattle.verify80_bounds.specs.declared.graph.Depth.{Depth}
 use Rattle.verify80_bounds.specs.declared.graph.CallSite.{CallSite}
 use Rattle.frames80_interned.specs.Admitted.{move_of}
-use Rattle.frames80_code.specs.Code.{Code, role_of}
+use Rattle.frames80.specs.Code.{Code, role_of}
 use Rattle.verify80_flow.specs.Walks.{Walk, Calls, called}
 use Rattle.verify80_flow.specs.Points.{Point}
 use Rattle.verify80_bounds.specs.Chains.{IsModest}

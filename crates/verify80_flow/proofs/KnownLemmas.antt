@@ -8,9 +8,9 @@ use Rattle.frames80.specs.Word.{met}
 use Rattle.frames80.specs.StackFrame.{StackFrame}
 use Rattle.frames80.specs.Calls.{words_met, merged, agree}
 use Rattle.frames80.specs.Places.{word_at, SameCounts, Covers}
-use Rattle.verify80_bounds.specs.declared.procedure.Procedure.{Procedure}
-use Rattle.verify80_bounds.specs.declared.procedure.Procedure.TheVariants.{Entry}
-use Rattle.frames80_code.specs.Code.{Code}
+use Rattle.frames80.specs.declared.procedure.Procedure.{Procedure}
+use Rattle.frames80.specs.declared.procedure.Procedure.TheVariants.{Entry}
+use Rattle.frames80.specs.Code.{Code}
 use Rattle.verify80_flow.specs.declared.refusal.Refusal.TheVariants.{HeightsDiffer, TooManyPoints}
 use Rattle.verify80_flow.specs.Faults.{most_points, Many, Differ}
 use Rattle.verify80_flow.specs.Rows.{ReturnsWith}

@@ -10,12 +10,12 @@ use Rattle.frames80.specs.declared.moves.Moves.{Moves}
 use Rattle.frames80.specs.StackFrame.{StackFrame, entry_frame, main_frame}
 use Rattle.frames80.specs.Effects.{effect_of}
 use Rattle.frames80.specs.Calls.{returned}
-use Rattle.verify80_bounds.specs.declared.procedure.Procedure.{Procedure}
-use Rattle.verify80_bounds.specs.declared.procedure.Procedure.TheVariants.{Main, Entry}
+use Rattle.frames80.specs.declared.procedure.Procedure.{Procedure}
+use Rattle.frames80.specs.declared.procedure.Procedure.TheVariants.{Main, Entry}
 use Rattle.frames80_interned.specs.Admitted.{move_of}
-use Rattle.frames80_code.specs.Code.{Code, role_of}
+use Rattle.frames80.specs.Code.{Code, role_of}
 use Rattle.verify80_flow.specs.Walks.{Moving, returning}
-use Rattle.frames80_code.specs.PointNumbers.{same_procedure, same_is, is_same}
+use Rattle.frames80.specs.PointNumbers.{same_procedure, same_is, is_same}
 use Rattle.verify80_flow.specs.Points.{Point, AreApart, is_at}
 use Rattle.verify80_flow.specs.Fitting.{Table, Has, FrameCloses, Closes}
 use Rattle.verify80_flow.proofs.MoveLemmas.{fault_of, moved_is}

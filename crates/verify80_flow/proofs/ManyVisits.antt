@@ -2,10 +2,10 @@
 use Rattle.std.specs.Prelude.{◌≡◌, ◌<◌, ◌≤◌, ◌+◌, ◌⊎◌, ◌||◌, ℕ, zero, suc, Bool, true, false, [], length, replicate, Some, None, Result, Ok, Err, slice_get, refl}
 use Rattle.std.proofs.Common.{ap, sym, subst, arith, inl, inr, true≢false}
 use Rattle.verify80_flow.specs.declared.refusal.Refusal.{Refusal}
-use Rattle.frames80_code.specs.Code.{Code}
+use Rattle.frames80.specs.Code.{Code}
 use Rattle.frames80.specs.StackFrame.{StackFrame, main_frame}
-use Rattle.verify80_bounds.specs.declared.procedure.Procedure.{Procedure}
-use Rattle.verify80_bounds.specs.declared.procedure.Procedure.TheVariants.{Main}
+use Rattle.frames80.specs.declared.procedure.Procedure.{Procedure}
+use Rattle.frames80.specs.declared.procedure.Procedure.TheVariants.{Main}
 use Rattle.verify80_flow.specs.Points.{Point}
 use Rattle.verify80_flow.specs.Shown.{IsShown}
 use Rattle.verify80_flow.specs.Known.{Known, Visits, is_exact, nothing_known, exit_of, IsSmall, Stands, HasPoint, Flows, Goes, ManyVisits, Sweeps, AreClosed, AllClosed, weight}

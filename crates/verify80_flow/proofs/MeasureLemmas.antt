@@ -5,7 +5,7 @@ use Rattle.std.proofs.lemmas.Int.{ints}
 use Rattle.verify80_flow.specs.declared.report.ProcRow.{ProcRow}
 use Rattle.verify80_flow.specs.declared.refusal.Refusal.{Refusal}
 use Rattle.verify80_flow.specs.declared.refusal.Refusal.TheVariants.{HeightsDiffer, Recursion, StackTooSmall, Memory}
-use Rattle.frames80_code.specs.Code.{Code}
+use Rattle.frames80.specs.Code.{Code}
 use Rattle.verify80_flow.specs.Faults.{Holds, Overruns}
 use Rattle.verify80_flow.specs.Accepted.{IsMeasured, IsAccepted}
 

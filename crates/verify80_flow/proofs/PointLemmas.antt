@@ -5,14 +5,14 @@ use Rattle.std.specs.Cmp.{unsigned_Decides, first_so, second_so}
 use Rattle.std.proofs.lemmas.Option.{slice_get-map, same_Some, none-some}
 use Rattle.std.proofs.lemmas.List.{map_push, map-set}
 use Rattle.frames80.specs.StackFrame.{StackFrame}
-use Rattle.verify80_bounds.specs.declared.procedure.Procedure.{Procedure}
-use Rattle.verify80_bounds.specs.declared.procedure.Procedure.TheVariants.{Main, Entry}
+use Rattle.frames80.specs.declared.procedure.Procedure.{Procedure}
+use Rattle.frames80.specs.declared.procedure.Procedure.TheVariants.{Main, Entry}
 use Rattle.verify80_flow.specs.declared.points.StoredPoint.{StoredPoint}
 use Rattle.frames80_interned.specs.Frames.{frame_at, IsFrame, StayNumbered}
 use Rattle.verify80_flow.proofs.FrameLemmas.{stays_there, stays_at}
 use Rattle.verify80_flow.specs.Points.{Point, with_frame, AreApart, AreAddresses, IsPointAt, IsNoPoint, Reframes}
-use Rattle.frames80_code.specs.declared.point_numbers.PointNumbers.{PointNumbers}
-use Rattle.frames80_code.specs.PointNumbers.{procedure_number, number_at, same_place, SameNumbers, Puts, NumbersAreOfAddresses}
+use Rattle.frames80.specs.declared.point_numbers.PointNumbers.{PointNumbers}
+use Rattle.frames80.specs.PointNumbers.{procedure_number, number_at, same_place, SameNumbers, Puts, NumbersAreOfAddresses}
 use Rattle.verify80_flow.specs.PointStore.{point_of, points_of, IsStoredAt, AreStored}
 
 module _ {X : Type 0} where

@@ -17,11 +17,11 @@ use Rattle.frames80.specs.Effects.{effect_of}
 use Rattle.frames80.specs.Moves.{moves_of, changed}
 use Rattle.frames80.specs.Calls.{room, returned, agree, merged}
 use Rattle.frames80.specs.Places.{Place, word_at, Source, From, Unknown, sourced, source, source_after, SameCounts, Covers}
-use Rattle.verify80_bounds.specs.declared.procedure.Procedure.{Procedure}
-use Rattle.verify80_bounds.specs.declared.procedure.Procedure.TheVariants.{Main, Entry}
+use Rattle.frames80.specs.declared.procedure.Procedure.{Procedure}
+use Rattle.frames80.specs.declared.procedure.Procedure.TheVariants.{Main, Entry}
 use Rattle.frames80_interned.specs.Admitted.{move_of}
-use Rattle.frames80_code.specs.declared.code.LookFault.{LookFault}
-use Rattle.frames80_code.specs.Code.{Code, role_of}
+use Rattle.frames80.specs.declared.code.LookFault.{LookFault}
+use Rattle.frames80.specs.Code.{Code, role_of}
 use Rattle.verify80_flow.specs.Walks.{Walk, begins, goes_on, enters, comes_back, Calls, Moving, LeadsTo, called, returning}
 use Rattle.verify80_flow.specs.Faults.{LooksWrong, MovesWrong, Differ, Uneven, Short}
 use Rattle.verify80_flow.specs.Rows.{ReturnsWith}

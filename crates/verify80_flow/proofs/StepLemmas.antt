@@ -9,11 +9,11 @@ use Rattle.frames80.specs.declared.moves.Moves.{Moves}
 use Rattle.frames80.specs.declared.moves.Moves.TheVariants.{End, On, Jump, Either, Case, Call, MaybeCall, Return, MaybeReturn}
 use Rattle.frames80.specs.StackFrame.{StackFrame, entry_frame}
 use Rattle.frames80.specs.Calls.{room, returned}
-use Rattle.verify80_bounds.specs.declared.procedure.Procedure.{Procedure}
-use Rattle.verify80_bounds.specs.declared.procedure.Procedure.TheVariants.{Entry}
+use Rattle.frames80.specs.declared.procedure.Procedure.{Procedure}
+use Rattle.frames80.specs.declared.procedure.Procedure.TheVariants.{Entry}
 use Rattle.verify80_flow.specs.declared.refusal.Refusal.{Refusal}
 use Rattle.verify80_flow.specs.declared.refusal.Refusal.TheVariants.{UnevenArguments, ShortArguments, Memory}
-use Rattle.frames80_code.specs.Code.{Code, role_of}
+use Rattle.frames80.specs.Code.{Code, role_of}
 use Rattle.verify80_flow.specs.Walks.{LeadsTo, called, returning}
 use Rattle.verify80_flow.specs.Shown.{IsShown, AtMove, FrameLaws}
 use Rattle.verify80_flow.specs.Known.{Known, Refused, IsSmall, Stands, weight, Goes, HasPoint, Advances, Flows, IsMoving, Steps, GoesToFirst, exit_of, ReturnsAt, Exits, IsCalling, CallsOut, IsShort}

@@ -12,18 +12,19 @@ use Rattle.frames80.specs.StackFrame.{StackFrame}
 use Rattle.frames80.specs.Effects.{effect_of}
 use Rattle.frames80.specs.Moves.{moves_of}
 use Rattle.frames80.specs.Calls.{room, depth_of}
-use Rattle.verify80_bounds.specs.declared.procedure.Procedure.{Procedure}
-use Rattle.verify80_bounds.specs.declared.procedure.Procedure.TheVariants.{Main, Entry}
+use Rattle.frames80.specs.declared.procedure.Procedure.{Procedure}
+use Rattle.frames80.specs.declared.procedure.Procedure.TheVariants.{Main, Entry}
 use Rattle.verify80_bounds.specs.declared.graph.Depth.{Depth}
 use Rattle.verify80_bounds.specs.declared.graph.CallSite.{CallSite}
 use Rattle.verify80_flow.specs.declared.report.ProcRow.{ProcRow}
 use Rattle.verify80_flow.specs.declared.refusal.Refusal.{Refusal}
 use Rattle.verify80_flow.specs.declared.refusal.Refusal.TheVariants.{ShortArguments}
 use Rattle.verify80_flow.specs.declared.site.Site.{Site}
-use Rattle.frames80_code.specs.Code.{Code, role_of}
+use Rattle.frames80.specs.Code.{Code, role_of}
 use Rattle.verify80_flow.specs.Walks.{Walk, Moving, Calls, called}
 use Rattle.verify80_flow.specs.Points.{Point, IsPointAt, IsNoPoint}
-use Rattle.verify80_bounds.specs.Chains.{slot_of, bytes_of}
+use Rattle.verify80_bounds.specs.Chains.{bytes_of}
+use Rattle.frames80.specs.Procedures.{slot_of}
 use Rattle.verify80_flow.specs.Shown.{Whole, FrameLaws}
 use Rattle.verify80_flow.specs.Known.{Known, Refused, Stands, IsShort}
 use Rattle.verify80_flow.specs.Survey.{IsSeen, IsCallOf, noted, IsMoveAt, IsEntered, TakesAt, AreWants, AreMarked, depth_at, call_at, IsDepthAt, IsCallAt, IsSurvey, row_of, IsRowIn, AreListed}

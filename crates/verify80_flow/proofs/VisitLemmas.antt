@@ -13,14 +13,14 @@ use Rattle.frames80.specs.StackFrame.{StackFrame}
 use Rattle.frames80.specs.Effects.{effect_of}
 use Rattle.frames80.specs.Moves.{moves_of}
 use Rattle.frames80.specs.Calls.{returned}
-use Rattle.verify80_bounds.specs.declared.procedure.Procedure.{Procedure}
+use Rattle.frames80.specs.declared.procedure.Procedure.{Procedure}
 use Rattle.frames80_interned.specs.Admitted.{move_of}
 use Rattle.frames80_interned.specs.Frames.{frame_at, StayNumbered}
-use Rattle.frames80_code.specs.declared.code.LookFault.{LookFault}
-use Rattle.frames80_code.specs.declared.code.LookFault.TheVariants.{Outside, Unused, EnablesInterrupts, Pchl, DirectStore}
+use Rattle.frames80.specs.declared.code.LookFault.{LookFault}
+use Rattle.frames80.specs.declared.code.LookFault.TheVariants.{Outside, Unused, EnablesInterrupts, Pchl, DirectStore}
 use Rattle.verify80_flow.specs.declared.refusal.Refusal.{Refusal}
 use Rattle.verify80_flow.specs.Refusal.{refusal_of, look_refusal}
-use Rattle.frames80_code.specs.Code.{Code, role_of}
+use Rattle.frames80.specs.Code.{Code, role_of}
 use Rattle.verify80_flow.specs.Faults.{LooksWrong}
 use Rattle.verify80_flow.specs.Points.{Point}
 use Rattle.verify80_flow.specs.declared.site.Site.{Site}

@@ -7,11 +7,11 @@ use Rattle.frames80.specs.Moves.{changed}
 use Rattle.frames80.specs.Calls.{agree, room, returned}
 use Rattle.frames80_interned.specs.Admitted.{move_of}
 use Rattle.frames80_interned.specs.Frames.{frame_at, IsFrame, StayNumbered}
-use Rattle.verify80_bounds.specs.declared.procedure.Procedure.{Procedure}
-use Rattle.verify80_bounds.specs.declared.procedure.Procedure.TheVariants.{Main, Entry}
+use Rattle.frames80.specs.declared.procedure.Procedure.{Procedure}
+use Rattle.frames80.specs.declared.procedure.Procedure.TheVariants.{Main, Entry}
 use Rattle.verify80_flow.specs.declared.walks.WalkedPoint.{WalkedPoint}
 use Rattle.verify80_flow.specs.declared.walks.Walks.{Walks}
-use Rattle.frames80_code.specs.Code.{Code, role_of}
+use Rattle.frames80.specs.Code.{Code, role_of}
 use Rattle.verify80_flow.specs.Faults.{Differ}
 use Rattle.verify80_flow.specs.Walks.{Walk, begins, goes_on, enters, comes_back, LeadsTo, Calls, Returns, called, returning}
 use Rattle.frames80.specs.Effects.{change_of}

@@ -1,10 +1,10 @@
 -- What is known of a program that is measured, and of one that is accepted. (This project's own.)
 use Rattle.std.specs.Prelude.{◌≢◌, ◌≤◌, ℕ, List}
-use Rattle.verify80_bounds.specs.declared.procedure.Procedure.TheVariants.{Main}
+use Rattle.frames80.specs.declared.procedure.Procedure.TheVariants.{Main}
 use Rattle.verify80_flow.specs.declared.refusal.Refusal.{Refusal}
 use Rattle.verify80_flow.specs.declared.refusal.Refusal.TheVariants.{Memory}
 use Rattle.verify80_flow.specs.declared.report.ProcRow.{ProcRow}
-use Rattle.frames80_code.specs.Code.{Code}
+use Rattle.frames80.specs.Code.{Code}
 use Rattle.verify80_flow.specs.Use.{IsBound}
 use Rattle.verify80_flow.specs.Faults.{Holds, HoldsAnyway}
 use Rattle.verify80_flow.specs.Fitting.{IsFitted}

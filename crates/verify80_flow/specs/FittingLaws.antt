@@ -2,9 +2,9 @@
 use Rattle.std.specs.Prelude.{◌≤◌, ℕ}
 use Rattle.frames80.specs.declared.fault.FrameFault.{FrameFault}
 use Rattle.frames80.specs.StackFrame.{StackFrame}
-use Rattle.verify80_bounds.specs.declared.procedure.Procedure.{Procedure}
-use Rattle.frames80_code.specs.declared.code.LookFault.{LookFault}
-use Rattle.frames80_code.specs.Code.{Code}
+use Rattle.frames80.specs.declared.procedure.Procedure.{Procedure}
+use Rattle.frames80.specs.declared.code.LookFault.{LookFault}
+use Rattle.frames80.specs.Code.{Code}
 use Rattle.verify80_flow.specs.Walks.{Walk}
 use Rattle.verify80_flow.specs.Faults.{LooksWrong, MovesWrong, Differ, Uneven, Short}
 use Rattle.verify80_flow.specs.Fitting.{Table, Has, Fits}

@@ -11,9 +11,9 @@ use Rattle.frames80.specs.StackFrame.{StackFrame, entry_frame, main_frame}
 use Rattle.frames80.specs.Calls.{returned}
 use Rattle.frames80.specs.Places.{Covers}
 use Rattle.frames80_interned.specs.Frames.{frame_at}
-use Rattle.verify80_bounds.specs.declared.procedure.Procedure.{Procedure}
-use Rattle.verify80_bounds.specs.declared.procedure.Procedure.TheVariants.{Main, Entry}
-use Rattle.frames80_code.specs.Code.{Code, role_of}
+use Rattle.frames80.specs.declared.procedure.Procedure.{Procedure}
+use Rattle.frames80.specs.declared.procedure.Procedure.TheVariants.{Main, Entry}
+use Rattle.frames80.specs.Code.{Code, role_of}
 use Rattle.verify80_flow.specs.Walks.{Moving, LeadsTo, called, returning}
 use Rattle.verify80_flow.specs.declared.refusal.Refusal.{Refusal}
 use Rattle.verify80_flow.specs.declared.refusal.Refusal.TheVariants.{ReturnNotOwn, ShortArguments, Memory}

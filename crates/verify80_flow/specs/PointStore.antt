@@ -2,11 +2,11 @@
 use Rattle.std.specs.Prelude.{◌≡◌, ◌<◌, ℕ, List, map, Some, length, slice_get}
 use Rattle.frames80.specs.StackFrame.{StackFrame}
 use Rattle.frames80_interned.specs.Frames.{frame_at}
-use Rattle.verify80_bounds.specs.declared.procedure.Procedure.{Procedure}
+use Rattle.frames80.specs.declared.procedure.Procedure.{Procedure}
 use Rattle.verify80_flow.specs.declared.points.StoredPoint.{StoredPoint}
 use Rattle.verify80_flow.specs.Points.{Point}
-use Rattle.frames80_code.specs.declared.point_numbers.PointNumbers.{PointNumbers}
-use Rattle.frames80_code.specs.PointNumbers.{number_at}
+use Rattle.frames80.specs.declared.point_numbers.PointNumbers.{PointNumbers}
+use Rattle.frames80.specs.PointNumbers.{number_at}
 
 -- the point that is stored
 abbrev pub point_of : List StackFrame → StoredPoint → Point

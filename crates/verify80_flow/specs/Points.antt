@@ -1,8 +1,8 @@
 -- The points that are known, each with what is known of its frame, in order of first sight. (This project's own.)
 use Rattle.std.specs.Prelude.{◌≡◌, ◌<◌, ℕ, Bool, ◌&&◌, nat_eq, List, Some, slice_get, slice_set}
 use Rattle.frames80.specs.StackFrame.{StackFrame}
-use Rattle.verify80_bounds.specs.declared.procedure.Procedure.{Procedure}
-use Rattle.frames80_code.specs.PointNumbers.{same_procedure}
+use Rattle.frames80.specs.declared.procedure.Procedure.{Procedure}
+use Rattle.frames80.specs.PointNumbers.{same_procedure}
 
 -- a point: an address of a procedure, and a frame there
 pub record Point : Type 0 where

@@ -2,10 +2,10 @@
 -- needs, are this project's own; the convention is that of the PL/M-80 manuals.)
 use Rattle.std.specs.Prelude.{◌≡◌, ◌≤◌, ◌<◌, ℕ, true, false, List, All, AllPairs, Any}
 use Rattle.frames80.specs.StackFrame.{StackFrame}
-use Rattle.verify80_bounds.specs.declared.procedure.Procedure.{Procedure}
-use Rattle.verify80_bounds.specs.declared.procedure.Procedure.TheVariants.{Entry}
+use Rattle.frames80.specs.declared.procedure.Procedure.{Procedure}
+use Rattle.frames80.specs.declared.procedure.Procedure.TheVariants.{Entry}
 use Rattle.verify80_flow.specs.declared.report.ProcRow.{ProcRow}
-use Rattle.frames80_code.specs.Code.{Code}
+use Rattle.frames80.specs.Code.{Code}
 use Rattle.verify80_flow.specs.Walks.{Walk, Returns}
 use Rattle.verify80_flow.specs.Use.{IsBound}
 

@@ -6,17 +6,18 @@ use Rattle.frames80.specs.declared.moves.Moves.{Moves}
 use Rattle.frames80.specs.Calls.{room, depth_of}
 use Rattle.frames80_interned.specs.Admitted.{move_of}
 use Rattle.frames80_interned.specs.Frames.{frame_at, IsFrame}
-use Rattle.verify80_bounds.specs.declared.procedure.Procedure.{Procedure}
-use Rattle.verify80_bounds.specs.declared.procedure.Procedure.TheVariants.{Entry}
+use Rattle.frames80.specs.declared.procedure.Procedure.{Procedure}
+use Rattle.frames80.specs.declared.procedure.Procedure.TheVariants.{Entry}
 use Rattle.verify80_bounds.specs.declared.graph.Depth.{Depth}
 use Rattle.verify80_bounds.specs.declared.graph.CallSite.{CallSite}
 use Rattle.verify80_flow.specs.declared.report.ProcRow.{ProcRow}
 use Rattle.verify80_flow.specs.declared.site.Site.{Site}
-use Rattle.frames80_code.specs.Code.{Code, role_of}
+use Rattle.frames80.specs.Code.{Code, role_of}
 use Rattle.verify80_flow.specs.Walks.{Moving, Calls, called}
 use Rattle.verify80_flow.specs.Points.{Point, AreAddresses}
 use Rattle.verify80_flow.specs.Graph.{AreBounds, NoneRecurs}
-use Rattle.verify80_bounds.specs.Chains.{bytes_of, slot_of}
+use Rattle.verify80_bounds.specs.Chains.{bytes_of}
+use Rattle.frames80.specs.Procedures.{slot_of}
 use Rattle.verify80_flow.specs.Known.{Known, KnownFrames, exit_of}
 
 -- the instruction of the point at i moves so, and stands there

@@ -5,11 +5,11 @@ use Rattle.frames80.specs.declared.effect.Effect.{Effect}
 use Rattle.frames80.specs.StackFrame.{StackFrame}
 use Rattle.frames80_interned.specs.Admitted.{move_of}
 use Rattle.frames80_interned.specs.Frames.{frame_at}
-use Rattle.verify80_bounds.specs.declared.procedure.Procedure.{Procedure}
-use Rattle.verify80_bounds.specs.declared.procedure.Procedure.TheVariants.{Entry}
+use Rattle.frames80.specs.declared.procedure.Procedure.{Procedure}
+use Rattle.frames80.specs.declared.procedure.Procedure.TheVariants.{Entry}
 use Rattle.verify80_flow.specs.declared.walks.WalkedPoint.{WalkedPoint}
 use Rattle.verify80_flow.specs.declared.walks.Walks.{Walks}
-use Rattle.frames80_code.specs.Code.{Code}
+use Rattle.frames80.specs.Code.{Code}
 use Rattle.verify80_flow.specs.Walks.{Walk, Moving}
 
 -- a walk comes to the point with its frame

@@ -14,10 +14,9 @@ use crate::stack::bound_stack;
 use crate::table::Table;
 use crate::walks::go_along;
 use crate::wants::find_wants;
-use frames80_code::Code;
+use frames80::{Code, Procedure};
 use std::alloc::Global;
-use verify80_bounds::Procedure;
-use verify80_origins::{AskedPlaces, find_steps};
+use verify80_hints::{AskedPlaces, find_steps};
 
 /// How many visits a program gets at first, beside those for each of its points.
 const FIRST_VISITS: u64 = 20_000;

@@ -5,7 +5,7 @@ ghost use Rattle.verify80_flow.specs.Known.{IsFilled, Refused, is_exact, nothing
 
 use crate::refusal::Refusal;
 use crate::table::Table;
-use frames80_code::Code;
+use frames80::Code;
 
 /// Fills an empty table for a program: one frame for each point that a walk reaches, and each way on in the table. Gives whether it is
 /// filled, which it is unless it is spent before and may be given up then.

@@ -27,6 +27,6 @@ mod wants;
 
 pub use analysis::{analyze, measure};
 pub use fitting::fitting_tables_cover_walks;
+pub use frames80::Procedure;
 pub use refusal::Refusal;
 pub use report::{ProcRow, Report};
-pub use verify80_bounds::Procedure;

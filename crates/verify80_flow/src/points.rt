@@ -7,12 +7,10 @@ ghost use Rattle.frames80.specs.Calls.{agree, merged, returned, room};
 ghost use Rattle.frames80_interned.specs.Frames.{frame_at, IsFrame, IsLesserFrame, StayNumbered};
 ghost use Rattle.verify80_flow.specs.Points.{AreAddresses, AreApart, IsPointAt, IsNoPoint, Reframes};
 
-use frames80::{CallFault, Change, Role};
-use frames80_code::{PointNumbers, numbers_are_of_addresses};
+use frames80::{CallFault, Change, PointNumbers, Procedure, Role, numbers_are_of_addresses};
 use frames80_interned::{Asked, FrameId, Frames, MeetFault};
 use std::alloc::{AllocError, Global};
 use std::marker::Model;
-use verify80_bounds::Procedure;
 
 /// A point, its frame by number.
 #[derive(Clone, Copy)]

@@ -3,8 +3,7 @@
 ghost use Rattle.std.specs.Prelude.{◌≡◌};
 ghost use Rattle.verify80_flow.specs.Refusal.{refusal_code, refusal_name, refusal_address, refusal_of, look_refusal, rests_on_a_word};
 
-use frames80::FrameFault;
-use frames80_code::LookFault;
+use frames80::{FrameFault, LookFault};
 use std::alloc::AllocError;
 use std::error::Error;
 use std::fmt;

@@ -1,14 +1,15 @@
 //! The rows of a report.
 
 ghost use Rattle.std.specs.Prelude.{◌≡◌, IfOk, length, true, false};
-ghost use Rattle.verify80_bounds.specs.declared.procedure.Procedure.TheVariants.{Entry};
+ghost use Rattle.frames80.specs.declared.procedure.Procedure.TheVariants.{Entry};
 ghost use Rattle.verify80_flow.specs.Points.{IsNoPoint};
 ghost use Rattle.verify80_flow.specs.Survey.{AreListed, AreMarked, IsEntered, row_of};
 
 use crate::report::ProcRow;
 use crate::table::Table;
+use frames80::{Procedure, SLOTS, slot};
 use std::alloc::{AllocError, Global};
-use verify80_bounds::{Bounds, Procedure, SLOTS, slot};
+use verify80_bounds::Bounds;
 
 /// The rows of the procedures that are entered, by entry.
 ///

@@ -1,8 +1,7 @@
 //! Where an instruction stands.
 
-use frames80::Role;
+use frames80::{Procedure, Role};
 use frames80_interned::FrameId;
-use verify80_bounds::Procedure;
 
 /// Where an instruction stands: in which procedure and in what role, at which address, what comes after it, and the numbers
 /// of the point and of its frame.

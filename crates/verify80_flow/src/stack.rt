@@ -8,7 +8,7 @@ use crate::laws::frame_laws;
 use crate::refusal::Refusal;
 use crate::survey::find_calls;
 use crate::table::Table;
-use frames80_code::Code;
+use frames80::Code;
 use std::alloc::Global;
 use verify80_bounds::{Bounds, BoundsFault, find_bounds};
 

@@ -10,10 +10,9 @@ ghost use Rattle.frames80_interned.specs.Admitted.{move_of};
 use crate::laws::frame_laws;
 use crate::refusal::Refusal;
 use crate::table::Table;
-use frames80::Effect;
-use frames80_code::Code;
+use frames80::{Code, Effect, Procedure, slot};
 use std::alloc::{AllocError, Global};
-use verify80_bounds::{CallSite, Depth, Procedure, slot};
+use verify80_bounds::{CallSite, Depth};
 
 /// The depths of a program's frames, and its calls.
 #[derive(Drop)]

@@ -1,7 +1,7 @@
 //! The table of frames while it fills.
 
 ghost use Rattle.std.specs.Prelude.{◌≡◌, ◌+◌, ◌<◌, ◌≤◌, ℕ, Bool, is_some, List, false, true, Some, None, Ok, Err, IfOk, IfErr, OnOk, IfSome, length, replicate, slice_get};
-ghost use Rattle.verify80_bounds.specs.declared.procedure.Procedure.TheVariants.{Main, Entry};
+ghost use Rattle.frames80.specs.declared.procedure.Procedure.TheVariants.{Main, Entry};
 ghost use Rattle.verify80_flow.specs.Points.{AreAddresses, IsPointAt, IsNoPoint};
 ghost use Rattle.verify80_flow.specs.Known.{CanLead, IsSmall, Stands, Flows, Exits, CallsOut, Steps, Visits, ManyVisits, Sweeps, Lessens, Refused, AreClosed, AllClosed, IsShort, exit_of, nothing_known};
 ghost use Rattle.frames80.specs.declared.moves.Moves.TheVariants.{Either, Case, MaybeCall, MaybeReturn};
@@ -11,7 +11,7 @@ ghost use Rattle.frames80.specs.StackFrame.{entry_frame, main_frame};
 ghost use Rattle.frames80_interned.specs.Admitted.{move_of};
 ghost use Rattle.frames80_interned.specs.Frames.{frame_at, IsFrame, StayNumbered};
 ghost use Rattle.verify80_flow.specs.Survey.{EffectIsAt, IsEntered};
-ghost use Rattle.frames80_code.specs.Code.{role_of};
+ghost use Rattle.frames80.specs.Code.{role_of};
 
 mod leading;
 
@@ -19,14 +19,11 @@ use crate::laws::frame_laws;
 use crate::points::Points;
 use crate::refusal::Refusal;
 use crate::site::Site;
-use frames80::{CallFault, Change, Effect, Role, effect_of};
-use frames80_code::{Code, role_of};
+use frames80::{CallFault, Change, Code, Effect, Procedure, Role, effect_of, role_of};
 use frames80_interned::{FrameId, Frames, MeetFault};
 use std::alloc::{AllocError, Global};
 use std::marker::Model;
-use verify80_bounds::Procedure;
-use verify80_origins::AskedPlaces;
-use verify80_worklist::{Callers, Pending};
+use verify80_hints::{AskedPlaces, Callers, Pending};
 
 /// The most points that are visited.
 const MOST_POINTS: usize = 262_144;

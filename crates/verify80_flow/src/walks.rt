@@ -8,7 +8,7 @@ ghost use Rattle.frames80.specs.StackFrame.{StackFrame};
 ghost use Rattle.frames80.specs.Moves.{changed};
 ghost use Rattle.frames80_interned.specs.Admitted.{move_of};
 ghost use Rattle.frames80_interned.specs.Frames.{StayNumbered};
-ghost use Rattle.frames80_code.specs.Code.{Code as CodeSeen, role_of};
+ghost use Rattle.frames80.specs.Code.{Code as CodeSeen, role_of};
 ghost use Rattle.verify80_flow.specs.Faults.{HoldsAnyway};
 ghost use Rattle.frames80.specs.Effects.{change_of};
 ghost use Rattle.verify80_flow.specs.Walked.{AreWalked, IsCallee, IsMovingFrom, IsWalked};
@@ -16,12 +16,10 @@ ghost use Rattle.verify80_flow.specs.Walks.{LeadsTo, called, returning};
 
 use crate::refusal::Refusal;
 use crate::survey::target_of;
-use frames80::{CallFault, Effect, FrameFault, effect_of};
-use frames80_code::{Code, role_of};
+use frames80::{CallFault, Code, Effect, FrameFault, Procedure, effect_of, role_of};
 use frames80_interned::{FrameId, Frames, MeetFault};
 use std::alloc::{AllocError, Global};
-use verify80_bounds::Procedure;
-use verify80_origins::Step;
+use verify80_hints::Step;
 
 /// The most words that a frame has taken that is followed.
 const MOST_TAKEN: u32 = 1_000_000;

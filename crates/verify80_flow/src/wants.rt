@@ -4,8 +4,8 @@ ghost use Rattle.std.specs.Prelude.{◌≡◌, IfOk, length};
 ghost use Rattle.verify80_flow.specs.Survey.{AreWants};
 
 use crate::table::Table;
+use frames80::{SLOTS, slot, table as slots};
 use std::alloc::{AllocError, Global};
-use verify80_bounds::{SLOTS, slot, table as slots};
 
 /// The most words that each procedure takes from beneath its entry, by slot; 0 if it isn't reached.
 ///

@@ -6,9 +6,9 @@ use Rattle.std.proofs.lemmas.List.Quantifiers.{all_pairs_push}
 use Rattle.decode80.specs.declared.instr.Instr.{Instr}
 use Rattle.decode80.specs.declared.fetching.Fetched.{Fetched}
 use Rattle.image80.specs.Regions.{Areas, in_data}
-use Rattle.verify80_spans.specs.declared.span.Span.{Span}
-use Rattle.verify80_spans.specs.declared.pairs.Pairs.{Pairs}
-use Rattle.verify80_spans.specs.Span.{Within}
+use Rattle.verify80_stores.specs.declared.spans.span.Span.{Span}
+use Rattle.verify80_stores.specs.declared.spans.pairs.Pairs.{Pairs}
+use Rattle.verify80_stores.specs.Span.{Within}
 use Rattle.verify80_stores.specs.declared.stores.OpenStore.{OpenStore}
 use Rattle.verify80_stores.specs.Listing.{AreAllBelow, AreOpenBelow, IsListed, is_kind, reached_at, span_at}
 

@@ -20,18 +20,18 @@ use Rattle.machine80.specs.Ports.{next_input}
 use Rattle.machine80.specs.Effects.{pointed_bytes, stack_bytes}
 use Rattle.machine80.specs.Step.{Machine, Turn, Next, Stop, fetch, first_outside, ends_at, guard, guarded, execute, turn_of, jump_end, leads_outside, proceeded, with_input, step_on, step_of}
 use Rattle.machine80.specs.World.{World, turn_at, fetched_by, refuses, IsProperEnd}
-use Rattle.frames80_code.specs.Code.{Code}
+use Rattle.frames80.specs.Code.{Code}
 use Rattle.verify80.specs.Looking.{code_of, is_pchl}
-use Rattle.verify80_soundness.specs.Starts.{IsStart, IsWorldFrom, NeverGoesWrongFromPowerOn}
-use Rattle.verify80_soundness.specs.Reached.{IsReached, StaysOnWalks}
-use Rattle.verify80_reach.specs.Reached.{AreReached}
-use Rattle.verify80_spans.specs.declared.span.Span.{Span}
-use Rattle.verify80_spans.specs.declared.pairs.Pairs.{Pairs}
-use Rattle.verify80_spans.specs.Bytes.{HoldsBytes}
-use Rattle.verify80_spans.specs.Span.{Within}
-use Rattle.verify80_spans.specs.Pairs.{Holds, anything}
-use Rattle.verify80_fitting.specs.Fitting.{pairs_at}
-use Rattle.verify80_fitting.specs.Runs.{KeepsTo, RunsKeepTo}
+use Rattle.verify80.specs.Starts.{IsStart, IsWorldFrom, NeverGoesWrongFromPowerOn}
+use Rattle.verify80.specs.Reached.{IsReached, StaysOnWalks}
+use Rattle.verify80_calls.specs.Reached.{AreReached}
+use Rattle.verify80_stores.specs.declared.spans.span.Span.{Span}
+use Rattle.verify80_stores.specs.declared.spans.pairs.Pairs.{Pairs}
+use Rattle.verify80_stores.specs.Bytes.{HoldsBytes}
+use Rattle.verify80_stores.specs.Span.{Within}
+use Rattle.verify80_stores.specs.Pairs.{Holds, anything}
+use Rattle.verify80_stores.specs.Fitting.{pairs_at}
+use Rattle.verify80_stores.specs.Runs.{KeepsTo, RunsKeepTo}
 use Rattle.verify80_stores.specs.declared.stores.OpenStore.{OpenStore}
 use Rattle.verify80_stores.specs.Pointers.{pointer_span, stores_by_pair}
 use Rattle.verify80_stores.specs.Stores.{IsReachedAs, AreReachedAs, IsOpen, GoesAsListed, EndsAsListed, StoresGoAsListed, RunsEndAsListed, AreStoresOf}

@@ -6,21 +6,21 @@ use Rattle.image80.specs.Image.{Located}
 use Rattle.image80.specs.Regions.{Areas}
 use Rattle.machine80.specs.Step.{Machine}
 use Rattle.machine80.specs.World.{World}
-use Rattle.verify80_bounds.specs.declared.procedure.Procedure.TheVariants.{Entry}
+use Rattle.frames80.specs.declared.procedure.Procedure.TheVariants.{Entry}
 use Rattle.verify80_flow.specs.declared.report.ProcRow.{ProcRow}
-use Rattle.frames80_code.specs.Code.{Code}
+use Rattle.frames80.specs.Code.{Code}
 use Rattle.verify80_flow.specs.Rows.{AreRows, IsRow, ReturnsWith}
 use Rattle.verify80.specs.Looking.{code_of, declared_targets}
-use Rattle.verify80_soundness.specs.Starts.{IsStart, IsWorldFrom}
-use Rattle.verify80_soundness.specs.Reached.{IsReached, StandsOnWalk, StaysOnWalks}
-use Rattle.verify80_reach.specs.Reached.{AreReached, found_at}
-use Rattle.verify80_spans.specs.declared.pairs.Pairs.{Pairs}
-use Rattle.verify80_spans.specs.Bytes.{HoldsBytes}
-use Rattle.verify80_spans.specs.Pairs.{anything}
-use Rattle.verify80_spans.specs.Following.{AnythingHolds}
-use Rattle.verify80_fitting.specs.Returning.{is_marked}
-use Rattle.verify80_fitting.specs.Fitting.{entry_in, pairs_at, Has, EntryFits, ReturnsSomewhere, Fits}
-use Rattle.verify80_fitting.specs.Runs.{KeepsTo, RunsKeepTo, RunsHoldBytesFromPowerOn}
+use Rattle.verify80.specs.Starts.{IsStart, IsWorldFrom}
+use Rattle.verify80.specs.Reached.{IsReached, StandsOnWalk, StaysOnWalks}
+use Rattle.verify80_calls.specs.Reached.{AreReached, found_at}
+use Rattle.verify80_stores.specs.declared.spans.pairs.Pairs.{Pairs}
+use Rattle.verify80_stores.specs.Bytes.{HoldsBytes}
+use Rattle.verify80_stores.specs.Pairs.{anything}
+use Rattle.verify80_stores.specs.Following.{AnythingHolds}
+use Rattle.verify80_stores.specs.Returning.{is_marked}
+use Rattle.verify80_stores.specs.Fitting.{entry_in, pairs_at, Has, EntryFits, ReturnsSomewhere, Fits}
+use Rattle.verify80_stores.specs.Runs.{KeepsTo, RunsKeepTo, RunsHoldBytesFromPowerOn}
 use Rattle.verify80_stores.specs.Listing.{reached_at}
 
 -- two ways to read a table of entries

@@ -3,9 +3,9 @@ use Rattle.std.specs.Prelude.{◌≡◌, ℕ, List, All, Option, Some}
 use Rattle.std.proofs.Common.{arith}
 use Rattle.image80.specs.Image.{Located, memory_of}
 use Rattle.machine80.specs.World.{World, IsWorldOf, world_at_start}
-use Rattle.verify80_soundness.specs.Starts.{IsStart, IsWorldFrom}
-use Rattle.verify80_soundness.specs.Soundness.{RunsBeginFromPowerOn}
-use Rattle.verify80_spans.specs.Bytes.{HasBytes, HoldsBytes}
+use Rattle.verify80.specs.Starts.{IsStart, IsWorldFrom}
+use Rattle.verify80.specs.Soundness.{RunsBeginFromPowerOn}
+use Rattle.verify80_stores.specs.Bytes.{HasBytes, HoldsBytes}
 use Rattle.verify80_stores.specs.declared.stores.OpenStore.{OpenStore}
 use Rattle.verify80_stores.specs.Stores.{AreStoresOf, WatchedRunsGoAsListed}
 

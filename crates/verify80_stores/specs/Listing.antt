@@ -4,13 +4,13 @@ use Rattle.decode80.specs.declared.instr.Instr.{Instr}
 use Rattle.decode80.specs.declared.fetching.Fetched.{Fetched}
 use Rattle.image80.specs.Regions.{Areas, in_data}
 use Rattle.image80.specs.Image.{Located}
-use Rattle.verify80_soundness.specs.Starts.{NeverGoesWrongFromPowerOn}
-use Rattle.verify80_soundness.specs.Reached.{StaysOnWalks}
-use Rattle.verify80_spans.specs.declared.span.Span.{Span}
-use Rattle.verify80_spans.specs.declared.pairs.Pairs.{Pairs}
-use Rattle.verify80_spans.specs.Span.{Within}
-use Rattle.verify80_spans.specs.Pairs.{anything}
-use Rattle.verify80_fitting.specs.Fitting.{entry_in, pairs_at}
+use Rattle.verify80.specs.Starts.{NeverGoesWrongFromPowerOn}
+use Rattle.verify80.specs.Reached.{StaysOnWalks}
+use Rattle.verify80_stores.specs.declared.spans.span.Span.{Span}
+use Rattle.verify80_stores.specs.declared.spans.pairs.Pairs.{Pairs}
+use Rattle.verify80_stores.specs.Span.{Within}
+use Rattle.verify80_stores.specs.Pairs.{anything}
+use Rattle.verify80_stores.specs.Fitting.{entry_in, pairs_at}
 use Rattle.verify80_stores.specs.declared.stores.OpenStore.{OpenStore}
 use Rattle.verify80_stores.specs.Pointers.{pointer_span}
 

@@ -5,9 +5,9 @@ use Rattle.decode80.specs.declared.instr.Instr.{Instr}
 use Rattle.decode80.specs.declared.instr.Instr.TheVariants.{Store, MviMemory, InrMemory, DcrMemory, Stax}
 use Rattle.decode80.specs.declared.pair.IndexPair.{IndexPair}
 use Rattle.decode80.specs.declared.pair.IndexPair.TheVariants.{Bc, De}
-use Rattle.verify80_spans.specs.declared.span.Span.{Span}
-use Rattle.verify80_spans.specs.declared.pairs.Pairs.{Pairs}
-use Rattle.verify80_spans.specs.Pairs.{anything}
+use Rattle.verify80_stores.specs.declared.spans.span.Span.{Span}
+use Rattle.verify80_stores.specs.declared.spans.pairs.Pairs.{Pairs}
+use Rattle.verify80_stores.specs.Pairs.{anything}
 
 -- the span of the pair that STAX names
 abbrev pub index_span : IndexPair → Pairs → Span

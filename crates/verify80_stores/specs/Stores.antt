@@ -10,12 +10,12 @@ use Rattle.machine80.specs.declared.end.End.TheVariants.{Halt, InputEnd, OutputR
 use Rattle.machine80.specs.Effects.{pointed_bytes}
 use Rattle.machine80.specs.Step.{Machine, Stop}
 use Rattle.machine80.specs.World.{World, IsWorldOf, turn_at, fetched_by}
-use Rattle.frames80_code.specs.Code.{Code}
+use Rattle.frames80.specs.Code.{Code}
 use Rattle.verify80.specs.Looking.{code_of, is_pchl}
-use Rattle.verify80_soundness.specs.Starts.{IsStart, IsWorldFrom}
-use Rattle.verify80_soundness.specs.Reached.{IsReached}
-use Rattle.verify80_spans.specs.Bytes.{HasBytes, HoldsBytes}
-use Rattle.verify80_spans.specs.Span.{Within}
+use Rattle.verify80.specs.Starts.{IsStart, IsWorldFrom}
+use Rattle.verify80.specs.Reached.{IsReached}
+use Rattle.verify80_stores.specs.Bytes.{HasBytes, HoldsBytes}
+use Rattle.verify80_stores.specs.Span.{Within}
 use Rattle.verify80_stores.specs.declared.stores.OpenStore.{OpenStore}
 use Rattle.verify80_stores.specs.Pointers.{stores_by_pair}
 

@@ -3,7 +3,8 @@
 use Rattle.std.specs.Prelude.{ℕ, ◌-◌, List, [], ◌∷◌, ◌++◌, length, codes}
 use Rattle.std.specs.Fmt.{decimal}
 use Rattle.std.specs.List.{flat_map}
-use Rattle.decode80.specs.Text.{text, word_text}
+use Rattle.text80.specs.Digits.{word_text}
+use Rattle.decode80.specs.Text.{text}
 use Rattle.verify80_stores.specs.declared.stores.OpenStore.{OpenStore}
 
 -- how many of the stores are shown to stay in data

@@ -4,27 +4,26 @@ ghost use Rattle.std.specs.Prelude.{◌≡◌, ◌<◌, ◌≤◌, ℕ, Some, If
 ghost use Rattle.verify80_flow.specs.Rows.{AreRows};
 ghost use Rattle.image80.specs.Image.{memory_of};
 ghost use Rattle.verify80.specs.Looking.{code_of};
-ghost use Rattle.verify80_reach.specs.Reached.{AreReached};
-ghost use Rattle.verify80_spans.specs.Bytes.{HasBytes};
-ghost use Rattle.verify80_spans.specs.Pairs.{anything};
-ghost use Rattle.verify80_fitting.specs.Fitting.{pairs_at};
-ghost use Rattle.verify80_fitting.specs.Runs.{RunsKeepTo};
+ghost use Rattle.verify80_calls.specs.Reached.{AreReached};
+ghost use Rattle.verify80_stores.specs.Bytes.{HasBytes};
+ghost use Rattle.verify80_stores.specs.Pairs.{anything};
+ghost use Rattle.verify80_stores.specs.Fitting.{pairs_at};
+ghost use Rattle.verify80_stores.specs.Runs.{RunsKeepTo};
 ghost use Rattle.verify80_stores.specs.Stores.{AreStoresOf, WatchedRunsGoAsListed};
 ghost use Rattle.verify80_stores.specs.Listing.{AreKnown};
 
+use crate::fitting::{fits, fitting_pairs_hold, mark_returning};
 use crate::laws::watched_runs_go_as_listed;
 use crate::listing::{Kind, addresses_of, open_stores};
+use crate::spans::{Pairs, pairs_follow};
 use crate::stores::Stores;
+use crate::widening::{Flow, propose};
 use decode80::Fetched;
 use image80::Image;
 use loader80::Vouched;
 use std::alloc::{AllocError, Global};
-use verify80::ProcRow;
-use verify80_fitting::{fits, fitting_pairs_hold, mark_returning};
-use verify80_reach::find_reached;
-use verify80_soundness::{accepted_images_stay_on_walks, images_never_go_wrong_from_power_on};
-use verify80_spans::{Pairs, pairs_follow};
-use verify80_widening::{Flow, propose};
+use verify80::{ProcRow, accepted_images_stay_on_walks, images_never_go_wrong_from_power_on};
+use verify80_calls::find_reached;
 
 /// Goes over a vouched image, and answers where its register-indirect stores may go.
 ///

@@ -3,7 +3,7 @@
 
 ghost use Rattle.verify80_stores.specs.Stores.{StoresAreThoseOfWatchedRuns};
 
-use verify80_soundness::runs_begin_from_power_on;
+use verify80::runs_begin_from_power_on;
 
 /// The runs that [`loader80::run`] makes, from the image's memory and registers of 0, are runs from power-on: what is found of an
 /// image's stores holds of them.

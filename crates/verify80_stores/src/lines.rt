@@ -5,8 +5,9 @@ ghost use Rattle.std.specs.List.{flat_map};
 ghost use Rattle.verify80_stores.specs.StoresText.{count_line, jump_line, store_line, stores_text_of};
 
 use crate::stores::{OpenStore, Stores};
-use decode80::{word_digits, write_text};
+use decode80::write_text;
 use std::alloc::{AllocError, Global};
+use text80::word_digits;
 
 /// The lines of a program's stores: how many of its register-indirect stores are shown to stay in data, of how many, such as
 /// `STORES 11 OF 12`; each of the others, such as `STORE 011E MOV M,A 0000 FFFF`, with the first and the last address that it may

@@ -2,20 +2,20 @@
 
 ghost use Rattle.std.specs.Prelude.{◌≡◌, ◌+◌, ◌<◌, ℕ, true, Some, IfOk, IfSome, IfNone, length};
 ghost use Rattle.image80.specs.Regions.{in_data};
-ghost use Rattle.verify80_spans.specs.declared.span.Span.{Span};
-ghost use Rattle.verify80_spans.specs.Span.{Within};
+ghost use Rattle.verify80_stores.specs.declared.spans.span.Span.{Span};
+ghost use Rattle.verify80_stores.specs.Span.{Within};
 ghost use Rattle.verify80_stores.specs.DataReach.{AreDataEnds};
 ghost use Rattle.verify80_stores.specs.Listing.{AreAllBelow, AreOpenBelow, IsListed, is_kind, reached_at, span_at};
 ghost use Rattle.verify80_stores.specs.Kinds.{is_of};
 
 use crate::data_ends::{data_ends, is_all_data};
+use crate::fitting::pairs_at;
 use crate::pointer::pointer_span;
+use crate::spans::Pairs;
 use crate::stores::OpenStore;
 use decode80::{Fetched, Instr};
 use image80::Regions;
 use std::alloc::{AllocError, Global};
-use verify80_fitting::pairs_at;
-use verify80_spans::Pairs;
 
 /// The kinds of instructions that are listed.
 #[derive(Clone, Copy)]

@@ -3,8 +3,8 @@
 ghost use Rattle.std.specs.Prelude.{◌≡◌};
 ghost use Rattle.verify80_stores.specs.Pointers.{pointer_span};
 
+use crate::spans::{Pairs, Span};
 use decode80::{IndexPair, Instr};
-use verify80_spans::{Pairs, Span};
 
 /// Where an instruction may store by a pair, given what the pairs may be; `None` if it stores by none.
 pub(crate) fn pointer_span(instr: Instr, pairs: Pairs) -> Option<Span>

@@ -20,11 +20,11 @@ use Rattle.frames80.specs.declared.role.Role.{Role}
 use Rattle.frames80.specs.Effects.{effect_of}
 use Rattle.frames80.specs.Moves.{changed, change_fault, moves_of, return_fault, unless}
 use Rattle.frames80.specs.StackFrame.{StackFrame}
-use Rattle.verify80_bounds.specs.declared.procedure.Procedure.{Procedure}
+use Rattle.frames80.specs.declared.procedure.Procedure.{Procedure}
 use Rattle.verify80_flow.specs.Faults.{Holds}
-use Rattle.frames80_code.specs.declared.code.LookFault.TheVariants.{Outside as LooksOutside}
+use Rattle.frames80.specs.declared.code.LookFault.TheVariants.{Outside as LooksOutside}
 use Rattle.verify80_flow.specs.declared.refusal.Refusal.TheVariants.{FetchOutside}
-use Rattle.frames80_code.specs.Code.{role_of}
+use Rattle.frames80.specs.Code.{role_of}
 use Rattle.verify80_flow.specs.Walks.{LeadsTo, Walk, called}
 use Rattle.verify80_flow.specs.Walks.Walk.{begins, goes_on, enters, comes_back}
 use Rattle.image80.specs.declared.range.Range.{Range}

@@ -5,9 +5,9 @@ ghost use Rattle.image80.specs.Range.{in_ranges};
 ghost use Rattle.verify80_suggest.specs.Bytes.{has_byte, in_span};
 ghost use Rattle.verify80_cases.specs.Marks.{AreMarks, marked};
 
+use frames80::table;
 use image80::{Chunk, Range};
 use std::alloc::{AllocError, Global};
-use verify80_bounds::table;
 
 /// How many addresses there are.
 const ADDRESSES: usize = 65_536;

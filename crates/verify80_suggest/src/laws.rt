@@ -4,7 +4,7 @@ ghost use Rattle.std.specs.Prelude.{◌≡◌, ℕ, List, Option, true};
 ghost use Rattle.image80.specs.Image.{Located};
 ghost use Rattle.image80.specs.Regions.{in_code};
 ghost use Rattle.image80.specs.declared.range.Range.{Range};
-ghost use Rattle.verify80_bounds.specs.declared.procedure.Procedure.{Procedure};
+ghost use Rattle.frames80.specs.declared.procedure.Procedure.{Procedure};
 ghost use Rattle.verify80_cases.specs.Marks.{marked};
 ghost use Rattle.verify80_flow.specs.Faults.{Holds};
 ghost use Rattle.verify80_flow.specs.Walks.{Walk};

@@ -5,9 +5,9 @@ ghost use Rattle.verify80_cases.specs.Reach.{given};
 ghost use Rattle.verify80_suggest.specs.Names.{AreNamed, Marks, first_name, names_at, second_name};
 
 use decode80::{Instr, ahead, fetch};
+use frames80::table;
 use std::alloc::{AllocError, Global};
 use verify80::ImageCode;
-use verify80_bounds::table;
 
 /// For each address whether STA, LDA, SHLD or LHLD at a marked address names it.
 ///

@@ -8,7 +8,7 @@ use Rattle.verify80_walks.specs.declared.fault.Stop.TheVariants.{Limit}
 use Rattle.std.proofs.Math.Nat.{le-mul_of_pos_right}
 use Rattle.std.proofs.lemmas.Option.{same_Some, none-some}
 use Rattle.std.proofs.lemmas.List.Sums.{sum_by-append, sum_by-cons}
-use Rattle.frames80_code.specs.Code.{Code}
+use Rattle.frames80.specs.Code.{Code}
 use Rattle.verify80_walks.specs.declared.point.Point.{Point}
 use Rattle.verify80_walks.specs.declared.search.Search.{Search}
 use Rattle.verify80_walks.specs.Counts.{AreDistinct, ComesToMore, GoesDeep, HasDeep, weight_of, weight_of_all}

@@ -1,6 +1,6 @@
 -- What a search on its way has found, and what one has that is closed.
 use Rattle.std.proofs.Common.{◌<◌, ◌≤◌, ◌*◌, ℕ, length, arith}
-use Rattle.frames80_code.specs.Code.{Code}
+use Rattle.frames80.specs.Code.{Code}
 use Rattle.verify80_walks.specs.declared.search.Search.{Search}
 use Rattle.verify80_walks.specs.Search.{IsClosed, IsFound, IsUnderWay, IsWhole}
 use Rattle.verify80_walks.proofs.ClosedLemmas.{has_walk}

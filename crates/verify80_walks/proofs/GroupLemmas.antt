@@ -6,9 +6,9 @@ use Rattle.std.proofs.lemmas.List.{length-append, length-map, map-append, revers
 use Rattle.std.proofs.lemmas.Option.{same_Some, none-some, slice_get-get_or, slice_get-map, slice_get_within}
 use Rattle.std.specs.Prelude.{option_map}
 use Rattle.std.specs.Prelude.{Result, Ok, Err, IfErr, OnOk}
-use Rattle.verify80_bounds.specs.declared.procedure.Procedure.{Procedure}
-use Rattle.verify80_bounds.specs.declared.procedure.Procedure.TheVariants.{Entry}
-use Rattle.verify80_bounds.specs.Chains.{slot_of}
+use Rattle.frames80.specs.declared.procedure.Procedure.{Procedure}
+use Rattle.frames80.specs.declared.procedure.Procedure.TheVariants.{Entry}
+use Rattle.frames80.specs.Procedures.{slot_of}
 use Rattle.verify80_walks.specs.declared.origin.CallingPoint.{CallingPoint}
 use Rattle.verify80_walks.specs.declared.origin.Exit.{Exit}
 use Rattle.verify80_walks.specs.PointEquality.{same_slot}

@@ -2,9 +2,9 @@
 use Rattle.std.proofs.Common.{◌≡◌, ◌<◌, ◌⊎◌, inl, inr, ℕ, zero, suc, List, [], ◌∷◌, ◌++◌, Some, length, reverse, slice_get, refl, sym, ◌∙◌, ap, subst, arith}
 use Rattle.std.proofs.lemmas.Option.{same_Some, none-some, slice_get_within}
 use Rattle.std.proofs.lemmas.List.{reverse-append}
-use Rattle.verify80_bounds.specs.declared.procedure.Procedure.{Procedure}
-use Rattle.verify80_bounds.specs.declared.procedure.Procedure.TheVariants.{Main, Entry}
-use Rattle.frames80_code.specs.Code.{Code}
+use Rattle.frames80.specs.declared.procedure.Procedure.{Procedure}
+use Rattle.frames80.specs.declared.procedure.Procedure.TheVariants.{Main, Entry}
+use Rattle.frames80.specs.Code.{Code}
 use Rattle.verify80_flow.specs.Walks.{Calls, Returns, Walk, begins, goes_on, enters, comes_back}
 use Rattle.verify80_walks.proofs.ListLemmas.{there_is}
 use Rattle.verify80_walks.specs.declared.point.Point.{Point}

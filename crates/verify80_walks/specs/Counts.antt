@@ -1,7 +1,7 @@
 -- What a search counts against its limit. (This project's own.)
 use Rattle.std.specs.Prelude.{◌≡◌, ◌<◌, ◌+◌, ◌*◌, ℕ, List, length, slice_get, Some}
 use Rattle.std.specs.List.{sum_by}
-use Rattle.frames80_code.specs.Code.{Code}
+use Rattle.frames80.specs.Code.{Code}
 use Rattle.verify80_walks.specs.declared.point.Point.{Point}
 use Rattle.verify80_walks.specs.Ways.{IsWalked}
 

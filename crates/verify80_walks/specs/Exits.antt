@@ -1,7 +1,7 @@
 -- The exits and the calls that a search knows, by procedure. (This project's own.)
 use Rattle.std.specs.Prelude.{◌≡◌, List, Contains}
-use Rattle.verify80_bounds.specs.declared.procedure.Procedure.{Procedure}
-use Rattle.verify80_bounds.specs.declared.procedure.Procedure.TheVariants.{Entry}
+use Rattle.frames80.specs.declared.procedure.Procedure.{Procedure}
+use Rattle.frames80.specs.declared.procedure.Procedure.TheVariants.{Entry}
 use Rattle.verify80_walks.specs.declared.origin.CallingPoint.{CallingPoint}
 use Rattle.verify80_walks.specs.declared.origin.Exit.{Exit}
 

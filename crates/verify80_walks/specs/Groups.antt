@@ -1,7 +1,7 @@
 -- Items by the procedure that each belongs to. (This project's own.)
 use Rattle.std.specs.Prelude.{◌≡◌, ◌<◌, ℕ, List, Contains, Option, None, Some, get_or, length, slice_get}
-use Rattle.verify80_bounds.specs.declared.procedure.Procedure.{Procedure}
-use Rattle.verify80_bounds.specs.Chains.{slot_of}
+use Rattle.frames80.specs.declared.procedure.Procedure.{Procedure}
+use Rattle.frames80.specs.Procedures.{slot_of}
 
 -- items, and the procedure of each
 pub record Grouped (T : Type 0) : Type 0 where

@@ -7,9 +7,9 @@ use Rattle.std.specs.Bool.{Decides}
 use Rattle.std.specs.Cmp.{IsEquivalence, decided, unsigned_Decides, first_so, second_so}
 use Rattle.std.specs.Hash.{HashWrites, u16, u32}
 use Rattle.frames80.specs.FrameEquality.{frame_eq, frame_decides, frame_writes}
-use Rattle.verify80_bounds.specs.declared.procedure.Procedure.{Procedure}
-use Rattle.verify80_bounds.specs.declared.procedure.Procedure.TheVariants.{Main, Entry}
-use Rattle.verify80_bounds.specs.Chains.{slot_of}
+use Rattle.frames80.specs.declared.procedure.Procedure.{Procedure}
+use Rattle.frames80.specs.declared.procedure.Procedure.TheVariants.{Main, Entry}
+use Rattle.frames80.specs.Procedures.{slot_of}
 use Rattle.verify80_walks.specs.declared.point.Point.{Point}
 
 abbrev pub procedure_eq : Procedure → Procedure → Bool

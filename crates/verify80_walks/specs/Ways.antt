@@ -2,9 +2,9 @@
 -- (This project's own.)
 use Rattle.std.specs.Prelude.{◌≡◌, ◌⊎◌, ℕ, List, [], ◌∷◌}
 use Rattle.frames80.specs.StackFrame.{StackFrame}
-use Rattle.verify80_bounds.specs.declared.procedure.Procedure.{Procedure}
-use Rattle.verify80_bounds.specs.declared.procedure.Procedure.TheVariants.{Main, Entry}
-use Rattle.frames80_code.specs.Code.{Code}
+use Rattle.frames80.specs.declared.procedure.Procedure.{Procedure}
+use Rattle.frames80.specs.declared.procedure.Procedure.TheVariants.{Main, Entry}
+use Rattle.frames80.specs.Code.{Code}
 use Rattle.verify80_flow.specs.Walks.{Begins, Calls, Enters, GoesOn, GoesOnAfter, Returns, Walk}
 use Rattle.verify80_walks.specs.declared.point.Point.{Point}
 use Rattle.verify80_walks.specs.declared.route.Call.{Call}

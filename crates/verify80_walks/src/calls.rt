@@ -17,7 +17,7 @@ pub struct Calls {
 
 impl Model for Calls {
     ghost use Rattle.std.specs.Prelude.{◌≡◌, map};
-    ghost use Rattle.verify80_bounds.specs.declared.procedure.Procedure.TheVariants.{Entry};
+    ghost use Rattle.frames80.specs.declared.procedure.Procedure.TheVariants.{Entry};
     ghost use Rattle.verify80_walks.specs.Exits.{CallList};
 
     ghost Value = { CallList };

@@ -3,9 +3,9 @@
 ghost use Rattle.std.specs.Prelude.{◌≡◌, ◌<◌, ◌++◌, ◌∷◌, [], IfErr, IfOk, OnOk, Some, length, slice_get};
 ghost use Rattle.verify80_walks.specs.Groups.{AreItemsOf};
 
+use frames80::{SLOTS, slot, table};
 use std::alloc::{AllocError, Global};
 use std::marker::Model;
-use verify80_bounds::{SLOTS, slot, table};
 use verify80_flow::Procedure;
 
 /// An item, its procedure, and the number of the item of that procedure before it.

@@ -7,8 +7,7 @@ ghost use Rattle.verify80_walks.specs.Search.{IsBack, IsLooked};
 
 use crate::fault::Stop;
 use crate::point::Point;
-use frames80::{CallFault, Frame, FrameFault, Moves, Role, after, next};
-use frames80_code::{Code, LookFault, role_of};
+use frames80::{CallFault, Code, Frame, FrameFault, LookFault, Moves, Role, after, next, role_of};
 use std::alloc::Global;
 use verify80_flow::Procedure;
 

@@ -2,10 +2,9 @@
 
 ghost use Rattle.std.specs.Prelude.{◌≡◌, IfOk};
 
-use frames80::Frame;
+use frames80::{Frame, slot};
 use std::alloc::{AllocError, Global};
 use std::hash::{Hash, Hasher};
-use verify80_bounds::slot;
 use verify80_flow::Procedure;
 
 /// A point that a walk comes to: the procedure, the address, and what is known of its stack and register pairs there.

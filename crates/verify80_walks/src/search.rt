@@ -1,7 +1,7 @@
 //! The points that the walks of a program come to, found one by one, breadth first.
 
 ghost use Rattle.std.specs.Prelude.{◌≡◌, ◌<◌, ◌≤◌, ◌+◌, ◌++◌, ◌∷◌, [], ℕ, true, false, Contains, Some, Ok, Err, IfOk, OnOk, length, slice_get};
-ghost use Rattle.verify80_bounds.specs.declared.procedure.Procedure.TheVariants.{Main, Entry};
+ghost use Rattle.frames80.specs.declared.procedure.Procedure.TheVariants.{Main, Entry};
 ghost use Rattle.frames80.specs.StackFrame.{entry_frame, main_frame};
 ghost use Rattle.frames80.specs.declared.moves.Moves.TheVariants.{Case};
 ghost use Rattle.verify80_walks.specs.declared.point.Point.{Point};
@@ -16,8 +16,7 @@ use crate::fault::Stop;
 use crate::looked::{Looked, back, look_at};
 use crate::origin::{CallingPoint, Exit, Origin};
 use crate::point::Point;
-use frames80::{Frame, Moves};
-use frames80_code::{Code, role_of};
+use frames80::{Code, Frame, Moves, role_of};
 use indexmap::IndexSet;
 use std::alloc::{AllocError, Global};
 use verify80_flow::Procedure;

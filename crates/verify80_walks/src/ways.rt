@@ -1,8 +1,8 @@
 //! The way to a point of a search, and the calls that lead to its procedure.
 
 ghost use Rattle.std.specs.Prelude.{◌≡◌, ◌<◌, ◌≤◌, IfOk, IfSome, IfNone, Some, length, slice_get};
-ghost use Rattle.verify80_bounds.specs.declared.procedure.Procedure.TheVariants.{Main};
-ghost use Rattle.frames80_code.specs.Code.{Code as CodeSeen};
+ghost use Rattle.frames80.specs.declared.procedure.Procedure.TheVariants.{Main};
+ghost use Rattle.frames80.specs.Code.{Code as CodeSeen};
 ghost use Rattle.verify80_walks.specs.declared.point.Point.{Point};
 ghost use Rattle.verify80_walks.specs.Search.{AreOrdered, HasNoBefore, IsBefore, IsCallTo, IsSound, IsWayTo, Leads};
 ghost use Rattle.verify80_walks.specs.Ways.{IsRoute, Lead};

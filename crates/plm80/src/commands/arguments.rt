@@ -5,18 +5,14 @@ use clap::{ArgMatches, Command, Error};
 use plm80_console::{Syntax, WHY};
 use plm80_names::NamedFiles;
 use plm80_objects::{
-    FIND, FindArguments, LIB, LINK, LOCATE, LibraryArguments, LinkArguments, LocateArguments, MAP,
+    ABSOLUTE, AbsoluteArguments, COMPARE, CompareArguments, EXTRACT, ExtractArguments, FIND,
+    FindArguments, LIB, LINK, LOCATE, LibraryArguments, LinkArguments, LocateArguments, MAP,
     MODULE, MapArguments, ModuleArguments,
 };
 use plm80_programs::{
-    CALLS, CASES, CHECK, CallsArguments, CasesArguments, EXPLAIN, LIST, ListArguments, REGIONS,
-    RegionsArguments, STORES, SUGGEST, SuggestArguments,
-};
-use plm80_rom::{
-    ABSOLUTE, AbsoluteArguments, COMPARE, CompareArguments, EXTRACT, ExtractArguments,
-};
-use plm80_runs::{
-    COVER, CoverArguments, INPUTS, InputsArguments, RUN, RunArguments, TRACE, TraceArguments,
+    CALLS, CASES, CHECK, COVER, CallsArguments, CasesArguments, CoverArguments, EXPLAIN, INPUTS,
+    InputsArguments, LIST, ListArguments, REGIONS, RUN, RegionsArguments, RunArguments, STORES,
+    SUGGEST, SuggestArguments, TRACE, TraceArguments,
 };
 use std::alloc::{AllocError, Global};
 

@@ -2,7 +2,7 @@
 
 use crate::link::LinkFiles;
 use link80::LinkFault;
-use link80_causes::LinkSources;
+use link80_text::LinkSources;
 use omf_module::Module;
 use place80::{Options, PlaceFault};
 use plm80_console::{Console, Reported};
@@ -38,7 +38,7 @@ fn link_lines(
         library_files: &files.paths,
     };
     let mut lines = Vec::new(alloc);
-    link80_causes::append_cause(alloc, &mut lines, &sources, fault)?;
+    link80_text::append_cause(alloc, &mut lines, &sources, fault)?;
     Ok(lines)
 }
 
@@ -67,7 +67,7 @@ fn place_lines(
     fault: &PlaceFault,
 ) -> Result<Vec<u8>, AllocError> {
     let mut lines = Vec::new(alloc);
-    place80_causes::append_cause(alloc, &mut lines, program, options, fault)?;
+    place80::append_cause(alloc, &mut lines, program, options, fault)?;
     Ok(lines)
 }
 

@@ -1,12 +1,11 @@
 //! The lines that `link` prints.
 
 ghost use Rattle.link80.specs.Selection.{IsSelection};
-ghost use Rattle.link80_parts.specs.Parts.{IsMade};
+ghost use Rattle.link80_text.specs.Parts.{IsMade};
 
 use crate::link::LinkFiles;
 use link80::{Chosen, Linked};
-use link80_parts::{append_parts, append_unresolved};
-use link80_reasons::append_reasons;
+use link80_text::{append_parts, append_reasons, append_unresolved};
 use omf_core::Name;
 use omf_library::Library;
 use std::alloc::{AllocError, Global};

@@ -1,5 +1,5 @@
 use Rattle.std.proofs.Common.{◌≡◌, drop}
-use Rattle.omf_relocation.specs.Place.{common_name}
+use Rattle.omf_parts.specs.Place.{common_name}
 use Rattle.link80.proofs.commons.common_name.Given as goal
 
 -- the name among the commons that are left is that among all

@@ -9,8 +9,8 @@ use Rattle.omf_parts.specs.declared.fixup.Target.TheVariants.{Segment}
 use Rattle.omf_parts.specs.Contents.{ContentValue}
 use Rattle.omf_parts.specs.Rules.{has_target}
 use Rattle.omf_parts.specs.Modules.{ModuleValue}
-use Rattle.omf_relocation.specs.declared.patching.Patch.{Patch}
-use Rattle.omf_relocation.specs.Place.{part_start}
+use Rattle.omf_parts.specs.declared.patching.Patch.{Patch}
+use Rattle.omf_parts.specs.Place.{part_start}
 use Rattle.link80.specs.declared.reference.Reference.{Reference}
 use Rattle.link80.specs.Linked.{fixup_to, linked_fixup, link_patch}
 use Rattle.link80.proofs.LoopLemmas.{item_has, one_item_more, one_left_more, none_left_more}

@@ -3,9 +3,9 @@ use Rattle.std.specs.List.{AllByRecursion}
 use Rattle.std.proofs.Common.{◌∙◌, ap, sym, subst}
 use Rattle.omf_parts.specs.Contents.{ContentValue}
 use Rattle.omf_parts.specs.declared.fixup.Fixup.{Fixup}
-use Rattle.omf_relocation.specs.declared.patching.Patch.{Patch}
-use Rattle.omf_relocation.specs.Patches.{are_inside, are_apart}
-use Rattle.omf_relocation.specs.ImageByte.{patch_with}
+use Rattle.omf_parts.specs.declared.patching.Patch.{Patch}
+use Rattle.omf_parts.specs.Patches.{are_inside, are_apart}
+use Rattle.omf_parts.specs.ImageByte.{patch_with}
 use Rattle.place80.specs.Locating.{word_among}
 use Rattle.place80.proofs.located_chunks.located_chunk.Goals as goal
 

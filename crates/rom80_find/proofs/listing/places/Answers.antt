@@ -1,6 +1,6 @@
 use Rattle.std.proofs.Common.{◌∙◌, arith, sym, subst, refl, ℕ, List, ◌<◌}
 use Rattle.std.specs.Prelude.{filter}
-use Rattle.rom80_pattern.specs.declared.code_byte.CodeByte.{CodeByte}
+use Rattle.rom80_find.specs.declared.pattern.code_byte.CodeByte.{CodeByte}
 use Rattle.rom80_find.specs.Places.{AreBelow, is_free, is_known_fixup}
 use Rattle.rom80_find.specs.Runs.{AreFree}
 use Rattle.rom80_find.proofs.LiesLemmas.{below_filter}

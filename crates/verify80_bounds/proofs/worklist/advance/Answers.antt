@@ -3,7 +3,7 @@ use Rattle.std.specs.Prelude.{Contains}
 use Rattle.std.specs.Option.{option_to_list}
 use Rattle.std.proofs.lemmas.List.{map-set, length-map, set-get_or, nil_from_length}
 use Rattle.verify80_bounds.specs.declared.graph.CallSite.{CallSite}
-use Rattle.verify80_bounds.specs.Chains.{slot_of}
+use Rattle.frames80.specs.Procedures.{slot_of}
 use Rattle.verify80_bounds.specs.Sums.{IsWorklist, IsAdvance, IsSumAfter}
 use Rattle.verify80_bounds.proofs.ListLemmas.{items_of, lists_of, list_at}
 use Rattle.verify80_bounds.proofs.WorklistLemmas.{IsLastCall, last_modest, last_counted, IsAppended, absorbs, appended, not_appended, taken_off}

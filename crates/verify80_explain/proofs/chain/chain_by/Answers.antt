@@ -1,7 +1,7 @@
 use Rattle.std.proofs.Common.{◌++◌, ◌∷◌, [], pos, sym, ap, subst, append_assoc, ◌∙◌}
 use Rattle.std.specs.Prelude.{IfNone, IfSome}
 use Rattle.verify80_bounds.specs.Chains.{bytes_of}
-use Rattle.verify80_bounds.specs.declared.procedure.Procedure.TheVariants.{Main}
+use Rattle.frames80.specs.declared.procedure.Procedure.TheVariants.{Main}
 use Rattle.verify80_explain.specs.Chains.{EndsWith, IsChain, NoneStands, NoNextCall}
 use Rattle.verify80_explain.proofs.ListLemmas.{append_nil}
 use Rattle.verify80_explain.proofs.BoundLemmas.{goes-on}

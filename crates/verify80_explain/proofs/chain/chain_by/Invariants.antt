@@ -2,7 +2,7 @@ use Rattle.std.specs.Prelude.{List, ◌++◌, ◌-◌, length, pos}
 use Rattle.verify80_bounds.specs.Chains.{HasLast, bytes_of}
 use Rattle.verify80_bounds.specs.declared.graph.CallSite.{CallSite}
 use Rattle.verify80_bounds.specs.declared.graph.Depth.{Depth}
-use Rattle.verify80_bounds.specs.declared.procedure.Procedure.TheVariants.{Main}
+use Rattle.frames80.specs.declared.procedure.Procedure.TheVariants.{Main}
 use Rattle.verify80_explain.specs.declared.chain.Standing.{Standing}
 use Rattle.verify80_explain.specs.Chains.{AreGreatestOf, IsChain}
 use Rattle.verify80_explain.proofs.chain.chain_by.Given as goal

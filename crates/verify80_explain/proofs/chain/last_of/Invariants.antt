@@ -1,6 +1,6 @@
 use Rattle.std.specs.Prelude.{◌≡◌, ◌<◌, ℕ, Some, pos, slice_get}
 use Rattle.frames80.specs.Calls.{depth_of}
-use Rattle.frames80_code.specs.Code.{role_of}
+use Rattle.frames80.specs.Code.{role_of}
 use Rattle.verify80_walks.specs.declared.point.Point.{Point}
 use Rattle.verify80_explain.proofs.chain.last_of.Given as goal
 

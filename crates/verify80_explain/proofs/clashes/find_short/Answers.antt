@@ -1,8 +1,8 @@
 use Rattle.std.proofs.Common.{◌∙◌, ℕ, get_or, ap, sym, subst}
 use Rattle.std.specs.Prelude.{IfNone, IfSome}
-use Rattle.verify80_bounds.specs.Chains.{slot_of}
-use Rattle.verify80_bounds.specs.declared.procedure.Procedure.TheVariants.{Entry}
-use Rattle.frames80_code.specs.Code.{role_of}
+use Rattle.frames80.specs.Procedures.{slot_of}
+use Rattle.frames80.specs.declared.procedure.Procedure.TheVariants.{Entry}
+use Rattle.frames80.specs.Code.{role_of}
 use Rattle.frames80.specs.Calls.{room}
 use Rattle.verify80_explain.specs.Evidence.{CallsTo}
 use Rattle.verify80_explain.proofs.ClashLemmas.{calls_once, not_short}

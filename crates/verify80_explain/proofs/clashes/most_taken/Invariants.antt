@@ -1,5 +1,5 @@
 use Rattle.std.specs.Prelude.{◌≡◌, ◌<◌, ◌≤◌, ℕ, Some, get_or, length, slice_get}
-use Rattle.verify80_bounds.specs.Chains.{slot_of}
+use Rattle.frames80.specs.Procedures.{slot_of}
 use Rattle.verify80_walks.specs.declared.point.Point.{Point}
 use Rattle.verify80_explain.proofs.clashes.most_taken.Given as goal
 

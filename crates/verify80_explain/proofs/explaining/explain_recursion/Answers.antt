@@ -1,6 +1,6 @@
 use Rattle.std.proofs.Common.{inl, inr, ap, subst}
 use Rattle.std.specs.Prelude.{Err, IfNone, IfSome, Ok}
-use Rattle.frames80_code.specs.Code.{Code}
+use Rattle.frames80.specs.Code.{Code}
 use Rattle.verify80_explain.specs.Known.{HasNoRing}
 use Rattle.verify80_walks.specs.Search.{IsFound}
 use Rattle.verify80_explain.specs.Shows.{ByRing}

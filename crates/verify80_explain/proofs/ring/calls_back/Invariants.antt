@@ -1,5 +1,5 @@
 use Rattle.std.specs.Prelude.{◌≡◌, ◌<◌, List, length, slice_get, Some}
-use Rattle.verify80_bounds.specs.declared.procedure.Procedure.TheVariants.{Entry}
+use Rattle.frames80.specs.declared.procedure.Procedure.TheVariants.{Entry}
 use Rattle.verify80_walks.specs.declared.route.Call.{Call}
 use Rattle.verify80_explain.specs.declared.ring.Reach.{Reach}
 use Rattle.verify80_explain.specs.Ring.{IsLedBack, ReachesFrom}

@@ -1,6 +1,6 @@
 use Rattle.std.proofs.Common.{◌≡◌, Some, get_or, slice_get, sym, ap, ◌∙◌, true≢false, subst, arith}
 use Rattle.std.proofs.lemmas.Option.{same_Some, slice_get-get_or, slice_get_within}
-use Rattle.verify80_bounds.specs.declared.procedure.Procedure.TheVariants.{Entry}
+use Rattle.frames80.specs.declared.procedure.Procedure.TheVariants.{Entry}
 use Rattle.verify80_explain.specs.declared.ring.Reach.{Reach}
 use Rattle.verify80_explain.specs.Ring.{IsLed}
 use Rattle.verify80_explain.proofs.ListLemmas.{one_more}

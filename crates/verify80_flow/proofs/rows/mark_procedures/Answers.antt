@@ -1,6 +1,6 @@
 use Rattle.std.proofs.Common.{◌≡◌, ◌<◌, ◌∙◌, ap, sym, true, length, arith, rules}
 use Rattle.std.proofs.lemmas.List.{length-set}
-use Rattle.verify80_bounds.specs.Chains.{slot_of}
+use Rattle.frames80.specs.Procedures.{slot_of}
 use Rattle.verify80_flow.proofs.SurveyLemmas.{mark_more, none_marked}
 use Rattle.verify80_flow.proofs.VisitLemmas.{some_at}
 use Rattle.verify80_flow.proofs.rows.mark_procedures.Goals as goal

@@ -1,6 +1,6 @@
 use Rattle.std.proofs.Common.{◌≡◌, ◌<◌, ◌∙◌, ap, sym, length, arith}
 use Rattle.std.proofs.lemmas.List.{get_or_read, length-set}
-use Rattle.verify80_bounds.specs.Chains.{slot_of}
+use Rattle.frames80.specs.Procedures.{slot_of}
 use Rattle.verify80_flow.proofs.SurveyLemmas.{wants_kept, wants_raised}
 use Rattle.verify80_flow.proofs.VisitLemmas.{some_at}
 use Rattle.verify80_flow.proofs.wants.find_wants.Goals as goal

@@ -1,7 +1,7 @@
 use Rattle.std.proofs.Common.{rules, subst}
 use Rattle.image80.specs.Image.{Located, memory_of}
-use Rattle.verify80_spans.specs.Bytes.{HasBytes}
-use Rattle.verify80_fitting.specs.Runs.{RunsKeepTo}
+use Rattle.verify80_stores.specs.Bytes.{HasBytes}
+use Rattle.verify80_stores.specs.Runs.{RunsKeepTo}
 use Rattle.verify80_stores.specs.Stores.{AreStoresOf}
 use Rattle.verify80_stores.proofs.StoreLemmas.{are_stores}
 use Rattle.verify80_stores.proofs.finding.find_stores.Goals as goal

@@ -2,7 +2,7 @@ use Rattle.std.specs.Prelude.{◌≡◌, ◌≤◌, ◌++◌, ◌+◌, Some, Non
 use Rattle.std.proofs.Common.{◌∙◌, ap, sym, arith}
 use Rattle.std.proofs.lemmas.List.{at_drop_all}
 use Rattle.omf_parts.specs.Segments.{segment_in}
-use Rattle.omf_relocation.specs.Place.{starts_from}
+use Rattle.omf_parts.specs.Place.{starts_from}
 use Rattle.link80.specs.Linked.{parts_end}
 use Rattle.link80.specs.Starts.{next_part}
 use Rattle.link80.proofs.StartsLemmas.{part_is_laid, too_long_at}

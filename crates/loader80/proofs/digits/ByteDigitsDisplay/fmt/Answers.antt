@@ -5,7 +5,7 @@ use Rattle.std.specs.Fmt.{digit_glyph, format_spec, padded_integral, styled_digi
 use Rattle.std.specs.Option.{option_map}
 use Rattle.std.proofs.lemmas.Fmt.{hex_byte}
 use Rattle.std.proofs.lemmas.List.FromFn.{get_or-map-range_with_len}
-use Rattle.decode80.specs.Text.{byte_text}
+use Rattle.text80.specs.Digits.{byte_text}
 use Rattle.loader80.proofs.digits.ByteDigitsDisplay.fmt.Goals as goal
 
 -- std's digits are those of the table

@@ -1,5 +1,5 @@
 use Rattle.std.proofs.Common.{subst}
-use Rattle.verify80_soundness.specs.Starts.{NeverGoesWrongFromPowerOn}
+use Rattle.verify80.specs.Starts.{NeverGoesWrongFromPowerOn}
 use Rattle.loader80.specs.Vouched.{Voucher}
 use Rattle.loader80.proofs.vouched.Vouched.stack_bytes.Goals as goal
 

@@ -1,7 +1,7 @@
 use Rattle.std.specs.Prelude.{◌≡◌, List, length, vec_len}
 use Rattle.std.proofs.Common.{ap, sym, ◌∙◌, arith}
 use Rattle.omf_parts.specs.declared.symbols.Public.{Public}
-use Rattle.image80_names.specs.NameText.{labelled_text}
+use Rattle.image80_text.specs.NameText.{labelled_text}
 use Rattle.plm80_names.proofs.PrintedLemmas.{none_if}
 use Rattle.plm80_names.proofs.names.Names.label.Goals as goal
 

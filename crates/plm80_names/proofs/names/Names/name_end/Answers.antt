@@ -1,6 +1,6 @@
 use Rattle.std.specs.Prelude.{◌≡◌, [], ◌∷◌, ◌++◌}
 use Rattle.std.proofs.Common.{◌∙◌}
-use Rattle.image80_names.specs.NameText.{name_text}
+use Rattle.image80_text.specs.NameText.{name_text}
 use Rattle.plm80_names.proofs.PrintedLemmas.{line_without, ok_implied}
 use Rattle.plm80_names.proofs.names.Names.name_end.Goals as goal
 

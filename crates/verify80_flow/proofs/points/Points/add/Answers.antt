@@ -4,7 +4,7 @@ use Rattle.frames80.specs.StackFrame.{StackFrame}
 use Rattle.frames80_interned.specs.Frames.{frame_at}
 use Rattle.verify80_flow.specs.declared.points.StoredPoint.{StoredPoint}
 use Rattle.verify80_flow.specs.Points.{Point, IsNoPoint, StoredPoints}
-use Rattle.frames80_code.specs.PointNumbers.{Puts}
+use Rattle.frames80.specs.PointNumbers.{Puts}
 use Rattle.verify80_flow.specs.PointStore.{AreStored, point_of, points_of}
 use Rattle.verify80_flow.proofs.PointLemmas.{points_of-added, AreStored-same, AreStored-added}
 use Rattle.verify80_flow.proofs.points.Points.add.Goals as goal

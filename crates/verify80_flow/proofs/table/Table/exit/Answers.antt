@@ -1,8 +1,8 @@
 use Rattle.std.proofs.Common.{◌≡◌, ◌≢◌, ◌<◌, ◌∙◌, ap, arith, sym, subst, length, Ok, Err, Some, None, Option, ℕ, true, false, List, get_or}
 use Rattle.std.specs.Prelude.{is_some, slice_get, slice_set}
 use Rattle.std.proofs.lemmas.Option.{slice_get_read}
-use Rattle.verify80_bounds.specs.declared.procedure.Procedure.{Procedure}
-use Rattle.verify80_bounds.specs.declared.procedure.Procedure.TheVariants.{Entry}
+use Rattle.frames80.specs.declared.procedure.Procedure.{Procedure}
+use Rattle.frames80.specs.declared.procedure.Procedure.TheVariants.{Entry}
 use Rattle.verify80_flow.specs.declared.refusal.Refusal.TheVariants.{UnevenArguments}
 use Rattle.verify80_flow.specs.Known.{Known, KnownFrames, Exits, exit_of, known_at}
 use Rattle.verify80_flow.proofs.KnownLemmas.{with_exit}

@@ -1,6 +1,6 @@
 use Rattle.std.proofs.Common.{◌≡◌, ap, subst, List}
 use Rattle.std.specs.Prelude.{IfSome}
-use Rattle.verify80_bounds.specs.declared.procedure.Procedure.TheVariants.{Entry}
+use Rattle.frames80.specs.declared.procedure.Procedure.TheVariants.{Entry}
 use Rattle.verify80_flow.specs.Points.{Point, IsPointAt}
 use Rattle.verify80_flow.specs.Known.{KnownFrames}
 use Rattle.verify80_flow.proofs.SurveyLemmas.{entered_there}

@@ -1,7 +1,7 @@
 use Rattle.std.proofs.Common.{◌||◌, subst, Ok, Err, ℕ}
 use Rattle.std.proofs.lemmas.Result.{err_from_is_err_and}
 use Rattle.frames80.specs.StackFrame.{main_frame}
-use Rattle.verify80_bounds.specs.declared.procedure.Procedure.TheVariants.{Main}
+use Rattle.frames80.specs.declared.procedure.Procedure.TheVariants.{Main}
 use Rattle.verify80_flow.specs.Known.{Flows, ManyVisits}
 use Rattle.verify80_flow.proofs.ShownLemmas.{shown_start}
 use Rattle.verify80_flow.proofs.ManyVisits.{visits_more, visits_flow, sweeps_done, sweeps_refused, all_closed}

@@ -1,7 +1,7 @@
 use Rattle.std.proofs.Common.{sym, subst}
 use Rattle.verify80_flow.specs.Walked.{IsWalked}
 use Rattle.verify80_flow.proofs.WalkedLemmas.{all_stay, begins_there, point_of}
-use Rattle.verify80_bounds.specs.declared.procedure.Procedure.TheVariants.{Main}
+use Rattle.frames80.specs.declared.procedure.Procedure.TheVariants.{Main}
 use Rattle.verify80_flow.proofs.walks.Walks.begin.Goals as goal
 
 pub returns-clause-walked : goal.returns-clause-walked

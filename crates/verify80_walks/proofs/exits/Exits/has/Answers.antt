@@ -1,6 +1,6 @@
 use Rattle.std.proofs.Common.{◌≡◌, List, Some, ap, get_or, slice_get, subst, sym, ◌∙◌}
 use Rattle.std.proofs.lemmas.Option.{slice_get-get_or}
-use Rattle.verify80_bounds.specs.declared.procedure.Procedure.TheVariants.{Main}
+use Rattle.frames80.specs.declared.procedure.Procedure.TheVariants.{Main}
 use Rattle.verify80_walks.specs.declared.origin.Exit.{Exit}
 use Rattle.verify80_walks.proofs.GroupLemmas.{exits-of}
 use Rattle.verify80_walks.proofs.ListLemmas.{at-contained, contains-at}

@@ -1,5 +1,5 @@
 use Rattle.std.proofs.Common.{refl}
-use Rattle.verify80_bounds.specs.declared.procedure.Procedure.TheVariants.{Main}
+use Rattle.frames80.specs.declared.procedure.Procedure.TheVariants.{Main}
 use Rattle.verify80_walks.specs.declared.origin.Origin.TheVariants.{Begins}
 use Rattle.verify80_walks.specs.Search.{point_of}
 use Rattle.verify80_walks.proofs.ListLemmas.{on_ok}

@@ -1,7 +1,7 @@
 use Rattle.std.proofs.Common.{List, inl, inr, [], ◌∷◌, ◌++◌, Some, length, refl, sym, ◌∙◌, ap, subst}
 use Rattle.frames80.specs.StackFrame.{entry_frame}
 use Rattle.frames80.specs.declared.moves.Moves.TheVariants.{On, Jump, Either, Call, MaybeCall, MaybeReturn}
-use Rattle.verify80_bounds.specs.declared.procedure.Procedure.TheVariants.{Entry}
+use Rattle.frames80.specs.declared.procedure.Procedure.TheVariants.{Entry}
 use Rattle.verify80_flow.specs.Walks.{called}
 use Rattle.verify80_walks.specs.declared.origin.Exit.{Exit}
 use Rattle.verify80_walks.specs.declared.origin.CallingPoint.{CallingPoint}

@@ -1,5 +1,5 @@
 use Rattle.std.specs.Prelude.{◌<◌, ◌≤◌, length}
-use Rattle.frames80_code.specs.Code.{Code}
+use Rattle.frames80.specs.Code.{Code}
 use Rattle.verify80_walks.specs.Search.{Leads, IsSound}
 use Rattle.verify80_walks.proofs.search.Search.start_of.Given as goal
 

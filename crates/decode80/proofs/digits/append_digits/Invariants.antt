@@ -1,8 +1,0 @@
--- the digits of the bytes so far
-use Rattle.std.proofs.Common.{◌≡◌, ◌++◌, take}
-use Rattle.std.specs.List.{flat_map}
-use Rattle.decode80.specs.Text.{byte_text}
-use Rattle.decode80.proofs.digits.append_digits.Given as goal
-
-abbrev pub invariant-loop-byte : goal.invariant-loop-byte
-invariant-loop-byte l = l.out.items ≡ l.initial.out.items ++ flat_map byte_text (take l.byte-index l.bytes)

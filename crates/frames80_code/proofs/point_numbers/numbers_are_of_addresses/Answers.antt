@@ -1,5 +1,0 @@
-use Rattle.frames80_code.proofs.NumberLemmas.{number_below}
-use Rattle.frames80_code.proofs.point_numbers.numbers_are_of_addresses.Goals as goal
-
-pub returns : goal.returns
-returns c = number_below

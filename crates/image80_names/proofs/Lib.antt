@@ -1,2 +1,0 @@
-mod NearestLemmas
-mod TextLemmas

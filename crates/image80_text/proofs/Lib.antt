@@ -1,0 +1,3 @@
+mod NearestLemmas
+mod TextLemmas
+mod ListingLemmas

@@ -1,0 +1,4 @@
+pub mod Names
+pub mod NameText
+pub mod Listing
+pub mod ListingLaws

@@ -1,0 +1,70 @@
+//! The name of an address as it is printed.
+
+ghost use Rattle.std.specs.Prelude.{◌≡◌, ◌++◌, OnOk};
+ghost use Rattle.image80_text.specs.NameText.{above_text, distance_text, label_text, name_text};
+
+use crate::exact::public_at;
+use crate::nearest::nearest_public;
+use image80::Range;
+use omf_parts::Public;
+use std::alloc::{AllocError, Global};
+
+/// Appends a blank and the name of an address of code, as in ` SCALE`, with the distance in hexadecimal if it is above its public, as
+/// in ` SCALE+22`: that of the greatest public at or below the address in the same range of code, and of several there of the first.
+/// Nothing is appended if there is none.
+///
+/// # Errors
+/// `AllocError` only if memory runs out.
+pub fn append_name(
+    alloc: Global,
+    publics: &[Public],
+    code: &[Range],
+    address: u16,
+    text: &mut Vec<u8>,
+) -> Result<(), AllocError>
+    ensures { OnOk result (text.new.items ≡ text.old.items ++ name_text code.now publics.now address) }
+{
+    match nearest_public(publics, code, address) {
+        Some((public, distance)) => append_above(alloc, public, distance, text),
+        None => Ok(()),
+    }
+}
+
+/// Appends a blank and the name of an address so far above a public.
+fn append_above(
+    alloc: Global,
+    public: &Public,
+    distance: u16,
+    text: &mut Vec<u8>,
+) -> Result<(), AllocError>
+    ensures { OnOk result (text.new.items ≡ text.old.items ++ above_text distance public.now) }
+{
+    text.push(b' ')?;
+    text.extend_from_slice(public.name.bytes())?;
+    append_distance(alloc, distance, text)
+}
+
+/// Appends how far an address is above its public; nothing if it isn't.
+fn append_distance(alloc: Global, distance: u16, text: &mut Vec<u8>) -> Result<(), AllocError>
+    ensures { OnOk result (text.new.items ≡ text.old.items ++ distance_text distance) }
+{
+    if distance > 0 {
+        let shown = format!(in alloc; "+{distance:X}")?;
+        text.extend_from_slice(shown.as_bytes())?;
+    }
+    Ok(())
+}
+
+/// Appends the name of the first public at an address as a line of its own; nothing if there is none.
+///
+/// # Errors
+/// `AllocError` only if memory runs out.
+pub fn append_label(publics: &[Public], address: u16, text: &mut Vec<u8>) -> Result<(), AllocError>
+    ensures { OnOk result (text.new.items ≡ text.old.items ++ label_text publics.now address) }
+{
+    if let Some(public) = public_at(publics, address) {
+        text.extend_from_slice(public.name.bytes())?;
+        text.push(b'\n')?;
+    }
+    Ok(())
+}

@@ -1,0 +1,3 @@
+pub mod Rebuilt
+pub mod Built
+pub mod Migrated

@@ -1,2 +1,0 @@
-mod StartLemmas
-mod TextLemmas

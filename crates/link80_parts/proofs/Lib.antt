@@ -1,2 +1,0 @@
-mod LaidLemmas
-mod TextLemmas

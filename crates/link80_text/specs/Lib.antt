@@ -1,0 +1,10 @@
+pub mod Parts
+pub mod Causes
+pub mod HighBytes
+pub mod Lines
+pub mod Reasons
+-- what the crate's own functions promise one another: no public contract cites these
+pub mod Words
+pub mod Edges
+pub mod Search
+pub mod Searched

@@ -1,0 +1,113 @@
+//! The lines of modules and of a high byte.
+
+ghost use Rattle.std.specs.Prelude.{◌≡◌, ◌++◌, Some, map, slice_get, OnOk};
+ghost use Rattle.link80_text.specs.Causes.{deed_line, line_of, first_two, use_line, high_line, high_text};
+
+use crate::causes::high_bytes::HighByte;
+use crate::causes::words::{append_module, append_place};
+use omf_core::Name;
+use omf_parts::{Common, Module};
+use std::alloc::AllocError;
+
+/// Appends the lines of the first two modules with these numbers, and what they do.
+pub(crate) fn append_first_two(
+    text: &mut Vec<u8>,
+    files: &[&[u8]],
+    modules: &[&Module],
+    does: &[u8],
+    numbers: &[usize],
+) -> Result<(), AllocError>
+    ensures { OnOk result (text.new.items ≡ text.old.items
+        ++ first_two (map (λ f. f.now) files.now) (map (λ m. m.now) modules.now) does.now numbers.now) }
+{
+    for number in &numbers[..numbers.len().min(2)] {
+        append_line(text, files, modules, does, *number)?;
+    }
+    Ok(())
+}
+
+/// Appends the line of the module with this number, and what it does.
+fn append_line(
+    text: &mut Vec<u8>,
+    files: &[&[u8]],
+    modules: &[&Module],
+    does: &[u8],
+    number: usize,
+) -> Result<(), AllocError>
+    ensures { OnOk result (text.new.items ≡ text.old.items
+        ++ line_of (map (λ f. f.now) files.now) (map (λ m. m.now) modules.now) does.now number) }
+{
+    match modules.get(number) {
+        Some(source) => append_deed(text, files, number, source.name(), does),
+        None => Ok(()),
+    }
+}
+
+/// Appends the line of a module, and what it does.
+fn append_deed(
+    text: &mut Vec<u8>,
+    files: &[&[u8]],
+    number: usize,
+    name: &Name,
+    does: &[u8],
+) -> Result<(), AllocError>
+    ensures { OnOk result (text.new.items ≡ text.old.items ++ deed_line (map (λ f. f.now) files.now) does.now number name.now) }
+{
+    text.extend_from_slice(b"  ".as_slice())?;
+    append_module(text, files, number, name)?;
+    text.extend_from_slice(does)?;
+    text.push(b'\n')?;
+    Ok(())
+}
+
+/// Appends the line of a high byte, if one was found.
+pub(crate) fn append_high(
+    text: &mut Vec<u8>,
+    files: &[&[u8]],
+    modules: &[&Module],
+    found: Option<HighByte>,
+) -> Result<(), AllocError>
+    ensures { OnOk result (text.new.items ≡ text.old.items
+        ++ high_text (map (λ f. f.now) files.now) (map (λ m. m.now) modules.now) found) }
+{
+    match found {
+        Some(high) => append_high_line(text, files, modules, high),
+        None => Ok(()),
+    }
+}
+
+/// Appends the line of a high byte.
+fn append_high_line(
+    text: &mut Vec<u8>,
+    files: &[&[u8]],
+    modules: &[&Module],
+    high: HighByte,
+) -> Result<(), AllocError>
+    ensures { OnOk result (text.new.items ≡ text.old.items
+        ++ high_line (map (λ f. f.now) files.now) (map (λ m. m.now) modules.now) high) }
+{
+    match modules.get(high.source) {
+        Some(source) => append_use(text, files, source.name(), source.commons(), high),
+        None => Ok(()),
+    }
+}
+
+/// Appends the line of a high byte in a module with this name and these commons.
+fn append_use(
+    text: &mut Vec<u8>,
+    files: &[&[u8]],
+    name: &Name,
+    commons: &[Common],
+    high: HighByte,
+) -> Result<(), AllocError>
+    ensures { OnOk result (text.new.items ≡ text.old.items ++ use_line (map (λ f. f.now) files.now) name.now commons.now high) }
+{
+    text.extend_from_slice(b"  ".as_slice())?;
+    append_module(text, files, high.source, name)?;
+    text.extend_from_slice(b" uses the high byte of ".as_slice())?;
+    append_place(text, commons, high.target, high.start)?;
+    text.extend_from_slice(b" at ".as_slice())?;
+    append_place(text, commons, high.segment, high.offset)?;
+    text.push(b'\n')?;
+    Ok(())
+}

@@ -1,0 +1,71 @@
+//! The lines of the parts of a segment.
+
+ghost use Rattle.std.specs.Prelude.{◌≡◌, ◌++◌, map, OnOk};
+ghost use Rattle.omf_parts.specs.Segments.{is_used};
+ghost use Rattle.link80_text.specs.Causes.{used_line, part_line, parts_text};
+
+use crate::causes::starts::segment_in;
+use crate::causes::words::{append_module, append_part};
+use omf_core::Name;
+use omf_parts::{Module, Segment};
+use std::alloc::AllocError;
+
+/// Appends the lines of the parts that modules have of CODE, DATA or STACK.
+pub(crate) fn append_parts(
+    text: &mut Vec<u8>,
+    files: &[&[u8]],
+    modules: &[&Module],
+    id: u8,
+) -> Result<(), AllocError>
+    ensures { OnOk result (text.new.items ≡ text.old.items
+        ++ parts_text (map (λ f. f.now) files.now) (map (λ m. m.now) modules.now) id) }
+{
+    for (number, source) in modules.iter().enumerate() {
+        append_line(text, files, number, source, id)?;
+    }
+    Ok(())
+}
+
+/// Appends the line of a module's part, if that has bytes or is paged.
+fn append_line(
+    text: &mut Vec<u8>,
+    files: &[&[u8]],
+    number: usize,
+    source: &Module,
+    id: u8,
+) -> Result<(), AllocError>
+    ensures { OnOk result (text.new.items ≡ text.old.items ++ part_line (map (λ f. f.now) files.now) id (number, source.now)) }
+{
+    let part = segment_in(source.segments(), id);
+    if is_used(part) {
+        append_used(text, files, number, source.name(), id, part)
+    } else {
+        Ok(())
+    }
+}
+
+/// Appends the line of a part of the module with this number and name.
+fn append_used(
+    text: &mut Vec<u8>,
+    files: &[&[u8]],
+    number: usize,
+    name: &Name,
+    id: u8,
+    part: Segment,
+) -> Result<(), AllocError>
+    ensures { OnOk result (text.new.items ≡ text.old.items ++ used_line (map (λ f. f.now) files.now) id part number name.now) }
+{
+    text.extend_from_slice(b"  ".as_slice())?;
+    append_part(text, id, part)?;
+    text.push(b' ')?;
+    append_module(text, files, number, name)?;
+    text.push(b'\n')?;
+    Ok(())
+}
+
+/// Whether a part has bytes or is paged.
+fn is_used(part: Segment) -> bool
+    ensures { result ≡ is_used part }
+{
+    0 < part.length || part.paged
+}

@@ -1,0 +1,43 @@
+//! The parts of CODE, DATA and STACK: one after another, in the order of the modules.
+
+ghost use Rattle.std.specs.Prelude.{◌≡◌, ◌≤◌, ◌++◌, map, OnOk};
+ghost use Rattle.omf_parts.specs.Place.{rounded};
+ghost use Rattle.link80.specs.Linked.{parts_end};
+ghost use Rattle.link80_text.specs.Words.{laid_text};
+
+use crate::lines::append_part;
+use crate::named::segment_in;
+use omf_parts::{Common, Module};
+use std::alloc::AllocError;
+
+/// Appends the lines of the parts that lie one after another.
+pub(crate) fn append_laid(
+    text: &mut Vec<u8>,
+    modules: &[&Module],
+    commons: &[Common],
+    id: u8,
+) -> Result<(), AllocError>
+    requires { parts_end id 0 (map (λ m. m.now) modules.now) ≤ 65535 }
+    ensures { OnOk result (text.new.items ≡ text.old.items ++ laid_text commons.now id 0 (map (λ m. m.now) modules.now)) }
+{
+    let mut end = 0;
+    for source in modules {
+        let part = segment_in(source.segments(), id);
+        let start = rounded(end, part.paged);
+        append_part(text, commons, id, start as u16, part, source.name())?;
+        end = start + u32::from(part.length);
+    }
+    Ok(())
+}
+
+/// The start of a part that is laid after what ends at `before`.
+fn rounded(before: u32, paged: bool) -> u32
+    requires { before ≤ 65535 }
+    ensures { result ≡ rounded paged before }
+{
+    if paged {
+        (before + 255) / 256 * 256
+    } else {
+        before
+    }
+}

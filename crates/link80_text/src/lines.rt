@@ -1,0 +1,94 @@
+//! The line of a part.
+
+ghost use Rattle.std.specs.Prelude.{◌≡◌, ◌++◌, OnOk};
+ghost use Rattle.omf_parts.specs.Segments.{is_used};
+ghost use Rattle.link80_text.specs.Parts.{name_part, extent_of, owner_of, line_of, part_line};
+
+use omf_core::Name;
+use omf_core::segment_id::word_of;
+use omf_parts::{Common, Segment};
+use std::alloc::AllocError;
+use text80::word_digits;
+
+/// Appends the line of a part, if it has bytes or is paged.
+pub(crate) fn append_part(
+    text: &mut Vec<u8>,
+    commons: &[Common],
+    id: u8,
+    start: u16,
+    part: Segment,
+    name: &Name,
+) -> Result<(), AllocError>
+    ensures { OnOk result (text.new.items ≡ text.old.items ++ part_line commons.now id start part name.now) }
+{
+    if is_used(part) {
+        append_line(text, commons, id, start, part, name)
+    } else {
+        Ok(())
+    }
+}
+
+/// Whether a part has bytes or is paged.
+fn is_used(part: Segment) -> bool
+    ensures { result ≡ is_used part }
+{
+    0 < part.length || part.paged
+}
+
+/// Appends the line of a part.
+fn append_line(
+    text: &mut Vec<u8>,
+    commons: &[Common],
+    id: u8,
+    start: u16,
+    part: Segment,
+    name: &Name,
+) -> Result<(), AllocError>
+    ensures { OnOk result (text.new.items ≡ text.old.items ++ line_of commons.now id start part name.now) }
+{
+    append_extent(text, start, part.length)?;
+    append_owner(text, commons, id, name)
+}
+
+/// Appends where a part starts, and its length.
+fn append_extent(text: &mut Vec<u8>, start: u16, length: u16) -> Result<(), AllocError>
+    ensures { OnOk result (text.new.items ≡ text.old.items ++ extent_of start length) }
+{
+    text.extend_from_slice(b"PART ".as_slice())?;
+    text.extend_from_slice(&word_digits(start))?;
+    text.push(b' ')?;
+    text.extend_from_slice(&word_digits(length))?;
+    text.push(b' ')?;
+    Ok(())
+}
+
+/// Appends the segment of a part, and its module's name.
+fn append_owner(
+    text: &mut Vec<u8>,
+    commons: &[Common],
+    id: u8,
+    name: &Name,
+) -> Result<(), AllocError>
+    ensures { OnOk result (text.new.items ≡ text.old.items ++ owner_of commons.now id name.now) }
+{
+    text.extend_from_slice(word_of(id))?;
+    append_name(text, commons, id)?;
+    text.push(b' ')?;
+    text.extend_from_slice(name.bytes())?;
+    text.push(b'\n')?;
+    Ok(())
+}
+
+/// Appends a blank and the name of the common of this id, if it has one.
+fn append_name(text: &mut Vec<u8>, commons: &[Common], id: u8) -> Result<(), AllocError>
+    ensures { OnOk result (text.new.items ≡ text.old.items ++ name_part commons.now id) }
+{
+    for common in commons {
+        if common.id == id {
+            text.push(b' ')?;
+            text.extend_from_slice(common.name.bytes())?;
+            return Ok(());
+        }
+    }
+    Ok(())
+}

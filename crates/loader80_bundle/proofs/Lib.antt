@@ -1,3 +1,0 @@
-mod BundleLemmas
-mod BundledLemmas
-mod InputsLineLemmas

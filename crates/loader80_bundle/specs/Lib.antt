@@ -1,4 +1,0 @@
-pub mod BundleText
-pub mod InputsLineLaws
-pub mod Bundle
-pub mod Fault

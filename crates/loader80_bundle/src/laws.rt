@@ -1,8 +1,0 @@
-//! What holds of the parts of a bundle, over the definitions alone.
-
-ghost use Rattle.loader80_bundle.specs.InputsLineLaws.{PartedAtTheFirst};
-
-/// A bundle's regions end and its inputs begin at the first line `INPUTS`.
-pub fn inputs_begin_at_the_first_inputs_line()
-    ensures { PartedAtTheFirst }
-{}

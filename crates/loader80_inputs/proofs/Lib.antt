@@ -1,5 +1,0 @@
-pub mod DigitLemmas
-pub mod CommaLemmas
-pub mod WordLemmas
-pub mod TextLemmas
-pub mod SpellsLemmas

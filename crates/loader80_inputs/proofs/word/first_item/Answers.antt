@@ -1,8 +1,0 @@
-use Rattle.loader80_inputs.proofs.CommaLemmas.{items_alone, items_first}
-use Rattle.loader80_inputs.proofs.word.first_item.Goals as goal
-
-pub returns-in-Some-clause-found : goal.returns-in-Some-clause-found
-returns-in-Some-clause-found c = items_first _ _ (cc c.in-Some.ensures)
-
-pub returns-in-None-clause-absent : goal.returns-in-None-clause-absent
-returns-in-None-clause-absent c = items_alone _ (cc c.in-None.ensures)

@@ -1,0 +1,30 @@
+//! Why a bundle has no outcome.
+
+ghost use Rattle.std.specs.Prelude.{◌≡◌};
+ghost use Rattle.loader80_text.specs.Fault.{bundle_code};
+
+use loader80::SessionFault;
+use thiserror::Error;
+
+/// Why a bundle has no outcome.
+#[derive(Clone, Copy, Debug, PartialEq, Eq, Error)]
+pub enum BundleFault {
+    /// As in a session on the bundle's three parts.
+    #[error("{0}")]
+    Session(SessionFault),
+    /// The bundle has no three parts.
+    #[error("BadBundle")]
+    BadBundle,
+}
+
+impl BundleFault {
+    /// The fault's number: 1 to 8 as that of a session, 9 `BadBundle`.
+    pub fn code(&self) -> u8
+        ensures { result ≡ bundle_code self.now }
+    {
+        match self {
+            BundleFault::Session(fault) => fault.code(),
+            BundleFault::BadBundle => 9,
+        }
+    }
+}

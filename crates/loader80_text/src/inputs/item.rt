@@ -1,0 +1,75 @@
+//! An item of a word: a byte, or a count, a star and a byte.
+
+ghost use Rattle.std.specs.Prelude.{◌≡◌, ◌<◌, IfOk, IfSome};
+ghost use Rattle.loader80_text.specs.Text.{IsRepeated};
+ghost use Rattle.loader80_text.specs.Words.{count_spelled, item_of, times};
+
+use crate::inputs::repeated::Repeated;
+use loader80::digits::bytes_of_digits;
+use std::alloc::{AllocError, Global};
+
+/// What an item of a port's word names; `None` if it is neither `hh` nor `n*hh`.
+pub(crate) fn read_item(
+    alloc: Global,
+    port: u8,
+    item: &[u8],
+) -> Result<Option<Repeated>, AllocError>
+    ensures read { IfOk result (λ read. read ≡ item_of port item.now) }
+    ensures repeated { IfOk result (λ read. IfSome read IsRepeated) }
+{
+    let (before, digits) = item.split_at(item.len().saturating_sub(2));
+    let Some(bytes) = bytes_of_digits(alloc, digits)? else {
+        return Ok(None);
+    };
+    let Some(count) = times(before) else {
+        return Ok(None);
+    };
+    if bytes.len() != 1 {
+        return Ok(None);
+    }
+    let byte = bytes[0];
+    Ok(Some(Repeated { port, count, byte }))
+}
+
+/// How many times an item's byte waits, from what stands before it.
+fn times(before: &[u8]) -> Option<u64>
+    ensures times { result ≡ times before.now }
+    ensures some { IfSome result (λ count. 0 < count) }
+{
+    if before.is_empty() {
+        return Some(1);
+    }
+    let last = before.len() - 1;
+    if before[last] == b'*' {
+        count_of_digits(&before[..last])
+    } else {
+        None
+    }
+}
+
+/// The count that decimal digits write; `None` for every other text, for 0, and for what 64 bits don't hold.
+fn count_of_digits(digits: &[u8]) -> Option<u64>
+    ensures count { result ≡ count_spelled digits.now }
+    ensures some { IfSome result (λ count. 0 < count) }
+{
+    match str::from_utf8(digits) {
+        Ok(text) => count_of_text(text),
+        Err(_) => None,
+    }
+}
+
+/// The same of a text.
+fn count_of_text(text: &str) -> Option<u64>
+    ensures count { result ≡ count_spelled text.now }
+    ensures some { IfSome result (λ count. 0 < count) }
+{
+    let digits = text.as_bytes();
+    if digits.is_empty() || digits[0] == b'+' {
+        return None;
+    }
+    match u64::from_str_radix(text, 10) {
+        Ok(0) => None,
+        Ok(count) => Some(count),
+        Err(_) => None,
+    }
+}

@@ -1,0 +1,24 @@
+//! The text of the verifier's report on an image that it accepts.
+//!
+//! | Item | What it is |
+//! |---|---|
+//! | [`report_text`] | the report: the bytes of stack, and a line for each procedure |
+//! | [`append_rows`] | the lines of procedures alone |
+//! | [`bundle`] | one input to the transcript of a run |
+//! | [`BUNDLE_LIMIT`] | the greatest number of bytes of a bundle |
+//! | [`BundleFault`] | why a bundle has no outcome |
+//! | [`laws`] | what holds of the definitions alone |
+//! | [`WordInputs`] | the bytes that words name, and the text that spells them |
+//! | [`Repeated`] | a byte that waits at a port, so many times over |
+//! | [`WordFault`] | a word is of another form |
+//! | [`LengthFault`] | the text has more bytes than a loader reads |
+#![tactic(auto)]
+
+mod bundle;
+mod inputs;
+mod reporting;
+
+pub use bundle::laws::inputs_begin_at_the_first_inputs_line;
+pub use bundle::{BUNDLE_LIMIT, BundleFault, bundle};
+pub use inputs::{LengthFault, Repeated, WordFault, WordInputs};
+pub use reporting::{append_rows, report_text};

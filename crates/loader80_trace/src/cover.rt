@@ -1,0 +1,12 @@
+//! The code of an image, line by line: its instructions at the addresses that walks come to, and its other bytes as data.
+//!
+//! | Item | What it is |
+//! |---|---|
+//! | [`list_reached`] | the lines alone |
+//! | [`cover`] | the lines with how often each instruction was begun, and the sums |
+
+mod covering;
+mod line;
+mod places;
+
+pub use covering::{cover, list_reached};

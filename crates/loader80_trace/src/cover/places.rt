@@ -1,0 +1,61 @@
+//! Which addresses of the code are in an instruction.
+
+ghost use Rattle.std.specs.Prelude.{◌≡◌, ◌+◌, ◌<◌, ◌≤◌, true};
+ghost use Rattle.loader80_trace.specs.Cover.{data_before, is_covered, is_data, size_of};
+ghost use Rattle.verify80_calls.specs.Reached.{found_at};
+
+use decode80::encode;
+use image80::Regions;
+use machine80::FlatBus;
+use verify80_calls::Reached;
+
+/// An image's code, with the instructions that walks come to.
+#[derive(Drop)]
+pub(crate) struct Layout<'a> {
+    pub regions: &'a Regions,
+    pub memory: &'a FlatBus,
+    pub reached: &'a Reached,
+}
+
+/// Whether an address has a byte of code that is in no instruction that walks come to.
+#[tactic(auto, unfolding(crate::specs::Cover::is_data))]
+pub(crate) fn is_data(layout: &Layout<'_>, at: usize) -> bool
+    ensures value { result ≡ is_data layout.now.regions.now layout.now.reached.now at }
+    ensures within { result ≡ true → at < 65536 }
+{
+    at < 65536 && layout.regions.in_code(at as u16) && !is_covered(layout.reached, at as u16)
+}
+
+/// How many bytes of data stand right before the next address, if `before` of them stand right before this one.
+pub(crate) fn data_behind(layout: &Layout<'_>, at: usize, before: usize) -> usize
+    requires before { before ≡ data_before (is_data layout.now.regions.now layout.now.reached.now) at }
+    requires few { before ≤ at }
+    requires inside { at < 65536 }
+    ensures before { result ≡ data_before (is_data layout.now.regions.now layout.now.reached.now) (at + 1) }
+    ensures few { result ≤ at + 1 }
+{
+    if is_data(layout, at) {
+        return before + 1;
+    }
+    0
+}
+
+/// Whether an address is in an instruction: one that begins there, or one or two addresses before it.
+#[tactic(auto, unfolding(crate::specs::Cover::is_covered))]
+fn is_covered(reached: &Reached, at: u16) -> bool
+    ensures { result ≡ is_covered reached.now at }
+{
+    reached.at(at).is_some()
+        || at >= 1 && size_at(reached, at - 1) >= 2
+        || at >= 2 && size_at(reached, at - 2) >= 3
+}
+
+/// How many bytes the instruction at an address has; 0 if walks don't come to it.
+fn size_at(reached: &Reached, at: u16) -> usize
+    ensures { result ≡ size_of (found_at reached.now at) }
+{
+    match reached.at(at) {
+        Some(found) => encode(found.instr).1,
+        None => 0,
+    }
+}

@@ -1,9 +1,0 @@
-pub mod PatchLemmas
-pub mod PatchingLemmas
-pub mod PatchedTwice
-pub mod TwoPasses
-pub mod WorkedPlaces
-pub mod AfterLemmas
-pub mod FixupLemmas
-pub mod SoundLemmas
-pub mod CommonLemmas

@@ -1,0 +1,141 @@
+//! The lines of fixups, of segments and of a start.
+
+ghost use Rattle.std.specs.Prelude.{◌≡◌, ◌++◌, ◌==◌, [], find, option_copied, OnOk};
+ghost use Rattle.std.specs.Option.{option_map_or};
+ghost use Rattle.place80.specs.Layout.{placed_in};
+ghost use Rattle.place80.specs.Causes.{use_line, alike_line, placed_line, pair_lines, high_line, start_line};
+
+use crate::causes::places::Pair;
+use crate::causes::uses::Use;
+use crate::causes::words::{append_common, append_number, append_place};
+use crate::{Placed, place_of};
+use omf_core::segment_id::{CODE, word_of};
+use omf_parts::{Common, Module, Public};
+use std::alloc::AllocError;
+use text80::word_digits;
+
+/// Appends the line of a fixup that refers to an unresolved name, if there is one.
+pub(crate) fn append_use(
+    text: &mut Vec<u8>,
+    commons: &[Common],
+    found: Option<Use>,
+) -> Result<(), AllocError>
+    ensures { OnOk result (text.new.items ≡ text.old.items ++ option_map_or (use_line commons.now) found []) }
+{
+    let Some(found) = found else {
+        return Ok(());
+    };
+    text.extend_from_slice(b"  ".as_slice())?;
+    append_place(text, commons, found.segment, found.offset)?;
+    text.extend_from_slice(b" refers to it\n".as_slice())
+}
+
+/// Appends the line of a public whose name differs in case alone, if there is one.
+pub(crate) fn append_alike(text: &mut Vec<u8>, public: Option<&Public>) -> Result<(), AllocError>
+    ensures { OnOk result (text.new.items ≡ text.old.items ++ option_map_or alike_line (option_copied public.entry) []) }
+{
+    let Some(public) = public else {
+        return Ok(());
+    };
+    text.extend_from_slice(b"  the public ".as_slice())?;
+    text.extend_from_slice(public.name.bytes())?;
+    text.extend_from_slice(b" differs in case alone\n".as_slice())?;
+    Ok(())
+}
+
+/// Appends the line of a segment: its first address and its length.
+pub(crate) fn append_placed(
+    text: &mut Vec<u8>,
+    commons: &[Common],
+    placed: Placed,
+) -> Result<(), AllocError>
+    ensures { OnOk result (text.new.items ≡ text.old.items ++ placed_line commons.now placed) }
+{
+    text.extend_from_slice(b"  ".as_slice())?;
+    text.extend_from_slice(word_of(placed.id))?;
+    text.push(b' ')?;
+    append_number(text, placed.base)?;
+    text.push(b' ')?;
+    append_number(text, placed.length)?;
+    append_common(text, commons, placed.id)?;
+    text.push(b'\n')?;
+    Ok(())
+}
+
+/// Appends the lines of two segments, if there are two.
+pub(crate) fn append_pair(
+    text: &mut Vec<u8>,
+    commons: &[Common],
+    pair: Option<Pair>,
+) -> Result<(), AllocError>
+    ensures { OnOk result (text.new.items ≡ text.old.items ++ option_map_or (pair_lines commons.now) pair []) }
+{
+    let Some((first, second)) = pair else {
+        return Ok(());
+    };
+    append_placed(text, commons, first)?;
+    append_placed(text, commons, second)
+}
+
+/// Appends the line of a high byte, if there is one.
+pub(crate) fn append_high(
+    text: &mut Vec<u8>,
+    program: &Module,
+    found: Option<Use>,
+) -> Result<(), AllocError>
+    ensures { OnOk result (text.new.items ≡ text.old.items ++ option_map_or (high_line program.now) found []) }
+{
+    let Some(found) = found else {
+        return Ok(());
+    };
+    text.extend_from_slice(b"  ".as_slice())?;
+    text.extend_from_slice(program.name().bytes())?;
+    text.extend_from_slice(b" uses the high byte of ".as_slice())?;
+    text.extend_from_slice(&word_digits(found.word))?;
+    text.extend_from_slice(b" at ".as_slice())?;
+    append_place(text, program.commons(), found.segment, found.offset)?;
+    text.push(b'\n')?;
+    Ok(())
+}
+
+/// Appends the address of a start, and the line of CODE, if there is a start.
+pub(crate) fn append_start(
+    text: &mut Vec<u8>,
+    commons: &[Common],
+    segments: &[Placed],
+    start: Option<(u8, u16)>,
+) -> Result<(), AllocError>
+    ensures { OnOk result (text.new.items ≡ text.old.items ++ option_map_or (start_line commons.now segments.now) start []) }
+{
+    let Some(start) = start else {
+        return Ok(());
+    };
+    text.extend_from_slice(b"  START ".as_slice())?;
+    text.extend_from_slice(&word_digits(place_of(segments, start.0, start.1)))?;
+    text.push(b'\n')?;
+    append_placed(text, commons, placed_in(segments, CODE))?;
+    Ok(())
+}
+
+/// The segment of this id, and one of no bytes at 0 if there is none.
+fn placed_in(segments: &[Placed], id: u8) -> Placed
+    ensures { result ≡ placed_in segments.now id }
+{
+    find_placed(segments, id).unwrap_or(Placed {
+        id,
+        base: 0,
+        length: 0,
+    })
+}
+
+/// The segment of this id.
+fn find_placed(segments: &[Placed], id: u8) -> Option<Placed>
+    ensures { result ≡ find (λ p. p.id == id) segments.now }
+{
+    for placed in segments {
+        if placed.id == id {
+            return Some(*placed);
+        }
+    }
+    None
+}

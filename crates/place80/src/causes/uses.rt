@@ -1,0 +1,66 @@
+//! The first fixup of a high byte of an address that isn't a multiple of 256.
+
+ghost use Rattle.std.specs.Prelude.{◌≡◌};
+ghost use Rattle.omf_parts.specs.HighReferences.{loses_with};
+ghost use Rattle.place80.specs.Locating.{word_among};
+ghost use Rattle.place80.specs.Uses.{use_of, first_use_in, first_high};
+
+use crate::{Placed, place_of};
+use omf_parts::{Content, Field, Fixup, Module, Target};
+
+/// A fixup: the segment and the offset where it is, and the word that it adds.
+#[derive(Clone, Copy, PartialEq, Eq, Debug)]
+pub(crate) struct Use {
+    pub segment: u8,
+    pub offset: u16,
+    pub word: u16,
+}
+
+/// The first fixup that takes the high byte of a word which isn't a multiple of 256.
+pub(crate) fn first_high(segments: &[Placed], program: &Module) -> Option<Use>
+    ensures { result ≡ first_high segments.now program.now }
+{
+    for content in program.contents() {
+        if let Some(found) = first_in(segments, content) {
+            return Some(found);
+        }
+    }
+    None
+}
+
+/// The first of a content.
+fn first_in(segments: &[Placed], content: &Content) -> Option<Use>
+    ensures { result ≡ first_use_in (word_among segments.now) (loses_with (word_among segments.now)) content.now }
+{
+    for fixup in &content.fixups {
+        if let Some(found) = high_of(segments, content, *fixup) {
+            return Some(found);
+        }
+    }
+    None
+}
+
+/// The fixup, if it is one.
+fn high_of(segments: &[Placed], content: &Content, fixup: Fixup) -> Option<Use>
+    ensures { result ≡ use_of (word_among segments.now) (loses_with (word_among segments.now)) content.now fixup }
+{
+    let word = target_word(segments, fixup.target);
+    match fixup.field {
+        Field::High if word % 256 != 0 => Some(Use {
+            segment: content.segment,
+            offset: fixup.offset,
+            word,
+        }),
+        _ => None,
+    }
+}
+
+/// The word that a fixup adds. No external is left once a program's segments are placed.
+fn target_word(segments: &[Placed], target: Target) -> u16
+    ensures { result ≡ word_among segments.now target }
+{
+    match target {
+        Target::Segment(id) => place_of(segments, id, 0),
+        Target::External(_) => 0,
+    }
+}

@@ -1,4 +1,0 @@
-mod PlacingLemmas
-mod OverlapLemmas
-mod TextLemmas
-mod LawLemmas

@@ -1,0 +1,18 @@
+//! The printed map of a program: where LOCATE puts its segments and its public names.
+//!
+//! | Item | What it is |
+//! |---|---|
+//! | [`map_text`] | a line for each segment, and one for each public name |
+//! | [`write_image_with_publics`] | an image as an object file, with the publics of its module as publics of segment 0 |
+//! | [`read_publics`] | the publics that an image's file has |
+#![tactic(auto)]
+
+mod mapping;
+mod public_lines;
+mod reading;
+mod segment_lines;
+mod writing;
+
+pub use mapping::map_text;
+pub use reading::read_publics;
+pub use writing::write_image_with_publics;

@@ -1,0 +1,7 @@
+-- the texts so far
+use Rattle.std.specs.Prelude.{take}
+use Rattle.rom80_find.specs.LinesWords.{PrintsEach}
+use Rattle.rom80_find.proofs.lines.places.append_each.Given as goal
+
+abbrev pub invariant-loop-address : goal.invariant-loop-address
+invariant-loop-address l = PrintsEach l.first l.dump l.pattern (take l.address-index l.places) l.initial.text.items l.text.items

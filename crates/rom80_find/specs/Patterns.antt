@@ -1,0 +1,12 @@
+-- The code of a module that is looked for.
+use Rattle.std.specs.Prelude.{◌≡◌, ◌≤◌, List}
+use Rattle.omf_parts.specs.Modules.{ModuleValue}
+use Rattle.omf_parts.specs.Rules.{IsModule}
+use Rattle.rom80_find.specs.declared.pattern.code_byte.CodeByte.{CodeByte}
+use Rattle.rom80_find.specs.Modules.{code_bytes, code_length}
+
+-- these are the bytes of the module's code, which keeps its rules
+pub record IsCodeOf (m : ModuleValue) (code : List CodeByte) : Type 0 where
+  pub bytes : code ≡ code_bytes m
+  pub short : code_length m ≤ 65535
+  pub rules : IsModule m

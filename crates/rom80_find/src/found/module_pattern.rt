@@ -1,0 +1,122 @@
+//! A module to look for in dumps.
+
+ghost use Rattle.std.specs.Prelude.{◌≡◌, ◌≤◌, ◌==◌, length, IfOk, IfSome, IfNone};
+ghost use Rattle.std.specs.List.{AllByRecursion};
+ghost use Rattle.omf_parts.specs.Rules.{IsModule};
+ghost use Rattle.rom80_find.specs.Modules.{code_bytes, code_length};
+ghost use Rattle.rom80_find.specs.Words.{AreAscending};
+ghost use Rattle.rom80_find.specs.Lies.{HasModule, AreModulePlaces, AreModuleWords, MayBeListed};
+
+use crate::found::laws::{
+    pattern_places_are_module_places, pattern_words_are_module_words, pattern_words_may_be_listed,
+    patterns_lie_as_modules,
+};
+use crate::{CodeByte, Word, code_bytes, count_of, places, words_at};
+use omf_parts::Module;
+use std::alloc::{AllocError, Global};
+use std::marker::Model;
+
+/// A module with the bytes of its code, which are taken once, however often it is looked for. A contract sees the module.
+#[derive(Drop)]
+pub struct ModulePattern<'a> {
+    source: &'a Module,
+    code: Vec<CodeByte>,
+}
+
+impl<'a> Model for ModulePattern<'a> {
+    ghost use Rattle.omf_parts.specs.Modules.{ModuleValue};
+    ghost use Rattle.rom80_find.specs.Patterns.{IsCodeOf};
+
+    ghost Value = { ModuleValue };
+
+    ghost view = { λ p. p.source.now };
+
+    ghost invariant = { λ p. IsCodeOf p.source.now p.code.items };
+}
+
+impl<'a> ModulePattern<'a> {
+    /// The module with its code.
+    ///
+    /// # Errors
+    /// `AllocError` only if memory ran out.
+    pub fn of(alloc: Global, source: &'a Module) -> Result<ModulePattern<'a>, AllocError>
+        ensures { IfOk result (λ pattern. pattern ≡ source.now) }
+    {
+        let code = code_bytes(alloc, source)?;
+        Ok(ModulePattern { source, code })
+    }
+
+    /// The module.
+    pub fn source(&self) -> &'a Module
+        ensures { result.now ≡ self.now }
+    {
+        self.source
+    }
+
+    /// The bytes that its contents define in CODE, in ascending order of their offsets.
+    pub fn code(&self) -> &[CodeByte]
+        ensures bytes { result.now ≡ code_bytes self.now }
+        ensures short { code_length self.now ≤ 65535 }
+        ensures rules { IsModule self.now }
+    {
+        &self.code
+    }
+
+    /// The addresses at which the module lies in a dump that stands from the address `first` on, in ascending order: those for
+    /// which there are bases such that the dump has, at each address that the module's contents in CODE cover, the byte of the
+    /// last of them, relocated so. CODE's own base is the address. A module without a byte in CODE lies nowhere.
+    ///
+    /// # Errors
+    /// `AllocError` only if memory ran out.
+    pub fn places(&self, alloc: Global, first: u16, dump: &[u8]) -> Result<Vec<u16>, AllocError>
+        ensures { IfOk result (λ places. AreModulePlaces first dump.now self.now places.items) }
+    {
+        patterns_lie_as_modules();
+        pattern_places_are_module_places();
+        let code = self.code();
+        if has_none(code) {
+            return Ok(Vec::new(alloc));
+        }
+        places(alloc, first, dump, code, count_of(code))
+    }
+
+    /// The words of the module's targets if it lies at the address, by ascending numbers: of a segment its base, of STACK its
+    /// top, of an external what its name stands for. A target is listed exactly if whatever bases the module lies there with
+    /// give it the same word; absolute bytes and CODE aren't listed, and of externals of one name only the first is. `None`
+    /// exactly if the module doesn't lie there.
+    ///
+    /// # Errors
+    /// `AllocError` only if memory ran out.
+    pub fn words_at(
+        &self,
+        alloc: Global,
+        first: u16,
+        dump: &[u8],
+        address: u16,
+    ) -> Result<Option<Vec<Word>>, AllocError>
+        ensures some { IfOk result (λ found. IfSome found (λ words. AreModuleWords first dump.now self.now address words.items)) }
+        ensures ascending { IfOk result (λ found. IfSome found (λ words. AreAscending words.items)) }
+        ensures listed { IfOk result (λ found. IfSome found (λ words. AllByRecursion (λ w. MayBeListed self.now w.target) words.items)) }
+        ensures none { IfOk result (λ found. IfNone found (HasModule first dump.now self.now address → ⊥)) }
+    {
+        patterns_lie_as_modules();
+        pattern_words_are_module_words();
+        pattern_words_may_be_listed();
+        let code = self.code();
+        if has_none(code) {
+            return Ok(None);
+        }
+        let found = words_at(alloc, first, dump, code, count_of(code), address)?;
+        match found {
+            Some(words) => Ok(Some(words)),
+            None => Ok(None),
+        }
+    }
+}
+
+/// Whether there is no byte in the code.
+fn has_none(code: &[CodeByte]) -> bool
+    ensures { result ≡ (length code.now == 0) }
+{
+    code.is_empty()
+}

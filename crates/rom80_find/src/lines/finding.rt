@@ -1,0 +1,84 @@
+//! What is found of a module.
+
+ghost use Rattle.std.specs.Prelude.{◌≡◌, IfOk, length, filter};
+ghost use Rattle.rom80_find.specs.Places.{is_plain};
+ghost use Rattle.rom80_find.specs.Found.{has_place, is_short};
+ghost use Rattle.rom80_find.specs.LinesWords.{FindsModule};
+
+use crate::lines::places::append_places;
+use crate::{CodeByte, Half, ModulePattern};
+use omf_parts::{Module, Target};
+use std::alloc::{AllocError, Global};
+
+/// What is found of a module.
+#[derive(Clone, Copy)]
+pub(crate) enum Finding {
+    /// It has too few bytes to be looked for.
+    Short,
+    Missing,
+    There,
+}
+
+impl Finding {
+    /// Whether the module has a place.
+    pub(crate) fn has_place(self) -> bool
+        ensures { result ≡ has_place self }
+    {
+        match self {
+            Finding::Short | Finding::Missing => false,
+            Finding::There => true,
+        }
+    }
+}
+
+/// A module with fewer bytes outside fixups would be found by chance.
+const FEWEST: usize = 4;
+
+/// Appends the lines of a module's places, and says what is found of it.
+pub(crate) fn append_found(
+    alloc: Global,
+    first: u16,
+    dump: &[u8],
+    source: &Module,
+    text: &mut Vec<u8>,
+) -> Result<Finding, AllocError>
+    ensures { IfOk result (λ finding. FindsModule first dump.now source.now finding text.old.items text.new.items) }
+{
+    let pattern = ModulePattern::of(alloc, source)?;
+    if is_short(&pattern) {
+        return Ok(Finding::Short);
+    }
+    let places = pattern.places(alloc, first, dump)?;
+    if places.is_empty() {
+        return Ok(Finding::Missing);
+    }
+    append_places(alloc, first, dump, &pattern, &places, text)?;
+    Ok(Finding::There)
+}
+
+/// Whether a module has too few bytes outside fixups to be looked for.
+fn is_short(pattern: &ModulePattern<'_>) -> bool
+    ensures { result ≡ is_short pattern.now }
+{
+    count_plain(pattern.code()) < FEWEST
+}
+
+/// How many of the bytes are outside fixups.
+fn count_plain(code: &[CodeByte]) -> usize
+    ensures { result ≡ length (filter is_plain code.now) }
+{
+    let mut count = 0;
+    for byte in code {
+        if is_plain(*byte) {
+            count += 1;
+        }
+    }
+    count
+}
+
+/// Whether a byte is outside fixups.
+fn is_plain(byte: CodeByte) -> bool
+    ensures { result ≡ is_plain byte }
+{
+    byte.half == Half::Low && byte.target == Target::Segment(0)
+}

@@ -1,0 +1,62 @@
+//! The lines of a library's modules.
+
+ghost use Rattle.std.specs.Prelude.{◌≡◌, ◌++◌, IfOk, OnOk};
+ghost use Rattle.rom80_find.specs.Found.{PrintsMembers};
+ghost use Rattle.rom80_find.specs.Lines.{count_line};
+ghost use Rattle.rom80_find.specs.LinesWords.{PrintsFound};
+
+use crate::lines::finding::append_found;
+use omf_parts::Module;
+use std::alloc::{AllocError, Global};
+
+/// Appends the lines of those of a library's modules that are found in a dump that stands from the address `first` on, as
+/// [`append_modules`](crate::lines::append_modules) does, and then how many have no place, short ones among them, as
+/// `MISSING 3 OF 4`, in decimal.
+///
+/// # Errors
+/// `AllocError` only if memory runs out; the text may then have some of the lines.
+pub fn append_members(
+    alloc: Global,
+    first: u16,
+    dump: &[u8],
+    members: &[Module],
+    text: &mut Vec<u8>,
+) -> Result<(), AllocError>
+    ensures { OnOk result (PrintsMembers first dump.now members.now text.old.items text.new.items) }
+{
+    let missing = append_found_ones(alloc, first, dump, members, text)?;
+    append_count(alloc, text, missing, members.len())
+}
+
+/// Appends the lines of the modules that are found, and says how many aren't.
+fn append_found_ones(
+    alloc: Global,
+    first: u16,
+    dump: &[u8],
+    members: &[Module],
+    text: &mut Vec<u8>,
+) -> Result<usize, AllocError>
+    ensures { IfOk result (λ missing. PrintsFound first dump.now members.now missing text.old.items text.new.items) }
+{
+    let mut missing = 0;
+    for source in members {
+        let finding = append_found(alloc, first, dump, source, text)?;
+        if !finding.has_place() {
+            missing += 1;
+        }
+    }
+    Ok(missing)
+}
+
+/// Appends the last line.
+fn append_count(
+    alloc: Global,
+    text: &mut Vec<u8>,
+    missing: usize,
+    all: usize,
+) -> Result<(), AllocError>
+    ensures { OnOk result (text.new.items ≡ text.old.items ++ count_line missing all) }
+{
+    let line = format!(in alloc; "MISSING {missing} OF {all}\n")?;
+    text.extend_from_slice(line.as_bytes())
+}

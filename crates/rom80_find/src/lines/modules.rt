@@ -1,0 +1,81 @@
+//! The lines of an object file's modules.
+
+ghost use Rattle.std.specs.Prelude.{◌≡◌, ◌++◌, IfOk, OnOk};
+ghost use Rattle.rom80_find.specs.Found.{PrintsModules};
+ghost use Rattle.rom80_find.specs.Lines.{missing_line, short_line};
+ghost use Rattle.rom80_find.specs.LinesWords.{PrintsModule};
+
+use crate::lines::finding::{Finding, append_found};
+use omf_core::Name;
+use omf_parts::Module;
+use std::alloc::{AllocError, Global};
+
+/// Appends what is found of each of these modules in a dump that stands from the address `first` on, and says whether none is
+/// missing. For each place at which the dump has all bytes of a module's code there is a line such as
+/// `MODULE 0040 0064 METER DATA 2000 COMMON 3100 TABLE TOP 2100`: its address, the length of CODE, the name, and the bases of
+/// segments, of STACK the address after it, each if it can have only one; and below it the names that the module needs, as
+/// `  00A4 GETKEY`. After sixteen places `MORE 3` has the number of the others, in decimal. A module that has none is
+/// `MISSING METER`. One with fewer than four bytes outside fixups is `SHORT METER`: it isn't looked for, and isn't missing.
+///
+/// # Errors
+/// `AllocError` only if memory runs out; the text may then have some of the lines.
+pub fn append_modules(
+    alloc: Global,
+    first: u16,
+    dump: &[u8],
+    modules: &[Module],
+    text: &mut Vec<u8>,
+) -> Result<bool, AllocError>
+    ensures { IfOk result (λ are_there. PrintsModules first dump.now modules.now are_there text.old.items text.new.items) }
+{
+    let mut are_there = true;
+    for source in modules {
+        if append_module(alloc, first, dump, source, text)? {
+            are_there = false;
+        }
+    }
+    Ok(are_there)
+}
+
+/// Appends the lines of a module, and says whether it is missing.
+fn append_module(
+    alloc: Global,
+    first: u16,
+    dump: &[u8],
+    source: &Module,
+    text: &mut Vec<u8>,
+) -> Result<bool, AllocError>
+    ensures { IfOk result (λ missing. PrintsModule first dump.now source.now missing text.old.items text.new.items) }
+{
+    match append_found(alloc, first, dump, source, text)? {
+        Finding::There => Ok(false),
+        Finding::Short => {
+            append_short(text, source.name())?;
+            Ok(false)
+        }
+        Finding::Missing => {
+            append_missing(text, source.name())?;
+            Ok(true)
+        }
+    }
+}
+
+/// Appends the line of a module that isn't looked for.
+fn append_short(text: &mut Vec<u8>, name: &Name) -> Result<(), AllocError>
+    ensures { OnOk result (text.new.items ≡ text.old.items ++ short_line name.now) }
+{
+    text.extend_from_slice(b"SHORT ".as_slice())?;
+    text.extend_from_slice(name.bytes())?;
+    text.push(b'\n')?;
+    Ok(())
+}
+
+/// Appends the line of a module that has no place.
+fn append_missing(text: &mut Vec<u8>, name: &Name) -> Result<(), AllocError>
+    ensures { OnOk result (text.new.items ≡ text.old.items ++ missing_line name.now) }
+{
+    text.extend_from_slice(b"MISSING ".as_slice())?;
+    text.extend_from_slice(name.bytes())?;
+    text.push(b'\n')?;
+    Ok(())
+}

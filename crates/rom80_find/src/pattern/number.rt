@@ -1,0 +1,29 @@
+//! The numbers by which the values of targets go.
+
+ghost use Rattle.std.specs.Prelude.{◌≡◌, ◌<◌, true};
+ghost use Rattle.rom80_find.specs.CodeBytes.{number_of, has_small_id};
+
+use omf_parts::Target;
+
+/// The number by which a target's value goes: the id of a segment, and 256 plus the index of an external.
+pub fn number_of(target: Target) -> usize
+    ensures { result ≡ number_of target }
+{
+    match target {
+        Target::Segment(id) => usize::from(id),
+        Target::External(index) => 256 + usize::from(index),
+    }
+}
+
+/// The target with this number.
+pub fn target_of(number: usize) -> Target
+    requires { number < 65792 }
+    ensures number { number_of result ≡ number }
+    ensures small { has_small_id result ≡ true }
+{
+    if number < 256 {
+        Target::Segment(number as u8)
+    } else {
+        Target::External((number - 256) as u16)
+    }
+}

@@ -1,6 +1,0 @@
-use Rattle.rom80_found.proofs.TargetLemmas.{words_listed}
-use Rattle.rom80_found.proofs.laws.pattern_words_may_be_listed.Goals as goal
-
-pub returns : goal.returns
-returns c = λ first dump m address count words sound are targets. words_listed first dump m address count
-    (c.sound_modules_keep_rules.ensures m sound) words are targets

@@ -1,8 +1,0 @@
--- the modules so far
-use Rattle.std.specs.Prelude.{take}
-use Rattle.rom80_found_lines.specs.Found.{PrintsModules}
-use Rattle.rom80_found_lines.proofs.modules.append_modules.Given as goal
-
-abbrev pub invariant-loop-source : goal.invariant-loop-source
-invariant-loop-source l =
-    PrintsModules l.first l.dump (take l.source-index l.modules) l.are_there l.initial.text.items l.text.items

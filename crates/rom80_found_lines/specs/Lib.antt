@@ -1,4 +1,0 @@
-pub mod Lines
-pub mod Found
--- what the crate's own functions promise one another: no public contract cites these
-pub mod Words

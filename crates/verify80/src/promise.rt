@@ -1,0 +1,50 @@
+//! From a table of frames that fits an image to all runs of it.
+
+ghost use Rattle.verify80.specs.Soundness.{AcceptedImagesStayOnWalks, FittedImagesNeverGoWrong, FittedImagesNeverGoWrongFromPowerOn, RunsBeginFromPowerOn};
+
+use crate::looks_are_exact;
+use decode80::fetch_reads_code_alone;
+use frames80::places_move;
+use image80::laws::code_data_and_stack_are_apart;
+use verify80_flow::fitting_tables_cover_walks;
+
+/// If a table of frames fits an image, and the stack has the bytes that the table says, then whatever waits at the ports,
+/// however many outputs are taken and however long the program runs, each of its steps fetches only inside code, stores by
+/// address only to data and jumps by PCHL only if targets are declared, touches as stack only so many bytes below the stack's
+/// top, and returns only to the place after the newest call that hasn't returned; and it ends, if at all, by HLT, at an empty
+/// port, at a refused output, at a store through a register pair outside data or at a PCHL to none of its declared targets.
+pub fn fitted_images_never_go_wrong()
+    ensures { FittedImagesNeverGoWrong }
+{
+    images_never_go_wrong_from_power_on();
+    runs_begin_from_power_on();
+}
+
+/// The same from power-on: whatever the registers, the flags and the memory outside code hold before the first step, if only SP
+/// is at the stack's top and each address of code has the image's byte.
+pub fn images_never_go_wrong_from_power_on()
+    ensures { FittedImagesNeverGoWrongFromPowerOn }
+{
+    fetch_reads_code_alone();
+    places_move();
+    code_data_and_stack_are_apart();
+    looks_are_exact();
+}
+
+/// A run that begins with the image's memory and with registers of 0 is one of those.
+pub fn runs_begin_from_power_on()
+    ensures { RunsBeginFromPowerOn }
+{}
+
+/// From power-on, each step of a run of an accepted image is at an address that a walk of its procedures comes to, and fetches the
+/// instruction that the verifier has found there. A return that is taken goes to the address behind a call on a walk, and a walk
+/// of that call's procedure returns.
+pub fn accepted_images_stay_on_walks()
+    ensures { AcceptedImagesStayOnWalks }
+{
+    fetch_reads_code_alone();
+    places_move();
+    code_data_and_stack_are_apart();
+    looks_are_exact();
+    fitting_tables_cover_walks();
+}

@@ -1,0 +1,21 @@
+//! The calls of a vouched image as a graph, and what `calls` prints of it.
+//!
+//! | Item | What it is |
+//! |---|---|
+//! | [`CallGraph`], [`Node`] | the procedures of a program, each with its bound and its calls |
+//! | [`list_text`] | a line for each procedure, and one for each of its calls |
+//! | [`graph_text`] | the same as a graph for Graphviz |
+//! | [`bounds_are_made_of_chains`] | what the calls that are bold in a graph come to, as a contract |
+
+mod call_graph;
+mod chain;
+mod digraph;
+mod laws;
+mod lines;
+mod needs;
+mod words;
+
+pub use call_graph::{CallGraph, Node};
+pub use digraph::graph_text;
+pub use laws::bounds_are_made_of_chains;
+pub use lines::list_text;

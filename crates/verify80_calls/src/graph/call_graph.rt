@@ -1,0 +1,106 @@
+//! The calls of a program, procedure by procedure.
+
+ghost use Rattle.std.specs.Prelude.{◌≡◌, ◌++◌, All, IfOk, OnOk, map};
+ghost use Rattle.verify80.specs.Looking.{code_of};
+ghost use Rattle.verify80_calls.specs.Nodes.{HasItsCalls, IsNodeOf, heading_of, headings, main_heading, row_heading};
+
+use crate::{Call, Procedure, find_calls};
+use loader80::{ProcRow, Vouched};
+use std::alloc::{AllocError, Global};
+use std::marker::Model;
+
+/// A procedure with its bound and its calls.
+#[derive(Debug, Drop)]
+pub struct Node {
+    /// The procedure.
+    pub procedure: Procedure,
+    /// The address where it begins.
+    pub address: u16,
+    /// The most bytes of stack that it needs below its return address, its callees' included.
+    pub bound: u64,
+    /// Its calls, by address.
+    pub calls: Vec<Call>,
+}
+
+/// The procedures of a program: the main program first, then the others by entry. A contract sees the list of them.
+#[derive(Debug, Drop)]
+pub struct CallGraph {
+    nodes: Vec<Node>,
+}
+
+impl Model for CallGraph {
+    ghost use Rattle.std.specs.Prelude.{List};
+    ghost use Rattle.verify80_calls.specs.declared.graph.call_graph.Node.{Node};
+
+    ghost Value = { List Node };
+
+    ghost view = { λ g. g.nodes.items };
+}
+
+impl CallGraph {
+    /// The procedures of a program that is accepted: the main program, and that of each row, with its bound and exactly its calls.
+    ///
+    /// # Errors
+    /// `AllocError` if memory runs out.
+    pub fn of(alloc: Global, vouched: &Vouched) -> Result<CallGraph, AllocError>
+        ensures procedures { IfOk result (λ graph. map heading_of graph ≡ headings vouched.now) }
+        ensures calls { IfOk result (λ graph. All (HasItsCalls (code_of vouched.now.image)) graph) }
+    {
+        let mut nodes = Vec::new(alloc);
+        nodes.push(main_node(alloc, vouched)?)?;
+        append_nodes(alloc, vouched, vouched.rows(), &mut nodes)?;
+        Ok(CallGraph { nodes })
+    }
+
+    /// The procedures.
+    pub fn nodes(&self) -> &[Node]
+        ensures { result.now ≡ self.now }
+    {
+        &self.nodes
+    }
+}
+
+/// The main program.
+fn main_node(alloc: Global, vouched: &Vouched) -> Result<Node, AllocError>
+    ensures heading { IfOk result (λ node. heading_of node ≡ main_heading vouched.now) }
+    ensures calls { IfOk result (HasItsCalls (code_of vouched.now.image)) }
+{
+    Ok(Node {
+        procedure: Procedure::Main,
+        address: vouched.image().start,
+        bound: vouched.stack_bytes(),
+        calls: find_calls(alloc, vouched, Procedure::Main)?,
+    })
+}
+
+/// The procedure of a row.
+fn row_node(alloc: Global, vouched: &Vouched, row: &ProcRow) -> Result<Node, AllocError>
+    ensures heading { IfOk result (IsNodeOf row.now) }
+    ensures calls { IfOk result (HasItsCalls (code_of vouched.now.image)) }
+{
+    let procedure = Procedure::Entry(row.entry);
+    Ok(Node {
+        procedure,
+        address: row.entry,
+        bound: row.bound,
+        calls: find_calls(alloc, vouched, procedure)?,
+    })
+}
+
+/// Appends the procedure of each of these rows.
+fn append_nodes(
+    alloc: Global,
+    vouched: &Vouched,
+    rows: &[ProcRow],
+    nodes: &mut Vec<Node>,
+) -> Result<(), AllocError>
+    requires { All (HasItsCalls (code_of vouched.now.image)) nodes.old.items }
+    ensures headings { OnOk result
+        (map heading_of nodes.new.items ≡ map heading_of nodes.old.items ++ map row_heading rows.now) }
+    ensures calls { OnOk result (All (HasItsCalls (code_of vouched.now.image)) nodes.new.items) }
+{
+    for row in rows {
+        nodes.push(row_node(alloc, vouched, row)?)?;
+    }
+    Ok(())
+}

@@ -1,0 +1,77 @@
+//! The calls of which the main program's bound is made.
+
+ghost use Rattle.std.specs.Prelude.{◌≡◌, IfOk, option_copied};
+ghost use Rattle.std.specs.List.{list_any};
+ghost use Rattle.verify80_calls.specs.Chain.{chain_of, deepest_call, first_deepest, is_link, reaches};
+
+use crate::graph::call_graph::Node;
+use crate::graph::needs::{bound_of, node_of};
+use crate::{Call, Procedure};
+use std::alloc::{AllocError, Global};
+
+/// A call of a chain, and the procedure that makes it.
+#[derive(Clone, Copy, Debug, PartialEq, Eq)]
+pub(crate) struct Link {
+    pub(crate) caller: Procedure,
+    pub(crate) call: Call,
+}
+
+/// The calls of which the main program's bound is made: from the main program on, of each procedure the first call whose depth and
+/// needs come to its bound.
+pub(crate) fn chain_of(alloc: Global, nodes: &[Node]) -> Result<Vec<Link>, AllocError>
+    ensures { IfOk result (λ chain. chain.items ≡ chain_of nodes.now) }
+{
+    let mut chain = Vec::new(alloc);
+    let mut caller = Procedure::Main;
+    let mut left = nodes.len();
+    while left > 0 {
+        let Some(call) = deepest_call(nodes, caller) else {
+            return Ok(chain);
+        };
+        chain.push(Link { caller, call })?;
+        caller = Procedure::Entry(call.target);
+        left -= 1;
+    }
+    Ok(chain)
+}
+
+/// The first call of a procedure whose depth and needs come to its bound.
+fn deepest_call(nodes: &[Node], caller: Procedure) -> Option<Call>
+    ensures { result ≡ deepest_call nodes.now caller }
+{
+    match node_of(nodes, caller) {
+        Some(node) => first_deepest(nodes, node).copied(),
+        None => None,
+    }
+}
+
+/// The first of a node's calls whose depth and needs come to its bound.
+fn first_deepest<'a>(nodes: &[Node], node: &'a Node) -> Option<&'a Call>
+    ensures { option_copied result ≡ first_deepest nodes.now node.now }
+{
+    node.calls
+        .iter()
+        .find(|call| reaches(nodes, node.bound, **call))
+}
+
+/// Whether the depth and the needs of a call come to a bound.
+fn reaches(nodes: &[Node], bound: u64, call: Call) -> bool
+    ensures { result ≡ reaches nodes.now bound call }
+{
+    let needs = 2 + i128::from(bound_of(nodes, Procedure::Entry(call.target)));
+    i128::from(call.depth) + needs == i128::from(bound)
+}
+
+/// Whether a procedure's call at an address is one of the chain.
+pub(crate) fn is_in(chain: &[Link], caller: Procedure, at: u16) -> bool
+    ensures { result ≡ list_any (is_link caller at) chain.now }
+{
+    chain.iter().any(|link| is_link(link, caller, at))
+}
+
+/// Whether a call of a chain is a procedure's, and stands at an address.
+fn is_link(link: &Link, caller: Procedure, at: u16) -> bool
+    ensures { result ≡ is_link caller at link.now }
+{
+    link.caller == caller && link.call.at == at
+}

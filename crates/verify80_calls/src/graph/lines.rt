@@ -1,0 +1,126 @@
+//! The calls of a program, line by line.
+
+ghost use Rattle.std.specs.Prelude.{◌≡◌, ◌++◌, IfOk, OnOk};
+ghost use Rattle.std.specs.List.{flat_map};
+ghost use Rattle.verify80_calls.specs.ListText.{call_line, depth_text, list_text, needs_text, node_line, node_lines};
+
+use crate::Call;
+use crate::graph::call_graph::{CallGraph, Node};
+use crate::graph::needs::needs;
+use crate::graph::words::{append_address, append_bound, append_end, node_word};
+use image80::Image;
+use omf_parts::Public;
+use std::alloc::{AllocError, Global};
+
+/// The procedures of a program, line by line, as `PROC 3004 BOUND 2`, and below each its calls, as
+/// `  AT 3005 DEPTH 2 CALLS 300A NEEDS 2`: the bytes that the procedure has on the stack there, and those that the call needs, its
+/// return address included. Behind a line stands the name of the procedure or of the call's target, if the publics have one.
+///
+/// # Errors
+/// `AllocError` only if memory runs out.
+pub fn list_text(
+    alloc: Global,
+    image: &Image,
+    publics: &[Public],
+    graph: &CallGraph,
+) -> Result<Vec<u8>, AllocError>
+    ensures { IfOk result (λ text. text.items ≡ list_text image.now publics.now graph.now) }
+{
+    let mut text = Vec::new(alloc);
+    append_nodes(alloc, &mut text, image, publics, graph.nodes())?;
+    Ok(text)
+}
+
+/// Appends the lines of each procedure.
+fn append_nodes(
+    alloc: Global,
+    text: &mut Vec<u8>,
+    image: &Image,
+    publics: &[Public],
+    nodes: &[Node],
+) -> Result<(), AllocError>
+    ensures { OnOk result (text.new.items ≡ text.old.items ++ list_text image.now publics.now nodes.now) }
+{
+    for node in nodes {
+        append_node_line(alloc, text, image, publics, node)?;
+        append_calls(alloc, text, image, publics, nodes, &node.calls)?;
+    }
+    Ok(())
+}
+
+/// Appends the line of a procedure.
+fn append_node_line(
+    alloc: Global,
+    text: &mut Vec<u8>,
+    image: &Image,
+    publics: &[Public],
+    node: &Node,
+) -> Result<(), AllocError>
+    ensures { OnOk result (text.new.items ≡ text.old.items ++ node_line image.now publics.now node.now) }
+{
+    append_address(
+        text,
+        node_word(node.procedure, b"PROC ".as_slice()),
+        node.address,
+    )?;
+    append_bound(alloc, text, b" ".as_slice(), node.bound)?;
+    append_end(alloc, text, image, publics, node.address)
+}
+
+/// Appends a line for each call.
+fn append_calls(
+    alloc: Global,
+    text: &mut Vec<u8>,
+    image: &Image,
+    publics: &[Public],
+    nodes: &[Node],
+    calls: &[Call],
+) -> Result<(), AllocError>
+    ensures { OnOk result (text.new.items ≡ text.old.items ++ flat_map (call_line image.now publics.now nodes.now) calls.now) }
+{
+    for call in calls {
+        append_call(alloc, text, image, publics, nodes, *call)?;
+    }
+    Ok(())
+}
+
+/// Appends the line of a call, with the name of its target.
+fn append_call(
+    alloc: Global,
+    text: &mut Vec<u8>,
+    image: &Image,
+    publics: &[Public],
+    nodes: &[Node],
+    call: Call,
+) -> Result<(), AllocError>
+    ensures { OnOk result (text.new.items ≡ text.old.items ++ call_line image.now publics.now nodes.now call) }
+{
+    append_depth(alloc, text, call)?;
+    append_needs(alloc, text, call.target, needs(nodes, call.target))?;
+    append_end(alloc, text, image, publics, call.target)?;
+    Ok(())
+}
+
+/// Appends where a call stands, and what its procedure has on the stack there.
+fn append_depth(alloc: Global, text: &mut Vec<u8>, call: Call) -> Result<(), AllocError>
+    ensures { OnOk result (text.new.items ≡ text.old.items ++ depth_text call) }
+{
+    append_address(text, b"  AT ".as_slice(), call.at)?;
+    let depth = call.depth;
+    let shown = format!(in alloc; " DEPTH {depth}")?;
+    text.extend_from_slice(shown.as_bytes())
+}
+
+/// Appends what is called, and how many bytes that needs.
+fn append_needs(
+    alloc: Global,
+    text: &mut Vec<u8>,
+    target: u16,
+    needs: u128,
+) -> Result<(), AllocError>
+    ensures { OnOk result (text.new.items ≡ text.old.items ++ needs_text target needs) }
+{
+    append_address(text, b" CALLS ".as_slice(), target)?;
+    let shown = format!(in alloc; " NEEDS {needs}")?;
+    text.extend_from_slice(shown.as_bytes())
+}

@@ -1,0 +1,62 @@
+//! The words of a list and of a graph: addresses, their names, and bounds.
+
+ghost use Rattle.std.specs.Prelude.{◌≡◌, ◌++◌, OnOk};
+ghost use Rattle.verify80_calls.specs.ListText.{bound_text, end_text, node_word, with_address};
+
+use crate::Procedure;
+use image80::Image;
+use image80_text::append_name;
+use omf_parts::Public;
+use std::alloc::{AllocError, Global};
+use text80::word_digits;
+
+/// Appends a text, and an address behind it.
+pub(crate) fn append_address(
+    text: &mut Vec<u8>,
+    before: &[u8],
+    address: u16,
+) -> Result<(), AllocError>
+    ensures { OnOk result (text.new.items ≡ text.old.items ++ with_address before.now address) }
+{
+    text.extend_from_slice(before)?;
+    text.extend_from_slice(&word_digits(address))
+}
+
+/// Appends the name of an address, and ends the line.
+pub(crate) fn append_end(
+    alloc: Global,
+    text: &mut Vec<u8>,
+    image: &Image,
+    publics: &[Public],
+    address: u16,
+) -> Result<(), AllocError>
+    ensures { OnOk result (text.new.items ≡ text.old.items ++ end_text image.now publics.now address) }
+{
+    append_name(alloc, publics, image.regions.code(), address, text)?;
+    text.push(b'\n')?;
+    Ok(())
+}
+
+/// The word before a procedure's address: the main program's, or that of an entry.
+pub(crate) fn node_word(procedure: Procedure, entry_word: &'static [u8]) -> &'static [u8]
+    ensures { result.now ≡ node_word entry_word.now procedure }
+{
+    match procedure {
+        Procedure::Main => b"MAIN ".as_slice(),
+        Procedure::Entry(_) => entry_word,
+    }
+}
+
+/// Appends a text, and a bound behind it.
+pub(crate) fn append_bound(
+    alloc: Global,
+    text: &mut Vec<u8>,
+    before: &[u8],
+    bound: u64,
+) -> Result<(), AllocError>
+    ensures { OnOk result (text.new.items ≡ text.old.items ++ bound_text before.now bound) }
+{
+    text.extend_from_slice(before)?;
+    let shown = format!(in alloc; "BOUND {bound}")?;
+    text.extend_from_slice(shown.as_bytes())
+}

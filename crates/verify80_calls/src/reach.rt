@@ -1,0 +1,12 @@
+//! The addresses of a vouched image that its procedures come to.
+//!
+//! | Item | What it is |
+//! |---|---|
+//! | [`find_reached`] | goes over an image from its start on |
+//! | [`Reached`] | the instruction at each address that a walk comes to |
+
+mod reached;
+mod rows;
+mod search;
+
+pub use reached::{Reached, find_reached};

@@ -1,2 +1,0 @@
-pub mod WayLemmas
-pub mod KeepLemmas

@@ -1,6 +1,0 @@
-use Rattle.std.proofs.Common.{ℕ, ◌<◌, get_or}
-use Rattle.verify80_fitting.specs.Fitting.{Has}
-use Rattle.verify80_fitting.proofs.fitting.has_at_each.Given as goal
-
-abbrev pub invariant-loop-at : goal.invariant-loop-at
-invariant-loop-at l = (k : ℕ) → k < l.at-index → Has l.table (get_or l.addresses k 0) l.words

@@ -1,4 +1,0 @@
-pub mod Ways
-pub mod Returning
-pub mod Fitting
-pub mod Runs

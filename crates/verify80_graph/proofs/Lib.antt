@@ -1,4 +1,0 @@
-pub mod BoundLemmas
-pub mod ChainLemmas
-pub mod NodeLemmas
-pub mod TextLemmas

@@ -1,7 +1,0 @@
-use Rattle.std.proofs.Common.{◌≡◌, ◌++◌, take}
-use Rattle.std.specs.List.{flat_map}
-use Rattle.verify80_graph.specs.GraphText.{edges}
-use Rattle.verify80_graph.proofs.digraph.append_edges.Given as goal
-
-abbrev pub invariant-loop-node : goal.invariant-loop-node
-invariant-loop-node l = l.text.items ≡ l.initial.text.items ++ flat_map (edges l.chain) (take l.node-index l.nodes)

@@ -1,5 +1,0 @@
-use Rattle.verify80_graph.proofs.BoundLemmas.{made}
-use Rattle.verify80_graph.proofs.laws.bounds_are_made_of_chains.Goals as goal
-
-pub returns : goal.returns
-returns c = made

@@ -1,5 +1,0 @@
-pub mod Nodes
-pub mod Chain
-pub mod Laws
-pub mod ListText
-pub mod GraphText

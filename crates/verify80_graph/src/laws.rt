@@ -1,9 +1,0 @@
-//! What holds of every graph's chain, over the definitions alone. The law is ensured by a function that does nothing.
-
-ghost use Rattle.verify80_graph.specs.Laws.{BoundsAreMadeOfChains};
-
-/// The bound of a procedure is made of its chain: of the caller's depth at each of the chain's calls, two bytes for each return
-/// address, and the bound of the procedure to which the chain leads.
-pub fn bounds_are_made_of_chains()
-    ensures { BoundsAreMadeOfChains }
-{}

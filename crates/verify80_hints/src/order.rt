@@ -1,0 +1,158 @@
+//! The order in which points are visited: reverse postorder of the code, over all of its procedures.
+//!
+//! A point is best visited when what leads to it has been: then a frame that comes to it late changes nothing behind it a
+//! second time. What the verifier answers doesn't rest on this order, only how soon.
+
+use decode80::Fetched;
+use frames80::{Code, Effect, effect_of};
+use std::alloc::{AllocError, Global};
+
+/// The ways on from an address, in its own procedure.
+#[derive(Clone, Copy)]
+enum Ways {
+    To(Option<u16>, Option<u16>),
+    /// To the declared targets.
+    Case,
+}
+
+/// An address on the path of the search, its ways on, and how many of them have been tried.
+#[derive(Clone, Copy)]
+struct Step {
+    at: u16,
+    ways: Ways,
+    tried: usize,
+}
+
+/// A depth-first search over addresses. Each procedure that is called is a root of its own, and a call is assumed to come back.
+#[derive(Drop)]
+struct Search {
+    /// For each address its number in postorder, counted from 1; 0 if it isn't finished.
+    ranks: Vec<u32>,
+    seen: Vec<bool>,
+    finished: u32,
+    path: Vec<Step>,
+    roots: Vec<u16>,
+}
+
+/// For each address its rank: of two addresses the one with the greater rank is visited first.
+///
+/// # Errors
+/// `AllocError` if memory runs out.
+pub(crate) fn rank_addresses<C: Code>(alloc: Global, program: &C) -> Result<Vec<u32>, AllocError> {
+    let mut search = Search::new(alloc)?;
+    search.roots.push(program.start())?;
+    // The bound is never met: a root is added by a call that is seen, and each address is seen once.
+    for _ in 0..u64::MAX {
+        let Some(root) = search.roots.pop() else {
+            break;
+        };
+        search.enter(program, root)?;
+        search.go_through(program)?;
+    }
+    Ok(search.ranks)
+}
+
+impl Search {
+    /// Nothing is seen.
+    ///
+    /// # Errors
+    /// `AllocError` if memory runs out.
+    fn new(alloc: Global) -> Result<Search, AllocError> {
+        Ok(Search {
+            ranks: vec![in alloc; 0; 65536]?,
+            seen: vec![in alloc; false; 65536]?,
+            finished: 0,
+            path: Vec::new(alloc),
+            roots: Vec::new(alloc),
+        })
+    }
+
+    /// An address is put on the path, unless it was seen before. If it calls a procedure, that is a root.
+    ///
+    /// # Errors
+    /// `AllocError` if memory runs out.
+    fn enter<C: Code>(&mut self, program: &C, at: u16) -> Result<(), AllocError> {
+        let Some(seen) = self.seen.get_mut(usize::from(at)) else {
+            return Ok(());
+        };
+        if *seen {
+            return Ok(());
+        }
+        *seen = true;
+        let (ways, called) = ways_from(program, at);
+        if let Some(target) = called {
+            self.roots.push(target)?;
+        }
+        self.path.push(Step { at, ways, tried: 0 })?;
+        Ok(())
+    }
+
+    /// Goes on from the end of the path until it is empty.
+    ///
+    /// # Errors
+    /// `AllocError` if memory runs out.
+    fn go_through<C: Code>(&mut self, program: &C) -> Result<(), AllocError> {
+        // The bound is never met: each address is entered once, and has as many ways on as it has targets.
+        for _ in 0..u64::MAX {
+            let Some(step) = self.path.pop() else {
+                break;
+            };
+            self.go_on(program, step)?;
+        }
+        Ok(())
+    }
+
+    /// Tries the next way on from an address, or finishes it.
+    ///
+    /// # Errors
+    /// `AllocError` if memory runs out.
+    fn go_on<C: Code>(&mut self, program: &C, step: Step) -> Result<(), AllocError> {
+        let Some(to) = way_on(program, step) else {
+            self.finish(step.at);
+            return Ok(());
+        };
+        self.path.push(Step {
+            at: step.at,
+            ways: step.ways,
+            tried: step.tried.saturating_add(1),
+        })?;
+        self.enter(program, to)
+    }
+
+    /// Numbers an address from which every way on was tried.
+    fn finish(&mut self, at: u16) {
+        self.finished = self.finished.saturating_add(1);
+        if let Some(rank) = self.ranks.get_mut(usize::from(at)) {
+            *rank = self.finished;
+        }
+    }
+}
+
+/// The ways on from an address, and the procedure that its instruction calls.
+fn ways_from<C: Code>(program: &C, at: u16) -> (Ways, Option<u16>) {
+    let Ok(Fetched { instr, next }) = program.look(at) else {
+        return (Ways::To(None, None), None);
+    };
+    match effect_of(instr) {
+        Effect::Change(_) | Effect::ReturnIf => (Ways::To(Some(next), None), None),
+        Effect::Call(target) | Effect::CallIf(target) => {
+            (Ways::To(Some(next), None), Some(target))
+        }
+        Effect::Jump(to) => (Ways::To(Some(to), None), None),
+        Effect::JumpIf(to) => (Ways::To(Some(to), Some(next)), None),
+        Effect::Case => (Ways::Case, None),
+        Effect::Halt | Effect::Return | Effect::Refuse(_) => (Ways::To(None, None), None),
+    }
+}
+
+/// The next way on that wasn't tried.
+fn way_on<C: Code>(program: &C, step: Step) -> Option<u16> {
+    match step.ways {
+        Ways::To(first, second) => match step.tried {
+            0 => first,
+            1 => second,
+            _ => None,
+        },
+        Ways::Case => program.targets(step.at).get(step.tried).copied(),
+    }
+}

@@ -1,3 +1,0 @@
-pub mod WalkLemmas
-pub mod RowLemmas
-pub mod SearchLemmas

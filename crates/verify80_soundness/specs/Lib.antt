@@ -1,3 +1,0 @@
-pub mod Starts
-pub mod Reached
-pub mod Soundness

@@ -1,9 +1,0 @@
-pub mod ArithmeticBounds
-pub mod RegisterBytes
-pub mod ByteLemmas
-pub mod FetchBounds
-pub mod StepBytes
-pub mod RunBytes
-pub mod SpanLemmas
-pub mod FollowLemmas
-pub mod StepPairs

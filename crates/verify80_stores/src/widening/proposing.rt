@@ -1,0 +1,63 @@
+//! A table of pairs is proposed.
+
+use crate::Pairs;
+use crate::widening::data_ends::DataEnds;
+use crate::widening::filling::Filling;
+use crate::widening::flow::Flow;
+use std::alloc::{AllocError, Global};
+
+/// How often pairs are followed from an address at most: no address has pairs that grow more often.
+const VISITS: u32 = 32;
+/// How often the table is narrowed.
+const NARROWINGS: u32 = 3;
+
+/// What the pairs may be at each address where the program may come to, 65,536 places by address; `None` if it doesn't come.
+///
+/// At the start, and behind each call that returns, they may be anything. Nothing is promised of the table: whoever uses it has to
+/// see that it fits.
+///
+/// # Errors
+/// `AllocError` only if memory runs out.
+pub fn propose(alloc: Global, flow: Flow<'_>) -> Result<Vec<Option<Pairs>>, AllocError> {
+    let ends = DataEnds::new(alloc, flow.regions)?;
+    let mut filling = Filling::new(alloc)?;
+    filling.join(Some(&ends), flow.start, Pairs::ANY)?;
+    for _ in 0..VISITS * 65_536 {
+        let Some(at) = filling.next_waiting() else {
+            break;
+        };
+        follow_from(&mut filling, flow, &ends, at)?;
+    }
+    for _ in 0..NARROWINGS {
+        filling = narrowed(alloc, flow, &filling)?;
+    }
+    Ok(filling.into_table())
+}
+
+/// Follows the pairs at an address through the instruction there.
+fn follow_from(
+    filling: &mut Filling,
+    flow: Flow<'_>,
+    ends: &DataEnds,
+    at: u16,
+) -> Result<(), AllocError> {
+    match (filling.at(at), flow.at(at)) {
+        (Some(pairs), Some(found)) => filling.follow(flow, Some(ends), at, found, pairs),
+        _ => Ok(()),
+    }
+}
+
+/// The table that follows from another, with no more at an address than what leads to it.
+///
+/// Nothing is widened here: if the other table fits, so does this one, which lies inside it.
+fn narrowed(alloc: Global, flow: Flow<'_>, wide: &Filling) -> Result<Filling, AllocError> {
+    let mut narrow = Filling::new(alloc)?;
+    narrow.join(None, flow.start, Pairs::ANY)?;
+    for address in 0..65_536_u32 {
+        let at = address as u16;
+        if let (Some(pairs), Some(found)) = (wide.at(at), flow.at(at)) {
+            narrow.follow(flow, None, at, found, pairs)?;
+        }
+    }
+    Ok(narrow)
+}
