@@ -14,11 +14,11 @@
 //! | [`LengthFault`] | the text has more bytes than a loader reads |
 #![tactic(auto)]
 
-mod bundle;
+mod bundles;
 mod inputs;
 mod reporting;
 
-pub use bundle::laws::inputs_begin_at_the_first_inputs_line;
-pub use bundle::{BUNDLE_LIMIT, BundleFault, bundle};
+pub use bundles::laws::inputs_begin_at_the_first_inputs_line;
+pub use bundles::{BUNDLE_LIMIT, BundleFault, bundle};
 pub use inputs::{LengthFault, Repeated, WordFault, WordInputs};
 pub use reporting::{append_rows, report_text};

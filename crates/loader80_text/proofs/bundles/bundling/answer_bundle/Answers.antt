@@ -2,11 +2,11 @@ use Rattle.std.proofs.Common.{◌<◌, ◌≡◌, ◌∙◌, ℕ, List, ap, sym,
 use Rattle.std.specs.Prelude.{Option, Some, string_bytes}
 use Rattle.std.specs.Option.{option_map}
 use Rattle.std.specs.Io.KnownBytes.{Appends}
-use Rattle.loader80_text.specs.declared.bundle.bundle_text.BundleTexts.{BundleTexts}
+use Rattle.loader80_text.specs.declared.bundles.bundle_text.BundleTexts.{BundleTexts}
 use Rattle.loader80.specs.Texts.{Texts}
 use Rattle.loader80_text.specs.BundleText.{bundle_texts, texts_of}
 use Rattle.loader80_text.proofs.BundledLemmas.{bundle_sends, bundle_sends_prefix}
-use Rattle.loader80_text.proofs.bundle.bundling.answer_bundle.Goals as goal
+use Rattle.loader80_text.proofs.bundles.bundling.answer_bundle.Goals as goal
 
 pub returns-in-Ok-write_all-clause-sends : goal.returns-in-Ok-write_all-clause-sends
 returns-in-Ok-write_all-clause-sends g c =

@@ -7,8 +7,8 @@ ghost use Rattle.loader80.specs.Sends.{AreWithin, IsTooLong};
 ghost use Rattle.loader80.specs.Texts.{texts_of};
 ghost use Rattle.loader80_text.specs.Bundle.{bundle_limit, BundleSends, BundleTooLong, bundle_read_failures, bundle_write_failures, of_session};
 
-use crate::bundle::bundle_text::part_bundle;
-use crate::bundle::fault::BundleFault;
+use crate::bundles::bundle_text::part_bundle;
+use crate::bundles::fault::BundleFault;
 use loader80::laws::what_is_said_is_sent;
 use loader80::{Outcome, SessionFault, SessionTexts, TEXT_LIMIT, answer_texts};
 use loader80_streams::{Failed, ReadAllFault, Sink, Source, read_all, write_all};
