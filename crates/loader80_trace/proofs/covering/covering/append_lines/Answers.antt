@@ -1,6 +1,6 @@
 use Rattle.std.proofs.Common.{◌-◌, arith, refl}
 use Rattle.loader80_trace.proofs.CoverLemmas.{all_rest, next_lines, rest_none}
-use Rattle.loader80_trace.proofs.cover.covering.append_lines.Goals as goal
+use Rattle.loader80_trace.proofs.covering.covering.append_lines.Goals as goal
 
 pub loop-at-init : goal.loop-at-init
 loop-at-init c = record {

@@ -3,7 +3,7 @@ use Rattle.std.specs.Prelude.{true}
 use Rattle.text80.specs.Digits.{byte_text}
 use Rattle.loader80_trace.specs.Cover.{is_data}
 use Rattle.loader80_trace.proofs.CoverLemmas.{data_next}
-use Rattle.loader80_trace.proofs.cover.line.append_data_bytes.Goals as goal
+use Rattle.loader80_trace.proofs.covering.line.append_data_bytes.Goals as goal
 
 pub overflow_cast-address : goal.overflow_cast-address
 overflow_cast-address c = omega (arith, c.is_data.ensures.within c.if-not-is_data.false)

@@ -9,7 +9,7 @@ ghost use Rattle.image80_text.specs.Listing.{columns};
 ghost use Rattle.loader80_trace.specs.Lines.{filled};
 ghost use Rattle.loader80_trace.specs.Cover.{count_text, data_from, data_line, instruction_line, is_data};
 
-use crate::cover::places::{Layout, is_data};
+use crate::covering::places::{Layout, is_data};
 use decode80::{Instr, encode, write_text};
 use image80_text::append_columns;
 use machine80::Bus;

@@ -2,7 +2,7 @@ use Rattle.std.proofs.Common.{◌≡◌, ◌++◌, ◌+◌, ◌-◌}
 use Rattle.std.specs.List.{flat_map}
 use Rattle.text80.specs.Digits.{byte_text}
 use Rattle.loader80_trace.specs.Cover.{data_from, is_data}
-use Rattle.loader80_trace.proofs.cover.line.append_data_bytes.Given as goal
+use Rattle.loader80_trace.proofs.covering.line.append_data_bytes.Given as goal
 
 abbrev pub invariant-loop-offset : goal.invariant-loop-offset
 invariant-loop-offset l =

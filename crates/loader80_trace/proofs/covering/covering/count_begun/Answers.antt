@@ -2,7 +2,7 @@ use Rattle.std.proofs.Common.{◌∙◌, ap, arith}
 use Rattle.std.specs.Prelude.{Bool, is_some, if◌then◌else◌}
 use Rattle.loader80_trace.specs.Cover.{is_begun}
 use Rattle.loader80_trace.proofs.CoverLemmas.{tally_all, tally_next}
-use Rattle.loader80_trace.proofs.cover.covering.count_begun.Goals as goal
+use Rattle.loader80_trace.proofs.covering.covering.count_begun.Goals as goal
 
 pub loop-at-preserved : goal.loop-at-preserved
 loop-at-preserved c = (

@@ -1,7 +1,7 @@
 use Rattle.std.proofs.Common.{◌≡◌, ◌≤◌, ◌++◌, ◌-◌}
 use Rattle.loader80_trace.specs.Cover.{cover_lines, data_before, is_data}
 use Rattle.loader80_trace.proofs.CoverLemmas.{rest_lines}
-use Rattle.loader80_trace.proofs.cover.covering.append_lines.Given as goal
+use Rattle.loader80_trace.proofs.covering.covering.append_lines.Given as goal
 
 abbrev pub invariant-loop-at : goal.invariant-loop-at
 invariant-loop-at l = record {

@@ -5,8 +5,8 @@ ghost use Rattle.image80.specs.Image.{memory_of};
 ghost use Rattle.loader80_trace.specs.Cover.{CoversReached, ListsReached, cover_lines, data_before, is_begun, is_data, is_instruction, line_of, sums_line, tally};
 ghost use Rattle.verify80_calls.specs.Reached.{found_at};
 
-use crate::cover::line::{append_data, append_instruction};
-use crate::cover::places::{Layout, data_behind, is_data};
+use crate::covering::line::{append_data, append_instruction};
+use crate::covering::places::{Layout, data_behind, is_data};
 use image80::Image;
 use loader80::Vouched;
 use machine80::FlatBus;
