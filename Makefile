@@ -69,12 +69,13 @@ package: build package-files
 package-files:
 	@tools/package $(PROGRAM)
 
-# rt ci has built the program that it proved. The prover's allocator keeps what it frees: that takes a few percent less time.
+# tools/gate runs rt ci, which builds the program that it proves, and prints what that took.
 test: need-rt need-python3
 	@tests/layers/run
 	@tests/examples/run
 	@tools/lemma_files --check
-	MIMALLOC_PURGE_DELAY=-1 rt ci
+	@tools/crates --check
+	@tools/gate
 	@tests/commands/run $(PROGRAM)
 	@tests/commands/migrated $(PROGRAM)
 	@tests/commands/walk $(PROGRAM)
