@@ -6,7 +6,6 @@ pub mod Arithmetic
 pub mod ArithmeticLaws
 pub mod End
 pub mod Cpu
-pub mod Control
 pub mod Effects
 pub mod Step
 pub mod World
