@@ -7,6 +7,7 @@ pub mod ArithmeticLaws
 pub mod End
 pub mod Cpu
 pub mod Effects
+pub mod FactsLaws
 pub mod Step
 pub mod World
 pub mod Run
