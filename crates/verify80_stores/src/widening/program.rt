@@ -5,7 +5,7 @@ use image80::Regions;
 
 /// A program: its instructions that may be reached, and which of its procedures return.
 #[derive(Clone, Copy)]
-pub struct Flow<'a> {
+pub struct ReachedProgram<'a> {
     /// The instruction at each address where the program may come to, and the address after it: by address, 65,536 places.
     pub instructions: &'a [Option<Fetched>],
     /// Whether the procedure that begins at an address returns: by address, 65,536 places.
@@ -16,7 +16,7 @@ pub struct Flow<'a> {
     pub regions: &'a Regions,
 }
 
-impl<'a> Flow<'a> {
+impl<'a> ReachedProgram<'a> {
     /// The instruction at an address.
     pub(crate) fn at(self, address: u16) -> Option<Fetched> {
         match self.instructions.get(usize::from(address)) {
