@@ -1,6 +1,6 @@
 use Rattle.std.proofs.Common.{◌≡◌, drop}
 use Rattle.std.specs.Prelude.{find, ◌==◌}
-use Rattle.omf_text.proofs.lines.append_common.Given as goal
+use Rattle.omf_text.proofs.places.append_common.Given as goal
 
 -- no name is appended yet, and what is found among the commons that are left is found among all
 abbrev pub invariant-loop-common : goal.invariant-loop-common
