@@ -1,3 +1,4 @@
+pub mod Dump
 pub mod Candidates
 pub mod Places
 pub mod Sieve

@@ -6,7 +6,7 @@
 //! | [`count_of`] | how many numbers the targets of the code have |
 //! | [`words_at`], [`Word`] | the words of its targets at one of them |
 //! | [`Candidates`] | the words that a target may have |
-//! | [`byte_at`] | the byte at an address where a dump stands |
+//! | [`Dump`] | a dump of a read-only memory |
 //! | [`code_bytes`] | the bytes that a module's contents define in CODE |
 //! | [`CodeByte`], [`Half`] | a byte of the code: half of the word that is a target's value plus an addend |
 //! | [`Resolved`] | what the target of a fixup stands for |
@@ -31,7 +31,7 @@ mod solving;
 mod words;
 
 pub use candidates::Candidates;
-pub use dump::byte_at;
+pub use dump::Dump;
 pub use found::ModulePattern;
 pub use found::laws::{
     link_of_found_modules_has_the_bytes, pattern_places_are_module_places,

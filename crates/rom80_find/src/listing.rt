@@ -1,9 +1,11 @@
 //! The addresses at which a module's code lies.
 
 ghost use Rattle.std.specs.Prelude.{◌≡◌, ◌<◌, ◌≤◌, ◌++◌, IfOk, OnOk};
+ghost use Rattle.rom80_find.specs.Dump.{dump_of};
 ghost use Rattle.rom80_find.specs.CodeBytes.{number_of};
 ghost use Rattle.rom80_find.specs.Places.{AreBelow, ArePlaces, place_of};
 
+use crate::dump::Dump;
 use crate::fixup_bytes::fixup_bytes;
 use crate::next::lies_next;
 use crate::pattern::CodeByte;
@@ -23,24 +25,23 @@ use std::alloc::{AllocError, Global};
 /// `AllocError` only if memory ran out.
 pub fn places(
     alloc: Global,
-    first: u16,
-    dump: &[u8],
+    dump: Dump<'_>,
     code: &[CodeByte],
     count: usize,
 ) -> Result<Vec<u16>, AllocError>
     requires two { 2 ≤ count }
     requires below { AreBelow count code.now }
-    ensures { IfOk result (λ places. ArePlaces first dump.now code.now 65536 places.items) }
+    ensures { IfOk result (λ places. ArePlaces (dump_of dump.entry) code.now 65536 places.items) }
 {
-    let starts = run_starts(alloc, first, dump)?;
-    let alive = sieve(alloc, first, dump, code, &starts)?;
+    let starts = run_starts(alloc, dump)?;
+    let alive = sieve(alloc, dump, code, &starts)?;
     let bytes = fixup_bytes(alloc, code)?;
     let mut table = any_table(alloc, count)?;
     let mut places = Vec::new(alloc);
     let mut before = None;
     for at in 0..65536usize {
         before = lies_next(
-            first, dump, at as u16, alive[at], &bytes, &starts, before, &mut table,
+            dump, at as u16, alive[at], &bytes, &starts, before, &mut table,
         );
         push_place(&mut places, at as u16, before)?;
     }

@@ -1,10 +1,12 @@
 //! Whether code lies at an address, after the one before it.
 
 ghost use Rattle.std.specs.Prelude.{◌≡◌, ◌≤◌, true, None, [], length, IfSome};
+ghost use Rattle.rom80_find.specs.Dump.{dump_of};
 ghost use Rattle.rom80_find.specs.Places.{AreBelow, IsClearBut, LiesAt};
 ghost use Rattle.rom80_find.specs.Runs.{AreFree, AreFrom, AreUpTo, AreRunStarts, IsAnswer, IsAnswerBefore};
 
 use crate::candidates::Candidates;
+use crate::dump::Dump;
 use crate::fixup_bytes::FixupBytes;
 use crate::runs::is_repeated;
 use crate::solving::lies_at;
@@ -12,8 +14,7 @@ use crate::solving::lies_at;
 /// Whether there are values with which the dump has the bytes in fixups with CODE at the address, if it has the others; `None` if
 /// it hasn't these or those of known values. It takes the answer at the address before.
 pub(crate) fn lies_next(
-    first: u16,
-    dump: &[u8],
+    dump: Dump<'_>,
     address: u16,
     alive: bool,
     bytes: &FixupBytes,
@@ -27,25 +28,24 @@ pub(crate) fn lies_next(
     requires free { AreFree bytes.now.free.items }
     requires low { AreFrom bytes.now.low bytes.now.free.items }
     requires high { AreUpTo bytes.now.high bytes.now.free.items }
-    requires starts { AreRunStarts first dump.now 131072 starts.now }
-    requires before { IsAnswerBefore first dump.now bytes.now.free.items address before }
+    requires starts { AreRunStarts (dump_of dump) 131072 starts.now }
+    requires before { IsAnswerBefore (dump_of dump) bytes.now.free.items address before }
     requires clear { IsClearBut [] table.old.items }
     ensures whole { length table.new.items ≡ length table.old.items }
     ensures clear { IsClearBut [] table.new.items }
-    ensures known { IfSome result (λ _. (alive ≡ true) × LiesAt first dump.now bytes.now.known.items address) }
-    ensures free { IfSome result (λ lies. IsAnswer first dump.now bytes.now.free.items address lies) }
-    ensures none { result ≡ None → alive ≡ true → LiesAt first dump.now bytes.now.known.items address → ⊥ }
+    ensures known { IfSome result (λ _. (alive ≡ true) × LiesAt (dump_of dump.entry) bytes.now.known.items address) }
+    ensures free { IfSome result (λ lies. IsAnswer (dump_of dump.entry) bytes.now.free.items address lies) }
+    ensures none { result ≡ None → alive ≡ true → LiesAt (dump_of dump.entry) bytes.now.known.items address → ⊥ }
 {
-    if !alive || !lies_at(first, dump, address, &bytes.known, table) {
+    if !alive || !lies_at(dump, address, &bytes.known, table) {
         return None;
     }
-    Some(lies_again(first, dump, address, bytes, starts, before, table))
+    Some(lies_again(dump, address, bytes, starts, before, table))
 }
 
 /// Whether there are values with which the dump has the bytes of unknown values with CODE at the address.
 fn lies_again(
-    first: u16,
-    dump: &[u8],
+    dump: Dump<'_>,
     address: u16,
     bytes: &FixupBytes,
     starts: &[u32],
@@ -57,17 +57,17 @@ fn lies_again(
     requires free { AreFree bytes.now.free.items }
     requires low { AreFrom bytes.now.low bytes.now.free.items }
     requires high { AreUpTo bytes.now.high bytes.now.free.items }
-    requires starts { AreRunStarts first dump.now 131072 starts.now }
-    requires before { IsAnswerBefore first dump.now bytes.now.free.items address before }
+    requires starts { AreRunStarts (dump_of dump) 131072 starts.now }
+    requires before { IsAnswerBefore (dump_of dump) bytes.now.free.items address before }
     requires clear { IsClearBut [] table.old.items }
     ensures whole { length table.new.items ≡ length table.old.items }
     ensures clear { IsClearBut [] table.new.items }
-    ensures lies { IsAnswer first dump.now bytes.now.free.items address result }
+    ensures lies { IsAnswer (dump_of dump.entry) bytes.now.free.items address result }
 {
     if let Some(lies) = before {
         if is_repeated(starts, bytes.low, bytes.high, address) {
             return lies;
         }
     }
-    lies_at(first, dump, address, &bytes.free, table)
+    lies_at(dump, address, &bytes.free, table)
 }

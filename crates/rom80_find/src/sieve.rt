@@ -2,11 +2,12 @@
 
 ghost use Rattle.std.specs.Prelude.{◌≡◌, ℕ, ◌+◌, ◌%◌, ◌<◌, ◌≤◌, ◌&&◌, true, false, List, length, slice_index_or, IfOk};
 ghost use Rattle.std.specs.List.{list_all};
+ghost use Rattle.rom80_find.specs.Dump.{DumpValue, dump_of};
 ghost use Rattle.rom80_find.specs.Places.{is_plain, fits_if_plain};
 ghost use Rattle.rom80_find.specs.Runs.{AreRunStarts};
 ghost use Rattle.rom80_find.specs.Sieve.{IsRing, AreRings, AreSieved, IsSievedBy, entry_at};
 
-use crate::dump::byte_at;
+use crate::dump::Dump;
 use crate::fixup_bytes::{greatest_offset, least_offset};
 use crate::pattern::{CodeByte, Half};
 use crate::runs::is_one_run;
@@ -27,12 +28,12 @@ pub(crate) fn is_plain(byte: &CodeByte) -> bool
 }
 
 /// The dump's bytes by address, those of all addresses twice, and `fill` at each address if it has none.
-fn ring_of(alloc: Global, first: u16, dump: &[u8], fill: u8) -> Result<Vec<u8>, AllocError>
-    ensures { IfOk result (λ ring. IsRing first dump.now fill ring.items) }
+fn ring_of(alloc: Global, dump: Dump<'_>, fill: u8) -> Result<Vec<u8>, AllocError>
+    ensures { IfOk result (λ ring. IsRing (dump_of dump.entry) fill ring.items) }
 {
     let mut ring = filled_ring(alloc, 2 * ADDRESSES, fill)?;
     for at in 0..2 * ADDRESSES {
-        ring[at] = entry_at(first, dump, fill, (at % ADDRESSES) as u16);
+        ring[at] = entry_at(dump, fill, (at % ADDRESSES) as u16);
     }
     Ok(ring)
 }
@@ -53,10 +54,10 @@ fn all_addresses(alloc: Global, count: usize) -> Result<Vec<bool>, AllocError>
 }
 
 /// The byte at an address, or `fill`.
-fn entry_at(first: u16, dump: &[u8], fill: u8, address: u16) -> u8
-    ensures { result ≡ entry_at first dump.now fill address }
+fn entry_at(dump: Dump<'_>, fill: u8, address: u16) -> u8
+    ensures { result ≡ entry_at (dump_of dump.entry) fill address }
 {
-    match byte_at(first, dump, address) {
+    match dump.byte_at(address) {
         Some(byte) => byte,
         None => fill,
     }
@@ -65,23 +66,22 @@ fn entry_at(first: u16, dump: &[u8], fill: u8, address: u16) -> u8
 /// For each address whether the dump has all bytes outside fixups with CODE there. It takes the runs of the dump.
 pub(crate) fn sieve(
     alloc: Global,
-    first: u16,
-    dump: &[u8],
+    dump: Dump<'_>,
     code: &[CodeByte],
     starts: &[u32],
 ) -> Result<Vec<bool>, AllocError>
-    requires { AreRunStarts first dump.now 131072 starts.now }
-    ensures { IfOk result (λ alive. AreSieved first dump.now code.now alive.items) }
+    requires { AreRunStarts (dump_of dump) 131072 starts.now }
+    ensures { IfOk result (λ alive. AreSieved (dump_of dump.entry) code.now alive.items) }
 {
-    let zeros = ring_of(alloc, first, dump, 0)?;
-    let ones = ring_of(alloc, first, dump, 255)?;
+    let zeros = ring_of(alloc, dump, 0)?;
+    let ones = ring_of(alloc, dump, 255)?;
     let mut alive = all_addresses(alloc, ADDRESSES)?;
     let low = least_offset(code);
     let high = greatest_offset(code);
     for block in 0..ADDRESSES / BLOCK {
         let start = block * BLOCK;
         let is_run = is_one_run(starts, low, high, start);
-        sieve_next(&mut alive, &zeros, &ones, first, dump, code, start, is_run);
+        sieve_next(&mut alive, &zeros, &ones, dump, code, start, is_run);
     }
     Ok(alive)
 }
@@ -92,26 +92,25 @@ fn sieve_next(
     alive: &mut [bool],
     zeros: &[u8],
     ones: &[u8],
-    first: u16,
-    dump: &[u8],
+    dump: Dump<'_>,
     code: &[CodeByte],
     start: usize,
     is_run: bool,
 )
     requires all { length alive.old ≡ 65536 }
-    requires rings { AreRings first dump.now zeros.now ones.now }
+    requires rings { AreRings (dump_of dump) zeros.now ones.now }
     requires block { start + 1024 ≤ 65536 }
     requires new { (a : ℕ) → start ≤ a → a < start + 1024 → slice_index_or alive.old a false ≡ true }
     requires run { is_run ≡ true → (a : ℕ) → start ≤ a → a < start + 1024 →
-        list_all (fits_if_plain first dump.now start) code.now ≡ list_all (fits_if_plain first dump.now a) code.now }
+        list_all (fits_if_plain (dump_of dump) start) code.now ≡ list_all (fits_if_plain (dump_of dump) a) code.now }
     ensures whole { length alive.new ≡ 65536 }
     ensures each { (a : ℕ) → start ≤ a → a < start + 1024 →
-        slice_index_or alive.new a false ≡ list_all (fits_if_plain first dump.now a) code.now }
+        slice_index_or alive.new a false ≡ list_all (fits_if_plain (dump_of dump.entry) a) code.now }
     ensures before { (a : ℕ) → a < start → slice_index_or alive.new a false ≡ slice_index_or alive.old a false }
     ensures after { (a : ℕ) → start + 1024 ≤ a → slice_index_or alive.new a false ≡ slice_index_or alive.old a false }
 {
     if is_run {
-        let keep = has_plain(first, dump, start as u16, code);
+        let keep = has_plain(dump, start as u16, code);
         fill_block(alive, start, keep);
     } else {
         sieve_block(alive, zeros, ones, start, code);
@@ -119,11 +118,11 @@ fn sieve_next(
 }
 
 /// Whether the dump has all bytes outside fixups with CODE at the address.
-fn has_plain(first: u16, dump: &[u8], address: u16, code: &[CodeByte]) -> bool
-    ensures { result ≡ list_all (fits_if_plain first dump.now address) code.now }
+fn has_plain(dump: Dump<'_>, address: u16, code: &[CodeByte]) -> bool
+    ensures { result ≡ list_all (fits_if_plain (dump_of dump.entry) address) code.now }
 {
     for byte in code {
-        if !fits_if_plain(first, dump, address, *byte) {
+        if !fits_if_plain(dump, address, *byte) {
             return false;
         }
     }
@@ -131,13 +130,13 @@ fn has_plain(first: u16, dump: &[u8], address: u16, code: &[CodeByte]) -> bool
 }
 
 /// Whether the dump has this byte with CODE at the address, if it is one outside fixups.
-fn fits_if_plain(first: u16, dump: &[u8], address: u16, byte: CodeByte) -> bool
-    ensures { result ≡ fits_if_plain first dump.now address byte }
+fn fits_if_plain(dump: Dump<'_>, address: u16, byte: CodeByte) -> bool
+    ensures { result ≡ fits_if_plain (dump_of dump.entry) address byte }
 {
     if !is_plain(&byte) {
         return true;
     }
-    match byte_at(first, dump, address.wrapping_add(byte.offset)) {
+    match dump.byte_at(address.wrapping_add(byte.offset)) {
         Some(found) => u16::from(found) == byte.addend % 256,
         None => false,
     }
@@ -164,8 +163,8 @@ fn sieve_block(alive: &mut [bool], zeros: &[u8], ones: &[u8], start: usize, code
     requires ones { length ones.now ≡ 131072 }
     requires block { start + 1024 ≤ 65536 }
     ensures whole { length alive.new ≡ 65536 }
-    ensures each { (first : ℕ) (dump : List ℕ) → AreRings first dump zeros.now ones.now → (a : ℕ) → start ≤ a → a < start + 1024 →
-        slice_index_or alive.new a false ≡ (slice_index_or alive.old a false && list_all (fits_if_plain first dump a) code.now) }
+    ensures each { (dump : DumpValue) → AreRings dump zeros.now ones.now → (a : ℕ) → start ≤ a → a < start + 1024 →
+        slice_index_or alive.new a false ≡ (slice_index_or alive.old a false && list_all (fits_if_plain dump a) code.now) }
     ensures before { (a : ℕ) → a < start → slice_index_or alive.new a false ≡ slice_index_or alive.old a false }
     ensures after { (a : ℕ) → start + 1024 ≤ a → slice_index_or alive.new a false ≡ slice_index_or alive.old a false }
 {
@@ -184,8 +183,8 @@ fn sieve_by(alive: &mut [bool], zeros: &[u8], ones: &[u8], start: usize, byte: C
     requires ones { length ones.now ≡ 131072 }
     requires block { start + 1024 ≤ 65536 }
     ensures whole { length alive.new ≡ 65536 }
-    ensures each { (first : ℕ) (dump : List ℕ) → AreRings first dump zeros.now ones.now → (a : ℕ) → start ≤ a → a < start + 1024 →
-        slice_index_or alive.new a false ≡ (slice_index_or alive.old a false && fits_if_plain first dump a byte) }
+    ensures each { (dump : DumpValue) → AreRings dump zeros.now ones.now → (a : ℕ) → start ≤ a → a < start + 1024 →
+        slice_index_or alive.new a false ≡ (slice_index_or alive.old a false && fits_if_plain dump a byte) }
     ensures before { (a : ℕ) → a < start → slice_index_or alive.new a false ≡ slice_index_or alive.old a false }
     ensures after { (a : ℕ) → start + 1024 ≤ a → slice_index_or alive.new a false ≡ slice_index_or alive.old a false }
     ensures none { result ≡ false → (a : ℕ) → start ≤ a → a < start + 1024 → slice_index_or alive.new a false ≡ false }

@@ -3,10 +3,12 @@
 ghost use Rattle.std.specs.Prelude.{◌≡◌, ◌≤◌, ◌==◌, length, IfOk, IfSome, IfNone};
 ghost use Rattle.std.specs.List.{AllByRecursion};
 ghost use Rattle.omf_parts.specs.Rules.{IsModule};
+ghost use Rattle.rom80_find.specs.Dump.{dump_of};
 ghost use Rattle.rom80_find.specs.Modules.{code_bytes, code_length};
 ghost use Rattle.rom80_find.specs.Words.{AreAscending};
 ghost use Rattle.rom80_find.specs.Lies.{HasModule, AreModulePlaces, AreModuleWords, MayBeListed};
 
+use crate::dump::Dump;
 use crate::found::laws::{
     pattern_places_are_module_places, pattern_words_are_module_words, pattern_words_may_be_listed,
     patterns_lie_as_modules,
@@ -68,8 +70,8 @@ impl<'a> ModulePattern<'a> {
     ///
     /// # Errors
     /// `AllocError` only if memory ran out.
-    pub fn places(&self, alloc: Global, first: u16, dump: &[u8]) -> Result<Vec<u16>, AllocError>
-        ensures { IfOk result (λ places. AreModulePlaces first dump.now self.now places.items) }
+    pub fn places(&self, alloc: Global, dump: Dump<'_>) -> Result<Vec<u16>, AllocError>
+        ensures { IfOk result (λ places. AreModulePlaces (dump_of dump.entry) self.now places.items) }
     {
         patterns_lie_as_modules();
         pattern_places_are_module_places();
@@ -77,7 +79,7 @@ impl<'a> ModulePattern<'a> {
         if has_none(code) {
             return Ok(Vec::new(alloc));
         }
-        places(alloc, first, dump, code, count_of(code))
+        places(alloc, dump, code, count_of(code))
     }
 
     /// The words of the module's targets if it lies at the address, by ascending numbers: of a segment its base, of STACK its
@@ -90,14 +92,13 @@ impl<'a> ModulePattern<'a> {
     pub fn words_at(
         &self,
         alloc: Global,
-        first: u16,
-        dump: &[u8],
+        dump: Dump<'_>,
         address: u16,
     ) -> Result<Option<Vec<Word>>, AllocError>
-        ensures some { IfOk result (λ found. IfSome found (λ words. AreModuleWords first dump.now self.now address words.items)) }
+        ensures some { IfOk result (λ found. IfSome found (λ words. AreModuleWords (dump_of dump.entry) self.now address words.items)) }
         ensures ascending { IfOk result (λ found. IfSome found (λ words. AreAscending words.items)) }
         ensures listed { IfOk result (λ found. IfSome found (λ words. AllByRecursion (λ w. MayBeListed self.now w.target) words.items)) }
-        ensures none { IfOk result (λ found. IfNone found (HasModule first dump.now self.now address → ⊥)) }
+        ensures none { IfOk result (λ found. IfNone found (HasModule (dump_of dump.entry) self.now address → ⊥)) }
     {
         patterns_lie_as_modules();
         pattern_words_are_module_words();
@@ -106,7 +107,7 @@ impl<'a> ModulePattern<'a> {
         if has_none(code) {
             return Ok(None);
         }
-        let found = words_at(alloc, first, dump, code, count_of(code), address)?;
+        let found = words_at(alloc, dump, code, count_of(code), address)?;
         match found {
             Some(words) => Ok(Some(words)),
             None => Ok(None),

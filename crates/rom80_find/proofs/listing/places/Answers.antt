@@ -1,5 +1,6 @@
 use Rattle.std.proofs.Common.{◌∙◌, arith, sym, subst, refl, ℕ, List, ◌<◌}
 use Rattle.std.specs.Prelude.{filter}
+use Rattle.rom80_find.specs.Dump.{dump_of}
 use Rattle.rom80_find.specs.declared.pattern.code_byte.CodeByte.{CodeByte}
 use Rattle.rom80_find.specs.Places.{AreBelow, is_free, is_known_fixup}
 use Rattle.rom80_find.specs.Runs.{AreFree}
@@ -23,8 +24,7 @@ lies_next-before-requires-clause-free c = subst (λ (l : List CodeByte). AreFree
 
 pub loop-at-preserved : goal.loop-at-preserved
 loop-at-preserved c =
-    let first = c.args.first in
-    let dump = c.args.dump.now in
+    let dump = dump_of c.args.dump in
     let code = c.args.code.now in
     let at = c.loop-at.at in
     let bytes = c.in_ok-bytes.bytes in
@@ -32,8 +32,8 @@ loop-at-preserved c =
     record {
       whole = c.lies_next-before.ensures.whole ∙ c.loop-at.invariant.whole;
       clear = c.lies_next-before.ensures.clear;
-      before = before_next first dump (filter is_free code) bytes.free.items at c.in_ok-bytes.ensures.free c.lies_next-before.result c.lies_next-before.ensures.free;
-      places = next_places first dump code at lt c.in_ok-alive.alive.items c.in_ok-alive.ensures bytes.known.items bytes.free.items c.in_ok-bytes.ensures.known c.in_ok-bytes.ensures.free
+      before = before_next dump (filter is_free code) bytes.free.items at c.in_ok-bytes.ensures.free c.lies_next-before.result c.lies_next-before.ensures.free;
+      places = next_places dump code at lt c.in_ok-alive.alive.items c.in_ok-alive.ensures bytes.known.items bytes.free.items c.in_ok-bytes.ensures.known c.in_ok-bytes.ensures.free
           c.index.result.now (found_at c.in_ok-alive.alive.items at c.index.result.now c.index.result.now c.in_ok-alive.ensures.whole lt c.index.ensures refl)
           c.loop-at.places.items c.loop-at.invariant.places c.lies_next-before.result c.push_place.new.places.items
           c.lies_next-before.ensures.known c.lies_next-before.ensures.free c.lies_next-before.ensures.none c.in_ok-push_place.ensures;
