@@ -14,8 +14,8 @@ use Rattle.rom80_find.specs.declared.lines.finding.Finding.TheVariants.{Short, M
 use Rattle.rom80_find.specs.Lies.{AreModulePlaces}
 use Rattle.rom80_find.specs.Lines.{missing_line, short_line}
 use Rattle.rom80_find.specs.Found.{IsFound, short, missing, there, IsPlacesText, PrintsModules, is_short, is_missing, has_place}
-use Rattle.rom80_find.specs.LinesWords.{FindsModule, PrintsFound, PrintsModule, PrintsPlaces}
-use Rattle.rom80_find.proofs.LinesPlaceLemmas.{zip_more}
+use Rattle.rom80_find.specs.Prints.{FindsModule, PrintsFound, PrintsModule, PrintsPlaces}
+use Rattle.rom80_find.proofs.PlaceTextLemmas.{zip_more}
 
 -- ---- one module
 

@@ -10,8 +10,9 @@ use Rattle.rom80_find.specs.Dump.{DumpValue}
 use Rattle.rom80_find.specs.declared.pattern.code_byte.CodeByte.{CodeByte}
 use Rattle.rom80_find.specs.Runs.{IsAnswer, IsAnswerBefore}
 use Rattle.rom80_find.specs.Places.{LiesAt, place_of, is_free, is_known_fixup, ArePlaces, is_listed}
+use Rattle.rom80_find.specs.Search.{SearchValue, search_of}
 use Rattle.rom80_find.specs.Sieve.{AreSieved}
-use Rattle.rom80_find.proofs.LiesLemmas.{lies_plain, parts_lie}
+use Rattle.rom80_find.proofs.CodeLieLemmas.{lies_plain, parts_lie}
 use Rattle.rom80_find.proofs.RepeatLemmas.{lies_some, rest_lies}
 
 before_or_here : (at a : ℕ) → a < at + 1 → (a < at) ⊎ (at ≡ a)
@@ -81,32 +82,41 @@ module _ (dump : DumpValue) (code : List CodeByte) (at : ℕ) (lt : at < 65536) 
   lies_here e known free = parts_lie dump code at (sym (sieved.each at lt) ∙ e) (rest_lies dump code at known free)
 
   -- so the answer at it says whether it is the next place
-  module _ (known free : List CodeByte) (is-known : known ≡ filter is_known_fixup code) (is-free : free ≡ filter is_free code) (here : Bool)
-      (is-here : slice_index_or alive at false ≡ here) (places : List ℕ) (h : ArePlaces dump code at places) where
-    pub next_places : (answer : Option Bool) (new : List ℕ)
-        → IfSome answer (λ _. (here ≡ true) × LiesAt dump known at)
-        → IfSome answer (λ lies. IsAnswer dump free at lies)
-        → (answer ≡ None → here ≡ true → LiesAt dump known at → ⊥)
+  module _ (here : Bool) (is-here : slice_index_or alive at false ≡ here) (places : List ℕ) (h : ArePlaces dump code at places) where
+    next : (answer : Option Bool) (new : List ℕ)
+        → IfSome answer (λ _. (here ≡ true) × LiesAt dump (filter is_known_fixup code) at)
+        → IfSome answer (λ lies. IsAnswer dump (filter is_free code) at lies)
+        → (answer ≡ None → here ≡ true → LiesAt dump (filter is_known_fixup code) at → ⊥)
         → new ≡ places ++ place_of answer at
         → ArePlaces dump code (at + 1) new
-    next_places None new k f none is = subst (λ (l : List ℕ). ArePlaces dump code (at + 1) l) (sym (is ∙ append-nil places))
+    next None new k f none is = subst (λ (l : List ℕ). ArePlaces dump code (at + 1) l) (sym (is ∙ append-nil places))
         (not_there dump code at places h (away here refl))
       where
         away : (t : Bool) → here ≡ t → LiesAt dump code at → ⊥
-        away true e l = none refl e (subst (λ (r : List CodeByte). LiesAt dump r at) (sym is-known) (lies_some dump code at is_known_fixup l))
+        away true e l = none refl e (lies_some dump code at is_known_fixup l)
         away false e l = sieved_away (is-here ∙ e) l
-    next_places (Some true) new k f none is = subst (λ (l : List ℕ). ArePlaces dump code (at + 1) l) (sym is)
-        (there dump code at places h (lies_here (is-here ∙ k.0) (subst (λ (r : List CodeByte). LiesAt dump r at) is-known k.1)
-        (subst (λ (r : List CodeByte). LiesAt dump r at) is-free (f.yes refl))))
-    next_places (Some false) new k f none is = subst (λ (l : List ℕ). ArePlaces dump code (at + 1) l) (sym (is ∙ append-nil places))
-        (not_there dump code at places h (λ l. f.no refl (subst (λ (r : List CodeByte). LiesAt dump r at) (sym is-free) (lies_some dump code at is_free l))))
+    next (Some true) new k f none is = subst (λ (l : List ℕ). ArePlaces dump code (at + 1) l) (sym is)
+        (there dump code at places h (lies_here (is-here ∙ k.0) k.1 (f.yes refl)))
+    next (Some false) new k f none is = subst (λ (l : List ℕ). ArePlaces dump code (at + 1) l) (sym (is ∙ append-nil places))
+        (not_there dump code at places h (λ l. f.no refl (lies_some dump code at is_free l)))
 
-pub before_next : (dump : DumpValue) (code free : List CodeByte) (at : ℕ) → free ≡ code → (answer : Option Bool)
-    → IfSome answer (λ lies. IsAnswer dump free at lies) → IsAnswerBefore dump code (at + 1) answer
-before_next dump code free at is None h = tt
-before_next dump code free at is (Some lies) h = λ one.
+    pub next_places : (s : SearchValue) → s ≡ search_of dump code → (answer : Option Bool) (new : List ℕ)
+        → IfSome answer (λ _. (here ≡ true) × LiesAt s.dump s.known at)
+        → IfSome answer (λ lies. IsAnswer s.dump s.free at lies)
+        → (answer ≡ None → here ≡ true → LiesAt s.dump s.known at → ⊥)
+        → new ≡ places ++ place_of answer at
+        → ArePlaces dump code (at + 1) new
+    next_places s same answer new k f none is = next answer new
+        (subst (λ (s : SearchValue). IfSome answer (λ _. (here ≡ true) × LiesAt s.dump s.known at)) same k)
+        (subst (λ (s : SearchValue). IfSome answer (λ lies. IsAnswer s.dump s.free at lies)) same f)
+        (subst (λ (s : SearchValue). answer ≡ None → here ≡ true → LiesAt s.dump s.known at → ⊥) same none) is
+
+pub before_next : (s new : SearchValue) (at : ℕ) → new ≡ s → (answer : Option Bool)
+    → IfSome answer (λ lies. IsAnswer s.dump s.free at lies) → IsAnswerBefore new.dump new.free (at + 1) answer
+before_next s new at is None h = tt
+before_next s new at is (Some lies) h = λ one.
     let same : at ≡ at + 1 - 1 = omega arith in
-    subst (λ (n : ℕ). IsAnswer dump code n lies) same (subst (λ (l : List CodeByte). IsAnswer dump l at lies) is h)
+    subst (λ (n : ℕ). IsAnswer new.dump new.free n lies) same (subst (λ (v : SearchValue). IsAnswer v.dump v.free at lies) (sym is) h)
 
 pub same_default : {A : Type 0} (xs : List A) (i : ℕ) (d e : A) → i < length xs → get_or xs i d ≡ get_or xs i e
 same_default [] i d e lt = elim lt [ ]

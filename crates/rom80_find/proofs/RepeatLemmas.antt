@@ -7,7 +7,7 @@ use Rattle.rom80_find.specs.Dump.{DumpValue, dump_byte}
 use Rattle.rom80_find.specs.declared.pattern.code_byte.CodeByte.{CodeByte}
 use Rattle.rom80_find.specs.CodeBytes.{number_of, byte_by, half_of}
 use Rattle.rom80_find.specs.Places.{LiesAt, is_free, is_plain, is_known_fixup}
-use Rattle.rom80_find.specs.Runs.{AreFree, AreFrom, AreUpTo, IsRepeated}
+use Rattle.rom80_find.specs.Runs.{AreFree, AreFrom, AreUpTo, IsRepeated, IsAnswer, IsAnswerBefore}
 
 abbrev HasAll : (dump : DumpValue) (address : ℕ) (value : ℕ → ℕ) → List CodeByte → Type 0
 HasAll dump address value bs = AllByRecursion (λ (b : CodeByte). dump_byte dump ((address + b.offset) % 65536) ≡ Some (byte_by value b)) bs
@@ -41,11 +41,17 @@ move_lies dump low high from to code free above below same h = record {
 
 module _ (dump : DumpValue) (low high address : ℕ) (code : List CodeByte) (free : AreFree code) (above : AreFrom low code) (below : AreUpTo high code)
     (repeated : IsRepeated dump low high address) where
-  pub repeated_lies : LiesAt dump code (address - 1) → LiesAt dump code address
+  repeated_lies : LiesAt dump code (address - 1) → LiesAt dump code address
   repeated_lies h = move_lies dump low high (address - 1) address code free above below repeated.same h
 
-  pub repeated_lay : LiesAt dump code address → LiesAt dump code (address - 1)
+  repeated_lay : LiesAt dump code address → LiesAt dump code (address - 1)
   repeated_lay h = move_lies dump low high address (address - 1) code free above below (λ o from to. sym (repeated.same o from to)) h
+
+  -- so the answer at the one address is that at the other
+  pub repeated_answer : (lies : Bool) → IsAnswerBefore dump code address (Some lies) → IsAnswer dump code address lies
+  repeated_answer lies before =
+      let was = before repeated.later in
+      record { yes = λ e. repeated_lies (was.yes e); no = λ e l. was.no e (repeated_lay l) }
 
 -- ---- the bytes of known values and the others
 

@@ -27,9 +27,9 @@ use Rattle.rom80_find.specs.Words.{has_word, AreOnlyWords, IsOfATarget}
 use Rattle.rom80_find.specs.Lies.{IsFirst, MayBeListed}
 use Rattle.rom80_find.proofs.BaseLemmas.{small_id}
 use Rattle.rom80_find.proofs.ChunkLemmas.{mapped_from, last_map}
-use Rattle.rom80_find.proofs.LieLemmas.{all_of_each, last_sound}
-use Rattle.rom80_find.proofs.FoundNameLemmas.{first_name}
-use Rattle.rom80_find.proofs.FoundWordLemmas.{has_a_byte}
+use Rattle.rom80_find.proofs.ModuleLieLemmas.{all_of_each, last_sound}
+use Rattle.rom80_find.proofs.ExternalLemmas.{first_name}
+use Rattle.rom80_find.proofs.OnlyWordLemmas.{has_a_byte}
 
 -- ---- the first external of a name is the first of its own
 

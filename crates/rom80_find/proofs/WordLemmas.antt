@@ -10,7 +10,7 @@ use Rattle.rom80_find.specs.declared.words.Word.{Word}
 use Rattle.rom80_find.specs.Candidates.{is_candidate}
 use Rattle.rom80_find.specs.Places.{LiesWith, LiesAt, IsOnly, AreBelow, Describes, allows}
 use Rattle.rom80_find.specs.Words.{has_word, AreOnlyWords, is_single, AreSingle}
-use Rattle.rom80_find.proofs.LiesLemmas.{lies_allowed, allowed_lies}
+use Rattle.rom80_find.proofs.CodeLieLemmas.{lies_allowed, allowed_lies}
 
 -- a single candidate is the only word that can be one
 single_only : (c : Candidates) (word x : ℕ) → x < 65536 → is_single c word ≡ true → is_candidate c x ≡ true → x ≡ word

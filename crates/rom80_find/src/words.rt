@@ -17,7 +17,7 @@ use std::alloc::{AllocError, Global};
 
 /// The word of a target: the base of a segment, the top of STACK, or what an external stands for.
 #[derive(Clone, Copy, Debug, PartialEq, Eq)]
-pub struct Word {
+pub(crate) struct Word {
     pub target: Target,
     pub word: u16,
 }
@@ -28,7 +28,7 @@ pub struct Word {
 ///
 /// # Errors
 /// `AllocError` only if memory ran out.
-pub fn words_at(
+pub(crate) fn words_at(
     alloc: Global,
     dump: Dump<'_>,
     code: &[CodeByte],

@@ -4,12 +4,13 @@ ghost use Rattle.std.specs.Prelude.{◌≡◌, IfOk, length, filter};
 ghost use Rattle.rom80_find.specs.Dump.{dump_of};
 ghost use Rattle.rom80_find.specs.Places.{is_plain};
 ghost use Rattle.rom80_find.specs.Found.{has_place, is_short};
-ghost use Rattle.rom80_find.specs.LinesWords.{FindsModule};
+ghost use Rattle.rom80_find.specs.Prints.{FindsModule};
 
 use crate::dump::Dump;
+use crate::found::ModulePattern;
 use crate::lines::places::append_places;
-use crate::{CodeByte, Half, ModulePattern};
-use omf_parts::{Module, Target};
+use crate::pattern::CodeByte;
+use omf_parts::Module;
 use std::alloc::{AllocError, Global};
 
 /// What is found of a module.
@@ -70,16 +71,9 @@ fn count_plain(code: &[CodeByte]) -> usize
 {
     let mut count = 0;
     for byte in code {
-        if is_plain(*byte) {
+        if byte.is_plain() {
             count += 1;
         }
     }
     count
-}
-
-/// Whether a byte is outside fixups.
-fn is_plain(byte: CodeByte) -> bool
-    ensures { result ≡ is_plain byte }
-{
-    byte.half == Half::Low && byte.target == Target::Segment(0)
 }

@@ -4,7 +4,7 @@ ghost use Rattle.std.specs.Prelude.{◌≡◌, ◌++◌, IfOk, OnOk};
 ghost use Rattle.rom80_find.specs.Dump.{dump_of};
 ghost use Rattle.rom80_find.specs.Found.{PrintsMembers};
 ghost use Rattle.rom80_find.specs.Lines.{count_line};
-ghost use Rattle.rom80_find.specs.LinesWords.{PrintsFound};
+ghost use Rattle.rom80_find.specs.Prints.{PrintsFound};
 
 use crate::dump::Dump;
 use crate::lines::finding::append_found;

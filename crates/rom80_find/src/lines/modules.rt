@@ -4,7 +4,7 @@ ghost use Rattle.std.specs.Prelude.{◌≡◌, ◌++◌, IfOk, OnOk};
 ghost use Rattle.rom80_find.specs.Dump.{dump_of};
 ghost use Rattle.rom80_find.specs.Found.{PrintsModules};
 ghost use Rattle.rom80_find.specs.Lines.{missing_line, short_line};
-ghost use Rattle.rom80_find.specs.LinesWords.{PrintsModule};
+ghost use Rattle.rom80_find.specs.Prints.{PrintsModule};
 
 use crate::dump::Dump;
 use crate::lines::finding::{Finding, append_found};

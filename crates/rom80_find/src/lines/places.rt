@@ -5,10 +5,10 @@ ghost use Rattle.std.specs.List.{AllByRecursion};
 ghost use Rattle.rom80_find.specs.Dump.{dump_of};
 ghost use Rattle.rom80_find.specs.Lies.{AreModulePlaces, HasModule};
 ghost use Rattle.rom80_find.specs.Lines.{more_line};
-ghost use Rattle.rom80_find.specs.LinesWords.{PrintsEach, PrintsPlace, PrintsPlaces};
+ghost use Rattle.rom80_find.specs.Prints.{PrintsEach, PrintsPlace, PrintsPlaces};
 
-use crate::ModulePattern;
 use crate::dump::Dump;
+use crate::found::ModulePattern;
 use crate::lines::place::append_place;
 use std::alloc::{AllocError, Global};
 

@@ -13,7 +13,7 @@ use std::marker::Model;
 
 /// What a target stands for: the value of a target plus an addend.
 #[derive(Clone, Copy, PartialEq, Eq, Debug)]
-pub struct Resolved {
+pub(crate) struct Resolved {
     pub target: Target,
     pub addend: u16,
 }

@@ -3,7 +3,7 @@ use Rattle.std.proofs.lemmas.Bool.{true≢false, eq-eqb}
 use Rattle.rom80_find.specs.Dump.{dump_of}
 use Rattle.rom80_find.specs.declared.candidates.Candidates.{Candidates}
 use Rattle.rom80_find.specs.Places.{AreBelow}
-use Rattle.rom80_find.proofs.LiesLemmas.{described_lies, none_lies}
+use Rattle.rom80_find.proofs.CodeLieLemmas.{described_lies, none_lies}
 use Rattle.rom80_find.proofs.solving.lies_at.Goals as goal
 
 pub returns-clause-yes : goal.returns-clause-yes

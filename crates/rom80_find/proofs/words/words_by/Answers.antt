@@ -2,7 +2,7 @@ use Rattle.std.proofs.Common.{arith, sym, subst, length, ℕ, ◌≡◌, ◌<◌
 use Rattle.rom80_find.specs.Dump.{dump_of}
 use Rattle.rom80_find.specs.Places.{AreBelow, LiesAt}
 use Rattle.rom80_find.specs.Words.{AreSingle}
-use Rattle.rom80_find.proofs.LiesLemmas.{described_lies, none_lies}
+use Rattle.rom80_find.proofs.CodeLieLemmas.{described_lies, none_lies}
 use Rattle.rom80_find.proofs.WordLemmas.{only_words}
 use Rattle.rom80_find.proofs.words.words_by.Goals as goal
 

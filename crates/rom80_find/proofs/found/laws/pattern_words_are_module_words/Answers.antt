@@ -1,4 +1,4 @@
-use Rattle.rom80_find.proofs.FoundWordLemmas.{module_words}
+use Rattle.rom80_find.proofs.OnlyWordLemmas.{module_words}
 use Rattle.rom80_find.proofs.found.laws.pattern_words_are_module_words.Goals as goal
 
 pub returns : goal.returns

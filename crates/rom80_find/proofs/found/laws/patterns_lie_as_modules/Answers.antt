@@ -1,4 +1,4 @@
-use Rattle.rom80_find.proofs.LieLemmas.{lies_as_module}
+use Rattle.rom80_find.proofs.ModuleLieLemmas.{lies_as_module}
 use Rattle.rom80_find.proofs.found.laws.patterns_lie_as_modules.Goals as goal
 
 pub returns : goal.returns

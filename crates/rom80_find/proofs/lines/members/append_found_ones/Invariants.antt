@@ -1,7 +1,7 @@
 -- the modules so far, of which no more can be missing than there are
 use Rattle.std.proofs.Common.{◌≤◌, take}
 use Rattle.rom80_find.specs.Dump.{dump_of}
-use Rattle.rom80_find.specs.LinesWords.{PrintsFound}
+use Rattle.rom80_find.specs.Prints.{PrintsFound}
 use Rattle.rom80_find.proofs.lines.members.append_found_ones.Given as goal
 
 abbrev pub invariant-loop-source : goal.invariant-loop-source

@@ -1,7 +1,7 @@
 use Rattle.std.proofs.Common.{get_or, refl}
 use Rattle.rom80_find.specs.Dump.{dump_of}
 use Rattle.rom80_find.specs.Lies.{HasModule}
-use Rattle.rom80_find.proofs.LinesPlaceLemmas.{each_more, one_of}
+use Rattle.rom80_find.proofs.PlaceTextLemmas.{each_more, one_of}
 use Rattle.rom80_find.proofs.lines.places.append_each.Goals as goal
 
 pub append_at-requires : goal.append_at-requires

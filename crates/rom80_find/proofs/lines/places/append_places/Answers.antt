@@ -2,7 +2,7 @@ use Rattle.std.proofs.Common.{subst, sym, List, ℕ}
 use Rattle.std.specs.List.{AllByRecursion}
 use Rattle.rom80_find.specs.Dump.{dump_of}
 use Rattle.rom80_find.specs.Lies.{HasModule}
-use Rattle.rom80_find.proofs.LinesPlaceLemmas.{first_places}
+use Rattle.rom80_find.proofs.PlaceTextLemmas.{first_places}
 use Rattle.rom80_find.proofs.lines.places.append_places.Goals as goal
 
 pub append_each-requires : goal.append_each-requires

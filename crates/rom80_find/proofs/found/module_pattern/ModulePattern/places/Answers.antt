@@ -1,7 +1,7 @@
 use Rattle.std.proofs.Common.{◌≡◌, ◌∙◌, sym, subst, List, ℕ, length, eqb-true}
 use Rattle.rom80_find.specs.Dump.{dump_of}
 use Rattle.rom80_find.specs.Lies.{AreModulePlaces}
-use Rattle.rom80_find.proofs.FindLemmas.{empty_places}
+use Rattle.rom80_find.proofs.EmptyLemmas.{empty_places}
 use Rattle.rom80_find.proofs.found.module_pattern.ModulePattern.places.Goals as goal
 
 pub returns-then-has_none : goal.returns-then-has_none

@@ -6,7 +6,7 @@ use Rattle.rom80_find.specs.declared.pattern.code_byte.CodeByte.{CodeByte}
 use Rattle.rom80_find.specs.declared.words.Word.{Word}
 use Rattle.rom80_find.specs.Places.{AreBelow}
 use Rattle.rom80_find.specs.Words.{AreOnlyWords, IsOfATarget}
-use Rattle.rom80_find.proofs.FindLemmas.{empty_nowhere, has_bytes}
+use Rattle.rom80_find.proofs.EmptyLemmas.{empty_nowhere, has_bytes}
 use Rattle.rom80_find.proofs.found.module_pattern.ModulePattern.words_at.Goals as goal
 
 pub returns-then-has_none-clause-none : goal.returns-then-has_none-clause-none

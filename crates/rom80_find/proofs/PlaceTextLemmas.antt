@@ -9,7 +9,7 @@ use Rattle.rom80_find.specs.Dump.{DumpValue}
 use Rattle.rom80_find.specs.Places.{is_listed}
 use Rattle.rom80_find.specs.Lies.{HasModule, AreModulePlaces}
 use Rattle.rom80_find.specs.Found.{IsPlaceText}
-use Rattle.rom80_find.specs.LinesWords.{PrintsPlace, PrintsEach}
+use Rattle.rom80_find.specs.Prints.{PrintsPlace, PrintsEach}
 
 concat_more : (ls : List (List ℕ)) (l : List ℕ) → concat (ls ++ l ∷ []) ≡ concat ls ++ l
 concat_more [] l = append-nil l

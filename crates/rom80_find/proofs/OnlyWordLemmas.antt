@@ -18,7 +18,7 @@ use Rattle.rom80_find.specs.Places.{LiesWith, LiesAt, IsOnly, AreBelow}
 use Rattle.rom80_find.specs.Words.{has_word, AreOnlyWords}
 use Rattle.rom80_find.specs.Lies.{given_word, IsOnlyWord, IsFirst, AreModuleWords}
 use Rattle.rom80_find.proofs.BaseLemmas.{values_of, value_segment, value_name, small_id, bases_by, values_agree}
-use Rattle.rom80_find.proofs.LieLemmas.{by_bases, with_values, lies_as_module}
+use Rattle.rom80_find.proofs.ModuleLieLemmas.{by_bases, with_values, lies_as_module}
 
 -- ---- a value without a byte in the code may be any word
 

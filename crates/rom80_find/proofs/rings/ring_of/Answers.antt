@@ -2,7 +2,7 @@ use Rattle.std.proofs.Common.{arith, ◌%◌, ℕ, length-set, ◌∙◌}
 use Rattle.rom80_find.specs.Dump.{dump_of}
 use Rattle.rom80_find.specs.Sieve.{entry_at}
 use Rattle.rom80_find.proofs.SieveLemmas.{entries_more}
-use Rattle.rom80_find.proofs.sieve.ring_of.Goals as goal
+use Rattle.rom80_find.proofs.rings.ring_of.Goals as goal
 
 pub loop-at-preserved : goal.loop-at-preserved
 loop-at-preserved c = record {
