@@ -1,15 +1,12 @@
 -- What a session reads, answers and writes, over readers and a writer whose bytes are known.
 use Rattle.std.specs.Prelude.{◌≡◌, ℕ, ◌<◌, ◌≤◌, ◌==◌, List, [], Option, Result, Err, IfSome, length, take, if◌then◌else◌}
 use Rattle.std.specs.Io.KnownBytes.{Appends}
+use Rattle.loader80_streams.specs.WholeText.{text_limit}
 use Rattle.loader80.specs.declared.replies.Outcome.{Outcome}
 use Rattle.loader80.specs.declared.fault.SessionFault.{SessionFault}
 use Rattle.loader80.specs.declared.fault.SessionFault.TheVariants.{Read, Write, Memory, TooLong}
 use Rattle.loader80.specs.Texts.{Texts}
 use Rattle.loader80.specs.Session.{Says}
-
--- the greatest number of bytes of a text
-abbrev pub text_limit : ℕ
-text_limit = 1048576
 
 -- why the text of a number is not read
 abbrev pub TextFault : ℕ → Option (List ℕ) → SessionFault → Type 0

@@ -29,11 +29,11 @@ mod vouched;
 pub use fault::SessionFault;
 pub use inputs::{InputsFault, read_inputs};
 pub use loader80_streams::{
-    Failed, ReadAllFault, Reading, Sink, Source, Writing, read_all, write_all,
+    Failed, ReadAllFault, Reading, Sink, Source, TEXT_LIMIT, Writing, read_all, write_all,
 };
 pub use replies::{Outcome, Reply, SessionTexts, answer_texts};
 pub use running::{Ended, run};
-pub use sessions::{TEXT_LIMIT, session};
+pub use sessions::session;
 pub use transcript::{ending_text, front_text, refusal_text};
 pub use verify80::{ProcRow, Refusal};
 pub use vouched::{Vouched, vouch};

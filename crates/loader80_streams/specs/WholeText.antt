@@ -4,6 +4,10 @@ use Rattle.std.specs.Io.KnownBytes.{Consumes}
 use Rattle.loader80_streams.specs.declared.whole.ReadAllFault.{ReadAllFault}
 use Rattle.loader80_streams.specs.declared.whole.ReadAllFault.TheVariants.{Read, TooLong, Memory}
 
+-- the greatest number of bytes of a text
+abbrev pub text_limit : ℕ
+text_limit = 1048576
+
 -- at most n bytes were taken
 abbrev pub TakesAtMost : ℕ → Option (List ℕ) → Option (List ℕ) → Type 0
 TakesAtMost n old new = (bytes : List ℕ) × (length bytes ≤ n) × Consumes old new bytes

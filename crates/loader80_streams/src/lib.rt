@@ -7,6 +7,7 @@
 //! | [`Reading`], [`Writing`] | those made of std's readers and writers |
 //! | [`read_all`], [`write_all`] | a source read whole within a limit, bytes written whole |
 //! | [`ReadAllFault`] | why a source wasn't read whole |
+//! | [`TEXT_LIMIT`] | the greatest number of bytes of a text |
 #![tactic(auto)]
 
 mod reading;
@@ -16,5 +17,5 @@ mod writing;
 
 pub use reading::Reading;
 pub use stream::{Failed, Sink, Source};
-pub use whole::{ReadAllFault, read_all, write_all};
+pub use whole::{ReadAllFault, TEXT_LIMIT, read_all, write_all};
 pub use writing::Writing;

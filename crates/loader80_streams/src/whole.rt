@@ -7,6 +7,9 @@ ghost use Rattle.loader80_streams.specs.WholeText.{TakesAtMost, read_all_failure
 use crate::stream::{Failed, Sink, Source};
 use std::alloc::{AllocError, Global};
 
+/// The greatest number of bytes of a text.
+pub const TEXT_LIMIT: usize = 1_048_576;
+
 /// Why a source wasn't read whole.
 #[derive(Clone, Copy, Debug, PartialEq, Eq)]
 pub enum ReadAllFault {

@@ -9,8 +9,8 @@ use Rattle.loader80.specs.Texts.{Texts}
 use Rattle.loader80.specs.Session.{Says}
 use Rattle.loader80.specs.Sends.{AreWithin, Sends}
 use Rattle.loader80.specs.SendsLaws.{WrittenAnswersAreSent, PrefixesAreSent}
-use Rattle.loader80_text.specs.declared.bundle.fault.BundleFault.{BundleFault}
-use Rattle.loader80_text.specs.declared.bundle.fault.BundleFault.TheVariants.{Session}
+use Rattle.loader80_text.specs.declared.bundles.fault.BundleFault.{BundleFault}
+use Rattle.loader80_text.specs.declared.bundles.fault.BundleFault.TheVariants.{Session}
 use Rattle.loader80_text.specs.Bundle.{BundleSends, of_session}
 
 -- a bundle of these parts whose answer's text was written whole

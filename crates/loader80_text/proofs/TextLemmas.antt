@@ -7,7 +7,8 @@ use Rattle.std.proofs.lemmas.List.Folds.{length-flat_map-take}
 use Rattle.hex.specs.Hex.{encode_upper, upper_digits}
 use Rattle.hex.proofs.HexLemmas.{length-encode_with}
 use Rattle.loader80_text.specs.declared.inputs.repeated.Repeated.{Repeated}
-use Rattle.loader80_text.specs.Text.{content_of, line_of, text_of, text_limit}
+use Rattle.loader80_text.specs.Text.{content_of, line_of, text_of}
+use Rattle.loader80_streams.specs.WholeText.{text_limit}
 
 -- how long a line is
 pub length-line_of : (r : Repeated) → length (line_of r) ≡ 4 + 2 * r.count

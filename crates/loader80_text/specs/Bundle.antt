@@ -4,8 +4,8 @@ use Rattle.std.specs.Io.KnownBytes.{Appends}
 use Rattle.loader80.specs.declared.replies.Outcome.{Outcome}
 use Rattle.loader80.specs.declared.fault.SessionFault.{SessionFault}
 use Rattle.loader80.specs.declared.fault.SessionFault.TheVariants.{Read, Write, Memory, TooLong}
-use Rattle.loader80_text.specs.declared.bundle.fault.BundleFault.{BundleFault}
-use Rattle.loader80_text.specs.declared.bundle.fault.BundleFault.TheVariants.{Session, BadBundle}
+use Rattle.loader80_text.specs.declared.bundles.fault.BundleFault.{BundleFault}
+use Rattle.loader80_text.specs.declared.bundles.fault.BundleFault.TheVariants.{Session, BadBundle}
 use Rattle.loader80.specs.Texts.{Texts}
 use Rattle.loader80.specs.Sends.{Sends}
 

@@ -7,7 +7,7 @@ use Rattle.std.specs.Str.{bytes_eq}
 use Rattle.image80.specs.Lines.{parts}
 use Rattle.loader80.specs.HexText.{bytes_spelled}
 use Rattle.loader80.specs.Texts.{Texts}
-use Rattle.loader80_text.specs.declared.bundle.bundle_text.BundleTexts.{BundleTexts}
+use Rattle.loader80_text.specs.declared.bundles.bundle_text.BundleTexts.{BundleTexts}
 
 -- the bytes of the texts that a bundle was parted into
 abbrev pub texts_of : BundleTexts → Texts

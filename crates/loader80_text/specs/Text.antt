@@ -19,10 +19,6 @@ text_of inputs = flat_map line_of inputs
 abbrev pub pairs_of : List Repeated → List (ℕ × ℕ)
 pairs_of inputs = flat_map (λ (r : Repeated). replicate r.count (r.port, r.byte)) inputs
 
--- the greatest number of bytes of a text
-abbrev pub text_limit : ℕ
-text_limit = 1048576
-
 -- ports and bytes are such, and each byte waits once at least
 pub record IsRepeated (r : Repeated) : Type 0 where
   pub some : 0 < r.count

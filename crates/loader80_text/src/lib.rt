@@ -1,4 +1,4 @@
-//! The text of the verifier's report on an image that it accepts.
+//! Texts about runs: the verifier's report on an image that it accepts, bundles that are run whole, and inputs from words.
 //!
 //! | Item | What it is |
 //! |---|---|
@@ -7,18 +7,18 @@
 //! | [`bundle`] | one input to the transcript of a run |
 //! | [`BUNDLE_LIMIT`] | the greatest number of bytes of a bundle |
 //! | [`BundleFault`] | why a bundle has no outcome |
-//! | [`laws`] | what holds of the definitions alone |
+//! | [`inputs_begin_at_the_first_inputs_line`] | where a bundle's inputs begin, as a contract |
 //! | [`WordInputs`] | the bytes that words name, and the text that spells them |
 //! | [`Repeated`] | a byte that waits at a port, so many times over |
 //! | [`WordFault`] | a word is of another form |
 //! | [`LengthFault`] | the text has more bytes than a loader reads |
 #![tactic(auto)]
 
-mod bundle;
+mod bundles;
 mod inputs;
 mod reporting;
 
-pub use bundle::laws::inputs_begin_at_the_first_inputs_line;
-pub use bundle::{BUNDLE_LIMIT, BundleFault, bundle};
+pub use bundles::laws::inputs_begin_at_the_first_inputs_line;
+pub use bundles::{BUNDLE_LIMIT, BundleFault, bundle};
 pub use inputs::{LengthFault, Repeated, WordFault, WordInputs};
 pub use reporting::{append_rows, report_text};

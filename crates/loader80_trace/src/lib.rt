@@ -12,7 +12,7 @@
 #![tactic(auto)]
 
 mod counting;
-mod cover;
+mod covering;
 mod fault;
 mod finishing;
 pub mod laws;
@@ -23,7 +23,7 @@ mod stepping;
 mod tracing;
 
 pub use counting::{Counts, count_steps};
-pub use cover::{cover, list_reached};
+pub use covering::{cover, list_reached};
 pub use fault::TraceFault;
 pub use finishing::{Finished, finish};
 pub use limits::{Limits, Span};

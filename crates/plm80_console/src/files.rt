@@ -3,8 +3,7 @@
 ghost use Rattle.std.specs.Io.{ReadsAtMost};
 
 use crate::console::{Console, Reported};
-use loader80::TEXT_LIMIT;
-use loader80_streams::{Failed, ReadAllFault, Reading, Writing, read_all, write_all};
+use loader80_streams::{Failed, ReadAllFault, Reading, TEXT_LIMIT, Writing, read_all, write_all};
 use std::fs::File;
 use std::io;
 use std::io::{ErrorKind, Read, Write};

@@ -24,7 +24,6 @@ mod program_files;
 mod replacing;
 mod shared_paths;
 mod syntax;
-mod vouching;
 
 pub use console::{Console, Reported};
 pub use file_fault::FileFault;
@@ -40,4 +39,3 @@ pub use program_files::{
 };
 pub use replacing::NewFile;
 pub use syntax::{Argument, Kind, Syntax, WHY, path_of};
-pub use vouching::{refused, vouch_for};

@@ -2,15 +2,14 @@
 
 ghost use Rattle.std.specs.Prelude.{◌≡◌, ◌<◌, ◌≤◌, ◌+◌, List, ℕ, length, Err, IfOk, IfErr, IfSome};
 ghost use Rattle.loader80_streams.specs.declared.whole.ReadAllFault.TheVariants as read;
-ghost use Rattle.loader80.specs.Sends.{text_limit};
+ghost use Rattle.loader80_streams.specs.WholeText.{text_limit};
 ghost use Rattle.omf_module.specs.Spelled.{SpellsFile};
 ghost use Rattle.plm80_console.specs.declared.file_fault.FileFault.TheVariants as fault;
 ghost use Rattle.plm80_console.specs.Pieces.{HasTakenEither, SpellsEither, FaultsEither, FaultsObjectFile, WasRead, file_failures};
 
 use crate::file_fault::FileFault;
 use crate::pieces::{TakePieces, read_in_pieces};
-use loader80::TEXT_LIMIT;
-use loader80_streams::Source;
+use loader80_streams::{Source, TEXT_LIMIT};
 use omf_core::RecordKind;
 use omf_library::{Library, LibraryFeed};
 use omf_module::{FileFeed, Module};

@@ -2,13 +2,14 @@
 
 ghost use Rattle.std.specs.Prelude.{◌≡◌, ◌≢◌, ◌<◌, ◌≤◌, ◌^◌, ◌++◌, [], None, IfOk, IfSome, OnOk, OnErr, length, nat_le, string_bytes};
 ghost use Rattle.loader80_text.specs.Laws.{SpellsInputs};
-ghost use Rattle.loader80_text.specs.Text.{line_of, text_limit, text_of};
+ghost use Rattle.loader80_text.specs.Text.{line_of, text_of};
+ghost use Rattle.loader80_streams.specs.WholeText.{text_limit};
 ghost use Rattle.loader80_text.specs.Words.{word_of};
 
 use crate::inputs::fault::{LengthFault, WordFault};
 use crate::inputs::repeated::Repeated;
 use crate::inputs::word::read_word;
-use loader80::TEXT_LIMIT;
+use loader80_streams::TEXT_LIMIT;
 use std::alloc::{AllocError, Global};
 use std::marker::Model;
 
