@@ -46,13 +46,13 @@ known_fits address value zero lt z o = rw z refl
 known_fits address value (suc zero) lt z o = eq-eqb _ _ (omega arith)
 known_fits address value (suc (suc n)) lt z o = rw (ne_eqb (suc (suc n)) 0 (λ e. omega arith), ne_eqb (suc (suc n)) 1 (λ e. omega arith)) refl
 
--- where code lies with some values, each may be what it is
+-- if code lies with some values, each may be what it is
 pub lies_allowed : (dump : DumpValue) (code : List CodeByte) (address : ℕ) (value : ℕ → ℕ) → address < 65536
     → LiesWith dump code address value → (n : ℕ) → allows dump code address n (value n % 65536) ≡ true
 lies_allowed dump code address value lt h n =
     and_from _ _ (known_fits address value n lt h.absolute h.here) (each_fits dump address value code n h.bytes)
 
--- and where each may be, the code lies
+-- and if each may be, the code lies
 all_have : (dump : DumpValue) (address count : ℕ) (value : ℕ → ℕ) (code : List CodeByte) → AreBelow count code
     → ((n : ℕ) → n < count → list_all (fits_for dump address n (value n % 65536)) code ≡ true)
     → AllByRecursion (λ (b : CodeByte). dump_byte dump ((address + b.offset) % 65536) ≡ Some (byte_by value b)) code
@@ -107,7 +107,7 @@ module _ (dump : DumpValue) (code : List CodeByte) (address : ℕ) (table : List
         (λ n k. subst (λ (x : ℕ). allows dump code address n x ≡ true) (omega (arith, pick-below (slice_index_or table n Any))) (picked-allowed n k));
   }
 
--- where some value may be nothing, the code doesn't lie
+-- if some value may be no word, the code doesn't lie
 pub none_lies : (dump : DumpValue) (code : List CodeByte) (address : ℕ) → address < 65536
     → HasNone dump code address → LiesAt dump code address → ⊥
 none_lies dump code address lt none h =

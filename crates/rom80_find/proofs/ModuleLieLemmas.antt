@@ -185,7 +185,7 @@ module _ (dump : DumpValue) (m : ModuleValue) (address : ℕ) (rules : RulesOf m
       omega (arith, below, short)
 
   module _ (value : ℕ → ℕ) (agrees : Agrees m bases value) where
-    -- where the dump has the pattern's bytes, it has those of the chunks
+    -- if the dump has the pattern's bytes, it has those of the chunks
     pub chunks_lie : AllByRecursion (Has dump address value) (code_bytes m) → HasChunks dump (code_chunks bases m)
     chunks_lie bytes a k e =
         let lt = covers_memory (code_chunks bases m) a k e in

@@ -30,7 +30,7 @@ single-below (Window first more) word s =
     let is : first % 65536 ≡ word = eqb-true _ _ (and_parts (more == 0) (first % 65536 == word) s).1 in
     omega arith
 
--- and where all candidates are one word, it is single
+-- and if all candidates are one word, it is single
 only_single : (c : Candidates) (word : ℕ) → ((x : ℕ) → x < 65536 → is_candidate c x ≡ true → x ≡ word) → is_single c word ≡ true
 only_single Any word h =
     let one : 0 ≡ word = h 0 (omega arith) refl in

@@ -17,7 +17,7 @@ pub record SearchValue : Type 0 where
 abbrev pub search_of : DumpValue → List CodeByte → SearchValue
 search_of dump code = record { dump = dump; known = filter is_known_fixup code; free = filter is_free code }
 
--- every value of these bytes has a row of the table, which has every word
+-- the table has an entry for each value of these bytes, which may be every word
 pub record IsSearch (bytes : FixupBytes) (table : List Candidates) : Type 0 where
   pub two : 2 ≤ length table
   pub known : AreBelow (length table) bytes.known.items

@@ -11,8 +11,8 @@ use std::marker::Model;
 /// How many addresses there are.
 pub(crate) const ADDRESSES: usize = 65536;
 
-/// A dump with two rings of its bytes: those of all addresses, twice, so that each offset of an address is there. If the dump has no
-/// byte at an address, the one has 0 there, and the other 255. A contract sees the dump.
+/// A dump with two rings: the bytes of all addresses, twice, so that an address plus an offset is an index. At an address without a
+/// byte the one ring has 0, the other 255. A contract sees the dump.
 #[derive(Drop)]
 pub(crate) struct Rings<'a> {
     dump: Dump<'a>,
@@ -48,7 +48,7 @@ impl<'a> Rings<'a> {
         self.dump
     }
 
-    /// The ring in which to look for a byte: wherever the dump has none, it has another one.
+    /// The ring to search for this byte: it has another one at the addresses without a byte.
     pub(crate) fn ring_for(&self, entry: u8) -> &[u8]
         ensures { IsRingFor self.now entry result.now }
     {
@@ -56,7 +56,7 @@ impl<'a> Rings<'a> {
     }
 }
 
-/// The dump's bytes by address, those of all addresses twice, and `fill` at each address if it has none.
+/// The bytes of all addresses, twice; `fill` at each address without a byte.
 fn ring_of(alloc: Global, dump: Dump<'_>, fill: u8) -> Result<Vec<u8>, AllocError>
     ensures { IfOk result (λ ring. IsRing (dump_of dump.entry) fill ring.items) }
 {

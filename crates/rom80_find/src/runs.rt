@@ -12,7 +12,7 @@ use std::marker::Model;
 /// How many addresses there are.
 const ADDRESSES: usize = 65536;
 
-/// A dump, with where its runs of equal bytes begin. A contract sees the dump.
+/// A dump with the starts of its runs of equal bytes. A contract sees the dump.
 #[derive(Drop)]
 pub(crate) struct Runs<'a> {
     dump: Dump<'a>,

@@ -13,8 +13,8 @@ use crate::solving::{any_table, lies_at};
 use std::alloc::{AllocError, Global};
 use std::marker::Model;
 
-/// A search for the bytes of code in fixups in a dump. Its table has every word for each value. A contract sees the dump and the
-/// bytes.
+/// A search for the bytes of code in fixups in a dump. In its table every value may be every word. A contract sees the dump and
+/// the bytes.
 #[derive(Drop)]
 pub(crate) struct Search<'a> {
     runs: Runs<'a>,
@@ -49,8 +49,8 @@ impl<'a> Search<'a> {
         Ok(Search { runs, bytes, table })
     }
 
-    /// Whether there are values with which the dump has the bytes in fixups with CODE at the address, if it has the others, which
-    /// `alive` says; `None` if it hasn't these or those of known values. It takes the answer at the address before.
+    /// Whether there are values with which the dump has the bytes in fixups with CODE at the address. `alive` says whether it has
+    /// the others, and `before` is the answer at the address before. `None` if it lacks one of the others or of known values.
     pub(crate) fn lies_next(
         &mut self,
         address: u16,

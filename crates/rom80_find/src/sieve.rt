@@ -43,8 +43,8 @@ fn all_addresses(alloc: Global, count: usize) -> Result<Vec<bool>, AllocError>
     Ok(vec![in alloc; true; count]?)
 }
 
-/// Drops each address of a block, none of which is dropped yet, at which the dump hasn't all bytes outside fixups: by the first of
-/// them, if the dump has the same bytes for all of them.
+/// Drops the addresses of a block at which the dump lacks a byte outside fixups; none of them is dropped yet. If the dump has the same
+/// bytes after each of them, the first one decides for all.
 fn sieve_next(alive: &mut [bool], rings: &Rings<'_>, code: &[CodeByte], start: usize, is_run: bool)
     requires all { length alive.old ≡ 65536 }
     requires block { start + 1024 ≤ 65536 }
@@ -104,7 +104,7 @@ fn fill_block(alive: &mut [bool], start: usize, keep: bool)
     }
 }
 
-/// Drops each address of a block at which the dump hasn't all bytes outside fixups, until none is left.
+/// Drops the addresses of a block at which the dump lacks a byte outside fixups, and stops once none is left.
 fn sieve_block(alive: &mut [bool], rings: &Rings<'_>, start: usize, code: &[CodeByte])
     requires all { length alive.old ≡ 65536 }
     requires block { start + 1024 ≤ 65536 }
@@ -121,7 +121,7 @@ fn sieve_block(alive: &mut [bool], rings: &Rings<'_>, start: usize, code: &[Code
     }
 }
 
-/// Drops each address of a block at which the dump hasn't this byte, if it is one outside fixups, and answers whether any may be
+/// Drops the addresses of a block at which the dump lacks this byte, if it is one outside fixups, and answers whether any may be
 /// left.
 fn sieve_by(alive: &mut [bool], rings: &Rings<'_>, start: usize, byte: CodeByte) -> bool
     requires all { length alive.old ≡ 65536 }
@@ -141,7 +141,7 @@ fn sieve_by(alive: &mut [bool], rings: &Rings<'_>, start: usize, byte: CodeByte)
     drop_others(alive, ring, start, usize::from(byte.offset), entry)
 }
 
-/// Drops each address of a block `offset` after which the ring has another byte, and answers whether any is left.
+/// Drops the addresses of a block `offset` after which the ring has another byte, and answers whether any is left.
 fn drop_others(alive: &mut [bool], ring: &[u8], start: usize, offset: usize, entry: u8) -> bool
     requires all { length alive.old ≡ 65536 }
     requires ring { length ring.now ≡ 131072 }

@@ -12,7 +12,7 @@ use crate::dump::Dump;
 use crate::pattern::{CodeByte, number_of};
 use std::alloc::{AllocError, Global};
 
-/// Every word for so many values.
+/// A table in which `count` values may be every word.
 pub(crate) fn any_table(alloc: Global, count: usize) -> Result<Vec<Candidates>, AllocError>
     ensures whole { IfOk result (λ table. length table.items ≡ count) }
     ensures clear { IfOk result (λ table. IsClearBut [] table.items) }
@@ -20,8 +20,8 @@ pub(crate) fn any_table(alloc: Global, count: usize) -> Result<Vec<Candidates>, 
     Ok(vec![in alloc; Candidates::Any; count]?)
 }
 
-/// Finds the words that each value may be with CODE at the address, and answers how many of the bytes it came to: all of them
-/// exactly if there are any words for each value. It takes a table with every word for each value.
+/// Leaves in the table the words that each value may be with CODE at the address, and answers the number of bytes that it read: all
+/// of them exactly if each value has a word left. In the table that it takes every value may be every word.
 pub(crate) fn solve(
     dump: Dump<'_>,
     address: u16,
@@ -37,7 +37,7 @@ pub(crate) fn solve(
     ensures no { result < length code.now → HasNone (dump_of dump.entry) code.now address }
     ensures clear { IsClearBut (take result code.now) table.new }
 {
-    begin(address, table);
+    set_known(address, table);
     for (index, byte) in code.iter().enumerate() {
         if !narrow(dump, address, *byte, table) {
             return index;
@@ -46,8 +46,8 @@ pub(crate) fn solve(
     code.len()
 }
 
-/// Whether there are values with which the dump has all these bytes with CODE at the address. The table has every word for each
-/// value, before and after.
+/// Whether there are values with which the dump has all these bytes with CODE at the address. Before and after, every value may be
+/// every word in the table.
 pub(crate) fn lies_at(
     dump: Dump<'_>,
     address: u16,
@@ -80,7 +80,7 @@ fn reaches(dump: Dump<'_>, address: u16, code: &[CodeByte]) -> bool
     }
 }
 
-/// Gives back every word to the values that these bytes are of.
+/// Gives every word back to the values of these bytes.
 fn clear(code: &[CodeByte], table: &mut [Candidates])
     requires below { AreBelow (length table.old) code.now }
     requires others { IsClearBut code.now table.old }
@@ -92,8 +92,8 @@ fn clear(code: &[CodeByte], table: &mut [Candidates])
     }
 }
 
-/// The values of absolute bytes and of CODE, which are known.
-fn begin(address: u16, table: &mut [Candidates])
+/// Sets the values of absolute bytes and of CODE, which are known.
+fn set_known(address: u16, table: &mut [Candidates])
     requires two { 2 ≤ length table.old }
     requires clear { IsClearBut [] table.old }
     ensures whole { length table.new ≡ length table.old }

@@ -1,4 +1,4 @@
-//! A module lies in a dump exactly if its pattern does: what `rom80_pattern` and `rom80_find` answer of bytes that are halves of values,
+//! A module lies in a dump exactly if its pattern does: what `pattern` and `listing` answer of bytes that are halves of values,
 //! said of the chunks that the module's contents are if LOCATE gives it bases. Each law is ensured by a function that does
 //! nothing.
 
@@ -43,7 +43,7 @@ pub(crate) fn pattern_words_may_be_listed()
 }
 
 /// If each module of a link lies in a dump with bases that go with those of the link, the dump has, at each address that only
-/// contents in CODE cover, the byte that LINK and LOCATE come to.
+/// contents in CODE cover, the byte that LINK and LOCATE give it.
 pub fn link_of_found_modules_has_the_bytes()
     ensures { LinkHasTheBytes }
 {

@@ -37,7 +37,7 @@ impl<'a> Model for ResolvedModule<'a> {
 }
 
 impl<'a> ResolvedModule<'a> {
-    /// The module, by one look at each of its names.
+    /// The module, of which each name is looked up once.
     pub(crate) fn of(alloc: Global, source: &'a Module) -> Result<ResolvedModule<'a>, AllocError>
         ensures { IfOk result (λ resolved. resolved ≡ source.now) }
     {
