@@ -5,10 +5,11 @@ use Rattle.std.proofs.Common.{◌∙◌, ap, sym, subst, append_assoc, append-ni
 use Rattle.std.proofs.lemmas.Bool.{eq-eqb, or_left, or_right}
 use Rattle.std.proofs.lemmas.List.{take_more}
 use Rattle.omf_parts.specs.Modules.{ModuleValue}
+use Rattle.rom80_find.specs.Dump.{DumpValue}
 use Rattle.rom80_find.specs.Places.{is_listed}
 use Rattle.rom80_find.specs.Lies.{HasModule, AreModulePlaces}
 use Rattle.rom80_find.specs.Found.{IsPlaceText}
-use Rattle.rom80_find.specs.LinesWords.{PrintsPlace, PrintsEach}
+use Rattle.rom80_find.specs.Prints.{PrintsPlace, PrintsEach}
 
 concat_more : (ls : List (List ℕ)) (l : List ℕ) → concat (ls ++ l ∷ []) ≡ concat ls ++ l
 concat_more [] l = append-nil l
@@ -27,22 +28,22 @@ pub zip_more : {A B : Type 0} (R : A → B → Type 0) (xs : List A) (ys : List 
 zip_more R xs ys i d x y lt is zip one =
     subst (λ l. AllZip R l (ys ++ y ∷ [])) (ap (λ z. take i xs ++ z ∷ []) is ∙ sym (take_more xs i d lt)) (zip_pushed R (take i xs) ys x y zip one)
 
-pub each_more : (first : ℕ) (dump : List ℕ) (m : ModuleValue) (places : List ℕ) (i address : ℕ) (before text after : List ℕ)
-    → i < length places → address ≡ get_or places i 0 → PrintsEach first dump m (take i places) before text
-    → PrintsPlace first dump m address text after → PrintsEach first dump m (take (i + 1) places) before after
-each_more first dump m places i address before text after lt is so_far one = record {
+pub each_more : (dump : DumpValue) (m : ModuleValue) (places : List ℕ) (i address : ℕ) (before text after : List ℕ)
+    → i < length places → address ≡ get_or places i 0 → PrintsEach dump m (take i places) before text
+    → PrintsPlace dump m address text after → PrintsEach dump m (take (i + 1) places) before after
+each_more dump m places i address before text after lt is so_far one = record {
   texts = so_far.texts ++ one.text ∷ [];
-  each = zip_more (IsPlaceText first dump m) places so_far.texts i 0 address one.text lt is so_far.each one.is;
+  each = zip_more (IsPlaceText dump m) places so_far.texts i 0 address one.text lt is so_far.each one.is;
   after_is = one.after_is ∙ ap (λ t. t ++ one.text) so_far.after_is ∙ append_assoc before (concat so_far.texts) one.text
       ∙ ap (λ t. before ++ t) (sym (concat_more so_far.texts one.text));
 }
 
 -- the module lies at each of its places, and so at each of the first ones
-all_listed : (first : ℕ) (dump : List ℕ) (m : ModuleValue) (places : List ℕ)
-    → ((address : ℕ) → is_listed places address ≡ true → HasModule first dump m address) → AllByRecursion (HasModule first dump m) places
-all_listed first dump m [] h = tt
-all_listed first dump m (p ∷ ps) h =
-    (h p (or_left (p == p) (is_listed ps p) (eq-eqb p p refl)), all_listed first dump m ps (λ a e. h a (or_right (p == a) (is_listed ps a) e)))
+all_listed : (dump : DumpValue) (m : ModuleValue) (places : List ℕ)
+    → ((address : ℕ) → is_listed places address ≡ true → HasModule dump m address) → AllByRecursion (HasModule dump m) places
+all_listed dump m [] h = tt
+all_listed dump m (p ∷ ps) h =
+    (h p (or_left (p == p) (is_listed ps p) (eq-eqb p p refl)), all_listed dump m ps (λ a e. h a (or_right (p == a) (is_listed ps a) e)))
 
 first_ones : (P : ℕ → Type 0) (n : ℕ) (places : List ℕ) → AllByRecursion P places → AllByRecursion P (take n places)
 first_ones P zero [] h = tt
@@ -50,10 +51,10 @@ first_ones P zero (p ∷ ps) h = tt
 first_ones P (suc n) [] h = tt
 first_ones P (suc n) (p ∷ ps) h = (h.0, first_ones P n ps h.1)
 
-pub first_places : (first : ℕ) (dump : List ℕ) (m : ModuleValue) (places : List ℕ) → AreModulePlaces first dump m places
-    → AllByRecursion (HasModule first dump m) (take 16 places)
-first_places first dump m places h =
-    first_ones (HasModule first dump m) 16 places (all_listed first dump m places (λ a e. (h.lies a e).1))
+pub first_places : (dump : DumpValue) (m : ModuleValue) (places : List ℕ) → AreModulePlaces dump m places
+    → AllByRecursion (HasModule dump m) (take 16 places)
+first_places dump m places h =
+    first_ones (HasModule dump m) 16 places (all_listed dump m places (λ a e. (h.lies a e).1))
 
 -- what holds of all holds of one of them
 pub one_of : (P : ℕ → Type 0) (xs : List ℕ) (i x : ℕ) → i < length xs → x ≡ get_or xs i 0 → AllByRecursion P xs → P x

@@ -14,11 +14,12 @@ use Rattle.omf_parts.specs.Rules.{end_of}
 use Rattle.omf_parts.specs.Place.{Bases}
 use Rattle.omf_parts.specs.ImageByte.{ByteChunk, chunk_of, chunk_covers, distance, last_over}
 use Rattle.omf_parts.specs.SoundModules.{RulesOf, LiesIn, HasItsFixups, CommonsByName, PartsOfOneStartAtZero}
+use Rattle.rom80_find.specs.Dump.{DumpValue, dump_byte}
 use Rattle.rom80_find.specs.declared.pattern.code_byte.CodeByte.{CodeByte}
 use Rattle.rom80_find.specs.declared.pattern.resolving.Resolved.{Resolved}
 use Rattle.rom80_find.specs.CodeBytes.{byte_by}
 use Rattle.rom80_find.specs.Modules.{resolved, has_byte, plain_byte, field_byte, fixup_byte, byte_by_fixups, byte_in, covers, covers_code, code_byte_at, code_length, code_bytes}
-use Rattle.rom80_find.specs.Places.{dump_byte, LiesWith, LiesAt}
+use Rattle.rom80_find.specs.Places.{LiesWith, LiesAt}
 use Rattle.rom80_find.specs.Chunks.{is_code, code_chunks, is_covered, chunk_byte}
 use Rattle.rom80_find.specs.Lies.{LiesByBases, HasModule}
 use Rattle.rom80_find.proofs.BaseLemmas.{Agrees, values_of, value_segment, bases_agree, bases_by, values_agree}
@@ -148,14 +149,14 @@ covers_memory chunks a k e =
     ltb-true a 65536 (and_parts (nat_lt a 65536) (nat_lt (distance k.place a) (length k.bytes)) passes.0).0
 
 -- the dump has a byte of the pattern, at the address
-abbrev Has : (first : ℕ) (dump : List ℕ) (address : ℕ) (value : ℕ → ℕ) → CodeByte → Type 0
-Has first dump address value b = dump_byte first dump ((address + b.offset) % 65536) ≡ Some (byte_by value b)
+abbrev Has : (dump : DumpValue) (address : ℕ) (value : ℕ → ℕ) → CodeByte → Type 0
+Has dump address value b = dump_byte dump ((address + b.offset) % 65536) ≡ Some (byte_by value b)
 
 -- and of the chunks
-abbrev HasChunks : (first : ℕ) (dump : List ℕ) → List ByteChunk → Type 0
-HasChunks first dump chunks = (a : ℕ) (k : ByteChunk) → last_over chunks a ≡ Some k → dump_byte first dump a ≡ Some (chunk_byte k a)
+abbrev HasChunks : (dump : DumpValue) → List ByteChunk → Type 0
+HasChunks dump chunks = (a : ℕ) (k : ByteChunk) → last_over chunks a ≡ Some k → dump_byte dump a ≡ Some (chunk_byte k a)
 
-module _ (first : ℕ) (dump : List ℕ) (m : ModuleValue) (address : ℕ) (rules : RulesOf m) (at_zero : PartsOfOneStartAtZero)
+module _ (dump : DumpValue) (m : ModuleValue) (address : ℕ) (rules : RulesOf m) (at_zero : PartsOfOneStartAtZero)
     (short : code_length m < 65536) (la : address < 65536) (bases : Bases) (here : bases.code ≡ address) where
   -- of an address that the chunks cover, the content
   content_over : (a : ℕ) (k : ByteChunk) → last_over (code_chunks bases m) a ≡ Some k
@@ -184,8 +185,8 @@ module _ (first : ℕ) (dump : List ℕ) (m : ModuleValue) (address : ℕ) (rule
       omega (arith, below, short)
 
   module _ (value : ℕ → ℕ) (agrees : Agrees m bases value) where
-    -- where the dump has the pattern's bytes, it has those of the chunks
-    pub chunks_lie : AllByRecursion (Has first dump address value) (code_bytes m) → HasChunks first dump (code_chunks bases m)
+    -- if the dump has the pattern's bytes, it has those of the chunks
+    pub chunks_lie : AllByRecursion (Has dump address value) (code_bytes m) → HasChunks dump (code_chunks bases m)
     chunks_lie bytes a k e =
         let lt = covers_memory (code_chunks bases m) a k e in
         let o = offset_at address a in
@@ -195,16 +196,16 @@ module _ (first : ℕ) (dump : List ℕ) (m : ModuleValue) (address : ℕ) (rule
         let below = in_code m o c sound.1.0 sound.0 in
         let byte-there : code_byte_at m o ≡ Some (byte_in m o c) =
         last_map (byte_in m o) None (filter (covers_code o) m.contents) ∙ ap (λ (x : Option ContentValue). option_map (byte_in m o) x) found.1 in
-        let has : Has first dump address value (byte_in m o c) =
-        one_of_all (Has first dump address value) (code_byte_at m) 0 (code_length m) bytes o (omega arith) (omega (arith, below)) (byte_in m o c) byte-there in
+        let has : Has dump address value (byte_in m o c) =
+        one_of_all (Has dump address value) (code_byte_at m) 0 (code_length m) bytes o (omega arith) (omega (arith, below)) (byte_in m o c) byte-there in
         let stands : (address + (byte_in m o c).offset) % 65536 ≡ a =
         ap (λ (n : ℕ). (address + n) % 65536) (byte_stands m o c sound.0) ∙ back_there address a la lt in
-        ap (λ (x : ℕ). dump_byte first dump x) (sym stands) ∙ has
+        ap (λ (x : ℕ). dump_byte dump x) (sym stands) ∙ has
         ∙ ap (λ (x : ℕ). Some x) (sym (content_byte m bases address la here at_zero short value rules agrees a lt c sound.1.0 sound.1.1 sound.0) ∙ ap (λ (k : ByteChunk). chunk_byte k a) found.2)
 
     -- and the other way
-    pub pattern_lies : HasChunks first dump (code_chunks bases m) → AllByRecursion (Has first dump address value) (code_bytes m)
-    pattern_lies bytes = all_of_each (Has first dump address value) (code_byte_at m) 0 (code_length m) (λ o below b e.
+    pub pattern_lies : HasChunks dump (code_chunks bases m) → AllByRecursion (Has dump address value) (code_bytes m)
+    pattern_lies bytes = all_of_each (Has dump address value) (code_byte_at m) 0 (code_length m) (λ o below b e.
         let found = content_at o b e in
         let c = found.0 in
         let lt = offset_small o c found.1 in
@@ -213,8 +214,8 @@ module _ (first : ℕ) (dump : List ℕ) (m : ModuleValue) (address : ℕ) (rule
         let sound = last_sound m rules o c found.1 in
         let over : covers_code (offset_at address ((address + o) % 65536)) c ≡ true = ap (λ (n : ℕ). covers_code n c) again ∙ sound.0 in
         let had = bytes ((address + o) % 65536) (chunk_of bases (m ∷ []) (0, m) c) (chunk_there o c lt found.1) in
-        ap (λ (x : CodeByte). dump_byte first dump ((address + x.offset) % 65536)) (sym found.2)
-        ∙ ap (λ (n : ℕ). dump_byte first dump ((address + n) % 65536)) (byte_stands m o c sound.0)
+        ap (λ (x : CodeByte). dump_byte dump ((address + x.offset) % 65536)) (sym found.2)
+        ∙ ap (λ (n : ℕ). dump_byte dump ((address + n) % 65536)) (byte_stands m o c sound.0)
         ∙ had
         ∙ ap (λ (x : ℕ). Some x) (content_byte m bases address la here at_zero short value rules agrees ((address + o) % 65536) a-lt c sound.1.0 sound.1.1 over
         ∙ ap (λ (n : ℕ). byte_by value (byte_in m n c)) again ∙ ap (λ (x : CodeByte). byte_by value x) found.2))
@@ -242,32 +243,32 @@ module _ (first : ℕ) (dump : List ℕ) (m : ModuleValue) (address : ℕ) (rule
 
 -- ---- the law
 
-module _ (first : ℕ) (dump : List ℕ) (m : ModuleValue) (address : ℕ) (rules : RulesOf m) (by_name : CommonsByName) (at_zero : PartsOfOneStartAtZero)
+module _ (dump : DumpValue) (m : ModuleValue) (address : ℕ) (rules : RulesOf m) (by_name : CommonsByName) (at_zero : PartsOfOneStartAtZero)
     (short : code_length m < 65536) (la : address < 65536) where
   -- from values to bases
-  pub by_bases : (value : ℕ → ℕ) → 0 < length (code_bytes m) → LiesWith first dump (code_bytes m) address value → LiesByBases first dump m address (bases_by m value)
+  pub by_bases : (value : ℕ → ℕ) → 0 < length (code_bytes m) → LiesWith dump (code_bytes m) address value → LiesByBases dump m address (bases_by m value)
   by_bases value some lies = record {
     here = lies.here;
-    bytes = chunks_lie first dump m address rules at_zero short la (bases_by m value) lies.here value (values_agree m value by_name at_zero rules lies.absolute) lies.bytes;
-    some = some_covered first dump m address rules at_zero short la (bases_by m value) lies.here some;
+    bytes = chunks_lie dump m address rules at_zero short la (bases_by m value) lies.here value (values_agree m value by_name at_zero rules lies.absolute) lies.bytes;
+    some = some_covered dump m address rules at_zero short la (bases_by m value) lies.here some;
   }
 
   -- and back
-  pub with_values : (bases : Bases) → LiesByBases first dump m address bases → LiesWith first dump (code_bytes m) address (values_of m bases)
+  pub with_values : (bases : Bases) → LiesByBases dump m address bases → LiesWith dump (code_bytes m) address (values_of m bases)
   with_values bases lies = record {
     absolute = refl;
     here = value_segment m bases 1 (omega arith) ∙ ap (λ (n : ℕ). (bases.code + n + 0) % 65536) (at_zero m 1) ∙ ap (λ (n : ℕ). (n + 0 + 0) % 65536) lies.here ∙ small;
-    bytes = pattern_lies first dump m address rules at_zero short la bases lies.here (values_of m bases) (bases_agree m bases rules) lies.bytes;
+    bytes = pattern_lies dump m address rules at_zero short la bases lies.here (values_of m bases) (bases_agree m bases rules) lies.bytes;
   }
     where
       small : (address + 0 + 0) % 65536 ≡ address
       small = omega arith
 
-  pub lies_as_module : (0 < length (code_bytes m)) × LiesAt first dump (code_bytes m) address ↔ HasModule first dump m address
+  pub lies_as_module : (0 < length (code_bytes m)) × LiesAt dump (code_bytes m) address ↔ HasModule dump m address
   lies_as_module = (
     (λ h. record { bases = bases_by m h.1.value; lies = by_bases h.1.value h.0 h.1.lies }),
     (λ h. (
-      some_byte first dump m address rules at_zero short la h.bases h.lies.here h.lies.some.0 h.lies.some.1,
+      some_byte dump m address rules at_zero short la h.bases h.lies.here h.lies.some.0 h.lies.some.1,
       record { value = values_of m h.bases; lies = with_values h.bases h.lies },
     )),
   )
