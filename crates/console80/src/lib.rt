@@ -19,6 +19,7 @@ mod link_feed;
 mod number_text;
 mod object_files;
 mod options;
+mod path_parts;
 mod pieces;
 mod program_files;
 mod replacing;
