@@ -23,6 +23,7 @@ mod path_parts;
 mod pieces;
 mod program_files;
 mod replacing;
+mod same_file;
 mod shared_paths;
 mod syntax;
 mod vouching;
