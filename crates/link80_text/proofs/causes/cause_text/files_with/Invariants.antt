@@ -1,7 +1,7 @@
 use Rattle.std.proofs.Common.{◌≡◌, ◌++◌, [], drop, map}
 use Rattle.std.specs.Prelude.{slice_index_or}
 use Rattle.link80_text.specs.Causes.{files_with}
-use Rattle.link80_text.proofs.causes.causes.files_with.Given as goal
+use Rattle.link80_text.proofs.causes.cause_text.files_with.Given as goal
 
 -- the files so far, and those of the roots that are left
 abbrev pub invariant-loop-file : goal.invariant-loop-file

@@ -6,7 +6,7 @@ use Rattle.omf_parts.specs.Modules.{ModuleValue}
 use Rattle.link80_select.specs.Selected.{module_at}
 use Rattle.link80_text.specs.Reasons.{reason_line}
 use Rattle.link80_text.specs.Searched.{SelectionValue}
-use Rattle.link80_text.proofs.reasons.reasons.Searched.append_reason.Goals as goal
+use Rattle.link80_text.proofs.reasons.reason_lines.Searched.append_reason.Goals as goal
 
 pub reason-reason-requires : goal.reason-reason-requires
 reason-reason-requires c = slice_get_within c.args.self.now.taken c.args.number c.args.place c.requires

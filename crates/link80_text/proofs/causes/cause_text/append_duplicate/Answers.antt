@@ -1,7 +1,7 @@
 use Rattle.std.specs.Prelude.{◌≡◌, ◌++◌, ℕ, List, map, OnOk}
 use Rattle.std.proofs.Common.{◌∙◌, subst}
 use Rattle.link80_text.specs.Causes.{first_two, declarations}
-use Rattle.link80_text.proofs.causes.causes.append_duplicate.Goals as goal
+use Rattle.link80_text.proofs.causes.cause_text.append_duplicate.Goals as goal
 
 pub returns : goal.returns
 returns c =

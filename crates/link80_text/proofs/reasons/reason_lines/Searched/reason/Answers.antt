@@ -4,7 +4,7 @@ use Rattle.link80_select.specs.declared.chosen.Chosen.{Chosen}
 use Rattle.link80_text.specs.Reasons.{IsReason}
 use Rattle.link80_text.specs.Searched.{SelectionValue}
 use Rattle.link80_text.proofs.ReadLemmas.{never_none, edge_inside, by_inside, name_inside, reason_read}
-use Rattle.link80_text.proofs.reasons.reasons.Searched.reason.Goals as goal
+use Rattle.link80_text.proofs.reasons.reason_lines.Searched.reason.Goals as goal
 
 pub unreachable-requires : goal.unreachable-requires
 unreachable-requires c = never_none (λ m. m.now) c.self.inside.roots.now c.self.inside.libraries.now c.self.inside.taken.now

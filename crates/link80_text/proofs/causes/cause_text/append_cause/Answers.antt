@@ -6,7 +6,7 @@ use Rattle.link80_select.specs.declared.chosen.Chosen.{Chosen}
 use Rattle.link80.specs.LinkFault.{link_fault}
 use Rattle.link80.specs.Selection.{modules_with}
 use Rattle.link80_text.specs.Causes.{cause_text, files_with}
-use Rattle.link80_text.proofs.causes.causes.append_cause.Goals as goal
+use Rattle.link80_text.proofs.causes.cause_text.append_cause.Goals as goal
 
 pub returns : goal.returns
 returns c =

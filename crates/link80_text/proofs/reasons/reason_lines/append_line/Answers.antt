@@ -1,7 +1,7 @@
 use Rattle.std.specs.Prelude.{◌++◌, codes}
 use Rattle.std.proofs.Common.{◌∙◌, ap}
-use Rattle.link80_text.proofs.ReasonsTextLemmas.{grown_by_four}
-use Rattle.link80_text.proofs.reasons.reasons.append_line.Goals as goal
+use Rattle.link80_text.proofs.TextLemmas.{grown_by_four}
+use Rattle.link80_text.proofs.reasons.reason_lines.append_line.Goals as goal
 
 pub returns : goal.returns
 returns c =

@@ -7,7 +7,8 @@ use crate::causes::counting::{declarations, mains};
 use crate::causes::high_bytes::first_high;
 use crate::causes::lines::{append_first_two, append_high};
 use crate::causes::parts::append_parts;
-use crate::linked_modules;
+use crate::modules::linked_modules;
+use crate::words::path_of;
 use link80::{Chosen, LinkFault, select};
 use link80_select::laws::selections_are_unique;
 use omf_core::Name;
@@ -73,19 +74,9 @@ fn files_with<'a>(
         files.push(*file)?;
     }
     for place in taken {
-        files.push(file_of(library_files, place.library))?;
+        files.push(path_of(library_files, place.library))?;
     }
     Ok(files)
-}
-
-/// The file of the library with this number, empty if there is none.
-fn file_of<'a>(files: &[&'a [u8]], library: usize) -> &'a [u8]
-    ensures { result.now ≡ slice_index_or (map (λ f. f.now) files.now) library [] }
-{
-    match files.get(library) {
-        Some(file) => file,
-        None => &[],
-    }
 }
 
 /// Appends the lines of a fault of these modules.

@@ -7,10 +7,11 @@ ghost use Rattle.link80.specs.Selection.{IsSelection};
 ghost use Rattle.link80_text.specs.Reasons.{IsReason, IsReasonLine, PrintsReasons, reason_line};
 ghost use Rattle.link80_text.specs.Searched.{PrintsLine};
 
-use crate::linked_modules;
+use crate::modules::{linked_modules, module_at};
 use crate::reasons::edges::{Edge, edges_in};
 use crate::reasons::providing::Selection;
 use crate::reasons::search::{Found, fewest_steps};
+use crate::words::{append_word, path_of};
 use link80::Chosen;
 use omf_core::Name;
 use omf_library::Library;
@@ -142,24 +143,6 @@ impl<'a> Searched<'a> {
     }
 }
 
-/// The module at a place in the libraries.
-fn module_at(libraries: &[Library], place: Chosen) -> Option<&Module>
-    ensures { option_copied result ≡ module_at libraries.now place }
-{
-    let library = libraries.get(place.library)?;
-    library.modules.get(place.module)
-}
-
-/// The path with a library's number, empty if there is none.
-fn path_of<'a>(paths: &[&'a [u8]], library: usize) -> &'a [u8]
-    ensures { result.now ≡ slice_index_or (map (λ p. p.now) paths.now) library [] }
-{
-    match paths.get(library) {
-        Some(path) => path,
-        None => &[],
-    }
-}
-
 /// Appends the line of a module that was taken.
 fn append_line(
     text: &mut Vec<u8>,
@@ -176,12 +159,4 @@ fn append_line(
     append_word(text, b" FROM ".as_slice(), path)?;
     text.push(b'\n')?;
     Ok(())
-}
-
-/// Appends a word, and what it introduces.
-fn append_word(text: &mut Vec<u8>, word: &[u8], value: &[u8]) -> Result<(), AllocError>
-    ensures { OnOk result (text.new.items ≡ text.old.items ++ (word.now ++ value.now)) }
-{
-    text.extend_from_slice(word)?;
-    text.extend_from_slice(value)
 }

@@ -4,7 +4,7 @@ use Rattle.std.proofs.lemmas.Option.{slice_get-get_or}
 use Rattle.link80_select.specs.declared.chosen.Chosen.{Chosen}
 use Rattle.link80_text.specs.Searched.{SelectionValue, PrintsLine}
 use Rattle.link80_text.proofs.LineLemmas.{prints_more}
-use Rattle.link80_text.proofs.reasons.reasons.append_reasons.Goals as goal
+use Rattle.link80_text.proofs.reasons.reason_lines.append_reasons.Goals as goal
 
 pub loop-number-preserved : goal.loop-number-preserved
 loop-number-preserved c =

@@ -4,7 +4,7 @@ use Rattle.link80_text.specs.declared.reasons.edges.Edge.{Edge}
 use Rattle.link80_text.specs.Edges.{target, edges_in}
 use Rattle.link80_text.specs.Search.{LeadInside}
 use Rattle.link80_text.proofs.ReasonLemmas.{lead_inside}
-use Rattle.link80_text.proofs.reasons.reasons.Searched.new.Goals as goal
+use Rattle.link80_text.proofs.reasons.reason_lines.Searched.new.Goals as goal
 
 pub fewest_steps-requires : goal.fewest_steps-requires
 fewest_steps-requires c =
