@@ -7,7 +7,7 @@ ghost use Rattle.rom80_find.specs.Lines.{more_line};
 ghost use Rattle.rom80_find.specs.LinesWords.{PrintsEach, PrintsPlace, PrintsPlaces};
 
 use crate::ModulePattern;
-use crate::lines::place::append_place;
+use crate::lines::place::append_place_lines;
 use std::alloc::{AllocError, Global};
 
 /// The most places of a module that are printed.
@@ -71,7 +71,7 @@ fn append_at(
     ensures { OnOk result (PrintsPlace first dump.now pattern.now address text.old.items text.new.items) }
 {
     match pattern.words_at(alloc, first, dump, address)? {
-        Some(words) => append_place(text, pattern.source(), address, &words),
+        Some(words) => append_place_lines(text, pattern.source(), address, &words),
         None => unreachable!(),
     }
 }
