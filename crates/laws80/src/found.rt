@@ -5,10 +5,10 @@ ghost use Rattle.laws80.specs.Rebuilt.{BytesAreTheDumps, LocatedImageIsTheDumps,
 
 use link80::laws::{linked_module_keeps_rules, linking_keeps_bytes};
 use omf_parts::laws::segments_are_kept;
-use omf_parts::relocation_laws::{
-    commons_are_found_by_name, parts_of_one_start_at_zero, sound_modules_keep_rules,
+use omf_parts::relocation_laws::sound_modules_keep_rules;
+use place80::laws::{
+    no_fault_where_segments_fit, segments_are_laid_out_in_one_way, segments_are_placed,
 };
-use place80::laws::no_fault_where_segments_fit;
 use rom80_find::link_of_found_modules_has_the_bytes;
 
 /// If nothing forbids to link modules and to locate what they are linked into, and the bases that it is located with give each
@@ -21,8 +21,8 @@ pub fn found_modules_are_rebuilt()
     ensures built { BuiltImageIsTheDumps }
 {
     sound_modules_keep_rules();
-    commons_are_found_by_name();
-    parts_of_one_start_at_zero();
+    segments_are_laid_out_in_one_way();
+    segments_are_placed();
     segments_are_kept();
     linked_module_keeps_rules();
     linking_keeps_bytes();
