@@ -20,6 +20,7 @@ mod named;
 mod parts;
 mod reasons;
 mod unresolved;
+mod words;
 
 pub use causes::{LinkSources, append_cause};
 pub use modules::linked_modules;
