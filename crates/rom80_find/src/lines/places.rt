@@ -69,9 +69,8 @@ fn append_at(
     requires { HasModule (dump_of dump) pattern.now address }
     ensures { OnOk result (PrintsPlace (dump_of dump.entry) pattern.now address text.old.items text.new.items) }
 {
-use crate::dump::Dump;
-use crate::found::ModulePattern;
-use crate::lines::place::append_place_lines;
+    match pattern.words_at(alloc, dump, address)? {
+        Some(words) => append_place_lines(text, pattern.source(), address, &words),
         None => unreachable!(),
     }
 }
