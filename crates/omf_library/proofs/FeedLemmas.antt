@@ -1,5 +1,5 @@
 -- What stays of a library whatever bytes follow, and what changes where its bytes end.
-use Rattle.std.proofs.Common.{◌≡◌, ◌≢◌, inl, inr, ℕ, ◌+◌, ◌<◌, ◌≤◌, Bool, true, false, if◌then◌else◌, Some, None, List, [], ◌∷◌, ◌++◌, length, drop, refl, sym, ap, subst, ◌∙◌, arith, append_assoc, true≢false}
+use Rattle.std.proofs.Common.{◌≡◌, ◌≢◌, inl, inr, ℕ, ◌+◌, ◌<◌, ◌≤◌, Bool, true, false, Some, None, List, [], ◌∷◌, ◌++◌, length, drop, refl, sym, ap, subst, ◌∙◌, arith, true≢false}
 use Rattle.std.specs.List.{All}
 use Rattle.std.proofs.lemmas.Bool.{cases_lt}
 use Rattle.std.proofs.lemmas.List.{length-append}
@@ -17,7 +17,7 @@ use Rattle.omf_parts.specs.declared.symbols.Common.{Common}
 use Rattle.omf_module.specs.declared.fault.Cause.{Cause}
 use Rattle.omf_module.specs.declared.fault.Cause.TheVariants as cause
 use Rattle.omf_module.specs.declared.pieces.UnfinishedModule.{UnfinishedModule}
-use Rattle.omf_module.specs.Pieces.{BegunModule, IsCutOff, ReadsModule}
+use Rattle.omf_module.specs.Pieces.{BegunModule, IsCutOff}
 use Rattle.omf_module.specs.Spelled.{SpellsModules, FaultsWithin, no_byte as no_byte_within, no_record as no_record_within}
 use Rattle.omf_module.specs.StayLaws.{ModulesStay, ModulesStand}
 use Rattle.omf_module.specs.Uses.{fault_by}

@@ -1,11 +1,10 @@
 -- What is written of a library spells it.
-use Rattle.std.proofs.Common.{◌≡◌, ℕ, ◌+◌, ◌*◌, ◌/◌, ◌%◌, List, [], ◌∷◌, ◌++◌, length, refl, sym, ap, ◌∙◌, subst, arith, append_assoc}
-use Rattle.std.specs.List.{flat_map, AllByRecursion}
+use Rattle.std.proofs.Common.{◌≡◌, ℕ, ◌+◌, ◌*◌, ◌/◌, ◌%◌, List, [], ◌∷◌, ◌++◌, length, refl, sym, ◌∙◌, subst, arith, append_assoc}
+use Rattle.std.specs.List.{flat_map}
 use Rattle.std.proofs.lemmas.List.{append-nil, length-append}
 use Rattle.omf_core.specs.Record.{SpellsRecord, spelling, unsummed, checksum}
 use Rattle.omf_core.specs.Records.{spellings}
 use Rattle.omf_core.specs.Laws.{WrittenIsSpelled, WrittenListIsSpelled}
-use Rattle.omf_parts.specs.Modules.{ModuleValue}
 use Rattle.omf_module.specs.Spelled.{SpellsModules}
 use Rattle.omf_module.specs.Writing.{module_bytes}
 use Rattle.omf_module.specs.StayLaws.{ModulesStand}

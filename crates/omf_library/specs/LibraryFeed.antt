@@ -1,6 +1,6 @@
 -- Libraries in pieces: how many whole modules bytes hold, and the faults that stay whatever bytes follow.
 -- (8080 Object Module Formats, library file: an end-of-file record is its last. What stands after it isn't read.)
-use Rattle.std.specs.Prelude.{◌≡◌, ℕ, ◌<◌, List, [], ◌++◌, length, All, Option}
+use Rattle.std.specs.Prelude.{◌≡◌, ℕ, List, [], length, Option}
 use Rattle.omf_core.specs.Lasting.{Lasting}
 use Rattle.omf_core.specs.Records.{RecordValue}
 use Rattle.omf_parts.specs.Modules.{ModuleValue}
