@@ -1,10 +1,10 @@
 # plm80: LINK, LOCATE and a verifying loader for 8080 programs.
 #
 #   make run       proves every crate, shows its progress, builds plm80 and runs it on the stored examples
-#   make try       shows the transcript of a stored example within a minute or two: plm80 is built without any proof, and kept as out/plm80 until a source changes. ARGS=".." does a command, as in make try ARGS="check a.img a.regions"
-#   make install   builds plm80 as `make run` does, and installs it with its manual page, its documents and its completion for bash: make install PREFIX=/usr/local
+#   make try       shows the transcript of a stored example within a minute or two: plm80 is built without any proof, and kept as out/plm80 until a source changes. ARGS=".." does a command, as in make try ARGS="check a.img a.regions", and fails if the command does
+#   make install   builds plm80 as `make run` does, and installs it with its manual page, its documents, its examples and its completion for bash: make install PREFIX=/usr/local
 #   make uninstall takes away what make install installed, with the same PREFIX
-#   make package   builds plm80 as `make run` does, and makes a Debian package of what make install installs and of the examples, in out/; a tarball, if there is no dpkg-deb
+#   make package   builds plm80 as `make run` does, and makes a Debian package of what make install installs, in out/; a tarball, if there is no dpkg-deb
 #   make test      proves every crate from nothing and runs every test
 #   make commands  builds plm80 and runs the tests of its commands alone
 #   make faults    runs the tests, and plm80 on the examples, refusing one allocation, read or write at a time
@@ -39,7 +39,7 @@ run: build
 
 try: need-rt
 ifdef ARGS
-	@tools/try $(ARGS); echo "status $$?"
+	@tools/try $(ARGS)
 else
 	@echo "plm80 < examples/echo.bundle, built without any proof (make run proves it):"
 	@tools/try < examples/echo.bundle; echo "status $$?"
@@ -56,6 +56,8 @@ install-files:
 	install -D -m 644 share/plm80.1 "$(DESTDIR)$(PREFIX)/share/man/man1/plm80.1"
 	install -d "$(DESTDIR)$(PREFIX)/share/doc/plm80"
 	install -m 644 README.md LICENSE CHANGELOG.md docs/*.md "$(DESTDIR)$(PREFIX)/share/doc/plm80"
+	install -d "$(DESTDIR)$(PREFIX)/share/doc/plm80/examples"
+	install -m 644 examples/*.* "$(DESTDIR)$(PREFIX)/share/doc/plm80/examples"
 	@tools/proved > "$(DESTDIR)$(PREFIX)/share/doc/plm80/PROVED"
 	install -D -m 644 share/plm80.bash "$(DESTDIR)$(PREFIX)/share/bash-completion/completions/plm80"
 
@@ -69,12 +71,13 @@ package: build package-files
 package-files:
 	@tools/package $(PROGRAM)
 
-# rt ci has built the program that it proved. The prover's allocator keeps what it frees: that takes a few percent less time.
+# tools/gate runs rt ci, which builds the program that it proves, and prints what that took.
 test: need-rt need-python3
 	@tests/layers/run
 	@tests/examples/run
 	@tools/lemma_files --check
-	MIMALLOC_PURGE_DELAY=-1 rt ci
+	@tools/crates --check
+	@tools/gate
 	@tests/commands/run $(PROGRAM)
 	@tests/commands/migrated $(PROGRAM)
 	@tests/commands/walk $(PROGRAM)

@@ -1,4 +1,7 @@
-//! What modules that are found in a dump come to, if they are linked and located again.
+//! Laws over several stages, and no calls: LINK and then LOCATE, modules found in a dump, migrated regions.
+//!
+//! Proved: both in one call do the same; found modules, linked and located, have the dump's bytes; a session says the same of a regions
+//! text and of its migration.
 //!
 //! | Item | What it is |
 //! |---|---|

@@ -1,4 +1,6 @@
-//! Where a program lies in the 8080's memory: the places of its segments, and the image of a located program.
+//! LOCATE: programs at their addresses; and where the cause of one of its faults is.
+//!
+//! Proved: at each address the byte that the module defines there, or the first fault; the causes are those of the fault.
 //!
 //! | Item | What it is |
 //! |---|---|

@@ -1,4 +1,4 @@
-//! Tests of the crates from object files to images, from outside, by their public names.
+//! Tests from object files to images, by public names.
 //!
 //! | Module | What it tests |
 //! |---|---|
