@@ -6,5 +6,6 @@ pub mod Rotation
 pub mod Restart
 pub mod Spelling
 pub mod Decoded
+pub mod Facts
 pub mod Fetch
 pub mod Text

@@ -1,7 +1,7 @@
 -- The text of an instruction, as an assembler listing has it: the mnemonic, then a space and the operands joined by commas.
 -- Mnemonics are those of the Intel 8080 Assembly Language Programming Manual. Pairs are written B D H SP PSW, bytes with two
 -- and words with four upper case hexadecimal digits, the number of RST with one digit.
-use Rattle.std.specs.Prelude.{ℕ, ◌/◌, ◌%◌, List, [], ◌∷◌, ◌++◌, slice_index, codes}
+use Rattle.std.specs.Prelude.{ℕ, List, [], ◌∷◌, ◌++◌, codes}
 use Rattle.std.specs.List.{flat_map}
 use Rattle.decode80.specs.declared.register.Register.{Register}
 use Rattle.decode80.specs.declared.register.Register.TheVariants.{B, C, D, E, H, L, A}

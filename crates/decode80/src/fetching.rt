@@ -6,6 +6,7 @@ ghost use Rattle.decode80.specs.Fetch.{ahead, all_code, behind, direct_bytes, fe
 
 use crate::decoding::decode;
 use crate::instr::Instr;
+use crate::storing::Storing;
 
 /// A program in memory: whether each address is code, and the byte that it holds.
 pub trait Program {
@@ -110,19 +111,9 @@ pub fn fetch<P: Program>(address: u16, program: &P) -> Result<Fetched, FetchFaul
 pub fn direct_bytes(instr: Instr) -> [Option<u16>; 2]
     ensures { filter_map (λ address. address) result ≡ direct_bytes instr }
 {
-    match instr {
-        Instr::Sta(address) => [Some(address), None],
-        Instr::Shld(address) => [Some(address), Some(ahead(address, 1))],
-        Instr::Mov(_, _) | Instr::Load(_) | Instr::Store(_) | Instr::Mvi(_, _) => [None, None],
-        Instr::MviMemory(_) | Instr::Lxi(_, _) | Instr::Dad(_) => [None, None],
-        Instr::Inx(_) | Instr::Dcx(_) | Instr::Inr(_) | Instr::Dcr(_) => [None, None],
-        Instr::InrMemory | Instr::DcrMemory | Instr::Operate(_, _) => [None, None],
-        Instr::Rotate(_) | Instr::Daa | Instr::Cma | Instr::Stc | Instr::Cmc => [None, None],
-        Instr::Jmp(_) | Instr::JumpIf(_, _) | Instr::Pchl => [None, None],
-        Instr::Call(_) | Instr::CallIf(_, _) | Instr::Rst(_) => [None, None],
-        Instr::Ret | Instr::ReturnIf(_) | Instr::Push(_) | Instr::Pop(_) => [None, None],
-        Instr::Stax(_) | Instr::Ldax(_) | Instr::Lhld(_) | Instr::Lda(_) => [None, None],
-        Instr::Xthl | Instr::Xchg | Instr::Sphl | Instr::In(_) | Instr::Out(_) => [None, None],
-        Instr::Ei | Instr::Di | Instr::Nop | Instr::Hlt => [None, None],
+    match instr.storing() {
+        Storing::Byte(address) => [Some(address), None],
+        Storing::Word(address) => [Some(address), Some(ahead(address, 1))],
+        Storing::Nowhere | Storing::ThroughHl | Storing::Through(_) => [None, None],
     }
 }

@@ -1,6 +1,5 @@
 pub mod Reversed
 pub mod HashLemmas
-pub mod Depths
 pub mod Meeting
 pub mod Returned
 pub mod PlaceLemmas

@@ -39,8 +39,11 @@ pairs_met p q = record { bc = met p.bc q.bc; de = met p.de q.de; hl = met p.hl q
 abbrev pub merged : StackFrame → StackFrame → StackFrame
 merged f g = record { taken = f.taken; words = words_met f.words g.words; pairs = pairs_met f.pairs g.pairs }
 
--- by how many bytes the stack has grown since the procedure's start; an entry starts with its return address on it. It is
--- negative if the stack has shrunk
+-- by how many bytes the stack has grown since the procedure's start, by its words and those that are taken; an entry starts with
+-- its return address on it. It is negative if the stack has shrunk
+abbrev pub depth_by : Role → (words taken : ℕ) → ℤ
+depth_by (Main _) words taken = pos (2 * words)
+depth_by Entry words taken = pos 2 *ℤ ((pos words -ℤ pos 1) -ℤ pos taken)
+
 abbrev pub depth_of : Role → StackFrame → ℤ
-depth_of (Main _) f = pos (2 * length f.words)
-depth_of Entry f = pos 2 *ℤ ((pos (length f.words) -ℤ pos 1) -ℤ pos f.taken)
+depth_of role f = depth_by role (length f.words) f.taken

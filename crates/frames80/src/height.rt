@@ -1,7 +1,7 @@
 //! How deep a frame is.
 
 ghost use Rattle.std.specs.Prelude.{◌≡◌, ◌≤◌, length};
-ghost use Rattle.frames80.specs.Calls.{depth_of};
+ghost use Rattle.frames80.specs.Calls.{depth_by, depth_of};
 
 use crate::frame::Frame;
 use crate::role::Role;
@@ -14,9 +14,16 @@ pub fn depth(frame: &Frame, role: Role) -> i64
     requires words { length frame.now.words ≤ 1000000 }
     ensures { result ≡ depth_of role frame.now }
 {
-    let words = frame.words.len() as i64;
+    depth_by(role, frame.words.len() as u32, frame.taken)
+}
+
+/// The depth of a frame with so many words, and so many taken.
+pub fn depth_by(role: Role, words: u32, taken: u32) -> i64
+    ensures { result ≡ depth_by role words taken }
+{
+    let words = i64::from(words);
     match role {
         Role::Main { .. } => 2 * words,
-        Role::Entry => 2 * (words - 1 - i64::from(frame.taken)),
+        Role::Entry => 2 * (words - 1 - i64::from(taken)),
     }
 }

@@ -11,7 +11,7 @@
 //! | [`Holding`] | what a frame's words are to a pop and to a return, and what is refused with them |
 //! | [`after`] | the caller's frame when its callee has returned |
 //! | [`meet`] | two frames at one point |
-//! | [`depth`] | how many bytes of the stack a frame takes |
+//! | [`depth`], [`depth_by`] | how many bytes of the stack a frame takes, and one with these counts |
 //! | [`places_move`], [`counts_decide`], [`covered_goes_along`], [`equality_is_exact`] | what holds of all frames, as contracts |
 //! | [`Code`], [`LookFault`] | the program: the instruction at each address, the start and the stack |
 //! | [`role_of`] | what a procedure of it is to its frames |
@@ -44,7 +44,7 @@ pub use effect_table::effect_of;
 pub use fault::{CallFault, FrameFault, HeightsDiffer};
 pub use frame::Frame;
 pub use frame_pair::FramePair;
-pub use height::depth;
+pub use height::{depth, depth_by};
 pub use holding::Holding;
 pub use laws::{counts_decide, covered_goes_along, equality_is_exact, places_move};
 pub use merge::meet;

@@ -19,7 +19,7 @@ impl Word {
     ghost use Rattle.frames80.specs.Word.{met};
 
     /// What is known if it is one of the two words: the return address only if both are.
-    pub(crate) fn meet(self, other: Word) -> Word
+    pub fn meet(self, other: Word) -> Word
         ensures { result ≡ met self other }
     {
         match self {

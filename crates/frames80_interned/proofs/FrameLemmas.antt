@@ -10,7 +10,7 @@ use Rattle.frames80_interned.specs.Frames.{frame_at, IsFrame, IsLesserFrame, Sta
 use Rattle.frames80.specs.Places.{Covers}
 use Rattle.frames80_interned.specs.Stacks.{IsStack, StacksStay}
 use Rattle.frames80_interned.specs.Kept.{pairs_of, frame_of, frames_of, AreKept}
-use Rattle.frames80_interned.proofs.ListLemmas.{slice_get-append, slice_get-push}
+use Rattle.frames80.specs.Lists.{slice_get-append, slice_get-push}
 use Rattle.frames80_interned.proofs.StackLemmas.{words_at-stays, within-stays}
 
 -- a kept frame has the number of its place
@@ -88,13 +88,6 @@ pub IsFrame-result : {E : Type 0} (r : Result ℕ E) (stacks : List (List Word))
     → IfOk r (λ id. IsFrame (frames_of stacks kept) id frame)
 IsFrame-result (Ok id) stacks kept last frame e is = IsFrame-kept stacks kept id last frame e is
 IsFrame-result (Err err) stacks kept last frame e is = e
-
--- a number that is there stays there
-pub numbered_stays : (old new : List StackFrame) (i : ℕ) → StayNumbered old new → i < length old → i < length new
-numbered_stays old new i s h = slice_get_within new i (frame_at old i) (s.stays i (frame_at old i) (slice_get-get_or old i entry_frame h))
-
-pub numbered_on : (one two three : List StackFrame) → StayNumbered one two → StayNumbered two three → StayNumbered one three
-numbered_on one two three s t = record { stays = λ i frame e. t.stays i frame (s.stays i frame e) }
 
 -- a number that is answered has a frame that covers
 pub IsLesserFrame-result : {E : Type 0} (r : Result ℕ E) (stacks : List (List Word)) (kept : List Kept) (last : Kept) (frame : StackFrame) → IfOk r (λ id. slice_get kept id ≡ Some last) →

@@ -1,4 +1,3 @@
-pub mod ListLemmas
 pub mod LinkEquality
 pub mod PairEquality
 pub mod SkipLemmas
@@ -8,4 +7,3 @@ pub mod LesserLemmas
 pub mod KeptEquality
 pub mod MetLemmas
 pub mod FrameLemmas
-pub mod Depths

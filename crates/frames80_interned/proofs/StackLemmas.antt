@@ -1,13 +1,30 @@
 -- The stacks that links make: how a link is read, and what one more link adds.
-use Rattle.std.proofs.Common.{◌≡◌, ◌<◌, ◌≤◌, ℕ, ◌+◌, zero, suc, true, ◌⊎◌, inl, inr, List, [], ◌∷◌, ◌++◌, Some, length, slice_get, refl, sym, ◌∙◌, ap, subst, arith}
+use Rattle.std.proofs.Common.{◌≡◌, ◌<◌, ◌≤◌, ℕ, ◌+◌, zero, suc, Bool, true, false, ◌⊎◌, inl, inr, List, [], ◌∷◌, ◌++◌, Some, length, slice_get, slice_index_or, refl, sym, ◌∙◌, ap, subst, arith}
+use Rattle.std.specs.Prelude.{if◌then◌else◌}
+use Rattle.std.specs.List.{list_any}
 use Rattle.std.proofs.lemmas.Option.{same_Some, none-some, slice_get_within, slice_get-get_or, get_or_from_slice_get}
 use Rattle.std.proofs.lemmas.List.{length_push}
 use Rattle.frames80.specs.declared.word.Word.{Word}
 use Rattle.frames80_interned.specs.declared.link.Link.{Link}
 use Rattle.frames80_interned.specs.Stacks.{words_at, stacks_after, stacks_of, IsStack, IsLink, LieBeneath, StacksStay, AreLinks}
 use Rattle.indexmap.specs.IndexSet.{insert_key}
-use Rattle.frames80_interned.proofs.ListLemmas.{slice_get-append, slice_get-last, slice_get-push, slice_index_or-push, insert_key-push}
+use Rattle.frames80.specs.Lists.{slice_get-append, slice_get-last, slice_get-push}
 use Rattle.frames80_interned.proofs.LinkEquality.{link_eq, link_same}
+
+-- what an index has after a push: what it had, or what was pushed
+slice_index_or-push : {X : Type 0} (xs : List X) (y : X) (i : ℕ) (d : X) → (slice_index_or (xs ++ y ∷ []) i d ≡ slice_index_or xs i d) ⊎ (slice_index_or (xs ++ y ∷ []) i d ≡ y)
+slice_index_or-push [] y zero d = inr refl
+slice_index_or-push [] y (suc i) d = inl refl
+slice_index_or-push (z ∷ xs) y zero d = inl refl
+slice_index_or-push (z ∷ xs) y (suc i) d = slice_index_or-push xs y i d
+
+-- an insert leaves the keys, or pushes the new one
+insert_key-push : {X : Type 0} (eq : X → X → Bool) (old new : List X) (key : X) → new ≡ insert_key eq old key → (new ≡ old) ⊎ (new ≡ old ++ key ∷ [])
+insert_key-push eq old new key is = by (list_any (eq key) old) refl
+  where
+    by : (b : Bool) → list_any (eq key) old ≡ b → (new ≡ old) ⊎ (new ≡ old ++ key ∷ [])
+    by true e = inl (is ∙ ap (λ c. if c then old else old ++ key ∷ []) e)
+    by false e = inr (is ∙ ap (λ c. if c then old else old ++ key ∷ []) e)
 
 length_after : (stacks : List (List Word)) (links : List Link) → length (stacks_after stacks links) ≡ length stacks + length links
 length_after stacks [] = omega arith

@@ -15,7 +15,7 @@ use crate::holding::holding_of;
 use crate::kept::{Kept, keep, kept_at};
 use crate::meets::meet_frames;
 use crate::stacks::{EMPTY, Stacks};
-use frames80::{CallFault, Change, Effect, FrameFault, Role, Word};
+use frames80::{CallFault, Change, Effect, FrameFault, Role, Word, depth_by};
 use indexmap::IndexSet;
 use std::alloc::{AllocError, Global};
 use std::marker::Model;
@@ -199,10 +199,6 @@ impl Frames {
         ensures { result ≡ depth_of role (frame_at self.now frame) }
     {
         let kept = kept_at(&self.kept, frame);
-        let words = i64::from(self.stacks.height(kept.words));
-        match role {
-            Role::Main { .. } => 2 * words,
-            Role::Entry => 2 * (words - 1 - i64::from(kept.taken)),
-        }
+        depth_by(role, self.stacks.height(kept.words), kept.taken)
     }
 }

@@ -22,8 +22,6 @@ mod meets;
 mod owns;
 mod pair;
 mod stacks;
-#[cfg(test)]
-mod tests;
 
 pub use fault::MeetFault;
 pub use forgetting::Asked;

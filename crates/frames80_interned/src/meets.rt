@@ -1,7 +1,6 @@
 //! How kept frames meet at a point.
 
 ghost use Rattle.std.specs.Prelude.{◌≡◌, ◌<◌, ◌↔◌, ◌++◌, ℕ, true, false, drop, length, Err, IfOk, OnOk};
-ghost use Rattle.frames80.specs.Word.{met};
 ghost use Rattle.frames80.specs.Calls.{agree, merged, words_met};
 ghost use Rattle.frames80_interned.specs.declared.link.Link.{Link};
 ghost use Rattle.frames80_interned.specs.declared.meets.Top.TheVariants as top;
@@ -59,15 +58,15 @@ pub(crate) fn meet_frames(stacks: &mut Stacks, one: Kept, other: Kept) -> Result
     Ok(Kept {
         taken: one.taken,
         words,
-        bc: meet_word(one.bc, other.bc),
-        de: meet_word(one.de, other.de),
-        hl: meet_word(one.hl, other.hl),
+        bc: one.bc.meet(other.bc),
+        de: one.de.meet(other.de),
+        hl: one.hl.meet(other.hl),
     })
 }
 
 /// The number of the stack of what is known of both words at each place. It is that of the first stack if that doesn't change.
 ///
-/// Deep stacks that meet again and again take few steps, since every so many words the pair is kept: those that aren't kept yet
+/// Deep stacks that meet again and again take few steps, since every 16 words the pair is kept: those that aren't kept yet
 /// meet first, from the bottom up.
 ///
 /// # Errors
@@ -91,7 +90,7 @@ fn meet_words(stacks: &mut Stacks, one: u32, other: u32) -> Result<u32, AllocErr
     meet_to_kept(stacks, pair)
 }
 
-/// The pair beneath a pair of stacks, without so many words on top of each.
+/// The pair beneath a pair of stacks, without `depth` words on top of each.
 fn beneath(stacks: &Stacks, pair: Pair, depth: u32) -> Pair
     requires one { pair.one < length stacks.now }
     requires other { pair.other < length stacks.now }
@@ -178,7 +177,7 @@ fn meet_tops(stacks: &Stacks, pair: Pair) -> Result<Meeting, AllocError>
     loop {
         match tops(stacks, left) {
             Top::Words(link, other_link) => {
-                let word = meet_word(link.word, other_link.word);
+                let word = link.word.meet(other_link.word);
                 words.push(word)?;
                 changed |= differs(word, link.word);
                 left = Pair {
@@ -248,14 +247,4 @@ fn differs(one: Word, other: Word) -> bool
     ensures { (result ≡ false) ↔ (one ≡ other) }
 {
     one != other
-}
-
-/// What is known of both words.
-fn meet_word(one: Word, other: Word) -> Word
-    ensures { result ≡ met one other }
-{
-    match one {
-        Word::Own => other,
-        Word::Any => Word::Any,
-    }
 }

@@ -29,7 +29,7 @@ use Rattle.place80.specs.PlaceFault.{unresolved, no_start, layout_fault, high_no
 use Rattle.place80.specs.Locating.{HoldsProgram}
 use Rattle.image80.specs.Image.{Located, PlacedBytes, byte_at}
 use Rattle.laws80.specs.Built.{linked_bases, HoldsModules}
-use Rattle.rom80_find.specs.Places.{dump_byte}
+use Rattle.rom80_find.specs.Dump.{DumpValue, dump_byte}
 use Rattle.rom80_find.specs.Chunks.{is_code}
 use Rattle.rom80_find.specs.LinkLaws.{LinkHasTheBytes, OnlyCodeCovers}
 use Rattle.laws80.specs.Rebuilt.{AreRebuilt, is_in_code}
@@ -185,8 +185,8 @@ rebuilt_laws rules by_name zero_start kept linked_rules chunks bytes fits has_by
   has_bytes = has_bytes;
 }
 
-module _ (laws : RebuiltLaws) (first : ℕ) (dump : List ℕ) (options : Options) (name : List ℕ) (modules : List ModuleValue) (a : ℕ)
-    (rebuilt : AreRebuilt first dump options name modules) where
+module _ (laws : RebuiltLaws) (dump : DumpValue) (options : Options) (name : List ℕ) (modules : List ModuleValue) (a : ℕ)
+    (rebuilt : AreRebuilt dump options name modules) where
   abbrev program : ModuleValue
   program = linked name modules
 
@@ -234,20 +234,20 @@ module _ (laws : RebuiltLaws) (first : ℕ) (dump : List ℕ) (options : Options
       (enumerate_from 0 modules) same_chunks
       (alone_contents laws.places options program parts_rules.commons parts_rules.ids a fit contents_are here)
 
-  pub has_the_bytes : is_in_code bases modules a ≡ true → dump_byte first dump a ≡ Some (image_byte bases modules a % 256)
+  pub has_the_bytes : is_in_code bases modules a ≡ true → dump_byte dump a ≡ Some (image_byte bases modules a % 256)
   has_the_bytes code =
       let here : InCode = any_gives (λ (e : ℕ × ModuleValue). e.1.contents) is_code (λ e c. chunk_covers a (chunk_of bases modules e c)) InCode
       (enumerate_from 0 modules) code_in_modules code in
-      laws.has_bytes first dump bases modules a rebuilt.lie (alone_in_modules here)
+      laws.has_bytes dump bases modules a rebuilt.lie (alone_in_modules here)
       (any_covers (chunk_covers a) is_code (λ (e : ℕ × ModuleValue). e.1.contents) (chunk_of bases modules) (enumerate_from 0 modules) code)
 
   pub located_has : (chunks : List PlacedBytes) → HoldsProgram options program chunks → is_in_code bases modules a ≡ true
-      → dump_byte first dump a ≡ Some (byte_at chunks a % 256)
+      → dump_byte dump a ≡ Some (byte_at chunks a % 256)
   located_has chunks holds code =
       has_the_bytes code
       ∙ ap (λ (n : ℕ). Some (n % 256)) (sym (holds a ∙ laws.linked_bytes name modules bases rebuilt.modules_are rebuilt.no_fault.in_link
       (none_loses_low_byte options program rebuilt.no_fault.in_place) a))
 
   pub built_has : (image : Located) → HoldsModules options name modules image → is_in_code bases modules a ≡ true
-      → dump_byte first dump a ≡ Some (byte_at image.chunks a % 256)
+      → dump_byte dump a ≡ Some (byte_at image.chunks a % 256)
   built_has image holds code = has_the_bytes code ∙ ap (λ (n : ℕ). Some (n % 256)) (sym (holds.bytes a))

@@ -12,7 +12,7 @@ use Rattle.place80.specs.declared.options.Options.{Options}
 use Rattle.place80.specs.Locating.{HoldsProgram}
 use Rattle.link80.specs.Linked.{linked}
 use Rattle.laws80.specs.Built.{linked_bases, HoldsModules, HasNoFault}
-use Rattle.rom80_find.specs.Places.{dump_byte}
+use Rattle.rom80_find.specs.Dump.{DumpValue, dump_byte}
 use Rattle.rom80_find.specs.Chunks.{is_code}
 use Rattle.rom80_find.specs.LinkLaws.{LiesInLink}
 
@@ -27,34 +27,34 @@ is_in_code bases modules address = list_any (covers_in_code bases modules addres
 
 -- Nothing forbids to link the modules, nor to locate what they are linked into with these options; and each of them lies in the
 -- dump with bases that go with those that it is located with: its part's place, its segments' places and its externals' words.
-pub record AreRebuilt (first : ℕ) (dump : List ℕ) (options : Options) (name : List ℕ) (modules : List ModuleValue) : Type 0 where
+pub record AreRebuilt (dump : DumpValue) (options : Options) (name : List ℕ) (modules : List ModuleValue) : Type 0 where
   pub modules_are : AllByRecursion IsModule modules
   pub no_fault : HasNoFault options name modules
-  pub lie : AllByRecursion (LiesInLink first dump (linked_bases options name modules) modules) (enumerate_from 0 modules)
+  pub lie : AllByRecursion (LiesInLink dump (linked_bases options name modules) modules) (enumerate_from 0 modules)
 
 -- At each address that a content in CODE covers the dump has the byte that the modules come to.
 abbrev pub BytesAreTheDumps : Type 0
 BytesAreTheDumps =
-    (first : ℕ) (dump : List ℕ) (options : Options) (name : List ℕ) (modules : List ModuleValue) (address : ℕ)
-    → AreRebuilt first dump options name modules
+    (dump : DumpValue) (options : Options) (name : List ℕ) (modules : List ModuleValue) (address : ℕ)
+    → AreRebuilt dump options name modules
     → is_in_code (linked_bases options name modules) modules address ≡ true
-    → dump_byte first dump address ≡ Some (image_byte (linked_bases options name modules) modules address % 256)
+    → dump_byte dump address ≡ Some (image_byte (linked_bases options name modules) modules address % 256)
 
 -- It is the byte of the chunks that `locate` answers of the linked module.
 abbrev pub LocatedImageIsTheDumps : Type 0
 LocatedImageIsTheDumps =
-    (first : ℕ) (dump : List ℕ) (options : Options) (name : List ℕ) (modules : List ModuleValue) (chunks : List PlacedBytes)
+    (dump : DumpValue) (options : Options) (name : List ℕ) (modules : List ModuleValue) (chunks : List PlacedBytes)
     (address : ℕ)
-    → AreRebuilt first dump options name modules
+    → AreRebuilt dump options name modules
     → HoldsProgram options (linked name modules) chunks
     → is_in_code (linked_bases options name modules) modules address ≡ true
-    → dump_byte first dump address ≡ Some (byte_at chunks address % 256)
+    → dump_byte dump address ≡ Some (byte_at chunks address % 256)
 
 -- And that of the image that `build` answers of the modules.
 abbrev pub BuiltImageIsTheDumps : Type 0
 BuiltImageIsTheDumps =
-    (first : ℕ) (dump : List ℕ) (options : Options) (name : List ℕ) (modules : List ModuleValue) (image : Located) (address : ℕ)
-    → AreRebuilt first dump options name modules
+    (dump : DumpValue) (options : Options) (name : List ℕ) (modules : List ModuleValue) (image : Located) (address : ℕ)
+    → AreRebuilt dump options name modules
     → HoldsModules options name modules image
     → is_in_code (linked_bases options name modules) modules address ≡ true
-    → dump_byte first dump address ≡ Some (byte_at image.chunks address % 256)
+    → dump_byte dump address ≡ Some (byte_at image.chunks address % 256)

@@ -1,5 +1,6 @@
 pub mod ArithmeticLemmas
 pub mod DecimalLemmas
+pub mod FactsLemmas
 pub mod FlagsLemmas
 pub mod PagesLemmas
 pub mod PortsLemmas

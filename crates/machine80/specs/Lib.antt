@@ -6,8 +6,8 @@ pub mod Arithmetic
 pub mod ArithmeticLaws
 pub mod End
 pub mod Cpu
-pub mod Control
 pub mod Effects
+pub mod FactsLaws
 pub mod Step
 pub mod World
 pub mod Run

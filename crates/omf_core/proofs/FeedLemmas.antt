@@ -1,8 +1,8 @@
 -- The count of the records that bytes hold, their first fault, and what stays of it whatever bytes follow.
-use Rattle.std.proofs.Common.{◌≡◌, ◌≢◌, ℕ, ◌+◌, ◌<◌, ◌≤◌, ◌==◌, ◌&&◌, not, Bool, true, false, if◌then◌else◌, List, [], ◌∷◌, ◌++◌, length, drop, None, Some, IsTrue, suc, refl, sym, subst, ap, ◌∙◌, arith, append_assoc, true≢false, get_or, Fits, w8}
+use Rattle.std.proofs.Common.{◌≡◌, inl, inr, Option, ℕ, ◌+◌, ◌<◌, ◌≤◌, ◌==◌, ◌&&◌, not, Bool, true, false, if◌then◌else◌, List, [], ◌∷◌, ◌++◌, length, drop, None, Some, IsTrue, suc, refl, sym, subst, ap, ◌∙◌, arith, append_assoc, true≢false, get_or, Fits, w8}
 use Rattle.std.specs.List.{All, list_all}
-use Rattle.std.proofs.lemmas.Bool.{and_parts, eqb-true}
-use Rattle.std.proofs.lemmas.List.{append-nil, drop-append-le, get_or_default, length-append}
+use Rattle.std.proofs.lemmas.Bool.{and_parts, cases_lt, eqb-true}
+use Rattle.std.proofs.lemmas.List.{append-nil, drop_all, drop-append-le, get_or_default, length-append}
 use Rattle.std.proofs.lemmas.List.Elements.{All-append, All-drop, All-nil}
 use Rattle.std.proofs.lemmas.List.Folds.{list_all-append}
 use Rattle.omf_core.specs.declared.fault.RecordFault.{RecordFault}
@@ -11,10 +11,12 @@ use Rattle.omf_core.specs.Fault.{is_truncation}
 use Rattle.omf_core.specs.Record.{SpellsRecord, fault_at, is_truncated, has_zero_length, has_zero_sum}
 use Rattle.omf_core.specs.Records.{RecordValue, SpellsRecords}
 use Rattle.omf_core.specs.Feed.{goes_on, OpenRecords, OpenCount, EndedCount, ended, cut_off, FirstRecordFault, LastingRecordFault, ReadsUpTo}
+use Rattle.omf_core.specs.Laws.{OtherFaultsStay, TruncatedCanBeSpoilt}
+use Rattle.omf_core.specs.Lasting.{stay_lasting, last_now}
 use Rattle.omf_core.specs.FeedLaws.{OneRecordFault, OneCount, LastingFaultsLast, CountedHaveNone}
 use Rattle.omf_core.proofs.Spelled.{no_fault_at_record, faults_stay, one_record, records_stay}
 use Rattle.omf_core.proofs.SpelledRecords.{list_grows, lists_stay, same_first}
-use Rattle.omf_core.proofs.Completed.{truncated_can_be_completed}
+use Rattle.omf_core.proofs.Completed.{truncated_can_be_completed, can_be_spoilt}
 
 no_record : (bytes : List ℕ) (at : ℕ) (f : RecordFault) → fault_at (drop at bytes) at ≡ Some f → (to kind : ℕ) (body : List ℕ) → SpellsRecord bytes at to kind body → ⊥
 no_record bytes at f fault to kind body s =
@@ -92,9 +94,7 @@ one_count bytes count count' (cut_off to o cut) (cut_off to' o' cut') =
     omega (arith, o.counted, o'.counted)
 
 pub lasting_faults_last : LastingFaultsLast
-lasting_faults_last bytes more fault small lasts others small' =
-    subst (λ (b : List ℕ). FirstRecordFault b fault) (sym (append_assoc bytes more others))
-    (lasts (more ++ others) (All-append (λ byte. byte < 256) more others small small'))
+lasting_faults_last = stay_lasting FirstRecordFault
 
 pub spelled_within : (bytes : List ℕ) (from to : ℕ) (records : List RecordValue) → from ≤ length bytes → SpellsRecords bytes from to records → to ≤ length bytes
 spelled_within bytes from to [] inside a = omega (arith, a)
@@ -104,39 +104,71 @@ pub spelled_counted : (bytes : List ℕ) (from to : ℕ) (records : List RecordV
 spelled_counted bytes from to [] a = omega (arith, a)
 spelled_counted bytes from to (r ∷ rs) a = omega (arith, spelled_counted bytes (from + 4 + length r.body) to rs a.1)
 
-truncated_here : (t z s : Bool) (at place : ℕ)
-    → (if t then Some (Truncated at) else (if z then Some (ZeroLength at) else (if s then None else Some (BadSum at)))) ≡ Some (Truncated place) → place ≡ at
-truncated_here true z s at place e = cc
-truncated_here false true s at place e = cc
-truncated_here false false true at place e = cc
-truncated_here false false false at place e = cc
+-- the place of a fault
+abbrev place_in : RecordFault → ℕ
+place_in (Truncated place) = place
+place_in (BadSum place) = place
+place_in (ZeroLength place) = place
 
-bad_sum_here : (t z s : Bool) (at place : ℕ)
-    → (if t then Some (Truncated at) else (if z then Some (ZeroLength at) else (if s then None else Some (BadSum at)))) ≡ Some (BadSum place) → place ≡ at
-bad_sum_here true z s at place e = cc
-bad_sum_here false true s at place e = cc
-bad_sum_here false false true at place e = cc
-bad_sum_here false false false at place e = cc
+abbrev place_or : ℕ → Option RecordFault → ℕ
+place_or at None = at
+place_or at (Some f) = place_in f
 
-zero_length_here : (t z s : Bool) (at place : ℕ)
-    → (if t then Some (Truncated at) else (if z then Some (ZeroLength at) else (if s then None else Some (BadSum at)))) ≡ Some (ZeroLength place) → place ≡ at
-zero_length_here true z s at place e = cc
-zero_length_here false true s at place e = cc
-zero_length_here false false true at place e = cc
-zero_length_here false false false at place e = cc
+-- is where its record should stand
+place_is : (t z s : Bool) (at : ℕ) (f : RecordFault)
+    → (if t then Some (Truncated at) else (if z then Some (ZeroLength at) else (if s then None else Some (BadSum at)))) ≡ Some f → place_in f ≡ at
+place_is true z s at f e = ap (place_or at) (sym e)
+place_is false true s at f e = ap (place_or at) (sym e)
+place_is false false true at f e = cc
+place_is false false false at f e = ap (place_or at) (sym e)
+
+here_in : (rest : List ℕ) (at : ℕ) (f : RecordFault) → fault_at rest at ≡ Some f → place_in f ≡ at
+here_in rest at f x = place_is (is_truncated rest) (has_zero_length rest) (has_zero_sum rest) at f x
 
 -- A fault that isn't of a record cut off stays.
-pub fault_stays : (rest more : List ℕ) (at : ℕ) (f : RecordFault) → fault_at rest at ≡ Some f → f ≢ Truncated at → fault_at (rest ++ more) at ≡ Some f
-fault_stays rest more at (Truncated place) x other =
-    absurd (other (ap Truncated (truncated_here (is_truncated rest) (has_zero_length rest) (has_zero_sum rest) at place x)))
+fault_stays : (rest more : List ℕ) (at : ℕ) (f : RecordFault) → fault_at rest at ≡ Some f → is_truncation f ≡ false → fault_at (rest ++ more) at ≡ Some f
+fault_stays rest more at (Truncated place) x other = absurd (true≢false other)
 fault_stays rest more at (BadSum place) x other =
-    let here = bad_sum_here (is_truncated rest) (has_zero_length rest) (has_zero_sum rest) at place x in
-    subst (λ (p : ℕ). fault_at (rest ++ more) at ≡ Some (BadSum p)) (sym here)
-    ((faults_stay rest more at).0 (subst (λ (p : ℕ). fault_at rest at ≡ Some (BadSum p)) here x))
+    subst (λ (p : ℕ). fault_at rest p ≡ Some (BadSum place) → fault_at (rest ++ more) p ≡ Some (BadSum place)) (here_in rest at (BadSum place) x)
+    (faults_stay rest more place).0 x
 fault_stays rest more at (ZeroLength place) x other =
-    let here = zero_length_here (is_truncated rest) (has_zero_length rest) (has_zero_sum rest) at place x in
-    subst (λ (p : ℕ). fault_at (rest ++ more) at ≡ Some (ZeroLength p)) (sym here)
-    ((faults_stay rest more at).1 (subst (λ (p : ℕ). fault_at rest at ≡ Some (ZeroLength p)) here x))
+    subst (λ (p : ℕ). fault_at rest p ≡ Some (ZeroLength place) → fault_at (rest ++ more) p ≡ Some (ZeroLength place)) (here_in rest at (ZeroLength place) x)
+    (faults_stay rest more place).1 x
+
+is_inside : (bytes : List ℕ) (at : ℕ) (f : RecordFault) → fault_at (drop at bytes) at ≡ Some f → is_truncation f ≡ false → at < length bytes
+is_inside bytes at f x other =
+    elim (cases_lt at (length bytes)) [
+      | inl within ↦ within
+      | inr past ↦
+          let none : fault_at (drop at bytes) at ≡ Some (Truncated at) = ap (λ (r : List ℕ). fault_at r at) (drop_all at bytes past) in
+          absurd (other_than_cut f at other (sym x ∙ none))
+    ]
+  where
+    other_than_cut : (g : RecordFault) (at : ℕ) → is_truncation g ≡ false → Some g ≡ Some (Truncated at) → ⊥
+    other_than_cut (Truncated p) at is e = true≢false is
+    other_than_cut (BadSum p) at is e = cc
+    other_than_cut (ZeroLength p) at is e = cc
+
+stays : (bytes more : List ℕ) (at : ℕ) (f : RecordFault) → fault_at (drop at bytes) at ≡ Some f → is_truncation f ≡ false
+    → (is_truncation f ≡ false) × (at < length bytes) × (fault_at (drop at (bytes ++ more)) at ≡ Some f)
+stays bytes more at f x other =
+    let inside = is_inside bytes at f x other in (
+      other,
+      inside,
+      ap (λ (rest : List ℕ). fault_at rest at) (drop-append-le at bytes more (omega arith)) ∙ fault_stays (drop at bytes) more at f x other,
+    )
+
+pub other_faults_stay : OtherFaultsStay
+other_faults_stay bytes more at (Truncated place) x = inl (ap Truncated (here_in (drop at bytes) at (Truncated place) x))
+other_faults_stay bytes more at (BadSum place) x = inr (stays bytes more at (BadSum place) x refl)
+other_faults_stay bytes more at (ZeroLength place) x = inr (stays bytes more at (ZeroLength place) x refl)
+
+pub truncated_can_be_spoilt : TruncatedCanBeSpoilt
+truncated_can_be_spoilt bytes at inside cut =
+    let more = can_be_spoilt (drop at bytes) at cut in
+    let there : fault_at (drop at (bytes ++ more.0)) at ≡ Some (BadSum at) =
+    ap (λ (rest : List ℕ). fault_at rest at) (drop-append-le at bytes more.0 inside) ∙ more.2 in
+    (more.0, more.1, is_inside (bytes ++ more.0) at (BadSum at) there refl, there)
 
 -- what is left from a place on, where more bytes follow
 rest_grows : (bytes more : List ℕ) (at : ℕ) (records : List RecordValue) → SpellsRecords bytes 0 at records → drop at (bytes ++ more) ≡ drop at bytes ++ more
@@ -145,7 +177,7 @@ rest_grows bytes more at records s = drop-append-le at bytes more (spelled_withi
 pub open_stay : (bytes more : List ℕ) (at : ℕ) (records : List RecordValue) → OpenRecords bytes at records → OpenRecords (bytes ++ more) at records
 open_stay bytes more at records o = record { spelled = lists_stay bytes more 0 at records o.spelled; going_on = o.going_on }
 
-pub lasting : (bytes : List ℕ) (at count : ℕ) (f : RecordFault) → OpenCount bytes at count → fault_at (drop at bytes) at ≡ Some f → f ≢ Truncated at → LastingRecordFault bytes f
+pub lasting : (bytes : List ℕ) (at count : ℕ) (f : RecordFault) → OpenCount bytes at count → fault_at (drop at bytes) at ≡ Some f → is_truncation f ≡ false → LastingRecordFault bytes f
 lasting bytes at count f o x other more small = record {
   at = at;
   records = o.records;
@@ -156,19 +188,16 @@ lasting bytes at count f o x other more small = record {
 all_dropped : (bytes : List ℕ) (at : ℕ) → All (λ byte. byte < 256) bytes → All (λ byte. byte < 256) (drop at bytes)
 all_dropped bytes at small = All-drop (λ byte. byte < 256) at bytes small
 
-without_more : (bytes : List ℕ) (f : RecordFault) → LastingRecordFault bytes f → FirstRecordFault bytes f
-without_more bytes f lasts = subst (λ (b : List ℕ). FirstRecordFault b f) (append-nil bytes) (lasts [] (All-nil (λ byte. byte < 256)))
-
 pub counted_have_none : CountedHaveNone
 counted_have_none bytes count f small (ended to e) lasts =
-    none_before_end bytes to count f e (without_more bytes f lasts)
+    none_before_end bytes to count f e (last_now FirstRecordFault bytes f lasts)
 counted_have_none bytes count f small (cut_off to o cut) lasts =
-    let same : f ≡ Truncated to = one_record_fault bytes f (Truncated to) (without_more bytes f lasts) (cut_off_fault bytes to count o cut) in
+    let same : f ≡ Truncated to = one_record_fault bytes f (Truncated to) (last_now FirstRecordFault bytes f lasts) (cut_off_fault bytes to count o cut) in
     let whole = truncated_can_be_completed (drop to bytes) to (all_dropped bytes to small) cut in
     let x = lasts whole.0 whole.1 in
     let cut' : fault_at (drop x.at (bytes ++ whole.0)) x.at ≡ Some (Truncated to) = x.faults ∙ ap Some same in
     let rest = drop x.at (bytes ++ whole.0) in
-    let here : to ≡ x.at = truncated_here (is_truncated rest) (has_zero_length rest) (has_zero_sum rest) x.at to cut' in
+    let here : to ≡ x.at = here_in rest x.at (Truncated to) cut' in
     let there : fault_at (drop to (bytes ++ whole.0)) to ≡ Some (Truncated to) = moved (bytes ++ whole.0) to x.at (Truncated to) here cut' in
     let none : fault_at (drop to (bytes ++ whole.0)) to ≡ None = ap (λ (r : List ℕ). fault_at r to) (rest_grows bytes whole.0 to o.records o.before.spelled) ∙ whole.2 in
     cc
@@ -228,13 +257,9 @@ pub counted_below : (bytes : List ℕ) (at count : ℕ) → OpenCount bytes at c
 counted_below bytes at count o = omega (arith, o.counted, spelled_counted bytes 0 at o.records o.before.spelled)
 
 pub cut_off_here : (rest : List ℕ) (at : ℕ) (f : RecordFault) → Some f ≡ fault_at rest at → is_truncation f ≡ true → fault_at rest at ≡ Some (Truncated at)
-cut_off_here rest at (Truncated place) x is =
-    subst (λ (p : ℕ). fault_at rest at ≡ Some (Truncated p)) (truncated_here (is_truncated rest) (has_zero_length rest) (has_zero_sum rest) at place (sym x)) (sym x)
+cut_off_here rest at (Truncated place) x is = sym x ∙ ap (λ (p : ℕ). Some (Truncated p)) (here_in rest at (Truncated place) (sym x))
 cut_off_here rest at (BadSum place) x is = absurd (true≢false (sym is))
 cut_off_here rest at (ZeroLength place) x is = absurd (true≢false (sym is))
-
-pub no_truncation : (f : RecordFault) (at : ℕ) → is_truncation f ≡ false → f ≢ Truncated at
-no_truncation f at other is = true≢false (sym (ap is_truncation is) ∙ other)
 
 -- the bytes of a slice
 pub all_bytes : (bytes : List ℕ) → ((i : ℕ) → Fits w8 (get_or bytes i 0)) → All (λ byte. byte < 256) bytes

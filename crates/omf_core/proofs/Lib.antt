@@ -5,4 +5,3 @@ pub mod Spelled
 pub mod SpelledNames
 pub mod SpelledRecords
 pub mod SpelledWritten
-pub mod Spoilt

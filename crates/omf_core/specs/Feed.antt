@@ -6,6 +6,7 @@ use Rattle.omf_core.specs.declared.fault.RecordFault.{RecordFault}
 use Rattle.omf_core.specs.declared.fault.RecordFault.TheVariants.{Truncated}
 use Rattle.omf_core.specs.declared.kind.RecordKind.TheVariants.{EndOfFile}
 use Rattle.omf_core.specs.Kind.{kind_byte}
+use Rattle.omf_core.specs.Lasting.{Lasting}
 use Rattle.omf_core.specs.Record.{SpellsRecord, fault_at}
 use Rattle.omf_core.specs.Records.{RecordValue, SpellsRecords}
 
@@ -52,7 +53,7 @@ pub record FirstRecordFault (bytes : List ℕ) (fault : RecordFault) : Type 0 wh
 
 -- The fault is there whatever bytes follow, also if none do.
 abbrev pub LastingRecordFault : List ℕ → RecordFault → Type 0
-LastingRecordFault bytes fault = (more : List ℕ) → All (λ byte. byte < 256) more → FirstRecordFault (bytes ++ more) fault
+LastingRecordFault = Lasting FirstRecordFault
 
 -- how far a feed has read its bytes
 abbrev pub ReadsUpTo : List ℕ → ℕ → ℕ → Bool → Type 0

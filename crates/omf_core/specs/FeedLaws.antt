@@ -1,6 +1,7 @@
 -- What holds of counts, and of faults that stay whatever bytes follow. (It follows from the layout of records.)
 use Rattle.std.specs.Prelude.{◌≡◌, ℕ, ◌<◌, List, ◌++◌, All}
 use Rattle.omf_core.specs.declared.fault.RecordFault.{RecordFault}
+use Rattle.omf_core.specs.Lasting.{StayLasting}
 use Rattle.omf_core.specs.Feed.{CountsRecords, FirstRecordFault, LastingRecordFault}
 
 -- Bytes have one first fault at most.
@@ -13,11 +14,7 @@ OneCount = (bytes : List ℕ) (count count' : ℕ) → CountsRecords bytes count
 
 -- A fault that lasts of some bytes lasts of those and any others.
 abbrev pub LastingFaultsLast : Type 0
-LastingFaultsLast =
-    (bytes more : List ℕ) (fault : RecordFault)
-    → All (λ byte. byte < 256) more
-    → LastingRecordFault bytes fault
-    → LastingRecordFault (bytes ++ more) fault
+LastingFaultsLast = StayLasting FirstRecordFault
 
 -- If the whole records are counted, no fault lasts.
 abbrev pub CountedHaveNone : Type 0

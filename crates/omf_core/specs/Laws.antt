@@ -1,5 +1,5 @@
 -- What holds of all spellings. (8080 Object Module Formats: it follows from the layout of records and names.)
-use Rattle.std.specs.Prelude.{◌≡◌, ℕ, ◌+◌, ◌↔◌, ◌⊎◌, List, [], ◌∷◌, ◌++◌, length, drop, All, Some, None, false, IsTrue, slice_range, ◌<◌}
+use Rattle.std.specs.Prelude.{◌≡◌, ℕ, ◌+◌, ◌↔◌, ◌⊎◌, List, [], ◌∷◌, ◌++◌, length, drop, All, Some, None, false, IsTrue, slice_range, ◌<◌, ◌≤◌}
 use Rattle.omf_core.specs.declared.fault.RecordFault.{RecordFault}
 use Rattle.omf_core.specs.declared.fault.RecordFault.TheVariants.{Truncated, BadSum, ZeroLength}
 use Rattle.omf_core.specs.Fault.{is_truncation}
@@ -52,20 +52,23 @@ TruncatedCanBeCompleted =
     → fault_at rest at ≡ Some (Truncated at)
     → (more : List ℕ) × All (λ byte. byte < 256) more × (fault_at (rest ++ more) at ≡ None)
 
--- A fault of a record that isn't cut off is reported whatever bytes follow.
+-- A fault at a place is that the record there is cut off, or it isn't of a record cut off: then bytes stand there, and it is
+-- reported whatever bytes follow.
 abbrev pub OtherFaultsStay : Type 0
 OtherFaultsStay =
-    (rest more : List ℕ) (at : ℕ) (fault : RecordFault)
-    → is_truncation fault ≡ false
-    → fault_at rest at ≡ Some fault
-    → fault_at (rest ++ more) at ≡ Some fault
+    (bytes more : List ℕ) (at : ℕ) (fault : RecordFault)
+    → fault_at (drop at bytes) at ≡ Some fault
+    → (fault ≡ Truncated at)
+    ⊎ (is_truncation fault ≡ false) × (at < length bytes) × (fault_at (drop at (bytes ++ more)) at ≡ Some fault)
 
 -- A record that is cut off can be spoilt: some bytes that follow give it a wrong sum.
 abbrev pub TruncatedCanBeSpoilt : Type 0
 TruncatedCanBeSpoilt =
-    (rest : List ℕ) (at : ℕ)
-    → fault_at rest at ≡ Some (Truncated at)
-    → (more : List ℕ) × All (λ byte. byte < 256) more × (fault_at (rest ++ more) at ≡ Some (BadSum at))
+    (bytes : List ℕ) (at : ℕ)
+    → at ≤ length bytes
+    → fault_at (drop at bytes) at ≡ Some (Truncated at)
+    → (more : List ℕ) × All (λ byte. byte < 256) more × (at < length (bytes ++ more))
+    × (fault_at (drop at (bytes ++ more)) at ≡ Some (BadSum at))
 
 -- What is written for a record spells it, wherever it stands.
 abbrev pub WrittenIsSpelled : Type 0

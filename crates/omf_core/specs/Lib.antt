@@ -2,6 +2,7 @@ pub mod Fault
 pub mod Feed
 pub mod FeedLaws
 pub mod Kind
+pub mod Lasting
 pub mod Laws
 pub mod Name
 pub mod Record

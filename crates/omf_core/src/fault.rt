@@ -2,7 +2,9 @@
 
 ghost use Rattle.std.specs.Prelude.{◌≡◌};
 ghost use Rattle.omf_core.specs.Fault.{record_fault_code, is_truncation, put_fault_code, name_fault_code, feed_fault_code};
+ghost use Rattle.omf_core.specs.declared.fault.PutFault.TheVariants.{Memory as OutOfMemory};
 
+use std::alloc::AllocError;
 use thiserror::Error;
 
 /// Why no record is read at a place, which is the place asked for, in bytes from the start of the file.
@@ -62,6 +64,14 @@ impl PutFault {
             PutFault::TooLong => 1,
             PutFault::Memory => 2,
         }
+    }
+}
+
+impl From<AllocError> for PutFault {
+    ghost from_gives = { λ _ fault. fault ≡ OutOfMemory };
+
+    fn from(_e: AllocError) -> PutFault {
+        PutFault::Memory
     }
 }
 

@@ -40,7 +40,7 @@ pub fn truncated_can_be_completed()
     ensures { TruncatedCanBeCompleted }
 {}
 
-/// A fault of a record that isn't cut off is reported whatever bytes follow.
+/// A fault of a record that isn't cut off is reported whatever bytes follow, and one that is cut off names its place.
 pub fn other_faults_stay()
     ensures { OtherFaultsStay }
 {}

@@ -31,8 +31,7 @@ pub fn put_record(_alloc: Global, kind: u8, body: &[u8], out: &mut Vec<u8>) -> R
     let counted = body.len() + 1;
     let head = [kind, (counted % 256) as u8, (counted / 256) as u8];
     let last = checksum_of(&head, body);
-    out.reserve(head.len() + counted)
-        .map_err(|_| PutFault::Memory)?;
+    out.reserve(head.len() + counted)?;
     append_parts(&head, body, last, out);
     Ok(())
 }

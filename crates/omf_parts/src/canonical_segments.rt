@@ -3,7 +3,7 @@
 ghost use Rattle.std.specs.Prelude.{◌≡◌, IfOk};
 ghost use Rattle.omf_parts.specs.Segments.{entry_for, canonical_segments};
 
-use crate::rules::{has_common_id, segment_in};
+use crate::rules::{has_common_id, is_used, segment_in};
 use crate::segment::Segment;
 use crate::symbols::Common;
 use std::alloc::{AllocError, Global};
@@ -12,7 +12,7 @@ fn entry_for(entries: &[(u8, Segment)], commons: &[Common], id: u8) -> Option<(u
     ensures { result ≡ entry_for entries.now commons.now id }
 {
     let segment = segment_in(entries, id);
-    if has_common_id(commons, id) || 0 < segment.length || segment.paged {
+    if has_common_id(commons, id) || is_used(segment) {
         Some((id, segment))
     } else {
         None

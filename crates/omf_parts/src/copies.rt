@@ -42,7 +42,7 @@ pub(crate) fn copy_commons(alloc: Global, commons: &[Common]) -> Result<Vec<Comm
 ///
 /// # Errors
 /// `AllocError` only if there is no memory for them.
-pub(crate) fn copy_publics(alloc: Global, publics: &[Public]) -> Result<Vec<Public>, AllocError>
+pub fn copy_publics(alloc: Global, publics: &[Public]) -> Result<Vec<Public>, AllocError>
     ensures { IfOk result (λ copies. copies.items ≡ publics.now) }
 {
     let mut copies = Vec::new(alloc);

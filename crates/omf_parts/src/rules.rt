@@ -2,7 +2,8 @@
 
 ghost use Rattle.std.specs.Prelude.{◌≡◌, ◌+◌, length, IfOk};
 ghost use Rattle.std.specs.List.{list_all};
-ghost use Rattle.omf_parts.specs.Segments.{has_common_id, has_segment, segment_in};
+ghost use Rattle.omf_parts.specs.Segments.{has_common_id, has_segment, is_fixed_id, is_used, segment_in};
+ghost use Rattle.omf_parts.specs.Place.{common_name};
 ghost use Rattle.omf_parts.specs.Rules.{end_of, is_in_bounds, has_fitting, is_start, keeps_rules_but_for_fixups, keeps_fixup_rules};
 
 use crate::content::Content;
@@ -24,15 +25,41 @@ pub fn has_common_id(commons: &[Common], id: u8) -> bool
     commons.iter().any(|c| c.id == id)
 }
 
+/// The name of the common of this id; it has no bytes if no common has the id.
+pub fn common_name(commons: &[Common], id: u8) -> &[u8]
+    ensures { result.now ≡ common_name commons.now id }
+{
+    for common in commons {
+        if common.id == id {
+            return common.name.bytes();
+        }
+    }
+    &[]
+}
+
+/// Whether every module has a segment of this id: absolute, CODE, DATA, STACK, MEMORY and the unnamed common.
+pub fn is_fixed_id(id: u8) -> bool
+    ensures { result ≡ is_fixed_id id }
+{
+    id <= MEMORY || id == UNNAMED_COMMON
+}
+
 /// Whether the id is one of a segment that the module has.
 pub fn has_segment(commons: &[Common], id: u8) -> bool
     ensures { result ≡ has_segment commons.now id }
 {
-    id <= MEMORY || id == UNNAMED_COMMON || has_common_id(commons, id)
+    is_fixed_id(id) || has_common_id(commons, id)
+}
+
+/// Whether a segment, or a part of one, has bytes or is paged.
+pub fn is_used(segment: Segment) -> bool
+    ensures { result ≡ is_used segment }
+{
+    0 < segment.length || segment.paged
 }
 
 /// The listed segment of this id, and an empty one if none is listed.
-pub(crate) fn segment_in(entries: &[(u8, Segment)], id: u8) -> Segment
+pub fn segment_in(entries: &[(u8, Segment)], id: u8) -> Segment
     ensures { result ≡ segment_in entries.now id }
 {
     for entry in entries {

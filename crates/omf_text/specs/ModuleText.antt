@@ -1,37 +1,23 @@
 -- What a module holds, line by line.
 -- (8080 Object Module Formats: the header, named commons, public declarations, external names, content and end records. The form of
 -- the lines is this project's own.)
-use Rattle.std.specs.Prelude.{ℕ, ◌%◌, ◌==◌, Bool, if◌then◌else◌, Option, Some, None, List, [], ◌∷◌, ◌++◌, length, codes, find}
+use Rattle.std.specs.Prelude.{ℕ, ◌%◌, Option, Some, None, List, [], ◌∷◌, ◌++◌, length, codes}
 use Rattle.std.specs.List.{flat_map}
-use Rattle.std.specs.Option.{option_map_or}
 use Rattle.text80.specs.Digits.{word_text}
-use Rattle.omf_core.specs.SegmentId.{segment_word}
 use Rattle.omf_parts.specs.declared.segment.Segment.{Segment}
 use Rattle.omf_parts.specs.declared.symbols.Common.{Common}
 use Rattle.omf_parts.specs.declared.symbols.Public.{Public}
 use Rattle.omf_parts.specs.Contents.{ContentValue}
 use Rattle.omf_parts.specs.Modules.{ModuleValue}
-
--- a blank and the name of the common of this id, if it has one
-abbrev pub common_part : List Common → ℕ → List ℕ
-common_part commons id = option_map_or (λ c. 32 ∷ c.name) (find (λ c. c.id == id) commons) []
-
--- a place in a segment: its word and the offset
-abbrev pub place_part : (id offset : ℕ) → List ℕ
-place_part id offset = segment_word id ++ 32 ∷ word_text offset
-
-abbrev pub paged_part : Bool → List ℕ
-paged_part paged = if paged then codes " PAGED" else []
+use Rattle.omf_text.specs.Places.{common_part, offset_words, place_words, part_words}
 
 -- the line of a segment of the header: its word, its length, whether it is paged, and the name of a named common
 abbrev pub segment_line : List Common → ℕ × Segment → List ℕ
-segment_line commons entry =
-    place_part entry.0 entry.1.length ++ (paged_part entry.1.paged ++ (common_part commons entry.0 ++ 10 ∷ []))
+segment_line commons entry = part_words entry.0 entry.1 ++ (common_part commons entry.0 ++ 10 ∷ [])
 
 -- the line of a public name: its place, and the name
 abbrev pub public_line : List Common → Public → List ℕ
-public_line commons public =
-    codes "PUBLIC " ++ (place_part public.segment public.offset ++ (common_part commons public.segment ++ 32 ∷ (public.name ++ 10 ∷ [])))
+public_line commons public = codes "PUBLIC " ++ (place_words commons public.segment public.offset ++ 32 ∷ (public.name ++ 10 ∷ []))
 
 -- the line of an external name
 abbrev pub external_line : List ℕ → List ℕ
@@ -40,13 +26,13 @@ external_line name = codes "NEEDS " ++ (name ++ 10 ∷ [])
 -- the line of a content: its place and the number of its bytes, which are fewer than 65,536
 abbrev pub content_line : List Common → ContentValue → List ℕ
 content_line commons content =
-    codes "CONTENT " ++ (place_part content.segment content.offset
+    codes "CONTENT " ++ (offset_words content.segment content.offset
     ++ 32 ∷ (word_text (length content.bytes % 65536) ++ (common_part commons content.segment ++ 10 ∷ [])))
 
 -- the line of the start, if there is one
 abbrev pub start_line : List Common → Option (ℕ × ℕ) → List ℕ
 start_line commons None = []
-start_line commons (Some place) = codes "START " ++ (place_part place.0 place.1 ++ (common_part commons place.0 ++ 10 ∷ []))
+start_line commons (Some place) = codes "START " ++ (place_words commons place.0 place.1 ++ 10 ∷ [])
 
 -- the line of a module's name
 abbrev pub name_line : List ℕ → List ℕ

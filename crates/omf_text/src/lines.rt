@@ -1,17 +1,10 @@
 //! A line of a module.
 
 ghost use Rattle.std.specs.Prelude.{◌≡◌, ◌++◌, ◌∷◌, OnOk};
-ghost use Rattle.omf_text.specs.ModuleText.{
-  common_part,
-  place_part,
-  segment_line,
-  public_line,
-  external_line,
-  content_line,
-};
+ghost use Rattle.omf_text.specs.ModuleText.{segment_line, public_line, external_line, content_line};
 
+use crate::places::{append_common, append_offset, append_part, append_place};
 use omf_core::Name;
-use omf_core::segment_id::word_of;
 use omf_parts::{Common, Content, Public, Segment};
 use std::alloc::AllocError;
 use text80::word_digits;
@@ -25,10 +18,7 @@ pub(crate) fn append_segment(
 ) -> Result<(), AllocError>
     ensures { OnOk result (text.new.items ≡ text.old.items ++ segment_line commons.now (id, segment)) }
 {
-    append_place(text, id, segment.length)?;
-    if segment.paged {
-        text.extend_from_slice(b" PAGED".as_slice())?;
-    }
+    append_part(text, id, segment)?;
     append_common(text, commons, id)?;
     text.push(b'\n')?;
     Ok(())
@@ -43,8 +33,7 @@ pub(crate) fn append_public(
     ensures { OnOk result (text.new.items ≡ text.old.items ++ public_line commons.now public.now) }
 {
     text.extend_from_slice(b"PUBLIC ".as_slice())?;
-    append_place(text, public.segment, public.offset)?;
-    append_common(text, commons, public.segment)?;
+    append_place(text, commons, public.segment, public.offset)?;
     text.push(b' ')?;
     text.extend_from_slice(public.name.bytes())?;
     text.push(b'\n')?;
@@ -70,37 +59,10 @@ pub(crate) fn append_content(
     ensures { OnOk result (text.new.items ≡ text.old.items ++ content_line commons.now content.now) }
 {
     text.extend_from_slice(b"CONTENT ".as_slice())?;
-    append_place(text, content.segment, content.offset)?;
+    append_offset(text, content.segment, content.offset)?;
     text.push(b' ')?;
     text.extend_from_slice(&word_digits((content.bytes.len() % 65536) as u16))?;
     append_common(text, commons, content.segment)?;
     text.push(b'\n')?;
-    Ok(())
-}
-
-/// Appends a place in a segment: its word and the offset.
-pub(crate) fn append_place(text: &mut Vec<u8>, id: u8, offset: u16) -> Result<(), AllocError>
-    ensures { OnOk result (text.new.items ≡ text.old.items ++ place_part id offset) }
-{
-    text.extend_from_slice(word_of(id))?;
-    text.push(b' ')?;
-    text.extend_from_slice(&word_digits(offset))
-}
-
-/// Appends a blank and the name of the common of this id, if it has one.
-pub(crate) fn append_common(
-    text: &mut Vec<u8>,
-    commons: &[Common],
-    id: u8,
-) -> Result<(), AllocError>
-    ensures { OnOk result (text.new.items ≡ text.old.items ++ common_part commons.now id) }
-{
-    for common in commons {
-        if common.id == id {
-            text.push(b' ')?;
-            text.extend_from_slice(common.name.bytes())?;
-            return Ok(());
-        }
-    }
     Ok(())
 }

@@ -14,9 +14,8 @@ ghost use Rattle.omf_text.specs.ModuleText.{
   start_line,
 };
 
-use crate::lines::{
-    append_common, append_content, append_external, append_place, append_public, append_segment,
-};
+use crate::lines::{append_content, append_external, append_public, append_segment};
+use crate::places::append_place;
 use omf_core::Name;
 use omf_parts::{Common, Content, Module, Public, Segment};
 use std::alloc::AllocError;
@@ -123,8 +122,7 @@ fn append_start(
         return Ok(());
     };
     text.extend_from_slice(b"START ".as_slice())?;
-    append_place(text, segment, offset)?;
-    append_common(text, commons, segment)?;
+    append_place(text, commons, segment, offset)?;
     text.push(b'\n')?;
     Ok(())
 }

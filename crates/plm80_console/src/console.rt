@@ -78,6 +78,7 @@ impl<'a> Console<'a> {
     pub fn explain_failure(self, failure: Option<ErrorKind>) {
         match failure {
             Some(ErrorKind::NotFound) => self.explain("no such file or directory"),
+            Some(ErrorKind::InvalidFilename) => self.explain("a name in the path is too long"),
             Some(ErrorKind::OutOfMemory) | None => {}
             Some(kind) => self.explain(kind),
         }

@@ -1,66 +1,80 @@
-//! An object file in the place of a library that is written: it is kept under another name.
+//! An object file in the place of a library that is written: a copy of it is kept under another name.
 
 use crate::console::{Console, Reported};
+use crate::path_parts::folder_and_name;
 use crate::replacing::NewFile;
 use std::alloc::AllocError;
-use std::fs::File;
-use std::io::{ErrorKind, Read};
+use std::fs::{File, Permissions};
+use std::io::{ErrorKind, Read, Seek, SeekFrom};
+use std::os::unix::fs::PermissionsExt;
 use std::{fs, io};
 
 /// The first byte of an object file: the type of a module's header.
 const MODULE_HEADER: u8 = 0x02;
 
-/// How many names are tried for the file that is kept.
-const NAMES: u8 = 100;
-
 impl<'a> Console<'a> {
-    /// Replaces the file as [`Console::replace`] does. An object file that has the path now is kept beside it: under the path
-    /// with a tilde, and with a number behind it if there is such a file.
+    /// Replaces the file as [`Console::replace`] does. If the path names an object file now, by a symbolic link too, a copy of it
+    /// is kept beside the path: under the path with a tilde, and with a number behind it if there is such a file. Nothing is
+    /// replaced before the copy is whole.
     pub fn replace_keeping_objects(self, path: &str, bytes: &[u8]) -> Result<(), Reported> {
         let file = NewFile { path, bytes };
         let draft = self.draft(file)?;
-        if self.is_object_file(path)
-            && let Err(reported) = self.keep(path)
-        {
-            self.drop_draft(draft);
-            return Err(reported);
-        }
-        self.settle(file, draft)
-    }
-
-    /// Whether the file of this path begins as an object file does; one that can't be read doesn't.
-    fn is_object_file(self, path: &str) -> bool {
-        match fs::symlink_metadata(self.runtime(), path) {
-            Ok(metadata) if metadata.is_file() => {
-                matches!(self.first_byte(path), Ok(Some(MODULE_HEADER)))
+        match self.keep_object(path) {
+            Ok(()) => self.settle(file, draft),
+            Err(reported) => {
+                self.drop_draft(draft);
+                Err(reported)
             }
-            _ => false,
         }
     }
 
-    fn first_byte(self, path: &str) -> io::Result<Option<u8>> {
+    /// Keeps a copy of the file that the path names, if that is an object file.
+    fn keep_object(self, path: &str) -> Result<(), Reported> {
+        match fs::metadata(self.runtime(), path) {
+            Ok(metadata) if metadata.is_file() => self.keep_regular(path),
+            Ok(_) => Ok(()),
+            Err(error) if error.kind() == ErrorKind::NotFound => Ok(()),
+            Err(error) => Err(self.report_unwritten(path, error.kind())),
+        }
+    }
+
+    /// Keeps a copy of the regular file of this path, if it is an object file. One that can't be read may be one: it is a fault.
+    fn keep_regular(self, path: &str) -> Result<(), Reported> {
+        match self.open_object(path) {
+            Ok(Some(object)) => self.keep(path, object),
+            Ok(None) => Ok(()),
+            Err(error) => Err(self.report_system(path, "Read", Some(error.kind()))),
+        }
+    }
+
+    /// The file of this path, if it begins as an object file does.
+    fn open_object(self, path: &str) -> io::Result<Option<File>> {
         let mut file = File::open(self.runtime(), path)?;
         let mut first = [0u8; 1];
         let count = file.read(&mut first)?;
-        Ok(if count == 1 { Some(first[0]) } else { None })
+        if count == 0 || first[0] != MODULE_HEADER {
+            return Ok(None);
+        }
+        file.seek(SeekFrom::Start(0))?;
+        Ok(Some(file))
     }
 
-    /// Gives the file of this path a second name.
-    fn keep(self, path: &str) -> Result<(), Reported> {
-        for number in 0..NAMES {
+    /// Copies the object file to the first name beside its path that no file has.
+    fn keep(self, path: &str, object: File) -> Result<(), Reported> {
+        for number in 0..u32::MAX {
             let Ok(kept) = self.kept_path(path, number) else {
                 return Err(self.report_memory());
             };
-            match self.link_or_copy(path, &kept) {
-                Ok(()) => return Ok(()),
+            match File::create_new(self.runtime(), &kept) {
+                Ok(copy) => return self.fill_copy(path, object, &kept, copy),
                 Err(error) if error.kind() == ErrorKind::AlreadyExists => {}
-                Err(error) => return Err(self.report_unwritten(&kept, error.kind())),
+                Err(error) => return Err(self.report_unkept(path, &kept, error.kind())),
             }
         }
         Err(self.report_unwritten(path, ErrorKind::AlreadyExists))
     }
 
-    fn kept_path(self, path: &str, number: u8) -> Result<String, AllocError> {
+    fn kept_path(self, path: &str, number: u32) -> Result<String, AllocError> {
         if number == 0 {
             format!(in self.alloc(); "{path}~")
         } else {
@@ -68,16 +82,44 @@ impl<'a> Console<'a> {
         }
     }
 
-    /// Makes a second link of the file, or a copy if there can be none.
-    fn link_or_copy(self, path: &str, kept: &str) -> io::Result<()> {
-        match fs::hard_link(self.runtime(), path, kept) {
-            Ok(()) => Ok(()),
-            Err(error) if error.kind() == ErrorKind::AlreadyExists => Err(error),
-            Err(_) => {
-                File::create_new(self.runtime(), kept)?;
-                fs::copy(self.runtime(), path, kept)?;
+    /// Makes the new file a copy of the object file, or removes it.
+    fn fill_copy(self, path: &str, object: File, kept: &str, copy: File) -> Result<(), Reported> {
+        match copy_and_sync(object, copy) {
+            Ok(()) => {
+                self.sync_folder(kept);
                 Ok(())
+            }
+            Err(error) => {
+                let _ = fs::remove_file(self.runtime(), kept);
+                Err(self.report_unkept(path, kept, error.kind()))
             }
         }
     }
+
+    /// Syncs the folder of this path, so that the file's name outlasts a crash of the system. Not every file system can.
+    fn sync_folder(self, path: &str) {
+        let (folder, _) = folder_and_name(path);
+        if let Ok(folder) = File::open(self.runtime(), folder) {
+            let _ = folder.sync_all();
+        }
+    }
+
+    /// Reports that the object file of this path can't be kept under another name.
+    fn report_unkept(self, path: &str, kept: &str, kind: ErrorKind) -> Reported {
+        let reported = self.report_unwritten(kept, kind);
+        if self.explains() {
+            let _ = eprintln!(self.runtime();
+                "  {path} is an object file, and was to be kept under that name"
+            );
+        }
+        reported
+    }
+}
+
+/// Writes all bytes of the object file to the copy and to the disk. The copy gets its permissions first.
+fn copy_and_sync(mut object: File, mut copy: File) -> io::Result<()> {
+    let mode = object.metadata()?.permissions().mode();
+    copy.set_permissions(Permissions::from_mode(mode & 0o777))?;
+    io::copy(&mut object, &mut copy)?;
+    copy.sync_all()
 }

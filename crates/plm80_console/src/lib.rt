@@ -19,9 +19,11 @@ mod link_feed;
 mod number_text;
 mod object_files;
 mod options;
+mod path_parts;
 mod pieces;
 mod program_files;
 mod replacing;
+mod same_file;
 mod shared_paths;
 mod syntax;
 

@@ -4,14 +4,16 @@
 //! place that is no regular file with one link, or beside which no file of the same owner can be made, is written in place.
 
 use crate::console::{Console, Reported};
+use crate::path_parts::folder_and_name;
 use std::alloc::AllocError;
 use std::fs::{File, Metadata, OpenOptions};
 use std::io::{ErrorKind, Write};
 use std::os::unix::fs::MetadataExt;
 use std::{fs, io};
 
-/// How many names are tried for the file beside the place.
-const NAMES: u8 = 10;
+/// How many bytes of a file's name its draft's name begins with, at most. With `.new` and a number it has at most 254: a file
+/// system takes 255.
+const NAME_LENGTH: usize = 240;
 
 /// The path of a file to write, and all bytes that it gets.
 #[derive(Clone, Copy)]
@@ -147,15 +149,27 @@ impl<'a> Console<'a> {
             Replaced::File(metadata) => Some(metadata),
             Replaced::Other => return Ok(Draft::InPlace),
         };
-        for number in 0..NAMES {
-            let beside = format!(in self.alloc(); "{}.new{number}", file.path)?;
+        let beginning = with_short_name(file.path);
+        for number in 0..u32::MAX {
+            let beside = format!(in self.alloc(); "{beginning}.new{number}")?;
             match File::create_new(self.runtime(), &beside) {
                 Ok(target) => return self.fill(target, beside, file.bytes, old),
-                Err(error) if error.kind() == ErrorKind::AlreadyExists => {}
+                Err(error) if error.kind() == ErrorKind::AlreadyExists => self.explain_left(
+                    &beside,
+                ),
                 Err(_) => return Ok(Draft::InPlace),
             }
         }
-        Ok(Draft::InPlace)
+        Err(DraftFault::System(ErrorKind::AlreadyExists))
+    }
+
+    /// Says that there is a file already that a draft might be.
+    fn explain_left(self, beside: &str) {
+        if self.explains() {
+            let _ = eprintln!(self.runtime();
+                "  {beside} is there: if a run that was killed left it, remove it"
+            );
+        }
     }
 
     /// Writes the bytes to the file beside the place, which gets the old file's permissions.
@@ -203,6 +217,21 @@ enum Replaced {
     /// A regular file with no other link.
     File(Metadata),
     Other,
+}
+
+/// The path, with no more of its file's name than a draft's name begins with.
+fn with_short_name(path: &str) -> &str {
+    let (_, name) = folder_and_name(path);
+    let end = path
+        .len()
+        .saturating_sub(name.len().saturating_sub(NAME_LENGTH));
+    // A letter has at most four bytes, and isn't cut.
+    for back in 0..4 {
+        if let Some(beginning) = path.get(..end.saturating_sub(back)) {
+            return beginning;
+        }
+    }
+    path
 }
 
 /// Gives the file the old one's permissions; whether it has its owner and group, too.

@@ -1,28 +1,36 @@
 //! Paths that two arguments of a command share.
 
+use crate::same_file::Comparison;
 use crate::syntax::{Argument, Kind, Syntax};
 use clap::error::ErrorKind;
 use clap::{ArgMatches, Error};
 use std::alloc::{AllocError, Global};
 
 impl<'a> Syntax<'a> {
-    /// Refuses arguments by which a file would be read and written, or written twice: those in which the path of a file to write is,
-    /// letter for letter, that of another file.
+    /// Refuses arguments by which a file would be read and written, or written twice: those in which the path of a file to write is
+    /// that of another file, letter for letter or by another spelling or a link.
     pub fn refuse_shared_paths(
         &self,
-        alloc: Global,
+        rt: &HostRuntime,
         matches: &ArgMatches<'_>,
     ) -> Result<(), Error> {
-        match self.shared_path(matches) {
-            Some(shared) => Err(self.refusal(alloc, shared)?),
+        if let Some(shared) = self.shared_path(matches, Comparison::Letters) {
+            return Err(self.refusal(rt.alloc(), shared)?);
+        }
+        match self.shared_path(matches, Comparison::Files(rt)) {
+            Some(shared) => Err(self.refusal(rt.alloc(), shared)?),
             None => Ok(()),
         }
     }
 
-    /// The first path of a file to write that another argument has too.
-    fn shared_path<'m>(&self, matches: &ArgMatches<'m>) -> Option<SharedPath<'m, 'a>> {
+    /// The first path of a file to write that another argument has too, so compared.
+    fn shared_path<'m>(
+        &self,
+        matches: &ArgMatches<'m>,
+        comparison: Comparison<'_>,
+    ) -> Option<SharedPath<'m, 'a>> {
         for index in 0..self.arguments.len() {
-            if let Some(shared) = self.shared_by(matches, index) {
+            if let Some(shared) = self.shared_by(matches, comparison, index) {
                 return Some(shared);
             }
         }
@@ -30,11 +38,19 @@ impl<'a> Syntax<'a> {
     }
 
     /// The path of the argument with this index, if it is that of a file to write and another argument has it too.
-    fn shared_by<'m>(&self, matches: &ArgMatches<'m>, index: usize) -> Option<SharedPath<'m, 'a>> {
+    fn shared_by<'m>(
+        &self,
+        matches: &ArgMatches<'m>,
+        comparison: Comparison<'_>,
+        index: usize,
+    ) -> Option<SharedPath<'m, 'a>> {
         let written = *self.arguments.get(index)?;
         let path = written.path_to_write(matches)?;
         for (other, argument) in self.arguments.iter().enumerate() {
-            if other != index && argument.has_path(matches, path) {
+            if other != index
+                && !written.may_replace(argument)
+                && argument.has_path(matches, comparison, path)
+            {
                 return Some(SharedPath {
                     path,
                     written,
@@ -71,27 +87,39 @@ impl<'a> Argument<'a> {
     /// The path that is given here, if it is that of a file to write.
     fn path_to_write<'m>(&self, matches: &ArgMatches<'m>) -> Option<&'m str> {
         match self.kind {
-            Kind::Written | Kind::WrittenOption(_) | Kind::WrittenIfGiven(_) => {
-                matches.get_str(self.name)
-            }
+            Kind::Written
+            | Kind::WrittenOption(_)
+            | Kind::WrittenIfGiven(_)
+            | Kind::Replaced { .. } => matches.get_str(self.name),
             _ => None,
         }
     }
 
-    /// Whether the path is given here.
-    fn has_path(&self, matches: &ArgMatches<'_>, path: &str) -> bool {
+    /// Whether the file that this argument writes may be that of the other one, which it reads.
+    fn may_replace(&self, other: &Argument<'_>) -> bool {
         match self.kind {
-            Kind::Path | Kind::Written | Kind::WrittenOption(_) | Kind::WrittenIfGiven(_) => {
-                matches.get_str(self.name) == Some(path)
+            Kind::Replaced { old, .. } => other.name == old,
+            _ => false,
+        }
+    }
+
+    /// Whether the path is given here.
+    fn has_path(&self, matches: &ArgMatches<'_>, comparison: Comparison<'_>, path: &str) -> bool {
+        match self.kind {
+            Kind::Path
+            | Kind::Written
+            | Kind::WrittenOption(_)
+            | Kind::WrittenIfGiven(_)
+            | Kind::Replaced { .. } => match matches.get_str(self.name) {
+                Some(own) => comparison.is_one(own, path),
+                None => false,
+            },
+            Kind::Paths => is_among(comparison, matches.get_strs(self.name).unwrap_or(&[]), path),
+            Kind::PathsAt(_) => {
+                is_in_values(comparison, matches.get_strs(self.name).unwrap_or(&[]), path)
             }
-            Kind::Paths => matches.get_strs(self.name).unwrap_or(&[]).contains(&path),
-            Kind::PathsAt(_) => is_among(matches.get_strs(self.name).unwrap_or(&[]), path),
-            Kind::Words
-            | Kind::Replaced(_)
-            | Kind::Required(_)
-            | Kind::Number(_)
-            | Kind::Count(_)
-            | Kind::Flag => false,
+            Kind::Words | Kind::Required(_) | Kind::Number(_) | Kind::Count(_) | Kind::Flag =>
+                false,
         }
     }
 
@@ -103,7 +131,7 @@ impl<'a> Argument<'a> {
             Kind::Required(value)
             | Kind::WrittenOption(value)
             | Kind::WrittenIfGiven(value)
-            | Kind::Replaced(value)
+            | Kind::Replaced { value, .. }
             | Kind::Number(value)
             | Kind::PathsAt(value) => { format!(in alloc; "--{} <{value}>", self.name) }
             Kind::Flag => format!(in alloc; "--{}", self.name),
@@ -112,11 +140,21 @@ impl<'a> Argument<'a> {
     }
 }
 
+/// Whether the path is one of these.
+fn is_among(comparison: Comparison<'_>, paths: &[&str], path: &str) -> bool {
+    for other in paths {
+        if comparison.is_one(other, path) {
+            return true;
+        }
+    }
+    false
+}
+
 /// Whether the path is that of one of these values, each a number, an equals sign and a path.
-fn is_among(values: &[&str], path: &str) -> bool {
+fn is_in_values(comparison: Comparison<'_>, values: &[&str], path: &str) -> bool {
     for value in values {
         if let Some((_, of_value)) = value.split_once('=')
-            && of_value == path
+            && comparison.is_one(of_value, path)
         {
             return true;
         }

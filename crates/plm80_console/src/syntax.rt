@@ -29,15 +29,15 @@ pub enum Kind<'a> {
     Paths,
     /// One or more words, none of which is a path.
     Words,
-    /// The path of a file to write, which is required. No other argument of the command may have this path.
+    /// The path of a file to write, which is required. No other argument of the command may name this file.
     Written,
     /// An option that is required, whose value is such a path.
     WrittenOption(&'a str),
     /// An option whose value is such a path, which the help text calls by this word.
     WrittenIfGiven(&'a str),
-    /// An option whose value is the path of a file to write, which may be that of a file to read. The help text calls it by this
-    /// word.
-    Replaced(&'a str),
+    /// An option whose value is such a path, which the help text calls by this word. It may name the file that the argument `old`
+    /// reads.
+    Replaced { value: &'a str, old: &'a str },
     /// An option that is required, whose value the help text calls by this word. Any argument after the option is its value.
     Required(&'a str),
     /// An option with a number, which the help text calls by this word. Any argument after the option is its value, and
@@ -91,7 +91,7 @@ impl<'a> Argument<'a> {
             Kind::Required(value) | Kind::WrittenOption(value) => {
                 option(arg, self.name, value).required(true)
             }
-            Kind::Number(value) | Kind::WrittenIfGiven(value) | Kind::Replaced(value) => {
+            Kind::Number(value) | Kind::WrittenIfGiven(value) | Kind::Replaced { value, .. } => {
                 option(arg, self.name, value)
             }
             Kind::Count(default) => option(arg, self.name, "N").default_value(default),

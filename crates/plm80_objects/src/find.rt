@@ -3,7 +3,7 @@
 use crate::link::read_file;
 use clap::ArgMatches;
 use plm80_console::{Argument, Console, Kind, LinkFile, OptionText, Reported, Syntax, path_of};
-use rom80_find::{append_members, append_modules};
+use rom80_find::{Dump, append_members, append_modules};
 use std::alloc::{AllocError, Global};
 
 /// The arguments of `find`.
@@ -69,11 +69,15 @@ impl<'a> FindArguments<'a> {
 /// Prints where the modules of the files lie in the dump, and gives the exit status.
 pub fn find_modules(console: Console<'_>, arguments: &FindArguments<'_>) -> Result<u8, Reported> {
     let first = console.word(arguments.first)?;
-    let dump = read_dump(console, arguments.dump, first)?;
+    let bytes = read_dump(console, arguments.dump, first)?;
+    let dump = Dump {
+        first,
+        bytes: &bytes,
+    };
     let mut text = Vec::new(console.alloc());
     let mut status = 0;
     for path in &arguments.files {
-        if !look_in_file(console, first, &dump, path, &mut text)? {
+        if !look_in_file(console, dump, path, &mut text)? {
             status = 1;
         }
     }
@@ -96,13 +100,12 @@ fn read_dump(console: Console<'_>, path: &str, first: u16) -> Result<Vec<u8>, Re
 /// Appends what is found of the modules of a file; whether none of an object file is missing.
 fn look_in_file(
     console: Console<'_>,
-    first: u16,
-    dump: &[u8],
+    dump: Dump<'_>,
     path: &str,
     text: &mut Vec<u8>,
 ) -> Result<bool, Reported> {
     let file = read_file(console, path)?;
-    match look_for(console.alloc(), first, dump, &file, text) {
+    match look_for(console.alloc(), dump, &file, text) {
         Ok(are_there) => Ok(are_there),
         Err(AllocError) => Err(console.report_memory()),
     }
@@ -111,15 +114,14 @@ fn look_in_file(
 /// Appends what is found of the modules; a library's may be missing.
 fn look_for(
     alloc: Global,
-    first: u16,
-    dump: &[u8],
+    dump: Dump<'_>,
     file: &LinkFile,
     text: &mut Vec<u8>,
 ) -> Result<bool, AllocError> {
     match file {
-        LinkFile::Modules(modules) => append_modules(alloc, first, dump, modules, text),
+        LinkFile::Modules(modules) => append_modules(alloc, dump, modules, text),
         LinkFile::Library(library) => {
-            append_members(alloc, first, dump, &library.modules, text)?;
+            append_members(alloc, dump, &library.modules, text)?;
             Ok(true)
         }
     }

@@ -42,7 +42,10 @@ pub const CASES: Syntax<'static> = Syntax {
         REGIONS,
         Argument {
             name: "out",
-            kind: Kind::Replaced("NEW"),
+            kind: Kind::Replaced {
+                value: "NEW",
+                old: "REGIONS",
+            },
             help: "The file to write the regions to, with the lines added",
         },
     ],

@@ -17,7 +17,7 @@ use Rattle.omf_parts.specs.SoundModules.{RulesOf, CommonsByName, PartsOfOneStart
 use Rattle.rom80_find.specs.declared.pattern.resolving.Resolved.{Resolved}
 use Rattle.rom80_find.specs.CodeBytes.{number_of}
 use Rattle.rom80_find.specs.Modules.{first_with, resolved}
-use Rattle.rom80_find.proofs.FoundNameLemmas.{first_name, words_from, word_beside}
+use Rattle.rom80_find.proofs.ExternalLemmas.{first_name, words_from, word_beside}
 
 -- The values go with the bases: those of segments with their places, and those of names with the words beside them.
 pub record Agrees (m : ModuleValue) (bases : Bases) (value : ℕ → ℕ) : Type 0 where

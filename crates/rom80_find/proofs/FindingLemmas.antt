@@ -8,13 +8,14 @@ use Rattle.std.proofs.lemmas.List.Elements.{filter-append}
 use Rattle.std.proofs.lemmas.List.Folds.{list_any-append}
 use Rattle.std.proofs.lemmas.Grind.{flat_map-append}
 use Rattle.omf_parts.specs.Modules.{ModuleValue}
+use Rattle.rom80_find.specs.Dump.{DumpValue}
 use Rattle.rom80_find.specs.declared.lines.finding.Finding.{Finding}
 use Rattle.rom80_find.specs.declared.lines.finding.Finding.TheVariants.{Short, Missing, There}
 use Rattle.rom80_find.specs.Lies.{AreModulePlaces}
 use Rattle.rom80_find.specs.Lines.{missing_line, short_line}
 use Rattle.rom80_find.specs.Found.{IsFound, short, missing, there, IsPlacesText, PrintsModules, is_short, is_missing, has_place}
-use Rattle.rom80_find.specs.LinesWords.{FindsModule, PrintsFound, PrintsModule, PrintsPlaces}
-use Rattle.rom80_find.proofs.LinesPlaceLemmas.{zip_more}
+use Rattle.rom80_find.specs.Prints.{FindsModule, PrintsFound, PrintsModule, PrintsPlaces}
+use Rattle.rom80_find.proofs.PlaceTextLemmas.{zip_more}
 
 -- ---- one module
 
@@ -29,28 +30,28 @@ some_places : (places : List ℕ) → (length places ≡ 0 → ⊥) → 0 < leng
 some_places [] some = elim (some refl) [ ]
 some_places (p ∷ ps) some = omega arith
 
-pub finds_short : (first : ℕ) (dump : List ℕ) (m p : ModuleValue) (before : List ℕ) → p ≡ m → is_short p ≡ true
-    → FindsModule first dump m Short before before
-finds_short first dump m p before same is_short = subst (λ (q : ModuleValue). FindsModule first dump q Short before before) same
+pub finds_short : (dump : DumpValue) (m p : ModuleValue) (before : List ℕ) → p ≡ m → is_short p ≡ true
+    → FindsModule dump m Short before before
+finds_short dump m p before same is_short = subst (λ (q : ModuleValue). FindsModule dump q Short before before) same
     (record { text = short_line p.name; is = short is_short; after_is = sym (append-nil before) })
 
-pub finds_missing : (first : ℕ) (dump : List ℕ) (m p : ModuleValue) (places before : List ℕ) → p ≡ m → is_short p ≡ false
-    → AreModulePlaces first dump p places → length places ≡ 0 → FindsModule first dump m Missing before before
-finds_missing first dump m p places before same long are none = subst (λ (q : ModuleValue). FindsModule first dump q Missing before before) same
+pub finds_missing : (dump : DumpValue) (m p : ModuleValue) (places before : List ℕ) → p ≡ m → is_short p ≡ false
+    → AreModulePlaces dump p places → length places ≡ 0 → FindsModule dump m Missing before before
+finds_missing dump m p places before same long are none = subst (λ (q : ModuleValue). FindsModule dump q Missing before before) same
     (record {
       text = missing_line p.name;
-      is = missing long (subst (λ (l : List ℕ). AreModulePlaces first dump p l) (sym (no_places places none)) are);
+      is = missing long (subst (λ (l : List ℕ). AreModulePlaces dump p l) (sym (no_places places none)) are);
       after_is = sym (append-nil before);
     })
 
-pub finds_there : (first : ℕ) (dump : List ℕ) (m p : ModuleValue) (places shown before after : List ℕ) → p ≡ m → is_short p ≡ false
-    → AreModulePlaces first dump p places → (length places ≡ 0 → ⊥) → shown ≡ places → PrintsPlaces first dump p shown before after
-    → FindsModule first dump m There before after
-finds_there first dump m p places shown before after same long are some is printed =
-    subst (λ (q : ModuleValue). FindsModule first dump q There before after) same
+pub finds_there : (dump : DumpValue) (m p : ModuleValue) (places shown before after : List ℕ) → p ≡ m → is_short p ≡ false
+    → AreModulePlaces dump p places → (length places ≡ 0 → ⊥) → shown ≡ places → PrintsPlaces dump p shown before after
+    → FindsModule dump m There before after
+finds_there dump m p places shown before after same long are some is printed =
+    subst (λ (q : ModuleValue). FindsModule dump q There before after) same
     (record {
       text = printed.text;
-      is = there places printed.text long are (some_places places some) (subst (λ (l : List ℕ). IsPlacesText first dump p l printed.text) is printed.is);
+      is = there places printed.text long are (some_places places some) (subst (λ (l : List ℕ). IsPlacesText dump p l printed.text) is printed.is);
       after_is = printed.after_is;
     })
 
@@ -71,15 +72,15 @@ there_more findings f are_there absent there_is missing_is =
     or_not false true = refl
     or_not false false = refl
 
-pub modules_more : (first : ℕ) (dump : List ℕ) (modules : List ModuleValue) (i : ℕ) (m : ModuleValue) (are_there absent next : Bool)
+pub modules_more : (dump : DumpValue) (modules : List ModuleValue) (i : ℕ) (m : ModuleValue) (are_there absent next : Bool)
     (before text after : List ℕ) → i < length modules → m ≡ get_or modules i m
-    → PrintsModules first dump (take i modules) are_there before text → PrintsModule first dump m absent text after
-    → next ≡ (if absent then false else are_there) → PrintsModules first dump (take (i + 1) modules) next before after
-modules_more first dump modules i m are_there absent next before text after lt is so_far one next_is =
+    → PrintsModules dump (take i modules) are_there before text → PrintsModule dump m absent text after
+    → next ≡ (if absent then false else are_there) → PrintsModules dump (take (i + 1) modules) next before after
+modules_more dump modules i m are_there absent next before text after lt is so_far one next_is =
     let f : Finding × List ℕ = (one.finding, one.text) in
     record {
       findings = so_far.findings ++ f ∷ [];
-      each = zip_more (λ n g. IsFound first dump n g.0 g.1) modules so_far.findings i m m f lt is so_far.each one.is;
+      each = zip_more (λ n g. IsFound dump n g.0 g.1) modules so_far.findings i m m f lt is so_far.each one.is;
       there_is = next_is ∙ there_more so_far.findings f are_there absent so_far.there_is one.missing_is;
       after_is = one.after_is ∙ ap (λ t. t ++ one.text) so_far.after_is ∙ append_assoc before (flat_map (λ g. g.1) so_far.findings) one.text
           ∙ ap (λ t. before ++ t) (texts_more so_far.findings f);
@@ -118,15 +119,15 @@ missing_more findings f =
     ap length (filter-append (λ (g : Finding × List ℕ). not (has_place g.0)) findings (f ∷ []))
     ∙ length-append (filter (λ g. not (has_place g.0)) findings) (filter (λ g. not (has_place g.0)) (f ∷ []))
 
-pub found_more : (first : ℕ) (dump : List ℕ) (members : List ModuleValue) (i : ℕ) (m : ModuleValue) (absent next : ℕ) (finding : Finding)
+pub found_more : (dump : DumpValue) (members : List ModuleValue) (i : ℕ) (m : ModuleValue) (absent next : ℕ) (finding : Finding)
     (before text after : List ℕ) → i < length members → m ≡ get_or members i m
-    → PrintsFound first dump (take i members) absent before text → FindsModule first dump m finding text after
-    → next ≡ absent + (if has_place finding then 0 else 1) → PrintsFound first dump (take (i + 1) members) next before after
-found_more first dump members i m absent next finding before text after lt is so_far one next_is =
+    → PrintsFound dump (take i members) absent before text → FindsModule dump m finding text after
+    → next ≡ absent + (if has_place finding then 0 else 1) → PrintsFound dump (take (i + 1) members) next before after
+found_more dump members i m absent next finding before text after lt is so_far one next_is =
     let f : Finding × List ℕ = (finding, one.text) in
     record {
       findings = so_far.findings ++ f ∷ [];
-      each = zip_more (λ n g. IsFound first dump n g.0 g.1) members so_far.findings i m m f lt is so_far.each one.is;
+      each = zip_more (λ n g. IsFound dump n g.0 g.1) members so_far.findings i m m f lt is so_far.each one.is;
       missing_is = next_is ∙ ap (λ (n : ℕ). n + (if has_place finding then 0 else 1)) so_far.missing_is
           ∙ ap (λ (n : ℕ). count_missing so_far.findings + n) (sym (one_missing finding one.text)) ∙ sym (missing_more so_far.findings f);
       after_is = one.after_is ∙ ap (λ t. t ++ (if has_place finding then one.text else [])) so_far.after_is

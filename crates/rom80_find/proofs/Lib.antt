@@ -1,5 +1,5 @@
 pub mod SolveLemmas
-pub mod LiesLemmas
+pub mod CodeLieLemmas
 pub mod SieveLemmas
 pub mod PlaceLemmas
 pub mod WordLemmas
@@ -7,14 +7,14 @@ pub mod RepeatLemmas
 pub mod RunLemmas
 pub mod ReadingLemmas
 pub mod NameLemmas
-pub mod FoundNameLemmas
+pub mod ExternalLemmas
 pub mod BaseLemmas
 pub mod ByteLemmas
 pub mod ChunkLemmas
-pub mod LieLemmas
-pub mod FoundWordLemmas
-pub mod FindLemmas
+pub mod ModuleLieLemmas
+pub mod OnlyWordLemmas
+pub mod EmptyLemmas
 pub mod LinkLemmas
 pub mod TargetLemmas
-pub mod LinesPlaceLemmas
+pub mod PlaceTextLemmas
 pub mod FindingLemmas

@@ -16,7 +16,7 @@ use Rattle.omf_parts.specs.Place.{Bases, part_start, place_in}
 use Rattle.omf_parts.specs.ImageByte.{ByteChunk, patch_with, target_word, chunk_of, chunk_covers, chunks_of, image_byte, distance}
 use Rattle.omf_parts.specs.Patches.{with_patches}
 use Rattle.omf_parts.specs.SoundModules.{RulesOf, HasItsFixups, SoundModulesKeepRules}
-use Rattle.rom80_find.specs.Places.{dump_byte}
+use Rattle.rom80_find.specs.Dump.{DumpValue, dump_byte}
 use Rattle.rom80_find.specs.Chunks.{is_code, is_covered, chunk_byte}
 use Rattle.rom80_find.specs.LinkLaws.{GoWith, LiesInLink, OnlyCodeCovers}
 use Rattle.rom80_find.proofs.ChunkLemmas.{none_some, last_is}
@@ -108,23 +108,23 @@ module _ (bases : Bases) (modules : List ModuleValue) (number : ℕ) (m : Module
 
 -- ---- the law
 
-module _ (keep : SoundModulesKeepRules) (first : ℕ) (dump : List ℕ) (bases : Bases) (modules : List ModuleValue) (a : ℕ) where
-  each_module : (e : ℕ × ModuleValue) → LiesInLink first dump bases modules e → OnlyCodeCovers bases modules a e
-      → (z : ByteChunk) → last_or None (filter (chunk_covers a) (map (chunk_of bases modules e) e.1.contents)) ≡ Some z → dump_byte first dump a ≡ Some (chunk_byte z a)
+module _ (keep : SoundModulesKeepRules) (dump : DumpValue) (bases : Bases) (modules : List ModuleValue) (a : ℕ) where
+  each_module : (e : ℕ × ModuleValue) → LiesInLink dump bases modules e → OnlyCodeCovers bases modules a e
+      → (z : ByteChunk) → last_or None (filter (chunk_covers a) (map (chunk_of bases modules e) e.1.contents)) ≡ Some z → dump_byte dump a ≡ Some (chunk_byte z a)
   each_module (number, m) lies only z k =
       let rules = keep m lies.sound in
       lies.lies.bytes a z
       (ap (λ (l : List ByteChunk). last_or None l) (sym (over_same bases modules number m lies.own rules lies.with_link a m.contents rules.fixups only)) ∙ k)
 
-  all_modules : (es : List (ℕ × ModuleValue)) → AllByRecursion (LiesInLink first dump bases modules) es → AllByRecursion (OnlyCodeCovers bases modules a) es
-      → AllByRecursion (λ e. (z : ByteChunk) → last_or None (filter (chunk_covers a) (map (chunk_of bases modules e) e.1.contents)) ≡ Some z → dump_byte first dump a ≡ Some (chunk_byte z a)) es
+  all_modules : (es : List (ℕ × ModuleValue)) → AllByRecursion (LiesInLink dump bases modules) es → AllByRecursion (OnlyCodeCovers bases modules a) es
+      → AllByRecursion (λ e. (z : ByteChunk) → last_or None (filter (chunk_covers a) (map (chunk_of bases modules e) e.1.contents)) ≡ Some z → dump_byte dump a ≡ Some (chunk_byte z a)) es
   all_modules [] lie only = tt
   all_modules (e ∷ es) lie only = (each_module e lie.0 only.0, all_modules es lie.1 only.1)
 
-  pub link_has : AllByRecursion (LiesInLink first dump bases modules) (enumerate_from 0 modules) → AllByRecursion (OnlyCodeCovers bases modules a) (enumerate_from 0 modules)
-      → is_covered (chunks_of bases modules) a ≡ true → dump_byte first dump a ≡ Some (image_byte bases modules a % 256)
+  pub link_has : AllByRecursion (LiesInLink dump bases modules) (enumerate_from 0 modules) → AllByRecursion (OnlyCodeCovers bases modules a) (enumerate_from 0 modules)
+      → is_covered (chunks_of bases modules) a ≡ true → dump_byte dump a ≡ Some (image_byte bases modules a % 256)
   link_has lie only covered =
       let last = last_is (chunk_covers a) (chunks_of bases modules) covered in
-      last_of_each (λ (z : ByteChunk). dump_byte first dump a ≡ Some (chunk_byte z a)) (chunk_covers a) (λ e. map (chunk_of bases modules e) e.1.contents) None (enumerate_from 0 modules)
+      last_of_each (λ (z : ByteChunk). dump_byte dump a ≡ Some (chunk_byte z a)) (chunk_covers a) (λ e. map (chunk_of bases modules e) e.1.contents) None (enumerate_from 0 modules)
       (λ z s. elim (none_some z s) [ ]) (all_modules (enumerate_from 0 modules) lie only) last.0 last.1
       ∙ ap (λ (o : Option ByteChunk). Some (option_map_or (λ k. slice_index k.bytes (distance k.place a)) o 0 % 256)) (sym last.1)

@@ -1,4 +1,4 @@
--- The places before an address, as the next one is looked at.
+-- The places before an address, and before the next one.
 use Rattle.std.specs.Prelude.{◌≡◌, ℕ, zero, suc, ◌+◌, ◌-◌, ◌<◌, ◌==◌, ◌||◌, Bool, true, false, Option, Some, None, IfSome, List, [], ◌∷◌, ◌++◌, length, filter, slice_index_or}
 use Rattle.std.specs.List.{list_any}
 use Rattle.std.proofs.Common.{append-nil, refl, sym, ◌∙◌, ap, subst, arith, get_or, ◌⊎◌, inl, inr}
@@ -6,11 +6,13 @@ use Rattle.std.proofs.lemmas.Bool.{eqb-true, eq-eqb, or_cases, true≢false, cas
 use Rattle.std.proofs.lemmas.List.Recursion.{or_at}
 use Rattle.std.proofs.lemmas.List.Folds.{list_any-append}
 use Rattle.std.proofs.lemmas.List.Quantifiers.{all_pairs_push}
+use Rattle.rom80_find.specs.Dump.{DumpValue}
 use Rattle.rom80_find.specs.declared.pattern.code_byte.CodeByte.{CodeByte}
 use Rattle.rom80_find.specs.Runs.{IsAnswer, IsAnswerBefore}
 use Rattle.rom80_find.specs.Places.{LiesAt, place_of, is_free, is_known_fixup, ArePlaces, is_listed}
+use Rattle.rom80_find.specs.Search.{SearchValue, search_of}
 use Rattle.rom80_find.specs.Sieve.{AreSieved}
-use Rattle.rom80_find.proofs.LiesLemmas.{lies_plain, parts_lie}
+use Rattle.rom80_find.proofs.CodeLieLemmas.{lies_plain, parts_lie}
 use Rattle.rom80_find.proofs.RepeatLemmas.{lies_some, rest_lies}
 
 before_or_here : (at a : ℕ) → a < at + 1 → (a < at) ⊎ (at ≡ a)
@@ -33,24 +35,24 @@ or-right false y e = e
 or-left : (x y : Bool) → x ≡ true → (x || y) ≡ true
 or-left x y e = ap (λ (t : Bool). t || y) e
 
-module _ (first : ℕ) (dump : List ℕ) (code : List CodeByte) (at : ℕ) (places : List ℕ) (h : ArePlaces first dump code at places) where
+module _ (dump : DumpValue) (code : List CodeByte) (at : ℕ) (places : List ℕ) (h : ArePlaces dump code at places) where
   -- the code doesn't lie there
-  pub not_there : (LiesAt first dump code at → ⊥) → ArePlaces first dump code (at + 1) places
+  pub not_there : (LiesAt dump code at → ⊥) → ArePlaces dump code (at + 1) places
   not_there away = record {
     lies = λ a e. (omega (arith, (h.lies a e).0), (h.lies a e).1);
     all = λ a lt l. elim (before_or_here at a lt) [
       | inl k ↦ h.all a k l
-      | inr e ↦ elim (away (subst (λ (x : ℕ). LiesAt first dump code x) (sym e) l)) [ ]
+      | inr e ↦ elim (away (subst (λ (x : ℕ). LiesAt dump code x) (sym e) l)) [ ]
     ];
     ascending = h.ascending;
   }
 
   -- it does
-  pub there : LiesAt first dump code at → ArePlaces first dump code (at + 1) (places ++ at ∷ [])
+  pub there : LiesAt dump code at → ArePlaces dump code (at + 1) (places ++ at ∷ [])
   there lies = record {
     lies = λ a e. elim (or_cases (is_listed places a) (is_listed (at ∷ []) a) (sym (listed-append places (at ∷ []) a) ∙ e)) [
       | inl k ↦ (omega (arith, (h.lies a k).0), (h.lies a k).1)
-      | inr k ↦ (omega (arith, only at a k), subst (λ (x : ℕ). LiesAt first dump code x) (only at a k) lies)
+      | inr k ↦ (omega (arith, only at a k), subst (λ (x : ℕ). LiesAt dump code x) (only at a k) lies)
     ];
     all = λ a lt l. listed-append places (at ∷ []) a ∙ (elim (before_or_here at a lt) [
       | inl k ↦ or-left (is_listed places a) (is_listed (at ∷ []) a) (h.all a k l)
@@ -59,8 +61,8 @@ module _ (first : ℕ) (dump : List ℕ) (code : List CodeByte) (at : ℕ) (plac
     ascending = all_pairs_push (λ (p q : ℕ). p < q) places at h.ascending (λ k d lt. (h.lies (get_or places k d) (listed_at places k d lt)).0);
   }
 
-pub none_yet : (first : ℕ) (dump : List ℕ) (code : List CodeByte) → ArePlaces first dump code 0 []
-none_yet first dump code = record {
+pub none_yet : (dump : DumpValue) (code : List CodeByte) → ArePlaces dump code 0 []
+none_yet dump code = record {
   lies = λ a e. elim (true≢false (sym e)) [ ];
   all = λ a lt l. elim (lt_zero a lt) [ ];
   ascending = λ i j d ij lj. elim (lt_zero j lj) [ ];
@@ -70,42 +72,51 @@ none_yet first dump code = record {
     lt_zero a lt = omega arith
 
 -- one address, by what is left of the sieve and the bytes in fixups
-module _ (first : ℕ) (dump : List ℕ) (code : List CodeByte) (at : ℕ) (lt : at < 65536) (alive : List Bool) (sieved : AreSieved first dump code alive) where
-  pub sieved_away : slice_index_or alive at false ≡ false → LiesAt first dump code at → ⊥
-  sieved_away e l = true≢false (sym (lies_plain first dump code at l) ∙ (sym (sieved.each at lt) ∙ e))
+module _ (dump : DumpValue) (code : List CodeByte) (at : ℕ) (lt : at < 65536) (alive : List Bool) (sieved : AreSieved dump code alive) where
+  pub sieved_away : slice_index_or alive at false ≡ false → LiesAt dump code at → ⊥
+  sieved_away e l = true≢false (sym (lies_plain dump code at l) ∙ (sym (sieved.each at lt) ∙ e))
 
   -- its bytes lie there
-  pub lies_here : slice_index_or alive at false ≡ true → LiesAt first dump (filter is_known_fixup code) at → LiesAt first dump (filter is_free code) at
-      → LiesAt first dump code at
-  lies_here e known free = parts_lie first dump code at (sym (sieved.each at lt) ∙ e) (rest_lies first dump code at known free)
+  pub lies_here : slice_index_or alive at false ≡ true → LiesAt dump (filter is_known_fixup code) at → LiesAt dump (filter is_free code) at
+      → LiesAt dump code at
+  lies_here e known free = parts_lie dump code at (sym (sieved.each at lt) ∙ e) (rest_lies dump code at known free)
 
   -- so the answer at it says whether it is the next place
-  module _ (known free : List CodeByte) (is-known : known ≡ filter is_known_fixup code) (is-free : free ≡ filter is_free code) (here : Bool)
-      (is-here : slice_index_or alive at false ≡ here) (places : List ℕ) (h : ArePlaces first dump code at places) where
-    pub next_places : (answer : Option Bool) (new : List ℕ)
-        → IfSome answer (λ _. (here ≡ true) × LiesAt first dump known at)
-        → IfSome answer (λ lies. IsAnswer first dump free at lies)
-        → (answer ≡ None → here ≡ true → LiesAt first dump known at → ⊥)
+  module _ (here : Bool) (is-here : slice_index_or alive at false ≡ here) (places : List ℕ) (h : ArePlaces dump code at places) where
+    next : (answer : Option Bool) (new : List ℕ)
+        → IfSome answer (λ _. (here ≡ true) × LiesAt dump (filter is_known_fixup code) at)
+        → IfSome answer (λ lies. IsAnswer dump (filter is_free code) at lies)
+        → (answer ≡ None → here ≡ true → LiesAt dump (filter is_known_fixup code) at → ⊥)
         → new ≡ places ++ place_of answer at
-        → ArePlaces first dump code (at + 1) new
-    next_places None new k f none is = subst (λ (l : List ℕ). ArePlaces first dump code (at + 1) l) (sym (is ∙ append-nil places))
-        (not_there first dump code at places h (away here refl))
+        → ArePlaces dump code (at + 1) new
+    next None new k f none is = subst (λ (l : List ℕ). ArePlaces dump code (at + 1) l) (sym (is ∙ append-nil places))
+        (not_there dump code at places h (away here refl))
       where
-        away : (t : Bool) → here ≡ t → LiesAt first dump code at → ⊥
-        away true e l = none refl e (subst (λ (r : List CodeByte). LiesAt first dump r at) (sym is-known) (lies_some first dump code at is_known_fixup l))
+        away : (t : Bool) → here ≡ t → LiesAt dump code at → ⊥
+        away true e l = none refl e (lies_some dump code at is_known_fixup l)
         away false e l = sieved_away (is-here ∙ e) l
-    next_places (Some true) new k f none is = subst (λ (l : List ℕ). ArePlaces first dump code (at + 1) l) (sym is)
-        (there first dump code at places h (lies_here (is-here ∙ k.0) (subst (λ (r : List CodeByte). LiesAt first dump r at) is-known k.1)
-        (subst (λ (r : List CodeByte). LiesAt first dump r at) is-free (f.yes refl))))
-    next_places (Some false) new k f none is = subst (λ (l : List ℕ). ArePlaces first dump code (at + 1) l) (sym (is ∙ append-nil places))
-        (not_there first dump code at places h (λ l. f.no refl (subst (λ (r : List CodeByte). LiesAt first dump r at) (sym is-free) (lies_some first dump code at is_free l))))
+    next (Some true) new k f none is = subst (λ (l : List ℕ). ArePlaces dump code (at + 1) l) (sym is)
+        (there dump code at places h (lies_here (is-here ∙ k.0) k.1 (f.yes refl)))
+    next (Some false) new k f none is = subst (λ (l : List ℕ). ArePlaces dump code (at + 1) l) (sym (is ∙ append-nil places))
+        (not_there dump code at places h (λ l. f.no refl (lies_some dump code at is_free l)))
 
-pub before_next : (first : ℕ) (dump : List ℕ) (code free : List CodeByte) (at : ℕ) → free ≡ code → (answer : Option Bool)
-    → IfSome answer (λ lies. IsAnswer first dump free at lies) → IsAnswerBefore first dump code (at + 1) answer
-before_next first dump code free at is None h = tt
-before_next first dump code free at is (Some lies) h = λ one.
+    pub next_places : (s : SearchValue) → s ≡ search_of dump code → (answer : Option Bool) (new : List ℕ)
+        → IfSome answer (λ _. (here ≡ true) × LiesAt s.dump s.known at)
+        → IfSome answer (λ lies. IsAnswer s.dump s.free at lies)
+        → (answer ≡ None → here ≡ true → LiesAt s.dump s.known at → ⊥)
+        → new ≡ places ++ place_of answer at
+        → ArePlaces dump code (at + 1) new
+    next_places s same answer new k f none is = next answer new
+        (subst (λ (s : SearchValue). IfSome answer (λ _. (here ≡ true) × LiesAt s.dump s.known at)) same k)
+        (subst (λ (s : SearchValue). IfSome answer (λ lies. IsAnswer s.dump s.free at lies)) same f)
+        (subst (λ (s : SearchValue). answer ≡ None → here ≡ true → LiesAt s.dump s.known at → ⊥) same none) is
+
+pub before_next : (s new : SearchValue) (at : ℕ) → new ≡ s → (answer : Option Bool)
+    → IfSome answer (λ lies. IsAnswer s.dump s.free at lies) → IsAnswerBefore new.dump new.free (at + 1) answer
+before_next s new at is None h = tt
+before_next s new at is (Some lies) h = λ one.
     let same : at ≡ at + 1 - 1 = omega arith in
-    subst (λ (n : ℕ). IsAnswer first dump code n lies) same (subst (λ (l : List CodeByte). IsAnswer first dump l at lies) is h)
+    subst (λ (n : ℕ). IsAnswer new.dump new.free n lies) same (subst (λ (v : SearchValue). IsAnswer v.dump v.free at lies) (sym is) h)
 
 pub same_default : {A : Type 0} (xs : List A) (i : ℕ) (d e : A) → i < length xs → get_or xs i d ≡ get_or xs i e
 same_default [] i d e lt = elim lt [ ]

@@ -11,12 +11,7 @@ use Rattle.omf_parts.specs.Patches.{is_inside_bytes}
 use Rattle.omf_parts.specs.SoundModules.{as_patch, HasItsFixups}
 use Rattle.rom80_find.specs.declared.pattern.code_byte.CodeByte.{CodeByte}
 use Rattle.rom80_find.specs.Modules.{IsWithin, covers, has_byte, fixup_byte, byte_by_fixups, plain_byte}
-
--- what holds of each holds at an index
-pub each_at : {A : Type 0} (P : A → Type 0) (xs : List A) (i : ℕ) (d : A) → AllByRecursion P xs → i < length xs → P (get_or xs i d)
-each_at P [] i d h lt = elim lt [ ]
-each_at P (x ∷ xs) zero d h lt = h.0
-each_at P (x ∷ xs) (suc i) d h lt = each_at P xs i d h.1 (omega arith)
+use Rattle.rom80_find.proofs.SolveLemmas.{each_at}
 
 inside_at : (size first : ℕ) (word : Fixup → ℕ) (fs : List Fixup) (i : ℕ) (d : Fixup) → list_all (is_inside_bytes size) (map (as_patch first word) fs) ≡ true
     → i < length fs → is_inside_bytes size (as_patch first word (get_or fs i d)) ≡ true

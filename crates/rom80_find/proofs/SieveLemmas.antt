@@ -5,11 +5,12 @@ use Rattle.std.specs.Option.{option_map_or}
 use Rattle.std.proofs.Common.{refl, sym, ◌∙◌, ap, arith, get_or, take, below_more, get_or-set_other, get_or-set_same, set}
 use Rattle.std.proofs.lemmas.Bool.{and_parts, ne_eqb, true≢false}
 use Rattle.std.proofs.lemmas.List.Folds.{list_all_more}
+use Rattle.rom80_find.specs.Dump.{DumpValue, dump_byte}
 use Rattle.rom80_find.specs.declared.pattern.code_byte.Half.{Half}
 use Rattle.rom80_find.specs.declared.pattern.code_byte.Half.TheVariants as half
 use Rattle.rom80_find.specs.declared.pattern.code_byte.CodeByte.{CodeByte}
 use Rattle.rom80_find.specs.CodeBytes.{number_of, half_of, is_low}
-use Rattle.rom80_find.specs.Places.{dump_byte, fits, is_plain, fits_if_plain}
+use Rattle.rom80_find.specs.Places.{fits, is_plain, fits_if_plain}
 use Rattle.rom80_find.specs.Candidates.{is_half}
 use Rattle.rom80_find.specs.Runs.{AreFrom, AreUpTo, IsOneRun}
 use Rattle.rom80_find.specs.Sieve.{entry_at, IsRing}
@@ -30,18 +31,18 @@ same-entry None fill low ne = ne_eqb fill low ne
 same-entry (Some d) fill low ne = refl
 
 -- an entry is that of a byte outside fixups exactly if the dump has it
-pub plain_entry : (first : ℕ) (dump : List ℕ) (fill : ℕ) (ring : List ℕ) (a : ℕ) (b : CodeByte) → a < 65536 → b.offset < 65536 → IsRing first dump fill ring
-    → fill ≢ b.addend % 256 → is_plain b ≡ true → (slice_index ring (a + b.offset) == b.addend % 256) ≡ fits_if_plain first dump a b
-plain_entry first dump fill ring a b la lb ring-is ne plain =
+pub plain_entry : (dump : DumpValue) (fill : ℕ) (ring : List ℕ) (a : ℕ) (b : CodeByte) → a < 65536 → b.offset < 65536 → IsRing dump fill ring
+    → fill ≢ b.addend % 256 → is_plain b ≡ true → (slice_index ring (a + b.offset) == b.addend % 256) ≡ fits_if_plain dump a b
+plain_entry dump fill ring a b la lb ring-is ne plain =
     let low = and_parts (is_low b.half) (number_of b.target == 0) plain in
-    let there : slice_index ring (a + b.offset) ≡ entry_at first dump fill ((a + b.offset) % 65536) = ring-is.each (a + b.offset) (omega arith) in
+    let there : slice_index ring (a + b.offset) ≡ entry_at dump fill ((a + b.offset) % 65536) = ring-is.each (a + b.offset) (omega arith) in
     let half : half_of b.half ((0 + b.addend) % 65536) ≡ b.addend % 256 = low-of b.half _ low.0 ∙ omega arith in
-    rw there (same-entry (dump_byte first dump ((a + b.offset) % 65536)) fill (b.addend % 256) ne
-    ∙ ap (λ (x : ℕ). option_map_or (λ (d : ℕ). d == x) (dump_byte first dump ((a + b.offset) % 65536)) false) (sym half)
-    ∙ ap (λ (t : Bool). not t || fits first dump a b 0) (sym plain))
+    rw there (same-entry (dump_byte dump ((a + b.offset) % 65536)) fill (b.addend % 256) ne
+    ∙ ap (λ (x : ℕ). option_map_or (λ (d : ℕ). d == x) (dump_byte dump ((a + b.offset) % 65536)) false) (sym half)
+    ∙ ap (λ (t : Bool). not t || fits dump a b 0) (sym plain))
 
-pub other_fits : (first : ℕ) (dump : List ℕ) (a : ℕ) (b : CodeByte) → is_plain b ≡ false → fits_if_plain first dump a b ≡ true
-other_fits first dump a b e = ap (λ (t : Bool). not t || fits first dump a b 0) e
+pub other_fits : (dump : DumpValue) (a : ℕ) (b : CodeByte) → is_plain b ≡ false → fits_if_plain dump a b ≡ true
+other_fits dump a b e = ap (λ (t : Bool). not t || fits dump a b 0) e
 
 and-true : (x y : Bool) → y ≡ true → x ≡ (x && y)
 and-true true y e = sym e
@@ -68,14 +69,14 @@ sieved_out p code k true new h none = none ∙ iff_bool false (list_all p code) 
 sieved_out p code k false new h none = none
 
 -- what fits at the first address of a block fits at each, if the dump has the same bytes there
-fits-same : (first : ℕ) (dump : List ℕ) (from to : ℕ) (b : CodeByte) → dump_byte first dump ((to + b.offset) % 65536) ≡ dump_byte first dump ((from + b.offset) % 65536)
-    → fits_if_plain first dump from b ≡ fits_if_plain first dump to b
-fits-same first dump from to b e = ap (λ (o : Option ℕ). not (is_plain b) || option_map_or (λ d. is_half b.half b.addend d 0) o false) (sym e)
+fits-same : (dump : DumpValue) (from to : ℕ) (b : CodeByte) → dump_byte dump ((to + b.offset) % 65536) ≡ dump_byte dump ((from + b.offset) % 65536)
+    → fits_if_plain dump from b ≡ fits_if_plain dump to b
+fits-same dump from to b e = ap (λ (o : Option ℕ). not (is_plain b) || option_map_or (λ d. is_half b.half b.addend d 0) o false) (sym e)
 
-pub run_fits : (first : ℕ) (dump : List ℕ) (low high start a : ℕ) (code : List CodeByte) → AreFrom low code → AreUpTo high code
-    → IsOneRun first dump low high start → start ≤ a → a < start + 1024
-    → list_all (fits_if_plain first dump start) code ≡ list_all (fits_if_plain first dump a) code
-run_fits first dump low high start a [] above below run from to = refl
-run_fits first dump low high start a (b ∷ bs) above below run from to =
-    ap (λ (t : Bool). t && list_all (fits_if_plain first dump start) bs) (fits-same first dump start a b (run a b.offset from to above.0 below.0))
-    ∙ ap (λ (t : Bool). fits_if_plain first dump a b && t) (run_fits first dump low high start a bs above.1 below.1 run from to)
+pub run_fits : (dump : DumpValue) (low high start a : ℕ) (code : List CodeByte) → AreFrom low code → AreUpTo high code
+    → IsOneRun dump low high start → start ≤ a → a < start + 1024
+    → list_all (fits_if_plain dump start) code ≡ list_all (fits_if_plain dump a) code
+run_fits dump low high start a [] above below run from to = refl
+run_fits dump low high start a (b ∷ bs) above below run from to =
+    ap (λ (t : Bool). t && list_all (fits_if_plain dump start) bs) (fits-same dump start a b (run a b.offset from to above.0 below.0))
+    ∙ ap (λ (t : Bool). fits_if_plain dump a b && t) (run_fits dump low high start a bs above.1 below.1 run from to)

@@ -8,7 +8,7 @@ use Rattle.omf_parts.specs.declared.fixup.Target.TheVariants as target
 use Rattle.rom80_find.specs.declared.pattern.code_byte.Half.TheVariants as half
 use Rattle.rom80_find.specs.declared.pattern.code_byte.CodeByte.{CodeByte}
 
--- a byte, where one must be named
+-- a byte, for terms that need one
 abbrev pub some_byte : CodeByte
 some_byte = record { offset = 0; half = half.Low; target = target.Segment 0; addend = 0 }
 
@@ -25,7 +25,7 @@ all_first p (x ∷ xs) (suc k) h =
     let parts = and_parts (p x) (list_all p xs) h in
     and_from (p x) (list_all p (take k xs)) parts.0 (all_first p xs k parts.1)
 
--- where a byte fails after the ones before it, all of them fail
+-- if a byte fails after the ones before it, all of them fail
 pub all_fail : {A : Type 0} (known : Bool) (p : A → Bool) (xs : List A) (i : ℕ) (d : A) → i < length xs
     → ((known && list_all p (take i xs)) && p (get_or xs i d)) ≡ false → (known && list_all p xs) ≡ false
 all_fail known p xs i d lt h = iff_bool _ false

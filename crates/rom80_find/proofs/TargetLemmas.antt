@@ -17,6 +17,7 @@ use Rattle.omf_parts.specs.Modules.{ModuleValue}
 use Rattle.omf_parts.specs.Rules.{has_target}
 use Rattle.omf_parts.specs.ImageByte.{name_at}
 use Rattle.omf_parts.specs.SoundModules.{RulesOf}
+use Rattle.rom80_find.specs.Dump.{DumpValue}
 use Rattle.rom80_find.specs.declared.pattern.code_byte.CodeByte.{CodeByte}
 use Rattle.rom80_find.specs.declared.pattern.resolving.Resolved.{Resolved}
 use Rattle.rom80_find.specs.CodeBytes.{number_of, has_small_id}
@@ -26,9 +27,9 @@ use Rattle.rom80_find.specs.Words.{has_word, AreOnlyWords, IsOfATarget}
 use Rattle.rom80_find.specs.Lies.{IsFirst, MayBeListed}
 use Rattle.rom80_find.proofs.BaseLemmas.{small_id}
 use Rattle.rom80_find.proofs.ChunkLemmas.{mapped_from, last_map}
-use Rattle.rom80_find.proofs.LieLemmas.{all_of_each, last_sound}
-use Rattle.rom80_find.proofs.FoundNameLemmas.{first_name}
-use Rattle.rom80_find.proofs.FoundWordLemmas.{has_a_byte}
+use Rattle.rom80_find.proofs.ModuleLieLemmas.{all_of_each, last_sound}
+use Rattle.rom80_find.proofs.ExternalLemmas.{first_name}
+use Rattle.rom80_find.proofs.OnlyWordLemmas.{has_a_byte}
 
 -- ---- the first external of a name is the first of its own
 
@@ -123,7 +124,7 @@ same_target (target.External i) (target.External j) st su e = ap (λ (index : �
     less : (i j : ℕ) → 256 + i ≡ 256 + j → i ≡ j
     less i j e = omega arith
 
-module _ (first : ℕ) (dump : List ℕ) (m : ModuleValue) (address count : ℕ) (rules : RulesOf m) where
+module _ (dump : DumpValue) (m : ModuleValue) (address count : ℕ) (rules : RulesOf m) where
   small : (t : Target) → IsKnown m t → has_small_id t ≡ true
   small (target.Segment id) known = lt-ltb id 256 (small_id m rules id known.has)
   small (target.External index) known = refl
@@ -136,15 +137,15 @@ module _ (first : ℕ) (dump : List ℕ) (m : ModuleValue) (address count : ℕ)
     | inr e ↦ among t st bs known.1 e
   ]
 
-  word_listed : (words : List Word) → AreOnlyWords first dump (code_bytes m) address count words → (w : Word)
+  word_listed : (words : List Word) → AreOnlyWords dump (code_bytes m) address count words → (w : Word)
       → has_word words (number_of w.target) w.word ≡ true → IsOfATarget w → MayBeListed m w.target
   word_listed words are w has small-id =
       let near = are.within (number_of w.target) w.word has in
       let only = ((are.each (number_of w.target) w.word near.0 near.1).0 has).1 in
-      let known = among w.target small-id (code_bytes m) (bytes_known m rules) (has_a_byte first dump (code_bytes m) address (number_of w.target) w.word near.0 are.lies only) in
+      let known = among w.target small-id (code_bytes m) (bytes_known m rules) (has_a_byte dump (code_bytes m) address (number_of w.target) w.word near.0 are.lies only) in
       record { has = known.has; not_fixed = near.0; first = known.first }
 
-  pub words_listed : (words : List Word) → AreOnlyWords first dump (code_bytes m) address count words → AllByRecursion IsOfATarget words
+  pub words_listed : (words : List Word) → AreOnlyWords dump (code_bytes m) address count words → AllByRecursion IsOfATarget words
       → AllByRecursion (λ w. MayBeListed m w.target) words
   words_listed words are targets = each words targets (λ w has. has)
     where

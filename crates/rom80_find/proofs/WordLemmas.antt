@@ -2,6 +2,7 @@
 use Rattle.std.specs.Prelude.{◌≡◌, ℕ, zero, suc, ◌+◌, ◌-◌, ◌%◌, ◌<◌, ◌≤◌, ◌==◌, ◌&&◌, if◌then◌else◌, nat_le, nat_lt, Bool, true, false, List, length, slice_index_or}
 use Rattle.std.proofs.Common.{refl, sym, ◌∙◌, ap, arith}
 use Rattle.std.proofs.lemmas.Bool.{and_parts, and_from, eqb-true, eq-eqb, ne_eqb, leb-true, le-leb, true≢false, lt-ltb, ltb-true}
+use Rattle.rom80_find.specs.Dump.{DumpValue}
 use Rattle.rom80_find.specs.declared.pattern.code_byte.CodeByte.{CodeByte}
 use Rattle.rom80_find.specs.declared.candidates.Candidates.{Candidates}
 use Rattle.rom80_find.specs.declared.candidates.Candidates.TheVariants.{Any, Low, Window}
@@ -9,7 +10,7 @@ use Rattle.rom80_find.specs.declared.words.Word.{Word}
 use Rattle.rom80_find.specs.Candidates.{is_candidate}
 use Rattle.rom80_find.specs.Places.{LiesWith, LiesAt, IsOnly, AreBelow, Describes, allows}
 use Rattle.rom80_find.specs.Words.{has_word, AreOnlyWords, is_single, AreSingle}
-use Rattle.rom80_find.proofs.LiesLemmas.{lies_allowed, allowed_lies}
+use Rattle.rom80_find.proofs.CodeLieLemmas.{lies_allowed, allowed_lies}
 
 -- a single candidate is the only word that can be one
 single_only : (c : Candidates) (word x : ℕ) → x < 65536 → is_single c word ≡ true → is_candidate c x ≡ true → x ≡ word
@@ -29,7 +30,7 @@ single-below (Window first more) word s =
     let is : first % 65536 ≡ word = eqb-true _ _ (and_parts (more == 0) (first % 65536 == word) s).1 in
     omega arith
 
--- and where all candidates are one word, it is single
+-- and if all candidates are one word, it is single
 only_single : (c : Candidates) (word : ℕ) → ((x : ℕ) → x < 65536 → is_candidate c x ≡ true → x ≡ word) → is_single c word ≡ true
 only_single Any word h =
     let one : 0 ≡ word = h 0 (omega arith) refl in
@@ -57,41 +58,41 @@ only_single (Window first (suc more)) word h =
     clash a b = omega arith
 
 -- another word that a value may have
-module _ (first : ℕ) (dump : List ℕ) (code : List CodeByte) (address count : ℕ) (lt : address < 65536) (below : AreBelow count code)
-    (value : ℕ → ℕ) (h : LiesWith first dump code address value) (number word : ℕ) (two : 2 ≤ number) (w : word < 65536) where
+module _ (dump : DumpValue) (code : List CodeByte) (address count : ℕ) (lt : address < 65536) (below : AreBelow count code)
+    (value : ℕ → ℕ) (h : LiesWith dump code address value) (number word : ℕ) (two : 2 ≤ number) (w : word < 65536) where
   abbrev changed : ℕ → ℕ
   changed n = if n == number then word else value n
 
-  changed_lies : allows first dump code address number word ≡ true → LiesWith first dump code address changed
-  changed_lies may = allowed_lies first dump code address count changed below
+  changed_lies : allows dump code address number word ≡ true → LiesWith dump code address changed
+  changed_lies may = allowed_lies dump code address count changed below
       (at_other 0 (omega arith) ∙ h.absolute) (at_other 1 (omega arith) ∙ h.here)
       (λ n below. one n (n == number) refl)
     where
       at_other : (n : ℕ) → n < number → changed n ≡ value n
       at_other n l = ap (λ (t : Bool). if t then word else value n) (ne_eqb n number (λ e. omega arith))
 
-      one : (n : ℕ) (t : Bool) → (n == number) ≡ t → allows first dump code address n (changed n % 65536) ≡ true
+      one : (n : ℕ) (t : Bool) → (n == number) ≡ t → allows dump code address n (changed n % 65536) ≡ true
       one n true e =
           let is : n ≡ number = eqb-true _ _ e in
           let same : changed n % 65536 ≡ word = ap (λ (t : Bool). (if t then word else value n) % 65536) e ∙ omega arith in
-          ap (λ (x : ℕ). allows first dump code address n x) same ∙ (ap (λ (x : ℕ). allows first dump code address x word) is ∙ may)
+          ap (λ (x : ℕ). allows dump code address n x) same ∙ (ap (λ (x : ℕ). allows dump code address x word) is ∙ may)
       one n false e =
-          ap (λ (t : Bool). allows first dump code address n ((if t then word else value n) % 65536)) e ∙ lies_allowed first dump code address value lt h n
+          ap (λ (t : Bool). allows dump code address n ((if t then word else value n) % 65536)) e ∙ lies_allowed dump code address value lt h n
 
   changed-at : changed number ≡ word
   changed-at = ap (λ (t : Bool). if t then word else value number) (eq-eqb number number refl)
 
-  pub other_word : allows first dump code address number word ≡ true → (only : ℕ) → IsOnly first dump code address number only → word ≡ only
+  pub other_word : allows dump code address number word ≡ true → (only : ℕ) → IsOnly dump code address number only → word ≡ only
   other_word may only is =
       let k : changed number % 65536 ≡ only = is changed (changed_lies may) in
       let l : changed number ≡ word = changed-at in
       omega arith
 
 -- the single ones of a table are the only words
-pub only_words : (first : ℕ) (dump : List ℕ) (code : List CodeByte) (address count : ℕ) (table : List Candidates) (words : List Word) → address < 65536
-    → AreBelow count code → length table ≡ count → Describes first dump code address table → LiesAt first dump code address
-    → AreSingle table count words → AreOnlyWords first dump code address count words
-only_words first dump code address count table words lt below whole h lies single = record {
+pub only_words : (dump : DumpValue) (code : List CodeByte) (address count : ℕ) (table : List Candidates) (words : List Word) → address < 65536
+    → AreBelow count code → length table ≡ count → Describes dump code address table → LiesAt dump code address
+    → AreSingle table count words → AreOnlyWords dump code address count words
+only_words dump code address count table words lt below whole h lies single = record {
   lies = lies;
   within = λ number word e. let parts = and_parts (nat_le 2 number) (nat_lt number count && is_single (slice_index_or table number Any) word) (sym (single.each number word) ∙ e) in
       (leb-true 2 number parts.0, ltb-true number count (and_parts (nat_lt number count) (is_single (slice_index_or table number Any) word) parts.1).0);
@@ -99,11 +100,11 @@ only_words first dump code address count table words lt below whole h lies singl
     (λ e. let s = is-single number word e in (
       single-below (slice_index_or table number Any) word s,
       λ value with. single_only (slice_index_or table number Any) word (value number % 65536) (omega arith) s
-          (h.each number (value number % 65536) (omega arith) (omega arith) ∙ lies_allowed first dump code address value lt with number),
+          (h.each number (value number % 65536) (omega arith) (omega arith) ∙ lies_allowed dump code address value lt with number),
     )),
     (λ p. single.each number word ∙ and_from _ _ (le-leb 2 number two) (and_from _ _ (lt-ltb number count less)
         (only_single (slice_index_or table number Any) word (λ x lx cand.
-        other_word first dump code address count lt below lies.value lies.lies number x two lx
+        other_word dump code address count lt below lies.value lies.lies number x two lx
         (sym (h.each number x (omega arith) lx) ∙ cand) word p.1)))),
   );
 }

@@ -5,7 +5,7 @@ use Rattle.rom80_find.specs.CodeBytes.{half_of}
 use Rattle.rom80_find.specs.declared.candidates.Candidates.{Candidates}
 use Rattle.rom80_find.specs.declared.candidates.Candidates.TheVariants.{Any, Low, Window}
 
--- the word is `first` or one of so many after it, with 0000 after FFFF
+-- the word is `first` or one of the `more` words after it; 0000 comes after FFFF
 abbrev pub is_in_window : (first more word : ℕ) → Bool
 is_in_window first more word = nat_le ((word + 65536 - first % 65536) % 65536) more
 

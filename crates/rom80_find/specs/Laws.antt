@@ -3,6 +3,7 @@ use Rattle.std.specs.Prelude.{◌↔◌, ℕ, ◌<◌, List, length, IsTrue}
 use Rattle.std.specs.List.{AllByRecursion}
 use Rattle.omf_parts.specs.Modules.{ModuleValue}
 use Rattle.omf_parts.specs.Rules.{is_sound}
+use Rattle.rom80_find.specs.Dump.{DumpValue}
 use Rattle.rom80_find.specs.Modules.{code_bytes, code_length}
 use Rattle.rom80_find.specs.declared.words.Word.{Word}
 use Rattle.rom80_find.specs.Places.{LiesAt, AreBelow, ArePlaces}
@@ -13,28 +14,28 @@ use Rattle.rom80_find.specs.Lies.{HasModule, AreModulePlaces, AreModuleWords, Ma
 -- lies there
 abbrev pub PatternsLieAsModules : Type 0
 PatternsLieAsModules =
-    (first : ℕ) (dump : List ℕ) (m : ModuleValue) (address : ℕ)
+    (dump : DumpValue) (m : ModuleValue) (address : ℕ)
     → IsTrue (is_sound m) → code_length m < 65536 → address < 65536
-    → (0 < length (code_bytes m)) × LiesAt first dump (code_bytes m) address ↔ HasModule first dump m address
+    → (0 < length (code_bytes m)) × LiesAt dump (code_bytes m) address ↔ HasModule dump m address
 
 -- so the places of the one are those of the other
 abbrev pub PatternPlacesAreModulePlaces : Type 0
 PatternPlacesAreModulePlaces =
-    (first : ℕ) (dump : List ℕ) (m : ModuleValue) (places : List ℕ)
+    (dump : DumpValue) (m : ModuleValue) (places : List ℕ)
     → IsTrue (is_sound m) → code_length m < 65536 → 0 < length (code_bytes m)
-    → ArePlaces first dump (code_bytes m) 65536 places → AreModulePlaces first dump m places
+    → ArePlaces dump (code_bytes m) 65536 places → AreModulePlaces dump m places
 
 -- and a value that can be one word only is a base, or the word of a name, that can be that one only
 abbrev pub PatternWordsAreModuleWords : Type 0
 PatternWordsAreModuleWords =
-    (first : ℕ) (dump : List ℕ) (m : ModuleValue) (address count : ℕ) (words : List Word)
+    (dump : DumpValue) (m : ModuleValue) (address count : ℕ) (words : List Word)
     → IsTrue (is_sound m) → code_length m < 65536 → 0 < length (code_bytes m) → address < 65536
-    → AreBelow count (code_bytes m) → AreOnlyWords first dump (code_bytes m) address count words
-    → AreModuleWords first dump m address words
+    → AreBelow count (code_bytes m) → AreOnlyWords dump (code_bytes m) address count words
+    → AreModuleWords dump m address words
 
 -- which is that of a target that may be listed
 abbrev pub PatternWordsMayBeListed : Type 0
 PatternWordsMayBeListed =
-    (first : ℕ) (dump : List ℕ) (m : ModuleValue) (address count : ℕ) (words : List Word)
-    → IsTrue (is_sound m) → AreOnlyWords first dump (code_bytes m) address count words → AllByRecursion IsOfATarget words
+    (dump : DumpValue) (m : ModuleValue) (address count : ℕ) (words : List Word)
+    → IsTrue (is_sound m) → AreOnlyWords dump (code_bytes m) address count words → AllByRecursion IsOfATarget words
     → AllByRecursion (λ w. MayBeListed m w.target) words

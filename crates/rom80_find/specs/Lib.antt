@@ -1,8 +1,10 @@
+pub mod Dump
 pub mod Candidates
 pub mod Places
 pub mod Sieve
 pub mod Words
 pub mod Runs
+pub mod Search
 pub mod CodeBytes
 pub mod Modules
 pub mod Chunks
@@ -14,4 +16,4 @@ pub mod Found
 -- what the crate's own functions promise one another: no public contract cites these
 pub mod Names
 pub mod Patterns
-pub mod LinesWords
+pub mod Prints

@@ -8,29 +8,30 @@ use Rattle.omf_parts.specs.Modules.{ModuleValue}
 use Rattle.omf_parts.specs.Rules.{has_target}
 use Rattle.omf_parts.specs.Place.{Bases, word_of, place_in}
 use Rattle.omf_parts.specs.ImageByte.{ByteChunk, name_at, last_over}
+use Rattle.rom80_find.specs.Dump.{DumpValue, dump_byte}
 use Rattle.rom80_find.specs.CodeBytes.{number_of}
 use Rattle.rom80_find.specs.Modules.{first_with}
 use Rattle.rom80_find.specs.Chunks.{code_chunks, is_covered, chunk_byte}
 use Rattle.rom80_find.specs.declared.words.Word.{Word}
-use Rattle.rom80_find.specs.Places.{dump_byte, is_listed}
+use Rattle.rom80_find.specs.Places.{is_listed}
 use Rattle.rom80_find.specs.Words.{has_word}
 
 -- The module lies in the dump if it has these bases: CODE's is the address; at each address that its contents in CODE cover,
 -- the dump has the byte of the last of them; and there is such an address.
-pub record LiesByBases (first : ℕ) (dump : List ℕ) (m : ModuleValue) (address : ℕ) (bases : Bases) : Type 0 where
+pub record LiesByBases (dump : DumpValue) (m : ModuleValue) (address : ℕ) (bases : Bases) : Type 0 where
   pub here : bases.code ≡ address
-  pub bytes : (a : ℕ) (c : ByteChunk) → last_over (code_chunks bases m) a ≡ Some c → dump_byte first dump a ≡ Some (chunk_byte c a)
+  pub bytes : (a : ℕ) (c : ByteChunk) → last_over (code_chunks bases m) a ≡ Some c → dump_byte dump a ≡ Some (chunk_byte c a)
   pub some : (a : ℕ) × (is_covered (code_chunks bases m) a ≡ true)
 
 -- it lies there: there are bases with which it does
-pub record HasModule (first : ℕ) (dump : List ℕ) (m : ModuleValue) (address : ℕ) : Type 0 where
+pub record HasModule (dump : DumpValue) (m : ModuleValue) (address : ℕ) : Type 0 where
   pub bases : Bases
-  pub lies : LiesByBases first dump m address bases
+  pub lies : LiesByBases dump m address bases
 
 -- the addresses at which the module lies, in ascending order
-pub record AreModulePlaces (first : ℕ) (dump : List ℕ) (m : ModuleValue) (places : List ℕ) : Type 0 where
-  pub lies : (address : ℕ) → is_listed places address ≡ true → (address < 65536) × HasModule first dump m address
-  pub all : (address : ℕ) → address < 65536 → HasModule first dump m address → is_listed places address ≡ true
+pub record AreModulePlaces (dump : DumpValue) (m : ModuleValue) (places : List ℕ) : Type 0 where
+  pub lies : (address : ℕ) → is_listed places address ≡ true → (address < 65536) × HasModule dump m address
+  pub all : (address : ℕ) → address < 65536 → HasModule dump m address → is_listed places address ≡ true
   pub ascending : AllPairs (λ (p q : ℕ). p < q) places
 
 -- ---- the words of its targets
@@ -41,8 +42,8 @@ given_word bases m (target.Segment id) = place_in bases (m ∷ []) 0 m id 0
 given_word bases m (target.External index) = word_of bases.words (name_at m.externals index)
 
 -- whatever bases the module lies there with, they give the target this word
-abbrev pub IsOnlyWord : (first : ℕ) (dump : List ℕ) (m : ModuleValue) (address : ℕ) → Target → (word : ℕ) → Type 0
-IsOnlyWord first dump m address t word = (bases : Bases) → LiesByBases first dump m address bases → given_word bases m t % 65536 ≡ word
+abbrev pub IsOnlyWord : (dump : DumpValue) (m : ModuleValue) (address : ℕ) → Target → (word : ℕ) → Type 0
+IsOnlyWord dump m address t word = (bases : Bases) → LiesByBases dump m address bases → given_word bases m t % 65536 ≡ word
 
 -- the target is a segment, or the first external of its name
 abbrev pub IsFirst : ModuleValue → Target → Type 0
@@ -57,9 +58,9 @@ pub record MayBeListed (m : ModuleValue) (t : Target) : Type 0 where
 
 -- The words are those of the targets that can have only one: each word that is listed is the only one, and each target with
 -- only one word is listed with it, but for absolute bytes and CODE, and an external under the first of its equal names.
-pub record AreModuleWords (first : ℕ) (dump : List ℕ) (m : ModuleValue) (address : ℕ) (words : List Word) : Type 0 where
-  pub lies : HasModule first dump m address
+pub record AreModuleWords (dump : DumpValue) (m : ModuleValue) (address : ℕ) (words : List Word) : Type 0 where
+  pub lies : HasModule dump m address
   pub only : (t : Target) (word : ℕ) → IsTrue (has_target m.commons (length m.externals) t)
-      → has_word words (number_of t) word ≡ true → IsOnlyWord first dump m address t word
+      → has_word words (number_of t) word ≡ true → IsOnlyWord dump m address t word
   pub all : (t : Target) (word : ℕ) → IsTrue (has_target m.commons (length m.externals) t) → 2 ≤ number_of t
-      → IsFirst m t → IsOnlyWord first dump m address t word → has_word words (number_of t) word ≡ true
+      → IsFirst m t → IsOnlyWord dump m address t word → has_word words (number_of t) word ≡ true

@@ -76,6 +76,6 @@ missing_line name = codes "MISSING " ++ (name ++ 10 ∷ [])
 abbrev pub short_line : (name : List ℕ) → List ℕ
 short_line name = codes "SHORT " ++ (name ++ 10 ∷ [])
 
--- so many modules of a library, of how many
+-- how many modules of a library are missing, and how many it has
 abbrev pub count_line : (missing all : ℕ) → List ℕ
 count_line missing all = codes "MISSING " ++ (decimal missing ++ (codes " OF " ++ (decimal all ++ 10 ∷ [])))

@@ -9,7 +9,7 @@ use Rattle.omf_parts.specs.Modules.{ModuleValue}
 use Rattle.omf_parts.specs.Rules.{is_sound}
 use Rattle.omf_parts.specs.Place.{Bases, place_in}
 use Rattle.omf_parts.specs.ImageByte.{target_word, chunk_of, chunk_covers, chunks_of, image_byte}
-use Rattle.rom80_find.specs.Places.{dump_byte}
+use Rattle.rom80_find.specs.Dump.{DumpValue, dump_byte}
 use Rattle.rom80_find.specs.Chunks.{is_code, is_covered}
 use Rattle.rom80_find.specs.Lies.{LiesByBases}
 
@@ -21,11 +21,11 @@ pub record GoWith (bases : Bases) (modules : List ModuleValue) (number : ℕ) (m
       → target_word own (m ∷ []) (0, m) (target.External index) ≡ target_word bases modules (number, m) (target.External index)
 
 -- the module with this number lies in the dump with such bases
-pub record LiesInLink (first : ℕ) (dump : List ℕ) (bases : Bases) (modules : List ModuleValue) (e : ℕ × ModuleValue) : Type 0 where
+pub record LiesInLink (dump : DumpValue) (bases : Bases) (modules : List ModuleValue) (e : ℕ × ModuleValue) : Type 0 where
   pub sound : IsTrue (is_sound e.1)
   pub address : ℕ
   pub own : Bases
-  pub lies : LiesByBases first dump e.1 address own
+  pub lies : LiesByBases dump e.1 address own
   pub with_link : GoWith bases modules e.0 e.1 own
 
 -- of a module's contents only ones in CODE cover the address
@@ -33,12 +33,11 @@ abbrev pub OnlyCodeCovers : Bases → List ModuleValue → (address : ℕ) → �
 OnlyCodeCovers bases modules address e =
     AllByRecursion (λ c. chunk_covers address (chunk_of bases modules e c) ≡ true → is_code c ≡ true) e.1.contents
 
--- If all modules do, at each address that contents cover, all of them in CODE, the dump has the byte that LINK and LOCATE come
--- to.
+-- If all modules do, the dump has the byte that LINK and LOCATE give each address that contents cover, all of them in CODE.
 abbrev pub LinkHasTheBytes : Type 0
 LinkHasTheBytes =
-    (first : ℕ) (dump : List ℕ) (bases : Bases) (modules : List ModuleValue) (address : ℕ)
-    → AllByRecursion (LiesInLink first dump bases modules) (enumerate_from 0 modules)
+    (dump : DumpValue) (bases : Bases) (modules : List ModuleValue) (address : ℕ)
+    → AllByRecursion (LiesInLink dump bases modules) (enumerate_from 0 modules)
     → AllByRecursion (OnlyCodeCovers bases modules address) (enumerate_from 0 modules)
     → is_covered (chunks_of bases modules) address ≡ true
-    → dump_byte first dump address ≡ Some (image_byte bases modules address % 256)
+    → dump_byte dump address ≡ Some (image_byte bases modules address % 256)

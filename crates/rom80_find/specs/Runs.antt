@@ -1,24 +1,25 @@
 -- Runs of equal bytes in a dump.
 use Rattle.std.specs.Prelude.{◌≡◌, ℕ, ◌+◌, ◌-◌, ◌%◌, ◌<◌, ◌≤◌, Bool, true, false, Option, List, length, slice_index, IfSome}
 use Rattle.std.specs.List.{AllByRecursion}
+use Rattle.rom80_find.specs.Dump.{DumpValue, dump_byte}
 use Rattle.rom80_find.specs.declared.pattern.code_byte.CodeByte.{CodeByte}
-use Rattle.rom80_find.specs.Places.{dump_byte, is_free, LiesAt}
+use Rattle.rom80_find.specs.Places.{is_free, LiesAt}
 
 -- of each address below `stop`, all addresses twice, one from which on up to it the dump has the same byte, or none
-pub record AreRunStarts (first : ℕ) (dump : List ℕ) (stop : ℕ) (starts : List ℕ) : Type 0 where
+pub record AreRunStarts (dump : DumpValue) (stop : ℕ) (starts : List ℕ) : Type 0 where
   pub whole : length starts ≡ 131072
-  pub each : (at y : ℕ) → at < stop → slice_index starts at ≤ y → y ≤ at → dump_byte first dump (y % 65536) ≡ dump_byte first dump (at % 65536)
+  pub each : (at y : ℕ) → at < stop → slice_index starts at ≤ y → y ≤ at → dump_byte dump (y % 65536) ≡ dump_byte dump (at % 65536)
 
 -- at each of these offsets after the address the dump has the byte that it has there after the address before it
-pub record IsRepeated (first : ℕ) (dump : List ℕ) (low high address : ℕ) : Type 0 where
+pub record IsRepeated (dump : DumpValue) (low high address : ℕ) : Type 0 where
   pub later : 1 ≤ address
   pub same : (offset : ℕ) → low ≤ offset → offset ≤ high
-      → dump_byte first dump ((address + offset) % 65536) ≡ dump_byte first dump ((address - 1 + offset) % 65536)
+      → dump_byte dump ((address + offset) % 65536) ≡ dump_byte dump ((address - 1 + offset) % 65536)
 
 -- at each of these offsets after each of 1,024 addresses the dump has the byte that it has there after the first of them
-abbrev pub IsOneRun : (first : ℕ) (dump : List ℕ) (low high start : ℕ) → Type 0
-IsOneRun first dump low high start = (address offset : ℕ) → start ≤ address → address < start + 1024 → low ≤ offset → offset ≤ high
-    → dump_byte first dump ((address + offset) % 65536) ≡ dump_byte first dump ((start + offset) % 65536)
+abbrev pub IsOneRun : (dump : DumpValue) (low high start : ℕ) → Type 0
+IsOneRun dump low high start = (address offset : ℕ) → start ≤ address → address < start + 1024 → low ≤ offset → offset ≤ high
+    → dump_byte dump ((address + offset) % 65536) ≡ dump_byte dump ((start + offset) % 65536)
 
 -- the bytes have offsets from one to another
 abbrev pub AreFrom : (low : ℕ) → List CodeByte → Type 0
@@ -32,9 +33,9 @@ abbrev pub AreFree : List CodeByte → Type 0
 AreFree code = AllByRecursion (λ b. is_free b ≡ true) code
 
 -- the answer says whether the code lies at the address; and, if there is one, whether it lies at the address before it
-pub record IsAnswer (first : ℕ) (dump : List ℕ) (code : List CodeByte) (address : ℕ) (answer : Bool) : Type 0 where
-  pub yes : answer ≡ true → LiesAt first dump code address
-  pub no : answer ≡ false → LiesAt first dump code address → ⊥
+pub record IsAnswer (dump : DumpValue) (code : List CodeByte) (address : ℕ) (answer : Bool) : Type 0 where
+  pub yes : answer ≡ true → LiesAt dump code address
+  pub no : answer ≡ false → LiesAt dump code address → ⊥
 
-abbrev pub IsAnswerBefore : (first : ℕ) (dump : List ℕ) (code : List CodeByte) (address : ℕ) (before : Option Bool) → Type 0
-IsAnswerBefore first dump code address before = IfSome before (λ answer. (1 ≤ address) → IsAnswer first dump code (address - 1) answer)
+abbrev pub IsAnswerBefore : (dump : DumpValue) (code : List CodeByte) (address : ℕ) (before : Option Bool) → Type 0
+IsAnswerBefore dump code address before = IfSome before (λ answer. (1 ≤ address) → IsAnswer dump code (address - 1) answer)

@@ -1,6 +1,7 @@
 -- The values of targets that a dump leaves only one word for.
 use Rattle.std.specs.Prelude.{◌≡◌, ◌↔◌, ℕ, ◌%◌, ◌<◌, ◌≤◌, ◌==◌, ◌&&◌, nat_le, nat_lt, Bool, true, false, List, slice_index_or}
 use Rattle.std.specs.List.{list_any, All, AllPairs}
+use Rattle.rom80_find.specs.Dump.{DumpValue}
 use Rattle.rom80_find.specs.declared.pattern.code_byte.CodeByte.{CodeByte}
 use Rattle.rom80_find.specs.CodeBytes.{number_of, has_small_id}
 use Rattle.rom80_find.specs.declared.candidates.Candidates.{Candidates}
@@ -13,11 +14,11 @@ abbrev pub has_word : List Word → (number word : ℕ) → Bool
 has_word words number word = list_any (λ w. number_of w.target == number && w.word == word) words
 
 -- The words are those of the values that have only one, but for absolute bytes and CODE.
-pub record AreOnlyWords (first : ℕ) (dump : List ℕ) (code : List CodeByte) (address count : ℕ) (words : List Word) : Type 0 where
-  pub lies : LiesAt first dump code address
+pub record AreOnlyWords (dump : DumpValue) (code : List CodeByte) (address count : ℕ) (words : List Word) : Type 0 where
+  pub lies : LiesAt dump code address
   pub within : (number word : ℕ) → has_word words number word ≡ true → (2 ≤ number) × (number < count)
   pub each : (number word : ℕ) → 2 ≤ number → number < count →
-      (has_word words number word ≡ true) ↔ ((word < 65536) × IsOnly first dump code address number word)
+      (has_word words number word ≡ true) ↔ ((word < 65536) × IsOnly dump code address number word)
 
 -- the words come by ascending numbers of their targets
 abbrev pub AreAscending : List Word → Type 0

@@ -7,18 +7,18 @@ use crate::pattern::Half;
 
 /// The values that a target may have. There is always one.
 #[derive(Clone, Copy, Debug, PartialEq, Eq)]
-pub enum Candidates {
+pub(crate) enum Candidates {
     /// Every word.
     Any,
     /// The words with this low byte.
     Low(u8),
-    /// The words from the first on, so many of them after it, with 0000 after FFFF.
+    /// The words from the first on, and the number of those after it; 0000 comes after FFFF.
     Window(u16, u8),
 }
 
 impl Candidates {
     /// Those of them with which the half of their sum with the addend is this byte, if there are any.
-    pub fn narrowed(self, half: Half, addend: u16, byte: u8) -> Option<Candidates>
+    pub(crate) fn narrowed(self, half: Half, addend: u16, byte: u8) -> Option<Candidates>
         ensures some { IfSome result (λ narrowed. (word : ℕ) → word < 65536 →
             is_candidate narrowed word ≡ (is_candidate self word && is_half half addend byte word)) }
         ensures none { IfNone result ((word : ℕ) → word < 65536 →

@@ -2,19 +2,17 @@
 //!
 //! | Item | What it is |
 //! |---|---|
-//! | [`places`] | the addresses at which the code of a module lies in a dump |
-//! | [`count_of`] | how many numbers the targets of the code have |
-//! | [`words_at`], [`Word`] | the words of its targets at one of them |
-//! | [`Candidates`] | the words that a target may have |
-//! | [`byte_at`] | the byte at an address where a dump stands |
-//! | [`code_bytes`] | the bytes that a module's contents define in CODE |
-//! | [`CodeByte`], [`Half`] | a byte of the code: half of the word that is a target's value plus an addend |
-//! | [`Resolved`] | what the target of a fixup stands for |
-//! | [`number_of`], [`target_of`] | the number by which a target's value goes, and the target with a number |
-//! | [`ModulePattern`] | a module to look for: the addresses at which it lies in a dump, and the bases of its segments and the words of its externals at one of them |
-//! | [`laws`] | that a module lies in a dump exactly if its pattern does |
+//! | [`Dump`] | a dump: the bytes of the addresses from one on |
 //! | [`append_modules`] | the lines of the modules of an object file, and whether none is missing |
 //! | [`append_members`] | the lines of the modules of a library that are found, and how many aren't |
+//! | [`link_of_found_modules_has_the_bytes`] | that a link of modules that lie in a dump has the dump's bytes: a law |
+//!
+//! | Part | What it does |
+//! |---|---|
+//! | `pattern` | reads the code of a module as a pattern: bytes that are halves of values of targets, plus addends |
+//! | `listing`, `words` | find the addresses at which a pattern lies in a dump, and the words of its targets there |
+//! | `found` | says the same of modules, by LOCATE's own definition of their bytes |
+//! | `lines` | prints it |
 #![tactic(auto)]
 
 mod candidates;
@@ -23,21 +21,15 @@ mod fixup_bytes;
 mod found;
 mod lines;
 mod listing;
-mod next;
+mod offsets;
 mod pattern;
+mod rings;
 mod runs;
+mod search;
 mod sieve;
 mod solving;
 mod words;
 
-pub use candidates::Candidates;
-pub use dump::byte_at;
-pub use found::ModulePattern;
-pub use found::laws::{
-    link_of_found_modules_has_the_bytes, pattern_places_are_module_places,
-    pattern_words_are_module_words, pattern_words_may_be_listed, patterns_lie_as_modules,
-};
+pub use dump::Dump;
+pub use found::link_of_found_modules_has_the_bytes;
 pub use lines::{append_members, append_modules};
-pub use listing::{count_of, places};
-pub use pattern::{CodeByte, Half, Resolved, code_bytes, number_of, target_of};
-pub use words::{Word, words_at};

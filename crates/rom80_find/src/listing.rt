@@ -1,47 +1,43 @@
 //! The addresses at which a module's code lies.
 
 ghost use Rattle.std.specs.Prelude.{◌≡◌, ◌<◌, ◌≤◌, ◌++◌, IfOk, OnOk};
+ghost use Rattle.rom80_find.specs.Dump.{dump_of};
 ghost use Rattle.rom80_find.specs.CodeBytes.{number_of};
 ghost use Rattle.rom80_find.specs.Places.{AreBelow, ArePlaces, place_of};
 
-use crate::fixup_bytes::fixup_bytes;
-use crate::next::lies_next;
+use crate::dump::Dump;
 use crate::pattern::CodeByte;
-use crate::runs::run_starts;
+use crate::runs::Runs;
+use crate::search::Search;
 use crate::sieve::sieve;
-use crate::solving::any_table;
 use omf_parts::Target;
 use std::alloc::{AllocError, Global};
 
-/// The addresses at which the code lies in a dump that stands from the address `first` on, in ascending order: those for which
-/// there are values of its targets with which the dump has all its bytes. The targets have numbers below `count`.
+/// The addresses at which the code lies in a dump, in ascending order: those for which there are values of its targets with which
+/// the dump has all its bytes. The targets have numbers below `count`.
 ///
 /// The time grows with the number of bytes of the code times 65536, in steps of many addresses at once, and with the number of
 /// its bytes in fixups for each address at which the others fit, but for those at which the dump repeats the byte before.
 ///
 /// # Errors
 /// `AllocError` only if memory ran out.
-pub fn places(
+pub(crate) fn places(
     alloc: Global,
-    first: u16,
-    dump: &[u8],
+    dump: Dump<'_>,
     code: &[CodeByte],
     count: usize,
 ) -> Result<Vec<u16>, AllocError>
     requires two { 2 ≤ count }
     requires below { AreBelow count code.now }
-    ensures { IfOk result (λ places. ArePlaces first dump.now code.now 65536 places.items) }
+    ensures { IfOk result (λ places. ArePlaces (dump_of dump.entry) code.now 65536 places.items) }
 {
-    let starts = run_starts(alloc, first, dump)?;
-    let alive = sieve(alloc, first, dump, code, &starts)?;
-    let bytes = fixup_bytes(alloc, code)?;
-    let mut table = any_table(alloc, count)?;
+    let runs = Runs::of(alloc, dump)?;
+    let alive = sieve(alloc, &runs, code)?;
+    let mut search = Search::of(alloc, runs, code, count)?;
     let mut places = Vec::new(alloc);
     let mut before = None;
     for at in 0..65536usize {
-        before = lies_next(
-            first, dump, at as u16, alive[at], &bytes, &starts, before, &mut table,
-        );
+        before = search.lies_next(at as u16, alive[at], before);
         push_place(&mut places, at as u16, before)?;
     }
     Ok(places)
@@ -58,7 +54,7 @@ fn push_place(places: &mut Vec<u16>, address: u16, answer: Option<bool>) -> Resu
 }
 
 /// One more than the greatest number of a target in the code, and at least 2, for absolute bytes and CODE.
-pub fn count_of(code: &[CodeByte]) -> usize
+pub(crate) fn count_of(code: &[CodeByte]) -> usize
     ensures two { 2 ≤ result }
     ensures few { result ≤ 65792 }
     ensures below { AreBelow result code.now }

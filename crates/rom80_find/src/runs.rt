@@ -1,27 +1,83 @@
 //! Runs of equal bytes in a dump.
 
 ghost use Rattle.std.specs.Prelude.{◌≡◌, ◌≢◌, ℕ, ◌+◌, ◌-◌, ◌%◌, ◌<◌, ◌≤◌, true, length, slice_index, List, IfOk};
-ghost use Rattle.rom80_find.specs.Places.{dump_byte};
+ghost use Rattle.rom80_find.specs.Dump.{dump_of, dump_byte};
 ghost use Rattle.rom80_find.specs.Runs.{AreRunStarts, IsRepeated, IsOneRun};
 
-use crate::dump::byte_at;
+use crate::dump::Dump;
+use crate::offsets::Offsets;
 use std::alloc::{AllocError, Global};
+use std::marker::Model;
 
 /// How many addresses there are.
 const ADDRESSES: usize = 65536;
 
+/// A dump with the starts of its runs of equal bytes. A contract sees the dump.
+#[derive(Drop)]
+pub(crate) struct Runs<'a> {
+    dump: Dump<'a>,
+    starts: Vec<u32>,
+}
+
+impl<'a> Model for Runs<'a> {
+    ghost use Rattle.rom80_find.specs.Dump.{DumpValue, dump_of};
+    ghost use Rattle.rom80_find.specs.Runs.{AreRunStarts};
+
+    ghost Value = { DumpValue };
+
+    ghost view = { λ r. dump_of r.dump };
+
+    ghost invariant = { λ r. AreRunStarts (dump_of r.dump) 131072 r.starts.items };
+}
+
+impl<'a> Runs<'a> {
+    /// The dump with its runs.
+    pub(crate) fn of(alloc: Global, dump: Dump<'a>) -> Result<Runs<'a>, AllocError>
+        ensures { IfOk result (λ runs. runs ≡ dump_of dump.entry) }
+    {
+        let starts = run_starts(alloc, dump)?;
+        Ok(Runs { dump, starts })
+    }
+
+    /// The dump.
+    pub(crate) fn dump(&self) -> Dump<'a>
+        ensures { dump_of result ≡ self.now }
+    {
+        self.dump
+    }
+
+    /// Whether the dump has, at each of these offsets after the address, the byte that it has there after the address before it.
+    pub(crate) fn is_repeated(&self, offsets: Offsets, address: u16) -> bool
+        ensures { result ≡ true → IsRepeated self.now offsets.low offsets.high address }
+    {
+        let last = usize::from(address) + usize::from(offsets.high);
+        let start = self.starts[last] as usize;
+        0 < address && start < usize::from(address) + usize::from(offsets.low)
+    }
+
+    /// Whether the dump has, at each of these offsets after each of the 1,024 addresses from `start` on, the byte that it has there
+    /// after the first of them.
+    pub(crate) fn is_one_run(&self, offsets: Offsets, start: usize) -> bool
+        requires { start + 1024 ≤ 65536 }
+        ensures { result ≡ true → IsOneRun self.now offsets.low offsets.high start }
+    {
+        let last = start + 1023 + usize::from(offsets.high);
+        self.starts[last] as usize <= start + usize::from(offsets.low)
+    }
+}
+
 /// For each address, all addresses twice, one from which on up to it the dump has the same byte, or none, at each address.
-pub(crate) fn run_starts(alloc: Global, first: u16, dump: &[u8]) -> Result<Vec<u32>, AllocError>
-    ensures { IfOk result (λ starts. AreRunStarts first dump.now 131072 starts.items) }
+fn run_starts(alloc: Global, dump: Dump<'_>) -> Result<Vec<u32>, AllocError>
+    ensures { IfOk result (λ starts. AreRunStarts (dump_of dump.entry) 131072 starts.items) }
 {
     let mut starts = no_starts(alloc, 2 * ADDRESSES)?;
     for at in 1..2 * ADDRESSES {
-        starts[at] = run_start(first, dump, at, starts[at - 1]);
+        starts[at] = run_start(dump, at, starts[at - 1]);
     }
     Ok(starts)
 }
 
-/// So many times 0.
+/// `count` zeros.
 fn no_starts(alloc: Global, count: usize) -> Result<Vec<u32>, AllocError>
     ensures whole { IfOk result (λ starts. length starts.items ≡ count) }
     ensures first { IfOk result (λ starts. slice_index starts.items 0 ≡ 0) }
@@ -30,13 +86,13 @@ fn no_starts(alloc: Global, count: usize) -> Result<Vec<u32>, AllocError>
 }
 
 /// Where a run that goes up to the address begins, if the one up to the address before it begins at `before`.
-fn run_start(first: u16, dump: &[u8], at: usize, before: u32) -> u32
+fn run_start(dump: Dump<'_>, at: usize, before: u32) -> u32
     requires before { 1 ≤ at }
     requires below { at < 131072 }
     ensures longer { result ≢ at → result ≡ before }
-    ensures same { result ≢ at → dump_byte first dump.now (at % 65536) ≡ dump_byte first dump.now ((at - 1) % 65536) }
+    ensures same { result ≢ at → dump_byte (dump_of dump.entry) (at % 65536) ≡ dump_byte (dump_of dump.entry) ((at - 1) % 65536) }
 {
-    if is_as_before(first, dump, at) {
+    if is_as_before(dump, at) {
         before
     } else {
         at as u32
@@ -44,30 +100,9 @@ fn run_start(first: u16, dump: &[u8], at: usize, before: u32) -> u32
 }
 
 /// Whether the dump has the same byte, or none, at the address and at the one before it.
-fn is_as_before(first: u16, dump: &[u8], at: usize) -> bool
+fn is_as_before(dump: Dump<'_>, at: usize) -> bool
     requires before { 1 ≤ at }
-    ensures { result ≡ true → dump_byte first dump.now (at % 65536) ≡ dump_byte first dump.now ((at - 1) % 65536) }
+    ensures { result ≡ true → dump_byte (dump_of dump.entry) (at % 65536) ≡ dump_byte (dump_of dump.entry) ((at - 1) % 65536) }
 {
-    byte_at(first, dump, (at % ADDRESSES) as u16)
-        == byte_at(first, dump, ((at - 1) % ADDRESSES) as u16)
-}
-
-/// Whether the dump has, at each offset from `low` to `high` after the address, the byte that it has there after the address before
-/// it.
-pub(crate) fn is_repeated(starts: &[u32], low: u16, high: u16, address: u16) -> bool
-    requires { length starts.now ≡ 131072 }
-    ensures { result ≡ true → (first : ℕ) (dump : List ℕ) → AreRunStarts first dump 131072 starts.now → IsRepeated first dump low high address }
-{
-    let start = starts[usize::from(address) + usize::from(high)] as usize;
-    0 < address && start < usize::from(address) + usize::from(low)
-}
-
-/// Whether the dump has, at each offset from `low` to `high` after each of the 1,024 addresses from `start` on, the byte that it has
-/// there after the first of them.
-pub(crate) fn is_one_run(starts: &[u32], low: u16, high: u16, start: usize) -> bool
-    requires all { length starts.now ≡ 131072 }
-    requires block { start + 1024 ≤ 65536 }
-    ensures { result ≡ true → (first : ℕ) (dump : List ℕ) → AreRunStarts first dump 131072 starts.now → IsOneRun first dump low high start }
-{
-    starts[start + 1023 + usize::from(high)] as usize <= start + usize::from(low)
+    dump.byte_at((at % ADDRESSES) as u16) == dump.byte_at(((at - 1) % ADDRESSES) as u16)
 }

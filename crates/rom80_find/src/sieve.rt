@@ -1,47 +1,38 @@
 //! Places at which a module's bytes outside fixups are those of a dump.
 
-ghost use Rattle.std.specs.Prelude.{◌≡◌, ℕ, ◌+◌, ◌%◌, ◌<◌, ◌≤◌, ◌&&◌, true, false, List, length, slice_index_or, IfOk};
+ghost use Rattle.std.specs.Prelude.{◌≡◌, ℕ, ◌+◌, ◌<◌, ◌≤◌, ◌&&◌, true, false, length, slice_index_or, IfOk};
 ghost use Rattle.std.specs.List.{list_all};
-ghost use Rattle.rom80_find.specs.Places.{is_plain, fits_if_plain};
-ghost use Rattle.rom80_find.specs.Runs.{AreRunStarts};
-ghost use Rattle.rom80_find.specs.Sieve.{IsRing, AreRings, AreSieved, IsSievedBy, entry_at};
+ghost use Rattle.rom80_find.specs.Dump.{dump_of};
+ghost use Rattle.rom80_find.specs.Places.{fits_if_plain};
+ghost use Rattle.rom80_find.specs.Sieve.{AreSieved, IsSievedBy};
 
-use crate::dump::byte_at;
-use crate::fixup_bytes::{greatest_offset, least_offset};
-use crate::pattern::{CodeByte, Half};
-use crate::runs::is_one_run;
-use omf_parts::Target;
+use crate::dump::Dump;
+use crate::offsets::Offsets;
+use crate::pattern::CodeByte;
+use crate::rings::{ADDRESSES, Rings};
+use crate::runs::Runs;
 use std::alloc::{AllocError, Global};
-
-/// How many addresses there are.
-const ADDRESSES: usize = 65536;
 
 /// How many addresses are sieved at once.
 const BLOCK: usize = 1024;
 
-/// Whether the byte is outside fixups.
-pub(crate) fn is_plain(byte: &CodeByte) -> bool
-    ensures { result ≡ is_plain byte.now }
+/// For each address whether the dump has all bytes outside fixups with CODE there.
+pub(crate) fn sieve(
+    alloc: Global,
+    runs: &Runs<'_>,
+    code: &[CodeByte],
+) -> Result<Vec<bool>, AllocError>
+    ensures { IfOk result (λ alive. AreSieved runs.now code.now alive.items) }
 {
-    byte.half == Half::Low && byte.target == Target::Segment(0)
-}
-
-/// The dump's bytes by address, those of all addresses twice, and `fill` at each address if it has none.
-fn ring_of(alloc: Global, first: u16, dump: &[u8], fill: u8) -> Result<Vec<u8>, AllocError>
-    ensures { IfOk result (λ ring. IsRing first dump.now fill ring.items) }
-{
-    let mut ring = filled_ring(alloc, 2 * ADDRESSES, fill)?;
-    for at in 0..2 * ADDRESSES {
-        ring[at] = entry_at(first, dump, fill, (at % ADDRESSES) as u16);
+    let rings = Rings::of(alloc, runs.dump())?;
+    let mut alive = all_addresses(alloc, ADDRESSES)?;
+    let offsets = Offsets::of(code);
+    for block in 0..ADDRESSES / BLOCK {
+        let start = block * BLOCK;
+        let is_run = runs.is_one_run(offsets, start);
+        sieve_next(&mut alive, &rings, code, start, is_run);
     }
-    Ok(ring)
-}
-
-/// So many bytes of `fill`.
-fn filled_ring(alloc: Global, count: usize, fill: u8) -> Result<Vec<u8>, AllocError>
-    ensures { IfOk result (λ ring. length ring.items ≡ count) }
-{
-    Ok(vec![in alloc; fill; count]?)
+    Ok(alive)
 }
 
 /// All addresses.
@@ -52,78 +43,34 @@ fn all_addresses(alloc: Global, count: usize) -> Result<Vec<bool>, AllocError>
     Ok(vec![in alloc; true; count]?)
 }
 
-/// The byte at an address, or `fill`.
-fn entry_at(first: u16, dump: &[u8], fill: u8, address: u16) -> u8
-    ensures { result ≡ entry_at first dump.now fill address }
-{
-    match byte_at(first, dump, address) {
-        Some(byte) => byte,
-        None => fill,
-    }
-}
-
-/// For each address whether the dump has all bytes outside fixups with CODE there. It takes the runs of the dump.
-pub(crate) fn sieve(
-    alloc: Global,
-    first: u16,
-    dump: &[u8],
-    code: &[CodeByte],
-    starts: &[u32],
-) -> Result<Vec<bool>, AllocError>
-    requires { AreRunStarts first dump.now 131072 starts.now }
-    ensures { IfOk result (λ alive. AreSieved first dump.now code.now alive.items) }
-{
-    let zeros = ring_of(alloc, first, dump, 0)?;
-    let ones = ring_of(alloc, first, dump, 255)?;
-    let mut alive = all_addresses(alloc, ADDRESSES)?;
-    let low = least_offset(code);
-    let high = greatest_offset(code);
-    for block in 0..ADDRESSES / BLOCK {
-        let start = block * BLOCK;
-        let is_run = is_one_run(starts, low, high, start);
-        sieve_next(&mut alive, &zeros, &ones, first, dump, code, start, is_run);
-    }
-    Ok(alive)
-}
-
-/// Drops each address of a block, none of which is dropped yet, at which the dump hasn't all bytes outside fixups: by the first of
-/// them, if the dump has the same bytes for all of them.
-fn sieve_next(
-    alive: &mut [bool],
-    zeros: &[u8],
-    ones: &[u8],
-    first: u16,
-    dump: &[u8],
-    code: &[CodeByte],
-    start: usize,
-    is_run: bool,
-)
+/// Drops the addresses of a block at which the dump lacks a byte outside fixups; none of them is dropped yet. If the dump has the same
+/// bytes after each of them, the first one decides for all.
+fn sieve_next(alive: &mut [bool], rings: &Rings<'_>, code: &[CodeByte], start: usize, is_run: bool)
     requires all { length alive.old ≡ 65536 }
-    requires rings { AreRings first dump.now zeros.now ones.now }
     requires block { start + 1024 ≤ 65536 }
     requires new { (a : ℕ) → start ≤ a → a < start + 1024 → slice_index_or alive.old a false ≡ true }
     requires run { is_run ≡ true → (a : ℕ) → start ≤ a → a < start + 1024 →
-        list_all (fits_if_plain first dump.now start) code.now ≡ list_all (fits_if_plain first dump.now a) code.now }
+        list_all (fits_if_plain rings.now start) code.now ≡ list_all (fits_if_plain rings.now a) code.now }
     ensures whole { length alive.new ≡ 65536 }
     ensures each { (a : ℕ) → start ≤ a → a < start + 1024 →
-        slice_index_or alive.new a false ≡ list_all (fits_if_plain first dump.now a) code.now }
+        slice_index_or alive.new a false ≡ list_all (fits_if_plain rings.now a) code.now }
     ensures before { (a : ℕ) → a < start → slice_index_or alive.new a false ≡ slice_index_or alive.old a false }
     ensures after { (a : ℕ) → start + 1024 ≤ a → slice_index_or alive.new a false ≡ slice_index_or alive.old a false }
 {
     if is_run {
-        let keep = has_plain(first, dump, start as u16, code);
+        let keep = has_plain(rings.dump(), start as u16, code);
         fill_block(alive, start, keep);
     } else {
-        sieve_block(alive, zeros, ones, start, code);
+        sieve_block(alive, rings, start, code);
     }
 }
 
 /// Whether the dump has all bytes outside fixups with CODE at the address.
-fn has_plain(first: u16, dump: &[u8], address: u16, code: &[CodeByte]) -> bool
-    ensures { result ≡ list_all (fits_if_plain first dump.now address) code.now }
+fn has_plain(dump: Dump<'_>, address: u16, code: &[CodeByte]) -> bool
+    ensures { result ≡ list_all (fits_if_plain (dump_of dump.entry) address) code.now }
 {
     for byte in code {
-        if !fits_if_plain(first, dump, address, *byte) {
+        if !fits_if_plain(dump, address, *byte) {
             return false;
         }
     }
@@ -131,13 +78,13 @@ fn has_plain(first: u16, dump: &[u8], address: u16, code: &[CodeByte]) -> bool
 }
 
 /// Whether the dump has this byte with CODE at the address, if it is one outside fixups.
-fn fits_if_plain(first: u16, dump: &[u8], address: u16, byte: CodeByte) -> bool
-    ensures { result ≡ fits_if_plain first dump.now address byte }
+fn fits_if_plain(dump: Dump<'_>, address: u16, byte: CodeByte) -> bool
+    ensures { result ≡ fits_if_plain (dump_of dump.entry) address byte }
 {
-    if !is_plain(&byte) {
+    if !byte.is_plain() {
         return true;
     }
-    match byte_at(first, dump, address.wrapping_add(byte.offset)) {
+    match dump.byte_at(address.wrapping_add(byte.offset)) {
         Some(found) => u16::from(found) == byte.addend % 256,
         None => false,
     }
@@ -157,53 +104,44 @@ fn fill_block(alive: &mut [bool], start: usize, keep: bool)
     }
 }
 
-/// Drops each address of a block at which the dump hasn't all bytes outside fixups, until none is left.
-fn sieve_block(alive: &mut [bool], zeros: &[u8], ones: &[u8], start: usize, code: &[CodeByte])
+/// Drops the addresses of a block at which the dump lacks a byte outside fixups, and stops once none is left.
+fn sieve_block(alive: &mut [bool], rings: &Rings<'_>, start: usize, code: &[CodeByte])
     requires all { length alive.old ≡ 65536 }
-    requires zeros { length zeros.now ≡ 131072 }
-    requires ones { length ones.now ≡ 131072 }
     requires block { start + 1024 ≤ 65536 }
     ensures whole { length alive.new ≡ 65536 }
-    ensures each { (first : ℕ) (dump : List ℕ) → AreRings first dump zeros.now ones.now → (a : ℕ) → start ≤ a → a < start + 1024 →
-        slice_index_or alive.new a false ≡ (slice_index_or alive.old a false && list_all (fits_if_plain first dump a) code.now) }
+    ensures each { (a : ℕ) → start ≤ a → a < start + 1024 →
+        slice_index_or alive.new a false ≡ (slice_index_or alive.old a false && list_all (fits_if_plain rings.now a) code.now) }
     ensures before { (a : ℕ) → a < start → slice_index_or alive.new a false ≡ slice_index_or alive.old a false }
     ensures after { (a : ℕ) → start + 1024 ≤ a → slice_index_or alive.new a false ≡ slice_index_or alive.old a false }
 {
     for byte in code {
-        if !sieve_by(alive, zeros, ones, start, *byte) {
+        if !sieve_by(alive, rings, start, *byte) {
             return;
         }
     }
 }
 
-/// Drops each address of a block at which the dump hasn't this byte, if it is one outside fixups, and answers whether any may be
+/// Drops the addresses of a block at which the dump lacks this byte, if it is one outside fixups, and answers whether any may be
 /// left.
-fn sieve_by(alive: &mut [bool], zeros: &[u8], ones: &[u8], start: usize, byte: CodeByte) -> bool
+fn sieve_by(alive: &mut [bool], rings: &Rings<'_>, start: usize, byte: CodeByte) -> bool
     requires all { length alive.old ≡ 65536 }
-    requires zeros { length zeros.now ≡ 131072 }
-    requires ones { length ones.now ≡ 131072 }
     requires block { start + 1024 ≤ 65536 }
     ensures whole { length alive.new ≡ 65536 }
-    ensures each { (first : ℕ) (dump : List ℕ) → AreRings first dump zeros.now ones.now → (a : ℕ) → start ≤ a → a < start + 1024 →
-        slice_index_or alive.new a false ≡ (slice_index_or alive.old a false && fits_if_plain first dump a byte) }
+    ensures each { (a : ℕ) → start ≤ a → a < start + 1024 →
+        slice_index_or alive.new a false ≡ (slice_index_or alive.old a false && fits_if_plain rings.now a byte) }
     ensures before { (a : ℕ) → a < start → slice_index_or alive.new a false ≡ slice_index_or alive.old a false }
     ensures after { (a : ℕ) → start + 1024 ≤ a → slice_index_or alive.new a false ≡ slice_index_or alive.old a false }
     ensures none { result ≡ false → (a : ℕ) → start ≤ a → a < start + 1024 → slice_index_or alive.new a false ≡ false }
 {
-    if !is_plain(&byte) {
+    if !byte.is_plain() {
         return true;
     }
-    let offset = usize::from(byte.offset);
     let entry = (byte.addend % 256) as u8;
-    // Where the dump has no byte, the ring has another one than is looked for.
-    if entry == 0 {
-        drop_others(alive, ones, start, offset, entry)
-    } else {
-        drop_others(alive, zeros, start, offset, entry)
-    }
+    let ring = rings.ring_for(entry);
+    drop_others(alive, ring, start, usize::from(byte.offset), entry)
 }
 
-/// Drops each address of a block after which by so many the ring has another byte, and answers whether any is left.
+/// Drops the addresses of a block `offset` after which the ring has another byte, and answers whether any is left.
 fn drop_others(alive: &mut [bool], ring: &[u8], start: usize, offset: usize, entry: u8) -> bool
     requires all { length alive.old ≡ 65536 }
     requires ring { length ring.now ≡ 131072 }

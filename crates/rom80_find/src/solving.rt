@@ -1,17 +1,18 @@
 //! The values that the targets of a module may have at one address.
 
 ghost use Rattle.std.specs.Prelude.{◌≡◌, ◌≢◌, ℕ, ◌<◌, ◌≤◌, ◌&&◌, ◌||◌, ◌==◌, not, true, false, List, [], length, IfOk, IfSome, IfNone, slice_index_or, take};
+ghost use Rattle.rom80_find.specs.Dump.{DumpValue, dump_of};
 ghost use Rattle.rom80_find.specs.CodeBytes.{number_of};
 ghost use Rattle.rom80_find.specs.declared.candidates.Candidates.TheVariants.{Any};
 ghost use Rattle.rom80_find.specs.Candidates.{is_candidate};
 ghost use Rattle.rom80_find.specs.Places.{Describes, IsClearBut, LiesAt, HasNone, AreBelow, in_table, fits, fits_for};
 
 use crate::candidates::Candidates;
-use crate::dump::byte_at;
+use crate::dump::Dump;
 use crate::pattern::{CodeByte, number_of};
 use std::alloc::{AllocError, Global};
 
-/// Every word for so many values.
+/// A table in which `count` values may be every word.
 pub(crate) fn any_table(alloc: Global, count: usize) -> Result<Vec<Candidates>, AllocError>
     ensures whole { IfOk result (λ table. length table.items ≡ count) }
     ensures clear { IfOk result (λ table. IsClearBut [] table.items) }
@@ -19,11 +20,10 @@ pub(crate) fn any_table(alloc: Global, count: usize) -> Result<Vec<Candidates>, 
     Ok(vec![in alloc; Candidates::Any; count]?)
 }
 
-/// Finds the words that each value may be with CODE at the address, and answers how many of the bytes it came to: all of them
-/// exactly if there are any words for each value. It takes a table with every word for each value.
+/// Leaves in the table the words that each value may be with CODE at the address, and answers the number of bytes that it read: all
+/// of them exactly if each value has a word left. In the table that it takes every value may be every word.
 pub(crate) fn solve(
-    first: u16,
-    dump: &[u8],
+    dump: Dump<'_>,
     address: u16,
     code: &[CodeByte],
     table: &mut [Candidates],
@@ -33,24 +33,23 @@ pub(crate) fn solve(
     requires clear { IsClearBut [] table.old }
     ensures whole { length table.new ≡ length table.old }
     ensures within { result ≤ length code.now }
-    ensures yes { result ≡ length code.now → Describes first dump.now code.now address table.new }
-    ensures no { result < length code.now → HasNone first dump.now code.now address }
+    ensures yes { result ≡ length code.now → Describes (dump_of dump.entry) code.now address table.new }
+    ensures no { result < length code.now → HasNone (dump_of dump.entry) code.now address }
     ensures clear { IsClearBut (take result code.now) table.new }
 {
-    begin(address, table);
+    set_known(address, table);
     for (index, byte) in code.iter().enumerate() {
-        if !narrow(first, dump, address, *byte, table) {
+        if !narrow(dump, address, *byte, table) {
             return index;
         }
     }
     code.len()
 }
 
-/// Whether there are values with which the dump has all these bytes with CODE at the address. The table has every word for each
-/// value, before and after.
+/// Whether there are values with which the dump has all these bytes with CODE at the address. Before and after, every value may be
+/// every word in the table.
 pub(crate) fn lies_at(
-    first: u16,
-    dump: &[u8],
+    dump: Dump<'_>,
     address: u16,
     code: &[CodeByte],
     table: &mut Vec<Candidates>,
@@ -59,29 +58,29 @@ pub(crate) fn lies_at(
     requires below { AreBelow (length table.old.items) code.now }
     requires clear { IsClearBut [] table.old.items }
     ensures whole { length table.new.items ≡ length table.old.items }
-    ensures yes { result ≡ true → LiesAt first dump.now code.now address }
-    ensures no { result ≡ false → LiesAt first dump.now code.now address → ⊥ }
+    ensures yes { result ≡ true → LiesAt (dump_of dump.entry) code.now address }
+    ensures no { result ≡ false → LiesAt (dump_of dump.entry) code.now address → ⊥ }
     ensures clear { IsClearBut [] table.new.items }
 {
-    if !reaches(first, dump, address, code) {
+    if !reaches(dump, address, code) {
         return false;
     }
-    let fitting = solve(first, dump, address, code, table);
+    let fitting = solve(dump, address, code, table);
     clear(&code[..fitting], table);
     fitting == code.len()
 }
 
 /// Whether the dump reaches as far as the last byte would lie.
-fn reaches(first: u16, dump: &[u8], address: u16, code: &[CodeByte]) -> bool
-    ensures { result ≡ false → LiesAt first dump.now code.now address → ⊥ }
+fn reaches(dump: Dump<'_>, address: u16, code: &[CodeByte]) -> bool
+    ensures { result ≡ false → LiesAt (dump_of dump.entry) code.now address → ⊥ }
 {
     match code.last() {
-        Some(last) => byte_at(first, dump, address.wrapping_add(last.offset)).is_some(),
+        Some(last) => dump.byte_at(address.wrapping_add(last.offset)).is_some(),
         None => true,
     }
 }
 
-/// Gives back every word to the values that these bytes are of.
+/// Gives every word back to the values of these bytes.
 fn clear(code: &[CodeByte], table: &mut [Candidates])
     requires below { AreBelow (length table.old) code.now }
     requires others { IsClearBut code.now table.old }
@@ -93,31 +92,31 @@ fn clear(code: &[CodeByte], table: &mut [Candidates])
     }
 }
 
-/// The values of absolute bytes and of CODE, which are known.
-fn begin(address: u16, table: &mut [Candidates])
+/// Sets the values of absolute bytes and of CODE, which are known.
+fn set_known(address: u16, table: &mut [Candidates])
     requires two { 2 ≤ length table.old }
     requires clear { IsClearBut [] table.old }
     ensures whole { length table.new ≡ length table.old }
     ensures clear { IsClearBut [] table.new }
-    ensures known { (first : ℕ) (dump : List ℕ) → Describes first dump [] address table.new }
+    ensures known { (dump : DumpValue) → Describes dump [] address table.new }
 {
     table[0] = Candidates::Window(0, 0);
     table[1] = Candidates::Window(address, 0);
 }
 
 /// Drops the words with which the dump doesn't have this byte, and answers whether any are left.
-fn narrow(first: u16, dump: &[u8], address: u16, byte: CodeByte, table: &mut [Candidates]) -> bool
+fn narrow(dump: Dump<'_>, address: u16, byte: CodeByte, table: &mut [Candidates]) -> bool
     requires { number_of byte.target < length table.old }
     ensures whole { length table.new ≡ length table.old }
     ensures yes { result ≡ true → (number word : ℕ) → number < length table.old → word < 65536 →
-        in_table table.new number word ≡ (in_table table.old number word && fits_for first dump.now address number word byte) }
+        in_table table.new number word ≡ (in_table table.old number word && fits_for (dump_of dump.entry) address number word byte) }
     ensures no { result ≡ false → (word : ℕ) → word < 65536 →
-        (in_table table.old (number_of byte.target) word && fits first dump.now address byte word) ≡ false }
+        (in_table table.old (number_of byte.target) word && fits (dump_of dump.entry) address byte word) ≡ false }
     ensures others { (n : ℕ) → n ≢ number_of byte.target → slice_index_or table.new n Any ≡ slice_index_or table.old n Any }
     ensures unchanged { result ≡ false → table.new ≡ table.old }
 {
     let number = number_of(byte.target);
-    match narrowed_by(first, dump, address, byte, table[number]) {
+    match narrowed_by(dump, address, byte, table[number]) {
         Some(candidates) => {
             table[number] = candidates;
             true
@@ -128,18 +127,17 @@ fn narrow(first: u16, dump: &[u8], address: u16, byte: CodeByte, table: &mut [Ca
 
 /// Those of the candidates with which the dump has this byte, if there are any.
 fn narrowed_by(
-    first: u16,
-    dump: &[u8],
+    dump: Dump<'_>,
     address: u16,
     byte: CodeByte,
     candidates: Candidates,
 ) -> Option<Candidates>
     ensures some { IfSome result (λ narrowed. (word : ℕ) → word < 65536 →
-        is_candidate narrowed word ≡ (is_candidate candidates word && fits first dump.now address byte word)) }
+        is_candidate narrowed word ≡ (is_candidate candidates word && fits (dump_of dump.entry) address byte word)) }
     ensures none { IfNone result ((word : ℕ) → word < 65536 →
-        (is_candidate candidates word && fits first dump.now address byte word) ≡ false) }
+        (is_candidate candidates word && fits (dump_of dump.entry) address byte word) ≡ false) }
 {
-    match byte_at(first, dump, address.wrapping_add(byte.offset)) {
+    match dump.byte_at(address.wrapping_add(byte.offset)) {
         Some(found) => candidates.narrowed(byte.half, byte.addend, found),
         None => None,
     }

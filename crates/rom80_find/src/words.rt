@@ -2,12 +2,14 @@
 
 ghost use Rattle.std.specs.Prelude.{◌≡◌, ℕ, ◌<◌, ◌≤◌, ◌+◌, ◌&&◌, ◌==◌, ◌||◌, List, [], length, true, IfOk, OnOk, IfSome, IfNone, slice_index_or};
 ghost use Rattle.std.specs.List.{AllByRecursion};
+ghost use Rattle.rom80_find.specs.Dump.{dump_of};
 ghost use Rattle.rom80_find.specs.CodeBytes.{number_of};
 ghost use Rattle.rom80_find.specs.declared.candidates.Candidates.TheVariants.{Any};
 ghost use Rattle.rom80_find.specs.Places.{AreBelow, LiesAt, IsClearBut};
 ghost use Rattle.rom80_find.specs.Words.{AreOnlyWords, AreAscending, AreAscendingBelow, AreSingle, IsOfATarget, has_word, is_single};
 
 use crate::candidates::Candidates;
+use crate::dump::Dump;
 use crate::pattern::{CodeByte, target_of};
 use crate::solving::{any_table, solve};
 use omf_parts::Target;
@@ -15,7 +17,7 @@ use std::alloc::{AllocError, Global};
 
 /// The word of a target: the base of a segment, the top of STACK, or what an external stands for.
 #[derive(Clone, Copy, Debug, PartialEq, Eq)]
-pub struct Word {
+pub(crate) struct Word {
     pub target: Target,
     pub word: u16,
 }
@@ -26,10 +28,9 @@ pub struct Word {
 ///
 /// # Errors
 /// `AllocError` only if memory ran out.
-pub fn words_at(
+pub(crate) fn words_at(
     alloc: Global,
-    first: u16,
-    dump: &[u8],
+    dump: Dump<'_>,
     code: &[CodeByte],
     count: usize,
     address: u16,
@@ -37,20 +38,19 @@ pub fn words_at(
     requires two { 2 ≤ count }
     requires few { count ≤ 65792 }
     requires below { AreBelow count code.now }
-    ensures some { IfOk result (λ found. IfSome found (λ words. AreOnlyWords first dump.now code.now address count words.items)) }
+    ensures some { IfOk result (λ found. IfSome found (λ words. AreOnlyWords (dump_of dump.entry) code.now address count words.items)) }
     ensures ascending { IfOk result (λ found. IfSome found (λ words. AreAscending words.items)) }
     ensures targets { IfOk result (λ found. IfSome found (λ words. AllByRecursion IsOfATarget words.items)) }
-    ensures none { IfOk result (λ found. IfNone found (LiesAt first dump.now code.now address → ⊥)) }
+    ensures none { IfOk result (λ found. IfNone found (LiesAt (dump_of dump.entry) code.now address → ⊥)) }
 {
     let mut table = any_table(alloc, count)?;
-    words_by(alloc, first, dump, code, address, &mut table)
+    words_by(alloc, dump, code, address, &mut table)
 }
 
 /// The words of the targets, found in a table of their candidates.
 fn words_by(
     alloc: Global,
-    first: u16,
-    dump: &[u8],
+    dump: Dump<'_>,
     code: &[CodeByte],
     address: u16,
     table: &mut [Candidates],
@@ -59,12 +59,12 @@ fn words_by(
     requires few { length table.old ≤ 65792 }
     requires below { AreBelow (length table.old) code.now }
     requires clear { IsClearBut [] table.old }
-    ensures some { IfOk result (λ found. IfSome found (λ words. AreOnlyWords first dump.now code.now address (length table.old) words.items)) }
+    ensures some { IfOk result (λ found. IfSome found (λ words. AreOnlyWords (dump_of dump.entry) code.now address (length table.old) words.items)) }
     ensures ascending { IfOk result (λ found. IfSome found (λ words. AreAscending words.items)) }
     ensures targets { IfOk result (λ found. IfSome found (λ words. AllByRecursion IsOfATarget words.items)) }
-    ensures none { IfOk result (λ found. IfNone found (LiesAt first dump.now code.now address → ⊥)) }
+    ensures none { IfOk result (λ found. IfNone found (LiesAt (dump_of dump.entry) code.now address → ⊥)) }
 {
-    if solve(first, dump, address, code, table) < code.len() {
+    if solve(dump, address, code, table) < code.len() {
         return Ok(None);
     }
     let words = single_words(alloc, table)?;

@@ -7,6 +7,7 @@
 //! | `sessions` | `loader80`: sessions, over readers and writers that give and take a byte at a time |
 //! | `failures` | `loader80` and `loader80_bundle`: sessions and bundles whose readers or writers fail, or never end |
 //! | `faults` | `loader80` and `loader80_bundle`: faults as they are shown |
+//! | `frames`, `numbered_frames` | `frames80` and `frames80_interned`: frames, and frames by number |
 //! | `pushing`, `outside` | the program, and the sources and sinks, of these tests |
 //!
 //! What the program shows of texts, images, refusals and transcripts stands in the tables of `tests/commands`.
@@ -24,6 +25,8 @@ mod frames;
 mod machine;
 #[cfg(test)]
 mod memory;
+#[cfg(test)]
+mod numbered_frames;
 #[cfg(test)]
 mod outside;
 #[cfg(test)]

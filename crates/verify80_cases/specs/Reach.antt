@@ -5,84 +5,48 @@ use Rattle.std.specs.Prelude.{◌≡◌, ◌<◌, ◌≤◌, ◌*◌, ◌↔◌,
 use Rattle.decode80.specs.declared.fetching.Fetched.{Fetched}
 use Rattle.decode80.specs.declared.fetching.FetchFault.{FetchFault}
 use Rattle.decode80.specs.declared.instr.Instr.{Instr}
-use Rattle.decode80.specs.declared.instr.Instr.TheVariants.{Mov, Load, Store, Mvi, MviMemory, Lxi, Dad, Inx, Dcx, Inr, InrMemory, Dcr, DcrMemory, Operate, Jmp, JumpIf, Call, CallIf, Ret, ReturnIf, Rst, Push, Pop, Stax, Ldax, Shld, Lhld, Sta, Lda, Rotate, Daa, Cma, Stc, Cmc, Xthl, Pchl, Xchg, Sphl, In, Out, Ei, Di, Nop, Hlt}
-use Rattle.decode80.specs.Restart.{restart_number}
+use Rattle.decode80.specs.declared.flow.Flow.{Flow}
+use Rattle.decode80.specs.declared.flow.Flow.TheVariants.{Continues, Jumps, JumpsIf, JumpsToHl, Calls, CallsIf, Returns, ReturnsIf, Pushes, Pops, Exchanges, Halts}
+use Rattle.decode80.specs.Facts.{flow}
 use Rattle.image80.specs.Image.{Located, memory_of}
 use Rattle.verify80.specs.Looking.{declared_targets, is_pchl}
 use Rattle.verify80.specs.LookLaws.{fetch_at}
 
--- what may come after an instruction: the next one, the one at an address that it names, either, or neither
-pub data Successors : Type 0 where
-  Next : Successors
-  Named : (to : ℕ) → Successors
-  NamedOrNext : (to : ℕ) → Successors
-  Neither : Successors
-
-abbrev pub successors : Instr → Successors
-successors (Jmp to) = Named to
-successors (JumpIf _ to) = NamedOrNext to
-successors (Call to) = NamedOrNext to
-successors (CallIf _ to) = NamedOrNext to
-successors (Rst number) = NamedOrNext (8 * restart_number number)
-successors Ret = Neither
-successors Pchl = Neither
-successors Hlt = Neither
-successors (Mov _ _) = Next
-successors (Load _) = Next
-successors (Store _) = Next
-successors (Mvi _ _) = Next
-successors (MviMemory _) = Next
-successors (Lxi _ _) = Next
-successors (Dad _) = Next
-successors (Inx _) = Next
-successors (Dcx _) = Next
-successors (Inr _) = Next
-successors InrMemory = Next
-successors (Dcr _) = Next
-successors DcrMemory = Next
-successors (Operate _ _) = Next
-successors (ReturnIf _) = Next
-successors (Push _) = Next
-successors (Pop _) = Next
-successors (Stax _) = Next
-successors (Ldax _) = Next
-successors (Shld _) = Next
-successors (Lhld _) = Next
-successors (Sta _) = Next
-successors (Lda _) = Next
-successors (Rotate _) = Next
-successors Daa = Next
-successors Cma = Next
-successors Stc = Next
-successors Cmc = Next
-successors Xthl = Next
-successors Xchg = Next
-successors Sphl = Next
-successors (In _) = Next
-successors (Out _) = Next
-successors Ei = Next
-successors Di = Next
-successors Nop = Next
-
 -- the address behind an instruction, unless it never goes on there
-abbrev pub next_of : Successors → (next : ℕ) → Option ℕ
-next_of Next next = Some next
-next_of (Named _) next = None
-next_of (NamedOrNext _) next = Some next
-next_of Neither next = None
+abbrev pub next_of : Flow → (next : ℕ) → Option ℕ
+next_of Continues next = Some next
+next_of (Jumps _) next = None
+next_of (JumpsIf _ _) next = Some next
+next_of JumpsToHl next = None
+next_of (Calls _) next = Some next
+next_of (CallsIf _ _) next = Some next
+next_of Returns next = None
+next_of (ReturnsIf _) next = Some next
+next_of Pushes next = Some next
+next_of Pops next = Some next
+next_of Exchanges next = Some next
+next_of Halts next = None
 
 abbrev pub falls_to : Instr → (next : ℕ) → Option ℕ
-falls_to instr next = next_of (successors instr) next
+falls_to instr next = next_of (flow instr) next
 
 -- the address that an instruction names to go to
-abbrev pub named_of : Successors → Option ℕ
-named_of Next = None
-named_of (Named to) = Some to
-named_of (NamedOrNext to) = Some to
-named_of Neither = None
+abbrev pub named_of : Flow → Option ℕ
+named_of Continues = None
+named_of (Jumps to) = Some to
+named_of (JumpsIf _ to) = Some to
+named_of JumpsToHl = None
+named_of (Calls to) = Some to
+named_of (CallsIf _ to) = Some to
+named_of Returns = None
+named_of (ReturnsIf _) = None
+named_of Pushes = None
+named_of Pops = None
+named_of Exchanges = None
+named_of Halts = None
 
 abbrev pub target_of : Instr → Option ℕ
-target_of instr = named_of (successors instr)
+target_of instr = named_of (flow instr)
 
 -- an address or none, as a list
 abbrev pub given : Option ℕ → List ℕ

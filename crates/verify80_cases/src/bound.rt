@@ -12,6 +12,7 @@
 //! Others may stand between, if they leave the flags, A but for doubling it, and then the pair.
 
 use crate::changes::{may_change, may_change_a, may_change_carry};
+use crate::leads::is_call;
 use decode80::{Condition, Instr, Operand, Operation, Pair, Register};
 
 /// What a comparison has left of its bound, by the address of its CPI.
@@ -42,7 +43,7 @@ impl Bound {
     pub(crate) fn after(self, at: u16, instr: Instr) -> Bound {
         match instr {
             Instr::Operate(Operation::Compare, Operand::Immediate(_)) => Bound::Compared(at),
-            Instr::Call(_) | Instr::CallIf(_, _) | Instr::Rst(_) => Bound::Unknown,
+            _ if is_call(instr) => Bound::Unknown,
             _ => self.after_other(instr),
         }
     }

@@ -3,15 +3,17 @@
 ghost use Rattle.std.specs.Prelude.{◌≡◌};
 ghost use Rattle.verify80_cases.specs.Reach.{falls_to, target_of};
 
-use decode80::{Fetched, Instr};
+use decode80::{Fetched, Flow, Instr};
 
 /// The address behind an instruction, unless it never goes on there.
 pub(crate) fn falls_to(found: Fetched) -> Option<u16>
     ensures { result ≡ falls_to found.instr found.next }
 {
-    match found.instr {
-        Instr::Jmp(_) | Instr::Ret | Instr::Pchl | Instr::Hlt => None,
-        _ => Some(found.next),
+    match found.instr.flow() {
+        Flow::Jumps(_) | Flow::JumpsToHl | Flow::Returns | Flow::Halts => None,
+        Flow::Continues | Flow::JumpsIf(_, _) => Some(found.next),
+        Flow::Calls(_) | Flow::CallsIf(_, _) | Flow::ReturnsIf(_) => Some(found.next),
+        Flow::Pushes | Flow::Pops | Flow::Exchanges => Some(found.next),
     }
 }
 
@@ -19,12 +21,15 @@ pub(crate) fn falls_to(found: Fetched) -> Option<u16>
 pub(crate) fn target_of(instr: Instr) -> Option<u16>
     ensures { result ≡ target_of instr }
 {
-    match instr {
-        Instr::Jmp(target)
-        | Instr::JumpIf(_, target)
-        | Instr::Call(target)
-        | Instr::CallIf(_, target) => Some(target),
-        Instr::Rst(number) => Some(number.address()),
-        _ => None,
+    match instr.flow() {
+        Flow::Jumps(to) | Flow::JumpsIf(_, to) => Some(to),
+        Flow::Calls(to) | Flow::CallsIf(_, to) => Some(to),
+        Flow::Continues | Flow::JumpsToHl | Flow::Returns | Flow::ReturnsIf(_) => None,
+        Flow::Pushes | Flow::Pops | Flow::Exchanges | Flow::Halts => None,
     }
+}
+
+/// Whether an instruction is a call.
+pub(crate) fn is_call(instr: Instr) -> bool {
+    matches!(instr.flow(), Flow::Calls(_) | Flow::CallsIf(_, _))
 }

@@ -2,8 +2,8 @@
 
 use crate::chain::first_before;
 use crate::changes::may_change;
-use crate::leads::{falls_to, target_of};
-use decode80::{Instr, Pair, StackPair, fetch};
+use crate::leads::{falls_to, is_call, target_of};
+use decode80::{Flow, Instr, Pair, StackPair, fetch};
 use frames80::Code;
 use std::alloc::{AllocError, Global};
 use verify80::ImageCode;
@@ -28,12 +28,9 @@ fn pass_on(heights: &mut Vec<Option<i32>>, code: &ImageCode<'_>, at: u16) {
         return;
     };
     let here = height_at(heights, at);
-    let is_call = matches!(
-        found.instr,
-        Instr::Call(_) | Instr::CallIf(_, _) | Instr::Rst(_)
-    );
     if let Some(target) = target_of(found.instr) {
-        give(heights, target, if is_call { Some(0) } else { here });
+        let is_entry = is_call(found.instr);
+        give(heights, target, if is_entry { Some(0) } else { here });
     }
     if let Some(next) = falls_to(found) {
         give(heights, next, height_after(here, found.instr));
@@ -62,22 +59,15 @@ fn give(heights: &mut Vec<Option<i32>>, at: u16, height: Option<i32>) {
 /// The height after an instruction.
 fn height_after(height: Option<i32>, instr: Instr) -> Option<i32> {
     let height = height?;
-    match instr {
-        Instr::Pop(_) | Instr::Xthl if height == 0 => None,
-        Instr::Push(_) => Some(height.wrapping_add(1)),
-        Instr::Pop(_) => Some(height.wrapping_sub(1)),
-        Instr::Lxi(Pair::Sp, _) | Instr::Inx(Pair::Sp) | Instr::Dcx(Pair::Sp) | Instr::Sphl => None,
-        Instr::Mov(_, _) | Instr::Load(_) | Instr::Store(_) | Instr::Xchg => Some(height),
-        Instr::Mvi(_, _) | Instr::MviMemory(_) | Instr::Lxi(_, _) => Some(height),
-        Instr::Inr(_) | Instr::InrMemory | Instr::Dcr(_) | Instr::DcrMemory => Some(height),
-        Instr::Dad(_) | Instr::Inx(_) | Instr::Dcx(_) | Instr::Operate(_, _) => Some(height),
-        Instr::Rotate(_) | Instr::Daa | Instr::Cma | Instr::Stc | Instr::Cmc => Some(height),
-        Instr::Stax(_) | Instr::Ldax(_) | Instr::Sta(_) | Instr::Lda(_) => Some(height),
-        Instr::Shld(_) | Instr::Lhld(_) | Instr::Xthl => Some(height),
-        Instr::Jmp(_) | Instr::JumpIf(_, _) | Instr::Pchl => Some(height),
-        Instr::Call(_) | Instr::CallIf(_, _) | Instr::Rst(_) => Some(height),
-        Instr::Ret | Instr::ReturnIf(_) | Instr::In(_) | Instr::Out(_) => Some(height),
-        Instr::Ei | Instr::Di | Instr::Nop | Instr::Hlt => Some(height),
+    match instr.flow() {
+        Flow::Pops | Flow::Exchanges if height == 0 => None,
+        Flow::Pushes => Some(height.wrapping_add(1)),
+        Flow::Pops => Some(height.wrapping_sub(1)),
+        Flow::Continues if instr.writes().includes(Pair::Sp) => None,
+        Flow::Continues | Flow::Exchanges | Flow::Halts => Some(height),
+        Flow::Jumps(_) | Flow::JumpsIf(_, _) | Flow::JumpsToHl => Some(height),
+        Flow::Calls(_) | Flow::CallsIf(_, _) => Some(height),
+        Flow::Returns | Flow::ReturnsIf(_) => Some(height),
     }
 }
 

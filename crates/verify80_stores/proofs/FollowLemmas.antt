@@ -7,7 +7,10 @@ use Rattle.decode80.specs.declared.pair.Pair.{Pair}
 use Rattle.decode80.specs.declared.pair.Pair.TheVariants.{Bc, De, Hl, Sp}
 use Rattle.decode80.specs.declared.pair.StackPair.TheVariants.{Bc as StackBc, De as StackDe, Hl as StackHl, Psw}
 use Rattle.decode80.specs.declared.instr.Instr.{Instr}
-use Rattle.decode80.specs.declared.instr.Instr.TheVariants.{Mov, Load, Mvi, Lxi, Dad, Inx, Dcx, Inr, Dcr, Pop, Lhld, Xthl, Xchg}
+use Rattle.decode80.specs.declared.instr.Instr.TheVariants.{Mov, Load, Mvi, Lxi, Dad, Inx, Dcx, Inr, Dcr, Operate, Pop, Lhld, Xthl, Xchg}
+use Rattle.decode80.specs.declared.operation.Operation.{Operation}
+use Rattle.decode80.specs.declared.operation.Operation.TheVariants.{Add, AddCarry, Subtract, SubtractBorrow, And, ExclusiveOr, Or, Compare}
+use Rattle.decode80.specs.Facts.{operated}
 use Rattle.decode80.specs.Fetch.{ahead, behind}
 use Rattle.machine80.specs.declared.flags.Flags.{Flags}
 use Rattle.machine80.specs.declared.registers.Registers.{Registers}
@@ -20,7 +23,7 @@ use Rattle.verify80_stores.specs.declared.spans.span.ByteSpan.{ByteSpan}
 use Rattle.verify80_stores.specs.declared.spans.pairs.Pairs.{Pairs}
 use Rattle.verify80_stores.specs.Bytes.{AreBytes}
 use Rattle.verify80_stores.specs.Span.{Within, ByteWithin, any_word, any_byte, word_alone, byte_alone, next_span, previous_span, next_byte, previous_byte, sum_span}
-use Rattle.verify80_stores.specs.Pairs.{Holds, half_of, with_half, with_span, pairs_after}
+use Rattle.verify80_stores.specs.Pairs.{Holds, half_of, with_half, with_span, forgotten, pairs_after}
 use Rattle.verify80_stores.proofs.SpanLemmas.{high_within, low_within, joined_within, any_word_within, any_byte_within, next_within, previous_within, next_byte_within, previous_byte_within, sum_within, sum_any}
 
 -- a register's byte is one of its half
@@ -126,6 +129,17 @@ loaded_byte : (r : Registers) (register : Register) (byte : ℕ) → AreBytes (w
 loaded_byte r register byte after =
     any_byte_within byte (let P : ℕ → Type 0 = λ n. n < 256 in subst P (written_byte r register byte) (byte_of (with_register r register byte) register after))
 
+-- an operation on the accumulator writes no pair
+forgets_no_pair : (operation : Operation) (p : Pairs) → forgotten (operated operation) p ≡ p
+forgets_no_pair Add p = refl
+forgets_no_pair AddCarry p = refl
+forgets_no_pair Subtract p = refl
+forgets_no_pair SubtractBorrow p = refl
+forgets_no_pair And p = refl
+forgets_no_pair ExclusiveOr p = refl
+forgets_no_pair Or p = refl
+forgets_no_pair Compare p = refl
+
 pub changed_pairs : (i : Instr) (memory : List ℕ) (cpu : Cpu) (p : Pairs) → AreBytes cpu.registers → AreBytes (changed i memory cpu).registers → Holds p cpu.registers →
     Holds (pairs_after i p) (changed i memory cpu).registers
 changed_pairs (Mov to from) memory cpu p bytes after holds = moves p cpu.registers to (half_of p from) (register_of cpu.registers from) bytes holds (half_holds p cpu.registers from bytes holds)
@@ -173,4 +187,5 @@ changed_pairs (Pop Psw) memory cpu p bytes after holds = record { bc = holds.bc;
 changed_pairs (Lhld address) memory cpu p bytes after holds = record { bc = holds.bc; de = holds.de; hl = any_word_within _ (word_small _ _ after.h after.l) }
 changed_pairs Xthl memory cpu p bytes after holds = record { bc = holds.bc; de = holds.de; hl = any_word_within _ (word_small _ _ after.h after.l) }
 changed_pairs Xchg memory cpu p bytes after holds = record { bc = holds.bc; de = holds.hl; hl = holds.de }
+changed_pairs (Operate operation operand) memory cpu p bytes after holds = rw (forgets_no_pair operation p) (record { bc = holds.bc; de = holds.de; hl = holds.hl })
 changed_pairs i memory cpu p bytes after holds = record { bc = holds.bc; de = holds.de; hl = holds.hl }

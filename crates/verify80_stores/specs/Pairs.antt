@@ -5,10 +5,11 @@ use Rattle.decode80.specs.declared.register.Register.{Register}
 use Rattle.decode80.specs.declared.register.Register.TheVariants.{A, B, C, D, E, H, L}
 use Rattle.decode80.specs.declared.pair.Pair.{Pair}
 use Rattle.decode80.specs.declared.pair.Pair.TheVariants.{Bc, De, Hl, Sp}
-use Rattle.decode80.specs.declared.pair.StackPair.{StackPair}
-use Rattle.decode80.specs.declared.pair.StackPair.TheVariants.{Bc as StackBc, De as StackDe, Hl as StackHl, Psw}
 use Rattle.decode80.specs.declared.instr.Instr.{Instr}
-use Rattle.decode80.specs.declared.instr.Instr.TheVariants.{Mov, Load, Store, Mvi, MviMemory, Lxi, Dad, Inx, Dcx, Inr, InrMemory, Dcr, DcrMemory, Operate, Jmp, JumpIf, Call, CallIf, Ret, ReturnIf, Rst, Push, Pop, Stax, Ldax, Shld, Lhld, Sta, Lda, Rotate, Daa, Cma, Stc, Cmc, Xthl, Pchl, Xchg, Sphl, In, Out, Ei, Di, Nop, Hlt}
+use Rattle.decode80.specs.declared.instr.Instr.TheVariants.{Mov, Mvi, Lxi, Dad, Inx, Dcx, Inr, Dcr, Xchg}
+use Rattle.decode80.specs.declared.writes.Writes.{Writes}
+use Rattle.decode80.specs.declared.writes.Writes.TheVariants.{Nothing, One, Both, DeAndHl}
+use Rattle.decode80.specs.Facts.{writes}
 use Rattle.machine80.specs.declared.registers.Registers.{Registers}
 use Rattle.machine80.specs.Cpu.{word}
 use Rattle.verify80_stores.specs.declared.spans.span.Span.{Span}
@@ -66,17 +67,17 @@ with_span p De s = record p { de = s }
 with_span p Hl s = record p { hl = s }
 with_span p Sp s = p
 
--- the pairs when one of them comes from the stack
-abbrev pub with_any : Pairs → StackPair → Pairs
-with_any p StackBc = record p { bc = any_word }
-with_any p StackDe = record p { de = any_word }
-with_any p StackHl = record p { hl = any_word }
-with_any p Psw = p
+-- the pairs when registers are written, with what isn't followed
+abbrev pub forgotten : Writes → Pairs → Pairs
+forgotten Nothing p = p
+forgotten (One register) p = with_half p register any_byte
+forgotten (Both pair) p = with_span p pair any_word
+forgotten DeAndHl p = record p { de = any_word; hl = any_word }
 
--- what the pairs may be after an instruction that goes on. Those from MOV M on write none of these registers
+-- what the pairs may be after an instruction that goes on: followed through moves, counts and sums, and else nothing is known of
+-- what is written
 abbrev pub pairs_after : Instr → Pairs → Pairs
 pairs_after (Mov to from) p = with_half p to (half_of p from)
-pairs_after (Load to) p = with_half p to any_byte
 pairs_after (Mvi to byte) p = with_half p to (byte_alone byte)
 pairs_after (Inr register) p = with_half p register (next_byte (half_of p register))
 pairs_after (Dcr register) p = with_half p register (previous_byte (half_of p register))
@@ -84,38 +85,5 @@ pairs_after (Lxi pair n) p = with_span p pair (word_alone n)
 pairs_after (Inx pair) p = with_span p pair (next_span (span_of p pair))
 pairs_after (Dcx pair) p = with_span p pair (previous_span (span_of p pair))
 pairs_after (Dad pair) p = record p { hl = sum_span p.hl (span_of p pair) }
-pairs_after (Pop pair) p = with_any p pair
-pairs_after (Lhld _) p = record p { hl = any_word }
-pairs_after Xthl p = record p { hl = any_word }
 pairs_after Xchg p = record p { de = p.hl; hl = p.de }
-pairs_after (Store _) p = p
-pairs_after (MviMemory _) p = p
-pairs_after InrMemory p = p
-pairs_after DcrMemory p = p
-pairs_after (Stax _) p = p
-pairs_after (Ldax _) p = p
-pairs_after (Sta _) p = p
-pairs_after (Lda _) p = p
-pairs_after (Shld _) p = p
-pairs_after (Operate _ _) p = p
-pairs_after (Rotate _) p = p
-pairs_after Daa p = p
-pairs_after Cma p = p
-pairs_after Stc p = p
-pairs_after Cmc p = p
-pairs_after (Jmp _) p = p
-pairs_after (JumpIf _ _) p = p
-pairs_after (Call _) p = p
-pairs_after (CallIf _ _) p = p
-pairs_after Ret p = p
-pairs_after (ReturnIf _) p = p
-pairs_after (Rst _) p = p
-pairs_after (Push _) p = p
-pairs_after Pchl p = p
-pairs_after Sphl p = p
-pairs_after (In _) p = p
-pairs_after (Out _) p = p
-pairs_after Ei p = p
-pairs_after Di p = p
-pairs_after Nop p = p
-pairs_after Hlt p = p
+pairs_after instr p = forgotten (writes instr) p

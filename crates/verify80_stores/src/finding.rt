@@ -17,7 +17,7 @@ use crate::laws::watched_runs_go_as_listed;
 use crate::listing::{Kind, addresses_of, open_stores};
 use crate::spans::{Pairs, pairs_follow};
 use crate::stores::Stores;
-use crate::widening::{Flow, propose};
+use crate::widening::{ReachedProgram, propose};
 use decode80::Fetched;
 use image80::Image;
 use loader80::Vouched;
@@ -114,13 +114,13 @@ fn pairs_of(
     fitting_pairs_hold();
     pairs_follow();
     let returning = mark_returning(alloc, rows)?;
-    let flow = Flow {
+    let program = ReachedProgram {
         instructions: reached,
         returning: &returning,
         start: image.start,
         regions: &image.regions,
     };
-    let table = propose(alloc, flow)?;
+    let table = propose(alloc, program)?;
     if fits(&table, &returning, image.start, &image.regions, reached) {
         return Ok(table);
     }

@@ -12,7 +12,7 @@
 //! | [`pairs_follow`] | the machine's pairs are among those, as a contract |
 //! | [`bytes_stay_bytes`] | a machine's registers and memory hold bytes, as a contract |
 //! | [`propose`] | the pairs at each address |
-//! | [`Flow`] | the program that they are proposed for |
+//! | [`ReachedProgram`] | the program that they are proposed for |
 //! | [`fits`] | whether a table fits |
 //! | [`pairs_at`] | what a table has at an address |
 //! | [`mark_returning`] | marks the procedures that return |
@@ -36,4 +36,4 @@ pub use laws::watched_runs_go_as_listed;
 pub use lines::stores_text;
 pub use spans::{Pairs, Span, bytes_stay_bytes, pairs_after, pairs_follow};
 pub use stores::{OpenStore, Stores};
-pub use widening::{Flow, propose};
+pub use widening::{ReachedProgram, propose};

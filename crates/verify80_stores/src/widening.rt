@@ -6,12 +6,12 @@
 //! | Item | What it is |
 //! |---|---|
 //! | [`propose`] | the pairs at each address |
-//! | [`Flow`] | the program that they are proposed for |
+//! | [`ReachedProgram`] | the program that they are proposed for |
 
 mod data_ends;
 mod filling;
-mod flow;
+mod program;
 mod proposing;
 
-pub use flow::Flow;
+pub use program::ReachedProgram;
 pub use proposing::propose;

@@ -104,11 +104,12 @@ const VERSION: &str = "1.1";
 
 /// The command of a command line, whose first argument is the program's own name, and whether its faults are explained.
 pub fn read_arguments<'a>(
-    alloc: Global,
+    rt: &HostRuntime,
     arguments: &'a [String],
 ) -> Result<(Request<'a>, bool), Error> {
+    let alloc = rt.alloc();
     let matches = matches_of(alloc, arguments)?;
-    refuse_shared_paths(alloc, &matches)?;
+    refuse_shared_paths(rt, &matches)?;
     match asked_for(alloc, &matches)? {
         Some(request) => Ok((request, is_explained(&matches))),
         None => Err(refusal(alloc, ErrorKind::MissingSubcommand, "no command")),
@@ -129,12 +130,12 @@ fn matches_of<'a>(alloc: Global, arguments: &'a [String]) -> Result<ArgMatches<'
 }
 
 /// Refuses the arguments of a command by which it would write over a file that it reads, or write a file twice.
-fn refuse_shared_paths(alloc: Global, matches: &ArgMatches<'_>) -> Result<(), Error> {
+fn refuse_shared_paths(rt: &HostRuntime, matches: &ArgMatches<'_>) -> Result<(), Error> {
     let Some((name, arguments)) = matches.subcommand() else {
         return Ok(());
     };
     match command_of(name) {
-        Some(command) => command.refuse_shared_paths(alloc, arguments),
+        Some(command) => command.refuse_shared_paths(rt, arguments),
         None => Ok(()),
     }
 }

@@ -3,22 +3,26 @@
 ghost use Rattle.std.specs.Prelude.{◌≡◌, ◌≤◌, ◌==◌, length, IfOk, IfSome, IfNone};
 ghost use Rattle.std.specs.List.{AllByRecursion};
 ghost use Rattle.omf_parts.specs.Rules.{IsModule};
+ghost use Rattle.rom80_find.specs.Dump.{dump_of};
 ghost use Rattle.rom80_find.specs.Modules.{code_bytes, code_length};
 ghost use Rattle.rom80_find.specs.Words.{AreAscending};
 ghost use Rattle.rom80_find.specs.Lies.{HasModule, AreModulePlaces, AreModuleWords, MayBeListed};
 
+use crate::dump::Dump;
 use crate::found::laws::{
     pattern_places_are_module_places, pattern_words_are_module_words, pattern_words_may_be_listed,
     patterns_lie_as_modules,
 };
-use crate::{CodeByte, Word, code_bytes, count_of, places, words_at};
+use crate::listing::{count_of, places};
+use crate::pattern::{CodeByte, code_bytes};
+use crate::words::{Word, words_at};
 use omf_parts::Module;
 use std::alloc::{AllocError, Global};
 use std::marker::Model;
 
 /// A module with the bytes of its code, which are taken once, however often it is looked for. A contract sees the module.
 #[derive(Drop)]
-pub struct ModulePattern<'a> {
+pub(crate) struct ModulePattern<'a> {
     source: &'a Module,
     code: Vec<CodeByte>,
 }
@@ -39,7 +43,7 @@ impl<'a> ModulePattern<'a> {
     ///
     /// # Errors
     /// `AllocError` only if memory ran out.
-    pub fn of(alloc: Global, source: &'a Module) -> Result<ModulePattern<'a>, AllocError>
+    pub(crate) fn of(alloc: Global, source: &'a Module) -> Result<ModulePattern<'a>, AllocError>
         ensures { IfOk result (λ pattern. pattern ≡ source.now) }
     {
         let code = code_bytes(alloc, source)?;
@@ -47,14 +51,14 @@ impl<'a> ModulePattern<'a> {
     }
 
     /// The module.
-    pub fn source(&self) -> &'a Module
+    pub(crate) fn source(&self) -> &'a Module
         ensures { result.now ≡ self.now }
     {
         self.source
     }
 
     /// The bytes that its contents define in CODE, in ascending order of their offsets.
-    pub fn code(&self) -> &[CodeByte]
+    pub(crate) fn code(&self) -> &[CodeByte]
         ensures bytes { result.now ≡ code_bytes self.now }
         ensures short { code_length self.now ≤ 65535 }
         ensures rules { IsModule self.now }
@@ -62,14 +66,14 @@ impl<'a> ModulePattern<'a> {
         &self.code
     }
 
-    /// The addresses at which the module lies in a dump that stands from the address `first` on, in ascending order: those for
+    /// The addresses at which the module lies in a dump, in ascending order: those for
     /// which there are bases such that the dump has, at each address that the module's contents in CODE cover, the byte of the
     /// last of them, relocated so. CODE's own base is the address. A module without a byte in CODE lies nowhere.
     ///
     /// # Errors
     /// `AllocError` only if memory ran out.
-    pub fn places(&self, alloc: Global, first: u16, dump: &[u8]) -> Result<Vec<u16>, AllocError>
-        ensures { IfOk result (λ places. AreModulePlaces first dump.now self.now places.items) }
+    pub(crate) fn places(&self, alloc: Global, dump: Dump<'_>) -> Result<Vec<u16>, AllocError>
+        ensures { IfOk result (λ places. AreModulePlaces (dump_of dump.entry) self.now places.items) }
     {
         patterns_lie_as_modules();
         pattern_places_are_module_places();
@@ -77,7 +81,7 @@ impl<'a> ModulePattern<'a> {
         if has_none(code) {
             return Ok(Vec::new(alloc));
         }
-        places(alloc, first, dump, code, count_of(code))
+        places(alloc, dump, code, count_of(code))
     }
 
     /// The words of the module's targets if it lies at the address, by ascending numbers: of a segment its base, of STACK its
@@ -87,17 +91,16 @@ impl<'a> ModulePattern<'a> {
     ///
     /// # Errors
     /// `AllocError` only if memory ran out.
-    pub fn words_at(
+    pub(crate) fn words_at(
         &self,
         alloc: Global,
-        first: u16,
-        dump: &[u8],
+        dump: Dump<'_>,
         address: u16,
     ) -> Result<Option<Vec<Word>>, AllocError>
-        ensures some { IfOk result (λ found. IfSome found (λ words. AreModuleWords first dump.now self.now address words.items)) }
+        ensures some { IfOk result (λ found. IfSome found (λ words. AreModuleWords (dump_of dump.entry) self.now address words.items)) }
         ensures ascending { IfOk result (λ found. IfSome found (λ words. AreAscending words.items)) }
         ensures listed { IfOk result (λ found. IfSome found (λ words. AllByRecursion (λ w. MayBeListed self.now w.target) words.items)) }
-        ensures none { IfOk result (λ found. IfNone found (HasModule first dump.now self.now address → ⊥)) }
+        ensures none { IfOk result (λ found. IfNone found (HasModule (dump_of dump.entry) self.now address → ⊥)) }
     {
         patterns_lie_as_modules();
         pattern_words_are_module_words();
@@ -106,7 +109,7 @@ impl<'a> ModulePattern<'a> {
         if has_none(code) {
             return Ok(None);
         }
-        let found = words_at(alloc, first, dump, code, count_of(code), address)?;
+        let found = words_at(alloc, dump, code, count_of(code), address)?;
         match found {
             Some(words) => Ok(Some(words)),
             None => Ok(None),

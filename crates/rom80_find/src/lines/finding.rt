@@ -1,13 +1,16 @@
 //! What is found of a module.
 
 ghost use Rattle.std.specs.Prelude.{◌≡◌, IfOk, length, filter};
+ghost use Rattle.rom80_find.specs.Dump.{dump_of};
 ghost use Rattle.rom80_find.specs.Places.{is_plain};
 ghost use Rattle.rom80_find.specs.Found.{has_place, is_short};
-ghost use Rattle.rom80_find.specs.LinesWords.{FindsModule};
+ghost use Rattle.rom80_find.specs.Prints.{FindsModule};
 
+use crate::dump::Dump;
+use crate::found::ModulePattern;
 use crate::lines::places::append_places;
-use crate::{CodeByte, Half, ModulePattern};
-use omf_parts::{Module, Target};
+use crate::pattern::CodeByte;
+use omf_parts::Module;
 use std::alloc::{AllocError, Global};
 
 /// What is found of a module.
@@ -37,22 +40,21 @@ const FEWEST: usize = 4;
 /// Appends the lines of a module's places, and says what is found of it.
 pub(crate) fn append_found(
     alloc: Global,
-    first: u16,
-    dump: &[u8],
+    dump: Dump<'_>,
     source: &Module,
     text: &mut Vec<u8>,
 ) -> Result<Finding, AllocError>
-    ensures { IfOk result (λ finding. FindsModule first dump.now source.now finding text.old.items text.new.items) }
+    ensures { IfOk result (λ finding. FindsModule (dump_of dump.entry) source.now finding text.old.items text.new.items) }
 {
     let pattern = ModulePattern::of(alloc, source)?;
     if is_short(&pattern) {
         return Ok(Finding::Short);
     }
-    let places = pattern.places(alloc, first, dump)?;
+    let places = pattern.places(alloc, dump)?;
     if places.is_empty() {
         return Ok(Finding::Missing);
     }
-    append_places(alloc, first, dump, &pattern, &places, text)?;
+    append_places(alloc, dump, &pattern, &places, text)?;
     Ok(Finding::There)
 }
 
@@ -69,16 +71,9 @@ fn count_plain(code: &[CodeByte]) -> usize
 {
     let mut count = 0;
     for byte in code {
-        if is_plain(*byte) {
+        if byte.is_plain() {
             count += 1;
         }
     }
     count
-}
-
-/// Whether a byte is outside fixups.
-fn is_plain(byte: CodeByte) -> bool
-    ensures { result ≡ is_plain byte }
-{
-    byte.half == Half::Low && byte.target == Target::Segment(0)
 }

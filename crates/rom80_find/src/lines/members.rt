@@ -1,10 +1,12 @@
 //! The lines of a library's modules.
 
 ghost use Rattle.std.specs.Prelude.{◌≡◌, ◌++◌, IfOk, OnOk};
+ghost use Rattle.rom80_find.specs.Dump.{dump_of};
 ghost use Rattle.rom80_find.specs.Found.{PrintsMembers};
 ghost use Rattle.rom80_find.specs.Lines.{count_line};
-ghost use Rattle.rom80_find.specs.LinesWords.{PrintsFound};
+ghost use Rattle.rom80_find.specs.Prints.{PrintsFound};
 
+use crate::dump::Dump;
 use crate::lines::finding::append_found;
 use omf_parts::Module;
 use std::alloc::{AllocError, Global};
@@ -17,30 +19,28 @@ use std::alloc::{AllocError, Global};
 /// `AllocError` only if memory runs out; the text may then have some of the lines.
 pub fn append_members(
     alloc: Global,
-    first: u16,
-    dump: &[u8],
+    dump: Dump<'_>,
     members: &[Module],
     text: &mut Vec<u8>,
 ) -> Result<(), AllocError>
-    ensures { OnOk result (PrintsMembers first dump.now members.now text.old.items text.new.items) }
+    ensures { OnOk result (PrintsMembers (dump_of dump.entry) members.now text.old.items text.new.items) }
 {
-    let missing = append_found_ones(alloc, first, dump, members, text)?;
+    let missing = append_found_ones(alloc, dump, members, text)?;
     append_count(alloc, text, missing, members.len())
 }
 
 /// Appends the lines of the modules that are found, and says how many aren't.
 fn append_found_ones(
     alloc: Global,
-    first: u16,
-    dump: &[u8],
+    dump: Dump<'_>,
     members: &[Module],
     text: &mut Vec<u8>,
 ) -> Result<usize, AllocError>
-    ensures { IfOk result (λ missing. PrintsFound first dump.now members.now missing text.old.items text.new.items) }
+    ensures { IfOk result (λ missing. PrintsFound (dump_of dump.entry) members.now missing text.old.items text.new.items) }
 {
     let mut missing = 0;
     for source in members {
-        let finding = append_found(alloc, first, dump, source, text)?;
+        let finding = append_found(alloc, dump, source, text)?;
         if !finding.has_place() {
             missing += 1;
         }

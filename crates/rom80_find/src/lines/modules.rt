@@ -1,10 +1,12 @@
 //! The lines of an object file's modules.
 
 ghost use Rattle.std.specs.Prelude.{◌≡◌, ◌++◌, IfOk, OnOk};
+ghost use Rattle.rom80_find.specs.Dump.{dump_of};
 ghost use Rattle.rom80_find.specs.Found.{PrintsModules};
 ghost use Rattle.rom80_find.specs.Lines.{missing_line, short_line};
-ghost use Rattle.rom80_find.specs.LinesWords.{PrintsModule};
+ghost use Rattle.rom80_find.specs.Prints.{PrintsModule};
 
+use crate::dump::Dump;
 use crate::lines::finding::{Finding, append_found};
 use omf_core::Name;
 use omf_parts::Module;
@@ -21,16 +23,15 @@ use std::alloc::{AllocError, Global};
 /// `AllocError` only if memory runs out; the text may then have some of the lines.
 pub fn append_modules(
     alloc: Global,
-    first: u16,
-    dump: &[u8],
+    dump: Dump<'_>,
     modules: &[Module],
     text: &mut Vec<u8>,
 ) -> Result<bool, AllocError>
-    ensures { IfOk result (λ are_there. PrintsModules first dump.now modules.now are_there text.old.items text.new.items) }
+    ensures { IfOk result (λ are_there. PrintsModules (dump_of dump.entry) modules.now are_there text.old.items text.new.items) }
 {
     let mut are_there = true;
     for source in modules {
-        if append_module(alloc, first, dump, source, text)? {
+        if append_module(alloc, dump, source, text)? {
             are_there = false;
         }
     }
@@ -40,14 +41,13 @@ pub fn append_modules(
 /// Appends the lines of a module, and says whether it is missing.
 fn append_module(
     alloc: Global,
-    first: u16,
-    dump: &[u8],
+    dump: Dump<'_>,
     source: &Module,
     text: &mut Vec<u8>,
 ) -> Result<bool, AllocError>
-    ensures { IfOk result (λ missing. PrintsModule first dump.now source.now missing text.old.items text.new.items) }
+    ensures { IfOk result (λ missing. PrintsModule (dump_of dump.entry) source.now missing text.old.items text.new.items) }
 {
-    match append_found(alloc, first, dump, source, text)? {
+    match append_found(alloc, dump, source, text)? {
         Finding::There => Ok(false),
         Finding::Short => {
             append_short(text, source.name())?;

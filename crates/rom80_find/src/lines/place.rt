@@ -5,7 +5,7 @@ ghost use Rattle.std.specs.List.{flat_map};
 ghost use Rattle.rom80_find.specs.Modules.{code_length};
 ghost use Rattle.rom80_find.specs.Lines.{extent_words, heading, common_part, base_words, base_part, top_part, place_line, name_line, needed_line, place_text};
 
-use crate::Word;
+use crate::words::Word;
 use omf_core::Name;
 use omf_core::segment_id::{CODE, STACK, word_of};
 use omf_parts::{Common, Module, Target};

@@ -2,11 +2,13 @@
 
 ghost use Rattle.std.specs.Prelude.{◌≡◌, ◌++◌, OnOk, take};
 ghost use Rattle.std.specs.List.{AllByRecursion};
+ghost use Rattle.rom80_find.specs.Dump.{dump_of};
 ghost use Rattle.rom80_find.specs.Lies.{AreModulePlaces, HasModule};
 ghost use Rattle.rom80_find.specs.Lines.{more_line};
-ghost use Rattle.rom80_find.specs.LinesWords.{PrintsEach, PrintsPlace, PrintsPlaces};
+ghost use Rattle.rom80_find.specs.Prints.{PrintsEach, PrintsPlace, PrintsPlaces};
 
-use crate::ModulePattern;
+use crate::dump::Dump;
+use crate::found::ModulePattern;
 use crate::lines::place::append_place;
 use std::alloc::{AllocError, Global};
 
@@ -16,16 +18,15 @@ const SHOWN: usize = 16;
 /// Appends the lines of the first places, and how many there are more.
 pub(crate) fn append_places(
     alloc: Global,
-    first: u16,
-    dump: &[u8],
+    dump: Dump<'_>,
     pattern: &ModulePattern<'_>,
     places: &[u16],
     text: &mut Vec<u8>,
 ) -> Result<(), AllocError>
-    requires { AreModulePlaces first dump.now pattern.now places.now }
-    ensures { OnOk result (PrintsPlaces first dump.now pattern.now places.now text.old.items text.new.items) }
+    requires { AreModulePlaces (dump_of dump) pattern.now places.now }
+    ensures { OnOk result (PrintsPlaces (dump_of dump.entry) pattern.now places.now text.old.items text.new.items) }
 {
-    append_each(alloc, first, dump, pattern, first_of(places), text)?;
+    append_each(alloc, dump, pattern, first_of(places), text)?;
     append_more(alloc, text, places.len())
 }
 
@@ -43,17 +44,16 @@ fn first_of(places: &[u16]) -> &[u16]
 /// Appends the lines of each of these places.
 fn append_each(
     alloc: Global,
-    first: u16,
-    dump: &[u8],
+    dump: Dump<'_>,
     pattern: &ModulePattern<'_>,
     places: &[u16],
     text: &mut Vec<u8>,
 ) -> Result<(), AllocError>
-    requires { AllByRecursion (HasModule first dump.now pattern.now) places.now }
-    ensures { OnOk result (PrintsEach first dump.now pattern.now places.now text.old.items text.new.items) }
+    requires { AllByRecursion (HasModule (dump_of dump) pattern.now) places.now }
+    ensures { OnOk result (PrintsEach (dump_of dump.entry) pattern.now places.now text.old.items text.new.items) }
 {
     for address in places {
-        append_at(alloc, first, dump, pattern, *address, text)?;
+        append_at(alloc, dump, pattern, *address, text)?;
     }
     Ok(())
 }
@@ -61,16 +61,15 @@ fn append_each(
 /// Appends the lines of the place at an address.
 fn append_at(
     alloc: Global,
-    first: u16,
-    dump: &[u8],
+    dump: Dump<'_>,
     pattern: &ModulePattern<'_>,
     address: u16,
     text: &mut Vec<u8>,
 ) -> Result<(), AllocError>
-    requires { HasModule first dump.now pattern.now address }
-    ensures { OnOk result (PrintsPlace first dump.now pattern.now address text.old.items text.new.items) }
+    requires { HasModule (dump_of dump) pattern.now address }
+    ensures { OnOk result (PrintsPlace (dump_of dump.entry) pattern.now address text.old.items text.new.items) }
 {
-    match pattern.words_at(alloc, first, dump, address)? {
+    match pattern.words_at(alloc, dump, address)? {
         Some(words) => append_place(text, pattern.source(), address, &words),
         None => unreachable!(),
     }

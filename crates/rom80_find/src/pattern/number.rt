@@ -6,7 +6,7 @@ ghost use Rattle.rom80_find.specs.CodeBytes.{number_of, has_small_id};
 use omf_parts::Target;
 
 /// The number by which a target's value goes: the id of a segment, and 256 plus the index of an external.
-pub fn number_of(target: Target) -> usize
+pub(crate) fn number_of(target: Target) -> usize
     ensures { result ≡ number_of target }
 {
     match target {
@@ -16,7 +16,7 @@ pub fn number_of(target: Target) -> usize
 }
 
 /// The target with this number.
-pub fn target_of(number: usize) -> Target
+pub(crate) fn target_of(number: usize) -> Target
     requires { number < 65792 }
     ensures number { number_of result ≡ number }
     ensures small { has_small_id result ≡ true }

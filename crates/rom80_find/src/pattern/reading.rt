@@ -21,7 +21,7 @@ use std::alloc::{AllocError, Global};
 ///
 /// # Errors
 /// `AllocError` only if memory ran out.
-pub fn code_bytes(alloc: Global, source: &Module) -> Result<Vec<CodeByte>, AllocError>
+pub(crate) fn code_bytes(alloc: Global, source: &Module) -> Result<Vec<CodeByte>, AllocError>
     ensures bytes { IfOk result (λ bytes. bytes.items ≡ code_bytes source.now) }
     ensures short { OnOk result (code_length source.now ≤ 65535) }
     ensures rules { OnOk result (IsModule source.now) }

@@ -13,7 +13,7 @@ use std::marker::Model;
 
 /// What a target stands for: the value of a target plus an addend.
 #[derive(Clone, Copy, PartialEq, Eq, Debug)]
-pub struct Resolved {
+pub(crate) struct Resolved {
     pub target: Target,
     pub addend: u16,
 }
@@ -37,7 +37,7 @@ impl<'a> Model for ResolvedModule<'a> {
 }
 
 impl<'a> ResolvedModule<'a> {
-    /// The module, by one look at each of its names.
+    /// The module, of which each name is looked up once.
     pub(crate) fn of(alloc: Global, source: &'a Module) -> Result<ResolvedModule<'a>, AllocError>
         ensures { IfOk result (λ resolved. resolved ≡ source.now) }
     {

@@ -4,7 +4,7 @@ ghost use Rattle.std.specs.Prelude.{◌≡◌};
 ghost use Rattle.verify80_stores.specs.Pairs.{pairs_after};
 
 use crate::spans::span::{ByteSpan, Span};
-use decode80::{Instr, Pair, Register, StackPair};
+use decode80::{Instr, Pair, Register, Writes};
 
 /// What each of BC, DE and HL may be.
 #[derive(Clone, Copy, Debug, PartialEq, Eq)]
@@ -16,7 +16,7 @@ pub struct Pairs {
 
 impl Pairs {
     ghost use Rattle.std.specs.Prelude.{◌≡◌, ◌↔◌, true};
-    ghost use Rattle.verify80_stores.specs.Pairs.{AreInside, half_of, with_half, span_of, with_span, with_any};
+    ghost use Rattle.verify80_stores.specs.Pairs.{AreInside, half_of, with_half, span_of, with_span, forgotten};
 
     /// Anything: nothing is known of the pairs.
     pub const ANY: Pairs = Pairs {
@@ -112,15 +112,19 @@ impl Pairs {
         }
     }
 
-    /// The pairs when one of them comes from the stack.
-    fn with_any(self, pair: StackPair) -> Pairs
-        ensures { result ≡ with_any self pair }
+    /// The pairs when registers are written, with what isn't followed.
+    fn forgotten(self, writes: Writes) -> Pairs
+        ensures { result ≡ forgotten writes self }
     {
-        match pair {
-            StackPair::Bc => self.with_span(Pair::Bc, Span::ANY),
-            StackPair::De => self.with_span(Pair::De, Span::ANY),
-            StackPair::Hl => self.with_span(Pair::Hl, Span::ANY),
-            StackPair::Psw => self,
+        match writes {
+            Writes::Nothing => self,
+            Writes::One(register) => self.with_half(register, ByteSpan::ANY),
+            Writes::Both(pair) => self.with_span(pair, Span::ANY),
+            Writes::DeAndHl => Pairs {
+                bc: self.bc,
+                de: Span::ANY,
+                hl: Span::ANY,
+            },
         }
     }
 }
@@ -134,7 +138,6 @@ pub fn pairs_after(instr: Instr, pairs: Pairs) -> Pairs
 {
     match instr {
         Instr::Mov(to, from) => pairs.with_half(to, pairs.half(from)),
-        Instr::Load(to) => pairs.with_half(to, ByteSpan::ANY),
         Instr::Mvi(to, byte) => pairs.with_half(to, ByteSpan::alone(byte)),
         Instr::Inr(register) => pairs.with_half(register, pairs.half(register).next()),
         Instr::Dcr(register) => pairs.with_half(register, pairs.half(register).previous()),
@@ -142,20 +145,11 @@ pub fn pairs_after(instr: Instr, pairs: Pairs) -> Pairs
         Instr::Inx(pair) => pairs.with_span(pair, pairs.span(pair).next()),
         Instr::Dcx(pair) => pairs.with_span(pair, pairs.span(pair).previous()),
         Instr::Dad(pair) => pairs.with_span(Pair::Hl, pairs.hl.plus(pairs.span(pair))),
-        Instr::Pop(pair) => pairs.with_any(pair),
-        Instr::Lhld(_) | Instr::Xthl => pairs.with_span(Pair::Hl, Span::ANY),
         Instr::Xchg => Pairs {
             bc: pairs.bc,
             de: pairs.hl,
             hl: pairs.de,
         },
-        Instr::Store(_) | Instr::MviMemory(_) | Instr::InrMemory | Instr::DcrMemory => pairs,
-        Instr::Stax(_) | Instr::Ldax(_) | Instr::Sta(_) | Instr::Lda(_) | Instr::Shld(_) => pairs,
-        Instr::Operate(_, _) | Instr::Rotate(_) | Instr::Daa | Instr::Cma => pairs,
-        Instr::Stc | Instr::Cmc => pairs,
-        Instr::Jmp(_) | Instr::JumpIf(_, _) | Instr::Pchl => pairs,
-        Instr::Call(_) | Instr::CallIf(_, _) | Instr::Rst(_) => pairs,
-        Instr::Ret | Instr::ReturnIf(_) | Instr::Push(_) | Instr::Sphl => pairs,
-        Instr::In(_) | Instr::Out(_) | Instr::Ei | Instr::Di | Instr::Nop | Instr::Hlt => pairs,
+        other => pairs.forgotten(other.writes()),
     }
 }

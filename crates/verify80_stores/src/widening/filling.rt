@@ -1,7 +1,7 @@
 //! A table of pairs that is being filled.
 
 use crate::widening::data_ends::DataEnds;
-use crate::widening::flow::Flow;
+use crate::widening::program::ReachedProgram;
 use crate::{Pairs, Span, pairs_after};
 use decode80::Fetched;
 use frames80::{Effect, effect_of};
@@ -58,7 +58,7 @@ impl Filling {
     /// Follows pairs through an instruction, to each address where it leads.
     pub fn follow(
         &mut self,
-        flow: Flow<'_>,
+        program: ReachedProgram<'_>,
         ends: Option<&DataEnds>,
         at: u16,
         found: Fetched,
@@ -76,13 +76,13 @@ impl Filling {
                 self.join(ends, to, after)?;
                 self.join(ends, next, after)
             }
-            Effect::Case => self.join_each(ends, flow.targets(at), after),
+            Effect::Case => self.join_each(ends, program.targets(at), after),
             Effect::Call(to) => {
-                self.come_back(flow, ends, to, next)?;
+                self.come_back(program, ends, to, next)?;
                 self.join(ends, to, after)
             }
             Effect::CallIf(to) => {
-                self.come_back(flow, ends, to, next)?;
+                self.come_back(program, ends, to, next)?;
                 self.join(ends, to, after)?;
                 self.join(ends, next, after)
             }
@@ -105,12 +105,12 @@ impl Filling {
     /// Behind a call whose callee returns nothing is known.
     fn come_back(
         &mut self,
-        flow: Flow<'_>,
+        program: ReachedProgram<'_>,
         ends: Option<&DataEnds>,
         callee: u16,
         next: u16,
     ) -> Result<(), AllocError> {
-        if flow.returns(callee) {
+        if program.returns(callee) {
             self.join(ends, next, Pairs::ANY)?;
         }
         Ok(())

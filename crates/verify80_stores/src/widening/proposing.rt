@@ -3,7 +3,7 @@
 use crate::Pairs;
 use crate::widening::data_ends::DataEnds;
 use crate::widening::filling::Filling;
-use crate::widening::flow::Flow;
+use crate::widening::program::ReachedProgram;
 use std::alloc::{AllocError, Global};
 
 /// How often pairs are followed from an address at most: no address has pairs that grow more often.
@@ -18,18 +18,18 @@ const NARROWINGS: u32 = 3;
 ///
 /// # Errors
 /// `AllocError` only if memory runs out.
-pub fn propose(alloc: Global, flow: Flow<'_>) -> Result<Vec<Option<Pairs>>, AllocError> {
-    let ends = DataEnds::new(alloc, flow.regions)?;
+pub fn propose(alloc: Global, program: ReachedProgram<'_>) -> Result<Vec<Option<Pairs>>, AllocError> {
+    let ends = DataEnds::new(alloc, program.regions)?;
     let mut filling = Filling::new(alloc)?;
-    filling.join(Some(&ends), flow.start, Pairs::ANY)?;
+    filling.join(Some(&ends), program.start, Pairs::ANY)?;
     for _ in 0..VISITS * 65_536 {
         let Some(at) = filling.next_waiting() else {
             break;
         };
-        follow_from(&mut filling, flow, &ends, at)?;
+        follow_from(&mut filling, program, &ends, at)?;
     }
     for _ in 0..NARROWINGS {
-        filling = narrowed(alloc, flow, &filling)?;
+        filling = narrowed(alloc, program, &filling)?;
     }
     Ok(filling.into_table())
 }
@@ -37,12 +37,12 @@ pub fn propose(alloc: Global, flow: Flow<'_>) -> Result<Vec<Option<Pairs>>, Allo
 /// Follows the pairs at an address through the instruction there.
 fn follow_from(
     filling: &mut Filling,
-    flow: Flow<'_>,
+    program: ReachedProgram<'_>,
     ends: &DataEnds,
     at: u16,
 ) -> Result<(), AllocError> {
-    match (filling.at(at), flow.at(at)) {
-        (Some(pairs), Some(found)) => filling.follow(flow, Some(ends), at, found, pairs),
+    match (filling.at(at), program.at(at)) {
+        (Some(pairs), Some(found)) => filling.follow(program, Some(ends), at, found, pairs),
         _ => Ok(()),
     }
 }
@@ -50,13 +50,13 @@ fn follow_from(
 /// The table that follows from another, with no more at an address than what leads to it.
 ///
 /// Nothing is widened here: if the other table fits, so does this one, which lies inside it.
-fn narrowed(alloc: Global, flow: Flow<'_>, wide: &Filling) -> Result<Filling, AllocError> {
+fn narrowed(alloc: Global, program: ReachedProgram<'_>, wide: &Filling) -> Result<Filling, AllocError> {
     let mut narrow = Filling::new(alloc)?;
-    narrow.join(None, flow.start, Pairs::ANY)?;
+    narrow.join(None, program.start, Pairs::ANY)?;
     for address in 0..65_536_u32 {
         let at = address as u16;
-        if let (Some(pairs), Some(found)) = (wide.at(at), flow.at(at)) {
-            narrow.follow(flow, None, at, found, pairs)?;
+        if let (Some(pairs), Some(found)) = (wide.at(at), program.at(at)) {
+            narrow.follow(program, None, at, found, pairs)?;
         }
     }
     Ok(narrow)

@@ -1,6 +1,6 @@
 use Rattle.std.proofs.Common.{rules, ℕ, ◌+◌, nat_eq, drop, sym, subst, arith, Fits, w64}
 use Rattle.omf_core.specs.Feed.{ReadsUpTo, ended, cut_off}
-use Rattle.omf_core.proofs.FeedLemmas.{all_bytes, reads_next, to_open, to_ended, counted_below, cut_off_here, no_truncation, lasting, counted_have_none}
+use Rattle.omf_core.proofs.FeedLemmas.{all_bytes, reads_next, to_open, to_ended, counted_below, cut_off_here, lasting, counted_have_none}
 use Rattle.omf_core.proofs.feed.read_on.Goals as goal
 
 pub overflow_add-read : goal.overflow_add-read
@@ -41,7 +41,7 @@ returns-in-Err-2-clause-fault c =
     let read = c.loop-read.read in
     let before = to_open c.args.bytes.now read.at read.count read.ended c.loop-read-test.true c.loop-read.invariant in
     lasting c.args.bytes.now read.at read.count c.in-Err.fault before (sym c.in-Err.ensures.fault)
-    (no_truncation c.in-Err.fault read.at (sym c.if-is_truncated.ensures))
+    (sym c.if-is_truncated.ensures)
 
 pub returns-clause-counted : goal.returns-clause-counted
 returns-clause-counted c =

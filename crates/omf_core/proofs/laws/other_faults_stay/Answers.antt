@@ -1,5 +1,5 @@
-use Rattle.omf_core.proofs.FeedLemmas.{fault_stays, no_truncation}
+use Rattle.omf_core.proofs.FeedLemmas.{other_faults_stay}
 use Rattle.omf_core.proofs.laws.other_faults_stay.Goals as goal
 
 pub returns : goal.returns
-returns c = λ rest more at fault other x. fault_stays rest more at fault x (no_truncation fault at other)
+returns c = other_faults_stay

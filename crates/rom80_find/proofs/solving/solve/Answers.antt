@@ -1,4 +1,5 @@
 use Rattle.std.proofs.Common.{◌&&◌, ◌||◌, ◌==◌, not, Bool, ap, sym, ◌∙◌, arith, get_or, eq-eqb, ◌<◌, length, refl}
+use Rattle.rom80_find.specs.Dump.{dump_of}
 use Rattle.rom80_find.specs.CodeBytes.{number_of}
 use Rattle.rom80_find.specs.declared.pattern.code_byte.CodeByte.{CodeByte}
 use Rattle.rom80_find.specs.Places.{is_known, in_table, fits_for, fits}
@@ -14,8 +15,8 @@ returns-then-not-narrow-clause-no c = λ _.
     let below : n < length c.loop-index.table = omega (arith, each_at (λ (b : CodeByte). number_of b.target < length c.args.table.now) code i some_byte c.requires.below c.loop-index-test.true, c.loop-index.invariant.whole) in
     record {
       number = n;
-      none = λ word w. all_fail (is_known c.args.address n word) (fits_for c.args.first c.args.dump.now c.args.address n word) code i some_byte c.loop-index-test.true
-          (ap (λ (x : Bool). (x && (not (n == n) || fits c.args.first c.args.dump.now c.args.address b word))) (sym (c.loop-index.invariant.table.each n word below w))
-          ∙ ap (λ (x : Bool). in_table c.loop-index.table n word && (not x || fits c.args.first c.args.dump.now c.args.address b word)) (eq-eqb n n refl)
+      none = λ word w. all_fail (is_known c.args.address n word) (fits_for (dump_of c.args.dump) c.args.address n word) code i some_byte c.loop-index-test.true
+          (ap (λ (x : Bool). (x && (not (n == n) || fits (dump_of c.args.dump) c.args.address b word))) (sym (c.loop-index.invariant.table.each n word below w))
+          ∙ ap (λ (x : Bool). in_table c.loop-index.table n word && (not x || fits (dump_of c.args.dump) c.args.address b word)) (eq-eqb n n refl)
           ∙ c.narrow.ensures.no c.if-not-narrow.true word w);
     }

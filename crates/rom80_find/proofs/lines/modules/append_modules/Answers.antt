@@ -1,12 +1,13 @@
 use Rattle.std.specs.Prelude.{Bool, false, if◌then◌else◌}
 use Rattle.std.proofs.Common.{◌∙◌, ap, sym}
+use Rattle.rom80_find.specs.Dump.{dump_of}
 use Rattle.rom80_find.proofs.FindingLemmas.{modules_more}
 use Rattle.rom80_find.proofs.lines.modules.append_modules.Goals as goal
 use Rattle.rom80_find.proofs.lines.modules.append_modules.Goals.{then-branch, else-branch}
 
 pub loop-source-preserved : goal.loop-source-preserved
 loop-source-preserved c =
-    modules_more c.args.first c.args.dump.now c.args.modules.now c.loop-source.source-index c.source-item.result c.loop-source.are_there
+    modules_more (dump_of c.args.dump) c.args.modules.now c.loop-source.source-index c.source-item.result c.loop-source.are_there
     c.in_ok-append_module.field-0 c.if-branch.are_there c.args.text.now.items c.loop-source.text.items c.append_module.new.text.items
     c.loop-source-test.true c.source-item.is c.loop-source.invariant c.in_ok-append_module.ensures
     (elim c.if-branch.branch [

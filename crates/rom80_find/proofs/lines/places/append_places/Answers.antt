@@ -1,10 +1,11 @@
 use Rattle.std.proofs.Common.{subst, sym, List, ℕ}
 use Rattle.std.specs.List.{AllByRecursion}
+use Rattle.rom80_find.specs.Dump.{dump_of}
 use Rattle.rom80_find.specs.Lies.{HasModule}
-use Rattle.rom80_find.proofs.LinesPlaceLemmas.{first_places}
+use Rattle.rom80_find.proofs.PlaceTextLemmas.{first_places}
 use Rattle.rom80_find.proofs.lines.places.append_places.Goals as goal
 
 pub append_each-requires : goal.append_each-requires
 append_each-requires c =
-    subst (λ (l : List ℕ). AllByRecursion (HasModule c.args.first c.args.dump.now c.args.pattern.now) l) (sym c.first_of.ensures)
-    (first_places c.args.first c.args.dump.now c.args.pattern.now c.args.places.now c.requires)
+    subst (λ (l : List ℕ). AllByRecursion (HasModule (dump_of c.args.dump) c.args.pattern.now) l) (sym c.first_of.ensures)
+    (first_places (dump_of c.args.dump) c.args.pattern.now c.args.places.now c.requires)

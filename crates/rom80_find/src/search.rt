@@ -1,0 +1,114 @@
+//! A search for code in a dump, from one address to the next.
+
+ghost use Rattle.std.specs.Prelude.{◌≡◌, ◌≤◌, Bool, true, Some, None, IfOk, IfSome};
+ghost use Rattle.rom80_find.specs.Places.{AreBelow, LiesAt};
+ghost use Rattle.rom80_find.specs.Runs.{IsAnswer, IsAnswerBefore};
+ghost use Rattle.rom80_find.specs.Search.{search_of};
+
+use crate::candidates::Candidates;
+use crate::fixup_bytes::FixupBytes;
+use crate::pattern::CodeByte;
+use crate::runs::Runs;
+use crate::solving::{any_table, lies_at};
+use std::alloc::{AllocError, Global};
+use std::marker::Model;
+
+/// A search for the bytes of code in fixups in a dump. In its table every value may be every word. A contract sees the dump and
+/// the bytes.
+#[derive(Drop)]
+pub(crate) struct Search<'a> {
+    runs: Runs<'a>,
+    bytes: FixupBytes,
+    table: Vec<Candidates>,
+}
+
+impl<'a> Model for Search<'a> {
+    ghost use Rattle.rom80_find.specs.Search.{SearchValue, IsSearch};
+
+    ghost Value = { SearchValue };
+
+    ghost view = { λ s. record { dump = s.runs; known = s.bytes.known.items; free = s.bytes.free.items } };
+
+    ghost invariant = { λ s. IsSearch s.bytes s.table.items };
+}
+
+impl<'a> Search<'a> {
+    /// The search for code whose targets have numbers below `count`.
+    pub(crate) fn of(
+        alloc: Global,
+        runs: Runs<'a>,
+        code: &[CodeByte],
+        count: usize,
+    ) -> Result<Search<'a>, AllocError>
+        requires two { 2 ≤ count }
+        requires below { AreBelow count code.now }
+        ensures { IfOk result (λ search. search ≡ search_of runs.entry code.now) }
+    {
+        let bytes = FixupBytes::of(alloc, code)?;
+        let table = any_table(alloc, count)?;
+        Ok(Search { runs, bytes, table })
+    }
+
+    /// Whether there are values with which the dump has the bytes in fixups with CODE at the address. `alive` says whether it has
+    /// the others, and `before` is the answer at the address before. `None` if it lacks one of the others or of known values.
+    pub(crate) fn lies_next(
+        &mut self,
+        address: u16,
+        alive: bool,
+        before: Option<bool>,
+    ) -> Option<bool>
+        requires { IsAnswerBefore self.old.dump self.old.free address before }
+        ensures same { self.new ≡ self.old }
+        ensures known { IfSome result (λ _. (alive ≡ true) × LiesAt self.old.dump self.old.known address) }
+        ensures free { IfSome result (λ lies. IsAnswer self.old.dump self.old.free address lies) }
+        ensures none { result ≡ None → alive ≡ true → LiesAt self.old.dump self.old.known address → ⊥ }
+    {
+        if !alive || !self.has_known(address) {
+            return None;
+        }
+        Some(self.lies_again(address, before))
+    }
+
+    /// Whether the dump has the bytes of known values with CODE at the address.
+    fn has_known(&mut self, address: u16) -> bool
+        ensures same { self.new ≡ self.old }
+        ensures lies { IsAnswer self.old.dump self.old.known address result }
+    {
+        lies_at(
+            self.runs.dump(),
+            address,
+            &self.bytes.known,
+            &mut self.table,
+        )
+    }
+
+    /// Whether there are values with which it has those of unknown values there.
+    fn has_free(&mut self, address: u16) -> bool
+        ensures same { self.new ≡ self.old }
+        ensures lies { IsAnswer self.old.dump self.old.free address result }
+    {
+        lies_at(self.runs.dump(), address, &self.bytes.free, &mut self.table)
+    }
+
+    /// The same, by the answer at the address before, if the dump has the same bytes there.
+    fn lies_again(&mut self, address: u16, before: Option<bool>) -> bool
+        requires { IsAnswerBefore self.old.dump self.old.free address before }
+        ensures same { self.new ≡ self.old }
+        ensures lies { IsAnswer self.old.dump self.old.free address result }
+    {
+        if let Some(lies) = before {
+            if self.is_repeated(address) {
+                return lies;
+            }
+        }
+        self.has_free(address)
+    }
+
+    /// Whether the dump has, at the offset of each byte of an unknown value after the address, the byte that it has there after the
+    /// address before it; then code lies at both or at neither.
+    fn is_repeated(&self, address: u16) -> bool
+        ensures { result ≡ true → (lies : Bool) → IsAnswerBefore self.now.dump self.now.free address (Some lies) → IsAnswer self.now.dump self.now.free address lies }
+    {
+        self.runs.is_repeated(self.bytes.offsets, address)
+    }
+}
