@@ -12,7 +12,7 @@ use Rattle.image80.specs.Image.{Located, memory_of}
 use Rattle.machine80.specs.declared.end.End.{End}
 use Rattle.machine80.specs.declared.end.End.TheVariants.{StoreOutside}
 use Rattle.machine80.specs.Effects.{pointed_bytes, stack_bytes, target}
-use Rattle.machine80.specs.Step.{Machine, Next, execute, fetch, guard, ends_at}
+use Rattle.machine80.specs.Step.{Machine, Next, execute, fetch, guard, guarded, ends_at, step_on}
 use Rattle.machine80.specs.World.{World, fetched_by, places_after, returns, IsJustBelow, IsNewest}
 use Rattle.machine80.specs.Run.{world_of}
 use Rattle.verify80_flow.specs.Fitting.{Table, Fits, IsFitted}
@@ -21,7 +21,7 @@ use Rattle.verify80.specs.Looking.{code_of}
 use Rattle.verify80.specs.LookLaws.{LooksFindWhatIsAdmitted, IsAdmitted}
 use Rattle.verify80.specs.Starts.{IsStart}
 use Rattle.verify80.specs.Reached.{IsBehindCall}
-use Rattle.verify80.specs.Boards.{LeavesProgram, with_memory, Disturbs, fetched_anywhere, unguarded, StaysInside, Executes, OnBoard, begins, disturbed, executed, Anywhere, KeepsPromise, KeepsToWalks}
+use Rattle.verify80.specs.Boards.{LeavesProgram, with_memory, Disturbs, fetched_anywhere, unguarded, StaysInside, Executes, OnBoard, begins, disturbed, executed, Anywhere, KeepsPromise, KeepsToWalks, IsGuarded}
 use Rattle.verify80.proofs.StoreLemmas.{Ground, stack_keeps_words}
 use Rattle.verify80.proofs.ChainLemmas.{Watched, chain_kept}
 use Rattle.verify80.proofs.ArriveLemmas.{here_height, in_words}
@@ -94,6 +94,7 @@ module _ (image : Located) (table : Table) (most : ℕ) (rules : Ground image.re
 
   record Steps (w : World) (s : Watches w) (found : Fetched) (after : Machine) : Type 0 where
     inputs : List (List ℕ)
+    bytes : All (All (λ byte. byte < 256)) inputs
     there : Machine
     watched : Watches (with_inputs w inputs)
     same : (finds_of (with_inputs w inputs) watched).found ≡ found
@@ -101,16 +102,17 @@ module _ (image : Located) (table : Table) (most : ℕ) (rules : Ground image.re
     executes : execute image.regions false (finds_of (with_inputs w inputs) watched).found.instr (finds_of (with_inputs w inputs) watched).found.next (with_inputs w inputs).machine ≡ Next there
     is : record there { inputs = w.machine.inputs; outputs = w.machine.outputs } ≡ after
 
-  steps : (w : World) (s : Watches w) (e_found : Fetched) (byte : ℕ) (after : Machine) → fetched_anywhere w.machine.memory w.machine.cpu.pc ≡ Some e_found → StaysInside image.regions w.machine e_found.instr →
+  steps : (w : World) (s : Watches w) (e_found : Fetched) (byte : ℕ) (after : Machine) → byte < 256 → fetched_anywhere w.machine.memory w.machine.cpu.pc ≡ Some e_found → StaysInside image.regions w.machine e_found.instr →
       unguarded e_found.instr byte e_found.next w.machine ≡ Some after → Steps w s e_found after
-  steps w s found byte after fetched inside goes =
-      let b = bridges image.regions found.instr byte found.next w.machine after inside.jumps goes in
+  steps w s found byte after small fetched inside goes =
+      let b = bridges image.regions found.instr byte found.next w.machine after small inside.jumps goes in
       let v : World = with_inputs w b.inputs in
       let t : Watches v = with_ports w.machine w.places b.inputs w.machine.outputs s in
       let f = finds_of v t in
       let same : f.found ≡ found = finds_same v t found fetched in
       record {
         inputs = b.inputs;
+        bytes = b.bytes;
         there = b.there;
         watched = t;
         same = same;
@@ -122,7 +124,7 @@ module _ (image : Located) (table : Table) (most : ℕ) (rules : Ground image.re
       }
 
   executes_steps : (w v : World) (s : Watches w) (e : Executes image.regions Anywhere w v) → Steps w s e.found e.after
-  executes_steps w v s e = steps w s e.found e.byte e.after e.fetched (e.inside tt) e.goes
+  executes_steps w v s e = steps w s e.found e.byte e.after e.small e.fetched (e.inside tt) e.goes
 
   -- so it leads to a watched world
   goes_watched : (w : World) (s : Watches w) (found : Fetched) (after : Machine) (g : Steps w s found after) → Watches (record { machine = after; places = places_after found.instr found.next w.machine.cpu.registers.flags w.places })
@@ -156,9 +158,24 @@ module _ (image : Located) (table : Table) (most : ℕ) (rules : Ground image.re
           inside = f.fetched;
           of_image = fetched_of image.regions (memory_of image.chunks) w.machine.cpu.pc fit.found admitted.fetched;
           direct = all_pass (in_data image.regions) (direct_bytes f.found.instr) f.stores;
+          declared = f.declared;
           returning = f.safe.returning;
           stack = f.safe.touches.below;
           ends = λ byte none. ends_by_halt f.found.instr byte f.found.next w.machine none;
+        }
+
+    pub steps_are_guarded : (w v : World) → OnBoard image.regions Anywhere start w → (e : Executes image.regions Anywhere w v) → IsGuarded image.regions w.machine e.after
+    steps_are_guarded w v on e =
+        let g = executes_steps w v (watched_on_board w on) e in
+        let u = with_inputs w g.inputs in
+        let f = finds_of u g.watched in
+        record {
+          inputs = g.inputs;
+          bytes = g.bytes;
+          there = g.there;
+          step = ap (λ (o : Option Fetched). step_on image.regions false o u.machine) f.fetched
+              ∙ ap (λ (o : Option End). guarded image.regions o false f.found u.machine) g.free ∙ g.executes;
+          is = g.is;
         }
 
     module _ (none : NoFault (code_of image)) where
@@ -199,7 +216,13 @@ pub fitted_keeps_promise : ChangesByPlaces → ReturnsByPlaces → LooksFindWhat
 fitted_keeps_promise changes returns_law looks fetches image bytes ground fitted enough start is_start w on =
     keeps_promise image fitted.table bytes ground fitted.fits fitted.printed enough changes returns_law looks fetches start is_start w on
 
--- and stays on its walks there
+-- its steps there are guarded ones
+pub fitted_steps_are_guarded : ChangesByPlaces → ReturnsByPlaces → LooksFindWhatIsAdmitted → FetchReadsCodeAlone → (image : Located) (bytes : ℕ) → Ground image.regions → IsFitted (code_of image) bytes →
+    bytes ≤ image.regions.stack.length → (start : Machine) → IsStart image start → (w v : World) → OnBoard image.regions Anywhere start w → (e : Executes image.regions Anywhere w v) → IsGuarded image.regions w.machine e.after
+fitted_steps_are_guarded changes returns_law looks fetches image bytes ground fitted enough start is_start w v on e =
+    steps_are_guarded image fitted.table bytes ground fitted.fits fitted.printed enough changes returns_law looks fetches start is_start w v on e
+
+-- and it stays on its walks
 pub fitted_keeps_to_walks : ChangesByPlaces → ReturnsByPlaces → LooksFindWhatIsAdmitted → FetchReadsCodeAlone → (image : Located) (bytes : ℕ) → Ground image.regions → (fitted : IsFitted (code_of image) bytes) →
     NoFault (code_of image) → bytes ≤ image.regions.stack.length → (start : Machine) → IsStart image start → (w : World) → OnBoard image.regions Anywhere start w → KeepsToWalks image w
 fitted_keeps_to_walks changes returns_law looks fetches image bytes ground fitted none enough start is_start w on =

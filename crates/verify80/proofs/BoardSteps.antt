@@ -1,8 +1,9 @@
 -- A step that nothing guards is a guarded one, if the guard would say nothing.
-use Rattle.std.specs.Prelude.{◌≡◌, ℕ, zero, suc, ◌+◌, Bool, true, false, not, ◌&&◌, nat_le, List, [], ◌∷◌, ◌++◌, Option, None, Some, All, Result, Ok, Err, length, slice_index_or, refl, if◌then◌else◌}
+use Rattle.std.specs.Prelude.{◌≡◌, ℕ, zero, suc, ◌+◌, ◌<◌, Bool, true, false, not, ◌&&◌, nat_le, List, [], ◌∷◌, ◌++◌, Option, None, Some, All, Result, Ok, Err, length, slice_index_or, refl, if◌then◌else◌}
 use Rattle.std.specs.List.{list_all, range_with_len}
 use Rattle.std.specs.Result.{result_ok}
 use Rattle.std.proofs.Common.{◌∙◌, ap, sym, subst, arith, cond}
+use Rattle.std.proofs.lemmas.List.Elements.{All-nil, All-cons}
 use Rattle.decode80.specs.declared.instr.Instr.{Instr}
 use Rattle.decode80.specs.declared.instr.Instr.TheVariants.{Hlt, In, Out, Pchl}
 use Rattle.decode80.specs.declared.fetching.FetchFault.{FetchFault}
@@ -84,6 +85,13 @@ waits : (byte port : ℕ) → next_input (at_port byte port) port ≡ Some byte
 waits byte zero = refl
 waits byte (suc port) = waits byte port
 
+no_bytes : All (λ byte. byte < 256) []
+no_bytes = All-nil (λ byte. byte < 256)
+
+are_small : (byte port : ℕ) → byte < 256 → All (All (λ byte. byte < 256)) (at_port byte port)
+are_small byte zero small = All-cons (All (λ byte. byte < 256)) (byte ∷ []) [] (All-cons (λ byte. byte < 256) byte [] small no_bytes) (All-nil (All (λ byte. byte < 256)))
+are_small byte (suc port) small = All-cons (All (λ byte. byte < 256)) [] (at_port byte port) no_bytes (are_small byte port small)
+
 abbrev machine_or : Machine → Option Machine → Machine
 machine_or otherwise None = otherwise
 machine_or otherwise (Some m) = m
@@ -94,34 +102,39 @@ same_machine {m} h = ap (machine_or m) h
 -- an instruction executed with other bytes at the ports leads to the same, but for what the ports hold
 pub record Bridges (regions : Areas) (i : Instr) (next : ℕ) (m after : Machine) : Type 0 where
   pub inputs : List (List ℕ)
+  pub bytes : All (All (λ byte. byte < 256)) inputs
   pub there : Machine
   pub executes : execute regions false i next (record m { inputs = inputs }) ≡ Next there
   pub is : record there { inputs = m.inputs; outputs = m.outputs } ≡ after
 
-pub bridges : (regions : Areas) (i : Instr) (byte next : ℕ) (m after : Machine) → (i ≡ Pchl → leads_outside (targets_at regions m.cpu.pc) (hl_of m.cpu.registers) ≡ false) →
+pub bridges : (regions : Areas) (i : Instr) (byte next : ℕ) (m after : Machine) → byte < 256 → (i ≡ Pchl → leads_outside (targets_at regions m.cpu.pc) (hl_of m.cpu.registers) ≡ false) →
     unguarded i byte next m ≡ Some after → Bridges regions i next m after
-bridges regions Hlt byte next m after inside h = absurd (cc)
-bridges regions (In port) byte next m after inside h = record {
+bridges regions Hlt byte next m after small inside h = absurd (cc)
+bridges regions (In port) byte next m after small inside h = record {
   inputs = at_port byte port;
+  bytes = are_small byte port small;
   there = record m { cpu = record m.cpu { registers = record m.cpu.registers { a = byte }; pc = next }; inputs = without_next (at_port byte port) port };
   executes = ap (with_input (record m { inputs = at_port byte port }) next port) (waits byte port);
   is = same_machine h;
 }
-bridges regions (Out port) byte next m after inside h = record {
-  inputs = m.inputs;
-  there = record m { cpu = record m.cpu { pc = next }; outputs = m.outputs ++ (port, m.cpu.registers.a) ∷ [] };
+bridges regions (Out port) byte next m after small inside h = record {
+  inputs = [];
+  bytes = All-nil (All (λ byte. byte < 256));
+  there = record m { cpu = record m.cpu { pc = next }; inputs = []; outputs = m.outputs ++ (port, m.cpu.registers.a) ∷ [] };
   executes = refl;
   is = same_machine h;
 }
-bridges regions Pchl byte next m after inside h = record {
-  inputs = m.inputs;
-  there = proceeded Pchl next m;
-  executes = ap (λ (b : Bool). turn_of (if b then Some (JumpOutside (hl_of m.cpu.registers)) else None) (proceeded Pchl next m)) (inside refl);
+bridges regions Pchl byte next m after small inside h = record {
+  inputs = [];
+  bytes = All-nil (All (λ byte. byte < 256));
+  there = proceeded Pchl next (record m { inputs = [] });
+  executes = ap (λ (b : Bool). turn_of (if b then Some (JumpOutside (hl_of m.cpu.registers)) else None) (proceeded Pchl next (record m { inputs = [] }))) (inside refl);
   is = same_machine h;
 }
-bridges regions i byte next m after inside h = record {
-  inputs = m.inputs;
-  there = proceeded i next m;
+bridges regions i byte next m after small inside h = record {
+  inputs = [];
+  bytes = All-nil (All (λ byte. byte < 256));
+  there = proceeded i next (record m { inputs = [] });
   executes = refl;
   is = same_machine h;
 }

@@ -2,7 +2,7 @@
 -- before each instruction any other byte may have become any byte (devices in the memory map, DMA, cells with two addresses), IN brings
 -- any byte, OUT is taken, PCHL goes where HL says, and a store changes the byte that it names, wherever that is. (Intel 8080
 -- Microcomputer Systems User's Manual, chapter 2: memory-mapped I/O and DMA. That the board is an adversary is this project's own.)
-use Rattle.std.specs.Prelude.{◌≡◌, ℕ, ◌<◌, ◌≤◌, true, false, List, Option, None, Some, All, length, slice_index}
+use Rattle.std.specs.Prelude.{◌≡◌, ℕ, ◌<◌, ◌≤◌, true, false, List, Option, None, Some, IsSome, All, length, slice_index}
 use Rattle.std.specs.Result.{result_ok}
 use Rattle.decode80.specs.declared.instr.Instr.{Instr}
 use Rattle.decode80.specs.declared.instr.Instr.TheVariants.{Hlt, In, Out, Pchl}
@@ -13,7 +13,7 @@ use Rattle.image80.specs.Regions.{Areas, AreRegions, in_code, in_data, targets_a
 use Rattle.image80.specs.Image.{Located, memory_of}
 use Rattle.machine80.specs.Cpu.{hl_of}
 use Rattle.machine80.specs.Effects.{pointed_bytes, stack_bytes, target}
-use Rattle.machine80.specs.Step.{Machine, fetch, leads_outside, proceeded}
+use Rattle.machine80.specs.Step.{Machine, Next, fetch, leads_outside, proceeded, step_of}
 use Rattle.machine80.specs.World.{World, fetched_by, places_after, returns, IsNewest, IsJustBelow}
 use Rattle.machine80.specs.Run.{world_of}
 use Rattle.verify80_flow.specs.declared.report.ProcRow.{ProcRow}
@@ -78,7 +78,7 @@ abbrev pub Anywhere : ℕ → Type 0
 Anywhere address = Unit {0}
 
 -- what is promised of a world on a board: its next instruction is fetched inside code, and is the image's; it stores directly to data
--- alone; if it is a return that is taken, it goes to the place after the newest call that has not returned; as stack it touches only
+-- alone; a PCHL has declared targets; if it is a return that is taken, it goes to the place after the newest call that has not returned; as stack it touches only
 -- so many bytes just below the stack's top; and it ends the run only if it is HLT
 pub record KeepsPromise (image : Located) (bytes : ℕ) (w : World) : Type 0 where
   pub found : Fetched
@@ -86,6 +86,7 @@ pub record KeepsPromise (image : Located) (bytes : ℕ) (w : World) : Type 0 whe
   pub inside : fetched_by image.regions w ≡ Some found
   pub of_image : fetch image.regions (memory_of image.chunks) w.machine.cpu.pc ≡ Some found
   pub direct : All (λ address. in_data image.regions address ≡ true) (direct_bytes found.instr)
+  pub declared : found.instr ≡ Pchl → IsSome (targets_at image.regions w.machine.cpu.pc)
   pub returning : returns found.instr w.machine.cpu.registers.flags ≡ true →
       IsNewest (target found.instr found.next w.machine.memory w.machine.cpu) w.places
   pub stack : All (λ address. IsJustBelow (top_of image.regions) bytes address) (stack_bytes found.instr w.machine.cpu)
@@ -109,3 +110,17 @@ abbrev pub WalksAreKeptOnBoards : Type 0
 WalksAreKeptOnBoards = (image : Located) (listed : List ProcRow) (bytes : ℕ) → AreRegions image.regions →
     IsAccepted (code_of image) listed bytes → (start : Machine) → IsStart image start → (w : World) →
     OnBoard image.regions Anywhere start w → KeepsToWalks image w
+
+-- A step that nothing guards is a step of the machine, whose guard has nothing to say, with other bytes at its ports; what it leaves is
+-- the same but for what the ports hold.
+pub record IsGuarded (regions : Areas) (m after : Machine) : Type 0 where
+  pub inputs : List (List ℕ)
+  pub bytes : All (All (λ byte. byte < 256)) inputs
+  pub there : Machine
+  pub step : step_of regions false (record m { inputs = inputs }) ≡ Next there
+  pub is : record there { inputs = m.inputs; outputs = m.outputs } ≡ after
+
+abbrev pub BoardStepsAreGuarded : Type 0
+BoardStepsAreGuarded = (image : Located) (bytes : ℕ) → AreRegions image.regions → IsFitted (code_of image) bytes →
+    bytes ≤ image.regions.stack.length → (start : Machine) → IsStart image start → (w v : World) →
+    OnBoard image.regions Anywhere start w → (step : Executes image.regions Anywhere w v) → IsGuarded image.regions w.machine step.after

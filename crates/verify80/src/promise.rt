@@ -1,6 +1,6 @@
 //! From a table of frames that fits an image to all runs of it.
 
-ghost use Rattle.verify80.specs.Boards.{PromiseIsKeptOnBoards, WalksAreKeptOnBoards};
+ghost use Rattle.verify80.specs.Boards.{BoardStepsAreGuarded, PromiseIsKeptOnBoards, WalksAreKeptOnBoards};
 ghost use Rattle.verify80.specs.Soundness.{AcceptedImagesStayOnWalks, FittedImagesNeverGoWrong, FittedImagesNeverGoWrongFromPowerOn, RunsBeginFromPowerOn};
 
 use crate::looks_are_exact;
@@ -54,7 +54,8 @@ pub fn accepted_images_stay_on_walks()
 /// image's start with SP at the stack's top, whatever else registers, flags and memory hold, up to the first store through a
 /// register pair outside data or the first PCHL outside its targets. `specs/Boards.antt` says what a board is.
 pub fn promise_is_kept_on_boards()
-    ensures { PromiseIsKeptOnBoards }
+    ensures promise { PromiseIsKeptOnBoards }
+    ensures steps { BoardStepsAreGuarded }
 {
     fetch_reads_code_alone();
     places_move();
