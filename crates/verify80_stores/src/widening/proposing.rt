@@ -18,7 +18,10 @@ const NARROWINGS: u32 = 3;
 ///
 /// # Errors
 /// `AllocError` only if memory runs out.
-pub fn propose(alloc: Global, program: ReachedProgram<'_>) -> Result<Vec<Option<Pairs>>, AllocError> {
+pub fn propose(
+    alloc: Global,
+    program: ReachedProgram<'_>,
+) -> Result<Vec<Option<Pairs>>, AllocError> {
     let ends = DataEnds::new(alloc, program.regions)?;
     let mut filling = Filling::new(alloc)?;
     filling.join(Some(&ends), program.start, Pairs::ANY)?;
@@ -50,7 +53,11 @@ fn follow_from(
 /// The table that follows from another, with no more at an address than what leads to it.
 ///
 /// Nothing is widened here: if the other table fits, so does this one, which lies inside it.
-fn narrowed(alloc: Global, program: ReachedProgram<'_>, wide: &Filling) -> Result<Filling, AllocError> {
+fn narrowed(
+    alloc: Global,
+    program: ReachedProgram<'_>,
+    wide: &Filling,
+) -> Result<Filling, AllocError> {
     let mut narrow = Filling::new(alloc)?;
     narrow.join(None, program.start, Pairs::ANY)?;
     for address in 0..65_536_u32 {
