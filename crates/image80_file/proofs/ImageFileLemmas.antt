@@ -5,8 +5,9 @@ use Rattle.std.specs.List.{list_all, AllByRecursion}
 use Rattle.std.proofs.lemmas.Bool.{and_parts, le-leb, eqb-true}
 use Rattle.omf_core.specs.Name.{is_name}
 use Rattle.omf_parts.specs.declared.segment.Segment.{Segment}
+use Rattle.omf_parts.specs.declared.symbols.Public.{Public}
 use Rattle.omf_parts.specs.Contents.{ContentValue}
-use Rattle.omf_parts.specs.Segments.{entries_for, listed_ids, canonical_segments}
+use Rattle.omf_parts.specs.Segments.{entries_for, listed_ids, canonical_segments, has_segment}
 use Rattle.omf_parts.specs.Modules.{ModuleValue, made_of}
 use Rattle.omf_parts.specs.Rules.{IsModule, keeps_rules, is_content, is_in_bounds, is_fitting, each_after, end_of}
 use Rattle.omf_parts.specs.SoundParts.{in_bounds_parts, sound_parts}
@@ -20,7 +21,7 @@ use Rattle.omf_module.specs.WritingLaws.{WrittenFileIsSpelled}
 use Rattle.image80_file.specs.declared.image_fault.ImageFault.{ImageFault}
 use Rattle.image80_file.specs.declared.image_fault.ImageFault.TheVariants.{NotAbsolute, Module, Memory as OutOfMemory}
 use Rattle.image80.specs.Image.{PlacedBytes, Located, IsChunk}
-use Rattle.image80_file.specs.ImageFile.{AbsoluteProgram, SpellsImage, without_regions, chunk_content, content_chunk, image_module, is_absolute_content, is_absolute_start, is_absolute, program_from, program_of, program_of_one, of_cause, of_module_fault, FaultsImage, of_file, of_modules, WrittenImageIsSpelled, OneImage, OneImageFault, NeverBothImage}
+use Rattle.image80_file.specs.ImageFile.{AbsoluteProgram, SpellsImage, without_regions, chunk_content, content_chunk, named_module, image_module, is_absolute_content, is_absolute_start, is_absolute, program_from, program_of, program_of_one, of_cause, of_module_fault, FaultsImage, of_file, of_modules, WrittenImageIsSpelled, NamedModuleIsRead, OneImage, OneImageFault, NeverBothImage}
 
 -- ---- the module of an image
 
@@ -29,8 +30,8 @@ pub none_listed : canonical_segments [] [] ≡ []
 unfolding entries_for listed_ids
 none_listed = refl
 
-pub made_as_it_is : (image : Located) → made_of (image_module image) ≡ image_module image
-made_as_it_is image = ap (λ (s : List (ℕ × Segment)). record (image_module image) { segments = s }) none_listed
+pub made_as_it_is : (image : Located) (publics : List Public) → made_of (named_module image publics) ≡ named_module image publics
+made_as_it_is image publics = ap (λ (s : List (ℕ × Segment)). record (named_module image publics) { segments = s }) none_listed
 
 both : (a b : Bool) → a ≡ true → b ≡ true → (a && b) ≡ true
 both true b e f = f
@@ -50,14 +51,25 @@ contents_placed (chunk ∷ chunks) w =
     both (is_content [] [] 0 (chunk_content chunk)) (list_all (is_content [] [] 0) (map chunk_content chunks))
     (content_placed chunk w.0) (contents_placed chunks w.1)
 
-pub image_keeps_rules : (image : Located) → AllByRecursion IsChunk image.chunks → keeps_rules (image_module image) ≡ true
-image_keeps_rules image w =
-    both (list_all (is_content [] [] 0) (map chunk_content image.chunks)) true (contents_placed image.chunks w) refl
+-- absolute publics are in a segment that every module has
+publics_placed : (publics : List Public) → AllByRecursion (λ p. p.segment ≡ 0) publics
+    → list_all (λ p. has_segment [] p.segment) publics ≡ true
+publics_placed [] absolute = refl
+publics_placed (p ∷ ps) absolute =
+    both (has_segment [] p.segment) (list_all (λ p. has_segment [] p.segment) ps) (ap (has_segment []) absolute.0)
+    (publics_placed ps absolute.1)
+
+pub image_keeps_rules : (image : Located) (publics : List Public) → AllByRecursion (λ p. p.segment ≡ 0) publics
+    → AllByRecursion IsChunk image.chunks → keeps_rules (named_module image publics) ≡ true
+image_keeps_rules image publics absolute w =
+    both (list_all (λ p. has_segment [] p.segment) publics && list_all (is_content [] [] 0) (map chunk_content image.chunks)) true
+    (both (list_all (λ p. has_segment [] p.segment) publics) (list_all (is_content [] [] 0) (map chunk_content image.chunks))
+    (publics_placed publics absolute) (contents_placed image.chunks w)) refl
 
 image_is_module : (image : Located) → is_name image.name ≡ true → AllByRecursion IsChunk image.chunks
     → IsModule (image_module image)
 image_is_module image name w = record {
-  sound = image_keeps_rules image w;
+  sound = image_keeps_rules image [] tt w;
   own = refl;
   canonical = sym none_listed;
   names = ap (λ (b : Bool). b && true && true && true) name;
@@ -83,14 +95,14 @@ all_absolute : (chunks : List PlacedBytes) → list_all is_absolute_content (map
 all_absolute [] = refl
 all_absolute (chunk ∷ chunks) = all_absolute chunks
 
-image_module_absolute : (image : Located) → is_absolute (image_module image) ≡ true
-image_module_absolute image =
+named_module_absolute : (image : Located) (publics : List Public) → is_absolute (named_module image publics) ≡ true
+named_module_absolute image publics =
     both (list_all is_absolute_content (map chunk_content image.chunks)) true (all_absolute image.chunks) refl
 
-image_module_read : (image : Located) → program_of (image_module image) ≡ Ok (without_regions image)
-image_module_read image =
-    ap (λ (b : Bool). if b then program_from (image_module image) (Some (0, image.start)) else Err NotAbsolute)
-    (image_module_absolute image)
+pub named_module_read : NamedModuleIsRead
+named_module_read image publics =
+    ap (λ (b : Bool). if b then program_from (named_module image publics) (Some (0, image.start)) else Err NotAbsolute)
+    (named_module_absolute image publics)
     ∙ ap (λ (chunks : List PlacedBytes). Ok (record { name = image.name; chunks = chunks; start = image.start }))
     (chunks_again image.chunks)
 
@@ -98,7 +110,7 @@ pub written_image : WrittenFileIsSpelled → WrittenImageIsSpelled
 written_image written image name w = record {
   modules = image_module image ∷ [];
   file = written (image_module image ∷ []) (omega arith) (image_is_module image name w, tt);
-  is = image_module_read image;
+  is = named_module_read image [];
 }
 
 -- ---- one reading

@@ -7,6 +7,7 @@ use Rattle.omf_core.specs.Name.{is_name}
 use Rattle.omf_module.specs.declared.fault.Cause.{Cause}
 use Rattle.omf_module.specs.declared.fault.Cause.TheVariants.{Memory as OutOfMemory}
 use Rattle.omf_module.specs.declared.fault.ModuleFault.{ModuleFault}
+use Rattle.omf_parts.specs.declared.symbols.Public.{Public}
 use Rattle.omf_parts.specs.Contents.{ContentValue}
 use Rattle.omf_parts.specs.Segments.{absolute_id}
 use Rattle.omf_parts.specs.Modules.{ModuleValue}
@@ -31,17 +32,21 @@ without_regions image = record { name = image.name; chunks = image.chunks; start
 abbrev pub chunk_content : PlacedBytes → ContentValue
 chunk_content chunk = record { segment = absolute_id; offset = chunk.address; bytes = chunk.bytes; fixups = [] }
 
--- the module of an image: its name, one content for each chunk, in order, and its start; it has no segments of its own
-abbrev pub image_module : Located → ModuleValue
-image_module image = record {
+-- the module of an image with publics: its name, one content for each chunk, in order, and its start; it has no segments of its own
+abbrev pub named_module : Located → List Public → ModuleValue
+named_module image publics = record {
   name = image.name;
   segments = [];
   commons = [];
-  publics = [];
+  publics = publics;
   externals = [];
   contents = map chunk_content image.chunks;
   start = Some (absolute_id, image.start);
 }
+
+-- and without
+abbrev pub image_module : Located → ModuleValue
+image_module image = named_module image []
 
 -- the object file of an image
 abbrev pub image_bytes : Located → List ℕ
@@ -100,6 +105,10 @@ WrittenImageIsSpelled =
     → IsTrue (is_name image.name)
     → AllByRecursion IsChunk image.chunks
     → SpellsImage (image_bytes image) (without_regions image)
+
+-- The module of an image is read as that image, whatever its publics are.
+abbrev pub NamedModuleIsRead : Type 0
+NamedModuleIsRead = (image : Located) (publics : List Public) → program_of (named_module image publics) ≡ Ok (without_regions image)
 
 -- Bytes spell one image at most, or have one first fault, and never both.
 abbrev pub OneImage : Type 0

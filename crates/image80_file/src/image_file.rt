@@ -4,14 +4,14 @@ ghost use Rattle.std.specs.Prelude.{◌≡◌, ◌≢◌, ◌++◌, Ok, Err, map
 ghost use Rattle.std.specs.List.{AllByRecursion, list_all};
 ghost use Rattle.omf_core.specs.Name.{is_name};
 ghost use Rattle.image80.specs.Image.{IsChunk};
-ghost use Rattle.image80_file.specs.ImageFile.{image_module, image_bytes, SpellsImage, FaultsImage, chunk_content, content_chunk, is_absolute, is_absolute_content, is_absolute_start, program_of, without_regions};
+ghost use Rattle.image80_file.specs.ImageFile.{named_module, image_bytes, SpellsImage, FaultsImage, chunk_content, content_chunk, is_absolute, is_absolute_content, is_absolute_start, program_of, without_regions};
 
 use crate::absolute::AbsoluteProgram;
 use crate::image_fault::ImageFault;
 use crate::laws::written_image_is_spelled;
 use image80::{Chunk, Image, Regions};
 use omf_body::segment_id::ABSOLUTE;
-use omf_module::{Content, Module, Parts, read_file, write_file};
+use omf_module::{Content, Module, Parts, Public, read_file, write_file};
 use std::alloc::{AllocError, Global};
 
 /// Appends the object file of the image to `out`, which grows by its own allocator: one module of the image's name that
@@ -26,24 +26,32 @@ pub fn write_image(alloc: Global, image: &Image, out: &mut Vec<u8>) -> Result<()
     ensures refused { OnErr result (out.new.items ≡ out.old.items) }
 {
     written_image_is_spelled();
-    let module = module_of(alloc, image)?;
+    let module = image_module(alloc, image, Vec::new(alloc))?;
     write_file(alloc, &[module], out)
 }
 
-/// The module that an image is written as.
-fn module_of(alloc: Global, image: &Image) -> Result<Module, AllocError>
-    ensures made { IfOk result (λ made. made ≡ image_module image.now) }
+/// The module that an image is written as, with these publics, which stand in segment 0.
+///
+/// # Errors
+/// `AllocError` only if memory ran out.
+pub fn image_module(
+    alloc: Global,
+    image: &Image,
+    publics: Vec<Public>,
+) -> Result<Module, AllocError>
+    requires { AllByRecursion (λ public. public.segment ≡ 0) publics.items }
+    ensures made { IfOk result (λ made. made ≡ named_module image.now publics.items) }
     ensures name { OnOk result (IsTrue (is_name image.now.name)) }
     ensures rules { OnOk result (AllByRecursion IsChunk image.now.chunks) }
 {
-    // Chunks keep the rules of contents, and the image has no other part that a rule speaks of.
-    let parts = parts_of(alloc, image)?;
+    // Chunks keep the rules of contents, and absolute publics are in a segment that every module has.
+    let parts = parts_of(alloc, image, publics)?;
     Module::from_sound_parts(alloc, parts)
 }
 
 /// The parts of that module.
-fn parts_of(alloc: Global, image: &Image) -> Result<Parts, AllocError>
-    ensures parts { IfOk result (λ parts. parts ≡ image_module image.now) }
+fn parts_of(alloc: Global, image: &Image, publics: Vec<Public>) -> Result<Parts, AllocError>
+    ensures parts { IfOk result (λ parts. parts ≡ named_module image.now publics.items) }
     ensures name { OnOk result (IsTrue (is_name image.now.name)) }
     ensures rules { OnOk result (AllByRecursion IsChunk image.now.chunks) }
 {
@@ -53,7 +61,7 @@ fn parts_of(alloc: Global, image: &Image) -> Result<Parts, AllocError>
         name,
         segments: Vec::new(alloc),
         commons: Vec::new(alloc),
-        publics: Vec::new(alloc),
+        publics,
         externals: Vec::new(alloc),
         contents,
         start: Some((ABSOLUTE, image.start)),

@@ -1,12 +1,14 @@
 //! The laws of images as object files, over the definitions alone.
 
-ghost use Rattle.image80_file.specs.ImageFile.{WrittenImageIsSpelled, OneImage, OneImageFault, NeverBothImage};
+ghost use Rattle.image80_file.specs.ImageFile.{WrittenImageIsSpelled, NamedModuleIsRead, OneImage, OneImageFault, NeverBothImage};
 
 use omf_module::laws::{one_file_reading, written_file_is_spelled};
 
-/// What is written of an image spells that image, but for its regions, which an object file doesn't hold.
+/// What is written of an image spells that image, but for its regions, which an object file doesn't hold; and so does its module with
+/// publics.
 pub fn written_image_is_spelled()
-    ensures { WrittenImageIsSpelled }
+    ensures spelled { WrittenImageIsSpelled }
+    ensures named { NamedModuleIsRead }
 {
     written_file_is_spelled();
 }

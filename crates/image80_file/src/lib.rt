@@ -3,6 +3,7 @@
 //! | Item | What it is |
 //! |---|---|
 //! | [`write_image`], [`read_image`] | an image as an object file |
+//! | [`image_module`] | the module that an image is written as, with publics |
 //! | [`ImageFault`] | why bytes are no image |
 //! | [`laws`] | what holds of the definitions alone |
 #![tactic(auto)]
@@ -13,4 +14,4 @@ mod image_file;
 pub mod laws;
 
 pub use image_fault::ImageFault;
-pub use image_file::{read_image, write_image};
+pub use image_file::{image_module, read_image, write_image};

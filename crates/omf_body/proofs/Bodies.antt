@@ -2,7 +2,7 @@
 use Rattle.std.proofs.Common.{◌≡◌, ◌≢◌, ℕ, Bool, true, false, ◌⊎◌, inl, inr, Option, Some, None, List, [], ◌∷◌, ◌++◌, length, Result, Ok, Err, refl, sym, ap, subst, ◌∙◌, IsTrue}
 use Rattle.std.specs.Prelude.{if◌then◌else◌, ◌==◌}
 use Rattle.std.specs.List.{flat_map, list_all}
-use Rattle.std.proofs.lemmas.Bool.{and_parts}
+use Rattle.std.proofs.lemmas.Bool.{and_parts, cond-true, cond-false}
 use Rattle.omf_core.specs.declared.kind.RecordKind.{RecordKind}
 use Rattle.omf_core.specs.declared.kind.RecordKind.TheVariants as kind
 use Rattle.omf_core.specs.Kind.{kind_byte}
@@ -83,14 +83,6 @@ end_again : (start : Option Place) (rest : List ℕ) → read_end (start_bytes s
 end_again None rest = refl
 end_again (Some place) rest = ap (λ (r : Result (Place × List ℕ) FieldFault). r >>= λ start. Ok (Some start.0, start.1)) (place_again place rest)
 
-chosen : {A : Type 0} (test : Bool) (x y : A) → test ≡ true → (if test then x else y) ≡ x
-chosen true x y e = refl
-chosen false x y e = absurd cc
-
-not_chosen : {A : Type 0} (test : Bool) (x y : A) → test ≡ false → (if test then x else y) ≡ y
-not_chosen true x y e = absurd cc
-not_chosen false x y e = refl
-
 all_sound : {A : Type 0} (xs : List A) → IsTrue (list_all (λ x. true) xs)
 all_sound [] = refl
 all_sound (x ∷ xs) = all_sound xs
@@ -104,16 +96,12 @@ written_read (ModuleHeader b) sound =
     if are_distinct h.1 then Ok (ModuleHeader (record { name = h.0.0; translator = h.0.1; version = h.0.2; segments = h.1 })) else Err BadBody)
     (headed_read read_header segment_layout segment_laws (body_bytes (ModuleHeader b)) (b.name, b.translator, b.version) b.segments
     (header_again b.name b.translator b.version (flat_map segment_layout.bytes b.segments) parts.0) (all_sound b.segments))
-    ∙ chosen (are_distinct b.segments) (Ok (ModuleHeader b)) (Err BadBody) parts.1
+    ∙ cond-true (are_distinct b.segments) (Ok (ModuleHeader b)) (Err BadBody) parts.1
 written_read (ModuleEnd b) sound =
     ap (λ (r : Result (Option Place × List ℕ) FieldFault). r >>= λ e. Ok (ModuleEnd (record { start = e.0; unread = e.1 }))) (end_again b.start b.unread)
 written_read (Content b) sound =
     ap (λ (r : Result (Place × List ℕ) FieldFault). r >>= λ p. Ok (Content (record { segment = p.0.segment; offset = p.0.offset; bytes = p.1 })))
     (place_again (record { segment = b.segment; offset = b.offset }) b.bytes)
-written_read (LineNumbers unread) sound = refl
-written_read (EndOfFile unread) sound = refl
-written_read (Ancestor unread) sound = refl
-written_read (LocalSymbols unread) sound = refl
 written_read (PublicDeclarations b) sound =
     ap (λ (r : Result (ℕ × List _) FieldFault). r >>= λ h. Ok (PublicDeclarations (record { segment = h.0; publics = h.1 })))
     (headed_read read_byte public_layout public_laws (body_bytes (PublicDeclarations b)) b.segment b.publics refl sound)
@@ -132,6 +120,7 @@ written_read (IntersegmentReferences b) sound =
 written_read (NamedCommons es) sound =
     ap (λ (r : Result (List _) FieldFault). r >>= λ es. Ok (NamedCommons es))
     (row_read common_layout common_laws (flat_map common_layout.bytes es) es (record { joined = refl; sound = sound }))
+written_read _ sound = refl
 
 -- ---- the first fault is read
 
@@ -146,7 +135,7 @@ fault_read_in kind.ModuleHeader bytes f (inr (a, is)) =
     ap (λ (r : Result ((List ℕ × ℕ × ℕ) × List _) FieldFault). r >>= λ h.
     if are_distinct h.1 then Ok (ModuleHeader (record { name = h.0.0; translator = h.0.1; version = h.0.2; segments = h.1 })) else Err BadBody)
     (headed_read read_header segment_layout segment_laws bytes a.head a.entries head (all_sound a.entries))
-    ∙ (not_chosen (are_distinct a.entries) (Ok (ModuleHeader (record { name = a.head.0; translator = a.head.1; version = a.head.2; segments = a.entries }))) (Err BadBody) a.twice
+    ∙ (cond-false (are_distinct a.entries) (Ok (ModuleHeader (record { name = a.head.0; translator = a.head.1; version = a.head.2; segments = a.entries }))) (Err BadBody) a.twice
     ∙ ap (λ (f : FieldFault). Err f) (sym is))
 fault_read_in kind.ModuleEnd bytes f a = ap (λ (r : Result (Option Place × List ℕ) FieldFault). r >>= λ e. Ok (ModuleEnd (record { start = e.0; unread = e.1 }))) a.here
 fault_read_in kind.Content bytes f a =
@@ -161,14 +150,7 @@ fault_read_in kind.Relocation bytes f a =
 fault_read_in kind.IntersegmentReferences bytes f a =
     ap (λ (r : Result ((ℕ × Field) × List _) FieldFault). r >>= λ h. Ok (IntersegmentReferences (record { segment = h.0.0; field = h.0.1; references = h.1 }))) (headed_fault read_target offset_layout offset_laws bytes f a)
 fault_read_in kind.NamedCommons bytes f a = ap (λ (r : Result (List _) FieldFault). r >>= λ es. Ok (NamedCommons es)) (fault_read common_layout common_laws bytes f a)
-fault_read_in kind.LineNumbers bytes f a = absurd a
-fault_read_in kind.EndOfFile bytes f a = absurd a
-fault_read_in kind.Ancestor bytes f a = absurd a
-fault_read_in kind.LocalSymbols bytes f a = absurd a
-fault_read_in kind.LibraryModuleLocations bytes f a = absurd a
-fault_read_in kind.LibraryModuleNames bytes f a = absurd a
-fault_read_in kind.LibraryDictionary bytes f a = absurd a
-fault_read_in kind.LibraryHeader bytes f a = absurd a
+fault_read_in _ bytes f a = absurd a
 
 -- ---- bytes spell one body, or have one first fault
 
@@ -184,22 +166,7 @@ kind_at n =
 
 kind_again : (k : RecordKind) → kind_at (kind_byte k) ≡ k
 kind_again kind.ModuleHeader = refl
-kind_again kind.ModuleEnd = refl
-kind_again kind.Content = refl
-kind_again kind.LineNumbers = refl
-kind_again kind.EndOfFile = refl
-kind_again kind.Ancestor = refl
-kind_again kind.LocalSymbols = refl
-kind_again kind.PublicDeclarations = refl
-kind_again kind.ExternalNames = refl
-kind_again kind.ExternalReferences = refl
-kind_again kind.Relocation = refl
-kind_again kind.IntersegmentReferences = refl
-kind_again kind.LibraryModuleLocations = refl
-kind_again kind.LibraryModuleNames = refl
-kind_again kind.LibraryDictionary = refl
-kind_again kind.LibraryHeader = refl
-kind_again kind.NamedCommons = refl
+kind_again _ = refl
 
 pub same_kind : (k l : RecordKind) → kind_byte k ≡ kind_byte l → k ≡ l
 same_kind k l e = sym (kind_again k) ∙ (ap kind_at e ∙ kind_again l)
@@ -220,14 +187,7 @@ has_body kind.ExternalReferences bytes f a = (ExternalReferences (record { field
 has_body kind.Relocation bytes f a = (Relocation (record { field = Low; references = [] }), refl)
 has_body kind.IntersegmentReferences bytes f a = (IntersegmentReferences (record { segment = 0; field = Low; references = [] }), refl)
 has_body kind.NamedCommons bytes f a = (NamedCommons [], refl)
-has_body kind.LineNumbers bytes f a = absurd a
-has_body kind.EndOfFile bytes f a = absurd a
-has_body kind.Ancestor bytes f a = absurd a
-has_body kind.LocalSymbols bytes f a = absurd a
-has_body kind.LibraryModuleLocations bytes f a = absurd a
-has_body kind.LibraryModuleNames bytes f a = absurd a
-has_body kind.LibraryDictionary bytes f a = absurd a
-has_body kind.LibraryHeader bytes f a = absurd a
+has_body _ bytes f a = absurd a
 
 -- a first fault by what it says: the type byte is that of no body, or a body of this kind has it
 record NoBody (t : ℕ) (g : BodyFault) : Type 0 where

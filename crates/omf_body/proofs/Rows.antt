@@ -109,9 +109,6 @@ all_read layout bytes rest a end = record {
   sound = a.sound;
 }
 
-pub faulted : {E : Type 0} (layout : Layout E) (bytes rest : List ℕ) (fault : FieldFault) → ReadSoFar layout bytes rest → 0 < length rest → layout.read rest ≡ Err fault → FaultsRow layout bytes fault
-faulted layout bytes rest fault a some here = record { front = a.front; rest = rest; joined = a.joined; sound = a.sound; some = some; here = here }
-
 -- ---- the first entry of a row
 
 pub record Next {E : Type 0} (layout : Layout E) (bytes : List ℕ) (e : E) (rest : List ℕ) : Type 0 where

@@ -1,7 +1,7 @@
 -- What is written of an entry is read as that entry.
 use Rattle.std.proofs.Common.{◌≡◌, ℕ, ◌+◌, ◌*◌, ◌/◌, ◌%◌, Bool, true, false, ◌&&◌, List, [], ◌∷◌, ◌++◌, Result, Ok, Err, refl, ap, ◌∙◌, arith, append_assoc, IsTrue}
 use Rattle.std.specs.Prelude.{if◌then◌else◌}
-use Rattle.std.proofs.lemmas.Bool.{and_parts}
+use Rattle.std.proofs.lemmas.Bool.{and_parts, cond-true}
 use Rattle.omf_core.specs.Name.{is_name, name_spelling}
 use Rattle.omf_core.specs.SegmentId.{is_common_id}
 use Rattle.omf_body.specs.declared.fault.FieldFault.{FieldFault}
@@ -27,15 +27,11 @@ segment_laws = record {
   some = λ e. omega arith;
 }
 
-chosen : {A : Type 0} (test : Bool) (x y : A) → test ≡ true → (if test then x else y) ≡ x
-chosen true x y e = refl
-chosen false x y e = absurd cc
-
 common_again : (e : CommonEntry) (rest : List ℕ) → IsTrue (is_common_id e.id && is_name e.name) →
     common_layout.read (common_layout.bytes e ++ rest) ≡ Ok (e, rest)
 common_again e rest sound =
     let parts = and_parts (is_common_id e.id) (is_name e.name) sound in
-    chosen (is_common_id e.id) (read_name (name_spelling e.name ++ rest) >>= λ name.
+    cond-true (is_common_id e.id) (read_name (name_spelling e.name ++ rest) >>= λ name.
     Ok (record { id = e.id; name = name.0 }, name.1)) (Err BadBody) parts.0
     ∙ ap (λ (r : Result (List ℕ × List ℕ) FieldFault). r >>= λ name.
     Ok (record { id = e.id; name = name.0 }, name.1)) (name_again e.name rest parts.1)

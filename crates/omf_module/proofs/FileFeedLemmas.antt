@@ -3,10 +3,10 @@ use Rattle.std.proofs.Common.{◌≡◌, ◌⊎◌, inl, inr, ℕ, ◌<◌, ◌�
 use Rattle.std.specs.List.{All}
 use Rattle.std.proofs.lemmas.Bool.{cases_lt}
 use Rattle.std.proofs.lemmas.List.{append-nil, length-append}
-use Rattle.std.proofs.lemmas.List.Elements.{All-append, All-nil}
 use Rattle.omf_core.specs.declared.fault.RecordFault.{RecordFault}
 use Rattle.omf_core.specs.declared.fault.RecordFault.TheVariants.{BadSum}
 use Rattle.omf_core.specs.Record.{SpellsRecord, fault_at}
+use Rattle.omf_core.specs.Lasting.{last_now, stay_lasting}
 use Rattle.omf_core.specs.Laws.{OneRecordAtEachPlace, NoFaultExactlyAtRecords, TruncatedCanBeSpoilt}
 use Rattle.omf_parts.specs.Modules.{ModuleValue}
 use Rattle.omf_parts.specs.declared.symbols.Common.{Common}
@@ -26,7 +26,7 @@ use Rattle.omf_module.proofs.StayLemmas.{Stay, module_records_stay, begun_stays,
 
 -- ---- what stays
 
-module_stays : Stay → (bytes more : List ℕ) (at after : ℕ) (m : ModuleValue) → SpellsModule bytes at after m
+pub module_stays : Stay → (bytes more : List ℕ) (at after : ℕ) (m : ModuleValue) → SpellsModule bytes at after m
     → SpellsModule (bytes ++ more) at after m
 module_stays s bytes more at after m x = record {
   records = x.records;
@@ -36,7 +36,7 @@ module_stays s bytes more at after m x = record {
   says = x.says;
 }
 
-modules_stay : Stay → (bytes more : List ℕ) (from to : ℕ) (ms : List ModuleValue) → SpellsModules bytes from to ms
+pub modules_stay : Stay → (bytes more : List ℕ) (from to : ℕ) (ms : List ModuleValue) → SpellsModules bytes from to ms
     → SpellsModules (bytes ++ more) from to ms
 modules_stay s bytes more from to [] x = x
 modules_stay s bytes more from to (m ∷ ms) x =
@@ -46,7 +46,7 @@ end_stays : Stay → (bytes more : List ℕ) (at : ℕ) → EndsFile bytes at �
 end_stays s bytes more at e =
     record { next = e.next; body = e.body; spelled = s.records bytes more at e.next 14 e.body e.spelled }
 
-reads_module_stays : Stay → (bytes more : List ℕ) (begin here : ℕ) (commons : List Common) → ReadsModule bytes begin here commons
+pub reads_module_stays : Stay → (bytes more : List ℕ) (begin here : ℕ) (commons : List Common) → ReadsModule bytes begin here commons
     → ReadsModule (bytes ++ more) begin here commons
 reads_module_stays s bytes more begin here commons (inl n) = inl n
 reads_module_stays s bytes more begin here commons (inr b) = inr (begun_stays s bytes more begin here commons b)
@@ -76,7 +76,7 @@ end_came s one none bytes more at within whole e = by_fault (fault_at (drop at b
         let same = one (bytes ++ more) at e.next r.0 14 r.1 e.body r.2 e.spelled (s.records bytes more at r.0 r.1 r.2 r.3) in
         record { next = r.0; body = r.2; spelled = subst (λ (k : ℕ). SpellsRecord bytes at r.0 k r.2) (sym same.0) r.3 }
     by_fault (Some f) fault =
-        absurd (some_none (fault_at (drop at (bytes ++ more)) at) f (record_fault_stays s bytes more at f within whole fault)
+        absurd (some_none (fault_at (drop at (bytes ++ more)) at) f (record_fault_stays s bytes more at f whole fault)
         ((none (bytes ++ more) at).1 (e.next, 14, e.body, e.spelled)))
 
 -- ---- a module's fault as its file's
@@ -146,17 +146,14 @@ waits_no_module s law never bytes at after m inside waits x =
     let u = undone s law bytes at inside waits in
     never bytes at after m (fault_by u.at u.why) x u.now
 
-no_file_more : (bytes : List ℕ) (f : ModuleFault) → LastingFileFault bytes f → FaultsFile bytes f
-no_file_more bytes f lasts = subst (λ (b : List ℕ). FaultsFile b f) (append-nil bytes) (lasts [] (All-nil (λ byte. byte < 256)))
-
 pub now_answer : (bytes : List ℕ) (f : ModuleFault) → OrNoMemory (LastingFileFault bytes) f → OrNoMemory (FaultsFile bytes) f
 now_answer bytes f (inl none) = inl none
-now_answer bytes f (inr lasts) = inr (no_file_more bytes f lasts)
+now_answer bytes f (inr lasts) = inr (last_now FaultsFile bytes f lasts)
 
 pub kept_answer : (bytes : List ℕ) (Kept : ModuleFault → Type 0) (f : ModuleFault)
     → OrNoMemory (λ fault. LastingFileFault bytes fault × Kept fault) f → OrNoMemory (FaultsFile bytes) f
 kept_answer bytes Kept f (inl none) = inl none
-kept_answer bytes Kept f (inr x) = inr (no_file_more bytes f x.0)
+kept_answer bytes Kept f (inr x) = inr (last_now FaultsFile bytes f x.0)
 
 some_cases : (ms : List ModuleValue) → (ms ≡ []) ⊎ (0 < length ms)
 some_cases [] = inl refl
@@ -191,7 +188,7 @@ waits_now s law one bytes at ms u spelled inside waits (inr past) (inr some) =
 changes : OneFileFault → (bytes more : List ℕ) (f g h : ModuleFault) → LastingFileFault bytes f → All (λ byte. byte < 256) more
     → FaultsFile bytes g → FaultsFile (bytes ++ more) h → (g.cause ≡ h.cause → ⊥) → ⊥
 changes one bytes more f g h lasts small x y other =
-    other (ap (λ (k : ModuleFault). k.cause) (sym (one bytes f g (no_file_more bytes f lasts) x)
+    other (ap (λ (k : ModuleFault). k.cause) (sym (one bytes f g (last_now FaultsFile bytes f lasts) x)
     ∙ one (bytes ++ more) f h (lasts more small) y))
 
 waits_have_none : Stay → TruncatedCanBeSpoilt → OneFault → OneFileFault
@@ -216,7 +213,7 @@ pub stops_none : Stay → TruncatedCanBeSpoilt → OneFault → OneFileFault →
     → ReadsFile bytes read → Stops bytes read ended → (f : ModuleFault) → LastingFileFault bytes f → ⊥
 stops_none s law one one_file never bytes read true r e f lasts =
     never bytes read.modules.items f (file_read bytes read.unfinished.begin read.modules.items r.spelled e)
-    (no_file_more bytes f lasts)
+    (last_now FaultsFile bytes f lasts)
 stops_none s law one one_file never bytes read false r waits f lasts =
     waits_have_none s law one one_file bytes read.unfinished.begin read.modules.items f r.spelled r.inside waits lasts
 
@@ -285,7 +282,7 @@ pub reads_more : (bytes : List ℕ) (old new : Progress) (after : ℕ) (m : Modu
 reads_more bytes old new after m r x modules u on = record {
   spelled = moved bytes after new.unfinished.begin (old.modules.items ++ m ∷ []) new.modules.items
       (modules_push bytes 0 old.unfinished.begin after old.modules.items m r.spelled x) u.begin modules;
-  inside = omega (arith, (module_further bytes old.unfinished.begin after m x).inside, u.begin);
+  inside = omega (arith, (module_further bytes old.unfinished.begin after m x).1, u.begin);
   next = open_next bytes new on (unread bytes new after u);
 }
 
@@ -320,6 +317,4 @@ one_count one bytes count count' x y =
     x.counted ∙ (count_from one bytes 0 x.to y.to x.modules y.modules x.spelled y.spelled x.last y.last ∙ sym y.counted)
 
 pub lasting_file_faults_last : LastingFileFaultsLast
-lasting_file_faults_last bytes more fault small lasts others small' =
-    subst (λ (b : List ℕ). FaultsFile b fault) (sym (append_assoc bytes more others))
-    (lasts (more ++ others) (All-append (λ byte. byte < 256) more others small small'))
+lasting_file_faults_last = stay_lasting FaultsFile

@@ -1,7 +1,7 @@
--- Tests of each item after those before it, and what is taken of each item in turn.
-use Rattle.std.proofs.Common.{◌≡◌, ◌<◌, ◌≤◌, ◌+◌, ℕ, Bool, true, List, [], ◌∷◌, ◌++◌, length, drop, get_or, refl, sym, ap, ◌∙◌, subst, append_assoc}
+-- Tests of each item after those before it, and the first item of what is left.
+use Rattle.std.proofs.Common.{◌≡◌, ◌<◌, ◌+◌, ℕ, Bool, true, List, [], ◌∷◌, ◌++◌, length, drop, get_or, refl, sym, ap, ◌∙◌, subst, append_assoc}
 use Rattle.std.proofs.lemmas.Bool.{and_parts, and_from}
-use Rattle.std.proofs.lemmas.List.{append-nil, drop_all, drop_more}
+use Rattle.std.proofs.lemmas.List.{append-nil, drop_more}
 use Rattle.omf_parts.specs.Rules.{each_after}
 
 pub each_after_both : {A : Type 0} (test : List A → A → Bool) (before xs ys : List A) → each_after test before xs ≡ true
@@ -29,28 +29,3 @@ each_after_push test before xs y all one =
 -- the first item of what is left
 pub first_left : {A : Type 0} (xs : List A) (i : ℕ) (x : A) → i < length xs → x ≡ get_or xs i x → drop i xs ≡ x ∷ drop (i + 1) xs
 first_left {A} xs i x within is = drop_more xs i x within ∙ ap (λ (y : A). y ∷ drop (i + 1) xs) (sym is)
-
--- What was taken of a list and what is left of it make the whole: this stays where one item more is taken.
-pub one_taken : {A B : Type 0} (all_of : List A
-    → List B) (part : List B) (xs : List A) (i : ℕ) (x : A) (before after all : List B)
-    → before ++ all_of (drop i xs) ≡ all
-    → i < length xs
-    → x ≡ get_or xs i x
-    → all_of (x ∷ drop (i + 1) xs) ≡ part ++ all_of (drop (i + 1) xs)
-    → after ≡ before ++ part
-    → after ++ all_of (drop (i + 1) xs) ≡ all
-one_taken {A} {B} all_of part xs i x before after all so_far within is step taken =
-    let left = first_left xs i x within is in
-    ap (λ (w : List B). w ++ all_of (drop (i + 1) xs)) taken
-    ∙ (append_assoc before part (all_of (drop (i + 1) xs))
-    ∙ (ap (λ (w : List B). before ++ w) (sym step) ∙ (ap (λ (l : List A). before ++ all_of l) (sym left) ∙ so_far)))
-
--- At the end nothing is left.
-pub all_taken : {A B : Type 0} (all_of : List A → List B) (xs : List A) (i : ℕ) (done all : List B)
-    → done ++ all_of (drop i xs) ≡ all
-    → length xs ≤ i
-    → all_of [] ≡ []
-    → done ≡ all
-all_taken {A} {B} all_of xs i done all so_far past none =
-    sym (append-nil done)
-    ∙ (ap (λ (w : List B). done ++ w) (sym none) ∙ (ap (λ (l : List A). done ++ all_of l) (sym (drop_all i xs past)) ∙ so_far))

@@ -1,13 +1,12 @@
 -- What stays of a module whatever bytes follow.
-use Rattle.std.proofs.Common.{◌≡◌, ◌≢◌, ◌⊎◌, inl, inr, ℕ, ◌<◌, ◌≤◌, Bool, true, false, if◌then◌else◌, Option, Some, None, List, [], ◌∷◌, ◌++◌, length, drop, refl, sym, ap, subst, ◌∙◌, arith}
+use Rattle.std.proofs.Common.{◌≡◌, ◌≢◌, ◌⊎◌, inl, inr, ℕ, ◌<◌, ◌≤◌, true, Option, Some, None, List, [], ◌∷◌, ◌++◌, length, drop, refl, sym, ap, subst, ◌∙◌, arith}
 use Rattle.std.specs.List.{All}
 use Rattle.std.proofs.lemmas.Bool.{cases_lt}
-use Rattle.std.proofs.lemmas.List.{append-nil, drop_all, drop-append-le, length-append}
-use Rattle.std.proofs.lemmas.List.Elements.{All-nil}
+use Rattle.std.proofs.lemmas.List.{drop_all, length-append}
 use Rattle.omf_core.specs.declared.fault.RecordFault.{RecordFault}
-use Rattle.omf_core.specs.declared.fault.RecordFault.TheVariants.{Truncated, BadSum, ZeroLength}
-use Rattle.omf_core.specs.Fault.{is_truncation}
-use Rattle.omf_core.specs.Record.{fault_at, is_truncated, has_zero_length, has_zero_sum}
+use Rattle.omf_core.specs.declared.fault.RecordFault.TheVariants.{Truncated, BadSum}
+use Rattle.omf_core.specs.Record.{fault_at}
+use Rattle.omf_core.specs.Lasting.{last_now}
 use Rattle.omf_core.specs.Laws.{RecordsStay, OtherFaultsStay, TruncatedCanBeSpoilt}
 use Rattle.omf_body.specs.declared.body.Body.{Body}
 use Rattle.omf_body.specs.declared.body.EndBody.{EndBody}
@@ -26,6 +25,7 @@ use Rattle.omf_module.specs.Spelled.{FaultsHeader, no_header_byte, no_header_rec
 use Rattle.omf_module.specs.Reading.{Follows, is_end, OrNoMemory}
 use Rattle.omf_module.specs.ReadingLaws.{OneFault, NeverBoth}
 use Rattle.omf_module.specs.Pieces.{LastingModuleFault, BegunModule, WholeModule, IsCutOff, ReadsModule, WaitsModule}
+use Rattle.omf_module.proofs.FileLemmas.{bodies_further}
 use Rattle.omf_module.proofs.WithinLemmas.{WithinSoFar, one_within, by_cause}
 
 -- what stays of records
@@ -69,32 +69,17 @@ begun_stays s bytes more begin here commons b = record {
   declared = b.declared;
 }
 
-truncated_here : (t z s : Bool) (at place : ℕ)
-    → (if t then Some (Truncated at) else (if z then Some (ZeroLength at) else (if s then None else Some (BadSum at))))
-    ≡ Some (Truncated place) → place ≡ at
-truncated_here true z s at place e = cc
-truncated_here false true s at place e = cc
-truncated_here false false true at place e = cc
-truncated_here false false false at place e = cc
-
--- a fault that isn't of a record cut off
-other_fault : (rest : List ℕ) (at : ℕ) (f : RecordFault) → fault_at rest at ≡ Some f
-    → (fault_at rest at ≡ Some (Truncated at) → ⊥) → is_truncation f ≡ false
-other_fault rest at (Truncated p) x other =
-    absurd (other (x ∙ ap (λ (n : ℕ). Some (Truncated n))
-    (truncated_here (is_truncated rest) (has_zero_length rest) (has_zero_sum rest) at p x)))
-other_fault rest at (BadSum p) x other = refl
-other_fault rest at (ZeroLength p) x other = refl
-
 -- no byte stands where a record is cut off
 pub past_is_cut_off : (bytes : List ℕ) (at : ℕ) → length bytes ≤ at → IsCutOff bytes at
 past_is_cut_off bytes at past = ap (λ (r : List ℕ). fault_at r at) (drop_all at bytes past)
 
-pub record_fault_stays : Stay → (bytes more : List ℕ) (at : ℕ) (f : RecordFault) → at < length bytes → (IsCutOff bytes at → ⊥)
+pub record_fault_stays : Stay → (bytes more : List ℕ) (at : ℕ) (f : RecordFault) → (IsCutOff bytes at → ⊥)
     → fault_at (drop at bytes) at ≡ Some f → fault_at (drop at (bytes ++ more)) at ≡ Some f
-record_fault_stays s bytes more at f within whole x =
-    ap (λ (r : List ℕ). fault_at r at) (drop-append-le at bytes more (omega arith))
-    ∙ s.faults (drop at bytes) more at f (other_fault (drop at bytes) at f x whole) x
+record_fault_stays s bytes more at f whole x =
+    elim (s.faults bytes more at f x) [
+      | inl cut ↦ absurd (whole (x ∙ ap Some cut))
+      | inr stays ↦ stays.2
+    ]
 
 more_bytes : (bytes more : List ℕ) (at : ℕ) → at < length bytes → at < length (bytes ++ more)
 more_bytes bytes more at within = omega (arith, length-append bytes more)
@@ -103,7 +88,7 @@ header_stays : Stay → (bytes more : List ℕ) (at : ℕ) (why : Cause) → (Is
     → FaultsHeader (bytes ++ more) at why
 header_stays s bytes more at why whole (no_header_byte p) = absurd (whole (past_is_cut_off bytes at p))
 header_stays s bytes more at why whole (no_header_record f w x) =
-    no_header_record f (more_bytes bytes more at w) (record_fault_stays s bytes more at f w whole x)
+    no_header_record f (more_bytes bytes more at w) (record_fault_stays s bytes more at f whole x)
 header_stays s bytes more at why whole (other_kind n k body r o) = other_kind n k body (s.records bytes more at n k body r) o
 header_stays s bytes more at why whole (in_header_body n body f r e) =
     in_header_body n body f (s.records bytes more at n 2 body r) e
@@ -112,7 +97,7 @@ within_stays : Stay → (bytes more : List ℕ) (at : ℕ) (commons : List Commo
     → FaultsWithin bytes at commons why → FaultsWithin (bytes ++ more) at commons why
 within_stays s bytes more at commons why whole (no_byte p) = absurd (whole (past_is_cut_off bytes at p))
 within_stays s bytes more at commons why whole (no_record f w x) =
-    no_record f (more_bytes bytes more at w) (record_fault_stays s bytes more at f w whole x)
+    no_record f (more_bytes bytes more at w) (record_fault_stays s bytes more at f whole x)
 within_stays s bytes more at commons why whole (file_ends n body r) = file_ends n body (s.records bytes more at n 14 body r)
 within_stays s bytes more at commons why whole (second_header n body r) =
     second_header n body (s.records bytes more at n 2 body r)
@@ -190,15 +175,11 @@ pub whole_module_lasts : Stay → OneFault → NeverBoth → (bytes : List ℕ) 
 whole_module_lasts s one never bytes begin f w (inl none) = inl none
 whole_module_lasts s one never bytes begin f w (inr x) = inr (uses_last s one never bytes begin f w (use_fault w.records) refl x)
 
-bodies_forward : (bytes : List ℕ) (from to : ℕ) (ps : List PlacedBody) → SpellsBodies bytes from to ps → from ≤ to
-bodies_forward bytes from to [] s = omega (arith, s)
-bodies_forward bytes from to (p ∷ ps) s = omega (arith, s.1.1.framed.all_counted, bodies_forward bytes s.1.0 to ps s.1.2)
-
 -- a module that is begun is read further than to its begin
 pub begun_further : (bytes : List ℕ) (begin here : ℕ) (commons : List Common) → BegunModule bytes begin here commons
     → begin < here
 begun_further bytes begin here commons b =
-    omega (arith, b.begins.framed.all_counted, bodies_forward bytes b.first here b.bodies b.spelled)
+    omega (arith, b.begins.framed.all_counted, bodies_further bytes b.first here b.bodies b.spelled)
 
 pub none_declared : (bytes : List ℕ) (begin here : ℕ) (commons : List Common) → ReadsModule bytes begin here commons
     → here ≡ begin → commons ≡ []
@@ -206,22 +187,6 @@ none_declared bytes begin here commons (inl n) same = n.1
 none_declared bytes begin here commons (inr b) same = absurd (omega (arith, same, begun_further bytes begin here commons b))
 
 -- ---- where a module waits for bytes, no fault lasts
-
-abbrev Spoilt : List ℕ → ℕ → Type 0
-Spoilt bytes at = (more : List ℕ) × All (λ byte. byte < 256) more × (at < length (bytes ++ more))
-    × (fault_at (drop at (bytes ++ more)) at ≡ Some (BadSum at))
-
-inside_where_spoilt : (bytes : List ℕ) (at : ℕ) → fault_at (drop at bytes) at ≡ Some (BadSum at)
-    → (at < length bytes) ⊎ (length bytes ≤ at) → at < length bytes
-inside_where_spoilt bytes at x (inl within) = within
-inside_where_spoilt bytes at x (inr past) = let cut = past_is_cut_off bytes at past in absurd cc
-
-spoil : TruncatedCanBeSpoilt → (bytes : List ℕ) (at : ℕ) → at ≤ length bytes → IsCutOff bytes at → Spoilt bytes at
-spoil law bytes at inside cut =
-    let more = law (drop at bytes) at cut in
-    let there : fault_at (drop at (bytes ++ more.0)) at ≡ Some (BadSum at) =
-    ap (λ (r : List ℕ). fault_at r at) (drop-append-le at bytes more.0 inside) ∙ more.2 in
-    (more.0, more.1, inside_where_spoilt (bytes ++ more.0) at there (cases_lt at (length (bytes ++ more.0))), there)
 
 header_waits : (bytes : List ℕ) (begin : ℕ) → IsCutOff bytes begin → (begin < length bytes) ⊎ (length bytes ≤ begin)
     → (why : Cause) × FaultsHeader bytes begin why × (why ≡ Record (BadSum begin) → ⊥)
@@ -235,7 +200,7 @@ within_waits bytes here commons cut (inl within) = (Record (Truncated here), no_
 within_waits bytes here commons cut (inr past) = (NoEnd, no_byte past, λ e. cc)
 
 -- the fault of a record after the beginning of a module
-begun_faults : (bytes : List ℕ) (begin here : ℕ) (commons : List Common) (why : Cause) → BegunModule bytes begin here commons
+pub begun_faults : (bytes : List ℕ) (begin here : ℕ) (commons : List Common) (why : Cause) → BegunModule bytes begin here commons
     → FaultsWithin bytes here commons why → FaultsModule bytes begin (fault_by here why)
 begun_faults bytes begin here commons why b x =
     in_records b.first b.header (fault_by here why) b.begins
@@ -254,9 +219,9 @@ bodies_inside : (bytes : List ℕ) (from to : ℕ) (ps : List PlacedBody) → fr
 bodies_inside bytes from to [] inside s = omega (arith, s)
 bodies_inside bytes from to (p ∷ ps) inside s = bodies_inside bytes s.1.0 to ps (omega (arith, s.1.1.framed.within)) s.1.2
 
-without_more : (bytes : List ℕ) (begin : ℕ) (f : ModuleFault) → LastingModuleFault bytes begin f → FaultsModule bytes begin f
-without_more bytes begin f lasts =
-    subst (λ (b : List ℕ). FaultsModule b begin f) (append-nil bytes) (lasts [] (All-nil (λ byte. byte < 256)))
+pub begun_inside : (bytes : List ℕ) (begin here : ℕ) (commons : List Common) → BegunModule bytes begin here commons
+    → here ≤ length bytes
+begun_inside bytes begin here commons b = bodies_inside bytes b.first here b.bodies b.begins.framed.within b.spelled
 
 -- A module that waits for bytes has one fault as it stands, and another where some bytes follow.
 pub record Undone (bytes : List ℕ) (begin : ℕ) : Type 0 where
@@ -272,7 +237,7 @@ pub undone : Stay → TruncatedCanBeSpoilt → (bytes : List ℕ) (begin : ℕ) 
     → Undone bytes begin
 undone s law bytes begin inside (inl cut) =
     let x = header_waits bytes begin cut (cases_lt begin (length bytes)) in
-    let y = spoil law bytes begin inside cut in
+    let y = law bytes begin inside cut in
     record {
       more = y.0;
       small = y.1;
@@ -284,8 +249,7 @@ undone s law bytes begin inside (inl cut) =
     }
 undone s law bytes begin inside (inr w) =
     let x = within_waits bytes w.here w.commons w.cut_off (cases_lt w.here (length bytes)) in
-    let y = spoil law bytes w.here
-    (bodies_inside bytes w.begun.first w.here w.begun.bodies w.begun.begins.framed.within w.begun.spelled) w.cut_off in
+    let y = law bytes w.here (begun_inside bytes begin w.here w.commons w.begun) w.cut_off in
     let more_of = begun_stays s bytes y.0 begin w.here w.commons w.begun in
     record {
       more = y.0;
@@ -302,6 +266,6 @@ pub waits_none : Stay → TruncatedCanBeSpoilt → OneFault → (bytes : List �
     → WaitsModule bytes begin → LastingModuleFault bytes begin f → ⊥
 waits_none s law one bytes begin f inside waits lasts =
     let u = undone s law bytes begin inside waits in
-    let now = one bytes begin f (fault_by u.at u.why) (without_more bytes begin f lasts) u.now in
+    let now = one bytes begin f (fault_by u.at u.why) (last_now (λ b. FaultsModule b begin) bytes f lasts) u.now in
     let then_ = one (bytes ++ u.more) begin f (fault_by u.at (Record (BadSum u.at))) (lasts u.more u.small) u.later in
     u.other (ap (λ (g : ModuleFault). g.cause) (sym now ∙ then_))

@@ -1,7 +1,8 @@
 -- Records that are written one after another.
-use Rattle.std.proofs.Common.{◌≡◌, ◌≤◌, ◌<◌, true, ℕ, Result, Ok, Err, is_ok, List, [], ◌∷◌, ◌++◌, length, map, ap, ◌∙◌, sym, subst, arith, append_assoc}
+use Rattle.std.proofs.Common.{◌≡◌, ◌≤◌, ◌<◌, true, ℕ, Result, Ok, Err, is_ok, List, [], ◌∷◌, ◌++◌, length, map, take, get_or, suc, ◌+◌, ap, ◌∙◌, sym, subst, arith, append_assoc}
 use Rattle.std.specs.List.{flat_map}
-use Rattle.std.proofs.lemmas.List.{append-nil}
+use Rattle.std.proofs.Math.Seq.{take-suc}
+use Rattle.std.proofs.lemmas.List.{append-nil, map-append}
 use Rattle.std.proofs.lemmas.Grind.{flat_map-append}
 use Rattle.omf_core.specs.declared.fault.PutFault.{PutFault}
 use Rattle.omf_core.specs.declared.fault.PutFault.TheVariants.{TooLong}
@@ -59,11 +60,25 @@ module_written m out o1 o2 o3 o4 o5 o6 e1 e2 e3 e4 e5 e6 =
     (more o4 o3 out (h ++ c ++ p) x e4
     (more o3 o2 out (h ++ c) p e3 (more o2 o1 out h c e2 (one o1 out (ModuleHeader (header_body m)) e1)))))
 
--- what was appended where the result says so, if this is the body
-pub one_appended : (body same : Body) (old new : List ℕ) (result : Result (Unit {0}) PutFault)
+one_appended : (body same : Body) (old new : List ℕ) (result : Result (Unit {0}) PutFault)
     → Appends body old new result → true ≡ is_ok result → body ≡ same → new ≡ old ++ record_bytes same
 one_appended body same old new (Ok u) a went is = a.appended ∙ ap (λ (b : Body). old ++ record_bytes b) is
 one_appended body same old new (Err e) a went is = absurd cc
+
+-- One item more is written where the result says so, if this is its body.
+pub one_written : {A : Type 0} (body_of : A → Body) (xs : List A) (i : ℕ) (x : A) (out old new : List ℕ) (body : Body)
+    (result : Result (Unit {0}) PutFault)
+    → old ≡ out ++ flat_map record_bytes (map body_of (take i xs)) → i < length xs → x ≡ get_or xs i x
+    → Appends body old new result → true ≡ is_ok result → body ≡ body_of x
+    → new ≡ out ++ flat_map record_bytes (map body_of (take (i + 1) xs))
+one_written {A} body_of xs i x out old new body result so_far within item a went is =
+    let next : i + 1 ≡ suc i = omega arith in
+    let taken : take (i + 1) xs ≡ take i xs ++ x ∷ [] =
+    ap (λ (k : ℕ). take k xs) next ∙ (take-suc xs i x within ∙ ap (λ (y : A). take i xs ++ y ∷ []) (sym item)) in
+    more new old out (map body_of (take i xs)) (body_of x ∷ [])
+    (one new old (body_of x) (one_appended body (body_of x) old new result a went is)) so_far
+    ∙ ap (λ (bs : List Body). out ++ flat_map record_bytes bs)
+    (sym (ap (map body_of) taken ∙ map-append body_of (take i xs) (x ∷ [])))
 
 -- a body that fits is never too long
 pub one_fits : (body same : Body) (old new : List ℕ) (result : Result (Unit {0}) PutFault)

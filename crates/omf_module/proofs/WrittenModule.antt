@@ -13,7 +13,7 @@ use Rattle.omf_parts.specs.Rules.{IsModule}
 use Rattle.omf_module.specs.Records.{SpellsBody, SpellsBodies}
 use Rattle.omf_module.specs.Spelled.{SpellsModule, SpellsModules}
 use Rattle.omf_module.specs.Writing.{header_body, end_body, bodies_within, module_bytes, file_bytes}
-use Rattle.omf_module.specs.WritingLaws.{WrittenModuleIsSpelled, WrittenFileIsSpelled}
+use Rattle.omf_module.specs.WritingLaws.{IsReadAgain, WrittenModuleIsSpelled, WrittenFileIsSpelled}
 use Rattle.omf_module.proofs.WrittenSpelled.{placed_after, one_spelled, bodies_spelled}
 use Rattle.omf_module.proofs.WrittenSound.{header_fits, end_fits}
 use Rattle.omf_module.proofs.WrittenSays.{name_of, records_after, within_passes, says_module, uses_none}
@@ -94,10 +94,10 @@ module_spelled law m is before after =
 
 -- ---- files
 
-modules_spelled : WrittenModuleIsSpelled → (before after : List ℕ) (ms : List ModuleValue) → AllByRecursion IsModule ms
+pub modules_spelled : (before after : List ℕ) (ms : List ModuleValue) → AllByRecursion IsReadAgain ms
     → SpellsModules (before ++ flat_map module_bytes ms ++ after) (length before) (length (before ++ flat_map module_bytes ms)) ms
-modules_spelled law before after [] all = ap length (sym (append-nil before))
-modules_spelled law before after (m ∷ ms) all =
+modules_spelled before after [] all = ap length (sym (append-nil before))
+modules_spelled before after (m ∷ ms) all =
     let rest = flat_map module_bytes ms in
     let front : before ++ module_bytes m ++ rest ≡ before ++ (module_bytes m ++ rest) =
     append_assoc before (module_bytes m) rest in
@@ -105,12 +105,16 @@ modules_spelled law before after (m ∷ ms) all =
     sym (append_assoc (before ++ module_bytes m) rest after) ∙ ap (λ (bytes : List ℕ). bytes ++ after) front in
     let one : SpellsModule (before ++ module_bytes m ++ (rest ++ after)) (length before) (length (before ++ module_bytes m)) m =
     subst (λ (to : ℕ). SpellsModule (before ++ module_bytes m ++ (rest ++ after)) (length before) to m)
-    (sym (length-append before (module_bytes m))) (law m all.0 before (rest ++ after)) in (
+    (sym (length-append before (module_bytes m))) (all.0 before (rest ++ after)) in (
       length (before ++ module_bytes m),
       subst (λ (bytes : List ℕ). SpellsModule bytes (length before) (length (before ++ module_bytes m)) m) whole one,
       subst (λ (bytes : List ℕ). SpellsModules (bytes ++ after) (length (before ++ module_bytes m)) (length bytes) ms) front
-          (modules_spelled law (before ++ module_bytes m) after ms all.1),
+          (modules_spelled (before ++ module_bytes m) after ms all.1),
     )
+
+read_again : WrittenModuleIsSpelled → (ms : List ModuleValue) → AllByRecursion IsModule ms → AllByRecursion IsReadAgain ms
+read_again law [] all = tt
+read_again law (m ∷ ms) all = (law m all.0, read_again law ms all.1)
 
 pub file_spelled : WrittenIsSpelled → WrittenFileIsSpelled
 unfolding file_bytes
@@ -120,7 +124,7 @@ file_spelled law ms some all =
     record {
       some = some;
       end = length bytes;
-      spelled = modules_spelled (module_spelled law) [] (record_bytes (EndOfFile [])) ms all;
+      spelled = modules_spelled [] (record_bytes (EndOfFile [])) ms (read_again (module_spelled law) ms all);
       ends = record {
         next = length (bytes ++ record_bytes (EndOfFile []));
         body = [];

@@ -49,16 +49,23 @@ pub record Passes (m : ModuleValue) (known : List Common) (nearest : Option Cont
   pub externals : (before : List ℕ) → flat_map (λ p. externals_in p.body) (placed_after before bodies) ≡ said.externals
   pub contents : (before : List ℕ) → contents_from nearest (placed_after before bodies) ≡ said.contents
 
+-- what one body says, and the nearest content after it
+abbrev Saying : Type 0
+Saying = List Common × List Public × List (List ℕ) × Option ContentValue
+
+abbrev saying : Option ContentValue → Body → Saying
+saying nearest body = (commons_in body, publics_in body, externals_in body, content_after nearest body)
+
+abbrev next_alone : ContentValue → Saying
+next_alone c = ([], [], [], Some c)
+
 -- what comes of one body
 record Passed (m : ModuleValue) (known : List Common) (nearest : Option ContentValue) (body : Body) (cs : List Common)
     (ps : List Public) (xs : List (List ℕ)) (after : Option ContentValue) : Type 0 where
   fits : Fits body
   used : body_fault m nearest body ≡ None
   follow : may_follow known body ≡ true
-  commons : commons_in body ≡ cs
-  publics : publics_in body ≡ ps
-  externals : externals_in body ≡ xs
-  next : content_after nearest body ≡ after
+  says : saying nearest body ≡ (cs, ps, xs, after)
 
 abbrev cut : Option ContentValue → Body → List ContentValue
 cut nearest body = if begins_content body then option_to_list nearest else []
@@ -76,27 +83,28 @@ passes_more : (m : ModuleValue) (known declared cs : List Common) (ps : List Pub
       externals = xs ++ said.externals;
       contents = cut nearest body ++ said.contents;
     })
-passes_more m known declared cs ps xs nearest after body bodies said declares one others = record {
-  fit = (one.fits, others.fit);
-  used = λ before.
-      let rest = placed_after (before ++ record_bytes body) bodies in
-      ap (λ (o : Option Cause). option_or (option_map (fault_by (length before)) o)
-      (bodies_fault m (content_after nearest body) rest)) one.used
-      ∙ (ap (λ (c : Option ContentValue). bodies_fault m c rest) one.next ∙ others.used (before ++ record_bytes body));
-  follow = λ before.
-      let rest = placed_after (before ++ record_bytes body) bodies in
-      and_from (may_follow known body) (each_follows (known ++ commons_in body) rest) one.follow
-      (ap (λ (k : List Common). each_follows k rest) (ap (λ (k : List Common). known ++ k) one.commons ∙ declares)
-      ∙ others.follow (before ++ record_bytes body));
-  commons = λ before. joined (commons_in body) cs _ said.commons one.commons (others.commons (before ++ record_bytes body));
-  publics = λ before. joined (publics_in body) ps _ said.publics one.publics (others.publics (before ++ record_bytes body));
-  externals = λ before. joined (externals_in body) xs _ said.externals one.externals
-      (others.externals (before ++ record_bytes body));
-  contents = λ before.
-      let rest = placed_after (before ++ record_bytes body) bodies in
-      ap (λ (c : Option ContentValue). cut nearest body ++ contents_from c rest) one.next
-      ∙ ap (λ (cs : List ContentValue). cut nearest body ++ cs) (others.contents (before ++ record_bytes body));
-}
+passes_more m known declared cs ps xs nearest after body bodies said declares one others =
+    let next : content_after nearest body ≡ after = ap (λ (s : Saying). s.3) one.says in record {
+      fit = (one.fits, others.fit);
+      used = λ before.
+          let rest = placed_after (before ++ record_bytes body) bodies in
+          ap (λ (o : Option Cause). option_or (option_map (fault_by (length before)) o)
+          (bodies_fault m (content_after nearest body) rest)) one.used
+          ∙ (ap (λ (c : Option ContentValue). bodies_fault m c rest) next ∙ others.used (before ++ record_bytes body));
+      follow = λ before.
+          let rest = placed_after (before ++ record_bytes body) bodies in
+          and_from (may_follow known body) (each_follows (known ++ commons_in body) rest) one.follow
+          (ap (λ (k : List Common). each_follows k rest) (ap (λ (k : List Common). known ++ k) (ap (λ (s : Saying). s.0) one.says) ∙ declares)
+          ∙ others.follow (before ++ record_bytes body));
+      commons = λ before. joined (commons_in body) cs _ said.commons (ap (λ (s : Saying). s.0) one.says) (others.commons (before ++ record_bytes body));
+      publics = λ before. joined (publics_in body) ps _ said.publics (ap (λ (s : Saying). s.1) one.says) (others.publics (before ++ record_bytes body));
+      externals = λ before. joined (externals_in body) xs _ said.externals (ap (λ (s : Saying). s.2) one.says)
+          (others.externals (before ++ record_bytes body));
+      contents = λ before.
+          let rest = placed_after (before ++ record_bytes body) bodies in
+          ap (λ (c : Option ContentValue). cut nearest body ++ contents_from c rest) next
+          ∙ ap (λ (cs : List ContentValue). cut nearest body ++ cs) (others.contents (before ++ record_bytes body));
+    }
 
 -- ---- commons, publics and externals
 
@@ -115,10 +123,7 @@ commons_pass m before (c ∷ cs) bodies said new names others =
       fits = common_fits c ((new_common before c p.0).id) n.0;
       used = refl;
       follow = and_from (is_new_common before c) true p.0 refl;
-      commons = refl;
-      publics = refl;
-      externals = refl;
-      next = refl;
+      says = refl;
     }
     (commons_pass m (before ++ c ∷ []) cs bodies said p.1 n.1
     (subst (λ (k : List Common). Passes m k None bodies said) (sym (append_assoc before (c ∷ []) cs)) others))
@@ -133,15 +138,7 @@ publics_pass m commons (p ∷ ps) bodies said has names others =
     let n = and_parts (is_name p.name) (list_all (λ r. is_name r.name) ps) names in
     passes_more m commons commons [] (p ∷ []) [] None None (public_body p) (map public_body ps ++ bodies)
     (record said { publics = ps ++ said.publics }) (append-nil commons)
-    record {
-      fits = public_fits p n.0;
-      used = rw q.0;
-      follow = refl;
-      commons = refl;
-      publics = refl;
-      externals = refl;
-      next = refl;
-    }
+    record { fits = public_fits p n.0; used = rw q.0; follow = refl; says = refl }
     (publics_pass m commons ps bodies said q.1 n.1 others)
 
 pub externals_pass : (m : ModuleValue) (commons : List Common) (xs : List (List ℕ)) (bodies : List Body) (said : Said)
@@ -153,15 +150,7 @@ externals_pass m commons (x ∷ xs) bodies said names others =
     let n = and_parts (is_name x) (list_all is_name xs) names in
     passes_more m commons commons [] [] (x ∷ []) None None (external_body x) (map external_body xs ++ bodies)
     (record said { externals = xs ++ said.externals }) (append-nil commons)
-    record {
-      fits = external_fits x n.0;
-      used = refl;
-      follow = refl;
-      commons = refl;
-      publics = refl;
-      externals = refl;
-      next = refl;
-    }
+    record { fits = external_fits x n.0; used = refl; follow = refl; says = refl }
     (externals_pass m commons xs bodies said n.1 others)
 
 -- ---- a fixup
@@ -191,11 +180,7 @@ own_fixed m commons c field offset id same used fits = record {
     used = ap (λ (i : ℕ). fixups_fault m c (fixup_at field offset (target.Segment i) ∷ [])) same
         ∙ used;
     follow = refl;
-    commons = refl;
-    publics = refl;
-    externals = refl;
-    next =
-        ap (λ (i : ℕ). Some (with_fixups c (fixup_at field offset (target.Segment i) ∷ []))) same;
+    says = ap (λ (i : ℕ). next_alone (with_fixups c (fixup_at field offset (target.Segment i) ∷ []))) same;
   };
   none = refl;
 }
@@ -205,15 +190,7 @@ other_fixed : (m : ModuleValue) (commons : List Common) (c : ContentValue) (fiel
     → Fits (other_reference id field offset)
     → Fixed m commons c (fixup_at field offset (target.Segment id)) (other_reference id field offset)
 other_fixed m commons c field offset id has used fits = record {
-  passed = record {
-    fits = fits;
-    used = rw has used;
-    follow = refl;
-    commons = refl;
-    publics = refl;
-    externals = refl;
-    next = refl;
-  };
+  passed = record { fits = fits; used = rw has used; follow = refl; says = refl };
   none = refl;
 }
 
@@ -240,10 +217,7 @@ fixed m commons c field offset (target.External index) fits = record {
     fits = external_reference_fits index field offset;
     used = fixups_fit m c (fixup_at field offset (target.External index) ∷ []) (rw fits);
     follow = refl;
-    commons = refl;
-    publics = refl;
-    externals = refl;
-    next = refl;
+    says = refl;
   };
   none = refl;
 }
@@ -300,10 +274,7 @@ contents_pass m commons nearest (c ∷ cs) sound =
       used = body_fits m nearest (content_body c) (rw placed.has) (or_right (is_some nearest) true refl) (rw q.0);
       follow =
           refl;
-      commons = refl;
-      publics = refl;
-      externals = refl;
-      next = refl;
+      says = refl;
     }
     (fixups_pass m commons (unreferred c) c.fixups (flat_map content_bodies cs) (only (c ∷ cs)) q.1
     (contents_pass m commons (Some c) cs p.1))

@@ -2,6 +2,7 @@
 -- (8080 Object Module Formats, object file: modules one after another, and an end-of-file record. What stands after it isn't
 -- read.)
 use Rattle.std.specs.Prelude.{◌≡◌, ℕ, ◌<◌, ◌≤◌, Bool, true, false, List, [], ◌++◌, length, All, Option}
+use Rattle.omf_core.specs.Lasting.{Lasting}
 use Rattle.omf_parts.specs.Modules.{ModuleValue}
 use Rattle.omf_module.specs.declared.fault.ModuleFault.{ModuleFault}
 use Rattle.omf_module.specs.declared.file_feed.Progress.{Progress}
@@ -24,7 +25,7 @@ pub record CountsModules (bytes : List ℕ) (count : ℕ) : Type 0 where
 
 -- The file has this fault whatever bytes follow, also if none do.
 abbrev pub LastingFileFault : List ℕ → ModuleFault → Type 0
-LastingFileFault bytes fault = (more : List ℕ) → All (λ byte. byte < 256) more → FaultsFile (bytes ++ more) fault
+LastingFileFault = Lasting FaultsFile
 
 -- ---- how far a file is read
 

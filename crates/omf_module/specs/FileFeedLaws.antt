@@ -1,7 +1,8 @@
 -- What holds of the whole modules of bytes, and of faults that stay whatever bytes follow. (It follows from the definitions.)
-use Rattle.std.specs.Prelude.{◌≡◌, ℕ, ◌<◌, List, ◌++◌, All}
-use Rattle.omf_module.specs.declared.fault.ModuleFault.{ModuleFault}
-use Rattle.omf_module.specs.FileFeed.{CountsModules, LastingFileFault}
+use Rattle.std.specs.Prelude.{◌≡◌, ℕ, List}
+use Rattle.omf_core.specs.Lasting.{StayLasting}
+use Rattle.omf_module.specs.FileFeed.{CountsModules}
+use Rattle.omf_module.specs.Spelled.{FaultsFile}
 
 -- Bytes hold one number of whole modules.
 abbrev pub OneModuleCount : Type 0
@@ -9,8 +10,4 @@ OneModuleCount = (bytes : List ℕ) (count count' : ℕ) → CountsModules bytes
 
 -- A fault that lasts of some bytes lasts of those and any others.
 abbrev pub LastingFileFaultsLast : Type 0
-LastingFileFaultsLast =
-    (bytes more : List ℕ) (fault : ModuleFault)
-    → All (λ byte. byte < 256) more
-    → LastingFileFault bytes fault
-    → LastingFileFault (bytes ++ more) fault
+LastingFileFaultsLast = StayLasting FaultsFile

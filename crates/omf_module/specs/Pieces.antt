@@ -3,6 +3,7 @@
 use Rattle.std.specs.Prelude.{◌≡◌, ℕ, ◌<◌, List, [], ◌++◌, ◌⊎◌, drop, All, Some, IsTrue}
 use Rattle.omf_core.specs.declared.fault.RecordFault.TheVariants.{Truncated}
 use Rattle.omf_core.specs.Record.{fault_at}
+use Rattle.omf_core.specs.Lasting.{Lasting}
 use Rattle.omf_body.specs.declared.body.HeaderBody.{HeaderBody}
 use Rattle.omf_body.specs.declared.body.Body.TheVariants.{ModuleHeader}
 use Rattle.omf_parts.specs.declared.symbols.Common.{Common}
@@ -13,7 +14,7 @@ use Rattle.omf_module.specs.Spelled.{FaultsModule}
 
 -- The module at a place has this fault whatever bytes follow, also if none do.
 abbrev pub LastingModuleFault : List ℕ → ℕ → ModuleFault → Type 0
-LastingModuleFault bytes at fault = (more : List ℕ) → All (λ byte. byte < 256) more → FaultsModule (bytes ++ more) at fault
+LastingModuleFault bytes at = Lasting (λ b. FaultsModule b at) bytes
 
 -- A module's header and records after it stand up to place `here`, and these are the commons that they declare.
 pub record BegunModule (bytes : List ℕ) (begin here : ℕ) (commons : List Common) : Type 0 where

@@ -2,7 +2,7 @@
 //! nothing: a layer above that calls it has the law in its proof.
 
 ghost use Rattle.omf_module.specs.ReadingLaws.{OneModule, OneFault, NeverBoth, OneHeaderFault, SoundHeader, OneFile, OneFileFault, NeverBothFile};
-ghost use Rattle.omf_module.specs.StayLaws.{ModulesStay, BegunModulesStay};
+ghost use Rattle.omf_module.specs.StayLaws.{ModulesStay, ModulesStand};
 ghost use Rattle.omf_module.specs.FileFeedLaws.{OneModuleCount, LastingFileFaultsLast};
 ghost use Rattle.omf_module.specs.GatheredLaws.{ContentsHaveTheFixupsUpToTheNext};
 ghost use Rattle.omf_module.specs.UseLaws.{NoFaultExactlyWhereUsesAreThere};
@@ -42,10 +42,10 @@ pub fn one_file_reading()
     one_fault();
 }
 
-/// What is spelled of modules is spelled whatever bytes follow.
+/// What is spelled of modules is spelled whatever bytes follow. Modules reach further than to their begin, inside the bytes.
 pub fn modules_stay()
-    ensures whole { ModulesStay }
-    ensures begun { BegunModulesStay }
+    ensures stay { ModulesStay }
+    ensures stand { ModulesStand }
 {
     records_stay();
     other_faults_stay();

@@ -1,5 +1,5 @@
 -- The entries of a dump by address, and the addresses that are left.
-use Rattle.std.specs.Prelude.{◌≡◌, ◌≢◌, ℕ, ◌+◌, ◌%◌, ◌<◌, ◌==◌, ◌&&◌, Bool, false, List, length, slice_index, slice_index_or}
+use Rattle.std.specs.Prelude.{◌≡◌, ℕ, ◌+◌, ◌%◌, ◌<◌, ◌==◌, ◌&&◌, Bool, false, List, length, slice_index, slice_index_or}
 use Rattle.std.specs.List.{list_all}
 use Rattle.std.specs.Option.{option_map_or}
 use Rattle.rom80_find.specs.Dump.{DumpValue, dump_byte}
@@ -19,12 +19,6 @@ pub record IsRing (dump : DumpValue) (fill : ℕ) (ring : List ℕ) : Type 0 whe
 pub record AreRings (dump : DumpValue) (zeros ones : List ℕ) : Type 0 where
   pub by_zeros : IsRing dump 0 zeros
   pub by_ones : IsRing dump 255 ones
-
--- entries in which to look for this one: those of addresses without a byte are another one
-pub record IsRingFor (dump : DumpValue) (entry : ℕ) (ring : List ℕ) : Type 0 where
-  pub fill : ℕ
-  pub is : IsRing dump fill ring
-  pub other : fill ≢ entry
 
 abbrev pub IsSievedBy : (ring : List ℕ) (offset entry : ℕ) (old new : Bool) (a : ℕ) → Type 0
 IsSievedBy ring offset entry old new a = new ≡ (old && (slice_index ring (a + offset) == entry))

@@ -6,7 +6,7 @@ ghost use Rattle.rom80_find.specs.Candidates.{is_candidate, is_half, is_in_windo
 use crate::pattern::Half;
 
 /// The values that a target may have. There is always one.
-#[derive(Clone, Copy, Debug, PartialEq, Eq)]
+#[derive(Clone, Copy)]
 pub(crate) enum Candidates {
     /// Every word.
     Any,

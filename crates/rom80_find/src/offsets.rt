@@ -6,7 +6,7 @@ ghost use Rattle.rom80_find.specs.Runs.{AreFrom, AreUpTo};
 use crate::pattern::CodeByte;
 
 /// An offset that no byte of some code is below, and one that none is above.
-#[derive(Clone, Copy, Debug)]
+#[derive(Clone, Copy)]
 pub(crate) struct Offsets {
     pub low: u16,
     pub high: u16,

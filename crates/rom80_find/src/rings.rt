@@ -1,8 +1,8 @@
 //! The bytes of a dump by address.
 
-ghost use Rattle.std.specs.Prelude.{◌≡◌, ◌≢◌, ℕ, ◌%◌, length, IfOk};
+ghost use Rattle.std.specs.Prelude.{◌≡◌, ℕ, ◌%◌, length, IfOk};
 ghost use Rattle.rom80_find.specs.Dump.{dump_of};
-ghost use Rattle.rom80_find.specs.Sieve.{IsRing, IsRingFor, entry_at};
+ghost use Rattle.rom80_find.specs.Sieve.{IsRing, entry_at};
 
 use crate::dump::Dump;
 use std::alloc::{AllocError, Global};
@@ -48,11 +48,18 @@ impl<'a> Rings<'a> {
         self.dump
     }
 
-    /// The ring to search for this byte: it has another one at the addresses without a byte.
-    pub(crate) fn ring_for(&self, entry: u8) -> &[u8]
-        ensures { IsRingFor self.now entry result.now }
+    /// The ring with 0 at addresses without a byte.
+    pub(crate) fn zeros(&self) -> &[u8]
+        ensures { IsRing self.now 0 result.now }
     {
-        if entry == 0 { &self.ones } else { &self.zeros }
+        &self.zeros
+    }
+
+    /// The ring with 255 there.
+    pub(crate) fn ones(&self) -> &[u8]
+        ensures { IsRing self.now 255 result.now }
+    {
+        &self.ones
     }
 }
 

@@ -1,7 +1,7 @@
 //! Runs of equal bytes in a dump.
 
 ghost use Rattle.std.specs.Prelude.{◌≡◌, ◌≢◌, ℕ, ◌+◌, ◌-◌, ◌%◌, ◌<◌, ◌≤◌, true, length, slice_index, List, IfOk};
-ghost use Rattle.rom80_find.specs.Dump.{dump_of, dump_byte};
+ghost use Rattle.rom80_find.specs.Dump.{DumpValue, dump_of, dump_byte};
 ghost use Rattle.rom80_find.specs.Runs.{AreRunStarts, IsRepeated, IsOneRun};
 
 use crate::dump::Dump;
@@ -50,9 +50,7 @@ impl<'a> Runs<'a> {
     pub(crate) fn is_repeated(&self, offsets: Offsets, address: u16) -> bool
         ensures { result ≡ true → IsRepeated self.now offsets.low offsets.high address }
     {
-        let last = usize::from(address) + usize::from(offsets.high);
-        let start = self.starts[last] as usize;
-        0 < address && start < usize::from(address) + usize::from(offsets.low)
+        is_repeated(&self.starts, offsets, address)
     }
 
     /// Whether the dump has, at each of these offsets after each of the 1,024 addresses from `start` on, the byte that it has there
@@ -61,9 +59,26 @@ impl<'a> Runs<'a> {
         requires { start + 1024 ≤ 65536 }
         ensures { result ≡ true → IsOneRun self.now offsets.low offsets.high start }
     {
-        let last = start + 1023 + usize::from(offsets.high);
-        self.starts[last] as usize <= start + usize::from(offsets.low)
+        is_one_run(&self.starts, offsets, start)
     }
+}
+
+/// [`Runs::is_repeated`] of a dump whose runs have these starts.
+fn is_repeated(starts: &[u32], offsets: Offsets, address: u16) -> bool
+    requires { length starts.now ≡ 131072 }
+    ensures { result ≡ true → (dump : DumpValue) → AreRunStarts dump 131072 starts.now → IsRepeated dump offsets.low offsets.high address }
+{
+    let start = starts[usize::from(address) + usize::from(offsets.high)] as usize;
+    0 < address && start < usize::from(address) + usize::from(offsets.low)
+}
+
+/// [`Runs::is_one_run`] of a dump whose runs have these starts.
+fn is_one_run(starts: &[u32], offsets: Offsets, start: usize) -> bool
+    requires all { length starts.now ≡ 131072 }
+    requires block { start + 1024 ≤ 65536 }
+    ensures { result ≡ true → (dump : DumpValue) → AreRunStarts dump 131072 starts.now → IsOneRun dump offsets.low offsets.high start }
+{
+    starts[start + 1023 + usize::from(offsets.high)] as usize <= start + usize::from(offsets.low)
 }
 
 /// For each address, all addresses twice, one from which on up to it the dump has the same byte, or none, at each address.

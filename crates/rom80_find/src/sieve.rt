@@ -136,9 +136,14 @@ fn sieve_by(alive: &mut [bool], rings: &Rings<'_>, start: usize, byte: CodeByte)
     if !byte.is_plain() {
         return true;
     }
+    let offset = usize::from(byte.offset);
     let entry = (byte.addend % 256) as u8;
-    let ring = rings.ring_for(entry);
-    drop_others(alive, ring, start, usize::from(byte.offset), entry)
+    // At an address without a byte the ring has another one than this.
+    if entry == 0 {
+        drop_others(alive, rings.ones(), start, offset, entry)
+    } else {
+        drop_others(alive, rings.zeros(), start, offset, entry)
+    }
 }
 
 /// Drops the addresses of a block `offset` after which the ring has another byte, and answers whether any is left.

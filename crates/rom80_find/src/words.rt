@@ -16,7 +16,7 @@ use omf_parts::Target;
 use std::alloc::{AllocError, Global};
 
 /// The word of a target: the base of a segment, the top of STACK, or what an external stands for.
-#[derive(Clone, Copy, Debug, PartialEq, Eq)]
+#[derive(Clone, Copy)]
 pub(crate) struct Word {
     pub target: Target,
     pub word: u16,

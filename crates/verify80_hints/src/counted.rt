@@ -1,5 +1,6 @@
 //! A program gone over by counts alone: its points with how many words each has and has taken, and what leads to each.
 
+use crate::places::narrow;
 use decode80::Fetched;
 use frames80::{Change, Code, Effect, PointNumbers, Procedure, effect_of};
 use std::alloc::{AllocError, Global};
@@ -34,7 +35,7 @@ pub(crate) struct Lists {
 }
 
 impl Lists {
-    /// So many empty lists.
+    /// `count` empty lists.
     ///
     /// # Errors
     /// `AllocError` if memory runs out.
@@ -130,10 +131,7 @@ impl Counted {
 
     /// How many points there are.
     pub(crate) fn len(&self) -> u32 {
-        match u32::try_from(self.points.len()) {
-            Ok(count) => count,
-            Err(_) => u32::MAX,
-        }
+        narrow(self.points.len() as u64)
     }
 
     /// The point with this number.

@@ -23,7 +23,7 @@ impl Place {
         }
     }
 
-    /// The place of a word, with so many beneath it.
+    /// The place of a word with `beneath` words beneath it.
     pub(crate) fn of_word(beneath: u32) -> Place {
         Place(u64::from(beneath).wrapping_add(PAIRS))
     }
@@ -57,10 +57,8 @@ pub(crate) fn height_up_to(block: u64, bit: u32) -> u32 {
 
 /// What the instruction at an address does.
 pub(crate) fn effect_at<C: Code>(program: &C, at: u16) -> Option<Effect> {
-    match program.look(at) {
-        Ok(found) => Some(effect_of(found.instr)),
-        Err(_) => None,
-    }
+    let found = program.look(at).ok()?;
+    Some(effect_of(found.instr))
 }
 
 /// Whether a procedure starts at a point.
@@ -78,16 +76,10 @@ pub(crate) fn key(point: u32, block: u32) -> u64 {
 
 /// A number of 32 bits; the greatest for one that is greater.
 pub(crate) fn narrow(number: u64) -> u32 {
-    match u32::try_from(number) {
-        Ok(number) => number,
-        Err(_) => u32::MAX,
-    }
+    u32::try_from(number).unwrap_or(u32::MAX)
 }
 
 /// An address that was widened.
 pub(crate) fn narrow_address(number: u32) -> u16 {
-    match u16::try_from(number) {
-        Ok(address) => address,
-        Err(_) => u16::MAX,
-    }
+    u16::try_from(number).unwrap_or(u16::MAX)
 }

@@ -177,18 +177,22 @@ impl Search {
         if !leads {
             return Ok(());
         }
+        let origin = origin_of(effect, from, place.place);
         let hop = Hop {
             to: place.point,
             over_call: false,
-            moves: false,
+            moves: matches!(origin, Origin::Moved(_)),
         };
-        match origin_of(effect, from, place.place) {
-            Origin::Same => self.lead_from(program, number, place.place, hop),
-            Origin::Moved(was) => {
-                self.lead_from(program, number, was, Hop { moves: true, ..hop })
-            }
-            Origin::Other => self.find_from(program, number, hop, place.place),
-        }
+        let was = match origin {
+            Origin::Same => place.place,
+            Origin::Moved(was) => was,
+            Origin::Other => return self.find_from(program, number, hop, place.place),
+        };
+        let was = PlaceAt {
+            point: number,
+            place: was,
+        };
+        self.lead(program, was, Onward::ToPoint(hop))
     }
 
     /// Traces a place back over a call, or lets it wait for the callee's return.
@@ -222,24 +226,13 @@ impl Search {
             moves: false,
         };
         if place.place.is_pair() {
-            self.find_from(program, number, hop, place.place)
-        } else {
-            self.lead_from(program, number, place.place, hop)
+            return self.find_from(program, number, hop, place.place);
         }
-    }
-
-    /// The path of a place goes on to a point.
-    ///
-    /// # Errors
-    /// `AllocError` if memory runs out.
-    fn lead_from<C: Code>(
-        &mut self,
-        program: &C,
-        point: u32,
-        place: Place,
-        hop: Hop,
-    ) -> Result<(), AllocError> {
-        self.lead(program, PlaceAt { point, place }, Onward::ToPoint(hop))
+        let was = PlaceAt {
+            point: number,
+            ..place
+        };
+        self.lead(program, was, Onward::ToPoint(hop))
     }
 
     /// A place has a path: if it is new, the place is to be traced; and from the start of a procedure the path is whole.

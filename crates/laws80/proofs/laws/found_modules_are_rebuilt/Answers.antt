@@ -12,11 +12,11 @@ returns-clause-located c =
     let laws = rebuilt_laws c.sound_modules_keep_rules.ensures c.commons_are_found_by_name.ensures c.parts_of_one_start_at_zero.ensures
     c.segments_are_kept.ensures.kept c.linked_module_keeps_rules.ensures.rules c.linking_keeps_bytes.ensures.chunks c.linking_keeps_bytes.ensures.bytes
     c.no_fault_where_segments_fit.ensures c.link_of_found_modules_has_the_bytes.ensures in
-    λ first dump options name modules chunks a rebuilt holds code. located_has laws first dump options name modules a rebuilt chunks holds code
+    λ dump options name modules chunks a rebuilt holds code. located_has laws dump options name modules a rebuilt chunks holds code
 
 pub returns-clause-built : goal.returns-clause-built
 returns-clause-built c =
     let laws = rebuilt_laws c.sound_modules_keep_rules.ensures c.commons_are_found_by_name.ensures c.parts_of_one_start_at_zero.ensures
     c.segments_are_kept.ensures.kept c.linked_module_keeps_rules.ensures.rules c.linking_keeps_bytes.ensures.chunks c.linking_keeps_bytes.ensures.bytes
     c.no_fault_where_segments_fit.ensures c.link_of_found_modules_has_the_bytes.ensures in
-    λ first dump options name modules image a rebuilt holds code. built_has laws first dump options name modules a rebuilt image holds code
+    λ dump options name modules image a rebuilt holds code. built_has laws dump options name modules a rebuilt image holds code

@@ -47,6 +47,6 @@ returns-clause-further c = λ _.
     omega (
       arith,
       (module_further c.args.bytes.now c.args.read.now.unfinished.begin c.in-Some.after c.in-Some.module
-          spelled).further,
+          spelled).0,
       c.begin_anew.ensures.begin,
     )

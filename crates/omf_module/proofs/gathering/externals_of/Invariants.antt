@@ -1,10 +1,8 @@
--- what was taken, and what is left
-use Rattle.std.proofs.Common.{◌≡◌, ◌++◌, drop}
+-- what was taken
+use Rattle.std.proofs.Common.{◌≡◌, take}
 use Rattle.std.specs.List.{flat_map}
 use Rattle.omf_module.specs.Gathered.{externals_in}
 use Rattle.omf_module.proofs.gathering.externals_of.Given as goal
 
 abbrev pub invariant-loop-placed : goal.invariant-loop-placed
-invariant-loop-placed l =
-    l.externals.items ++ flat_map (λ p. externals_in p.body) (drop l.placed-index l.bodies)
-    ≡ flat_map (λ p. externals_in p.body) l.bodies
+invariant-loop-placed l = l.externals.items ≡ flat_map (λ p. externals_in p.body) (take l.placed-index l.bodies)

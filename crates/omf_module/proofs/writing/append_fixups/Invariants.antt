@@ -1,5 +1,5 @@
--- what is written, and what is left to write
-use Rattle.std.proofs.Common.{◌≡◌, ◌++◌, drop, map}
+-- what is written
+use Rattle.std.proofs.Common.{◌≡◌, ◌++◌, take, map}
 use Rattle.std.specs.List.{flat_map}
 use Rattle.omf_body.specs.Bodies.{record_bytes}
 use Rattle.omf_module.specs.Writing.{fixup_body}
@@ -7,5 +7,4 @@ use Rattle.omf_module.proofs.writing.append_fixups.Given as goal
 
 abbrev pub invariant-loop-fixup : goal.invariant-loop-fixup
 invariant-loop-fixup l =
-    l.out.items ++ flat_map record_bytes (map (fixup_body l.own) (drop l.fixup-index l.fixups)) ≡ l.initial.out.items
-    ++ flat_map record_bytes (map (fixup_body l.own) l.fixups)
+    l.out.items ≡ l.initial.out.items ++ flat_map record_bytes (map (fixup_body l.own) (take l.fixup-index l.fixups))

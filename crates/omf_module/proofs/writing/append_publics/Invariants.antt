@@ -1,5 +1,5 @@
--- what is written, and what is left to write
-use Rattle.std.proofs.Common.{◌≡◌, ◌++◌, drop, map}
+-- what is written
+use Rattle.std.proofs.Common.{◌≡◌, ◌++◌, take, map}
 use Rattle.std.specs.List.{flat_map}
 use Rattle.omf_body.specs.Bodies.{record_bytes}
 use Rattle.omf_module.specs.Writing.{public_body}
@@ -7,5 +7,4 @@ use Rattle.omf_module.proofs.writing.append_publics.Given as goal
 
 abbrev pub invariant-loop-public : goal.invariant-loop-public
 invariant-loop-public l =
-    l.out.items ++ flat_map record_bytes (map public_body (drop l.public-index l.publics)) ≡ l.initial.out.items
-    ++ flat_map record_bytes (map public_body l.publics)
+    l.out.items ≡ l.initial.out.items ++ flat_map record_bytes (map public_body (take l.public-index l.publics))

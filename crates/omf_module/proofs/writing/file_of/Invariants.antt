@@ -1,5 +1,5 @@
--- what is written, what is left to write, and that those written are modules
-use Rattle.std.proofs.Common.{◌≡◌, ◌++◌, drop}
+-- what is written, and that those written are modules
+use Rattle.std.proofs.Common.{◌≡◌, drop, take}
 use Rattle.std.specs.List.{flat_map, AllByRecursion}
 use Rattle.omf_parts.specs.Rules.{IsModule}
 use Rattle.omf_module.specs.Writing.{module_bytes}
@@ -7,6 +7,6 @@ use Rattle.omf_module.proofs.writing.file_of.Given as goal
 
 abbrev pub invariant-loop-module : goal.invariant-loop-module
 invariant-loop-module l = record {
-  written : l.file.items ++ flat_map module_bytes (drop l.module-index l.modules) ≡ flat_map module_bytes l.modules;
+  written : l.file.items ≡ flat_map module_bytes (take l.module-index l.modules);
   rules : AllByRecursion IsModule (drop l.module-index l.modules) → AllByRecursion IsModule l.modules;
 }

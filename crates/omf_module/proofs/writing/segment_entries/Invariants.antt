@@ -1,7 +1,7 @@
--- what is made, and what is left to make
-use Rattle.std.proofs.Common.{◌≡◌, ◌++◌, drop, map}
+-- what is made
+use Rattle.std.proofs.Common.{◌≡◌, take, map}
 use Rattle.omf_module.specs.Writing.{segment_entry}
 use Rattle.omf_module.proofs.writing.segment_entries.Given as goal
 
 abbrev pub invariant-loop-segment : goal.invariant-loop-segment
-invariant-loop-segment l = l.entries.items ++ map segment_entry (drop l.segment-index l.segments) ≡ map segment_entry l.segments
+invariant-loop-segment l = l.entries.items ≡ map segment_entry (take l.segment-index l.segments)
