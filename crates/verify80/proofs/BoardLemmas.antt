@@ -89,7 +89,7 @@ module _ (image : Located) (table : Table) (most : ℕ) (rules : Ground image.re
       found_in (sym (fetched_inside image.regions w.machine.memory w.machine.cpu.pc f.found f.fetched) ∙ h)
 
   -- what the board executes is a guarded step of the same world with other bytes at its ports
-  with_inputs : World → List (List ℕ) → World
+  abbrev with_inputs : World → List (List ℕ) → World
   with_inputs w inputs = record { machine = record w.machine { inputs = inputs }; places = w.places }
 
   record Steps (w : World) (s : Watches w) (found : Fetched) (after : Machine) : Type 0 where
@@ -149,14 +149,12 @@ module _ (image : Located) (table : Table) (most : ℕ) (rules : Ground image.re
     keeps_promise w on =
         let s = watched_on_board w on in
         let f = finds_of w s in
-        let fit = fits.frames s.procedure w.machine.cpu.pc s.frame s.there in
-        let admitted : IsAdmitted image.regions (memory_of image.chunks) w.machine.cpu.pc fit.found =
-        (looks image.regions (memory_of image.chunks) w.machine.cpu.pc fit.found).0 fit.moving.looked in
+        let admitted : IsAdmitted image.regions (memory_of image.chunks) w.machine.cpu.pc f.found = (looks image.regions (memory_of image.chunks) w.machine.cpu.pc f.found).0 f.looked in
         record {
           found = f.found;
           anywhere = fetched_inside image.regions w.machine.memory w.machine.cpu.pc f.found f.fetched;
           inside = f.fetched;
-          of_image = fetched_of image.regions (memory_of image.chunks) w.machine.cpu.pc fit.found admitted.fetched;
+          of_image = fetched_of image.regions (memory_of image.chunks) w.machine.cpu.pc f.found admitted.fetched;
           direct = all_pass (in_data image.regions) (direct_bytes f.found.instr) f.stores;
           declared = f.declared;
           returning = f.safe.returning;

@@ -82,6 +82,7 @@ at_port byte zero = (byte ∷ []) ∷ []
 at_port byte (suc port) = [] ∷ at_port byte port
 
 waits : (byte port : ℕ) → next_input (at_port byte port) port ≡ Some byte
+unfolding at_port
 waits byte zero = refl
 waits byte (suc port) = waits byte port
 
@@ -89,6 +90,7 @@ no_bytes : All (λ byte. byte < 256) []
 no_bytes = All-nil (λ byte. byte < 256)
 
 are_small : (byte port : ℕ) → byte < 256 → All (All (λ byte. byte < 256)) (at_port byte port)
+unfolding at_port
 are_small byte zero small = All-cons (All (λ byte. byte < 256)) (byte ∷ []) [] (All-cons (λ byte. byte < 256) byte [] small no_bytes) (All-nil (All (λ byte. byte < 256)))
 are_small byte (suc port) small = All-cons (All (λ byte. byte < 256)) [] (at_port byte port) no_bytes (are_small byte port small)
 

@@ -199,7 +199,7 @@ module _ (image : Located) (table : Table) (most : ℕ) (rules : Ground image.re
   same_found w f found fetched = let there = f.fetched in cc (there, fetched)
 
   -- the guard finds a store through a pair alone
-  passes_guard : (w : World) (f : Finds w) → guard image.regions f.found.instr w.machine.cpu ≡ ends_at (first_outside (in_data image.regions) (pointed_bytes f.found.instr w.machine.cpu.registers)) StoreOutside None
+  pub passes_guard : (w : World) (f : Finds w) → guard image.regions f.found.instr w.machine.cpu ≡ ends_at (first_outside (in_data image.regions) (pointed_bytes f.found.instr w.machine.cpu.registers)) StoreOutside None
   passes_guard w f =
       let last_one : Option End = ends_at (first_outside (in_data image.regions) (pointed_bytes f.found.instr w.machine.cpu.registers)) StoreOutside None in
       let direct : first_outside (in_data image.regions) (direct_bytes f.found.instr) ≡ None = none_outside (in_data image.regions) (direct_bytes f.found.instr) f.stores in
