@@ -1,4 +1,6 @@
-//! The instructions of the Intel 8080: the opcode table, both ways.
+//! The instructions of the Intel 8080: the opcode table, both ways, their texts, and what each does.
+//!
+//! Proved: all 244 instructions, and the twelve unused bytes.
 //!
 //! | Item | What it is |
 //! |---|---|

@@ -1,4 +1,6 @@
-//! What an instruction does to a procedure's stack frame, as the verifier follows it.
+//! What an instruction does to a procedure's stack frame, and a program as the verifier sees it.
+//!
+//! Proved: the written tables; laws of how frames move; a number for each point.
 //!
 //! | Item | What it is |
 //! |---|---|

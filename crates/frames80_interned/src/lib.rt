@@ -2,6 +2,8 @@
 //! becomes of a frame at an instruction, a call or a join is what `frames80` says of it; it takes the time of the words that
 //! change.
 //!
+//! Proved: what becomes of a number is what the tables say of its frame.
+//!
 //! | Item | What it is |
 //! |---|---|
 //! | [`Frames`] | the frames by number, and what becomes of them |

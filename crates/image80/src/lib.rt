@@ -1,6 +1,8 @@
 //! A located program: its bytes in the 8080's memory, the regions that it may fetch from, store to and push on, and the text of
 //! its regions.
 //!
+//! Proved: regions exactly if the bytes spell them; none shares an address.
+//!
 //! | Item | What it is |
 //! |---|---|
 //! | [`Range`] | consecutive addresses |

@@ -21,7 +21,7 @@ use Rattle.omf_module.specs.WritingLaws.{WrittenFileIsSpelled}
 use Rattle.image80_file.specs.declared.image_fault.ImageFault.{ImageFault}
 use Rattle.image80_file.specs.declared.image_fault.ImageFault.TheVariants.{NotAbsolute, Module, Memory as OutOfMemory}
 use Rattle.image80.specs.Image.{PlacedBytes, Located, IsChunk}
-use Rattle.image80_file.specs.ImageFile.{AbsoluteProgram, SpellsImage, without_regions, chunk_content, content_chunk, named_module, image_module, is_absolute_content, is_absolute_start, is_absolute, program_from, program_of, program_of_one, of_cause, of_module_fault, FaultsImage, of_file, of_modules, WrittenImageIsSpelled, NamedModuleIsRead, OneImage, OneImageFault, NeverBothImage}
+use Rattle.image80_file.specs.ImageFile.{AbsoluteProgram, SpellsImage, chunk_content, content_chunk, named_module, image_module, is_absolute_content, is_absolute_start, is_absolute, program_from, program_of, program_of_one, of_cause, of_module_fault, FaultsImage, of_file, of_modules, WrittenImageIsSpelled, NamedModuleIsRead, OneImage, OneImageFault, NeverBothImage}
 
 -- ---- the module of an image
 

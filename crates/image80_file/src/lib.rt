@@ -1,5 +1,7 @@
 //! Images as object files: a located program is written as one absolute module, and read from it.
 //!
+//! Proved: read exactly if the bytes spell one, or the first fault; written and read back the same.
+//!
 //! | Item | What it is |
 //! |---|---|
 //! | [`write_image`], [`read_image`] | an image as an object file |

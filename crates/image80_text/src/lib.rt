@@ -1,4 +1,6 @@
-//! Names for the addresses of an image: those of its publics, which LOCATE keeps as public declarations of segment 0.
+//! Listings of images, and names of their addresses.
+//!
+//! Proved: the listing of the image; the first name at an address, the nearest below it in its code.
 //!
 //! | Item | What it is |
 //! |---|---|

@@ -4,7 +4,7 @@ use Rattle.std.specs.Prelude.{◌==◌, nat_lt, nat_le, None, Some, find, unwrap
 use Rattle.std.specs.List.{AllByRecursion, list_any}
 use Rattle.std.proofs.lemmas.Bool.{cases_Bool, and_parts, and_from, ltb-true, lt-ltb, le-leb}
 use Rattle.std.proofs.lemmas.List.FromFn.{length-map-range_with_len}
-use Rattle.std.proofs.lemmas.List.Elements.{recursion_from_All}
+use Rattle.std.proofs.lemmas.List.Elements.{All-head, All-tail, All-from_recursion, recursion_from_All}
 use Rattle.omf_parts.specs.Contents.{ContentValue}
 use Rattle.omf_parts.specs.Segments.{has_segment, has_common_id}
 use Rattle.omf_parts.specs.Modules.{ModuleValue}
@@ -13,12 +13,29 @@ use Rattle.omf_parts.specs.Patches.{byte_with}
 use Rattle.omf_parts.specs.ImageByte.{patch_of, ByteChunk, chunk_of, chunk_covers, distance}
 use Rattle.place80.specs.declared.options.Options.{Options}
 use Rattle.place80.specs.declared.placed_segments.Placed.{Placed}
-use Rattle.place80.specs.Layout.{own_segment, nowhere, placed_in, base_in, top_in, layout_of, program_bases}
-use Rattle.place80.specs.LayoutLaws.{LiesInMemory, AreApart, Fit}
+use Rattle.place80.specs.Layout.{given_length, own_segment, nowhere, placed_in, base_in, top_in, layout_of, program_bases}
+use Rattle.place80.specs.LayoutLaws.{HasItsLength, LayoutIsLaidOut, SegmentsArePlaced, PlacesAreBySegments, LiesInMemory, AreApart, Fit}
 use Rattle.place80.specs.PlaceFault.{is_in_placed, absolute_place}
 use Rattle.rom80_find.specs.Chunks.{is_code}
-use Rattle.laws80.proofs.PlaceLemmas.{ModuleLaws, place_of_id}
-use Rattle.laws80.proofs.LayoutLemmas.{length_of_id, layout_lengths, layout_has, found_placed}
+
+-- what holds of the segments of a program that are placed
+pub record PlacingLaws : Type 0 where
+  pub layout : LayoutIsLaidOut
+  pub placed : SegmentsArePlaced
+  pub places : PlacesAreBySegments
+
+-- what holds of all segments holds of the one of an id that is there, and that one has the id
+found_placed : (P : Placed → Type 0) (id : ℕ) (segments : List Placed) → list_any (λ p. p.id == id) segments ≡ true
+    → All P segments →
+    P (placed_in segments id) × ((placed_in segments id).id ≡ id)
+found_placed P id [] there all = absurd cc
+found_placed P id (p ∷ ps) there all =
+    (elim (p.id == id) as (λ b. (p.id == id) ≡ b → (b || list_any (λ q. q.id == id) ps) ≡ true →
+    P (unwrap_or (cond b (Some p) (find (λ q. q.id == id) ps)) (nowhere id))
+    × ((unwrap_or (cond b (Some p) (find (λ q. q.id == id) ps)) (nowhere id)).id ≡ id)) [
+      | true ↦ λ e _. (All-head P p ps all, eqb-true p.id id e)
+      | false ↦ λ _ later. found_placed P id ps later (All-tail P p ps all)
+    ]) refl there
 
 -- ---- no address is in two segments
 
@@ -68,13 +85,16 @@ pub record Held (m : ModuleValue) (c : ContentValue) : Type 0 where
   pub absolute : (c.segment == 0) ≡ true → c.offset + length c.bytes ≤ 65536
   pub own : (c.segment == 0) ≡ false → c.offset + length c.bytes ≤ (own_segment m c.segment).length
 
-module _ (laws : ModuleLaws) (options : Options) (m : ModuleValue) (new : IsTrue (each_after is_new_common [] m.commons))
+module _ (laws : PlacingLaws) (options : Options) (m : ModuleValue) (new : IsTrue (each_after is_new_common [] m.commons))
     (ids : (id : ℕ) → has_common_id m.commons id ≡ true → (6 ≤ id) × (id ≤ 254)) (a : ℕ) (fit : Fit m (layout_of options m)) where
   abbrev segments : List Placed
   segments = layout_of options m
 
   abbrev make : ContentValue → ByteChunk
   make c = chunk_of (program_bases options m) (m ∷ []) (0, m) c
+
+  abbrev length_of_id : ℕ → ℕ
+  length_of_id id = unwrap_or (given_length options id) (own_segment m id).length
 
   abbrev OfMemory : ContentValue → Type 0
   OfMemory c = c.segment ≡ 4 → c.offset + length c.bytes ≤ (placed_in segments 4).length
@@ -91,11 +111,11 @@ module _ (laws : ModuleLaws) (options : Options) (m : ModuleValue) (new : IsTrue
       (ltb-true a 65536 parts.0, subst (λ (n : ℕ). distance (make c).place a < n) (long c) (ltb-true (distance (make c).place a) (length (make c).bytes) parts.1))
 
   pub there : (c : ContentValue) → Held m c → (c.segment == 0) ≡ false → list_any (λ p. p.id == c.segment) segments ≡ true
-  there c held not_absolute = layout_has options m c.segment ids held.has not_absolute
+  there c held not_absolute = laws.placed options m c.segment ids held.has not_absolute
 
   place_is : (c : ContentValue) → Held m c → (make c).place
       ≡ cond (c.segment == 0) c.offset (cond (c.segment == 3) ((top_in segments + c.offset) % 65536) ((base_in segments c.segment + c.offset) % 65536))
-  place_is c held = place_of_id laws segments m c.segment c.offset new held.has
+  place_is c held = laws.places segments m c.segment c.offset new held.has
 
   at_offset : (c : ContentValue) → Held m c → (c.segment == 0) ≡ true → (make c).place ≡ c.offset
   at_offset c held is = place_is c held
@@ -121,11 +141,12 @@ module _ (laws : ModuleLaws) (options : Options) (m : ModuleValue) (new : IsTrue
             let is_four : c.segment ≡ 4 = eqb-true c.segment 4 e in
             subst (λ (id : ℕ). c.offset + length c.bytes ≤ (placed_in segments id).length) (sym is_four) (memory is_four)
         | inr e ↦
-            let found = found_placed (λ p. p.length ≡ length_of_id options m p.id) c.segment segments (there c held is) (layout_lengths options m) in
-            let own : length_of_id options m c.segment ≡ (own_segment m c.segment).length =
+            let found = found_placed (HasItsLength options m) c.segment segments (there c held is)
+            (All-from_recursion (HasItsLength options m) segments (laws.layout options m).lengths) in
+            let own : length_of_id c.segment ≡ (own_segment m c.segment).length =
             ap (λ (b : Bool). unwrap_or (cond b options.stack_size (cond (c.segment == 4) options.memory_size None)) (own_segment m c.segment).length) held.not_stack
             ∙ ap (λ (b : Bool). unwrap_or (cond b options.memory_size None) (own_segment m c.segment).length) e in
-            subst (λ (n : ℕ). c.offset + length c.bytes ≤ n) (sym (found.0 ∙ ap (length_of_id options m) found.1 ∙ own)) (held.own is)
+            subst (λ (n : ℕ). c.offset + length c.bytes ≤ n) (sym (found.0 ∙ ap length_of_id found.1 ∙ own)) (held.own is)
       ]
 
   pub in_segment : (c : ContentValue) → Held m c → OfMemory c → (c.segment == 0) ≡ false → chunk_covers a (make c) ≡ true
@@ -150,7 +171,7 @@ module _ (laws : ModuleLaws) (options : Options) (m : ModuleValue) (new : IsTrue
       subst (λ (id : ℕ). IsIn a (placed_in segments id)) is (in_segment c held memory (ap (λ (id : ℕ). id == 0) is) covers)
 
   code_there : list_any (λ p. p.id == 1) segments ≡ true
-  code_there = layout_has options m 1 ids refl refl
+  code_there = laws.placed options m 1 ids refl refl
 
   -- a content that covers an address of the segment CODE is in CODE
   pub is_in_code_alone : (c : ContentValue) → Held m c → OfMemory c → OfAbsolute c → IsIn a (placed_in segments 1)
@@ -168,7 +189,7 @@ module _ (laws : ModuleLaws) (options : Options) (m : ModuleValue) (new : IsTrue
   ]
 
   memory_there : list_any (λ p. p.id == 4) segments ≡ true
-  memory_there = layout_has options m 4 ids refl refl
+  memory_there = laws.placed options m 4 ids refl refl
 
   memory_of_all : AllByRecursion OfMemory m.contents
   memory_of_all =

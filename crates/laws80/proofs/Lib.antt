@@ -1,5 +1,3 @@
-pub mod PlaceLemmas
-pub mod LayoutLemmas
 pub mod LinkedLemmas
 pub mod InPlaceLemmas
 pub mod RebuiltLemmas

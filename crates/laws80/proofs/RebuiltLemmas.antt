@@ -17,14 +17,14 @@ use Rattle.omf_parts.specs.Rules.{is_sound, each_after, is_new_entry}
 use Rattle.omf_parts.specs.Place.{Bases, common_name}
 use Rattle.omf_parts.specs.ImageByte.{ByteChunk, chunk_of, chunk_covers, image_byte}
 use Rattle.omf_parts.specs.HighReferences.{any_loses_low_byte}
-use Rattle.omf_parts.specs.SoundModules.{LiesIn, RulesOf, SoundModulesKeepRules, CommonsByName, PartsOfOneStartAtZero}
+use Rattle.omf_parts.specs.SoundModules.{LiesIn, RulesOf, SoundModulesKeepRules}
 use Rattle.link80.specs.Linked.{linked, linked_parts, linked_contents, linked_content, linked_commons, linked_id, numbered_common, common_names, id_of}
 use Rattle.link80.specs.LinkLaws.{LinkedChunksAreTheModules, LinkedBytesAreTheModules, LinkedModuleKeepsRules}
 use Rattle.place80.specs.declared.options.Options.{Options}
 use Rattle.place80.specs.declared.place_fault.PlaceFault.{PlaceFault}
 use Rattle.place80.specs.declared.place_fault.PlaceFault.TheVariants.{HighNotPaged}
 use Rattle.place80.specs.Layout.{placed_in, layout_of, program_bases}
-use Rattle.place80.specs.LayoutLaws.{Fit, NoFaultWhereSegmentsFit}
+use Rattle.place80.specs.LayoutLaws.{LayoutIsLaidOut, SegmentsArePlaced, PlacesAreBySegments, Fit, NoFaultWhereSegmentsFit}
 use Rattle.place80.specs.PlaceFault.{unresolved, no_start, layout_fault, high_not_paged, start_not_code, locate_fault}
 use Rattle.place80.specs.Locating.{HoldsProgram}
 use Rattle.image80.specs.Image.{Located, PlacedBytes, byte_at}
@@ -33,8 +33,7 @@ use Rattle.rom80_find.specs.Dump.{DumpValue, dump_byte}
 use Rattle.rom80_find.specs.Chunks.{is_code}
 use Rattle.rom80_find.specs.LinkLaws.{LinkHasTheBytes, OnlyCodeCovers}
 use Rattle.laws80.specs.Rebuilt.{AreRebuilt, is_in_code}
-use Rattle.laws80.proofs.PlaceLemmas.{ModuleLaws}
-use Rattle.laws80.proofs.InPlaceLemmas.{Held, IsIn, code_contents, alone_contents}
+use Rattle.laws80.proofs.InPlaceLemmas.{PlacingLaws, Held, IsIn, code_contents, alone_contents}
 use Rattle.laws80.proofs.LinkedLemmas.{of_each, any_gives}
 
 -- ---- a content is in CODE exactly if it is in the linked module
@@ -164,7 +163,7 @@ any_covers {E} {C} {K} covers code contents h (e ∷ es) found =
 
 pub record RebuiltLaws : Type 0 where
   pub rules : SoundModulesKeepRules
-  pub places : ModuleLaws
+  pub places : PlacingLaws
   pub segments_kept : SegmentsAreKept
   pub linked_rules : LinkedModuleKeepsRules
   pub linked_chunks : LinkedChunksAreTheModules
@@ -172,11 +171,11 @@ pub record RebuiltLaws : Type 0 where
   pub fits : NoFaultWhereSegmentsFit
   pub has_bytes : LinkHasTheBytes
 
-pub rebuilt_laws : SoundModulesKeepRules → CommonsByName → PartsOfOneStartAtZero → SegmentsAreKept → LinkedModuleKeepsRules
+pub rebuilt_laws : SoundModulesKeepRules → LayoutIsLaidOut → SegmentsArePlaced → PlacesAreBySegments → SegmentsAreKept → LinkedModuleKeepsRules
     → LinkedChunksAreTheModules → LinkedBytesAreTheModules → NoFaultWhereSegmentsFit → LinkHasTheBytes → RebuiltLaws
-rebuilt_laws rules by_name zero_start kept linked_rules chunks bytes fits has_bytes = record {
+rebuilt_laws rules layout placed places kept linked_rules chunks bytes fits has_bytes = record {
   rules = rules;
-  places = record { by_name = by_name; zero_start = zero_start };
+  places = record { layout = layout; placed = placed; places = places };
   segments_kept = kept;
   linked_rules = linked_rules;
   linked_chunks = chunks;

@@ -14,7 +14,7 @@ use Rattle.link80.specs.declared.fault.LinkFault.{LinkFault}
 use Rattle.link80.specs.declared.fault.LinkFault.TheVariants.{SegmentTooLong}
 use Rattle.link80.specs.Linked.{linked_commons, part_of, parts_end, greatest, linked_length}
 use Rattle.link80.specs.LinkFault.{duplicate_public, segment_too_long, two_mains, high_not_paged, too_many_commons, too_many_externals, link_fault}
-use Rattle.link80.specs.LinkLaws.{HasWordLengths, LinkedLengthsAreWords}
+use Rattle.link80.specs.LinkLaws.{HasWordLengths, LinkedLengthsAreWords, LaidPartsEndAtWords}
 
 or_none : {A : Type 0} (a b : Option A) → option_or a b ≡ None → (a ≡ None) × (b ≡ None)
 or_none None b none = (refl, none)
@@ -99,3 +99,8 @@ lengths_are_words modules id words no_fault =
       | inr over ↦ subst (λ b. cond b (parts_end id 0 modules) longest ≤ 65535) (sym over)
           (longest_word (linked_commons modules) modules id words)
     ]
+
+pub laid_parts_end_at_words : LaidPartsEndAtWords
+laid_parts_end_at_words modules id no_fault laid =
+    let longest : ℕ = greatest (map (λ m. (part_of (linked_commons modules) m id).length) modules) in
+    subst (λ b. cond b (parts_end id 0 modules) longest ≤ 65535) laid (laid_out_word modules id (none_too_long modules no_fault) laid)

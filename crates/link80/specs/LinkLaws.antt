@@ -1,14 +1,14 @@
 -- What LINK keeps: the bytes of its modules, wherever they are located.
 -- (ISIS-II User's Guide: LINK, then LOCATE.)
-use Rattle.std.specs.Prelude.{◌≡◌, ◌≤◌, ℕ, false, Option, None, List, [], ◌∷◌, option_map, filter_map, slice_get, IsTrue}
+use Rattle.std.specs.Prelude.{◌≡◌, ◌≤◌, ℕ, true, false, Option, None, List, [], ◌∷◌, option_map, filter_map, slice_get, IsTrue}
 use Rattle.std.specs.List.{AllByRecursion, enumerate_from}
 use Rattle.omf_parts.specs.Segments.{segment_in}
 use Rattle.omf_parts.specs.Modules.{ModuleValue}
 use Rattle.omf_parts.specs.Rules.{IsModule, keeps_rules}
-use Rattle.omf_parts.specs.Place.{Bases, place_in}
+use Rattle.omf_parts.specs.Place.{Bases, place_in, is_laid_out}
 use Rattle.omf_parts.specs.ImageByte.{chunks_of, image_byte}
 use Rattle.omf_parts.specs.HighReferences.{any_loses_low_byte}
-use Rattle.link80.specs.Linked.{linked_length, linked_parts, linked, starts}
+use Rattle.link80.specs.Linked.{parts_end, linked_length, linked_parts, linked, starts}
 use Rattle.link80.specs.LinkFault.{link_fault}
 
 -- The chunks of the linked module alone are those of the modules: for all bases, tops and words under which no fixup of the
@@ -48,6 +48,14 @@ LinkedLengthsAreWords =
     → AllByRecursion HasWordLengths modules
     → link_fault modules ≡ None
     → linked_length modules id ≤ 65535
+
+-- The parts of CODE, DATA and STACK lie one after another and end at a word; and no part ends before what lies before it.
+abbrev pub LaidPartsEndAtWords : Type 0
+LaidPartsEndAtWords =
+    (modules : List ModuleValue) (id : ℕ) → link_fault modules ≡ None → is_laid_out id ≡ true → parts_end id 0 modules ≤ 65535
+
+abbrev pub PartsEndLater : Type 0
+PartsEndLater = (id before : ℕ) (modules : List ModuleValue) → before ≤ parts_end id before modules
 
 -- where the start of one of the modules lies
 abbrev pub start_within : Bases → List ModuleValue → ℕ × ModuleValue → ℕ × ℕ → ℕ

@@ -11,33 +11,14 @@ use crate::fault::LinkFault;
 use crate::name_table::{NameTable, add_name};
 use crate::starts::LaidModules;
 use omf_core::Name;
-use omf_core::segment_id::{FIRST_COMMON, MEMORY, UNNAMED_COMMON};
+use omf_core::segment_id::FIRST_COMMON;
 use omf_library::NameHashes;
-use omf_parts::{Common, Module};
+use omf_parts::{Common, Module, common_name, is_fixed_id};
 use std::alloc::{AllocError, Global};
 use std::marker::Model;
 
 /// How many ids there are for named commons.
 const MOST_COMMONS: usize = 249;
-
-/// Whether every module has a segment of this id: absolute, CODE, DATA, STACK, MEMORY and the unnamed common.
-pub(crate) fn is_fixed_id(id: u8) -> bool
-    ensures { result ≡ is_fixed_id id }
-{
-    id <= MEMORY || id == UNNAMED_COMMON
-}
-
-/// The name of the common of this id; it has no bytes if no common has the id.
-pub(crate) fn common_name(commons: &[Common], id: u8) -> &[u8]
-    ensures { result.now ≡ common_name commons.now id }
-{
-    for common in commons {
-        if common.id == id {
-            return common.name.bytes();
-        }
-    }
-    &[]
-}
 
 /// Appends the names of a module's commons that are new.
 fn add_commons<'a>(

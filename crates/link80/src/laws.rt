@@ -1,7 +1,7 @@
 //! What LINK keeps, over the definitions alone. Each law is ensured by a function that does nothing: a layer above that calls
 //! it has the law in its proof.
 
-ghost use Rattle.link80.specs.LinkLaws.{LinkedChunksAreTheModules, LinkedBytesAreTheModules, LinkedStartIsTheModules, LinkedLengthsAreWords, LinkedModuleKeepsRules};
+ghost use Rattle.link80.specs.LinkLaws.{LinkedChunksAreTheModules, LinkedBytesAreTheModules, LinkedStartIsTheModules, LinkedLengthsAreWords, LinkedModuleKeepsRules, LaidPartsEndAtWords, PartsEndLater};
 ghost use Rattle.link80.specs.DuplicateLaws.{FirstAgainIsTheFirst, NoneAgainWhereAllAreNew, DuplicateIsTheFirst};
 
 use omf_parts::relocation_laws::{
@@ -30,6 +30,12 @@ pub fn linked_module_keeps_rules()
     sound_modules_keep_rules();
     commons_are_found_by_name();
 }
+
+/// The parts that lie one after another end at a word if no fault holds, and none before what lies before it.
+pub fn laid_parts_end_at_words()
+    ensures words { LaidPartsEndAtWords }
+    ensures later { PartsEndLater }
+{}
 
 /// The duplicate that LINK reports is the first public, by module and then by record, whose name some earlier one has; and there
 /// is none exactly where each public has a new name.

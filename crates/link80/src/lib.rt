@@ -1,6 +1,8 @@
 //! LINK: modules joined into one. What the linked module is, and why modules can't be linked, is defined in `specs/`; the law
 //! that linking keeps every byte is proved over these definitions.
 //!
+//! Proved: exactly the linked module, or the first fault; it keeps every byte.
+//!
 //! | Item | What it is |
 //! |---|---|
 //! | [`link`], [`Linked`] | modules, and what they need of libraries, linked into one |

@@ -1,11 +1,13 @@
 -- What is reached along a row of modules is what is chosen.
 use Rattle.std.specs.Prelude.{◌≡◌, ◌↔◌, ℕ, zero, suc, ◌+◌, ◌-◌, ◌<◌, ◌≤◌, ◌⊎◌, Bool, true, false, Option, Some, None, List, [], ◌∷◌, ◌++◌, slice_get, filter_map, length, Contains, IfSome, refl}
 use Rattle.std.specs.List.{AllZip, list_any, position_from, cons_option}
-use Rattle.std.proofs.Common.{◌∙◌, ap, sym, subst, arith, inl, inr, cond, drop}
+use Rattle.std.proofs.Common.{◌∙◌, ap, sym, subst, arith, inl, inr, cond, drop, get_or}
 use Rattle.std.proofs.lemmas.Bool.{cases_Bool, cases_lt, cases_order, or_parts, or_from}
+use Rattle.std.proofs.lemmas.Iterator.Adapters.{position_from-zero}
 use Rattle.std.proofs.lemmas.List.{get_or-drop}
+use Rattle.std.proofs.lemmas.List.Quantifiers.{position-Some}
 use Rattle.std.proofs.lemmas.List.Elements.{Contains-append_left, Contains-append_right, Contains-append_cases}
-use Rattle.std.proofs.lemmas.Option.{none-some, same_Some, slice_get_within}
+use Rattle.std.proofs.lemmas.Option.{none-some, same_Some, slice_get_within, slice_get-get_or}
 use Rattle.omf_parts.specs.Modules.{ModuleValue}
 use Rattle.omf_library.specs.Providers.{declares, first_provider}
 use Rattle.link80_select.specs.declared.chosen.Chosen.{Chosen}
@@ -84,39 +86,16 @@ first_is test from (suc i) (y ∷ xs) x at passes none =
     ∙ first_is test (from + 1) i xs x at passes (λ j z less there. none (suc j) z (omega arith) there)
     ∙ ap (λ n. Some n) (let e : from + 1 + i ≡ from + suc i = omega arith in e)
 
-none_more : {A : Type 0} (test : A → Bool) (x : A) (xs : List A) (i : ℕ) → test x ≡ false → NoneBelow test xs i
-    → NoneBelow test (x ∷ xs) (suc i)
-none_more test x xs i fails none zero y less at = ap test (sym (same_Some x y at)) ∙ fails
-none_more test x xs i fails none (suc j) y less at = none j y (omega arith) at
-
-is_first : {A : Type 0} (test : A → Bool) (from n : ℕ) (xs : List A) → position_from test from xs ≡ Some n
-    → (i : ℕ) × (n ≡ from + i) × IsFirst test xs i
-is_first test from n [] found = absurd (none-some n found)
-is_first test from n (x ∷ xs) found = elim (cases_Bool (test x)) [
-  | inl passes ↦
-      let same = same_Some from n (sym (ap (λ b. cond b (Some from) (position_from test (from + 1) xs)) passes) ∙ found) in (
-        0,
-        omega (arith, same),
-        record {
-          one = x;
-          there = refl;
-          passes = passes;
-          none = λ j y less at. absurd (omega (arith, less));
-        },
-      )
-  | inr fails ↦
-      let later = is_first test (from + 1) n xs (sym (ap (λ b. cond b (Some from) (position_from test (from + 1) xs)) fails)
-      ∙ found) in (
-        suc later.0,
-        omega (arith, later.1),
-        record {
-          one = later.2.one;
-          there = later.2.there;
-          passes = later.2.passes;
-          none = none_more test x xs later.0 fails later.2.none;
-        },
-      )
-]
+is_first : {A : Type 0} (test : A → Bool) (n : ℕ) (xs : List A) → position_from test 0 xs ≡ Some n → IsFirst test xs n
+is_first test n [] found = absurd (none-some n found)
+is_first test n (x ∷ xs) found =
+    let at = position-Some test (x ∷ xs) n x (position_from-zero test (x ∷ xs) ∙ found) in record {
+      one = get_or (x ∷ xs) n x;
+      there = slice_get-get_or (x ∷ xs) n x at.0;
+      passes = at.1;
+      none = λ j y less there.
+          ap test (same_Some y (get_or (x ∷ xs) j x) (sym there ∙ slice_get-get_or (x ∷ xs) j x (omega (arith, less, at.0)))) ∙ at.2 j less;
+    }
 
 -- ---- what is needed
 
@@ -179,26 +158,24 @@ needs_of : (roots : List ModuleValue) (libraries : List (List ModuleValue)) (m :
     first_provider (roots ++ members libraries) name ≡ Some (length roots + k) → slice_get (places_from 0 libraries) k ≡ Some p
     → Needs roots libraries m p
 needs_of roots libraries m name k p external gives at_p =
-    let found = is_first (declares name) 0 (length roots + k) (roots ++ members libraries) gives in
-    let is : found.0 ≡ length roots + k = omega (arith, found.1) in
-    let there = sym (at_right roots (members libraries) k) ∙ ap (slice_get (roots ++ members libraries)) (sym is)
-    ∙ found.2.there in
-    let stands = beside (Stands libraries) (places_from 0 libraries) (members libraries) k found.2.one
+    let found = is_first (declares name) (length roots + k) (roots ++ members libraries) gives in
+    let there = sym (at_right roots (members libraries) k) ∙ found.there in
+    let stands = beside (Stands libraries) (places_from 0 libraries) (members libraries) k found.one
     (places_stand libraries) there in
     let same = same_Some stands.0 p (sym stands.1 ∙ at_p) in
     record {
       name = name;
       external = external;
       in_no_root = none_passes (declares name) roots
-          (λ j y less at_j. found.2.none j y (omega (arith, less, is)) (at_front roots (members libraries) j less ∙ at_j));
+          (λ j y less at_j. found.none j y (omega (arith, less)) (at_front roots (members libraries) j less ∙ at_j));
       first = record {
-        provider = found.2.one;
+        provider = found.one;
         there = ap (module_at libraries) (sym same) ∙ stands.2;
-        declares_it = found.2.passes;
+        declares_it = found.passes;
         none_before = λ q y before at_q.
             let number = number_at libraries q y at_q in
             let less = below libraries number.0 k q p number.1 at_p before in
-            found.2.none (length roots + number.0) y (omega (arith, less, is)) (at_right roots (members libraries) number.0
+            found.none (length roots + number.0) y (omega (arith, less)) (at_right roots (members libraries) number.0
             ∙ number.2);
       };
     }
@@ -304,6 +281,4 @@ pub first_within : (row : List ModuleValue) (name : List ℕ) (r : Option ℕ) �
     → IfSome r (λ n. n < length row)
 first_within row name None is = tt
 first_within row name (Some n) is =
-    let found = is_first (declares name) 0 n row (sym is) in
-    let inside = slice_get_within row found.0 found.2.one found.2.there in
-    let less : n < length row = omega (arith, inside, found.1) in less
+    let found = is_first (declares name) n row (sym is) in slice_get_within row n found.one found.there

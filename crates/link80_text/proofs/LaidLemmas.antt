@@ -1,9 +1,8 @@
 -- Parts one after another: their starts, and the end of the last.
-use Rattle.std.specs.Prelude.{◌≡◌, ℕ, suc, ◌+◌, ◌≤◌, ◌<◌, ◌⊎◌, ◌==◌, nat_lt, Bool, true, false, Option, Some, None, option_map, List, [], ◌∷◌, ◌++◌, find, map, drop, slice_index, slice_index_or, length, refl}
+use Rattle.std.specs.Prelude.{◌≡◌, ℕ, suc, ◌+◌, ◌≤◌, ◌<◌, ◌⊎◌, ◌==◌, Bool, true, false, List, [], ◌∷◌, ◌++◌, map, drop, slice_index, slice_index_or, length, refl}
 use Rattle.std.specs.List.{flat_map, enumerate_from}
-use Rattle.std.specs.Option.{option_or}
 use Rattle.std.proofs.Common.{◌∙◌, ap, sym, arith, inl, inr, cond, append_assoc}
-use Rattle.std.proofs.lemmas.Bool.{cases_Bool, eqb-true, ltb-false}
+use Rattle.std.proofs.lemmas.Bool.{cases_Bool, eqb-true}
 use Rattle.std.proofs.lemmas.Bool.Decides.{nat_tests}
 use Rattle.std.proofs.lemmas.List.{drop_more}
 use Rattle.omf_parts.specs.declared.segment.Segment.{Segment}
@@ -11,10 +10,8 @@ use Rattle.omf_parts.specs.declared.symbols.Common.{Common}
 use Rattle.omf_parts.specs.Segments.{segment_in}
 use Rattle.omf_parts.specs.Modules.{ModuleValue}
 use Rattle.omf_parts.specs.Place.{rounded, is_laid_out, starts_from, part_start}
-use Rattle.link80.specs.declared.fault.LinkFault.{LinkFault}
-use Rattle.link80.specs.declared.fault.LinkFault.TheVariants.{SegmentTooLong}
-use Rattle.link80.specs.Linked.{linked_commons, part_of, parts_end, linked_length}
-use Rattle.link80.specs.LinkFault.{duplicate_public, segment_too_long, two_mains, high_not_paged, too_many_commons, too_many_externals, link_fault}
+use Rattle.link80.specs.Linked.{linked_commons, part_of, parts_end}
+use Rattle.link80.specs.LinkLaws.{PartsEndLater}
 use Rattle.link80_text.specs.Parts.{part_line, part_text, segment_text}
 use Rattle.link80_text.specs.Words.{laid_text, joined_text}
 
@@ -23,15 +20,6 @@ use Rattle.link80_text.specs.Words.{laid_text, joined_text}
 above_rounded : (paged : Bool) (n : ℕ) → n ≤ rounded paged n
 above_rounded true n = omega arith
 above_rounded false n = omega arith
-
-pub ends_later : (id before : ℕ) (ms : List ModuleValue) → before ≤ parts_end id before ms
-ends_later id before [] = omega arith
-ends_later id before (m ∷ ms) =
-    let s : Segment = segment_in m.segments id in
-    let next : ℕ = rounded s.paged before + s.length in
-    let up : before ≤ rounded s.paged before = above_rounded s.paged before in
-    let rest : next ≤ parts_end id next ms = ends_later id next ms in
-    omega (arith, up, rest)
 
 -- what is left begins with the one that is read
 pub left_of : {A B : Type 0} (f : A → B) (xs : List A) (i : ℕ) (x : A) → i < length xs → x ≡ slice_index_or xs i x
@@ -43,9 +31,9 @@ pub record Fit (before : ℕ) (s : Segment) : Type 0 where
   pub start : rounded s.paged before ≤ 65535
   pub end : rounded s.paged before + s.length ≤ 65535
 
-pub part_fits : (id before total : ℕ) (m : ModuleValue) (next all : List ModuleValue) → all ≡ m ∷ next → parts_end id before all ≡ total
+pub part_fits : PartsEndLater → (id before total : ℕ) (m : ModuleValue) (next all : List ModuleValue) → all ≡ m ∷ next → parts_end id before all ≡ total
     → total ≤ 65535 → Fit before (segment_in m.segments id)
-part_fits id before total m next all is ends fits =
+part_fits ends_later id before total m next all is ends fits =
     let s : Segment = segment_in m.segments id in
     let up = above_rounded s.paged before in
     let later = ends_later id (rounded s.paged before + s.length) next in
@@ -76,31 +64,7 @@ one_more commons id before end total text after made m next all is lines ends gr
       ends = ap (λ e. parts_end id e next) end_is ∙ ap (parts_end id before) (sym is) ∙ ends;
     }
 
--- ---- LINK finds no segment too long
-
-or_none : {A : Type 0} (a b : Option A) → option_or a b ≡ None → (a ≡ None) × (b ≡ None)
-or_none None b none = (refl, none)
-or_none (Some x) b none = absurd cc
-
-none_too_long : (modules : List ModuleValue) → link_fault modules ≡ None → segment_too_long modules ≡ None
-none_too_long modules none =
-    let rest : Option LinkFault =
-    option_or (two_mains modules)
-    (option_or (high_not_paged modules) (option_or (too_many_commons modules) (too_many_externals modules))) in
-    (or_none (segment_too_long modules) rest
-    (or_none (duplicate_public modules) (option_or (segment_too_long modules) rest) none).1).0
-
-none_found : (test : ℕ → Bool) (i : ℕ) (is : List ℕ) → option_map SegmentTooLong (find test (i ∷ is)) ≡ None
-    → (test i ≡ false) × (option_map SegmentTooLong (find test is) ≡ None)
-none_found test i is none =
-    (elim (test i) as (λ b. option_map SegmentTooLong (cond b (Some i) (find test is)) ≡ None
-    → (b ≡ false) × (option_map SegmentTooLong (find test is) ≡ None)) [
-      | true ↦ λ some. absurd (some_none (SegmentTooLong i) some)
-      | false ↦ λ later. (refl, later)
-    ]) none
-  where
-    some_none : (x : LinkFault) → Some x ≡ None → ⊥
-    some_none x e = cc
+-- ---- the segments that are laid out
 
 laid_out_cases : (id : ℕ) → is_laid_out id ≡ true → (id ≡ 1) ⊎ ((id ≡ 2) ⊎ (id ≡ 3))
 laid_out_cases id laid = elim (cases_Bool (id == 1)) [
@@ -113,24 +77,6 @@ laid_out_cases id laid = elim (cases_Bool (id == 1)) [
   where
     third : (id : ℕ) → is_laid_out id ≡ true → (id == 1) ≡ false → (id == 2) ≡ false → id ≡ 3
     third id laid a b = grind (arith, nat_tests, laid, a, b)
-
-pub laid_parts_fit : (modules : List ModuleValue) (id : ℕ) → link_fault modules ≡ None → is_laid_out id ≡ true
-    → parts_end id 0 modules ≤ 65535
-laid_parts_fit modules id none laid =
-    let test : ℕ → Bool = λ i. nat_lt 65535 (linked_length modules i) in
-    let first = none_found test 1 (2 ∷ 3 ∷ []) (none_too_long modules none) in
-    let second = none_found test 2 (3 ∷ []) first.1 in
-    let third = none_found test 3 [] second.1 in
-    elim (laid_out_cases id laid) [
-      | inl e ↦ by id 1 e (ltb-false 65535 (parts_end 1 0 modules) first.0)
-      | inr later ↦ elim later [
-        | inl e ↦ by id 2 e (ltb-false 65535 (parts_end 2 0 modules) second.0)
-        | inr e ↦ by id 3 e (ltb-false 65535 (parts_end 3 0 modules) third.0)
-      ]
-    ]
-  where
-    by : (i j : ℕ) → i ≡ j → parts_end j 0 modules ≤ 65535 → parts_end i 0 modules ≤ 65535
-    by i j e fits = rw e fits
 
 -- ---- starts
 

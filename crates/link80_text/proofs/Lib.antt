@@ -1,11 +1,9 @@
 mod LaidLemmas
 mod TextLemmas
 mod StartLemmas
-mod CausesTextLemmas
 mod SearchLemmas
 mod EdgeLemmas
 mod ProviderLemmas
 mod ReasonLemmas
 mod ReadLemmas
 mod LineLemmas
-mod ReasonsTextLemmas

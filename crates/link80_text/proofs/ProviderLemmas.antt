@@ -2,9 +2,11 @@
 use Rattle.std.specs.Prelude.{◌≡◌, ℕ, zero, suc, ◌+◌, ◌<◌, ◌==◌, ◌&&◌, ◌||◌, is_some, Bool, true, false, Option, Some, None, option_map, option_and_then, List, [], ◌∷◌, slice_get, Contains, refl}
 use Rattle.std.specs.List.{list_any, position_from}
 use Rattle.std.specs.Option.{option_or}
-use Rattle.std.proofs.Common.{◌∙◌, ap, sym, subst, arith, inl, inr, cond}
+use Rattle.std.proofs.Common.{◌∙◌, ap, sym, subst, arith, inl, inr, cond, get_or}
 use Rattle.std.proofs.lemmas.Bool.{cases_Bool, cases_order, eqb-true, and_parts, false≢true}
 use Rattle.std.proofs.lemmas.Option.{none-some, same_Some, option_and_then_some, slice_get-get_or}
+use Rattle.std.proofs.lemmas.Iterator.Adapters.{position_from-zero}
+use Rattle.std.proofs.lemmas.List.Quantifiers.{position-Some}
 use Rattle.omf_parts.specs.Modules.{ModuleValue}
 use Rattle.omf_library.specs.Providers.{declares, first_provider}
 use Rattle.link80_select.specs.declared.chosen.Chosen.{Chosen}
@@ -23,40 +25,16 @@ record IsFirst {A : Type 0} (test : A → Bool) (xs : List A) (i : ℕ) : Type 0
   passes : test one ≡ true
   before : (j : ℕ) (y : A) → j < i → slice_get xs j ≡ Some y → test y ≡ false
 
-none_more : {A : Type 0} (test : A → Bool) (x : A) (xs : List A) (i : ℕ) → test x ≡ false
-    → ((j : ℕ) (y : A) → j < i → slice_get xs j ≡ Some y → test y ≡ false)
-    → (j : ℕ) (y : A) → j < suc i → slice_get (x ∷ xs) j ≡ Some y → test y ≡ false
-none_more test x xs i fails before zero y less at = ap test (sym (same_Some x y at)) ∙ fails
-none_more test x xs i fails before (suc j) y less at = before j y (omega arith) at
-
-is_first : {A : Type 0} (test : A → Bool) (from n : ℕ) (xs : List A) → position_from test from xs ≡ Some n
-    → (i : ℕ) × (n ≡ from + i) × IsFirst test xs i
-is_first test from n [] found = absurd (none-some n found)
-is_first test from n (x ∷ xs) found = elim (cases_Bool (test x)) [
-  | inl passes ↦
-      let same = same_Some from n (sym (ap (λ b. cond b (Some from) (position_from test (from + 1) xs)) passes) ∙ found) in (
-        0,
-        omega (arith, same),
-        record {
-          one = x;
-          there = refl;
-          passes = passes;
-          before = λ j y less at. absurd (omega (arith, less));
-        },
-      )
-  | inr fails ↦
-      let later = is_first test (from + 1) n xs (sym (ap (λ b. cond b (Some from) (position_from test (from + 1) xs)) fails)
-      ∙ found) in (
-        suc later.0,
-        omega (arith, later.1),
-        record {
-          one = later.2.one;
-          there = later.2.there;
-          passes = later.2.passes;
-          before = none_more test x xs later.0 fails later.2.before;
-        },
-      )
-]
+is_first : {A : Type 0} (test : A → Bool) (n : ℕ) (xs : List A) → position_from test 0 xs ≡ Some n → IsFirst test xs n
+is_first test n [] found = absurd (none-some n found)
+is_first test n (x ∷ xs) found =
+    let at = position-Some test (x ∷ xs) n x (position_from-zero test (x ∷ xs) ∙ found) in record {
+      one = get_or (x ∷ xs) n x;
+      there = slice_get-get_or (x ∷ xs) n x at.0;
+      passes = at.1;
+      before = λ j y less there.
+          ap test (same_Some y (get_or (x ∷ xs) j x) (sym there ∙ slice_get-get_or (x ∷ xs) j x (omega (arith, less, at.0)))) ∙ at.2 j less;
+    }
 
 no_first : {A : Type 0} (test : A → Bool) (from : ℕ) (xs : List A) → position_from test from xs ≡ None
     → (j : ℕ) (y : A) → slice_get xs j ≡ Some y → test y ≡ false
@@ -97,12 +75,12 @@ record FirstPlace (at : ℕ) (ls : List (List ModuleValue)) (name : List ℕ) (p
 first_here : (at n : ℕ) (l : List ModuleValue) (ls : List (List ModuleValue)) (name : List ℕ) → first_provider l name ≡ Some n
     → FirstPlace at (l ∷ ls) name (place_of at n)
 first_here at n l ls name is =
-    let first = is_first (declares name) 0 n l is in record {
+    record {
       index = 0;
       l = l;
       library_is = let e : at ≡ at + 0 = omega arith in e;
       there = refl;
-      first = subst (λ (i : ℕ). IsFirst (declares name) l i) (let e : first.0 ≡ n = omega (arith, first.1) in e) first.2;
+      first = is_first (declares name) n l is;
       before = λ i k j m less at_k at_m. absurd (omega (arith, less));
     }
 
@@ -221,9 +199,8 @@ itself p = ap (λ b. b && (p.module == p.module)) (equal p.library) ∙ equal p.
 
 number_is : (taken : List Chosen) (p : Chosen) (n : ℕ) → number_of taken p ≡ Some n → slice_get taken n ≡ Some p
 number_is taken p n is =
-    let first = is_first (λ (q : Chosen). (q.library == p.library) && (q.module == p.module)) 0 n taken is in
-    ap (slice_get taken) (let e : n ≡ first.0 = omega (arith, first.1) in e) ∙ first.2.there
-    ∙ ap (λ q. Some q) (same_place first.2.one p first.2.passes)
+    let first = is_first (λ (q : Chosen). (q.library == p.library) && (q.module == p.module)) n taken is in
+    first.there ∙ ap (λ q. Some q) (same_place first.one p first.passes)
 
 is_number : (taken : List Chosen) (p : Chosen) → Contains taken p → (n : ℕ) × (number_of taken p ≡ Some n)
 is_number taken p has = by (number_of taken p) refl

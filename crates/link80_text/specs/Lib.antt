@@ -1,7 +1,6 @@
 pub mod Parts
 pub mod Causes
 pub mod HighBytes
-pub mod Lines
 pub mod Reasons
 -- what the crate's own functions promise one another: no public contract cites these
 pub mod Words

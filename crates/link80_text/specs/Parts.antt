@@ -1,9 +1,8 @@
 -- Where LINK lays the parts of modules in the linked one, and which modules need the names that no module declares, line by line.
 -- (ISIS-II User's Guide, LINK: the link map with its segments, input modules and unresolved externals. The form of the lines is
 -- this project's own.)
-use Rattle.std.specs.Prelude.{◌≡◌, ℕ, ◌==◌, Bool, if◌then◌else◌, None, List, [], ◌∷◌, ◌++◌, codes, find}
+use Rattle.std.specs.Prelude.{◌≡◌, ℕ, Bool, if◌then◌else◌, None, List, [], ◌∷◌, ◌++◌, codes}
 use Rattle.std.specs.List.{flat_map, list_any, enumerate_from}
-use Rattle.std.specs.Option.{option_map_or}
 use Rattle.text80.specs.Digits.{word_text}
 use Rattle.omf_core.specs.Name.{same_name}
 use Rattle.omf_core.specs.SegmentId.{segment_word}
@@ -12,6 +11,7 @@ use Rattle.omf_parts.specs.declared.symbols.Common.{Common}
 use Rattle.omf_parts.specs.Segments.{is_used}
 use Rattle.omf_parts.specs.Modules.{ModuleValue}
 use Rattle.omf_parts.specs.Place.{part_start}
+use Rattle.omf_text.specs.Places.{common_part}
 use Rattle.link80.specs.declared.linking.Linked.{Linked}
 use Rattle.link80.specs.Linked.{linked, linked_commons, linked_ids, part_of, unresolved}
 use Rattle.link80.specs.LinkFault.{link_fault}
@@ -31,17 +31,13 @@ pub record IsMade (roots : List ModuleValue) (libraries : List (List ModuleValue
 
 -- ---- the parts
 
--- a blank and the name of the common of this id, if it has one
-abbrev pub name_part : List Common → ℕ → List ℕ
-name_part commons id = option_map_or (λ c. 32 ∷ c.name) (find (λ c. c.id == id) commons) []
-
 -- where a part starts in the linked segment, and its length
 abbrev pub extent_of : (start length : ℕ) → List ℕ
 extent_of start length = codes "PART " ++ (word_text start ++ 32 ∷ (word_text length ++ 32 ∷ []))
 
 -- what it is a part of: the segment, a named common's name, and the module
 abbrev pub owner_of : List Common → ℕ → List ℕ → List ℕ
-owner_of commons id name = segment_word id ++ (name_part commons id ++ 32 ∷ (name ++ 10 ∷ []))
+owner_of commons id name = segment_word id ++ (common_part commons id ++ 32 ∷ (name ++ 10 ∷ []))
 
 -- the line of a part
 abbrev pub line_of : List Common → (id start : ℕ) → Segment → List ℕ → List ℕ

@@ -6,8 +6,8 @@ ghost use Rattle.link80.specs.Linked.{parts_end};
 ghost use Rattle.link80_text.specs.Words.{laid_text};
 
 use crate::lines::append_part;
-use crate::named::segment_in;
-use omf_parts::{Common, Module};
+use link80::laws::laid_parts_end_at_words;
+use omf_parts::{Common, Module, segment_in};
 use std::alloc::AllocError;
 
 /// Appends the lines of the parts that lie one after another.
@@ -20,6 +20,7 @@ pub(crate) fn append_laid(
     requires { parts_end id 0 (map (λ m. m.now) modules.now) ≤ 65535 }
     ensures { OnOk result (text.new.items ≡ text.old.items ++ laid_text commons.now id 0 (map (λ m. m.now) modules.now)) }
 {
+    laid_parts_end_at_words();
     let mut end = 0;
     for source in modules {
         let part = segment_in(source.segments(), id);

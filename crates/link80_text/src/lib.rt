@@ -1,5 +1,6 @@
-//! The map of a link: where the parts of its modules lie in the linked module, and which modules need the names that none
-//! declares. Both are defined in `specs/Parts.antt`.
+//! What LINK prints: parts of a linked module, why modules are taken, and where the cause of a fault is.
+//!
+//! Proved: each part once; BY needs the name, is nearest to the roots, and leads to one; the causes are those of the fault.
 //!
 //! | Item | What it is |
 //! |---|---|
@@ -19,6 +20,7 @@ mod named;
 mod parts;
 mod reasons;
 mod unresolved;
+mod words;
 
 pub use causes::{LinkSources, append_cause};
 pub use modules::linked_modules;

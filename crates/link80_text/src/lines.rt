@@ -1,12 +1,12 @@
 //! The line of a part.
 
 ghost use Rattle.std.specs.Prelude.{◌≡◌, ◌++◌, OnOk};
-ghost use Rattle.omf_parts.specs.Segments.{is_used};
-ghost use Rattle.link80_text.specs.Parts.{name_part, extent_of, owner_of, line_of, part_line};
+ghost use Rattle.link80_text.specs.Parts.{extent_of, owner_of, line_of, part_line};
 
 use omf_core::Name;
 use omf_core::segment_id::word_of;
-use omf_parts::{Common, Segment};
+use omf_parts::{Common, Segment, is_used};
+use omf_text::append_common;
 use std::alloc::AllocError;
 use text80::word_digits;
 
@@ -26,13 +26,6 @@ pub(crate) fn append_part(
     } else {
         Ok(())
     }
-}
-
-/// Whether a part has bytes or is paged.
-fn is_used(part: Segment) -> bool
-    ensures { result ≡ is_used part }
-{
-    0 < part.length || part.paged
 }
 
 /// Appends the line of a part.
@@ -72,23 +65,9 @@ fn append_owner(
     ensures { OnOk result (text.new.items ≡ text.old.items ++ owner_of commons.now id name.now) }
 {
     text.extend_from_slice(word_of(id))?;
-    append_name(text, commons, id)?;
+    append_common(text, commons, id)?;
     text.push(b' ')?;
     text.extend_from_slice(name.bytes())?;
     text.push(b'\n')?;
-    Ok(())
-}
-
-/// Appends a blank and the name of the common of this id, if it has one.
-fn append_name(text: &mut Vec<u8>, commons: &[Common], id: u8) -> Result<(), AllocError>
-    ensures { OnOk result (text.new.items ≡ text.old.items ++ name_part commons.now id) }
-{
-    for common in commons {
-        if common.id == id {
-            text.push(b' ')?;
-            text.extend_from_slice(common.name.bytes())?;
-            return Ok(());
-        }
-    }
     Ok(())
 }

@@ -10,7 +10,7 @@ use omf_parts::Module;
 use std::alloc::{AllocError, Global};
 
 /// The module at a place in the libraries.
-fn module_at(libraries: &[Library], place: Chosen) -> Option<&Module>
+pub(crate) fn module_at(libraries: &[Library], place: Chosen) -> Option<&Module>
     ensures { option_copied result ≡ module_at libraries.now place }
 {
     let library = libraries.get(place.library)?;

@@ -13,6 +13,7 @@ use crate::lines::append_part;
 use crate::modules::linked_modules;
 use crate::named::part_of;
 use link80::Linked;
+use link80::laws::laid_parts_end_at_words;
 use omf_core::segment_id::{CODE, DATA, MEMORY, STACK, UNNAMED_COMMON};
 use omf_library::Library;
 use omf_parts::{Common, Module};
@@ -82,6 +83,7 @@ fn append_segment(
     requires no_fault { link_fault (map (λ m. m.now) modules.now) ≡ None }
     ensures { OnOk result (text.new.items ≡ text.old.items ++ segment_text (map (λ m. m.now) modules.now) id) }
 {
+    laid_parts_end_at_words();
     if is_laid_out(id) {
         append_laid(text, modules, commons, id)
     } else {

@@ -5,6 +5,7 @@ ghost use Rattle.std.specs.List.{flat_map};
 ghost use Rattle.link80_text.specs.Parts.{modules_of, IsMade, needs_name, line_of_need, needing_line, needing_text, unresolved_text};
 
 use crate::modules::linked_modules;
+use crate::words::append_word;
 use link80::Linked;
 use omf_core::Name;
 use omf_library::Library;
@@ -66,18 +67,10 @@ fn append_needing_line(text: &mut Vec<u8>, source: &Module, name: &Name) -> Resu
 fn append_line(text: &mut Vec<u8>, name: &Name, by: &Name) -> Result<(), AllocError>
     ensures { OnOk result (text.new.items ≡ text.old.items ++ line_of_need name.now by.now) }
 {
-    append_named(text, b"UNRESOLVED ".as_slice(), name)?;
-    append_named(text, b" BY ".as_slice(), by)?;
+    append_word(text, b"UNRESOLVED ".as_slice(), name.bytes())?;
+    append_word(text, b" BY ".as_slice(), by.bytes())?;
     text.push(b'\n')?;
     Ok(())
-}
-
-/// Appends a word and a name.
-fn append_named(text: &mut Vec<u8>, word: &[u8], name: &Name) -> Result<(), AllocError>
-    ensures { OnOk result (text.new.items ≡ text.old.items ++ (word.now ++ name.now)) }
-{
-    text.extend_from_slice(word)?;
-    text.extend_from_slice(name.bytes())
 }
 
 /// Whether a module has the name as external.

@@ -1,5 +1,7 @@
 //! The verifying loader: an image is verified and run, and its run is written as a transcript.
 //!
+//! Proved: the promise; the transcript of the run, or the one true refusal.
+//!
 //! | Item | What it is |
 //! |---|---|
 //! | [`vouch`], [`Vouched`], [`run`] | an image is checked, and runs |

@@ -1,5 +1,7 @@
 //! Readers and writers of bytes, whose failures are counted.
 //!
+//! Proved: a source read whole, or the one reason; bytes written whole, or a prefix.
+//!
 //! | Item | What it is |
 //! |---|---|
 //! | [`Source`], [`Sink`] | what gives and takes bytes, and counts the calls that failed |

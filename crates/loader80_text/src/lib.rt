@@ -1,4 +1,6 @@
-//! Texts about runs: the verifier's report on an image that it accepts, bundles that are run whole, and inputs from words.
+//! Texts about runs: the verifier's report, bundles that are run whole, and inputs from words.
+//!
+//! Proved: each procedure's row; what a session on a bundle's three parts writes; the text spells exactly these inputs.
 //!
 //! | Item | What it is |
 //! |---|---|

@@ -1,4 +1,6 @@
-//! A run of a vouched image, seen step by step: the lines of its instructions, and the memory that it leaves.
+//! A run step by step, and code by what is reached, with counts.
+//!
+//! Proved: each line is a world of the run; its memory; its counts; instructions at exactly the addresses that walks reach.
 //!
 //! | Item | What it is |
 //! |---|---|

@@ -1,5 +1,7 @@
 //! One step of the 8080, over any memory and any ports.
 //!
+//! Proved: `step` is the table, for all instructions and ends.
+//!
 //! | Item | What it is |
 //! |---|---|
 //! | [`step`], [`fetch`] | one step with all its checks; the instruction at an address of code |

@@ -1,6 +1,5 @@
 -- What is written of an entry is read as that entry.
-use Rattle.std.proofs.Common.{◌≡◌, ℕ, ◌+◌, ◌*◌, ◌/◌, ◌%◌, Bool, true, false, ◌&&◌, List, [], ◌∷◌, ◌++◌, Result, Ok, Err, refl, ap, ◌∙◌, arith, append_assoc, IsTrue}
-use Rattle.std.specs.Prelude.{if◌then◌else◌}
+use Rattle.std.proofs.Common.{◌≡◌, ℕ, ◌+◌, ◌*◌, ◌/◌, ◌%◌, ◌&&◌, List, [], ◌∷◌, ◌++◌, Result, Ok, Err, ap, ◌∙◌, arith, append_assoc, IsTrue}
 use Rattle.std.proofs.lemmas.Bool.{and_parts, cond-true}
 use Rattle.omf_core.specs.Name.{is_name, name_spelling}
 use Rattle.omf_core.specs.SegmentId.{is_common_id}

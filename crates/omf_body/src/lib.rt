@@ -1,6 +1,8 @@
 //! The bodies of the records of Intel's 8080 object files (OMF-80), typed: what each field of a record says, read in place
 //! and written back.
 //!
+//! Proved: read exactly if its bytes spell it; written and read back the same.
+//!
 //! | Item | What it is |
 //! |---|---|
 //! | [`parse`], [`Body`] | a record's body, or its first fault; it borrows from the file and takes no memory |

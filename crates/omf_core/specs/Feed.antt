@@ -1,6 +1,6 @@
 -- Files in pieces: the records that bytes hold from their start on, and the fault at which they stop.
 -- (8080 Object Module Formats: an end-of-file record is the last of a file. What stands after it isn't read.)
-use Rattle.std.specs.Prelude.{◌≡◌, ℕ, ◌+◌, ◌<◌, ◌==◌, not, Bool, true, false, List, ◌++◌, length, drop, All, Option, Some, IsTrue}
+use Rattle.std.specs.Prelude.{◌≡◌, ℕ, ◌+◌, ◌==◌, not, Bool, true, false, List, length, drop, Option, Some, IsTrue}
 use Rattle.std.specs.List.{list_all}
 use Rattle.omf_core.specs.declared.fault.RecordFault.{RecordFault}
 use Rattle.omf_core.specs.declared.fault.RecordFault.TheVariants.{Truncated}

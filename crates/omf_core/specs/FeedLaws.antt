@@ -1,5 +1,5 @@
 -- What holds of counts, and of faults that stay whatever bytes follow. (It follows from the layout of records.)
-use Rattle.std.specs.Prelude.{◌≡◌, ℕ, ◌<◌, List, ◌++◌, All}
+use Rattle.std.specs.Prelude.{◌≡◌, ℕ, ◌<◌, List, All}
 use Rattle.omf_core.specs.declared.fault.RecordFault.{RecordFault}
 use Rattle.omf_core.specs.Lasting.{StayLasting}
 use Rattle.omf_core.specs.Feed.{CountsRecords, FirstRecordFault, LastingRecordFault}

@@ -1,5 +1,7 @@
 //! Records and names of Intel's 8080 object files (OMF-80): the lowest layer of the object-file side.
 //!
+//! Proved: a record is read exactly if the bytes spell it, also from pieces.
+//!
 //! - [`next_record`] reads the record that begins at a place, [`is_cut_off`] says whether the bytes end before one does,
 //!   [`put_record`] appends one, and [`sum_of`] is the sum that both use; [`push_word`] and [`push_name`] append what bodies
 //!   are made of, and [`never_too_long`] is for bodies that fit a record;

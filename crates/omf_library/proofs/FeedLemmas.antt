@@ -1,14 +1,14 @@
 -- What stays of a library whatever bytes follow, and what changes where its bytes end.
-use Rattle.std.proofs.Common.{◌≡◌, ◌≢◌, inl, inr, ℕ, ◌+◌, ◌<◌, ◌≤◌, Bool, true, false, if◌then◌else◌, Some, None, List, [], ◌∷◌, ◌++◌, length, drop, refl, sym, ap, subst, ◌∙◌, arith, append_assoc, true≢false}
+use Rattle.std.proofs.Common.{◌≡◌, ◌≢◌, inl, inr, ℕ, ◌+◌, ◌<◌, ◌≤◌, Bool, true, false, Some, None, List, [], ◌∷◌, ◌++◌, length, drop, refl, sym, ap, subst, ◌∙◌, arith, true≢false}
 use Rattle.std.specs.List.{All}
 use Rattle.std.proofs.lemmas.Bool.{cases_lt}
-use Rattle.std.proofs.lemmas.List.{append-nil, drop_all, drop-append-le, length-append}
-use Rattle.std.proofs.lemmas.List.Elements.{All-append, All-nil}
+use Rattle.std.proofs.lemmas.List.{length-append}
 use Rattle.omf_core.specs.declared.fault.RecordFault.{RecordFault}
-use Rattle.omf_core.specs.declared.fault.RecordFault.TheVariants.{Truncated, BadSum, ZeroLength}
+use Rattle.omf_core.specs.declared.fault.RecordFault.TheVariants.{Truncated, BadSum}
 use Rattle.omf_core.specs.Fault.{is_truncation}
-use Rattle.omf_core.specs.Record.{fault_at, is_truncated, has_zero_length, has_zero_sum}
+use Rattle.omf_core.specs.Record.{fault_at}
 use Rattle.omf_core.specs.Records.{RecordValue, SpellsRecords}
+use Rattle.omf_core.specs.Lasting.{last_now, stay_lasting}
 use Rattle.omf_core.specs.Laws.{RecordsStay, ListsStay, OtherFaultsStay, TruncatedCanBeSpoilt}
 use Rattle.omf_body.specs.declared.body.Body.TheVariants.{ModuleHeader}
 use Rattle.omf_body.specs.Bodies.{body_bytes}
@@ -17,11 +17,9 @@ use Rattle.omf_parts.specs.declared.symbols.Common.{Common}
 use Rattle.omf_module.specs.declared.fault.Cause.{Cause}
 use Rattle.omf_module.specs.declared.fault.Cause.TheVariants as cause
 use Rattle.omf_module.specs.declared.pieces.UnfinishedModule.{UnfinishedModule}
-use Rattle.omf_module.specs.Pieces.{BegunModule, IsCutOff, ReadsModule}
-use Rattle.omf_module.specs.declared.module_file.PlacedBody.{PlacedBody}
-use Rattle.omf_module.specs.Records.{SpellsBodies}
-use Rattle.omf_module.specs.Spelled.{SpellsModules, FaultsWithin, no_byte as no_byte_within, no_record as no_record_within, FaultsModule, in_records}
-use Rattle.omf_module.specs.StayLaws.{ModulesStay, BegunModulesStay}
+use Rattle.omf_module.specs.Pieces.{BegunModule, IsCutOff}
+use Rattle.omf_module.specs.Spelled.{SpellsModules, FaultsWithin, no_byte as no_byte_within, no_record as no_record_within}
+use Rattle.omf_module.specs.StayLaws.{ModulesStay, ModulesStand}
 use Rattle.omf_module.specs.Uses.{fault_by}
 use Rattle.omf_library.specs.declared.fault.LibraryFault.{LibraryFault}
 use Rattle.omf_library.specs.declared.fault.LibraryFault.TheVariants.{Module, NotLibrary, CountDiffers, NoEnd, Memory}
@@ -33,7 +31,6 @@ use Rattle.omf_library.specs.Laws.{OneLibraryFault, NeverBothLibrary}
 use Rattle.omf_library.specs.LibraryFeed.{LibraryFeedValue, LastingLibraryFault, OpenLibrary, in_header as counted_in_header, at_record as counted_at_record, in_module as counted_in_module, ended}
 use Rattle.omf_library.specs.Spelled.{is_indexed, BeginsLibrary, SpellsLibrary, FaultsLibraryHeader, no_header_byte, no_header_record, FaultsAt, no_byte, no_record, in_module, FaultsLibrary, in_header, after_header}
 use Rattle.omf_library.specs.Unfinished.{ReadsTo, FaultsWhereCut, truncated_at, no_end_in_module}
-use Rattle.omf_library.proofs.ReadingLemmas.{module_further}
 
 -- ---- what stays
 
@@ -42,10 +39,10 @@ pub record Stay : Type 0 where
   pub records : RecordsStay
   pub lists : ListsStay
   pub modules : ModulesStay
-  pub begun : BegunModulesStay
+  pub stand : ModulesStand
 
-pub of_stay : RecordsStay → ListsStay → ModulesStay → BegunModulesStay → Stay
-of_stay r l m b = record { records = r; lists = l; modules = m; begun = b }
+pub of_stay : RecordsStay → ListsStay → ModulesStay → ModulesStand → Stay
+of_stay r l m o = record { records = r; lists = l; modules = m; stand = o }
 
 begins_stays : Stay → (bytes more : List ℕ) (first said : ℕ) → BeginsLibrary bytes first said
     → BeginsLibrary (bytes ++ more) first said
@@ -58,17 +55,12 @@ begins_stays s bytes more first said b =
       count = b.count;
     }
 
-modules_stay : Stay → (bytes more : List ℕ) (from to : ℕ) (ms : List ModuleValue) → SpellsModules bytes from to ms
-    → SpellsModules (bytes ++ more) from to ms
-modules_stay s bytes more from to [] x = x
-modules_stay s bytes more from to (m ∷ ms) x = (x.0, s.modules bytes more from x.0 m x.1, modules_stay s bytes more x.0 to ms x.2)
-
 pub open_stays : Stay → (bytes more : List ℕ) (said index at : ℕ) (ms : List ModuleValue) (rs : List RecordValue)
     → OpenLibrary bytes said index at ms rs → OpenLibrary (bytes ++ more) said index at ms rs
 open_stays s bytes more said index at ms rs o = record {
   first = o.first;
   begins = begins_stays s bytes more o.first said o.begins;
-  spelled = modules_stay s bytes more o.first index ms o.spelled;
+  spelled = s.modules.all bytes more o.first index ms o.spelled;
   indexed = record { spelled = s.lists bytes more index at rs o.indexed.spelled; kinds = o.indexed.kinds };
 }
 
@@ -79,7 +71,7 @@ library_stays s bytes more ms l = record {
   end = l.end;
   records = l.records;
   begins = begins_stays s bytes more l.first (length ms) l.begins;
-  spelled = modules_stay s bytes more l.first l.index ms l.spelled;
+  spelled = s.modules.all bytes more l.first l.index ms l.spelled;
   indexed = record { spelled = s.lists bytes more l.index l.end l.records l.indexed.spelled; kinds = l.indexed.kinds };
   ends = record {
     next = l.ends.next;
@@ -88,17 +80,12 @@ library_stays s bytes more ms l = record {
   };
 }
 
-reads_module_stays : Stay → (bytes more : List ℕ) (begin here : ℕ) (commons : List Common) → ReadsModule bytes begin here commons
-    → ReadsModule (bytes ++ more) begin here commons
-reads_module_stays s bytes more begin here commons (inl n) = inl n
-reads_module_stays s bytes more begin here commons (inr b) = inr (s.begun bytes more begin here commons b)
-
 pub reads_stay : Stay → (bytes more : List ℕ) (ms : List ModuleValue) (next : UnfinishedModule) (p : Progress)
     → ReadsTo bytes ms next p → ReadsTo (bytes ++ more) ms next p
 reads_stay s bytes more ms next Header r = r
 reads_stay s bytes more ms next (Modules said) r = record {
   so_far = open_stays s bytes more said next.begin next.begin ms [] r.so_far;
-  next_module = reads_module_stays s bytes more next.begin next.here next.commons.items r.next_module;
+  next_module = s.modules.reads bytes more next.begin next.here next.commons.items r.next_module;
 }
 reads_stay s bytes more ms next (Index said at) r =
     record {
@@ -111,72 +98,41 @@ reads_stay s bytes more ms next Ended r = library_stays s bytes more ms r
 
 -- ---- faults of records
 
-past_is_cut_off : (bytes : List ℕ) (at : ℕ) → length bytes ≤ at → IsCutOff bytes at
-past_is_cut_off bytes at past = ap (λ (r : List ℕ). fault_at r at) (drop_all at bytes past)
-
-not_cut_off : (f : RecordFault) (at : ℕ) → is_truncation f ≡ false → Some f ≡ Some (Truncated at) → ⊥
-not_cut_off (Truncated p) at other e = true≢false other
-not_cut_off (BadSum p) at other e = cc
-not_cut_off (ZeroLength p) at other e = cc
-
-pub whole_is_inside : (bytes : List ℕ) (at : ℕ) (f : RecordFault) → is_truncation f ≡ false → fault_at (drop at bytes) at ≡ Some f
-    → at < length bytes
-whole_is_inside bytes at f other x =
-    elim (cases_lt at (length bytes)) [
-      | inl within ↦ within
-      | inr past ↦ absurd (not_cut_off f at other (sym x ∙ past_is_cut_off bytes at past))
+-- one that isn't of a record cut off, after more bytes
+pub record_fault_stays : OtherFaultsStay → (bytes more : List ℕ) (at : ℕ) (f : RecordFault) → is_truncation f ≡ false
+    → fault_at (drop at bytes) at ≡ Some f
+    → (at < length (bytes ++ more)) × (fault_at (drop at (bytes ++ more)) at ≡ Some f)
+record_fault_stays law bytes more at f other x =
+    elim (law bytes more at f x) [
+      | inl cut ↦ absurd (true≢false (sym (ap is_truncation cut) ∙ other))
+      | inr stays ↦ (omega (arith, stays.1, length-append bytes more), stays.2)
     ]
 
-pub more_inside : (bytes more : List ℕ) (at : ℕ) → at < length bytes → at < length (bytes ++ more)
-more_inside bytes more at within = omega (arith, length-append bytes more)
-
-pub record_fault_stays : OtherFaultsStay → (bytes more : List ℕ) (at : ℕ) (f : RecordFault) → is_truncation f ≡ false
-    → fault_at (drop at bytes) at ≡ Some f → fault_at (drop at (bytes ++ more)) at ≡ Some f
-record_fault_stays law bytes more at f other x =
-    let within = whole_is_inside bytes at f other x in
-    ap (λ (r : List ℕ). fault_at r at) (drop-append-le at bytes more (omega arith)) ∙ law (drop at bytes) more at f other x
-
-truncated_here : (t z s : Bool) (at place : ℕ)
-    → (if t then Some (Truncated at) else (if z then Some (ZeroLength at) else (if s then None else Some (BadSum at))))
-    ≡ Some (Truncated place) → place ≡ at
-truncated_here true z s at place e = cc
-truncated_here false true s at place e = cc
-truncated_here false false true at place e = cc
-truncated_here false false false at place e = cc
-
-pub cut_off_here : (bytes : List ℕ) (at : ℕ) (f : RecordFault) → fault_at (drop at bytes) at ≡ Some f → is_truncation f ≡ true
-    → IsCutOff bytes at
-cut_off_here bytes at (Truncated p) x is =
-    let rest = drop at bytes in
-    x ∙ ap (λ (n : ℕ). Some (Truncated n)) (truncated_here (is_truncated rest) (has_zero_length rest) (has_zero_sum rest) at p x)
-cut_off_here bytes at (BadSum p) x is = absurd (true≢false (sym is))
-cut_off_here bytes at (ZeroLength p) x is = absurd (true≢false (sym is))
+pub cut_off_here : OtherFaultsStay → (bytes : List ℕ) (at : ℕ) (f : RecordFault) → fault_at (drop at bytes) at ≡ Some f
+    → is_truncation f ≡ true → IsCutOff bytes at
+cut_off_here law bytes at f x is =
+    elim (law bytes [] at f x) [
+      | inl cut ↦ x ∙ ap Some cut
+      | inr stays ↦ absurd (true≢false (sym is ∙ stays.0))
+    ]
 
 -- ---- a library read so far is inside the bytes
 
-modules_inside : (bytes : List ℕ) (from to : ℕ) (ms : List ModuleValue) → from ≤ length bytes → SpellsModules bytes from to ms
+modules_inside : Stay → (bytes : List ℕ) (from to : ℕ) (ms : List ModuleValue) → from ≤ length bytes → SpellsModules bytes from to ms
     → to ≤ length bytes
-modules_inside bytes from to [] inside s = omega (arith, s)
-modules_inside bytes from to (m ∷ ms) inside s = modules_inside bytes s.0 to ms (module_further bytes from s.0 m s.1).inside s.2
+modules_inside l bytes from to [] inside s = omega (arith, s)
+modules_inside l bytes from to (m ∷ ms) inside s =
+    modules_inside l bytes s.0 to ms (l.stand.further bytes from s.0 m s.1).1 s.2
 
 records_inside : (bytes : List ℕ) (from to : ℕ) (rs : List RecordValue) → from ≤ length bytes → SpellsRecords bytes from to rs
     → to ≤ length bytes
 records_inside bytes from to [] inside s = omega (arith, s)
 records_inside bytes from to (r ∷ rs) inside s = records_inside bytes (from + 4 + length r.body) to rs s.0.within s.1
 
-pub open_inside : (bytes : List ℕ) (said index at : ℕ) (ms : List ModuleValue) (rs : List RecordValue)
+open_inside : Stay → (bytes : List ℕ) (said index at : ℕ) (ms : List ModuleValue) (rs : List RecordValue)
     → OpenLibrary bytes said index at ms rs → at ≤ length bytes
-open_inside bytes said index at ms rs o =
-    records_inside bytes index at rs (modules_inside bytes o.first index ms o.begins.framed.within o.spelled) o.indexed.spelled
-
-bodies_inside : (bytes : List ℕ) (from to : ℕ) (ps : List PlacedBody) → from ≤ length bytes → SpellsBodies bytes from to ps
-    → to ≤ length bytes
-bodies_inside bytes from to [] inside s = omega (arith, s)
-bodies_inside bytes from to (p ∷ ps) inside s = bodies_inside bytes s.1.0 to ps (omega (arith, s.1.1.framed.within)) s.1.2
-
-begun_inside : (bytes : List ℕ) (begin here : ℕ) (commons : List Common) → BegunModule bytes begin here commons
-    → here ≤ length bytes
-begun_inside bytes begin here commons b = bodies_inside bytes b.first here b.bodies b.begins.framed.within b.spelled
+open_inside l bytes said index at ms rs o =
+    records_inside bytes index at rs (modules_inside l bytes o.first index ms o.begins.framed.within o.spelled) o.indexed.spelled
 
 -- ---- the fault of bytes that end
 
@@ -213,71 +169,50 @@ pub record_cut : (bytes : List ℕ) (said index at : ℕ) (ms : List ModuleValue
 record_cut bytes said index at ms rs f o cut w =
     faults_so_far bytes said index at ms rs f o (at_cut bytes at said (length ms) (is_indexed rs) f cut w)
 
--- the fault of a record after the beginning of a module
-begun_faults : (bytes : List ℕ) (begin here : ℕ) (commons : List Common) (why : Cause) → BegunModule bytes begin here commons
-    → FaultsWithin bytes here commons why → FaultsModule bytes begin (fault_by here why)
-begun_faults bytes begin here commons why b x =
-    in_records b.first b.header (fault_by here why) b.begins
-    (record {
-      here = here;
-      before = b.bodies;
-      why = why;
-      spelled = b.spelled;
-      follow = b.follow;
-      faults = subst (λ (c : List Common). FaultsWithin bytes here c why) b.declared x;
-      is = refl;
-    })
-
-begun_faults_at : (bytes : List ℕ) (begin here said found : ℕ) (commons : List Common) (why : Cause)
+begun_faults_at : ModulesStand → (bytes : List ℕ) (begin here said found : ℕ) (commons : List Common) (why : Cause)
     → BegunModule bytes begin here commons → FaultsWithin bytes here commons why
     → FaultsAt bytes begin said found false (of_module (fault_by here why))
-begun_faults_at bytes begin here said found commons why b x =
+begun_faults_at l bytes begin here said found commons why b x =
     in_module b.first (body_bytes (ModuleHeader b.header)) (fault_by here why) refl b.begins.framed
-    (begun_faults bytes begin here commons why b x)
+    (l.faults bytes begin here commons why b x)
 
-pub within_cut : (bytes : List ℕ) (begin here said found : ℕ) (commons : List Common) (f : LibraryFault)
+pub within_cut : ModulesStand → (bytes : List ℕ) (begin here said found : ℕ) (commons : List Common) (f : LibraryFault)
     → BegunModule bytes begin here commons → IsCutOff bytes here
     → FaultsWhereCut bytes here (no_end_in_module here) f → FaultsAt bytes begin said found false f
-within_cut bytes begin here said found commons f b cut w =
+within_cut l bytes begin here said found commons f b cut w =
     elim (cases_lt here (length bytes)) [
       | inl within ↦
           subst (λ (g : LibraryFault). FaultsAt bytes begin said found false g) (sym (w.no_record within))
-          (begun_faults_at bytes begin here said found commons (cause.Record (Truncated here)) b
+          (begun_faults_at l bytes begin here said found commons (cause.Record (Truncated here)) b
           (no_record_within (Truncated here) within cut))
       | inr past ↦
           subst (λ (g : LibraryFault). FaultsAt bytes begin said found false g) (sym (w.no_byte past))
-          (begun_faults_at bytes begin here said found commons cause.NoEnd b (no_byte_within past))
+          (begun_faults_at l bytes begin here said found commons cause.NoEnd b (no_byte_within past))
     ]
 
-pub module_cut : (bytes : List ℕ) (said begin here : ℕ) (ms : List ModuleValue) (commons : List Common) (f : LibraryFault)
+pub module_cut : ModulesStand → (bytes : List ℕ) (said begin here : ℕ) (ms : List ModuleValue) (commons : List Common) (f : LibraryFault)
     → OpenLibrary bytes said begin begin ms [] → BegunModule bytes begin here commons
     → IsCutOff bytes here → FaultsWhereCut bytes here (no_end_in_module here) f → FaultsLibrary bytes f
-module_cut bytes said begin here ms commons f o b cut w =
-    faults_so_far bytes said begin begin ms [] f o (within_cut bytes begin here said (length ms) commons f b cut w)
+module_cut l bytes said begin here ms commons f o b cut w =
+    faults_so_far bytes said begin begin ms [] f o (within_cut l bytes begin here said (length ms) commons f b cut w)
 
 -- ---- where bytes end, no fault lasts
 
 pub lasting_faults_last : LastingFaultsLast
-lasting_faults_last bytes more fault small lasts others small' =
-    subst (λ (b : List ℕ). FaultsLibrary b fault) (sym (append_assoc bytes more others))
-    (lasts (more ++ others) (All-append (λ byte. byte < 256) more others small small'))
-
-pub without_more : (bytes : List ℕ) (f : LibraryFault) → LastingLibraryFault bytes f → FaultsLibrary bytes f
-without_more bytes f lasts =
-    subst (λ (b : List ℕ). FaultsLibrary b f) (append-nil bytes) (lasts [] (All-nil (λ byte. byte < 256)))
+lasting_faults_last = stay_lasting FaultsLibrary
 
 pub first_fault : (bytes : List ℕ) (f : LibraryFault) → OrNoMemory (LastingLibraryFault bytes) f
     → OrNoMemory (FaultsLibrary bytes) f
 first_fault bytes f (inl none) = inl none
-first_fault bytes f (inr lasts) = inr (without_more bytes f lasts)
+first_fault bytes f (inr lasts) = inr (last_now FaultsLibrary bytes f lasts)
 
 -- the fault of a piece that isn't taken
 pub piece_fault : (bytes : List ℕ) (f : LibraryFault) → (f ≢ Memory → LastingLibraryFault bytes f)
     → OrNoMemory (FaultsLibrary bytes) f
-piece_fault bytes (Module g) x = inr (without_more bytes (Module g) (x (λ e. cc)))
-piece_fault bytes NotLibrary x = inr (without_more bytes NotLibrary (x (λ e. cc)))
-piece_fault bytes (CountDiffers said found) x = inr (without_more bytes (CountDiffers said found) (x (λ e. cc)))
-piece_fault bytes (NoEnd at) x = inr (without_more bytes (NoEnd at) (x (λ e. cc)))
+piece_fault bytes (Module g) x = inr (last_now FaultsLibrary bytes (Module g) (x (λ e. cc)))
+piece_fault bytes NotLibrary x = inr (last_now FaultsLibrary bytes NotLibrary (x (λ e. cc)))
+piece_fault bytes (CountDiffers said found) x = inr (last_now FaultsLibrary bytes (CountDiffers said found) (x (λ e. cc)))
+piece_fault bytes (NoEnd at) x = inr (last_now FaultsLibrary bytes (NoEnd at) (x (λ e. cc)))
 piece_fault bytes Memory x = inl refl
 
 -- that of the first one
@@ -302,21 +237,7 @@ changes : OneLibraryFault → (bytes more : List ℕ) (f now later : LibraryFaul
     → All (λ byte. byte < 256) more
     → FaultsLibrary bytes now → FaultsLibrary (bytes ++ more) later → (now ≡ later → ⊥) → ⊥
 changes one bytes more f now later lasts small x y other =
-    other (one bytes now f x (without_more bytes f lasts) ∙ one (bytes ++ more) f later (lasts more small) y)
-
--- bytes that follow a record cut off, which give it a wrong sum
-record Spoilt (bytes : List ℕ) (at : ℕ) : Type 0 where
-  more : List ℕ
-  small : All (λ byte. byte < 256) more
-  fault : fault_at (drop at (bytes ++ more)) at ≡ Some (BadSum at)
-  within : at < length (bytes ++ more)
-
-spoil : TruncatedCanBeSpoilt → (bytes : List ℕ) (at : ℕ) → at ≤ length bytes → IsCutOff bytes at → Spoilt bytes at
-spoil law bytes at inside cut =
-    let more = law (drop at bytes) at cut in
-    let there : fault_at (drop at (bytes ++ more.0)) at ≡ Some (BadSum at) =
-    ap (λ (r : List ℕ). fault_at r at) (drop-append-le at bytes more.0 inside) ∙ more.2 in
-    record { more = more.0; small = more.1; fault = there; within = whole_is_inside (bytes ++ more.0) at (BadSum at) refl there }
+    other (one bytes now f x (last_now FaultsLibrary bytes f lasts) ∙ one (bytes ++ more) f later (lasts more small) y)
 
 abbrev pub spoilt_at : ℕ → LibraryFault
 spoilt_at at = Module (fault_by at (cause.Record (BadSum at)))
@@ -365,24 +286,24 @@ of_change s t o n = record { stay = s; spoilt = t; one_fault = o; never_both = n
 pub counted_have_none : Change → CountedHaveNone
 counted_have_none l bytes count f (counted_in_header cut none) lasts =
     let now = cut_at bytes 0 NotLibrary (λ e. cc) in
-    let later = spoil l.spoilt bytes 0 (omega arith) cut in
-    changes l.one_fault bytes later.more f now.fault (spoilt_at 0) lasts later.small (header_cut bytes now.fault cut now.is)
-    (in_header (spoilt_at 0) (no_header_record (BadSum 0) later.within later.fault)) now.other
+    let later = l.spoilt bytes 0 (omega arith) cut in
+    changes l.one_fault bytes later.0 f now.fault (spoilt_at 0) lasts later.1 (header_cut bytes now.fault cut now.is)
+    (in_header (spoilt_at 0) (no_header_record (BadSum 0) later.2 later.3)) now.other
 counted_have_none l bytes count f (counted_at_record said index at ms rs o cut counted) lasts =
     let now = cut_at bytes at (NoEnd at) (λ e. cc) in
-    let later = spoil l.spoilt bytes at (open_inside bytes said index at ms rs o) cut in
-    changes l.one_fault bytes later.more f now.fault (spoilt_at at) lasts later.small
+    let later = l.spoilt bytes at (open_inside l.stay bytes said index at ms rs o) cut in
+    changes l.one_fault bytes later.0 f now.fault (spoilt_at at) lasts later.1
     (record_cut bytes said index at ms rs now.fault o cut now.is)
-    (faults_so_far (bytes ++ later.more) said index at ms rs (spoilt_at at)
-    (open_stays l.stay bytes later.more said index at ms rs o) (no_record (BadSum at) later.within later.fault)) now.other
+    (faults_so_far (bytes ++ later.0) said index at ms rs (spoilt_at at)
+    (open_stays l.stay bytes later.0 said index at ms rs o) (no_record (BadSum at) later.2 later.3)) now.other
 counted_have_none l bytes count f (counted_in_module said at ms o w counted) lasts =
     let now = cut_at bytes w.here (no_end_in_module w.here) (no_end_not_spoilt w.here) in
-    let later = spoil l.spoilt bytes w.here (begun_inside bytes at w.here w.commons w.begun) w.cut_off in
-    changes l.one_fault bytes later.more f now.fault (spoilt_at w.here) lasts later.small
-    (module_cut bytes said at w.here ms w.commons now.fault o w.begun w.cut_off now.is)
-    (faults_so_far (bytes ++ later.more) said at at ms [] (spoilt_at w.here)
-    (open_stays l.stay bytes later.more said at at ms [] o)
-    (begun_faults_at (bytes ++ later.more) at w.here said (length ms) w.commons (cause.Record (BadSum w.here))
-    (l.stay.begun bytes later.more at w.here w.commons w.begun)
-    (no_record_within (BadSum w.here) later.within later.fault))) now.other
-counted_have_none l bytes count f (ended ms s counted) lasts = l.never_both bytes ms f s (without_more bytes f lasts)
+    let later = l.spoilt bytes w.here (l.stay.stand.inside bytes at w.here w.commons w.begun) w.cut_off in
+    changes l.one_fault bytes later.0 f now.fault (spoilt_at w.here) lasts later.1
+    (module_cut l.stay.stand bytes said at w.here ms w.commons now.fault o w.begun w.cut_off now.is)
+    (faults_so_far (bytes ++ later.0) said at at ms [] (spoilt_at w.here)
+    (open_stays l.stay bytes later.0 said at at ms [] o)
+    (begun_faults_at l.stay.stand (bytes ++ later.0) at w.here said (length ms) w.commons (cause.Record (BadSum w.here))
+    (l.stay.modules.begun bytes later.0 at w.here w.commons w.begun)
+    (no_record_within (BadSum w.here) later.2 later.3))) now.other
+counted_have_none l bytes count f (ended ms s counted) lasts = l.never_both bytes ms f s (last_now FaultsLibrary bytes f lasts)

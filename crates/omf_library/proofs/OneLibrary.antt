@@ -22,6 +22,7 @@ use Rattle.omf_library.specs.Fault.{of_module}
 use Rattle.omf_library.specs.FeedLaws.{OneModuleCount}
 use Rattle.omf_library.specs.LibraryFeed.{OpenLibrary, CountsModules, in_header as counted_in_header, at_record as counted_at_record, in_module as counted_in_module, ended}
 use Rattle.omf_library.specs.Unfinished.{no_end_in_module}
+use Rattle.omf_module.specs.StayLaws.{ModulesStand}
 use Rattle.omf_library.proofs.FeedLemmas.{cut_at, no_end_not_spoilt, header_faults, at_cut, within_cut}
 use Rattle.omf_library.specs.Spelled.{is_library_header, is_index_kind, is_indexed, goes_on, fault_of_record, BeginsLibrary, SpellsLibrary, FaultsLibraryHeader, no_header_byte, no_header_record, no_header, FaultsAt, no_byte, no_record, in_module, at_record, in_header, after_header}
 use Rattle.omf_library.specs.Laws.{OneLibrary, OneLibraryFault, NeverBothLibrary}
@@ -383,19 +384,19 @@ fault_counted bytes said index at count ms rs f o x n =
     some ms (Some f) (whole bytes o.first said index at ms rs (Some f) o.begins o.spelled o.indexed.spelled o.indexed.kinds
     (stop_of_fault bytes at said (length ms) (is_indexed rs) f x)) n
 
-counted : (bytes : List ℕ) (count : ℕ) → CountsModules bytes count → Counted bytes count
-counted bytes count (counted_in_header cut zero) =
+counted : ModulesStand → (bytes : List ℕ) (count : ℕ) → CountsModules bytes count → Counted bytes count
+counted l bytes count (counted_in_header cut zero) =
     let now = cut_at bytes 0 NotLibrary (λ e. cc) in
     none now.fault (header_faults bytes now.fault cut now.is) zero
-counted bytes count (counted_at_record said index at ms rs o cut n) =
+counted l bytes count (counted_at_record said index at ms rs o cut n) =
     let now = cut_at bytes at (NoEnd at) (λ e. cc) in
     fault_counted bytes said index at count ms rs now.fault o
     (at_cut bytes at said (length ms) (is_indexed rs) now.fault cut now.is) n
-counted bytes count (counted_in_module said at ms o w n) =
+counted l bytes count (counted_in_module said at ms o w n) =
     let now = cut_at bytes w.here (no_end_in_module w.here) (no_end_not_spoilt w.here) in
     fault_counted bytes said at at count ms [] now.fault o
-    (within_cut bytes at w.here said (length ms) w.commons now.fault w.begun w.cut_off now.is) n
-counted bytes count (ended ms s n) = some ms None (whole_library bytes ms s) n
+    (within_cut l bytes at w.here said (length ms) w.commons now.fault w.begun w.cut_off now.is) n
+counted l bytes count (ended ms s n) = some ms None (whole_library bytes ms s) n
 
 same_count : Below → (bytes : List ℕ) (m n : ℕ) → Counted bytes m → Counted bytes n → m ≡ n
 same_count b bytes m n (none f x zero) (none g y zero') = zero ∙ sym zero'
@@ -404,5 +405,5 @@ same_count b bytes m n (some ms o w e) (none f x zero) = absurd (header_fault_be
 same_count b bytes m n (some ms o v d) (some ns p w e) = d
     ∙ ap (λ (l : List ModuleValue). length l) (one_whole b bytes ms ns o p v w).modules ∙ sym e
 
-pub one_module_count : Below → OneModuleCount
-one_module_count b bytes m n x y = same_count b bytes m n (counted bytes m x) (counted bytes n y)
+pub one_module_count : Below → ModulesStand → OneModuleCount
+one_module_count b l bytes m n x y = same_count b bytes m n (counted l bytes m x) (counted l bytes n y)

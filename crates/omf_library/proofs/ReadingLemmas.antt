@@ -1,46 +1,15 @@
 -- The steps of reading a library.
-use Rattle.std.proofs.Common.{◌≡◌, ◌≢◌, inl, inr, ℕ, ◌<◌, ◌≤◌, true, false, List, [], ◌∷◌, ◌++◌, length, Result, Ok, Err, refl, sym, ap, subst, arith}
+use Rattle.std.proofs.Common.{◌≡◌, ◌≢◌, inl, inr, ℕ, true, false, List, [], ◌∷◌, ◌++◌, Result, Ok, Err, refl, ap}
 use Rattle.std.specs.Prelude.{◌==◌, IfOk, IfErr}
 use Rattle.std.specs.List.{list_all}
 use Rattle.std.proofs.lemmas.Bool.{and_parts}
 use Rattle.std.proofs.lemmas.Bool.Decides.{eqb_tells}
 use Rattle.omf_core.specs.Records.{RecordValue}
-use Rattle.omf_module.specs.declared.module_file.PlacedBody.{PlacedBody}
 use Rattle.omf_parts.specs.Modules.{ModuleValue}
-use Rattle.omf_module.specs.Records.{SpellsBodies}
-use Rattle.omf_module.specs.Spelled.{SpellsModule, SpellsModules}
 use Rattle.omf_library.specs.declared.fault.LibraryFault.{LibraryFault}
 use Rattle.omf_library.specs.Fault.{OrNoMemory, Answers}
 use Rattle.omf_library.specs.Spelled.{is_index_kind, SpellsLibrary, FaultsLibrary}
 use Rattle.omf_library.specs.Laws.{OneLibrary, OneLibraryFault, NeverBothLibrary}
-
--- ---- modules
-
-pub modules_push : (bytes : List ℕ) (from to next : ℕ) (ms : List ModuleValue) (m : ModuleValue) → SpellsModules bytes from to ms
-    → SpellsModule bytes to next m → SpellsModules bytes from next (ms ++ m ∷ [])
-modules_push bytes from to next [] m s one = (next, subst (λ (f : ℕ). SpellsModule bytes f next m) (sym s) one, refl)
-modules_push bytes from to next (n ∷ ms) m s one = (s.0, s.1, modules_push bytes s.0 to next ms m s.2 one)
-
-bodies_further : (bytes : List ℕ) (from to : ℕ) (ps : List PlacedBody) → SpellsBodies bytes from to ps → from ≤ to
-bodies_further bytes from to [] s = omega (arith, s)
-bodies_further bytes from to (p ∷ ps) s = omega (arith, s.1.1.framed.all_counted, bodies_further bytes s.1.0 to ps s.1.2)
-
-pub record Further (bytes : List ℕ) (at after : ℕ) : Type 0 where
-  pub further : at < after
-  pub inside : after ≤ length bytes
-
-pub module_further : (bytes : List ℕ) (at after : ℕ) (m : ModuleValue) → SpellsModule bytes at after m → Further bytes at after
-module_further bytes at after m s = record {
-  further = omega (
-    arith,
-    s.begins,
-    s.spelled.header.framed.all_counted,
-    bodies_further bytes s.spelled.first s.records.end_at
-        s.records.within s.spelled.within,
-    s.spelled.end.framed.all_counted,
-  );
-  inside = s.spelled.end.framed.within;
-}
 
 -- ---- the index
 

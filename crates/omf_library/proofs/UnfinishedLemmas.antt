@@ -26,8 +26,9 @@ use Rattle.omf_library.specs.Fault.{of_module, OrNoMemory}
 use Rattle.omf_library.specs.LibraryFeed.{LastingLibraryFault, OpenLibrary, CountsModules, in_header as counted_in_header, at_record as counted_at_record, in_module as counted_in_module, ended}
 use Rattle.omf_library.specs.Spelled.{is_index_kind, is_indexed, goes_on, is_library_header, BeginsLibrary, no_header_record, no_header, FaultsAt, no_record, in_module, at_record, FaultsLibrary, in_header, after_header}
 use Rattle.omf_library.specs.Unfinished.{ReadsModules, ReadsIndexed, ReadsTo, WaitsTo, left_after, ReadsFurther, ReadsAll, Extends, OtherRecord, HeaderStands, LastingHeaderFault, LastingFaultAt, LeadsTo, LeadsNowhere, FaultsWhereCut, no_end_in_module}
-use Rattle.omf_library.proofs.ReadingLemmas.{modules_push, module_further, other_is, all_with}
-use Rattle.omf_library.proofs.FeedLemmas.{Stay, open_stays, whole_is_inside, more_inside, record_fault_stays, record_cut, module_cut}
+use Rattle.omf_module.specs.StayLaws.{ModulesStand}
+use Rattle.omf_library.proofs.ReadingLemmas.{other_is, all_with}
+use Rattle.omf_library.proofs.FeedLemmas.{Stay, open_stays, record_fault_stays, record_cut, module_cut}
 
 -- ---- faults that last
 
@@ -39,13 +40,12 @@ no_header_lasts law bytes next kind body s other =
 pub header_record_lasts : OtherFaultsStay → (bytes : List ℕ) (f : RecordFault) → is_truncation f ≡ false
     → fault_at (drop 0 bytes) 0 ≡ Some f → LastingHeaderFault bytes (Module (fault_by 0 (cause.Record f)))
 header_record_lasts law bytes f other x = λ more small.
-    no_header_record f (more_inside bytes more 0 (whole_is_inside bytes 0 f other x))
-    (record_fault_stays law bytes more 0 f other x)
+    let stays = record_fault_stays law bytes more 0 f other x in no_header_record f stays.0 stays.1
 
 pub record_lasts : OtherFaultsStay → (bytes : List ℕ) (at : ℕ) (f : RecordFault) → is_truncation f ≡ false
     → fault_at (drop at bytes) at ≡ Some f → LastingFaultAt bytes at (Module (fault_by at (cause.Record f)))
 record_lasts law bytes at f other x = λ said found indexed more small.
-    no_record f (more_inside bytes more at (whole_is_inside bytes at f other x)) (record_fault_stays law bytes more at f other x)
+    let stays = record_fault_stays law bytes more at f other x in no_record f stays.0 stays.1
 
 pub header_lasts : (bytes : List ℕ) (f : LibraryFault) → LastingHeaderFault bytes f → LastingLibraryFault bytes f
 header_lasts bytes f x = λ more small. in_header f (x more small)
@@ -111,22 +111,22 @@ next_begins bytes said after ms next begin here none o = record {
   next_module = inl (here ∙ sym begin, none);
 }
 
-pub one_module_more : (bytes : List ℕ) (said after : ℕ) (ms : List ModuleValue) (m : ModuleValue) (old next : UnfinishedModule)
+pub one_module_more : ModulesStand → (bytes : List ℕ) (said after : ℕ) (ms : List ModuleValue) (m : ModuleValue) (old next : UnfinishedModule)
     → next.begin ≡ after → next.here ≡ after → next.commons.items ≡ []
     → ReadsModules bytes said ms old → SpellsModule bytes old.begin after m
     → ReadsFurther bytes (left_after bytes old (Modules said)) (ms ++ m ∷ []) next (Modules said)
-one_module_more bytes said after ms m old next begin here none r s =
+one_module_more l bytes said after ms m old next begin here none r s =
     let o = r.so_far in
-    let f = module_further bytes old.begin after m s in
+    let f = l.further bytes old.begin after m s in
     record {
       reads = next_begins bytes said after (ms ++ m ∷ []) next begin here none
           (record {
             first = o.first;
             begins = o.begins;
-            spelled = modules_push bytes o.first old.begin after ms m o.spelled s;
+            spelled = l.grow bytes o.first old.begin after ms m o.spelled s;
             indexed = record { spelled = refl; kinds = refl };
           });
-      further = omega (arith, begin, f.further, f.inside);
+      further = omega (arith, begin, f.0, f.1);
     }
 
 some_indexed : (rs : List RecordValue) (r : RecordValue) → is_indexed (rs ++ r ∷ []) ≡ true
@@ -233,21 +233,21 @@ faults_between bytes said ms next f r cut same w =
     record_cut bytes said next.begin next.begin ms [] f r.so_far (subst (λ (a : ℕ). IsCutOff bytes a) same cut)
     (subst (λ (a : ℕ). FaultsWhereCut bytes a (NoEnd a) f) same w)
 
-faults_inside : (bytes : List ℕ) (said : ℕ) (ms : List ModuleValue) (next : UnfinishedModule) (f : LibraryFault)
+faults_inside : ModulesStand → (bytes : List ℕ) (said : ℕ) (ms : List ModuleValue) (next : UnfinishedModule) (f : LibraryFault)
     → ReadsModules bytes said ms next → IsCutOff bytes next.here
     → next.here ≢ next.begin → FaultsWhereCut bytes next.here (no_end_in_module next.here) f → FaultsLibrary bytes f
-faults_inside bytes said ms next f r cut other w =
-    module_cut bytes said next.begin next.here ms next.commons.items f r.so_far
+faults_inside l bytes said ms next f r cut other w =
+    module_cut l bytes said next.begin next.here ms next.commons.items f r.so_far
     (is_begun bytes next.begin next.here next.commons.items r.next_module other) cut w
 
-pub faults_in_modules : (bytes : List ℕ) (said : ℕ) (ms : List ModuleValue) (next : UnfinishedModule) (f : LibraryFault)
+pub faults_in_modules : ModulesStand → (bytes : List ℕ) (said : ℕ) (ms : List ModuleValue) (next : UnfinishedModule) (f : LibraryFault)
     → ReadsModules bytes said ms next → IsCutOff bytes next.here
     → (next.here ≡ next.begin → FaultsWhereCut bytes next.here (NoEnd next.here) f)
     → (next.here ≢ next.begin → FaultsWhereCut bytes next.here (no_end_in_module next.here) f) → FaultsLibrary bytes f
-faults_in_modules bytes said ms next f r cut between inside =
+faults_in_modules l bytes said ms next f r cut between inside =
     elim (eqb_tells next.here next.begin) [
       | inl is ↦ faults_between bytes said ms next f r cut is.1 (between is.1)
-      | inr off ↦ faults_inside bytes said ms next f r cut off.1 (inside off.1)
+      | inr off ↦ faults_inside l bytes said ms next f r cut off.1 (inside off.1)
     ]
 
 pub faults_in_index : (bytes : List ℕ) (said at : ℕ) (ms : List ModuleValue) (f : LibraryFault) → ReadsIndexed bytes said at ms

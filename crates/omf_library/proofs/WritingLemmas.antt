@@ -1,9 +1,10 @@
 -- The steps of writing a library.
-use Rattle.std.proofs.Common.{◌≡◌, ℕ, ◌+◌, ◌*◌, ◌/◌, ◌<◌, ◌≤◌, Bool, true, false, ◌||◌, List, [], ◌∷◌, ◌++◌, length, drop, get_or, refl, sym, ap, ◌∙◌, subst, arith, append_assoc}
+use Rattle.std.proofs.Common.{◌≡◌, ℕ, ◌+◌, ◌*◌, ◌/◌, ◌<◌, ◌≤◌, Bool, true, false, ◌||◌, List, [], ◌∷◌, ◌++◌, length, drop, take, get_or, suc, refl, sym, ap, ◌∙◌, subst, arith, append_assoc}
 use Rattle.std.specs.Prelude.{nat_lt}
 use Rattle.std.specs.List.{flat_map, AllByRecursion}
 use Rattle.std.proofs.lemmas.Bool.{or_parts, ltb-false, ltb-true}
 use Rattle.std.proofs.lemmas.List.{append-nil, drop_more, length-append}
+use Rattle.std.proofs.Math.Seq.{take-suc}
 use Rattle.omf_core.specs.Record.{spelling}
 use Rattle.omf_parts.specs.Modules.{ModuleValue}
 use Rattle.omf_module.specs.Writing.{module_bytes}
@@ -17,29 +18,25 @@ next_module : (ms : List ModuleValue) (i : ℕ) (m : ModuleValue) → i < length
     → drop i ms ≡ m ∷ drop (i + 1) ms
 next_module ms i m within is = drop_more ms i m within ∙ ap (λ (x : ModuleValue). x ∷ drop (i + 1) ms) (sym is)
 
-pub bytes_step : (ms : List ModuleValue) (i : ℕ) (m : ModuleValue) (bytes new : List ℕ) → i < length ms → m ≡ get_or ms i m
-    → new ≡ bytes ++ module_bytes m
-    → bytes ++ flat_map module_bytes (drop i ms) ≡ flat_map module_bytes ms
-    → new ++ flat_map module_bytes (drop (i + 1) ms) ≡ flat_map module_bytes ms
-bytes_step ms i m bytes new within is written inv =
-    ap (λ (x : List ℕ). x ++ flat_map module_bytes (drop (i + 1) ms)) written
-    ∙ append_assoc bytes (module_bytes m) (flat_map module_bytes (drop (i + 1) ms))
-    ∙ ap (λ (l : List ModuleValue). bytes ++ flat_map module_bytes l) (sym (next_module ms i m within is))
-    ∙ inv
+places_push : (at : ℕ) (ms : List ModuleValue) (m : ModuleValue)
+    → places_from at (ms ++ m ∷ []) ≡ places_from at ms ++ (at + length (flat_map module_bytes ms)) ∷ []
+places_push at [] m =
+    let same : at ≡ at + length (flat_map module_bytes []) = omega arith in
+    ap (λ (n : ℕ). n ∷ []) same
+places_push at (n ∷ ms) m =
+    let next = at + length (module_bytes n) in
+    let same : next + length (flat_map module_bytes ms) ≡ at + length (module_bytes n ++ flat_map module_bytes ms) =
+    omega (arith, length-append (module_bytes n) (flat_map module_bytes ms)) in
+    ap (λ (ps : List ℕ). at ∷ ps) (places_push next ms m ∙ ap (λ (k : ℕ). places_from next ms ++ k ∷ []) same)
 
-pub places_step : (ms : List ModuleValue) (i : ℕ) (m : ModuleValue) (bytes new places after : List ℕ) → i < length ms
-    → m ≡ get_or ms i m → new ≡ bytes ++ module_bytes m
-    → after ≡ places ++ (10 + length bytes) ∷ [] → places ++ places_from (10 + length bytes) (drop i ms) ≡ places_from 10 ms
-    → after ++ places_from (10 + length new) (drop (i + 1) ms) ≡ places_from 10 ms
-places_step ms i m bytes new places after within is written pushed inv =
-    let at = 10 + length bytes in
-    let size : 10 + length new ≡ at + length (module_bytes m) =
-    omega (arith, ap (λ (x : List ℕ). length x) written, length-append bytes (module_bytes m)) in
-    ap (λ (x : List ℕ). x ++ places_from (10 + length new) (drop (i + 1) ms)) pushed
-    ∙ ap (λ (n : ℕ). places ++ at ∷ [] ++ places_from n (drop (i + 1) ms)) size
-    ∙ append_assoc places (at ∷ []) (places_from (at + length (module_bytes m)) (drop (i + 1) ms))
-    ∙ ap (λ (l : List ModuleValue). places ++ places_from at l) (sym (next_module ms i m within is))
-    ∙ inv
+pub places_step : (ms : List ModuleValue) (i : ℕ) (m : ModuleValue) (bytes places after : List ℕ) → i < length ms
+    → m ≡ get_or ms i m → bytes ≡ flat_map module_bytes (take i ms) → after ≡ places ++ (10 + length bytes) ∷ []
+    → places ≡ places_from 10 (take i ms) → after ≡ places_from 10 (take (i + 1) ms)
+places_step ms i m bytes places after within is written pushed inv =
+    let next : i + 1 ≡ suc i = omega arith in
+    let more : take (i + 1) ms ≡ take i ms ++ m ∷ [] =
+    ap (λ (k : ℕ). take k ms) next ∙ (take-suc ms i m within ∙ ap (λ (x : ModuleValue). take i ms ++ x ∷ []) (sym is)) in
+    rw (more, pushed, inv, written) (sym (places_push 10 (take i ms) m))
 
 pub read_step : (ms : List ModuleValue) (i : ℕ) (m : ModuleValue) → i < length ms → m ≡ get_or ms i m → IsReadAgain m
     → (AllByRecursion IsReadAgain (drop i ms) → AllByRecursion IsReadAgain ms)

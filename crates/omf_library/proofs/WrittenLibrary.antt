@@ -1,33 +1,14 @@
 -- What is written of a library spells it.
-use Rattle.std.proofs.Common.{◌≡◌, ℕ, ◌+◌, ◌*◌, ◌/◌, ◌%◌, List, [], ◌∷◌, ◌++◌, length, refl, sym, ap, ◌∙◌, subst, arith, append_assoc}
-use Rattle.std.specs.List.{flat_map, AllByRecursion}
+use Rattle.std.proofs.Common.{◌≡◌, ℕ, ◌+◌, ◌*◌, ◌/◌, ◌%◌, List, [], ◌∷◌, ◌++◌, length, refl, sym, ◌∙◌, subst, arith, append_assoc}
+use Rattle.std.specs.List.{flat_map}
 use Rattle.std.proofs.lemmas.List.{append-nil, length-append}
 use Rattle.omf_core.specs.Record.{SpellsRecord, spelling, unsummed, checksum}
 use Rattle.omf_core.specs.Records.{spellings}
 use Rattle.omf_core.specs.Laws.{WrittenIsSpelled, WrittenListIsSpelled}
-use Rattle.omf_parts.specs.Modules.{ModuleValue}
-use Rattle.omf_module.specs.Spelled.{SpellsModule, SpellsModules}
+use Rattle.omf_module.specs.Spelled.{SpellsModules}
 use Rattle.omf_module.specs.Writing.{module_bytes}
-use Rattle.omf_module.specs.WritingLaws.{IsReadAgain}
+use Rattle.omf_module.specs.StayLaws.{ModulesStand}
 use Rattle.omf_library.specs.Writing.{header_body, index_records, library_bytes, WrittenLibraryIsSpelled}
-
-modules_spelled : (before after : List ℕ) (ms : List ModuleValue) → AllByRecursion IsReadAgain ms
-    → SpellsModules (before ++ flat_map module_bytes ms ++ after) (length before) (length (before ++ flat_map module_bytes ms)) ms
-modules_spelled before after [] all = ap length (sym (append-nil before))
-modules_spelled before after (m ∷ ms) all =
-    let rest = flat_map module_bytes ms in
-    let front : before ++ module_bytes m ++ rest ≡ before ++ (module_bytes m ++ rest) =
-    append_assoc before (module_bytes m) rest in
-    let whole : before ++ module_bytes m ++ (rest ++ after) ≡ before ++ (module_bytes m ++ rest) ++ after =
-    sym (append_assoc (before ++ module_bytes m) rest after) ∙ ap (λ (bytes : List ℕ). bytes ++ after) front in
-    let one : SpellsModule (before ++ module_bytes m ++ (rest ++ after)) (length before) (length (before ++ module_bytes m)) m =
-    subst (λ (to : ℕ). SpellsModule (before ++ module_bytes m ++ (rest ++ after)) (length before) to m)
-    (sym (length-append before (module_bytes m))) (all.0 before (rest ++ after)) in (
-      length (before ++ module_bytes m),
-      subst (λ (bytes : List ℕ). SpellsModule bytes (length before) (length (before ++ module_bytes m)) m) whole one,
-      subst (λ (bytes : List ℕ). SpellsModules (bytes ++ after) (length (before ++ module_bytes m)) (length bytes) ms) front
-          (modules_spelled (before ++ module_bytes m) after ms all.1),
-    )
 
 spelling_length : (kind : ℕ) (body : List ℕ) → length (spelling kind body) ≡ 4 + length body
 spelling_length kind body = length-append (unsummed kind body) (checksum (unsummed kind body) ∷ []) ∙ (omega arith)
@@ -35,9 +16,9 @@ spelling_length kind body = length-append (unsummed kind body) (checksum (unsumm
 word_again : (w : ℕ) → w ≡ w % 256 + 256 * (w / 256)
 word_again w = omega arith
 
-pub library_spelled : WrittenIsSpelled → WrittenListIsSpelled → WrittenLibraryIsSpelled
+pub library_spelled : WrittenIsSpelled → WrittenListIsSpelled → ModulesStand → WrittenLibraryIsSpelled
 unfolding library_bytes
-library_spelled law lists ms all =
+library_spelled law lists stand ms all =
     let header = spelling 0x2C (header_body ms) in
     let modules = flat_map module_bytes ms in
     let index = spellings (index_records ms) in
@@ -60,7 +41,7 @@ library_spelled law lists ms all =
         count = word_again (length ms);
       };
       spelled = subst (λ (bytes : List ℕ). SpellsModules bytes (length header) (length (header ++ modules)) ms)
-          (sym (append_assoc (header ++ modules) index end)) (modules_spelled header (index ++ end) ms all);
+          (sym (append_assoc (header ++ modules) index end)) (stand.spelled header (index ++ end) ms all);
       indexed = record { spelled = lists (header ++ modules) end (index_records ms); kinds = refl };
       ends = record {
         next = length (header ++ modules ++ index) + 4 + 0;

@@ -1,15 +1,13 @@
 -- What holds of faults that stay whatever bytes follow. (It follows from the layout of records.)
-use Rattle.std.specs.Prelude.{◌≡◌, ℕ, ◌<◌, List, ◌++◌, All}
+use Rattle.std.specs.Prelude.{◌≡◌, ℕ, List}
+use Rattle.omf_core.specs.Lasting.{StayLasting}
 use Rattle.omf_library.specs.declared.fault.LibraryFault.{LibraryFault}
+use Rattle.omf_library.specs.Spelled.{FaultsLibrary}
 use Rattle.omf_library.specs.LibraryFeed.{CountsModules, LastingLibraryFault}
 
 -- A fault that lasts of some bytes lasts of those and any others.
 abbrev pub LastingFaultsLast : Type 0
-LastingFaultsLast =
-    (bytes more : List ℕ) (fault : LibraryFault)
-    → All (λ byte. byte < 256) more
-    → LastingLibraryFault bytes fault
-    → LastingLibraryFault (bytes ++ more) fault
+LastingFaultsLast = StayLasting FaultsLibrary
 
 -- If the whole modules are counted, no fault lasts.
 abbrev pub CountedHaveNone : Type 0

@@ -1,6 +1,7 @@
 -- Libraries in pieces: how many whole modules bytes hold, and the faults that stay whatever bytes follow.
 -- (8080 Object Module Formats, library file: an end-of-file record is its last. What stands after it isn't read.)
-use Rattle.std.specs.Prelude.{◌≡◌, ℕ, ◌<◌, List, [], ◌++◌, length, All, Option}
+use Rattle.std.specs.Prelude.{◌≡◌, ℕ, List, [], length, Option}
+use Rattle.omf_core.specs.Lasting.{Lasting}
 use Rattle.omf_core.specs.Records.{RecordValue}
 use Rattle.omf_parts.specs.Modules.{ModuleValue}
 use Rattle.omf_module.specs.Spelled.{SpellsModules}
@@ -15,7 +16,7 @@ pub record LibraryFeedValue : Type 0 where
 
 -- The fault is there whatever bytes follow, also if none do.
 abbrev pub LastingLibraryFault : List ℕ → LibraryFault → Type 0
-LastingLibraryFault bytes fault = (more : List ℕ) → All (λ byte. byte < 256) more → FaultsLibrary (bytes ++ more) fault
+LastingLibraryFault = Lasting FaultsLibrary
 
 -- A library begins with a header that says how many modules there are, these modules up to place `index`, and these index
 -- records up to place `at`.

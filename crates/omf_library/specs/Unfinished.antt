@@ -3,6 +3,7 @@
 use Rattle.std.specs.Prelude.{◌≡◌, ◌≢◌, ℕ, ◌+◌, ◌-◌, ◌<◌, ◌≤◌, Bool, false, true, List, [], ◌++◌, length, All, Some}
 use Rattle.omf_core.specs.declared.kind.RecordKind.TheVariants as kind
 use Rattle.omf_core.specs.Kind.{kind_byte}
+use Rattle.omf_core.specs.Lasting.{Lasting}
 use Rattle.omf_core.specs.declared.fault.RecordFault.TheVariants.{Truncated}
 use Rattle.omf_core.specs.Record.{SpellsRecord}
 use Rattle.omf_core.specs.Records.{RecordValue}
@@ -103,7 +104,7 @@ RecordStands bytes at r = (body : List ℕ) × SpellsRecord bytes at r.1 r.0 bod
 
 -- the faults that stay: of the header, and of what stands at a place
 abbrev pub LastingHeaderFault : List ℕ → LibraryFault → Type 0
-LastingHeaderFault bytes fault = (more : List ℕ) → All (λ byte. byte < 256) more → FaultsLibraryHeader (bytes ++ more) fault
+LastingHeaderFault = Lasting FaultsLibraryHeader
 
 abbrev pub LastingFaultAt : List ℕ → ℕ → LibraryFault → Type 0
 LastingFaultAt bytes at fault = (said found : ℕ) (indexed : Bool) (more : List ℕ) → All (λ byte. byte < 256) more

@@ -28,6 +28,7 @@ pub fn written_library_is_spelled()
 {
     written_is_spelled();
     written_list_is_spelled();
+    modules_stay();
 }
 
 /// Bytes hold one number of whole modules.
@@ -37,6 +38,7 @@ pub fn one_module_count()
     one_record_at_each_place();
     no_fault_exactly_at_records();
     one_reading();
+    modules_stay();
 }
 
 /// A fault that lasts of some bytes lasts of those and any others.

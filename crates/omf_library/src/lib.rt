@@ -1,6 +1,8 @@
 //! Libraries of Intel's 8080 object files (OMF-80): modules that a linker takes as they are needed, and how they are read
 //! and written.
 //!
+//! Proved: the same of libraries; the first provider of each name.
+//!
 //! | Item | What it is |
 //! |---|---|
 //! | [`Library`] | the modules of a library, in order; the first that declares a name |

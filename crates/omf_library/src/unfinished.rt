@@ -356,6 +356,7 @@ impl UnfinishedLibrary {
         ensures fault { IfSome result (FaultsLibrary bytes.now) }
         ensures library { result ≡ None → SpellsLibrary bytes.now self.now.modules.items }
     {
+        modules_stay();
         match self.progress {
             Progress::Header => Some(fault_where_cut(bytes, 0, LibraryFault::NotLibrary)),
             Progress::Modules(_) => Some(self.fault_in_modules(bytes)),

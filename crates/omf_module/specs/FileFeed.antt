@@ -1,7 +1,7 @@
 -- Object files in pieces: the whole modules that bytes hold from their start on, and the faults that stay whatever bytes follow.
 -- (8080 Object Module Formats, object file: modules one after another, and an end-of-file record. What stands after it isn't
 -- read.)
-use Rattle.std.specs.Prelude.{◌≡◌, ℕ, ◌<◌, ◌≤◌, Bool, true, false, List, [], ◌++◌, length, All, Option}
+use Rattle.std.specs.Prelude.{◌≡◌, ℕ, ◌<◌, ◌≤◌, Bool, true, false, List, [], ◌++◌, length, Option}
 use Rattle.omf_core.specs.Lasting.{Lasting}
 use Rattle.omf_parts.specs.Modules.{ModuleValue}
 use Rattle.omf_module.specs.declared.fault.ModuleFault.{ModuleFault}

@@ -1,6 +1,6 @@
 -- Files in pieces: how far a module is read whose last bytes are still to come, and the faults that stay whatever bytes follow.
 -- (8080 Object Module Formats, module and object file.)
-use Rattle.std.specs.Prelude.{◌≡◌, ℕ, ◌<◌, List, [], ◌++◌, ◌⊎◌, drop, All, Some, IsTrue}
+use Rattle.std.specs.Prelude.{◌≡◌, ℕ, List, [], ◌⊎◌, drop, Some, IsTrue}
 use Rattle.omf_core.specs.declared.fault.RecordFault.TheVariants.{Truncated}
 use Rattle.omf_core.specs.Record.{fault_at}
 use Rattle.omf_core.specs.Lasting.{Lasting}

@@ -1,6 +1,8 @@
 //! Relocatable modules of Intel's 8080 object files (OMF-80): how they are read and written. What a module holds, and the rules
 //! that it keeps, stand in `omf_parts`, whose names this crate passes on.
 //!
+//! Proved: exactly the modules that the bytes spell, or the first fault; written, they are read back as themselves.
+//!
 //! | Item | What it is |
 //! |---|---|
 //! | [`read_module`], [`read_file`] | the module that begins at a place; the modules of an object file |

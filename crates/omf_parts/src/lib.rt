@@ -1,4 +1,7 @@
-//! What a relocatable module of Intel's 8080 object files (OMF-80) holds, and the rules that it keeps.
+//! What a module holds, and relocations.
+//!
+//! Proved: a module is made exactly of parts that keep the rules; each word is added at its place; LINK and then LOCATE add the sums
+//! once.
 //!
 //! | Item | What it is |
 //! |---|---|

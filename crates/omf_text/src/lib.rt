@@ -1,5 +1,7 @@
 //! What a module of an object file holds, line by line.
 //!
+//! Proved: each field of the module once, in order.
+//!
 //! | Item | What it is |
 //! |---|---|
 //! | [`append_module_text`] | a line for the module, each segment, name and content, and its start |

@@ -5,7 +5,7 @@ use Rattle.std.specs.List.{list_any, AllByRecursion}
 use Rattle.std.proofs.lemmas.Bool.{cases_Bool, or_parts}
 use Rattle.std.proofs.lemmas.Bool.Decides.{nat_tests}
 use Rattle.std.proofs.lemmas.List.FromFn.{length-map-range_with_len}
-use Rattle.std.proofs.lemmas.List.Elements.{All-nil, All-cons, All-head, All-tail, All-from_get_or, recursion_from_All}
+use Rattle.std.proofs.lemmas.List.Elements.{All-head, All-tail, All-from_get_or, recursion_from_All}
 use Rattle.omf_parts.specs.Contents.{ContentValue}
 use Rattle.omf_parts.specs.Segments.{segment_in, has_segment, empty_segment}
 use Rattle.omf_parts.specs.Modules.{ModuleValue}
@@ -22,8 +22,9 @@ use Rattle.place80.specs.Layout.{own_segment, nowhere, placed_in, base_in, top_i
 use Rattle.place80.specs.Locating.{placed_bytes}
 use Rattle.place80.specs.PlaceFault.{passes_memory, is_outside}
 use Rattle.place80.proofs.LayoutLemmas.{length_of_id, layout_lengths, layout_has}
-use Rattle.place80.proofs.LocatedDisjoint.{EndsInMemory, find_none, ends_in_memory}
+use Rattle.place80.proofs.LocatedDisjoint.{EndsInMemory, ends_in_memory}
 use Rattle.place80.proofs.PlaceLemmas.{ModuleLaws, place_of_id}
+use Rattle.place80.proofs.OptionLemmas.{fails_all}
 
 -- what holds of all segments holds of the one of an id that is there, and that one has the id
 found_placed : (P : Placed → Type 0) (id : ℕ) (segments : List Placed) → list_any (λ p. p.id == id) segments ≡ true
@@ -37,13 +38,6 @@ found_placed P id (p ∷ ps) there all =
       | true ↦ λ e _. (All-head P p ps all, eqb-true p.id id e)
       | false ↦ λ _ later. found_placed P id ps later (All-tail P p ps all)
     ]) refl there
-
-none_outside : (contents : List ContentValue) (segments : List Placed) → find (is_outside contents) segments ≡ None
-    → All (λ p. is_outside contents p ≡ false) segments
-none_outside contents [] none = All-nil (λ p. is_outside contents p ≡ false)
-none_outside contents (p ∷ ps) none =
-    let parts = find_none (is_outside contents) p ps none in
-    All-cons (λ q. is_outside contents q ≡ false) p ps parts.0 (none_outside contents ps parts.1)
 
 -- a test that no item passes
 none_passes : {A : Type 0} (test : A → Bool) (xs : List A) (i : ℕ) (d : A) → list_any test xs ≡ false → i < length xs
@@ -96,7 +90,7 @@ content_within laws options m i d sound none below lies not_absolute =
     layout_has options m c.segment (laws.rules m sound).ids lies.has not_absolute in
     let ends = found_placed EndsInMemory c.segment segments there (ends_in_memory m.contents segments none) in
     let inside = found_placed (λ q. is_outside m.contents q ≡ false) c.segment segments there
-    (none_outside m.contents segments none) in
+    (fails_all (is_outside m.contents) segments none) in
     let long = found_placed (λ q. q.length ≡ length_of_id options m q.id) c.segment segments there (layout_lengths options m) in
     let within : c.offset + length c.bytes ≤ p.length =
     elim (cases_Bool (c.segment == 4)) [

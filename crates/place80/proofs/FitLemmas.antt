@@ -14,17 +14,11 @@ use Rattle.place80.specs.declared.placed_segments.Placed.{Placed}
 use Rattle.place80.specs.declared.place_fault.PlaceFault.TheVariants.{OutsideMemory}
 use Rattle.place80.specs.Layout.{layout_of}
 use Rattle.place80.specs.LayoutLaws.{LiesInMemory, AreApart, Fit}
-use Rattle.place80.specs.PlaceFault.{overlaps, is_in_placed, pairs, absolute_place, absolute_places, with_each, all_pairs, ids_of, first_shared, overlap_of, overlap, passes_memory, is_outside, outside_memory, layout_fault}
-use Rattle.place80.proofs.LocatedDisjoint.{find_none}
-use Rattle.place80.proofs.LocatedApart.{none_of_both}
+use Rattle.place80.specs.PlaceFault.{overlaps, is_in_placed, pairs, absolute_place, absolute_places, with_each, all_pairs, first_sharing, overlap_of, overlap, passes_memory, is_outside, outside_memory, layout_fault}
+use Rattle.place80.proofs.OptionLemmas.{find_none, fails_all, none_of_both, none_mapped}
 use Rattle.place80.proofs.OverlapLemmas.{overlap_is_shared_address}
 
 -- ---- tests that find nothing
-
-fails_all : {A : Type 0} (test : A → Bool) (xs : List A) → find test xs ≡ None → All (λ x. test x ≡ false) xs
-fails_all test [] none = All-nil (λ x. test x ≡ false)
-fails_all test (x ∷ xs) none = let parts = find_none test x xs none in
-    All-cons (λ x. test x ≡ false) x xs parts.0 (fails_all test xs parts.1)
 
 finds_none : {A : Type 0} (test : A → Bool) (xs : List A) → All (λ x. test x ≡ false) xs → find test xs ≡ None
 finds_none test [] all = refl
@@ -40,10 +34,6 @@ any_fails_all test (x ∷ xs) none =
 
 both_none : {A : Type 0} (a b : Option A) → a ≡ None → b ≡ None → option_or a b ≡ None
 both_none a b a_none b_none = ap (λ o. option_or o b) a_none ∙ b_none
-
-map_none : {A B : Type 0} (f : A → B) (o : Option A) → option_map f o ≡ None → o ≡ None
-map_none f None none = refl
-map_none f (Some x) none = absurd cc
 
 -- ---- places that share no address
 
@@ -194,9 +184,8 @@ told_none : (m : ModuleValue) (ps : List Placed) → option_or (outside_memory m
 told_none m ps none =
     let both = none_of_both (outside_memory m ps) (overlap m ps) none in
     let outside : find (is_outside m.contents) ps ≡ None =
-    map_none (λ (p : Placed). OutsideMemory p.id) (find (is_outside m.contents) ps) both.0 in
-    let shared : first_shared (all_pairs m ps) ≡ None = map_none overlap_of (first_shared (all_pairs m ps)) both.1 in
-    let found : find overlap_pair (all_pairs m ps) ≡ None = map_none ids_of (find overlap_pair (all_pairs m ps)) shared in
+    none_mapped (λ (p : Placed). OutsideMemory p.id) (find (is_outside m.contents) ps) both.0 in
+    let found : find overlap_pair (all_pairs m ps) ≡ None = none_mapped overlap_of (first_sharing (all_pairs m ps)) both.1 in
     let parts = none_of_both (find overlap_pair (pairs ps)) (find overlap_pair (with_each ps (absolute_places m.contents)))
     (sym (find-append overlap_pair (pairs ps) (with_each ps (absolute_places m.contents))) ∙ found) in
     record {
@@ -215,7 +204,7 @@ fit_none m ps fit =
     ∙ both_none (find overlap_pair (pairs ps)) (find overlap_pair (with_each ps (absolute_places m.contents)))
     (none_of_pairs ps fit.apart) (none_of_contents ps m.contents fit.absolute_apart) in
     both_none (outside_memory m ps) (overlap m ps) (ap (λ o. option_map (λ (p : Placed). OutsideMemory p.id) o) outside)
-    (ap (λ o. option_map overlap_of (option_map ids_of o)) found)
+    (ap (λ o. option_map overlap_of o) found)
 
 pub nothing_told_fit : (options : Options) (m : ModuleValue) → layout_fault options m ≡ None ↔ Fit m (layout_of options m)
 nothing_told_fit options m = (told_none m (layout_of options m), fit_none m (layout_of options m))

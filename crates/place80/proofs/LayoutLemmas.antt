@@ -1,27 +1,19 @@
 -- The placed segments of a program.
 use Rattle.std.proofs.Common.{◌≡◌, ◌≢◌, ℕ, zero, suc, ◌+◌, ◌<◌, ◌≤◌, Bool, true, false, cond, ◌||◌, List, [], ◌∷◌, ◌++◌, refl, sym, ap, subst, ◌∙◌, arith, inl, inr, eqb-true}
-use Rattle.std.specs.Prelude.{◌==◌, Option, None, Some, filter, find, unwrap_or, option_map, All}
+use Rattle.std.specs.Prelude.{◌==◌, None, filter, find, unwrap_or, All}
 use Rattle.std.specs.List.{list_any, range_with_len}
-use Rattle.std.specs.Option.{option_or}
 use Rattle.std.proofs.lemmas.Bool.{cases_Bool, eqb-false}
 use Rattle.std.proofs.lemmas.Bool.Decides.{nat_tests}
 use Rattle.std.proofs.lemmas.List.Elements.{All-nil, All-cons}
-use Rattle.std.proofs.lemmas.List.Folds.{find-append}
+use Rattle.std.proofs.lemmas.List.Folds.{find-append, list_any-append}
 use Rattle.omf_parts.specs.Segments.{has_segment, has_common_id, is_fixed_id}
 use Rattle.omf_parts.specs.Modules.{ModuleValue}
 use Rattle.place80.specs.declared.options.Options.{Options}
 use Rattle.place80.specs.declared.placed_segments.Placed.{Placed}
 use Rattle.place80.specs.Layout.{default_base, common_ids, order_of, given_length, own_segment, common_numbers, placed_after, placed_from, layout_of}
-use Rattle.place80.specs.PlaceFault.{ids_of, overlap_of, first_shared, with_each, is_outside, overlaps, pairs, all_pairs, absolute_places, outside_memory, overlap, layout_fault}
+use Rattle.place80.specs.PlaceFault.{overlap_of, first_sharing, with_each, is_outside, overlaps, pairs, all_pairs, absolute_places, outside_memory, overlap, layout_fault}
 use Rattle.place80.specs.declared.place_fault.PlaceFault.TheVariants.{OutsideMemory}
-
-neither : {A : Type 0} (a b : Option A) → option_or a b ≡ None → (a ≡ None) × (b ≡ None)
-neither None b none = (refl, none)
-neither (Some x) b none = absurd cc
-
-unmapped : {A B : Type 0} (f : A → B) (o : Option A) → option_map f o ≡ None → o ≡ None
-unmapped f None none = refl
-unmapped f (Some x) none = absurd cc
+use Rattle.place80.proofs.OptionLemmas.{none_of_both, none_mapped}
 
 abbrev over_absolute : ModuleValue → List Placed → List (Placed × Placed)
 over_absolute m segments = with_each segments (absolute_places m.contents)
@@ -31,14 +23,13 @@ pub in_memory_and_apart : (options : Options) (m : ModuleValue) → layout_fault
     (find (is_outside m.contents) (layout_of options m) ≡ None)
     × (find (λ pq. overlaps pq.0 pq.1) (pairs (layout_of options m)) ≡ None)
 in_memory_and_apart options m none =
-    let parts = neither (outside_memory m (layout_of options m)) (overlap m (layout_of options m)) none in
+    let parts = none_of_both (outside_memory m (layout_of options m)) (overlap m (layout_of options m)) none in
     let segments : List Placed = layout_of options m in (
-      unmapped (λ (p : Placed). OutsideMemory p.id) (find (is_outside m.contents) segments) parts.0,
-      (neither (find (λ (pq : Placed × Placed). overlaps pq.0 pq.1) (pairs segments))
+      none_mapped (λ (p : Placed). OutsideMemory p.id) (find (is_outside m.contents) segments) parts.0,
+      (none_of_both (find (λ (pq : Placed × Placed). overlaps pq.0 pq.1) (pairs segments))
           (find (λ (pq : Placed × Placed). overlaps pq.0 pq.1) (over_absolute m segments))
           (sym (find-append (λ (pq : Placed × Placed). overlaps pq.0 pq.1) (pairs segments) (over_absolute m segments))
-          ∙ unmapped ids_of (find (λ (pq : Placed × Placed). overlaps pq.0 pq.1) (all_pairs m segments))
-          (unmapped overlap_of (first_shared (all_pairs m segments)) parts.1))).0,
+          ∙ none_mapped overlap_of (first_sharing (all_pairs m segments)) parts.1)).0,
     )
 
 -- the length of each segment is the one that is given, or else its own
@@ -77,16 +68,10 @@ or_true false = refl
 
 -- an item of a part
 any_back : {A : Type 0} (test : A → Bool) (xs ys : List A) → list_any test ys ≡ true → list_any test (xs ++ ys) ≡ true
-any_back test [] ys found = found
-any_back test (x ∷ xs) ys found = ap (λ b. test x || b) (any_back test xs ys found) ∙ or_true (test x)
+any_back test xs ys found = list_any-append test xs ys ∙ ap (λ b. list_any test xs || b) found ∙ or_true (list_any test xs)
 
 any_front : {A : Type 0} (test : A → Bool) (xs ys : List A) → list_any test xs ≡ true → list_any test (xs ++ ys) ≡ true
-any_front test [] ys found = absurd cc
-any_front test (x ∷ xs) ys found =
-    (elim (test x) as (λ b. (b || list_any test xs) ≡ true → (b || list_any test (xs ++ ys)) ≡ true) [
-      | true ↦ λ _. refl
-      | false ↦ λ later. any_front test xs ys later
-    ]) found
+any_front test xs ys found = list_any-append test xs ys ∙ ap (λ b. b || list_any test ys) found
 
 -- a number of a range that passes a test
 any_of_range : (test : ℕ → Bool) (n low id : ℕ) → low ≤ id → id < low + n → test id ≡ true

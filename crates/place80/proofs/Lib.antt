@@ -1,3 +1,4 @@
+pub mod OptionLemmas
 pub mod PairLemmas
 pub mod PlacingLemmas
 pub mod LocatedLemmas
@@ -13,7 +14,5 @@ pub mod LaidOut
 pub mod FitLemmas
 pub mod LocatedRegions
 mod RestartLemmas
-mod CausesPlacingLemmas
-mod CausesOverlapLemmas
 mod TextLemmas
-mod LawLemmas
+mod CauseLemmas

@@ -1,7 +1,6 @@
 -- The ranges of a located program share no address where no two of its segments overlap.
 use Rattle.std.proofs.Common.{◌≡◌, ℕ, ◌+◌, ◌%◌, ◌<◌, ◌≤◌, Bool, true, false, cond, ◌&&◌, ◌||◌, List, [], ◌∷◌, ◌++◌, map, refl, sym, ap, ◌∙◌, arith, inl, inr, true≢false}
-use Rattle.std.specs.Prelude.{not, nat_le, nat_lt, ◌==◌, Option, None, Some, filter, find, unwrap_or, All}
-use Rattle.std.specs.Option.{option_or}
+use Rattle.std.specs.Prelude.{not, nat_le, nat_lt, ◌==◌, None, Some, filter, find, unwrap_or, All}
 use Rattle.std.proofs.lemmas.Bool.{and_parts, cases_Bool, lt-ltb, and_from}
 use Rattle.std.proofs.lemmas.Bool.Decides.{nat_tests}
 use Rattle.std.proofs.lemmas.List.Elements.{All-head, All-tail}
@@ -15,7 +14,8 @@ use Rattle.image80.specs.RegionsText.{filled}
 use Rattle.place80.specs.Layout.{nowhere}
 use Rattle.place80.specs.PlaceFault.{overlaps, pairs}
 use Rattle.place80.specs.Locating.{range_at, located_code, located_stack, located_data}
-use Rattle.place80.proofs.LocatedDisjoint.{EndsInMemory, find_none}
+use Rattle.place80.proofs.LocatedDisjoint.{EndsInMemory}
+use Rattle.place80.proofs.OptionLemmas.{find_none, none_of_both}
 
 -- 1 where the range holds the address, and else 0
 abbrev pub holds : ℕ → Range → ℕ
@@ -151,10 +151,6 @@ none_holds p (q ∷ qs) address ends all none inside =
     let rest : held address (map range_at qs) ≡ 0 =
     none_holds p qs address ends (All-tail EndsInMemory q qs all) parts.1 inside in
     held_more address (range_at q) (map range_at qs) ∙ omega arith
-
-pub none_of_both : {A : Type 0} (a b : Option A) → option_or a b ≡ None → (a ≡ None) × (b ≡ None)
-none_of_both None b none = (refl, none)
-none_of_both (Some x) b none = absurd cc
 
 pub held_once : (address : ℕ) (segments : List Placed) → All EndsInMemory segments
     → find (λ pq. overlaps pq.0 pq.1) (pairs segments) ≡ None →

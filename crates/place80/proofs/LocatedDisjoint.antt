@@ -1,5 +1,5 @@
 -- The ranges of placed segments that lie in memory and of which no two overlap.
-use Rattle.std.proofs.Common.{◌≡◌, ℕ, ◌+◌, ◌<◌, ◌≤◌, Bool, true, false, cond, ◌&&◌, ◌||◌, List, [], ◌∷◌, map, refl, arith}
+use Rattle.std.proofs.Common.{◌≡◌, ℕ, ◌+◌, ◌<◌, ◌≤◌, Bool, true, false, cond, ◌&&◌, ◌||◌, List, [], ◌∷◌, map, arith}
 use Rattle.std.specs.Prelude.{not, nat_lt, ◌==◌, None, Some, filter, find, unwrap_or, All}
 use Rattle.std.specs.List.{list_any}
 use Rattle.std.proofs.lemmas.Bool.{ltb-true, or_parts}
@@ -13,6 +13,7 @@ use Rattle.image80.specs.RegionsText.{filled}
 use Rattle.place80.specs.Layout.{nowhere, placed_in}
 use Rattle.place80.specs.PlaceFault.{passes_memory, is_outside}
 use Rattle.place80.specs.Locating.{range_at, located_code, located_stack, located_data}
+use Rattle.place80.proofs.OptionLemmas.{fails_all}
 
 -- no range of these is empty
 pub filled_not_empty : (ranges : List Range) → All (λ range. 0 < range.length) (filled ranges)
@@ -33,24 +34,15 @@ EndsInMemory p = p.base + p.length ≤ 65536
 abbrev pub HasWord : Placed → Type 0
 HasWord p = p.length < 65536
 
-pub find_none : {A : Type 0} (test : A → Bool) (x : A) (xs : List A) → find test (x ∷ xs) ≡ None
-    → (test x ≡ false) × (find test xs ≡ None)
-find_none test x xs none =
-    (elim (test x) as (λ b. cond b (Some x) (find test xs) ≡ None → (b ≡ false) × (find test xs ≡ None)) [
-      | true ↦ λ wrong. absurd cc
-      | false ↦ λ rest. (refl, rest)
-    ]) none
-
 not_past : (end : ℕ) (other : Bool) → (nat_lt 65536 end || other) ≡ false → end ≤ 65536
 not_past end other inside = let none = or_parts (nat_lt 65536 end) other inside in grind (arith, nat_tests, none.0)
 
 pub ends_in_memory : (contents : List ContentValue) (segments : List Placed) → find (is_outside contents) segments ≡ None
     → All EndsInMemory segments
-ends_in_memory contents [] none = All-nil EndsInMemory
-ends_in_memory contents (p ∷ ps) none =
-    let parts = find_none (is_outside contents) p ps none in
-    All-cons EndsInMemory p ps (not_past (p.base + p.length) (p.id == 4 && list_any (passes_memory p.length) contents) parts.0)
-    (ends_in_memory contents ps parts.1)
+ends_in_memory contents segments none =
+    All-weaker (λ p. is_outside contents p ≡ false) EndsInMemory
+    (λ p inside. not_past (p.base + p.length) (p.id == 4 && list_any (passes_memory p.length) contents) inside) segments
+    (fails_all (is_outside contents) segments none)
 
 -- its range lies in memory
 range_in_memory : (p : Placed) → EndsInMemory p → HasWord p → IsInMemory (range_at p)

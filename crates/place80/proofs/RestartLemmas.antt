@@ -1,32 +1,35 @@
 -- A range at 0 that no segment overlaps, and the three bytes of the restart.
-use Rattle.std.proofs.Common.{◌≡◌, ℕ, ◌+◌, ◌%◌, ◌/◌, ◌<◌, ◌≤◌, Bool, true, false, cond, ◌&&◌, ◌||◌, List, [], ◌∷◌, ◌++◌, map, refl, sym, ap, ◌∙◌, arith, inl, inr, length}
-use Rattle.std.specs.Prelude.{not, nat_le, nat_lt, ◌==◌, Option, None, Some, filter, find, All, slice_index, option_map, if◌then◌else◌}
-use Rattle.std.specs.List.{AllByRecursion}
-use Rattle.std.specs.Option.{option_or}
+use Rattle.std.proofs.Common.{◌≡◌, ℕ, ◌%◌, ◌/◌, Bool, true, false, cond, ◌||◌, List, [], ◌∷◌, ◌++◌, map, refl, sym, ap, ◌∙◌, arith, inl, inr}
+use Rattle.std.specs.Prelude.{not, ◌==◌, None, filter, find, All, if◌then◌else◌}
 use Rattle.std.proofs.lemmas.Bool.{cases_Bool}
 use Rattle.std.proofs.lemmas.Bool.Decides.{nat_tests}
-use Rattle.std.proofs.lemmas.List.Elements.{All-head, All-tail, All-cons, All-nil, All-append}
+use Rattle.std.proofs.lemmas.List.Elements.{All-head, All-tail, All-cons, All-nil}
 use Rattle.image80.specs.declared.range.Range.{Range}
-use Rattle.image80.specs.Range.{in_range, IsInMemory}
+use Rattle.image80.specs.Range.{in_range}
 use Rattle.image80.specs.Image.{PlacedBytes, byte_at, byte_of, covers}
 use Rattle.image80.specs.Memory.{byte_at-snoc}
 use Rattle.image80.specs.Regions.{AreDisjoint, held}
 use Rattle.place80.specs.declared.placed_segments.Placed.{Placed}
-use Rattle.place80.specs.PlaceFault.{overlaps, pairs, first_over}
+use Rattle.place80.specs.PlaceFault.{overlaps, beside_each, pairs, with_each, absolute_places, first_sharing}
 use Rattle.omf_parts.specs.Modules.{ModuleValue}
 use Rattle.omf_parts.specs.ImageByte.{image_byte}
 use Rattle.place80.specs.declared.options.Options.{Options}
 use Rattle.place80.specs.Layout.{program_bases}
 use Rattle.place80.specs.Locating.{HoldsProgram, range_at, located_code, located_stack, located_data}
-use Rattle.place80.specs.Restart.{restart_place, restart_range, restart_chunk, byte_with_restart, HoldsProgramAndRestart}
-use Rattle.place80.proofs.LocatedDisjoint.{EndsInMemory, find_none}
-use Rattle.place80.proofs.LocatedApart.{holds, held_where, held_more, held_append, held_filled, held_stack, held_in_three, held_once, not_in}
+use Rattle.place80.specs.Restart.{restart_place, restart_pairs, restart_range, restart_chunk, byte_with_restart, HoldsProgramAndRestart}
+use Rattle.place80.proofs.LocatedDisjoint.{EndsInMemory}
+use Rattle.place80.proofs.PairLemmas.{sharing_of_both, sharing_beside}
+use Rattle.place80.proofs.LocatedApart.{holds, held_more, held_append, held_filled, held_stack, held_in_three, held_once, not_in}
+use Rattle.place80.proofs.OptionLemmas.{find_none, none_of_both, none_mapped}
 
-none_found : (segments : List Placed) → first_over restart_place segments ≡ None → find (overlaps restart_place) segments ≡ None
-none_found segments none = (elim (find (overlaps restart_place) segments) as (λ o. option_map (λ (p : Placed). p.id) o ≡ None → o ≡ None) [
-  | None ↦ λ e. refl
-  | Some p ↦ λ e. absurd cc
-]) none
+-- nothing shares an address with the restart, so no segment does
+pub none_beside : (m : ModuleValue) (segments : List Placed) → first_sharing (restart_pairs m segments) ≡ None
+    → find (overlaps restart_place) segments ≡ None
+none_beside m segments none =
+    none_mapped (λ q. (restart_place, q)) (find (overlaps restart_place) segments)
+    (sym (sharing_beside restart_place segments)
+    ∙ (none_of_both (first_sharing (beside_each restart_place segments)) (first_sharing (with_each (restart_place ∷ []) (absolute_places m.contents)))
+    (sym (sharing_of_both (beside_each restart_place segments) (with_each (restart_place ∷ []) (absolute_places m.contents))) ∙ none)).0)
 
 -- no segment holds an address of the restart
 none_hold : (ps : List Placed) (address : ℕ) → All EndsInMemory ps → find (overlaps restart_place) ps ≡ None →
@@ -40,7 +43,7 @@ none_hold (q ∷ qs) address ends none inside =
     held_more address (range_at q) (map range_at qs) ∙ omega arith
 
 pub disjoint_with_restart : (segments : List Placed) → All EndsInMemory segments → find (λ pq. overlaps pq.0 pq.1) (pairs segments) ≡ None →
-    first_over restart_place segments ≡ None →
+    find (overlaps restart_place) segments ≡ None →
     AreDisjoint ((located_code segments ++ restart_range ∷ []) ++ located_stack segments ∷ located_data segments)
 disjoint_with_restart segments ends none free address =
     let code = held_filled address (map range_at (filter (λ p. p.id == 1) segments)) in
@@ -55,7 +58,7 @@ disjoint_with_restart segments ends none free address =
     elim (cases_Bool (in_range restart_range address)) [
       | inl e ↦
           let held_one : holds address restart_range ≡ 1 = ap (λ b. cond b 1 0) e in
-          let zero : held address (map range_at segments) ≡ 0 = none_hold segments address ends (none_found segments free) e in
+          let zero : held address (map range_at segments) ≡ 0 = none_hold segments address ends free e in
           omega (arith, code, other, front, more, one, back, stack, three, held_one, zero)
       | inr e ↦
           let held_none : holds address restart_range ≡ 0 = ap (λ b. cond b 1 0) e in

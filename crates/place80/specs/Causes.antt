@@ -1,7 +1,7 @@
 -- Where in a module the cause of a fault of LOCATE is, line by line.
 -- (ISIS-II User's Guide, LOCATE: unresolved references, overlapping and out of bounds segments. The form of the lines is this
 -- project's own.)
-use Rattle.std.specs.Prelude.{ℕ, List, [], ◌∷◌, ◌++◌, codes}
+use Rattle.std.specs.Prelude.{ℕ, ◌%◌, nat_lt, if◌then◌else◌, Option, List, [], ◌∷◌, ◌++◌, codes}
 use Rattle.std.specs.Option.{option_map_or}
 use Rattle.text80.specs.Digits.{word_text}
 use Rattle.omf_core.specs.SegmentId.{code_id, segment_word}
@@ -14,9 +14,10 @@ use Rattle.place80.specs.declared.place_fault.PlaceFault.{PlaceFault}
 use Rattle.place80.specs.declared.place_fault.PlaceFault.TheVariants.{Unresolved, NoStart, OutsideMemory, Overlap, HighNotPaged, StartNotCode, Memory}
 use Rattle.place80.specs.Layout.{layout_of, place_among, placed_in}
 use Rattle.place80.specs.declared.causes.uses.Use.{Use}
-use Rattle.place80.specs.Lines.{common_part, place_words, number_text}
+use Rattle.omf_text.specs.Places.{common_part, place_words}
 use Rattle.place80.specs.Uses.{first_use_of, alike, first_high}
-use Rattle.place80.specs.Places.{first_outside, first_overlap}
+use Rattle.place80.specs.PlaceFault.{first_outside, all_pairs, first_sharing}
+use Rattle.place80.specs.Restart.{restart_pairs}
 
 -- ---- an unresolved name: the first fixup that refers to it, and a public whose name differs in case alone
 
@@ -32,6 +33,11 @@ unresolved_text m name =
 
 -- ---- placed segments: the word, the first address and the length of each
 
+-- An address up to 10000, or a length: four digits, five if it is 10000. No segment before the first that is outside memory ends
+-- above that, so no base of these is greater.
+abbrev pub number_text : ℕ → List ℕ
+number_text n = if nat_lt n 65536 then word_text n else 49 ∷ word_text (n % 65536)
+
 abbrev pub placed_line : List Common → Placed → List ℕ
 placed_line commons p =
     codes "  " ++ (segment_word p.id ++ 32 ∷ (number_text p.base ++ 32 ∷ (number_text p.length ++ (common_part commons p.id ++ 10 ∷ []))))
@@ -41,6 +47,10 @@ outside_text m segments = option_map_or (placed_line m.commons) (first_outside m
 
 abbrev pub pair_lines : List Common → Placed × Placed → List ℕ
 pair_lines commons pq = placed_line commons pq.0 ++ placed_line commons pq.1
+
+-- the first two that share an address, those of the program before those with a restart
+abbrev pub first_overlap : ModuleValue → List Placed → Option (Placed × Placed)
+first_overlap m segments = first_sharing (all_pairs m segments ++ restart_pairs m segments)
 
 abbrev pub overlap_text : ModuleValue → List Placed → List ℕ
 overlap_text m segments = option_map_or (pair_lines m.commons) (first_overlap m segments) []

@@ -1,14 +1,15 @@
 -- What it means that segments are laid out, said of the whole list of them and of each two neighbours, that segments overlap,
 -- and that they fit. (ISIS-II User's Guide, LOCATE: the order of segments, their bases, and the sizes of STACK and MEMORY.)
-use Rattle.std.specs.Prelude.{◌≡◌, ◌↔◌, ℕ, ◌+◌, ◌≤◌, true, false, unwrap_or, None, List, [], ◌∷◌, map, length, All, AllPairs}
-use Rattle.std.specs.List.{AllByRecursion}
+use Rattle.std.specs.Prelude.{◌≡◌, ◌↔◌, ℕ, ◌+◌, ◌≤◌, ◌==◌, true, false, unwrap_or, None, List, [], ◌∷◌, map, length, All, AllPairs, IsTrue}
+use Rattle.std.specs.List.{AllByRecursion, list_any}
 use Rattle.omf_parts.specs.Contents.{ContentValue}
-use Rattle.omf_parts.specs.Segments.{absolute_id, memory_id}
+use Rattle.omf_parts.specs.Segments.{absolute_id, memory_id, has_common_id, has_segment}
 use Rattle.omf_parts.specs.Modules.{ModuleValue}
-use Rattle.omf_parts.specs.Place.{rounded}
+use Rattle.omf_parts.specs.Place.{rounded, place_in}
+use Rattle.omf_parts.specs.Rules.{each_after, is_new_common}
 use Rattle.place80.specs.declared.options.Options.{Options}
 use Rattle.place80.specs.declared.placed_segments.Placed.{Placed}
-use Rattle.place80.specs.Layout.{default_base, order_of, given_base, given_length, own_segment, layout_of}
+use Rattle.place80.specs.Layout.{default_base, order_of, given_base, given_length, own_segment, place_among, bases_of, layout_of}
 use Rattle.place80.specs.PlaceFault.{overlaps, is_in_placed, absolute_place, layout_fault}
 
 -- it has the length that is given for it, or its own
@@ -43,6 +44,18 @@ LayoutIsLaidOut = (options : Options) (m : ModuleValue) → IsLaidOut options m 
 abbrev pub LaidOutInOneWay : Type 0
 LaidOutInOneWay = (options : Options) (m : ModuleValue) (segments : List Placed) → IsLaidOut options m segments
     → segments ≡ layout_of options m
+
+-- each segment that a program has is placed, but the absolute one, if the ids of its named commons are such ids
+abbrev pub SegmentsArePlaced : Type 0
+SegmentsArePlaced = (options : Options) (m : ModuleValue) (id : ℕ)
+    → ((i : ℕ) → has_common_id m.commons i ≡ true → (6 ≤ i) × (i ≤ 254)) → has_segment m.commons id ≡ true → (id == absolute_id) ≡ false
+    → list_any (λ p. p.id == id) (layout_of options m) ≡ true
+
+-- under the bases that placed segments give, an offset in a segment of a program has the place that it has by the segments
+abbrev pub PlacesAreBySegments : Type 0
+PlacesAreBySegments = (segments : List Placed) (m : ModuleValue) (id offset : ℕ)
+    → IsTrue (each_after is_new_common [] m.commons) → has_segment m.commons id ≡ true
+    → place_in (bases_of m.commons segments) (m ∷ []) 0 m id offset ≡ place_among segments id offset
 
 -- two segments overlap exactly where an address lies in both
 abbrev pub OverlapIsASharedAddress : Type 0

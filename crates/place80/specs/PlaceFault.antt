@@ -40,21 +40,24 @@ passes_memory size c = c.segment == memory_id && nat_lt size (c.offset + length 
 abbrev pub is_outside : List ContentValue → Placed → Bool
 is_outside contents p = nat_lt 65536 (p.base + p.length) || (p.id == memory_id && list_any (passes_memory p.length) contents)
 
+abbrev pub first_outside : ModuleValue → List Placed → Option Placed
+first_outside m segments = find (is_outside m.contents) segments
+
 abbrev pub outside_memory : ModuleValue → List Placed → Option PlaceFault
-outside_memory m segments = option_map (λ p. OutsideMemory p.id) (find (is_outside m.contents) segments)
+outside_memory m segments = option_map (λ p. OutsideMemory p.id) (first_outside m segments)
 
 -- an address lies in both
 abbrev pub overlaps : Placed → Placed → Bool
 overlaps p q = nat_lt 0 p.length && nat_lt 0 q.length && nat_lt p.base (q.base + q.length) && nat_lt q.base (p.base + p.length)
 
--- the first of the segments that shares an address with a place, by its id
-abbrev pub first_over : Placed → List Placed → Option ℕ
-first_over place segments = option_map (λ (p : Placed). p.id) (find (overlaps place) segments)
+-- a place with each of others
+abbrev pub beside_each : Placed → List Placed → List (Placed × Placed)
+beside_each place others = map (λ p. (place, p)) others
 
 -- each with each later one, in order
 abbrev pub pairs : List Placed → List (Placed × Placed)
 pairs [] = []
-pairs (p ∷ ps) = map (λ q. (p, q)) ps ++ pairs ps
+pairs (p ∷ ps) = beside_each p ps ++ pairs ps
 
 -- the absolute contents, each as a place of id 0
 abbrev pub absolute_place : ContentValue → Placed
@@ -65,24 +68,22 @@ absolute_places contents = map absolute_place (filter (λ c. c.segment == absolu
 
 -- each of the places with each segment
 abbrev pub with_each : List Placed → List Placed → List (Placed × Placed)
-with_each segments places = flat_map (λ a. map (λ p. (a, p)) segments) places
+with_each segments places = flat_map (λ a. beside_each a segments) places
 
 -- each two segments in order, and then each absolute content with each segment
 abbrev pub all_pairs : ModuleValue → List Placed → List (Placed × Placed)
 all_pairs m segments = pairs segments ++ with_each segments (absolute_places m.contents)
 
--- the first pair that shares an address, by the ids
-abbrev pub ids_of : Placed × Placed → ℕ × ℕ
-ids_of pq = (pq.0.id, pq.1.id)
+-- the first pair that shares an address
+abbrev pub first_sharing : List (Placed × Placed) → Option (Placed × Placed)
+first_sharing pqs = find (λ pq. overlaps pq.0 pq.1) pqs
 
-abbrev pub first_shared : List (Placed × Placed) → Option (ℕ × ℕ)
-first_shared pqs = option_map ids_of (find (λ pq. overlaps pq.0 pq.1) pqs)
-
-abbrev pub overlap_of : ℕ × ℕ → PlaceFault
-overlap_of ids = Overlap ids.0 ids.1
+-- it is reported by the ids
+abbrev pub overlap_of : Placed × Placed → PlaceFault
+overlap_of pq = Overlap pq.0.id pq.1.id
 
 abbrev pub overlap : ModuleValue → List Placed → Option PlaceFault
-overlap m segments = option_map overlap_of (first_shared (all_pairs m segments))
+overlap m segments = option_map overlap_of (first_sharing (all_pairs m segments))
 
 -- a fixup takes the high byte of a word that isn't a multiple of 256
 abbrev pub high_not_paged : Bases → ModuleValue → Option PlaceFault

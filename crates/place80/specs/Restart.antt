@@ -16,7 +16,7 @@ use Rattle.place80.specs.declared.placed_segments.Placed.{Placed}
 use Rattle.place80.specs.declared.place_fault.PlaceFault.{PlaceFault}
 use Rattle.place80.specs.Layout.{layout_of, program_bases}
 use Rattle.place80.specs.Locating.{located_code, located_stack, located_data}
-use Rattle.place80.specs.PlaceFault.{locate_fault, first_over, first_shared, with_each, absolute_places, overlap_of}
+use Rattle.place80.specs.PlaceFault.{locate_fault, beside_each, with_each, absolute_places, first_sharing, overlap_of}
 
 -- the three bytes of the restart, as a place of absolute content, and as a range of code
 abbrev pub restart_place : Placed
@@ -29,15 +29,14 @@ restart_range = record { first = 0; length = 3 }
 abbrev pub restart_chunk : (start : ℕ) → PlacedBytes
 restart_chunk start = record { address = 0; bytes = spelling (Jmp start) }
 
--- the first segment that shares an address with it, or else an absolute content that does
-abbrev pub restart_over : ModuleValue → List Placed → Option (ℕ × ℕ)
-restart_over m segments = option_or
-    (option_map (λ id. (absolute_id, id)) (first_over restart_place segments))
-    (first_shared (with_each (restart_place ∷ []) (absolute_places m.contents)))
+-- the restart with each segment, and each absolute content with the restart
+abbrev pub restart_pairs : ModuleValue → List Placed → List (Placed × Placed)
+restart_pairs m segments = beside_each restart_place segments ++ with_each (restart_place ∷ []) (absolute_places m.contents)
 
 -- why a program can't be located with it: why it can't be located, or else what shares an address with the restart
 abbrev pub restart_fault : Options → ModuleValue → Option PlaceFault
-restart_fault options m = option_or (locate_fault options m) (option_map overlap_of (restart_over m (layout_of options m)))
+restart_fault options m =
+    option_or (locate_fault options m) (option_map overlap_of (first_sharing (restart_pairs m (layout_of options m))))
 
 -- the byte at an address: those of the JMP at 0 to 2, and the program's everywhere else
 abbrev pub byte_with_restart : (start other address : ℕ) → ℕ

@@ -1,7 +1,12 @@
-//! The laws of layouts and of located regions, over the definitions alone.
+//! The laws of layouts, of located regions and of the lines of faults, over the definitions alone.
 
-ghost use Rattle.place80.specs.LayoutLaws.{LayoutIsLaidOut, LaidOutInOneWay, OverlapIsASharedAddress, NoFaultWhereSegmentsFit};
+ghost use Rattle.place80.specs.LayoutLaws.{LayoutIsLaidOut, LaidOutInOneWay, SegmentsArePlaced, PlacesAreBySegments, OverlapIsASharedAddress, NoFaultWhereSegmentsFit};
+ghost use Rattle.place80.specs.CauseLaws.{OutsideIsShown, OverlapIsShown};
 ghost use Rattle.place80.specs.LocatedLaws.{LocatedRegionsHoldSegments};
+
+use omf_parts::relocation_laws::{
+    commons_are_found_by_name, parts_of_one_start_at_zero, sound_modules_keep_rules,
+};
 
 /// The layout of a program is the one list of its segments in which each has its length and stands at the base that is
 /// given for it or follows the one before it.
@@ -9,6 +14,16 @@ pub fn segments_are_laid_out_in_one_way()
     ensures laid_out { LayoutIsLaidOut }
     ensures one_way { LaidOutInOneWay }
 {}
+
+/// Each segment that a program has is placed, but the absolute one; and its bases give offsets the places that the segments give.
+pub fn segments_are_placed()
+    ensures placed { SegmentsArePlaced }
+    ensures places { PlacesAreBySegments }
+{
+    sound_modules_keep_rules();
+    commons_are_found_by_name();
+    parts_of_one_start_at_zero();
+}
 
 /// Two placed segments overlap exactly where an address lies in both.
 pub fn segments_overlap_at_an_address()
@@ -25,4 +40,14 @@ pub fn no_fault_where_segments_fit()
 /// commons, and the stack those of STACK; and the top of their stack is the one that references to STACK are relocated by.
 pub fn located_regions_hold_the_segments()
     ensures { LocatedRegionsHoldSegments }
+{}
+
+/// If `OutsideMemory` is reported, the line is that of a segment with its id, which is outside memory.
+pub fn outside_is_shown()
+    ensures { OutsideIsShown }
+{}
+
+/// If `Overlap` is reported, the lines are those of two segments with its ids, which share an address.
+pub fn overlap_is_shown()
+    ensures { OverlapIsShown }
 {}

@@ -35,11 +35,11 @@ pub fn layout(alloc: Global, program: &Module, options: &Options) -> Result<Layo
     ensures fault { IfErr result (λ fault. (fault ≡ Memory) ⊎ (layout_fault options.now program.now ≡ Some fault)) }
 {
     let segments = place_all(alloc, program, options)?;
-    if let Some(id) = first_outside(program, &segments) {
-        return Err(PlaceFault::OutsideMemory(id));
+    if let Some(placed) = first_outside(program, &segments) {
+        return Err(PlaceFault::OutsideMemory(placed.id));
     }
     if let Some((first, second)) = first_overlap(program, &segments) {
-        return Err(PlaceFault::Overlap(first, second));
+        return Err(PlaceFault::Overlap(first.id, second.id));
     }
     Ok(Layout { segments })
 }
@@ -71,7 +71,11 @@ fn order(alloc: Global, commons: &[Common]) -> Result<Vec<u8>, AllocError>
 }
 
 /// All segments at their places.
-fn place_all(alloc: Global, program: &Module, options: &Options) -> Result<Vec<Placed>, AllocError>
+pub(crate) fn place_all(
+    alloc: Global,
+    program: &Module,
+    options: &Options,
+) -> Result<Vec<Placed>, AllocError>
     ensures places { IfOk result (λ segments. segments.items ≡ layout_of options.now program.now) }
     ensures lengths { IfOk result (λ segments. AllByRecursion (λ p. p.length < 65536) segments.items) }
 {

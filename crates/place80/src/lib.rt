@@ -1,4 +1,6 @@
-//! Where a program lies in the 8080's memory: the places of its segments, and the image of a located program.
+//! LOCATE: programs at their addresses; and where the cause of one of its faults is.
+//!
+//! Proved: at each address the byte that the module defines there, or the first fault; the causes are those of the fault.
 //!
 //! | Item | What it is |
 //! |---|---|
@@ -11,9 +13,8 @@
 //! | [`Regions`], [`Range`], [`Case`], [`RegionMap`] | its regions, which stand there too |
 //! | [`write_regions`], [`read_regions`], [`RegionsFault`] | regions as a text, which stand in `image80` too |
 //! | [`write_regions2`], [`migrate_regions`] | regions as a text of version 2, which stand there too |
-//! | [`laws`] | what holds of the definitions alone |
 //! | [`append_cause`] | the lines of a fault |
-//! | [`laws`] | that the lines of segments which don't fit are of those that the fault names |
+//! | [`laws`] | what holds of the definitions alone |
 #![tactic(auto)]
 
 mod addresses;
@@ -32,7 +33,6 @@ mod restarting;
 
 pub use addresses::place_of;
 pub use causes::append_cause;
-pub use causes::laws::{outside_is_shown, overlap_is_shown};
 pub use image80::{
     Case, Chunk, Image, Range, RegionMap, Regions, RegionsFault, migrate_regions, read_regions,
     write_regions, write_regions2,

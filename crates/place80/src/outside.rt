@@ -1,23 +1,23 @@
 //! Segments that pass the end of memory.
 
-ghost use Rattle.std.specs.Prelude.{◌≡◌, ◌+◌, ◌==◌, ◌&&◌, option_map, find, nat_lt, length};
+ghost use Rattle.std.specs.Prelude.{◌≡◌, ◌+◌, ◌==◌, ◌&&◌, nat_lt, length};
 ghost use Rattle.std.specs.List.{list_any};
-ghost use Rattle.place80.specs.PlaceFault.{passes_memory, is_outside};
-ghost use Rattle.place80.specs.declared.placed_segments.Placed.{Placed};
+ghost use Rattle.place80.specs.PlaceFault.{passes_memory, is_outside, first_outside};
 
 use crate::placed_segments::Placed;
 use omf_body::segment_id::MEMORY;
 use omf_module::{Content, Module};
 
-/// The first segment that is outside memory, by its id.
-pub(crate) fn first_outside(program: &Module, segments: &[Placed]) -> Option<u8>
-    ensures { result ≡ option_map (λ (p : Placed). p.id) (find (is_outside program.now.contents) segments.now) }
+/// The first segment that is outside memory.
+pub(crate) fn first_outside(program: &Module, segments: &[Placed]) -> Option<Placed>
+    ensures { result ≡ first_outside program.now segments.now }
 {
-    let contents = program.contents();
-    let placed = segments
-        .iter()
-        .find(|placed| is_outside(contents, **placed))?;
-    Some(placed.id)
+    for placed in segments {
+        if is_outside(program.contents(), *placed) {
+            return Some(*placed);
+        }
+    }
+    None
 }
 
 /// Whether the segment passes the end of memory, or is MEMORY and no longer holds its content.

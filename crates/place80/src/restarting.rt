@@ -1,17 +1,17 @@
 //! A program at its places with a jump to its start at address 0.
 
-ghost use Rattle.std.specs.Prelude.{◌≡◌, ◌⊎◌, ◌∷◌, ◌++◌, [], None, Some, IfOk, IfErr, OnOk};
+ghost use Rattle.std.specs.Prelude.{◌≡◌, ◌⊎◌, ◌∷◌, ◌++◌, [], find, None, Some, IfOk, IfErr, OnOk};
 ghost use Rattle.place80.specs.Layout.{layout_of};
 ghost use Rattle.place80.specs.Locating.{Fit, located_chunks, program_start};
-ghost use Rattle.place80.specs.PlaceFault.{first_over, first_shared, with_each, absolute_places};
-ghost use Rattle.place80.specs.Restart.{restart_place, restart_chunk, restart_over, restart_fault, HoldsProgramAndRestart, ArrangesWithRestart};
+ghost use Rattle.place80.specs.PlaceFault.{overlaps, first_sharing};
+ghost use Rattle.place80.specs.Restart.{restart_place, restart_pairs, restart_chunk, restart_fault, HoldsProgramAndRestart, ArrangesWithRestart};
 ghost use Rattle.place80.specs.declared.place_fault.PlaceFault.TheVariants.{Memory};
 
 use crate::laying_out::layout;
 use crate::located_regions::{code_ranges, data_ranges, stack_range};
 use crate::locating::locate;
 use crate::options::Options;
-use crate::overlap::{first_over, first_over_absolute};
+use crate::overlap::{Pair, first_beside, first_of_contents};
 use crate::place_fault::PlaceFault;
 use crate::placed_segments::Placed;
 use decode80::{Instr, encode};
@@ -46,39 +46,32 @@ pub fn locate_with_restart(
     let Ok(layout) = layout(alloc, program, options) else {
         return Err(PlaceFault::Memory);
     };
-    match restart_over(program, &layout.segments) {
-        Some((first, second)) => Err(PlaceFault::Overlap(first, second)),
+    match first_over_restart(program, &layout.segments) {
+        Some((first, second)) => Err(PlaceFault::Overlap(first.id, second.id)),
         None => Ok(with_restart(alloc, image, &layout.segments)?),
     }
 }
 
-/// The first segment that has one of the restart's addresses, or else an absolute content that has one, with the restart, which
-/// counts as absolute content.
-fn restart_over(program: &Module, segments: &[Placed]) -> Option<(u8, u8)>
-    ensures { result ≡ restart_over program.now segments.now }
-{
-    match first_over(0, 3, segments) {
-        Some(id) => Some((ABSOLUTE, id)),
-        None => over_contents(program),
-    }
-}
-
-/// An absolute content that has one of the restart's addresses.
-fn over_contents(program: &Module) -> Option<(u8, u8)>
-    ensures { result ≡ first_shared (with_each (restart_place ∷ []) (absolute_places program.now.contents)) }
+/// The restart, which counts as absolute content, with the first segment, or else the first absolute content with the restart.
+#[tactic(auto, using(crate::proofs::PairLemmas::found_first, crate::proofs::PairLemmas::found_among_others))]
+pub(crate) fn first_over_restart(program: &Module, segments: &[Placed]) -> Option<Pair>
+    ensures { result ≡ first_sharing (restart_pairs program.now segments.now) }
 {
     let restart = Placed {
         id: ABSOLUTE,
         base: 0,
         length: 3,
     };
-    first_over_absolute(program.contents(), [restart].as_slice())
+    match first_beside(restart, segments) {
+        Some(pair) => Some(pair),
+        None => first_of_contents(program, [restart].as_slice()),
+    }
 }
 
 /// The image with the restart, whose segments are these.
 fn with_restart(alloc: Global, image: Image, segments: &[Placed]) -> Result<Image, AllocError>
     requires fit { Fit segments.now }
-    requires apart { first_over restart_place segments.now ≡ None }
+    requires apart { find (overlaps restart_place) segments.now ≡ None }
     ensures name { IfOk result (λ made. made.name ≡ image.name) }
     ensures chunks { IfOk result (λ made. made.chunks ≡ image.chunks ++ restart_chunk image.start ∷ []) }
     ensures regions { IfOk result (λ made. ArrangesWithRestart segments.now made.regions) }
@@ -114,7 +107,7 @@ fn chunk_of_restart(alloc: Global, start: u16) -> Result<Chunk, AllocError>
 /// The regions of the segments, with the restart among the code.
 fn regions_with_restart(alloc: Global, segments: &[Placed]) -> Result<Regions, AllocError>
     requires fit { Fit segments.now }
-    requires apart { first_over restart_place segments.now ≡ None }
+    requires apart { find (overlaps restart_place) segments.now ≡ None }
     ensures { IfOk result (ArrangesWithRestart segments.now) }
 {
     let mut code = code_ranges(alloc, segments)?;

@@ -1,2 +1,1 @@
 mod OrderLemmas
-mod NamedModule

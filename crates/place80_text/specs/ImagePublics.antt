@@ -6,10 +6,8 @@ use Rattle.omf_parts.specs.declared.symbols.Public.{Public}
 use Rattle.omf_parts.specs.Segments.{absolute_id}
 use Rattle.omf_parts.specs.Modules.{ModuleValue}
 use Rattle.omf_module.specs.Spelled.{SpellsFile}
-use Rattle.image80.specs.Image.{Located}
 use Rattle.place80.specs.declared.placed_segments.Placed.{Placed}
 use Rattle.place80.specs.Layout.{place_among}
-use Rattle.image80_file.specs.ImageFile.{image_module}
 
 -- a public at its address, which is its offset in the absolute segment
 abbrev pub absolute_public : List Placed → Public → Public
@@ -19,10 +17,6 @@ absolute_public segments public =
 -- the publics of a module at their addresses
 abbrev pub publics_at : List Placed → List Public → List Public
 publics_at segments publics = map (absolute_public segments) publics
-
--- the module of an image, with publics
-abbrev pub named_module : Located → List Public → ModuleValue
-named_module image publics = record (image_module image) { publics = publics }
 
 -- the bytes are an object file, and these are the publics of its modules
 pub record HasPublics (bytes : List ℕ) (publics : List Public) : Type 0 where

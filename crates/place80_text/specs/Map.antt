@@ -1,34 +1,22 @@
 -- The printed map of a program: its segments and its public names, at the addresses where LOCATE puts them.
 -- (ISIS-II User's Guide, LOCATE: the memory map and the symbol table that it lists. The form of the lines is this project's own.)
-use Rattle.std.specs.Prelude.{◌≡◌, ℕ, ◌%◌, ◌==◌, if◌then◌else◌, List, [], ◌∷◌, ◌++◌, codes, filter, find}
+use Rattle.std.specs.Prelude.{◌≡◌, ℕ, ◌%◌, ◌==◌, List, [], ◌∷◌, ◌++◌, filter}
 use Rattle.std.specs.List.{flat_map}
 use Rattle.std.specs.List.Sorted.{IsNonDecreasingBy}
-use Rattle.std.specs.Option.{option_map_or}
 use Rattle.text80.specs.Digits.{word_text}
+use Rattle.omf_core.specs.SegmentId.{segment_word}
 use Rattle.omf_parts.specs.declared.symbols.Common.{Common}
 use Rattle.omf_parts.specs.declared.symbols.Public.{Public}
 use Rattle.omf_parts.specs.Modules.{ModuleValue}
+use Rattle.omf_text.specs.Places.{common_part}
 use Rattle.place80.specs.declared.placed_segments.Placed.{Placed}
 use Rattle.place80.specs.Layout.{place_among}
-
--- the word that the line of a segment begins with
-abbrev pub segment_word : ℕ → List ℕ
-segment_word id =
-    if id == 1 then codes "CODE"
-    else if id == 2 then codes "DATA"
-    else if id == 3 then codes "STACK"
-    else if id == 4 then codes "MEMORY"
-    else codes "COMMON"
-
--- a blank and the name of the common of this id, if it has one
-abbrev pub name_part : List Common → ℕ → List ℕ
-name_part commons id = option_map_or (λ c. 32 ∷ c.name) (find (λ c. c.id == id) commons) []
 
 -- the line of a segment: its word, its first address, its length, and the name of a named common; an empty one at the end of
 -- memory is shown at 0000
 abbrev pub segment_line : List Common → Placed → List ℕ
 segment_line commons p =
-    segment_word p.id ++ 32 ∷ (word_text (p.base % 65536) ++ 32 ∷ (word_text p.length ++ (name_part commons p.id ++ 10 ∷ [])))
+    segment_word p.id ++ 32 ∷ (word_text (p.base % 65536) ++ 32 ∷ (word_text p.length ++ (common_part commons p.id ++ 10 ∷ [])))
 
 -- the address of a public name
 abbrev pub address_of : List Placed → Public → ℕ

@@ -1,4 +1,6 @@
-//! The printed map of a program: where LOCATE puts its segments and its public names.
+//! What LOCATE prints: maps of programs, and public names in an image's file.
+//!
+//! Proved: the places that LOCATE gives, each public name once, at its address; the file is the same image.
 //!
 //! | Item | What it is |
 //! |---|---|

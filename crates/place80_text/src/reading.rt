@@ -7,6 +7,7 @@ ghost use Rattle.omf_module.specs.Spelled.{FaultsFile};
 ghost use Rattle.place80_text.specs.ImagePublics.{HasPublics};
 
 use omf_module::{Module, ModuleFault, Public, read_file};
+use omf_parts::copy_publics;
 use std::alloc::{AllocError, Global};
 
 /// The publics that the object file of an image has, in the order of their records; those of its modules in order, if it has more
@@ -40,25 +41,7 @@ fn append_publics(
     ensures { OnOk result (publics.new.items ≡ publics.old.items ++ flat_map (λ m. m.publics) modules.now) }
 {
     for from in modules {
-        append_copies(alloc, from.publics(), publics)?;
-    }
-    Ok(())
-}
-
-/// Appends a copy of each of the publics.
-fn append_copies(
-    alloc: Global,
-    from: &[Public],
-    publics: &mut Vec<Public>,
-) -> Result<(), AllocError>
-    ensures { OnOk result (publics.new.items ≡ publics.old.items ++ from.now) }
-{
-    for public in from {
-        publics.push(Public {
-            name: public.name.copy(alloc)?,
-            segment: public.segment,
-            offset: public.offset,
-        })?;
+        publics.append(&mut copy_publics(alloc, from.publics())?)?;
     }
     Ok(())
 }

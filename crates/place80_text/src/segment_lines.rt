@@ -2,10 +2,11 @@
 
 ghost use Rattle.std.specs.Prelude.{◌≡◌, ◌<◌, ◌++◌, OnOk};
 ghost use Rattle.std.specs.List.{AllByRecursion, flat_map};
-ghost use Rattle.place80_text.specs.Map.{segment_word, name_part, segment_line};
+ghost use Rattle.place80_text.specs.Map.{segment_line};
 
-use omf_body::segment_id::{CODE, DATA, MEMORY, STACK};
+use omf_core::segment_id::word_of;
 use omf_parts::Common;
+use omf_text::append_common;
 use place80::Placed;
 use std::alloc::AllocError;
 use text80::word_digits;
@@ -35,34 +36,7 @@ fn append_segment(text: &mut Vec<u8>, commons: &[Common], placed: Placed) -> Res
     text.extend_from_slice(&word_digits((placed.base % 65536) as u16))?;
     text.push(b' ')?;
     text.extend_from_slice(&word_digits(placed.length as u16))?;
-    append_name(text, commons, placed.id)?;
+    append_common(text, commons, placed.id)?;
     text.push(b'\n')?;
-    Ok(())
-}
-
-/// The word that the line of a segment begins with.
-fn word_of(id: u8) -> &'static [u8]
-    ensures { result.now ≡ segment_word id }
-{
-    match id {
-        CODE => b"CODE".as_slice(),
-        DATA => b"DATA".as_slice(),
-        STACK => b"STACK".as_slice(),
-        MEMORY => b"MEMORY".as_slice(),
-        _ => b"COMMON".as_slice(),
-    }
-}
-
-/// Appends a blank and the name of the common of this id, if it has one.
-fn append_name(text: &mut Vec<u8>, commons: &[Common], id: u8) -> Result<(), AllocError>
-    ensures { OnOk result (text.new.items ≡ text.old.items ++ name_part commons.now id) }
-{
-    for common in commons {
-        if common.id == id {
-            text.push(b' ')?;
-            text.extend_from_slice(common.name.bytes())?;
-            return Ok(());
-        }
-    }
     Ok(())
 }

@@ -1,5 +1,7 @@
 //! `plm80`: the program, from its arguments, files and standard input to the calls of the layers below.
 //!
+//! Proved: the same.
+//!
 //! | Item | What it is |
 //! |---|---|
 //! | [`bundle`] | one input with an image, regions and inputs, to the transcript of a run |

@@ -1,5 +1,7 @@
 //! What the commands of `plm80` share: their arguments, their files, and their faults, each a line on standard error.
 //!
+//! Proved: files are read whole, or to their first fault; numbers of options.
+//!
 //! | Item | What it is |
 //! |---|---|
 //! | [`Console`] | what a command runs on: reports faults, reads and writes files, prints |

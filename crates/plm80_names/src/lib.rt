@@ -1,5 +1,7 @@
 //! What the commands that print names of addresses share.
 //!
+//! Proved: names are those of the image's file, if asked for; without them a text is as it was; a report and its names.
+//!
 //! | Item | What it is |
 //! |---|---|
 //! | [`NAMES`] | the option by which names are printed |

@@ -1,4 +1,6 @@
-//! The commands for object files and libraries: `link`, `locate`, `lib`, `map`, `module` and `find`.
+//! The commands of object files, libraries and raw bytes.
+//!
+//! Proved: that they keep the contracts of the calls below.
 //!
 //! | Item | What it is |
 //! |---|---|

@@ -1,5 +1,6 @@
-//! The commands on located programs: `list`, `check`, `explain`, `regions`, `cases`, `suggest`, `stores` and `calls`, which look at one
-//! without a run, and `run`, `trace`, `cover` and `inputs`.
+//! The commands of located programs and of their runs.
+//!
+//! Proved: the same.
 //!
 //! | Item | What it is |
 //! |---|---|

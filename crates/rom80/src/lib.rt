@@ -1,6 +1,8 @@
 //! The bytes of a read-only memory: an image's bytes over a range, for a PROM programmer, the image of bytes that were read
 //! from some, and where an image and such bytes differ.
 //!
+//! Proved: the image's byte or the fill; dumps taken out again; where two differ.
+//!
 //! | Item | What it is |
 //! |---|---|
 //! | [`bytes_over`] | the bytes of an image's memory over a range |

@@ -1,6 +1,6 @@
 -- The bytes of contents, placed one content and one fixup after another.
 use Rattle.std.specs.Prelude.{◌≡◌, ℕ, zero, suc, ◌+◌, ◌-◌, ◌<◌, ◌≤◌, ◌&&◌, if◌then◌else◌, Bool, true, false, Option, Some, None, List, [], ◌∷◌, length, map, filter_map, find}
-use Rattle.std.specs.List.{cons_option, AllByRecursion, list_all, range_with_len}
+use Rattle.std.specs.List.{cons_option, list_all, range_with_len}
 use Rattle.std.specs.Option.{option_map_or}
 use Rattle.std.proofs.Common.{refl, sym, ◌∙◌, ap, arith, get_or, drop, drop-cons}
 use Rattle.std.proofs.lemmas.Bool.{and_parts}

@@ -1,15 +1,16 @@
 -- The lines of a module in a dump.
 -- (ISIS-II User's Guide, LOCATE: bases of segments, the top of STACK. The form of the lines is this project's own.)
-use Rattle.std.specs.Prelude.{ℕ, ◌-◌, ◌==◌, nat_lt, if◌then◌else◌, List, [], ◌∷◌, ◌++◌, codes, find, slice_get}
+use Rattle.std.specs.Prelude.{ℕ, ◌-◌, ◌==◌, nat_lt, if◌then◌else◌, List, [], ◌∷◌, ◌++◌, codes, slice_get}
 use Rattle.std.specs.List.{flat_map}
 use Rattle.std.specs.Option.{option_map_or}
 use Rattle.std.specs.Fmt.{decimal}
 use Rattle.text80.specs.Digits.{word_text}
-use Rattle.omf_core.specs.SegmentId.{stack_id, segment_word}
+use Rattle.omf_core.specs.SegmentId.{stack_id}
 use Rattle.omf_parts.specs.declared.fixup.Target.{Target}
 use Rattle.omf_parts.specs.declared.fixup.Target.TheVariants as target
 use Rattle.omf_parts.specs.declared.symbols.Common.{Common}
 use Rattle.omf_parts.specs.Modules.{ModuleValue}
+use Rattle.omf_text.specs.Places.{place_words}
 use Rattle.rom80_find.specs.Modules.{code_length}
 use Rattle.rom80_find.specs.declared.words.Word.{Word}
 
@@ -21,13 +22,9 @@ extent_words address length = codes "MODULE " ++ (word_text address ++ 32 ∷ wo
 abbrev pub heading : ModuleValue → (address : ℕ) → List ℕ
 heading m address = extent_words address (code_length m) ++ 32 ∷ m.name
 
--- a blank and the name of the common of this id, if it has one
-abbrev pub common_part : List Common → ℕ → List ℕ
-common_part commons id = option_map_or (λ c. 32 ∷ c.name) (find (λ c. c.id == id) commons) []
-
 -- a segment, its base, and a named common's name
 abbrev pub base_words : List Common → (id base : ℕ) → List ℕ
-base_words commons id base = 32 ∷ (segment_word id ++ 32 ∷ (word_text base ++ common_part commons id))
+base_words commons id base = 32 ∷ place_words commons id base
 
 -- a target with its word is a base, if it is a segment but STACK
 abbrev pub base_of : List Common → Target → (word : ℕ) → List ℕ

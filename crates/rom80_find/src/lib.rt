@@ -1,4 +1,6 @@
-//! Where the code of a module lies in a dump of a read-only memory, and what its segments and externals are there.
+//! Modules of object files in dumps of PROMs, and what is printed of them.
+//!
+//! Proved: exactly the places at which bases exist; a base or word exactly if it is the only one.
 //!
 //! | Item | What it is |
 //! |---|---|

@@ -1,4 +1,4 @@
-//! Tests of the crates from object files to images, from outside, by their public names.
+//! Tests from object files to images, by public names.
 //!
 //! | Module | What it tests |
 //! |---|---|
@@ -11,12 +11,15 @@
 //! | `library_feeds` | `omf_library`: libraries that come in pieces |
 //! | `faults` | the faults of all four, as they are printed |
 //! | `linking` | `link80`: modules linked into one |
+//! | `building` | `laws80`: modules linked and located in one call |
 //! | `selecting` | `link80`: what is taken from libraries |
 //! | `placing` | `place80`, `image80`: programs located, images and regions |
 #![tactic(auto)]
 
 #[cfg(test)]
 mod bodies;
+#[cfg(test)]
+mod building;
 #[cfg(test)]
 mod faults;
 #[cfg(test)]

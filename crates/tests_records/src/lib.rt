@@ -1,4 +1,4 @@
-//! Tests at the limits, from outside, by public names: of many parts, and if memory runs out.
+//! Tests at the limits: many parts, and calls that run out of memory.
 //!
 //! | Module | What it tests |
 //! |---|---|

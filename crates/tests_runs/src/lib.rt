@@ -1,4 +1,4 @@
-//! Tests of the verifier and the loader from outside, by their public names, each call once if memory is there.
+//! Tests of the machine, the verifier and the loader, by public names.
 //!
 //! | Module | What it tests |
 //! |---|---|

@@ -8,10 +8,13 @@ use std::test::Fail;
 fn each_frame_has_one_number(rt: HostRuntime) -> Result<(), Fail> {
     let mut frames = Frames::new(rt.alloc());
     let entry = frames.entry()?;
+    assert_eq!(rt; frames.taken(entry), 0);
     let pushed = frames.change(entry, Change::PushAny)?;
     assert!(rt; pushed != entry);
+    assert_eq!(rt; frames.taken(pushed), 0);
     let dropped = frames.change(pushed, Change::Drop)?;
     assert_eq!(rt; dropped, entry);
+    assert_eq!(rt; frames.taken(dropped), 0);
     let again = frames.change(dropped, Change::PushAny)?;
     assert_eq!(rt; again, pushed);
     let called = frames.after(again, Role::Entry, 1)?;

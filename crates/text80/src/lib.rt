@@ -1,5 +1,7 @@
 //! Texts that every stage prints and reads: upper case hexadecimal digits.
 //!
+//! Proved: the digits of each byte and word, both ways.
+//!
 //! | Item | What it is |
 //! |---|---|
 //! | [`byte_digits`], [`append_digits`], [`word_digits`] | the digits of a byte, of bytes, of a word |

@@ -1,4 +1,6 @@
-//! The verifier: whether an image may run, and why not.
+//! The verifier: whether an image may run, and why not; and the promise, from tables of frames to runs.
+//!
+//! Proved: the analysis of an image; if a table fits, no run goes wrong, from power-on too.
 //!
 //! | Item | What it is |
 //! |---|---|

@@ -1,5 +1,7 @@
 //! The stack that a program uses: the greatest sum over its chains of calls.
 //!
+//! Proved: the greatest sum, or a call that leads back to its procedure.
+//!
 //! | Item | What it is |
 //! |---|---|
 //! | [`find_bounds`] | the most bytes of stack that each procedure needs, or a call that leads back to its own procedure |

@@ -1,4 +1,6 @@
-//! The calls of a vouched image, procedure by procedure.
+//! The addresses and calls that a program's walks reach, and the calls as lines and as a graph.
+//!
+//! Proved: exactly those of walks, with their depths; each procedure with its bound and its calls; what a bound is made of.
 //!
 //! | Item | What it is |
 //! |---|---|

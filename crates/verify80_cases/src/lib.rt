@@ -1,5 +1,7 @@
 //! Advice on the CASE lines of an image: for each PCHL that no line names yet, the targets that its table gives.
 //!
+//! Proved: targets are entries of a table at an LXI's address, which ends no earlier than it has to.
+//!
 //! | Item | What it is |
 //! |---|---|
 //! | [`suggest_cases`] | the cases that the tables of an image suggest |

@@ -1,5 +1,7 @@
 //! Explanations: why a program is refused, shown by ways through its procedures that lead to the fault.
 //!
+//! Proved: what is shown is there; missing only by the limit or memory.
+//!
 //! It is a second, plain program beside the verifier's: it follows the walks one by one, breadth first, and merges no frames (`verify80_walks`).
 //! What it answers is proved to show what it was asked for, and of the refusals 1 to 16 it gives up only by the limit or memory.
 //!

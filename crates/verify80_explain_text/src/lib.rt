@@ -1,5 +1,7 @@
 //! The text of an explanation: what `explain` prints of the ways, the calls and the chain that it finds.
 //!
+//! Proved: the lines of its definition, for ways, calls and chains; what is printed shows the refusal.
+//!
 //! | Item | What it is |
 //! |---|---|
 //! | [`explanation_text`] | the ways and the calls that show a refusal |

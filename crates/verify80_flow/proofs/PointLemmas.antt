@@ -1,41 +1,22 @@
--- Elements of a list by index after a push and after a write, and what the store of points keeps through each of its changes.
+-- Elements of a list by index after a write, and what the store of points keeps through each of its changes.
 use Rattle.std.proofs.Common.{◌≡◌, ◌<◌, ℕ, zero, suc, Bool, true, false, nat_eq, ◌⊎◌, inl, inr, List, [], ◌∷◌, ◌++◌, Option, Some, None, IfSome, length, slice_get, slice_set, refl, sym, ◌∙◌, ap, subst, arith}
 use Rattle.std.specs.Option.{option_map}
 use Rattle.std.specs.Cmp.{unsigned_Decides, first_so, second_so}
 use Rattle.std.proofs.lemmas.Option.{slice_get-map, same_Some, none-some}
 use Rattle.std.proofs.lemmas.List.{map_push, map-set}
+use Rattle.frames80.specs.Lists.{slice_get-append, slice_get-last, slice_get-push}
 use Rattle.frames80.specs.StackFrame.{StackFrame}
 use Rattle.frames80.specs.declared.procedure.Procedure.{Procedure}
 use Rattle.frames80.specs.declared.procedure.Procedure.TheVariants.{Main, Entry}
 use Rattle.verify80_flow.specs.declared.points.StoredPoint.{StoredPoint}
 use Rattle.frames80_interned.specs.Frames.{frame_at, IsFrame, StayNumbered}
 use Rattle.verify80_flow.proofs.FrameLemmas.{stays_there, stays_at}
-use Rattle.verify80_flow.specs.Points.{Point, with_frame, AreApart, AreAddresses, IsPointAt, IsNoPoint, Reframes}
+use Rattle.verify80_flow.specs.Points.{Point, StoredPoints, with_frame, AreApart, AreAddresses, IsPointAt, IsNoPoint, Reframes}
 use Rattle.frames80.specs.declared.point_numbers.PointNumbers.{PointNumbers}
 use Rattle.frames80.specs.PointNumbers.{procedure_number, number_at, same_place, SameNumbers, Puts, NumbersAreOfAddresses}
 use Rattle.verify80_flow.specs.PointStore.{point_of, points_of, IsStoredAt, AreStored}
 
 module _ {X : Type 0} where
-  -- a push leaves what is there, and adds one at the end
-  pub slice_get-append : (xs ys : List X) (i : ℕ) (x : X) → slice_get xs i ≡ Some x → slice_get (xs ++ ys) i ≡ Some x
-  slice_get-append [] ys i x e = absurd (none-some x e)
-  slice_get-append (z ∷ xs) ys zero x e = e
-  slice_get-append (z ∷ xs) ys (suc i) x e = slice_get-append xs ys i x e
-
-  pub slice_get-last : (xs : List X) (y : X) → slice_get (xs ++ y ∷ []) (length xs) ≡ Some y
-  slice_get-last [] y = refl
-  slice_get-last (z ∷ xs) y = slice_get-last xs y
-
-  pub slice_get-push : (xs : List X) (y : X) (i : ℕ) (x : X) → slice_get (xs ++ y ∷ []) i ≡ Some x → (slice_get xs i ≡ Some x) ⊎ ((i ≡ length xs) × (x ≡ y))
-  slice_get-push [] y zero x e = inr (refl, sym (same_Some y x e))
-  slice_get-push [] y (suc i) x e = absurd (none-some x e)
-  slice_get-push (z ∷ xs) y zero x e = inl e
-  slice_get-push (z ∷ xs) y (suc i) x e = on (slice_get-push xs y i x e)
-    where
-      on : (slice_get xs i ≡ Some x) ⊎ ((i ≡ length xs) × (x ≡ y)) → (slice_get xs i ≡ Some x) ⊎ ((suc i ≡ suc (length xs)) × (x ≡ y))
-      on (inl before) = inl before
-      on (inr last) = inr (ap suc last.0, last.1)
-
   -- a write leaves all but the one that is written
   pub slice_get-set : (xs : List X) (i : ℕ) (y : X) (j : ℕ) (x : X) → slice_get (slice_set xs i y) j ≡ Some x → ((j ≡ i) × (x ≡ y)) ⊎ (slice_get xs j ≡ Some x)
   slice_get-set [] i y j x e = absurd (none-some x e)
@@ -83,12 +64,16 @@ module _ (old new : List StackFrame) (s : StayNumbered old new) where
       let rest = points_of-stays stored (λ i q e. framed (suc i) q e) in
       λ j. here j ∷ rest j
 
-  pub AreStored-stays : (stored : List StoredPoint) (numbers : PointNumbers) → AreStored old stored numbers → AreStored new stored numbers
-  AreStored-stays stored numbers h = record {
-    framed = λ i point e. stays_there old new s point.frame (h.framed i point e);
-    numbered = h.numbered;
-    stands = h.stands;
-  }
+  -- and what is stored is seen as before
+  module _ (stored : List StoredPoint) (numbers : PointNumbers) (h : AreStored old stored numbers) (seen : StoredPoints) (view_is : record { points = points_of old stored; frames = old } ≡ seen) where
+    pub stored_stay : AreStored new stored numbers
+    stored_stay = record { framed = λ i point e. stays_there old new s point.frame (h.framed i point e); numbered = h.numbered; stands = h.stands }
+
+    pub points_stay : points_of new stored ≡ seen.points
+    points_stay = points_of-stays stored h.framed ∙ ap (λ (v : StoredPoints). v.points) view_is
+
+    pub frames_stay : StayNumbered seen.frames new
+    frames_stay = subst (λ (v : StoredPoints). StayNumbered v.frames new) view_is s
 
 -- a stored point and the point that it stands for
 pub point_at : (frames : List StackFrame) (stored : List StoredPoint) (i : ℕ) (point : StoredPoint) → slice_get stored i ≡ Some point → slice_get (points_of frames stored) i ≡ Some (point_of frames point)

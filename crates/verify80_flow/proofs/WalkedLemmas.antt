@@ -17,7 +17,7 @@ use Rattle.verify80_flow.specs.Walks.{Walk, begins, goes_on, enters, comes_back,
 use Rattle.frames80.specs.Effects.{change_of}
 use Rattle.verify80_flow.specs.Walked.{AreWalked, IsCallee, IsMovingFrom, IsWalked}
 use Rattle.verify80_flow.proofs.FrameLemmas.{stays_there, stays_at}
-use Rattle.verify80_flow.proofs.PointLemmas.{slice_get-push}
+use Rattle.frames80.specs.Lists.{slice_get-push}
 
 abbrev pub point_of : Procedure → ℕ → ℕ → WalkedPoint
 point_of p at id = record { procedure = p; at = at; frame = id }

@@ -1,5 +1,7 @@
 //! The verifier's analysis: every walk of every procedure of a program, over any code.
 //!
+//! Proved: reports exactly if nothing is wrong; refuses only for what is there.
+//!
 //! | Item | What it is |
 //! |---|---|
 //! | [`analyze`] | the whole analysis of a program |

@@ -135,7 +135,10 @@ impl Points {
     {
         self.stored[i].frame = frame;
     }
+}
 
+#[tactic(auto, using(crate::proofs::PointLemmas::stored_stay, crate::proofs::PointLemmas::points_stay, crate::proofs::PointLemmas::frames_stay))]
+impl Points {
     /// The number of the frame at the start of a procedure that is called.
     ///
     /// # Errors

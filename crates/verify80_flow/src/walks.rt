@@ -89,18 +89,9 @@ impl Walks {
     {
         match step {
             Step::Begins => self.begin(program),
-            Step::GoesOn(from, to) => match self.point(from) {
-                Some(from) => self.go_on(program, &from, to),
-                None => Ok(None),
-            },
-            Step::Enters(call) => match self.point(call) {
-                Some(call) => self.enter(program, &call),
-                None => Ok(None),
-            },
-            Step::ComesBack(call, exit) => match (self.point(call), self.point(exit)) {
-                (Some(call), Some(exit)) => self.come_back(program, &call, &exit),
-                _ => Ok(None),
-            },
+            Step::GoesOn(from, to) => self.go_on(program, from, to),
+            Step::Enters(call) => self.enter(program, call),
+            Step::ComesBack(call, exit) => self.come_back(program, call, exit),
             Step::Differs(one, other) => match (self.point(one), self.point(other)) {
                 (Some(one), Some(other)) => self.differ(program, &one, &other),
                 _ => Ok(None),
@@ -131,6 +122,36 @@ impl Walks {
         Some(self.points[number])
     }
 
+    /// The point to which a step came, what its instruction does, and the address after it; `None` if it is refused for anything but
+    /// a return's word, or there is no such step.
+    ///
+    /// # Errors
+    /// `ReturnNotOwn`, if it holds.
+    fn moving<C: Code>(
+        &self,
+        program: &C,
+        step: u32,
+    ) -> Result<Option<(WalkedPoint, Effect, u16)>, Refusal>
+        requires { AreWalked (C.code program.now) self.now }
+        ensures point { IfOk result (λ moving. IfSome moving (λ m. IsWalked (C.code program.now) self.now.frames m.0)) }
+        ensures moves { IfOk result (λ moving. IfSome moving (λ m. IsMovingFrom (C.code program.now) self.now.frames m.0 m.1 m.2)) }
+        ensures refused { IfErr result (HoldsAnyway (C.code program.now)) }
+    {
+        let Some(point) = self.point(step) else {
+            return Ok(None);
+        };
+        let Ok(found) = program.look(point.at) else {
+            return Ok(None);
+        };
+        let effect = effect_of(found.instr);
+        let role = role_of(program, point.procedure);
+        match self.frames.fault_of(point.frame, role, effect) {
+            None => Ok(Some((point, effect, found.next))),
+            Some(FrameFault::ReturnNotOwn) => Err(Refusal::ReturnNotOwn(point.at)),
+            Some(_) => Ok(None),
+        }
+    }
+
     /// The main program begins.
     ///
     /// # Errors
@@ -156,16 +177,15 @@ impl Walks {
     fn go_on<C: Code>(
         &mut self,
         program: &C,
-        from: &WalkedPoint,
+        from: u32,
         to: u16,
     ) -> Result<Option<WalkedPoint>, Refusal>
-        requires walked { AreWalked (C.code program.now) self.old }
-        requires from { IsWalked (C.code program.now) self.old.frames from.now }
+        requires { AreWalked (C.code program.now) self.old }
         ensures walked { OnOk result (AreWalked (C.code program.now) self.new) }
         ensures next { IfOk result (λ next. IfSome next (IsWalked (C.code program.now) self.new.frames)) }
         ensures refused { IfErr result (HoldsAnyway (C.code program.now)) }
     {
-        let Some((effect, next)) = look_at(program, &self.frames, from)? else {
+        let Some((from, effect, next)) = self.moving(program, from)? else {
             return Ok(None);
         };
         if !leads_to(effect, program.targets(from.at), next, to) {
@@ -186,18 +206,13 @@ impl Walks {
     ///
     /// # Errors
     /// `ReturnNotOwn`, if it holds; or `Memory`.
-    fn enter<C: Code>(
-        &mut self,
-        program: &C,
-        call: &WalkedPoint,
-    ) -> Result<Option<WalkedPoint>, Refusal>
-        requires walked { AreWalked (C.code program.now) self.old }
-        requires call { IsWalked (C.code program.now) self.old.frames call.now }
+    fn enter<C: Code>(&mut self, program: &C, call: u32) -> Result<Option<WalkedPoint>, Refusal>
+        requires { AreWalked (C.code program.now) self.old }
         ensures walked { OnOk result (AreWalked (C.code program.now) self.new) }
         ensures next { IfOk result (λ next. IfSome next (IsWalked (C.code program.now) self.new.frames)) }
         ensures refused { IfErr result (HoldsAnyway (C.code program.now)) }
     {
-        let Some((effect, _)) = look_at(program, &self.frames, call)? else {
+        let Some((call, effect, _)) = self.moving(program, call)? else {
             return Ok(None);
         };
         let Some(target) = target_of(effect) else {
@@ -218,20 +233,18 @@ impl Walks {
     fn come_back<C: Code>(
         &mut self,
         program: &C,
-        call: &WalkedPoint,
-        exit: &WalkedPoint,
+        call: u32,
+        exit: u32,
     ) -> Result<Option<WalkedPoint>, Refusal>
-        requires walked { AreWalked (C.code program.now) self.old }
-        requires call { IsWalked (C.code program.now) self.old.frames call.now }
-        requires exit { IsWalked (C.code program.now) self.old.frames exit.now }
+        requires { AreWalked (C.code program.now) self.old }
         ensures walked { OnOk result (AreWalked (C.code program.now) self.new) }
         ensures next { IfOk result (λ next. IfSome next (IsWalked (C.code program.now) self.new.frames)) }
         ensures refused { IfErr result (HoldsAnyway (C.code program.now)) }
     {
-        let Some((effect, next)) = look_at(program, &self.frames, call)? else {
+        let Some((call, effect, next)) = self.moving(program, call)? else {
             return Ok(None);
         };
-        let Some((leaving, _)) = look_at(program, &self.frames, exit)? else {
+        let Some((exit, leaving, _)) = self.moving(program, exit)? else {
             return Ok(None);
         };
         if !is_return(leaving) || !is_of_callee(exit.procedure, effect) {
@@ -288,31 +301,6 @@ fn is_one_point(one: &WalkedPoint, other: &WalkedPoint) -> bool
             entry == other_entry && one.at == other.at
         }
         _ => false,
-    }
-}
-
-/// What the instruction of a point does, and the address after it; `None` if it is refused for anything but a return's word.
-///
-/// # Errors
-/// `ReturnNotOwn`, if it holds.
-fn look_at<C: Code>(
-    program: &C,
-    frames: &Frames,
-    point: &WalkedPoint,
-) -> Result<Option<(Effect, u16)>, Refusal>
-    requires { IsWalked (C.code program.now) frames.now point.now }
-    ensures moves { IfOk result (λ moves. IfSome moves (λ m. IsMovingFrom (C.code program.now) frames.now point.now m.0 m.1)) }
-    ensures refused { IfErr result (HoldsAnyway (C.code program.now)) }
-{
-    let Ok(found) = program.look(point.at) else {
-        return Ok(None);
-    };
-    let effect = effect_of(found.instr);
-    let role = role_of(program, point.procedure);
-    match frames.fault_of(point.frame, role, effect) {
-        None => Ok(Some((effect, found.next))),
-        Some(FrameFault::ReturnNotOwn) => Err(Refusal::ReturnNotOwn(point.at)),
-        Some(_) => Ok(None),
     }
 }
 

@@ -1,5 +1,6 @@
-//! Where the words of a program's frames come from: which of them its returns ask for, and a walk to a return that has another word
-//! than its return address. Nothing rests on what is found: frames may forget any word, and each step of a walk is taken again.
+//! Hints for the analysis: in which order points are visited, and where words of frames come from.
+//!
+//! Proved: nothing rests on it.
 //!
 //! | Item | What it is |
 //! |---|---|

@@ -1,5 +1,7 @@
 //! Where the register-indirect stores of a program may go, in all of its runs.
 //!
+//! Proved: each store that isn't listed goes to data, each listed one to its span.
+//!
 //! | Item | What it is |
 //! |---|---|
 //! | [`find_stores`] | goes over a vouched image, and answers which of its stores may leave data |

@@ -1,5 +1,7 @@
 //! Advice on the regions of an image of which nothing is known but its bytes.
 //!
+//! Proved: exactly the code that the program may reach; free stack; named data; `FetchOutside` only if a byte is lacking.
+//!
 //! | Item | What it is |
 //! |---|---|
 //! | [`suggest_regions`] | gives an image the regions that its bytes suggest |

@@ -1,5 +1,7 @@
 //! The walks of a program, followed one by one, breadth first, and never merged: the points that they come to, and how each is reached.
 //!
+//! Proved: each point found is one of a walk; all are found unless they weigh too much.
+//!
 //! | Item | What it is |
 //! |---|---|
 //! | [`Search`] | the points that were found, and the calls among them; `grow` finds more, `route` leads to one |

@@ -1,12 +1,13 @@
 //! The lines of modules and of a high byte.
 
 ghost use Rattle.std.specs.Prelude.{◌≡◌, ◌++◌, Some, map, slice_get, OnOk};
-ghost use Rattle.link80_text.specs.Causes.{deed_line, line_of, first_two, use_line, high_line, high_text};
+ghost use Rattle.link80_text.specs.Causes.{module_words, deed_line, line_of, first_two, use_line, high_line, high_text};
 
 use crate::causes::high_bytes::HighByte;
-use crate::causes::words::{append_module, append_place};
+use crate::words::path_of;
 use omf_core::Name;
 use omf_parts::{Common, Module};
+use omf_text::append_place;
 use std::alloc::AllocError;
 
 /// Appends the lines of the first two modules with these numbers, and what they do.
@@ -110,4 +111,18 @@ fn append_use(
     append_place(text, commons, high.segment, high.offset)?;
     text.push(b'\n')?;
     Ok(())
+}
+
+/// Appends a module's name and file.
+pub(crate) fn append_module(
+    text: &mut Vec<u8>,
+    files: &[&[u8]],
+    number: usize,
+    name: &Name,
+) -> Result<(), AllocError>
+    ensures { OnOk result (text.new.items ≡ text.old.items ++ module_words (map (λ f. f.now) files.now) number name.now) }
+{
+    text.extend_from_slice(name.bytes())?;
+    text.extend_from_slice(b" of ".as_slice())?;
+    text.extend_from_slice(path_of(files, number))
 }

@@ -1,13 +1,12 @@
 //! The lines of the parts of a segment.
 
 ghost use Rattle.std.specs.Prelude.{◌≡◌, ◌++◌, map, OnOk};
-ghost use Rattle.omf_parts.specs.Segments.{is_used};
 ghost use Rattle.link80_text.specs.Causes.{used_line, part_line, parts_text};
 
-use crate::causes::starts::segment_in;
-use crate::causes::words::{append_module, append_part};
+use crate::causes::lines::append_module;
 use omf_core::Name;
-use omf_parts::{Module, Segment};
+use omf_parts::{Module, Segment, is_used, segment_in};
+use omf_text::append_part;
 use std::alloc::AllocError;
 
 /// Appends the lines of the parts that modules have of CODE, DATA or STACK.
@@ -61,11 +60,4 @@ fn append_used(
     append_module(text, files, number, name)?;
     text.push(b'\n')?;
     Ok(())
-}
-
-/// Whether a part has bytes or is paged.
-fn is_used(part: Segment) -> bool
-    ensures { result ≡ is_used part }
-{
-    0 < part.length || part.paged
 }

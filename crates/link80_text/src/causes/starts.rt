@@ -1,19 +1,12 @@
 //! Where the parts of a module start in the linked segments.
 
 ghost use Rattle.std.specs.Prelude.{◌≡◌, ◌<◌, ◌+◌, ◌*◌, ◌≤◌, ◌%◌, length, map, IsTrue};
-ghost use Rattle.omf_parts.specs.Segments.{segment_in};
 ghost use Rattle.omf_parts.specs.Place.{part_start, is_laid_out, rounded};
 ghost use Rattle.link80.specs.Linked.{moved, parts_end};
 
 use omf_core::segment_id::{CODE, DATA};
-use omf_parts::{Module, Segment};
+use omf_parts::{Module, segment_in};
 use std::marker::Model;
-
-/// A segment without bytes.
-const EMPTY: Segment = Segment {
-    length: 0,
-    paged: false,
-};
 
 /// A module by its number among those that are linked, and where its parts of CODE and DATA start. A contract sees the modules and
 /// the number.
@@ -100,16 +93,4 @@ fn rounded(before: u128, paged: bool) -> u128
     } else {
         before
     }
-}
-
-/// The segment of this id among those that a module lists; it is empty if it isn't listed.
-pub(crate) fn segment_in(entries: &[(u8, Segment)], id: u8) -> Segment
-    ensures { result ≡ segment_in entries.now id }
-{
-    for entry in entries {
-        if entry.0 == id {
-            return entry.1;
-        }
-    }
-    EMPTY
 }

@@ -1,16 +1,16 @@
 //! The lines of fixups, of segments and of a start.
 
-ghost use Rattle.std.specs.Prelude.{◌≡◌, ◌++◌, ◌==◌, [], find, option_copied, OnOk};
+ghost use Rattle.std.specs.Prelude.{◌≡◌, ◌++◌, ◌<◌, [], option_copied, OnOk};
 ghost use Rattle.std.specs.Option.{option_map_or};
-ghost use Rattle.place80.specs.Layout.{placed_in};
-ghost use Rattle.place80.specs.Causes.{use_line, alike_line, placed_line, pair_lines, high_line, start_line};
+ghost use Rattle.place80.specs.Causes.{use_line, alike_line, number_text, placed_line, pair_lines, high_line, start_line};
 
-use crate::causes::places::Pair;
+use crate::addresses::place_of;
 use crate::causes::uses::Use;
-use crate::causes::words::{append_common, append_number, append_place};
-use crate::{Placed, place_of};
+use crate::overlap::Pair;
+use crate::placed_segments::{Placed, placed_in};
 use omf_core::segment_id::{CODE, word_of};
 use omf_parts::{Common, Module, Public};
+use omf_text::{append_common, append_place};
 use std::alloc::AllocError;
 use text80::word_digits;
 
@@ -117,25 +117,14 @@ pub(crate) fn append_start(
     Ok(())
 }
 
-/// The segment of this id, and one of no bytes at 0 if there is none.
-fn placed_in(segments: &[Placed], id: u8) -> Placed
-    ensures { result ≡ placed_in segments.now id }
+/// Appends an address up to 10000, or a length.
+fn append_number(text: &mut Vec<u8>, number: u32) -> Result<(), AllocError>
+    ensures { OnOk result (text.new.items ≡ text.old.items ++ number_text number) }
 {
-    find_placed(segments, id).unwrap_or(Placed {
-        id,
-        base: 0,
-        length: 0,
-    })
-}
-
-/// The segment of this id.
-fn find_placed(segments: &[Placed], id: u8) -> Option<Placed>
-    ensures { result ≡ find (λ p. p.id == id) segments.now }
-{
-    for placed in segments {
-        if placed.id == id {
-            return Some(*placed);
-        }
+    if number < 65536 {
+        text.extend_from_slice(&word_digits(number as u16))
+    } else {
+        text.push(b'1')?;
+        text.extend_from_slice(&word_digits((number % 65536) as u16))
     }
-    None
 }

@@ -3,17 +3,18 @@
 ghost use Rattle.std.specs.Prelude.{◌≡◌, ◌++◌, OnOk};
 ghost use Rattle.std.specs.List.{flat_map};
 ghost use Rattle.rom80_find.specs.Modules.{code_length};
-ghost use Rattle.rom80_find.specs.Lines.{extent_words, heading, common_part, base_words, base_part, top_part, place_line, name_line, needed_line, place_text};
+ghost use Rattle.rom80_find.specs.Lines.{extent_words, heading, base_words, base_part, top_part, place_line, name_line, needed_line, place_text};
 
 use crate::words::Word;
 use omf_core::Name;
-use omf_core::segment_id::{CODE, STACK, word_of};
+use omf_core::segment_id::{CODE, STACK};
 use omf_parts::{Common, Module, Target};
+use omf_text::append_place;
 use std::alloc::AllocError;
 use text80::word_digits;
 
 /// Appends the line of a place, and those of the names that the module needs.
-pub(crate) fn append_place(
+pub(crate) fn append_place_lines(
     text: &mut Vec<u8>,
     source: &Module,
     address: u16,
@@ -100,24 +101,7 @@ fn append_base_words(
     ensures { OnOk result (text.new.items ≡ text.old.items ++ base_words commons.now id base) }
 {
     text.push(b' ')?;
-    text.extend_from_slice(word_of(id))?;
-    text.push(b' ')?;
-    text.extend_from_slice(&word_digits(base))?;
-    append_common(text, commons, id)
-}
-
-/// Appends a blank and the name of the common of this id, if it has one.
-fn append_common(text: &mut Vec<u8>, commons: &[Common], id: u8) -> Result<(), AllocError>
-    ensures { OnOk result (text.new.items ≡ text.old.items ++ common_part commons.now id) }
-{
-    for common in commons {
-        if common.id == id {
-            text.push(b' ')?;
-            text.extend_from_slice(common.name.bytes())?;
-            return Ok(());
-        }
-    }
-    Ok(())
+    append_place(text, commons, id, base)
 }
 
 /// Appends the top of STACK.

@@ -9,7 +9,7 @@ ghost use Rattle.rom80_find.specs.Prints.{PrintsEach, PrintsPlace, PrintsPlaces}
 
 use crate::dump::Dump;
 use crate::found::ModulePattern;
-use crate::lines::place::append_place;
+use crate::lines::place::append_place_lines;
 use std::alloc::{AllocError, Global};
 
 /// The most places of a module that are printed.
@@ -70,7 +70,7 @@ fn append_at(
     ensures { OnOk result (PrintsPlace (dump_of dump.entry) pattern.now address text.old.items text.new.items) }
 {
     match pattern.words_at(alloc, dump, address)? {
-        Some(words) => append_place(text, pattern.source(), address, &words),
+        Some(words) => append_place_lines(text, pattern.source(), address, &words),
         None => unreachable!(),
     }
 }

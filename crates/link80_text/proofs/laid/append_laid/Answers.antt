@@ -11,7 +11,7 @@ use Rattle.link80_text.proofs.laid.append_laid.Goals.{After-segment_in-part}
 
 fits : (c : After-segment_in-part) → Fit c.loop-source.end (segment_in c.source-item.result.now.segments c.args.id)
 fits c =
-    part_fits c.args.id c.loop-source.end (parts_end c.args.id 0 (map (λ m. m.now) c.args.modules.now)) c.source-item.result.now
+    part_fits c.laid_parts_end_at_words.ensures.later c.args.id c.loop-source.end (parts_end c.args.id 0 (map (λ m. m.now) c.args.modules.now)) c.source-item.result.now
     (map (λ m. m.now) (drop (c.loop-source.source-index + 1) c.args.modules.now))
     (map (λ m. m.now) (drop c.loop-source.source-index c.args.modules.now))
     (left_of (λ m. m.now) c.args.modules.now c.loop-source.source-index c.source-item.result c.loop-source-test.true c.source-item.is)
@@ -34,7 +34,7 @@ overflow_add-end c =
     let part = c.segment_in-part.ensures ∙ ap (λ s. segment_in s c.args.id) c.segments.ensures.value in
     let start = c.rounded-start.ensures ∙ ap (λ (s : Segment). rounded s.paged c.loop-source.end) part in
     let length = c.from.ensures ∙ ap (λ (s : Segment). s.length) part in
-    let fit = (part_fits c.args.id c.loop-source.end (parts_end c.args.id 0 (map (λ m. m.now) c.args.modules.now))
+    let fit = (part_fits c.laid_parts_end_at_words.ensures.later c.args.id c.loop-source.end (parts_end c.args.id 0 (map (λ m. m.now) c.args.modules.now))
     c.source-item.result.now (map (λ m. m.now) (drop (c.loop-source.source-index + 1) c.args.modules.now))
     (map (λ m. m.now) (drop c.loop-source.source-index c.args.modules.now))
     (left_of (λ m. m.now) c.args.modules.now c.loop-source.source-index c.source-item.result c.loop-source-test.true c.source-item.is)

@@ -7,14 +7,14 @@ use Rattle.omf_library.proofs.unfinished.read_after_index.Goals as goal
 pub returns-in_err-kind-clause-fault : goal.returns-in_err-kind-clause-fault
 returns-in_err-kind-clause-fault c =
     let p = err_from_is_err_and c.from_residual.result c.from_residual.ensures.1 in
-    let s = of_stay c.records_stay.ensures c.lists_stay.ensures c.modules_stay.ensures.whole c.modules_stay.ensures.begun in
+    let s = of_stay c.records_stay.ensures c.lists_stay.ensures c.modules_stay.ensures.stay c.modules_stay.ensures.stand in
     rw (p.1, p.2) (index_record_lasts s c.args.bytes.now c.args.said c.args.at c.args.modules.now c.in_err-kind.field-0.0
     c.requires c.in_err-kind.ensures.fault)
 
 pub returns-in_err-progress-clause-fault : goal.returns-in_err-progress-clause-fault
 returns-in_err-progress-clause-fault c =
     let p = err_from_is_err_and c.from_residual-in_err-progress.result c.from_residual-in_err-progress.ensures.1 in
-    let s = of_stay c.records_stay.ensures c.lists_stay.ensures c.modules_stay.ensures.whole c.modules_stay.ensures.begun in
+    let s = of_stay c.records_stay.ensures c.lists_stay.ensures c.modules_stay.ensures.stay c.modules_stay.ensures.stand in
     let stands = rw c.in-Some.is at c.in_ok-kind.ensures.record in
     rw (p.1, p.2) (indexed_lasts s c.args.bytes.now c.args.said c.args.at c.in-Some.after c.in-Some.kind
     (length c.args.modules.now) stands.0 c.args.modules.now c.in_err-progress.field-0.0 c.requires stands.1 refl

@@ -12,7 +12,7 @@ returns-then-not-is_library_header-clause-fault c =
 
 pub returns-in-Err-clause-cut_off : goal.returns-in-Err-clause-cut_off
 returns-in-Err-clause-cut_off c =
-    λ _. cut_off_here c.args.bytes.now 0 c.in-Err.fault (sym c.in-Err.ensures.fault) (sym c.if-is_truncated.ensures)
+    λ _. cut_off_here c.other_faults_stay.ensures c.args.bytes.now 0 c.in-Err.fault (sym c.in-Err.ensures.fault) (sym c.if-is_truncated.ensures)
 
 pub returns-in-Err-2-clause-fault : goal.returns-in-Err-2-clause-fault
 returns-in-Err-2-clause-fault c =

@@ -3,7 +3,7 @@ use Rattle.std.proofs.Common.{subst, sym, ◌∙◌, ap, arith}
 use Rattle.std.proofs.lemmas.List.Elements.{All-from_recursion}
 use Rattle.image80.specs.declared.range.Range.{Range}
 use Rattle.image80.specs.Range.{IsInMemory}
-use Rattle.image80.specs.Regions.{AreDisjoint, Arranges}
+use Rattle.image80.specs.Regions.{AreDisjoint}
 use Rattle.place80.specs.Locating.{located_code, located_stack}
 use Rattle.place80.specs.Restart.{restart_range}
 use Rattle.place80.proofs.LocatedDisjoint.{HasWord, code_not_empty, data_not_empty, code_in_memory, data_in_memory, stack_in_memory}

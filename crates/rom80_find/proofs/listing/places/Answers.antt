@@ -1,9 +1,7 @@
-use Rattle.std.proofs.Common.{◌∙◌, arith, ap, subst, refl, ◌<◌}
-use Rattle.std.proofs.Common.{List, Bool}
+use Rattle.std.proofs.Common.{◌∙◌, arith, subst, refl, ◌<◌}
 use Rattle.rom80_find.specs.Dump.{DumpValue, dump_of}
-use Rattle.rom80_find.specs.Search.{search_of}
 use Rattle.rom80_find.specs.Sieve.{AreSieved}
-use Rattle.rom80_find.proofs.PlaceLemmas.{none_yet, next_places, before_next, found_at}
+use Rattle.rom80_find.proofs.PlaceLemmas.{next_places, before_next, found_at}
 use Rattle.rom80_find.proofs.listing.places.Goals as goal
 
 pub loop-at-preserved : goal.loop-at-preserved

@@ -1,7 +1,6 @@
 use Rattle.std.proofs.Common.{◌≡◌, ◌∙◌, ◌*◌, sym, subst}
 use Rattle.rom80_find.specs.Dump.{DumpValue}
 use Rattle.rom80_find.specs.Runs.{IsOneRun}
-use Rattle.rom80_find.specs.Sieve.{AreSieved}
 use Rattle.rom80_find.proofs.SieveLemmas.{run_fits}
 use Rattle.rom80_find.proofs.sieve.sieve.Goals as goal
 

@@ -1,7 +1,8 @@
 use Rattle.std.specs.Prelude.{◌≡◌, ◌++◌, ◌∷◌, [], codes, map}
 use Rattle.std.proofs.Common.{rules}
-use Rattle.link80_text.specs.Lines.{module_words, place_words}
-use Rattle.link80_text.proofs.CausesTextLemmas.{joined}
+use Rattle.omf_text.specs.Places.{place_words}
+use Rattle.link80_text.specs.Causes.{module_words}
+use Rattle.link80_text.proofs.TextLemmas.{joined}
 use Rattle.link80_text.proofs.causes.lines.append_use.Goals as goal
 
 pub returns : goal.returns

@@ -14,7 +14,7 @@ pub read_on-requires : goal.read_on-requires
 read_on-requires c =
     let library = c.self.inside.library in
     let same : c.deref.result.now ≡ c.self.inside.bytes.items ++ c.args.piece.now = search rules in
-    let s = of_stay c.records_stay.ensures c.lists_stay.ensures c.modules_stay.ensures.whole c.modules_stay.ensures.begun in
+    let s = of_stay c.records_stay.ensures c.lists_stay.ensures c.modules_stay.ensures.stay c.modules_stay.ensures.stand in
     subst (λ (b : List ℕ). ReadsLibrary b library) (sym same)
     (reads_stay s c.self.inside.bytes.items c.args.piece.now library.modules.items library.next library.progress
     c.self.invariant)

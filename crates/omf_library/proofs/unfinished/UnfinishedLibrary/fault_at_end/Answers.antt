@@ -8,7 +8,7 @@ returns-in-Header-clause-fault c =
 
 pub returns-in-Modules-clause-fault : goal.returns-in-Modules-clause-fault
 returns-in-Modules-clause-fault c =
-    faults_in_modules c.args.bytes.now _ c.args.self.now.modules.items c.args.self.now.next c.fault_in_modules.result
+    faults_in_modules c.modules_stay.ensures.stand c.args.bytes.now _ c.args.self.now.modules.items c.args.self.now.next c.fault_in_modules.result
     (rw c.in-Modules.is at c.requires.reads) (rw c.in-Modules.is at c.requires.waits)
     c.fault_in_modules.ensures.between c.fault_in_modules.ensures.inside
 

@@ -1,4 +1,4 @@
-use Rattle.std.proofs.Common.{◌≡◌, ◌≤◌, ℕ, List, arith, length, sym, subst}
+use Rattle.std.proofs.Common.{◌≡◌, ℕ, List, arith, length, sym, subst}
 use Rattle.rom80_find.specs.declared.pattern.code_byte.CodeByte.{CodeByte}
 use Rattle.rom80_find.specs.Places.{AreBelow, is_free, is_known_fixup}
 use Rattle.rom80_find.specs.Runs.{AreFree}

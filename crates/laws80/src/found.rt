@@ -1,0 +1,31 @@
+//! Modules that are found in a dump, linked and located, have the dump's bytes in CODE. The law is ensured by a function that does
+//! nothing: a layer above that calls it has the law in its proof.
+
+ghost use Rattle.laws80.specs.Rebuilt.{BytesAreTheDumps, LocatedImageIsTheDumps, BuiltImageIsTheDumps};
+
+use link80::laws::{linked_module_keeps_rules, linking_keeps_bytes};
+use omf_parts::laws::segments_are_kept;
+use omf_parts::relocation_laws::sound_modules_keep_rules;
+use place80::laws::{
+    no_fault_where_segments_fit, segments_are_laid_out_in_one_way, segments_are_placed,
+};
+use rom80_find::link_of_found_modules_has_the_bytes;
+
+/// If nothing forbids to link modules and to locate what they are linked into, and the bases that it is located with give each
+/// module its part's place, its segments' places and its externals' words with which it lies in a dump, the dump has at each
+/// address that a content in CODE covers the byte that the modules come to: so the image that `locate` answers of the linked
+/// module, and the one that `build` answers of the modules.
+pub fn found_modules_are_rebuilt()
+    ensures bytes { BytesAreTheDumps }
+    ensures located { LocatedImageIsTheDumps }
+    ensures built { BuiltImageIsTheDumps }
+{
+    sound_modules_keep_rules();
+    segments_are_laid_out_in_one_way();
+    segments_are_placed();
+    segments_are_kept();
+    linked_module_keeps_rules();
+    linking_keeps_bytes();
+    no_fault_where_segments_fit();
+    link_of_found_modules_has_the_bytes();
+}

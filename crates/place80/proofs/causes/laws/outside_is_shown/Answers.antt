@@ -1,5 +1,0 @@
-use Rattle.place80.proofs.LawLemmas.{outside_shown}
-use Rattle.place80.proofs.causes.laws.outside_is_shown.Goals as goal
-
-pub returns : goal.returns
-returns c = λ options m id is. outside_shown options m id is

@@ -1,7 +1,0 @@
-use Rattle.std.proofs.Common.{◌≡◌, drop}
-use Rattle.place80.specs.Places.{first_outside}
-use Rattle.place80.proofs.causes.places.first_outside.Given as goal
-
--- the first of the segments that are left is the first of all
-abbrev pub invariant-loop-placed : goal.invariant-loop-placed
-invariant-loop-placed l = first_outside l.program (drop l.placed-index l.segments) ≡ first_outside l.program l.segments
