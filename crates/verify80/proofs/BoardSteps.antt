@@ -98,7 +98,7 @@ abbrev machine_or : Machine → Option Machine → Machine
 machine_or otherwise None = otherwise
 machine_or otherwise (Some m) = m
 
-same_machine : {m after : Machine} → Some m ≡ Some after → m ≡ after
+pub same_machine : {m after : Machine} → Some m ≡ Some after → m ≡ after
 same_machine {m} h = ap (machine_or m) h
 
 -- an instruction executed with other bytes at the ports leads to the same, but for what the ports hold

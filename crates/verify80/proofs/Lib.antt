@@ -13,3 +13,4 @@ pub mod WalkStepLemmas
 pub mod Along
 pub mod BoardSteps
 pub mod BoardLemmas
+pub mod BoardStarts

@@ -2,10 +2,11 @@
 -- before each instruction any other byte may have become any byte (devices in the memory map, DMA, cells with two addresses), IN brings
 -- any byte, OUT is taken, PCHL goes where HL says, and a store changes the byte that it names, wherever that is. (Intel 8080
 -- Microcomputer Systems User's Manual, chapter 2: memory-mapped I/O and DMA. That the board is an adversary is this project's own.)
-use Rattle.std.specs.Prelude.{◌≡◌, ℕ, ◌<◌, ◌≤◌, true, false, List, Option, None, Some, IsSome, All, length, slice_index}
+use Rattle.std.specs.Prelude.{◌≡◌, ◌⊎◌, ℕ, ◌<◌, ◌≤◌, true, false, List, Option, None, Some, IsSome, All, length, slice_index}
 use Rattle.std.specs.Result.{result_ok}
 use Rattle.decode80.specs.declared.instr.Instr.{Instr}
-use Rattle.decode80.specs.declared.instr.Instr.TheVariants.{Hlt, In, Out, Pchl}
+use Rattle.decode80.specs.declared.instr.Instr.TheVariants.{Lxi, Hlt, In, Out, Pchl}
+use Rattle.decode80.specs.declared.pair.Pair.TheVariants.{Sp}
 use Rattle.decode80.specs.declared.fetching.Fetched.{Fetched}
 use Rattle.decode80.specs.Fetch.{direct_bytes, fetch as fetch_in}
 use Rattle.image80.specs.Range.{in_range}
@@ -77,6 +78,20 @@ pub data OnBoard (regions : Areas) (listed : ℕ → Type 0) (start : Machine) :
 abbrev pub Anywhere : ℕ → Type 0
 Anywhere address = Unit {0}
 
+-- a machine at the image's start, of which the first instruction sets the stack pointer to the stack's top: SP may be anything
+pub record SetsStackFirst (image : Located) (m : Machine) : Type 0 where
+  pub pc : m.cpu.pc ≡ image.start
+  pub whole : length m.memory ≡ 65536
+  pub code : (address : ℕ) → in_code image.regions address ≡ true →
+      slice_index m.memory address ≡ slice_index (memory_of image.chunks) address
+  pub next : ℕ
+  pub first : fetch image.regions (memory_of image.chunks) image.start ≡ Some (record { instr = Lxi Sp (top_of image.regions); next = next })
+
+-- a machine on which a run on a board may begin: at the image's start, with SP at the stack's top, or before the instruction that sets
+-- it so; its other memory, its registers and its flags are whatever they are
+abbrev pub MayStart : Located → Machine → Type 0
+MayStart image m = IsStart image m ⊎ SetsStackFirst image m
+
 -- what is promised of a world on a board: its next instruction is fetched inside code, and is the image's; it stores directly to data
 -- alone; a PCHL has declared targets; if it is a return that is taken, it goes to the place after the newest call that has not returned; as stack it touches only
 -- so many bytes just below the stack's top; and it ends the run only if it is HLT
@@ -92,11 +107,11 @@ pub record KeepsPromise (image : Located) (bytes : ℕ) (w : World) : Type 0 whe
   pub stack : All (λ address. IsJustBelow (top_of image.regions) bytes address) (stack_bytes found.instr w.machine.cpu)
   pub ends : (byte : ℕ) → unguarded found.instr byte found.next w.machine ≡ None → found.instr ≡ Hlt
 
--- on every board, from the image's start with SP at the stack's top, whatever else registers, flags and memory hold: up to the first
+-- on every board, from the image's start, whatever registers, flags and memory hold: up to the first
 -- store through a pair outside data or the first PCHL outside its targets, an image that a table of frames fits keeps the promise
 abbrev pub PromiseIsKeptOnBoards : Type 0
 PromiseIsKeptOnBoards = (image : Located) (bytes : ℕ) → AreRegions image.regions → IsFitted (code_of image) bytes →
-    bytes ≤ image.regions.stack.length → (start : Machine) → IsStart image start → (w : World) →
+    bytes ≤ image.regions.stack.length → (start : Machine) → MayStart image start → (w : World) →
     OnBoard image.regions Anywhere start w → KeepsPromise image bytes w
 
 -- a world stands on a walk, and a return that it takes goes behind a call on a walk whose callee returns on a walk
@@ -108,7 +123,7 @@ pub record KeepsToWalks (image : Located) (w : World) : Type 0 where
 -- and a program that is accepted stays on its walks
 abbrev pub WalksAreKeptOnBoards : Type 0
 WalksAreKeptOnBoards = (image : Located) (listed : List ProcRow) (bytes : ℕ) → AreRegions image.regions →
-    IsAccepted (code_of image) listed bytes → (start : Machine) → IsStart image start → (w : World) →
+    IsAccepted (code_of image) listed bytes → (start : Machine) → MayStart image start → (w : World) →
     OnBoard image.regions Anywhere start w → KeepsToWalks image w
 
 -- A step that nothing guards is a step of the machine, whose guard has nothing to say, with other bytes at its ports; what it leaves is
@@ -122,5 +137,5 @@ pub record IsGuarded (regions : Areas) (m after : Machine) : Type 0 where
 
 abbrev pub BoardStepsAreGuarded : Type 0
 BoardStepsAreGuarded = (image : Located) (bytes : ℕ) → AreRegions image.regions → IsFitted (code_of image) bytes →
-    bytes ≤ image.regions.stack.length → (start : Machine) → IsStart image start → (w v : World) →
+    bytes ≤ image.regions.stack.length → (start : Machine) → MayStart image start → (w v : World) →
     OnBoard image.regions Anywhere start w → (step : Executes image.regions Anywhere w v) → IsGuarded image.regions w.machine step.after

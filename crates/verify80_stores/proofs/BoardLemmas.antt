@@ -12,9 +12,9 @@ use Rattle.machine80.specs.Step.{Machine}
 use Rattle.machine80.specs.World.{World, fetched_by, places_after}
 use Rattle.machine80.specs.Run.{world_of}
 use Rattle.verify80.specs.Looking.{code_of, is_pchl}
-use Rattle.verify80.specs.Starts.{IsStart, NeverGoesWrongFromPowerOn}
+use Rattle.verify80.specs.Starts.{NeverGoesWrongFromPowerOn}
 use Rattle.verify80.specs.Reached.{StandsOnWalk, StaysOnWalks}
-use Rattle.verify80.specs.Boards.{fetched_anywhere, with_memory, StaysInside, Executes, OnBoard, begins, disturbed, executed, Anywhere, KeepsPromise}
+use Rattle.verify80.specs.Boards.{fetched_anywhere, with_memory, StaysInside, Executes, OnBoard, begins, disturbed, executed, Anywhere, KeepsPromise, MayStart}
 use Rattle.verify80_calls.specs.Reached.{AreReached}
 use Rattle.verify80_stores.specs.declared.spans.pairs.Pairs.{Pairs}
 use Rattle.verify80_stores.specs.Bytes.{HoldsBytes, BytesStayBytes}
@@ -35,13 +35,17 @@ keeps_so : (table : List (Option Pairs)) (m : Machine) (places : List ℕ) (inpu
     KeepsTo table (record { machine = record m { inputs = inputs; outputs = outputs }; places = places })
 keeps_so table m places inputs outputs k = record { pairs = k.pairs; there = k.there; holds = k.holds }
 
+starts_at : (image : Located) (start : Machine) → MayStart image start → start.cpu.pc ≡ image.start
+starts_at image start (inl is) = is.pc
+starts_at image start (inr sets) = sets.pc
+
 is_jump : (i : Instr) → i ≡ Pchl → is_pchl i ≡ true
 is_jump i same = ap is_pchl same
 
 module _ (image : Located) (bytes : ℕ) (reached : List (Option Fetched)) (table : List (Option Pairs)) (addresses : List ℕ) (stores : List OpenStore) (jumps : List ℕ) (sound : NeverGoesWrongFromPowerOn image bytes)
     (walks : StaysOnWalks image) (are : AreReached (code_of image) reached) (whole : length reached ≡ 65536) (keeps : RunsKeepTo image table) (each_store : AreAllBelow reached stores_by_pair 65536 addresses)
     (open_below : AreOpenBelow image.regions reached table 65536 stores) (each_jump : AreAllBelow reached is_pchl 65536 jumps) (known : AreKnown image bytes) (kept : IsKept image table) (stay : BytesStayBytes)
-    (start : Machine) (is_start : IsStart image start) (start_bytes : HoldsBytes start) where
+    (start : Machine) (is_start : MayStart image start) (start_bytes : HoldsBytes start) where
   -- a world of the board, at which each step so far has stayed inside
   record Stands (w : World) : Type 0 where
     on : OnBoard image.regions Anywhere start w
@@ -113,7 +117,7 @@ module _ (image : Located) (bytes : ℕ) (reached : List (Option Fetched)) (tabl
   always : (w : World) → OnBoard image.regions (IsListedAt stores jumps) start w → Stands w
   always w (begins _ is) =
       let on : OnBoard image.regions Anywhere start (world_of start) = begins (world_of start) refl in
-      subst Stands (sym is) (record { on = on; keeps_to = kept.starts start is_start start_bytes (known.boards start is_start (world_of start) on).stands; held = start_bytes })
+      subst Stands (sym is) (record { on = on; keeps_to = kept.starts start (starts_at image start is_start) start_bytes (known.boards start is_start (world_of start) on).stands; held = start_bytes })
   always w (disturbed v _ on by) =
       let s = always v on in
       let moved : OnBoard image.regions Anywhere start w = disturbed v w s.on by in

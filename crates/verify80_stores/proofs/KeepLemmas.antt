@@ -92,8 +92,8 @@ module _ (image : Located) (table : List (Option Pairs)) (fits : Fits (code_of i
   -- a step keeps to the table, and so does a start
   pub is_kept : IsKept image table
   is_kept = record {
-    starts = λ start begins held stands.
-        keeps_by (world_of start) anything (subst (λ n. Has table n anything) (sym begins.pc) fits.start) (all_hold start.cpu.registers held.registers);
+    starts = λ start pc held stands.
+        keeps_by (world_of start) anything (subst (λ n. Has table n anything) (sym pc) fits.start) (all_hold start.cpu.registers held.registers);
     steps = λ refused w after known on before now keeps step.
         let stands : StandsOnWalk image w = known.stands in
         let way = executes image.regions refused stands.found.instr stands.found.next w.machine after.machine (declared_at w known stands.found stands.fetched)
@@ -132,7 +132,7 @@ module _ (image : Located) (bytes : ℕ) (table : List (Option Pairs)) (sound : 
   keeps_at : (n : ℕ) (w : World) → world_at image.regions most (world_of start) n ≡ Some w → KeepsTo table w
   keeps_at zero w h =
       subst (λ (x : World). KeepsTo table x) (world_in h)
-      (kept.starts start begins start_bytes (known_at (world_of start) (record { steps = 0; is = refl })).stands)
+      (kept.starts start begins.pc start_bytes (known_at (world_of start) (record { steps = 0; is = refl })).stands)
   keeps_at (suc n) w h = followed_keeps n w (world_at image.regions most (world_of start) n) refl (λ v e. keeps_at n v e) h
 
   pub run_keeps : (w : World) → IsWorldFrom image start most w → KeepsTo table w

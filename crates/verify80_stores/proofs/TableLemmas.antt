@@ -103,7 +103,7 @@ moved marks marks' regions regions' table table' at found one two three fits =
 pub anything_is_kept : (image : Located) (reached : List (Option Fetched)) (table : List (Option Pairs)) → AreReached (code_of image) reached → length reached ≡ 65536 →
     AnythingHolds → ((at : ℕ) → at < 65536 → pairs_at table at ≡ Some anything) → IsKept image table
 anything_is_kept image reached table are whole holds everywhere = record {
-  starts = λ start begins held stands. here (world_of start) stands held;
+  starts = λ start pc held stands. here (world_of start) stands held;
   steps = λ refused w after known stands before now keeps step. here after stands now;
 } where
   here : (w : World) → StandsOnWalk image w → HoldsBytes w.machine → KeepsTo table w

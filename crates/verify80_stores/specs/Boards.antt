@@ -4,8 +4,7 @@ use Rattle.image80.specs.Image.{Located}
 use Rattle.machine80.specs.Effects.{pointed_bytes}
 use Rattle.machine80.specs.Step.{Machine}
 use Rattle.machine80.specs.World.{World}
-use Rattle.verify80.specs.Starts.{IsStart}
-use Rattle.verify80.specs.Boards.{OnBoard, KeepsPromise}
+use Rattle.verify80.specs.Boards.{MayStart, OnBoard, KeepsPromise}
 use Rattle.verify80_stores.specs.Bytes.{HoldsBytes}
 use Rattle.verify80_stores.specs.declared.stores.OpenStore.{OpenStore}
 use Rattle.verify80_stores.specs.Stores.{GoesAsListed}
@@ -19,10 +18,10 @@ pub record KeepsWholePromise (image : Located) (bytes : ℕ) (open_stores : List
   pub promise : KeepsPromise image bytes w
   pub stores : All (GoesAsListed image.regions open_stores w.machine.cpu.pc) (pointed_bytes promise.found.instr w.machine.cpu.registers)
 
--- On every board, from the image's start with SP at the stack's top, whatever bytes registers and memory outside the code hold, and
--- whatever devices write to any byte that is neither code nor stack: each world keeps the promise, up to the first step at a listed
+-- On every board, from the image's start, if SP is at the stack's top or the first instruction sets it so, whatever bytes registers and
+-- memory outside the code hold, and whatever devices write to any byte that is neither code nor stack: each world keeps the promise, up to the first step at a listed
 -- address that stores outside data or jumps by HL to none of its declared targets. If nothing is listed, that is each world of the run.
 abbrev pub PromiseHoldsOnBoards : Located → (bytes : ℕ) → List OpenStore → (jumps : List ℕ) → Type 0
 PromiseHoldsOnBoards image bytes open_stores jumps =
-    (start : Machine) → IsStart image start → HoldsBytes start → (w : World) →
+    (start : Machine) → MayStart image start → HoldsBytes start → (w : World) →
     OnBoard image.regions (IsListedAt open_stores jumps) start w → KeepsWholePromise image bytes open_stores w

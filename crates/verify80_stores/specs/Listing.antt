@@ -6,8 +6,8 @@ use Rattle.image80.specs.Regions.{Areas, in_data}
 use Rattle.image80.specs.Image.{Located}
 use Rattle.machine80.specs.Step.{Machine}
 use Rattle.machine80.specs.World.{World}
-use Rattle.verify80.specs.Starts.{IsStart, NeverGoesWrongFromPowerOn}
-use Rattle.verify80.specs.Boards.{Anywhere, Executes, IsGuarded, KeepsPromise, KeepsToWalks, OnBoard}
+use Rattle.verify80.specs.Starts.{NeverGoesWrongFromPowerOn}
+use Rattle.verify80.specs.Boards.{Anywhere, Executes, IsGuarded, KeepsPromise, KeepsToWalks, MayStart, OnBoard}
 use Rattle.verify80.specs.Reached.{StaysOnWalks}
 use Rattle.verify80_stores.specs.declared.spans.span.Span.{Span}
 use Rattle.verify80_stores.specs.declared.spans.pairs.Pairs.{Pairs}
@@ -21,9 +21,9 @@ use Rattle.verify80_stores.specs.Pointers.{pointer_span}
 pub record AreKnown (image : Located) (bytes : ℕ) : Type 0 where
   pub sound : NeverGoesWrongFromPowerOn image bytes
   pub walks : StaysOnWalks image
-  pub promise : (start : Machine) → IsStart image start → (w : World) → OnBoard image.regions Anywhere start w → KeepsPromise image bytes w
-  pub boards : (start : Machine) → IsStart image start → (w : World) → OnBoard image.regions Anywhere start w → KeepsToWalks image w
-  pub guarded : (start : Machine) → IsStart image start → (w v : World) → OnBoard image.regions Anywhere start w →
+  pub promise : (start : Machine) → MayStart image start → (w : World) → OnBoard image.regions Anywhere start w → KeepsPromise image bytes w
+  pub boards : (start : Machine) → MayStart image start → (w : World) → OnBoard image.regions Anywhere start w → KeepsToWalks image w
+  pub guarded : (start : Machine) → MayStart image start → (w v : World) → OnBoard image.regions Anywhere start w →
       (step : Executes image.regions Anywhere w v) → IsGuarded image.regions w.machine step.after
 
 -- the instruction that is reached at an address

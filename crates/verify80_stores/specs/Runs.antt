@@ -38,7 +38,7 @@ pub record IsKnown (image : Located) (w : World) : Type 0 where
 
 -- each start keeps to a table, and each step of a known world that keeps to it
 pub record IsKept (image : Located) (table : List (Option Pairs)) : Type 0 where
-  pub starts : (start : Machine) → IsStart image start → HoldsBytes start → StandsOnWalk image (world_of start) →
+  pub starts : (start : Machine) → start.cpu.pc ≡ image.start → HoldsBytes start → StandsOnWalk image (world_of start) →
       KeepsTo table (world_of start)
   pub steps : (refused : Bool) (w after : World) → IsKnown image w → StandsOnWalk image after → HoldsBytes w.machine →
       HoldsBytes after.machine → KeepsTo table w → step_of image.regions refused w.machine ≡ Next after.machine → KeepsTo table after
