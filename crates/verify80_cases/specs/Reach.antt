@@ -1,7 +1,7 @@
 -- The addresses that a program may come to from some roots, whatever its frames: along each branch, behind each call whether it
 -- returns or not, and from a PCHL to the targets that are declared for it. (Intel 8080 Microcomputer Systems User's Manual: the
 -- jumps, calls and returns. That a call is gone on behind whatever its callee does is this project's own.)
-use Rattle.std.specs.Prelude.{◌≡◌, ◌<◌, ◌≤◌, ◌*◌, ◌↔◌, ℕ, Bool, true, false, List, [], ◌∷◌, ◌++◌, All, Contains, Option, None, Some, Result, Ok, Err, length, get_or, if◌then◌else◌}
+use Rattle.std.specs.Prelude.{◌≡◌, ◌<◌, ◌≤◌, ◌↔◌, ℕ, Bool, true, false, List, [], ◌∷◌, ◌++◌, All, Contains, Option, None, Some, Result, Ok, Err, length, get_or, if◌then◌else◌}
 use Rattle.decode80.specs.declared.fetching.Fetched.{Fetched}
 use Rattle.decode80.specs.declared.fetching.FetchFault.{FetchFault}
 use Rattle.decode80.specs.declared.instr.Instr.{Instr}

@@ -19,7 +19,7 @@ use Rattle.verify80_walks.specs.declared.point.Point.{Point}
 use Rattle.verify80_walks.specs.declared.search.Search.{Search}
 use Rattle.verify80_explain.specs.Chains.{AreDepthsOf, AreGreatestOf, AreSitesOf, CallsAt, IsNotTheBound, NoneStands, NoNextCall}
 use Rattle.verify80_walks.specs.Search.{IsFound, IsWhole, point_of}
-use Rattle.verify80_explain.proofs.ListLemmas.{at-contained, contains-at, there_is}
+use Rattle.frames80.specs.Lists.{at-contained, contains-at, there_is}
 
 module _ (code : Code) (s : Search) (found : IsFound code s) (whole : IsWhole code s) where
   module _ (depths : List Depth) (of : AreDepthsOf code s.points.keys depths) where

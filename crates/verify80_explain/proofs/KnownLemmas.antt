@@ -14,7 +14,7 @@ use Rattle.verify80_explain.specs.Ring.{Chained, IsRingOf}
 use Rattle.verify80_walks.specs.Search.{CallersAreThere, HasCall, IsFound}
 use Rattle.verify80_explain.specs.Shows.{RingOf}
 use Rattle.verify80_walks.specs.Ways.{IsCalled, Lead}
-use Rattle.verify80_explain.proofs.ListLemmas.{there_is}
+use Rattle.frames80.specs.Lists.{there_is}
 
 -- a call that is noted is known
 pub known-at : (s : Search) (calls : List Call) → AreKnown s (length s.calls.items) calls → (n target : ℕ) (point : Point) → HasCall s.calls.items n target → slice_get s.points.keys n ≡ Some point →

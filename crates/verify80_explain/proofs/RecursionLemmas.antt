@@ -11,7 +11,7 @@ use Rattle.verify80_walks.specs.declared.search.Search.{Search}
 use Rattle.verify80_explain.specs.Known.{AreKnown, HasNoRing}
 use Rattle.verify80_explain.specs.Ring.{Chained}
 use Rattle.verify80_walks.specs.Search.{IsWhole, point_of}
-use Rattle.verify80_explain.proofs.ListLemmas.{contains-at}
+use Rattle.frames80.specs.Lists.{contains-at}
 use Rattle.verify80_explain.proofs.KnownLemmas.{known-at}
 use Rattle.verify80_explain.proofs.RingLemmas.{chained-push}
 

@@ -8,8 +8,7 @@ use Rattle.frames80.specs.declared.procedure.Procedure.TheVariants.{Main, Entry}
 use Rattle.verify80_walks.specs.declared.route.Call.{Call}
 use Rattle.verify80_explain.specs.declared.ring.Reach.{Reach}
 use Rattle.verify80_explain.specs.Ring.{AreComplete, AreLinked, AreMarked, AreReached, Chained, EntersAt, IsEntered, IsFollowed, IsFurther, IsLed, IsLedBack, NoneLeadBack, ReachesFrom}
-use Rattle.verify80_walks.specs.Search.{Extends}
-use Rattle.verify80_explain.proofs.ListLemmas.{extends-push, slice_get-append, slice_get-extends, slice_get-last, slice_get-push, there_is}
+use Rattle.frames80.specs.Lists.{Extends, extends-push, slice_get-append, slice_get-extends, slice_get-last, slice_get-push, there_is}
 
 module _ (calls : List Call) (first : Call) where
   pub linked : (reached : List Reach) → AreReached calls first reached → AreLinked reached

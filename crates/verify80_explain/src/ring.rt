@@ -5,7 +5,7 @@ ghost use Rattle.frames80.specs.declared.procedure.Procedure.TheVariants.{Entry}
 ghost use Rattle.verify80_walks.specs.declared.route.Call.{Call as CallSeen};
 ghost use Rattle.verify80_explain.specs.declared.ring.Reach.{Reach as ReachSeen};
 ghost use Rattle.verify80_explain.specs.Ring.{AreComplete, AreLinked, AreMarked, AreReached, EntersAt, IsEntered, IsLed, IsRingOf, NoneLeadBack, ReachesFrom};
-ghost use Rattle.verify80_walks.specs.Search.{Extends};
+ghost use Rattle.frames80.specs.Lists.{Extends};
 
 use frames80::table;
 use std::alloc::{AllocError, Global};

@@ -11,8 +11,9 @@ use Rattle.verify80_walks.specs.declared.point.Point.{Point}
 use Rattle.verify80_walks.specs.declared.origin.Exit.{Exit}
 use Rattle.verify80_walks.specs.declared.origin.CallingPoint.{CallingPoint}
 use Rattle.verify80_walks.specs.declared.search.Search.{Search}
-use Rattle.verify80_walks.specs.Search.{BacksTo, Covers, Extends, Grows, Has, HasBack, HasCall, HasExit, IsClosed, IsCovered, IsSound, IsUnderWay, KeepsCovered, NotesCalls, SamePoints, point_of}
-use Rattle.verify80_walks.proofs.ListLemmas.{extends-push, one_more, slice_get-extends, slice_get-push, there_is}
+use Rattle.verify80_walks.specs.Search.{BacksTo, Covers, Grows, Has, HasBack, HasCall, HasExit, IsClosed, IsCovered, IsSound, IsUnderWay, KeepsCovered, NotesCalls, SamePoints, point_of}
+use Rattle.frames80.specs.Lists.{Extends, extends-push, slice_get-extends, slice_get-push, there_is}
+use Rattle.verify80_walks.proofs.ListLemmas.{one_more}
 use Rattle.verify80_walks.proofs.SearchLemmas.{has-extends}
 use Rattle.verify80_walks.proofs.MoveLemmas.{notes-extends}
 

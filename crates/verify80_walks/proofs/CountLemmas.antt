@@ -14,7 +14,7 @@ use Rattle.verify80_walks.specs.declared.search.Search.{Search}
 use Rattle.verify80_walks.specs.Counts.{AreDistinct, ComesToMore, GoesDeep, HasDeep, weight_of, weight_of_all}
 use Rattle.verify80_walks.specs.PointEquality.{point_decides, point_eq}
 use Rattle.verify80_walks.specs.Search.{IsCounted, IsSound}
-use Rattle.verify80_walks.proofs.ListLemmas.{slice_get-push}
+use Rattle.frames80.specs.Lists.{slice_get-push}
 use Rattle.verify80_walks.proofs.WayLemmas.{walked}
 
 -- a point that none is equal to isn't there

@@ -14,7 +14,7 @@ use Rattle.verify80_walks.specs.declared.origin.Exit.{Exit}
 use Rattle.verify80_walks.specs.PointEquality.{same_slot}
 use Rattle.verify80_walks.specs.Exits.{AreCallsOf, AreExitsOf}
 use Rattle.verify80_walks.specs.Groups.{AreItemsOf, AreLinked, Grouped, IsItemOf, IsLastBelow}
-use Rattle.verify80_walks.proofs.ListLemmas.{at-contained, contains-at, slice_get-last, slice_get-push}
+use Rattle.frames80.specs.Lists.{at-contained, contains-at, slice_get-last, slice_get-push}
 
 -- the last number below a bound stays so when one more procedure follows
 last-kept : (procedures new : List Procedure) (p q : Procedure) (bound : ℕ) (one : Option ℕ) → new ≡ procedures ++ p ∷ [] → bound ≤ length procedures → IsLastBelow procedures q bound one → IsLastBelow new q bound one

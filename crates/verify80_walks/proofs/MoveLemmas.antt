@@ -17,10 +17,10 @@ use Rattle.verify80_flow.specs.Walks.{Calls, GoesOn, LeadsTo, Moving, called, re
 use Rattle.verify80_walks.specs.declared.point.Point.{Point}
 use Rattle.verify80_walks.specs.declared.origin.Exit.{Exit}
 use Rattle.verify80_walks.specs.declared.origin.CallingPoint.{CallingPoint}
-use Rattle.verify80_walks.specs.Search.{Has, HasExit, HasBack, BacksFrom, Comes, CoversMove, Covers, Extends, IsBack, IsCalling, IsExit, IsMoving, IsMovingAt, IsSound, Grows, IsAdded, NotesCalls, NotesMove, point_of}
+use Rattle.verify80_walks.specs.Search.{Has, HasExit, HasBack, BacksFrom, Comes, CoversMove, Covers, IsBack, IsCalling, IsExit, IsMoving, IsMovingAt, IsSound, Grows, IsAdded, NotesCalls, NotesMove, point_of}
 use Rattle.verify80_walks.specs.declared.origin.Origin.TheVariants.{GoesOn as GoesOnFrom, Enters as EntersBy, ComesBack}
 use Rattle.verify80_walks.specs.declared.search.Search.{Search}
-use Rattle.verify80_walks.proofs.ListLemmas.{extends-push, extends-same, slice_get-extends, slice_get-last}
+use Rattle.frames80.specs.Lists.{Extends, extends-push, extends-same, slice_get-extends, slice_get-last}
 use Rattle.verify80_walks.proofs.SearchLemmas.{has-extends, grows-added}
 
 module _ (code : Code) (points : List Point) (exits : List Exit) (point : Point) (next : ℕ) where

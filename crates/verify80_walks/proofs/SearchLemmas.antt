@@ -10,8 +10,8 @@ use Rattle.verify80_walks.specs.declared.origin.Exit.{Exit}
 use Rattle.verify80_walks.specs.declared.origin.CallingPoint.{CallingPoint}
 use Rattle.verify80_walks.specs.declared.search.Search.{Search}
 use Rattle.verify80_walks.specs.Counts.{AreDistinct, weight_of_all}
-use Rattle.verify80_walks.specs.Search.{IsCounted, Has, Before, Comes, IsExit, IsCalling, IsSound, Extends, IsAdded, SamePoints, Grows}
-use Rattle.verify80_walks.proofs.ListLemmas.{slice_get-extends, slice_get-push, extends-same, extends-push, extends-on}
+use Rattle.verify80_walks.specs.Search.{IsCounted, Has, Before, Comes, IsExit, IsCalling, IsSound, IsAdded, SamePoints, Grows}
+use Rattle.frames80.specs.Lists.{Extends, extends-on, extends-push, extends-same, slice_get-extends, slice_get-push}
 
 pub has-extends : (old new : List Point) → Extends old new → (point : Point) → Has old point → Has new point
 has-extends old new e point h = record { number = h.number; is = slice_get-extends old new e h.number point h.is }

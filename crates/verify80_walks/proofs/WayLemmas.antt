@@ -6,7 +6,7 @@ use Rattle.frames80.specs.declared.procedure.Procedure.{Procedure}
 use Rattle.frames80.specs.declared.procedure.Procedure.TheVariants.{Main, Entry}
 use Rattle.frames80.specs.Code.{Code}
 use Rattle.verify80_flow.specs.Walks.{Calls, Returns, Walk, begins, goes_on, enters, comes_back}
-use Rattle.verify80_walks.proofs.ListLemmas.{there_is}
+use Rattle.frames80.specs.Lists.{there_is}
 use Rattle.verify80_walks.specs.declared.point.Point.{Point}
 use Rattle.verify80_walks.specs.declared.route.Call.{Call}
 use Rattle.verify80_walks.specs.declared.origin.Origin.{Origin}

@@ -3,6 +3,7 @@ use Rattle.std.specs.Prelude.{◌≡◌, ◌<◌, ◌≤◌, ◌*◌, ◌⊎◌,
 use Rattle.decode80.specs.declared.fetching.Fetched.{Fetched}
 use Rattle.frames80.specs.declared.fault.FrameFault.{FrameFault}
 use Rattle.frames80.specs.declared.moves.Moves.{Moves}
+use Rattle.frames80.specs.Lists.{Extends}
 use Rattle.frames80.specs.StackFrame.{StackFrame, entry_frame, main_frame}
 use Rattle.frames80.specs.Effects.{effect_of}
 use Rattle.frames80.specs.Moves.{moves_of}
@@ -113,11 +114,6 @@ pub record IsMovingAt (code : Code) (points : List Point) (number : ℕ) (moves 
   pub point : Point
   pub is : slice_get points number ≡ Some point
   pub moving : IsMoving code point moves next
-
--- a list has only been added to
-pub record Extends {X : Type 0} (old new : List X) : Type 0 where
-  pub more : List X
-  pub is : new ≡ old ++ more
 
 -- each point is found once, and the weight is at most that of all
 pub record IsCounted (code : Code) (s : Search) : Type 0 where

@@ -16,8 +16,8 @@ are_absolute : (segments : List Placed) (publics : List Public) → AllByRecursi
 are_absolute segments [] = tt
 are_absolute segments (public ∷ publics) = (refl, are_absolute segments publics)
 
-pub image_module-named-requires : goal.image_module-named-requires
-image_module-named-requires c =
+pub image_module-requires : goal.image_module-requires
+image_module-requires c =
     subst (λ (l : List Public). AllByRecursion (λ p. p.segment ≡ 0) l) (sym c.in_ok-placed_publics.ensures)
     (are_absolute c.args.segments.now c.args.publics.now)
 

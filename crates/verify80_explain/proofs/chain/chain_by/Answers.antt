@@ -3,7 +3,7 @@ use Rattle.std.specs.Prelude.{IfNone, IfSome}
 use Rattle.verify80_bounds.specs.Chains.{bytes_of}
 use Rattle.frames80.specs.declared.procedure.Procedure.TheVariants.{Main}
 use Rattle.verify80_explain.specs.Chains.{EndsWith, IsChain, NoneStands, NoNextCall}
-use Rattle.verify80_explain.proofs.ListLemmas.{append_nil}
+use Rattle.std.proofs.lemmas.List.{append-nil}
 use Rattle.verify80_explain.proofs.BoundLemmas.{goes-on}
 use Rattle.verify80_explain.proofs.ChainLemmas.{chain-call, chain-end}
 use Rattle.verify80_explain.proofs.chain.chain_by.Goals as goal
@@ -16,7 +16,7 @@ returns-in-Some-clause-chain g c =
     let p = c.loop-calls.procedure in
     let found = subst (λ r. IfSome r (EndsWith code p c.get-bytes.result)) c.in-Some.is c.in_ok-last.ensures.last in
     let ends = subst (λ bytes. EndsWith code p bytes last) c.get-bytes.ensures found in
-    subst (λ calls. IsChain code Main calls last (pos (bytes_of bounds Main))) (append_nil c.loop-calls.calls.items) (c.loop-calls.invariant.chain [] last (chain-end code p (bytes_of bounds p) last ends))
+    subst (λ calls. IsChain code Main calls last (pos (bytes_of bounds Main))) (append-nil c.loop-calls.calls.items) (c.loop-calls.invariant.chain [] last (chain-end code p (bytes_of bounds p) last ends))
 
 pub loop-calls-preserved : goal.loop-calls-preserved
 loop-calls-preserved g c =
@@ -39,7 +39,7 @@ returns-in_default-next_call-clause-chain g c =
     let p = c.loop-calls.procedure in
     let found = subst (λ r. IfSome r (EndsWith code p c.get-bytes.result)) c.in-Some-2.is c.in_ok-last-2.ensures.last in
     let ends = subst (λ bytes. EndsWith code p bytes last) c.get-bytes.ensures found in
-    subst (λ calls. IsChain code Main calls last (pos (bytes_of bounds Main))) (append_nil c.loop-calls.calls.items) (c.loop-calls.invariant.chain [] last (chain-end code p (bytes_of bounds p) last ends))
+    subst (λ calls. IsChain code Main calls last (pos (bytes_of bounds Main))) (append-nil c.loop-calls.calls.items) (c.loop-calls.invariant.chain [] last (chain-end code p (bytes_of bounds p) last ends))
 
 pub returns-in_default-2-clause-none : goal.returns-in_default-2-clause-none
 returns-in_default-2-clause-none g c = λ depths of.

@@ -9,7 +9,8 @@ use Rattle.verify80_bounds.specs.Chains.{IsModest}
 use Rattle.verify80_bounds.specs.declared.graph.Depth.{Depth}
 use Rattle.verify80_walks.specs.declared.point.Point.{Point}
 use Rattle.verify80_explain.specs.Chains.{IsDepthOf}
-use Rattle.verify80_explain.proofs.ListLemmas.{each-push, read_at}
+use Rattle.frames80.specs.Lists.{read_at}
+use Rattle.verify80_explain.proofs.ListLemmas.{each-push}
 use Rattle.verify80_explain.proofs.StopLemmas.{goes-deep, limited_by}
 use Rattle.verify80_explain.proofs.chain.depths.Goals as goal
 

@@ -2,7 +2,7 @@ use Rattle.std.proofs.Common.{◌<◌, inl, inr, ap, length, arith}
 use Rattle.std.specs.Prelude.{Err}
 use Rattle.verify80_walks.specs.declared.point.Point.{Point}
 use Rattle.verify80_explain.proofs.StopLemmas.{limited_by}
-use Rattle.verify80_explain.proofs.ListLemmas.{read_at}
+use Rattle.frames80.specs.Lists.{read_at}
 use Rattle.verify80_explain.proofs.clashes.find_difference.Goals as goal
 
 pub returns-in_err-other-clause-limited : goal.returns-in_err-other-clause-limited

@@ -5,7 +5,8 @@ use Rattle.verify80_walks.specs.declared.point.Point.{Point}
 use Rattle.verify80_explain.specs.declared.evidence.Clash.TheVariants.{Shortage}
 use Rattle.verify80_explain.specs.Evidence.{ClashAt, IsNoOne}
 use Rattle.verify80_explain.proofs.StopLemmas.{limited_by}
-use Rattle.verify80_explain.proofs.ListLemmas.{one_more, read_at}
+use Rattle.frames80.specs.Lists.{read_at}
+use Rattle.verify80_explain.proofs.ListLemmas.{one_more}
 use Rattle.verify80_explain.proofs.clashes.find_shortage.Goals as goal
 
 pub loop-one-preserved : goal.loop-one-preserved

@@ -5,7 +5,8 @@ use Rattle.verify80_walks.specs.declared.point.Point.{Point}
 use Rattle.verify80_explain.specs.declared.clashes.Count.{Count}
 use Rattle.verify80_explain.specs.Evidence.{CountOf, IsNoted}
 use Rattle.verify80_explain.proofs.ClashLemmas.{counts_not, counts_once, mixed-marked, noted_at}
-use Rattle.verify80_explain.proofs.ListLemmas.{one_more, read_at}
+use Rattle.frames80.specs.Lists.{read_at}
+use Rattle.verify80_explain.proofs.ListLemmas.{one_more}
 use Rattle.verify80_explain.proofs.clashes.mixed.Goals as goal
 use Rattle.verify80_explain.proofs.clashes.mixed.Goals.{in-Some, in_default}
 

@@ -6,7 +6,8 @@ use Rattle.verify80_walks.specs.declared.origin.CallingPoint.{CallingPoint}
 use Rattle.verify80_walks.specs.declared.route.Call.{Call}
 use Rattle.verify80_explain.specs.Ring.{AreComplete, IsRingOf, NoneLeadBack, ReachesFrom}
 use Rattle.verify80_walks.specs.Ways.{Lead}
-use Rattle.verify80_explain.proofs.ListLemmas.{contains-at, one_more, read_at}
+use Rattle.frames80.specs.Lists.{contains-at, read_at}
+use Rattle.verify80_explain.proofs.ListLemmas.{one_more}
 use Rattle.verify80_explain.proofs.KnownLemmas.{rings}
 use Rattle.verify80_explain.proofs.RingLemmas.{complete, linked, none-yet}
 use Rattle.verify80_explain.proofs.recursion.ring.Goals as goal

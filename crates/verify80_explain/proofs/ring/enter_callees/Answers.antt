@@ -6,7 +6,8 @@ use Rattle.frames80.specs.declared.procedure.Procedure.TheVariants.{Entry}
 use Rattle.verify80_walks.specs.declared.route.Call.{Call}
 use Rattle.verify80_explain.specs.declared.ring.Reach.{Reach}
 use Rattle.verify80_explain.specs.Ring.{IsEntered}
-use Rattle.verify80_explain.proofs.ListLemmas.{extends-on, extends-push, one_more}
+use Rattle.frames80.specs.Lists.{extends-on, extends-push}
+use Rattle.verify80_explain.proofs.ListLemmas.{one_more}
 use Rattle.verify80_explain.proofs.RingLemmas.{entered-extends, entered-push, enters-push, marked-set, no_call, reached-further}
 use Rattle.verify80_explain.proofs.ring.enter_callees.Goals as goal
 use Rattle.verify80_explain.proofs.ring.enter_callees.Goals.{then-is_of+then-not-index+in_ok-push, else-is_of, else-is_of-via-then-is_of+else-not-index, else-is_of-via-else-is_of}

@@ -2,7 +2,7 @@ use Rattle.std.specs.Prelude.{◌≡◌, ◌<◌, ℕ, Some, length, slice_get}
 use Rattle.frames80.specs.declared.procedure.Procedure.TheVariants.{Entry}
 use Rattle.verify80_walks.specs.declared.route.Call.{Call}
 use Rattle.verify80_explain.specs.Ring.{AreMarked, AreReached, EntersAt, IsEntered}
-use Rattle.verify80_walks.specs.Search.{Extends}
+use Rattle.frames80.specs.Lists.{Extends}
 use Rattle.verify80_explain.proofs.ring.enter_callees.Given as goal
 
 abbrev pub invariant-loop-call : goal.invariant-loop-call

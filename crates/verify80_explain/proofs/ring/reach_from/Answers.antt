@@ -3,7 +3,8 @@ use Rattle.std.proofs.lemmas.Option.{same_Some}
 use Rattle.frames80.specs.declared.procedure.Procedure.TheVariants.{Entry}
 use Rattle.verify80_explain.specs.declared.ring.Reach.{Reach}
 use Rattle.verify80_explain.specs.Ring.{IsFollowed}
-use Rattle.verify80_explain.proofs.ListLemmas.{one_more, read_at, slice_get-extends}
+use Rattle.frames80.specs.Lists.{read_at, slice_get-extends}
+use Rattle.verify80_explain.proofs.ListLemmas.{one_more}
 use Rattle.verify80_explain.proofs.RingLemmas.{entered-extends, followed-extends}
 use Rattle.verify80_explain.proofs.ring.reach_from.Goals as goal
 

@@ -3,7 +3,7 @@ use Rattle.std.proofs.lemmas.Option.{slice_get-get_or}
 use Rattle.frames80.specs.declared.procedure.Procedure.TheVariants.{Main}
 use Rattle.verify80_walks.specs.declared.origin.Exit.{Exit}
 use Rattle.verify80_walks.proofs.GroupLemmas.{exits-of}
-use Rattle.verify80_walks.proofs.ListLemmas.{at-contained, contains-at}
+use Rattle.frames80.specs.Lists.{at-contained, contains-at}
 use Rattle.verify80_walks.proofs.exits.Exits.has.Goals as goal
 
 abbrev no_exit : Exit

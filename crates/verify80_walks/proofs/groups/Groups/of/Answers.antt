@@ -1,7 +1,7 @@
 use Rattle.std.proofs.Common.{◌≡◌, ◌<◌, Some, ap, map, slice_get, subst, sym, refl}
 use Rattle.verify80_walks.specs.Groups.{IsLastBelow}
 use Rattle.verify80_walks.proofs.GroupLemmas.{AreFound, before-smaller, bound_of, found-one, mapped, within-map}
-use Rattle.verify80_walks.proofs.ListLemmas.{read_at}
+use Rattle.frames80.specs.Lists.{read_at}
 use Rattle.verify80_walks.proofs.groups.Groups.of.Goals as goal
 
 pub index-link-requires : goal.index-link-requires

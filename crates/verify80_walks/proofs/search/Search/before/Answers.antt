@@ -1,6 +1,6 @@
 use Rattle.std.proofs.Common.{Some, refl, ◌∙◌, ap, arith}
 use Rattle.verify80_walks.specs.declared.origin.Origin.{Origin}
-use Rattle.verify80_walks.proofs.ListLemmas.{read_at}
+use Rattle.frames80.specs.Lists.{read_at}
 use Rattle.verify80_walks.proofs.WayLemmas.{next-on, next-back, no_before, starts-here}
 use Rattle.verify80_walks.proofs.search.Search.before.Goals as goal
 

@@ -2,7 +2,7 @@ use Rattle.std.proofs.Common.{Some, sym, ◌∙◌, ap, subst, arith}
 use Rattle.verify80_walks.specs.declared.origin.Origin.{Origin}
 use Rattle.verify80_walks.specs.declared.route.Call.{Call}
 use Rattle.verify80_walks.specs.Search.{IsCallTo, caller_of}
-use Rattle.verify80_walks.proofs.ListLemmas.{read_at, there_is}
+use Rattle.frames80.specs.Lists.{read_at, there_is}
 use Rattle.verify80_walks.proofs.WayLemmas.{begun, call-to, main-begins}
 use Rattle.verify80_walks.proofs.search.Search.caller_of.Goals as goal
 

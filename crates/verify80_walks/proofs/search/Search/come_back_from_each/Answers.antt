@@ -2,7 +2,8 @@ use Rattle.std.proofs.Common.{◌≡◌, ◌<◌, List, Some, length, slice_get,
 use Rattle.std.proofs.lemmas.Option.{same_Some, slice_get-get_or, slice_get_within}
 use Rattle.verify80_walks.specs.declared.origin.Exit.{Exit}
 use Rattle.verify80_walks.specs.Search.{HasBack}
-use Rattle.verify80_walks.proofs.ListLemmas.{at-contained, contains-at, one_more, slice_get-extends}
+use Rattle.frames80.specs.Lists.{at-contained, contains-at, slice_get-extends}
+use Rattle.verify80_walks.proofs.ListLemmas.{one_more}
 use Rattle.verify80_walks.proofs.SearchLemmas.{grows-on}
 use Rattle.verify80_walks.proofs.MoveLemmas.{back-extends}
 use Rattle.verify80_walks.proofs.search.Search.come_back_from_each.Goals as goal

@@ -3,7 +3,8 @@ use Rattle.std.proofs.lemmas.Option.{same_Some, slice_get-get_or, slice_get_with
 use Rattle.verify80_walks.specs.declared.origin.CallingPoint.{CallingPoint}
 use Rattle.verify80_walks.specs.declared.point.Point.{Point}
 use Rattle.verify80_walks.specs.Search.{HasBack}
-use Rattle.verify80_walks.proofs.ListLemmas.{at-contained, contains-at, one_more, slice_get-extends}
+use Rattle.frames80.specs.Lists.{at-contained, contains-at, slice_get-extends}
+use Rattle.verify80_walks.proofs.ListLemmas.{one_more}
 use Rattle.verify80_walks.proofs.SearchLemmas.{exit-extends, grows-on}
 use Rattle.verify80_walks.proofs.MoveLemmas.{back-extends}
 use Rattle.verify80_walks.proofs.search.Search.come_back_to_each.Goals as goal

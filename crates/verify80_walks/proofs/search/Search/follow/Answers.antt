@@ -6,7 +6,7 @@ use Rattle.verify80_flow.specs.Walks.{called}
 use Rattle.verify80_walks.specs.declared.origin.Exit.{Exit}
 use Rattle.verify80_walks.specs.declared.origin.CallingPoint.{CallingPoint}
 use Rattle.verify80_walks.specs.Search.{BacksFrom, Has, HasExit, IsCalling, IsExit, IsMovingAt, NotesMove, point_of}
-use Rattle.verify80_walks.proofs.ListLemmas.{extends-push, extends-same, slice_get-extends}
+use Rattle.frames80.specs.Lists.{extends-push, extends-same, slice_get-extends}
 use Rattle.verify80_walks.proofs.ClosedLemmas.{keeps-both, keeps-on}
 use Rattle.verify80_walks.proofs.SearchLemmas.{grows-on, has-extends}
 use Rattle.verify80_walks.proofs.MoveLemmas.{backs-all, calling-at, covers-at, covers-call, covers-either, covers-maybe_call, covers-maybe_return, exit-at, goes-move, moving-extends, notes-call, notes-same}

@@ -3,7 +3,8 @@ use Rattle.std.proofs.lemmas.Option.{same_Some}
 use Rattle.verify80_walks.specs.Search.{Has, IsAdded, point_of}
 use Rattle.verify80_walks.specs.declared.origin.Origin.TheVariants.{GoesOn}
 use Rattle.verify80_walks.specs.declared.point.Point.{Point}
-use Rattle.verify80_walks.proofs.ListLemmas.{one_more, slice_get-extends}
+use Rattle.frames80.specs.Lists.{slice_get-extends}
+use Rattle.verify80_walks.proofs.ListLemmas.{one_more}
 use Rattle.verify80_walks.proofs.SearchLemmas.{grows-on, has-extends}
 use Rattle.verify80_walks.proofs.MoveLemmas.{goes-case, targets-there, moving-extends}
 use Rattle.verify80_walks.proofs.search.Search.go_to_each.Goals as goal

@@ -1,5 +1,5 @@
 use Rattle.std.proofs.Common.{arith}
-use Rattle.verify80_walks.proofs.ListLemmas.{there_is}
+use Rattle.frames80.specs.Lists.{there_is}
 use Rattle.verify80_walks.proofs.WayLemmas.{leads-begin, leads-step}
 use Rattle.verify80_walks.proofs.search.Search.start_of.Goals as goal
 
