@@ -84,7 +84,7 @@ module _ (image : Located) (bytes : ℕ) (reached : List (Option Fetched)) (tabl
           (e.inside (inr (jump_there image bytes reached table addresses stores jumps sound walks are whole keeps each_store open_below each_jump w p.found (stands_of w s) p.inside jump))).jumps is;
     }
 
-    anywhere : Executes image.regions Anywhere w v
+    abbrev anywhere : Executes image.regions Anywhere w v
     anywhere = record { found = e.found; byte = e.byte; after = e.after; fetched = e.fetched; small = e.small; inside = λ listed. stays; goes = e.goes; is = e.is }
 
     goes_on : Stands v
