@@ -39,7 +39,7 @@ module _ (image : Located) (table : Table) (most : ℕ) (rules : Ground image.re
   abbrev Walks : World → Type 0
   Walks w = OnWalk (code_of image) w.machine.cpu.pc w.places
 
-  along : (w : World) (f : FindsHere w) → Walks w → Along image w f.found.instr f.found.next
+  pub along : (w : World) (f : FindsHere w) → Walks w → Along image w f.found.instr f.found.next
   along w f o =
       let a : Admits (code_of image) o.procedure w.machine.cpu.pc o.frame = admits (code_of image) none o.procedure w.machine.cpu.pc o.frame o.walk in
       let there = f.looked in
@@ -60,20 +60,20 @@ module _ (image : Located) (table : Table) (most : ℕ) (rules : Ground image.re
   followed limit w None watched before h = cc
   followed limit w (Some v) watched before h = stays limit v w (watched v refl) (before v refl) h
 
+  pub starts : (start : Machine) → IsStart image start → Walks (world_of start)
+  starts start is_start = record {
+    procedure = Main;
+    frame = main_frame;
+    walk = begins Main start.cpu.pc main_frame (record { procedure = refl; start = is_start.pc; frame = refl });
+    calls = in_main Main [] (record { procedure = refl; none = refl });
+  }
+
   module _ (start : Machine) (is_start : IsStart image start) where
     watched_at : (limit : Option ℕ) (n : ℕ) (w : World) → world_at image.regions limit (world_of start) n ≡ Some w → Watched image table most w
     watched_at limit n w h = watched_from image table most rules fits printed within changes returns_law looks fetches start is_start limit w (record { steps = n; is = h })
 
-    starts : Walks (world_of start)
-    starts = record {
-      procedure = Main;
-      frame = main_frame;
-      walk = begins Main start.cpu.pc main_frame (record { procedure = refl; start = is_start.pc; frame = refl });
-      calls = in_main Main [] (record { procedure = refl; none = refl });
-    }
-
     always : (limit : Option ℕ) (n : ℕ) (w : World) → world_at image.regions limit (world_of start) n ≡ Some w → Walks w
-    always limit zero w h = subst Walks (world_in h) starts
+    always limit zero w h = subst Walks (world_in h) (starts start is_start)
     always limit (suc n) w h = followed limit w (world_at image.regions limit (world_of start) n) (watched_at limit n) (always limit n) h
 
   pub stays_on_walks : StaysOnWalks image

@@ -39,7 +39,7 @@ stack_within regions rules =
     (Contains-append_right regions.code (regions.stack ∷ regions.data_ranges) regions.stack
     (Contains-append_left (regions.stack ∷ []) regions.data_ranges regions.stack (Contains-push [] regions.stack)))).«end»
 
-in_words : (words : List Word) (i : ℕ) → word_from_top words i ≡ Own → i < length words
+pub in_words : (words : List Word) (i : ℕ) → word_from_top words i ≡ Own → i < length words
 in_words [] i own = absurd (let e : Any ≡ Own = own in cc)
 in_words (word ∷ words) zero own = omega arith
 in_words (word ∷ words) (suc i) own = let less = in_words words i own in omega (arith, less)

@@ -45,11 +45,11 @@ passes_on f x xs first rest = go where
   go zero d inside = first
   go (suc k) d inside = rest k d (omega arith)
 
-all_pass : (f : ℕ → Bool) (xs : List ℕ) → list_all f xs ≡ true → All (λ x. f x ≡ true) xs
+pub all_pass : (f : ℕ → Bool) (xs : List ℕ) → list_all f xs ≡ true → All (λ x. f x ≡ true) xs
 all_pass f [] h = λ k d inside. absurd (omega arith)
 all_pass f (x ∷ xs) h = passes_on f x xs (both (f x) (list_all f xs) h).0 (all_pass f xs (both (f x) (list_all f xs) h).1)
 
-none_outside : (f : ℕ → Bool) (xs : List ℕ) → list_all f xs ≡ true → first_outside f xs ≡ None
+pub none_outside : (f : ℕ → Bool) (xs : List ℕ) → list_all f xs ≡ true → first_outside f xs ≡ None
 none_outside f [] h = refl
 none_outside f (x ∷ xs) h =
     let parts = both (f x) (list_all f xs) h in
@@ -170,7 +170,7 @@ module _ (image : Located) (table : Table) (most : ℕ) (rules : Ground image.re
   followed limit w (Some v) before h = stays_watched limit v w (before v refl) h
 
   -- a start is watched
-  begins_watched : (start : Machine) → IsStart image start → Watched image table most (world_of start)
+  pub begins_watched : (start : Machine) → IsStart image start → Watched image table most (world_of start)
   begins_watched start is =
       arrived image table most start [] Main main_frame 0 0 (record {
         has = subst (λ a. Has table Main a main_frame) (sym is.pc) fits.start;
@@ -199,7 +199,7 @@ module _ (image : Located) (table : Table) (most : ℕ) (rules : Ground image.re
   same_found w f found fetched = let there = f.fetched in cc (there, fetched)
 
   -- the guard finds a store through a pair alone
-  passes_guard : (w : World) (f : Finds w) → guard image.regions f.found.instr w.machine.cpu ≡ ends_at (first_outside (in_data image.regions) (pointed_bytes f.found.instr w.machine.cpu.registers)) StoreOutside None
+  pub passes_guard : (w : World) (f : Finds w) → guard image.regions f.found.instr w.machine.cpu ≡ ends_at (first_outside (in_data image.regions) (pointed_bytes f.found.instr w.machine.cpu.registers)) StoreOutside None
   passes_guard w f =
       let last_one : Option End = ends_at (first_outside (in_data image.regions) (pointed_bytes f.found.instr w.machine.cpu.registers)) StoreOutside None in
       let direct : first_outside (in_data image.regions) (direct_bytes f.found.instr) ≡ None = none_outside (in_data image.regions) (direct_bytes f.found.instr) f.stores in

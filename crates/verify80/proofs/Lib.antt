@@ -11,3 +11,6 @@ pub mod Headline
 pub mod WalkLemmas
 pub mod WalkStepLemmas
 pub mod Along
+pub mod BoardSteps
+pub mod BoardLemmas
+pub mod BoardStarts

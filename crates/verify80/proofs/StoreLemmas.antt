@@ -119,15 +119,21 @@ pub record SameCode (regions : Areas) (memory memory' : List ℕ) : Type 0 where
 pub data_keeps_code : (regions : Areas) (old m m' : List ℕ) → Ground regions → StoresData regions m m' → SameCode regions old m → SameCode regions old m'
 data_keeps_code regions old m m' rules stored_data code = record { bytes = λ a here. code.bytes a here ∙ sym (stored_data.same a (rules.code_or_data a here)) }
 
-pub data_keeps_words : (regions : Areas) (below : ℕ) (m m' : List ℕ) → Ground regions → 2 * below ≤ regions.stack.length → StoresData regions m m' →
-    SameWords (regions.stack.first + regions.stack.length) below m m'
-data_keeps_words regions below m m' rules room stored_data = record {
+-- if each byte of the stack is as it was
+pub stack_keeps_words : (regions : Areas) (below : ℕ) (m m' : List ℕ) → 2 * below ≤ regions.stack.length →
+    ((a : ℕ) → in_range regions.stack a ≡ true → slice_index m' a ≡ slice_index m a) → SameWords (regions.stack.first + regions.stack.length) below m m'
+stack_keeps_words regions below m m' room same = record {
   same = λ k less.
-      let high = stored_data.same ((regions.stack.first + regions.stack.length) - (2 * k + 1)) (stack_not_data regions _ rules (inside regions.stack _ (omega arith) (omega arith))) in
-      let low = stored_data.same ((regions.stack.first + regions.stack.length) - (2 * k + 2)) (stack_not_data regions _ rules (inside regions.stack _ (omega arith) (omega arith))) in
+      let high = same ((regions.stack.first + regions.stack.length) - (2 * k + 1)) (inside regions.stack _ (omega arith) (omega arith)) in
+      let low = same ((regions.stack.first + regions.stack.length) - (2 * k + 2)) (inside regions.stack _ (omega arith) (omega arith)) in
       ap (λ h. 256 * h + slice_index m' ((regions.stack.first + regions.stack.length) - (2 * k + 2))) high
       ∙ ap (λ l. 256 * slice_index m ((regions.stack.first + regions.stack.length) - (2 * k + 1)) + l) low;
 }
+
+pub data_keeps_words : (regions : Areas) (below : ℕ) (m m' : List ℕ) → Ground regions → 2 * below ≤ regions.stack.length → StoresData regions m m' →
+    SameWords (regions.stack.first + regions.stack.length) below m m'
+data_keeps_words regions below m m' rules room stored_data =
+    stack_keeps_words regions below m m' room (λ a here. stored_data.same a (stack_not_data regions a rules here))
 
 pub word_keeps_code : (regions : Areas) (place high low : ℕ) (old m m' : List ℕ) → Ground regions → 2 * place + 2 ≤ regions.stack.length →
     Written (regions.stack.first + regions.stack.length) place high low m m' → SameCode regions old m → SameCode regions old m'

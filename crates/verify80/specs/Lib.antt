@@ -3,4 +3,5 @@ pub mod LookLaws
 pub mod Kept
 pub mod Starts
 pub mod Reached
+pub mod Boards
 pub mod Soundness

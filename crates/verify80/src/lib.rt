@@ -14,6 +14,7 @@
 //! | [`fitted_images_never_go_wrong`] | if a table of frames fits an image, no run of it goes wrong, as a contract |
 //! | [`images_never_go_wrong_from_power_on`], [`runs_begin_from_power_on`] | the same of runs from power-on, as contracts |
 //! | [`accepted_images_stay_on_walks`] | each run of an accepted image stays on its walks, as a contract |
+//! | [`promise_is_kept_on_boards`], [`walks_are_kept_on_boards`] | the same on every board, unguarded and among devices, as contracts |
 #![tactic(auto)]
 
 mod image_code;
@@ -25,7 +26,8 @@ pub use image_code::ImageCode;
 pub use laws::looks_are_exact;
 pub use promise::{
     accepted_images_stay_on_walks, fitted_images_never_go_wrong,
-    images_never_go_wrong_from_power_on, runs_begin_from_power_on,
+    images_never_go_wrong_from_power_on, promise_is_kept_on_boards, runs_begin_from_power_on,
+    walks_are_kept_on_boards,
 };
 pub use verify80_flow::{ProcRow, Refusal, Report};
 pub use verifying::{Verified, measure, verify, verify_and_keep};

@@ -1,5 +1,6 @@
 //! From a table of frames that fits an image to all runs of it.
 
+ghost use Rattle.verify80.specs.Boards.{BoardStepsAreGuarded, PromiseIsKeptOnBoards, WalksAreKeptOnBoards};
 ghost use Rattle.verify80.specs.Soundness.{AcceptedImagesStayOnWalks, FittedImagesNeverGoWrong, FittedImagesNeverGoWrongFromPowerOn, RunsBeginFromPowerOn};
 
 use crate::looks_are_exact;
@@ -41,6 +42,30 @@ pub fn runs_begin_from_power_on()
 /// of that call's procedure returns.
 pub fn accepted_images_stay_on_walks()
     ensures { AcceptedImagesStayOnWalks }
+{
+    fetch_reads_code_alone();
+    places_move();
+    code_data_and_stack_are_apart();
+    looks_are_exact();
+    fitting_tables_cover_walks();
+}
+
+/// The promise on every board, where nothing guards a step and devices may write any byte that is neither code nor stack: from the
+/// image's start, if SP is at the stack's top or the first instruction is the LXI SP that sets it, whatever else registers, flags and
+/// memory hold, up to the first store through a register pair outside data or the first PCHL outside its targets. `specs/Boards.antt` says what a board is.
+pub fn promise_is_kept_on_boards()
+    ensures promise { PromiseIsKeptOnBoards }
+    ensures steps { BoardStepsAreGuarded }
+{
+    fetch_reads_code_alone();
+    places_move();
+    code_data_and_stack_are_apart();
+    looks_are_exact();
+}
+
+/// There, an accepted image stays on its walks, as it does in guarded runs.
+pub fn walks_are_kept_on_boards()
+    ensures { WalksAreKeptOnBoards }
 {
     fetch_reads_code_alone();
     places_move();

@@ -21,7 +21,7 @@ use Rattle.verify80_stores.specs.Pairs.{Holds, AreInside, anything, pairs_after}
 use Rattle.verify80_stores.specs.Following.{PairsFollow, AnythingHolds, MoreHolds}
 use Rattle.verify80_stores.specs.Ways.{MayLeadTo, callee_of}
 use Rattle.verify80_stores.specs.Fitting.{pairs_at, Has, EntryFits, ReturnsSomewhere, Fits}
-use Rattle.verify80_stores.specs.Runs.{KeepsTo}
+use Rattle.verify80_stores.specs.Runs.{KeepsTo, IsKnown, IsKept}
 use Rattle.verify80_stores.proofs.WayLemmas.{called_is, GoesOn, executes, executed}
 
 world_or : World → Option World → World
@@ -52,8 +52,7 @@ module _ (stay : BytesStayBytes) where
   run_bytes regions start most (suc n) w bytes h =
       mutual_bytes regions most w (world_at regions most (world_of start) n) (λ v e. run_bytes regions start most n v bytes e) h
 
-module _ (image : Located) (bytes : ℕ) (table : List (Option Pairs)) (sound : NeverGoesWrongFromPowerOn image bytes) (walks : StaysOnWalks image) (fits : Fits (code_of image) table)
-    (stay : BytesStayBytes) (follow : PairsFollow) (all_hold : AnythingHolds) (more : MoreHolds) (start : Machine) (begins : IsStart image start) (start_bytes : HoldsBytes start) (most : Option ℕ) where
+module _ (image : Located) (table : List (Option Pairs)) (fits : Fits (code_of image) table) (stay : BytesStayBytes) (follow : PairsFollow) (all_hold : AnythingHolds) (more : MoreHolds) where
   keeps_by : (w : World) (words : Pairs) → Has table w.machine.cpu.pc words → Holds words w.machine.cpu.registers → KeepsTo table w
   keeps_by w words has holds = record { pairs = has.pairs; there = has.there; holds = more words has.pairs w.machine.cpu.registers has.inside holds }
 
@@ -70,51 +69,70 @@ module _ (image : Located) (bytes : ℕ) (table : List (Option Pairs)) (sound : 
   same_pairs o p q r first second holds = subst (λ (x : Pairs). Holds x r) (let e : p ≡ q = cc in e) holds
 
   -- what a walk finds where a world stands is what its next step fetches, and a PCHL there has declared targets
-  declared_at : (w : World) (from : IsWorldFrom image start most w) (found : Fetched) → fetched_by image.regions w ≡ Some found → found.instr ≡ Pchl → IsSome (targets_at image.regions w.machine.cpu.pc)
-  declared_at w from found fetched is =
-      let inside : FetchesInside image.regions w = sound.fetches_and_stores start begins most w from in
+  declared_at : (w : World) (known : IsKnown image w) (found : Fetched) → fetched_by image.regions w ≡ Some found → found.instr ≡ Pchl → IsSome (targets_at image.regions w.machine.cpu.pc)
+  declared_at w known found fetched is =
+      let inside : FetchesInside image.regions w = known.inside in
       let same : inside.found ≡ found = (let f : fetched_by image.regions w ≡ Some inside.found = inside.fetched in cc) in
       inside.declared (ap (λ (x : Fetched). x.instr) same ∙ is)
 
-  gone : (w after : World) (from : IsWorldFrom image start most w) (found : Fetched) → fetched_by image.regions w ≡ Some found → IsReached (code_of image) w.machine.cpu.pc → (code_of image).look w.machine.cpu.pc ≡ Ok found →
-      KeepsTo table w → HoldsBytes w.machine → HoldsBytes after.machine → step_of image.regions (refuses most w.machine.outputs) w.machine ≡ Next after.machine →
+  gone : (refused : Bool) (w after : World) (known : IsKnown image w) (found : Fetched) → fetched_by image.regions w ≡ Some found → IsReached (code_of image) w.machine.cpu.pc → (code_of image).look w.machine.cpu.pc ≡ Ok found →
+      KeepsTo table w → HoldsBytes w.machine → HoldsBytes after.machine → step_of image.regions refused w.machine ≡ Next after.machine →
       ((returns found.instr w.machine.cpu.registers.flags ≡ true) × (after.machine.cpu.pc ≡ target found.instr found.next w.machine.memory w.machine.cpu)) ⊎ MayLeadTo (effect_of found.instr) (declared_targets image.regions w.machine.cpu.pc) found.next after.machine.cpu.pc →
       KeepsTo table after
-  gone w after from found fetched reached looked keeps bytes_before bytes_after step (inl taken) =
+  gone refused w after known found fetched reached looked keeps bytes_before bytes_after step (inl taken) =
       keeps_by after anything
-      (subst (λ n. Has table n anything) (sym taken.1) (behind_has (target found.instr found.next w.machine.memory w.machine.cpu) (walks.returning start begins most w found from fetched taken.0)))
+      (subst (λ n. Has table n anything) (sym taken.1) (behind_has (target found.instr found.next w.machine.memory w.machine.cpu) (known.returning found fetched taken.0)))
       (all_hold after.machine.cpu.registers bytes_after.registers)
-  gone w after from found fetched reached looked keeps bytes_before bytes_after step (inr way) =
+  gone refused w after known found fetched reached looked keeps bytes_before bytes_after step (inr way) =
       let fit = fits.entries w.machine.cpu.pc found reached looked in
       let holds : Holds fit.pairs w.machine.cpu.registers = same_pairs (pairs_at table w.machine.cpu.pc) keeps.pairs fit.pairs w.machine.cpu.registers keeps.there fit.there keeps.holds in
       keeps_by after (pairs_after found.instr fit.pairs) (fit.leads after.machine.cpu.pc way)
-      (follow image.regions (refuses most w.machine.outputs) w.machine after.machine found fit.pairs bytes_before fetched step holds)
+      (follow image.regions refused w.machine after.machine found fit.pairs bytes_before fetched step holds)
 
-  stepped : (w after : World) (t : Turn) (places : List ℕ) → IsWorldFrom image start most w → KeepsTo table w → HoldsBytes w.machine → HoldsBytes after.machine → turn_at image.regions most w ≡ t → world_after t places ≡ Some after → KeepsTo table after
-  stepped w after (Stop e) places from keeps before now h is = cc
-  stepped w after (Next m) places from keeps before now h is =
-      let stands : StandsOnWalk image w = walks.stands start begins most w from in
+  -- a step keeps to the table, and so does a start
+  pub is_kept : IsKept image table
+  is_kept = record {
+    starts = λ start pc held stands.
+        keeps_by (world_of start) anything (subst (λ n. Has table n anything) (sym pc) fits.start) (all_hold start.cpu.registers held.registers);
+    steps = λ refused w after known on before now keeps step.
+        let stands : StandsOnWalk image w = known.stands in
+        let way = executes image.regions refused stands.found.instr stands.found.next w.machine after.machine (declared_at w known stands.found stands.fetched)
+        (executed image.regions refused w.machine after.machine stands.found stands.fetched step) in
+        gone refused w after known stands.found stands.fetched stands.reached stands.looked keeps before now step way.way;
+  }
+
+-- runs keep to a table that is kept
+module _ (image : Located) (bytes : ℕ) (table : List (Option Pairs)) (sound : NeverGoesWrongFromPowerOn image bytes) (walks : StaysOnWalks image) (kept : IsKept image table) (stay : BytesStayBytes)
+    (start : Machine) (begins : IsStart image start) (start_bytes : HoldsBytes start) (most : Option ℕ) where
+  known_at : (w : World) → IsWorldFrom image start most w → IsKnown image w
+  known_at w from = record {
+    stands = walks.stands start begins most w from;
+    returning = λ found fetched taken. walks.returning start begins most w found from fetched taken;
+    inside = sound.fetches_and_stores start begins most w from;
+  }
+
+  stepped : (w after : World) (t : Turn) (places : List ℕ) → IsWorldFrom image start most w → IsWorldFrom image start most after → KeepsTo table w → HoldsBytes w.machine → HoldsBytes after.machine → turn_at image.regions most w ≡ t → world_after t places ≡ Some after → KeepsTo table after
+  stepped w after (Stop e) places from next keeps before now h is = cc
+  stepped w after (Next m) places from next keeps before now h is =
       let same : m ≡ after.machine = ap (λ (x : World). x.machine) (world_in is) in
-      let step : step_of image.regions (refuses most w.machine.outputs) w.machine ≡ Next after.machine = h ∙ ap (λ (x : Machine). Next x) same in
-      let way = executes image.regions (refuses most w.machine.outputs) stands.found.instr stands.found.next w.machine after.machine (declared_at w from stands.found stands.fetched)
-      (executed image.regions (refuses most w.machine.outputs) w.machine after.machine stands.found stands.fetched step) in
-      gone w after from stands.found stands.fetched stands.reached stands.looked keeps before now step way.way
+      kept.steps (refuses most w.machine.outputs) w after (known_at w from) (known_at after next).stands before now keeps (h ∙ ap (λ (x : Machine). Next x) same)
 
-  next_keeps : (w after : World) → IsWorldFrom image start most w → KeepsTo table w → HoldsBytes w.machine → next_world image.regions most w ≡ Some after → KeepsTo table after
-  next_keeps w after from keeps held h =
+  next_keeps : (w after : World) → IsWorldFrom image start most w → IsWorldFrom image start most after → KeepsTo table w → HoldsBytes w.machine → next_world image.regions most w ≡ Some after → KeepsTo table after
+  next_keeps w after from next keeps held h =
       stepped w after (turn_at image.regions most w)
       (places_then (fetch image.regions w.machine.memory w.machine.cpu.pc) w.machine.cpu.registers.flags w.places)
-      from keeps held (next_bytes stay image.regions most w after held h) refl h
+      from next keeps held (next_bytes stay image.regions most w after held h) refl h
 
   followed_keeps : (n : ℕ) (w : World) (o : Option World) → world_at image.regions most (world_of start) n ≡ o → ((v : World) → o ≡ Some v → KeepsTo table v) → following image.regions most o ≡ Some w → KeepsTo table w
   followed_keeps n w None at before h = cc
   followed_keeps n w (Some v) at before h =
-      next_keeps v w (record { steps = n; is = at }) (before v refl) (run_bytes stay image.regions start most n v start_bytes at) h
+      next_keeps v w (record { steps = n; is = at }) (record { steps = suc n; is = ap (λ (o : Option World). following image.regions most o) at ∙ h })
+      (before v refl) (run_bytes stay image.regions start most n v start_bytes at) h
 
   keeps_at : (n : ℕ) (w : World) → world_at image.regions most (world_of start) n ≡ Some w → KeepsTo table w
   keeps_at zero w h =
       subst (λ (x : World). KeepsTo table x) (world_in h)
-      (keeps_by (world_of start) anything (subst (λ n. Has table n anything) (sym begins.pc) fits.start) (all_hold start.cpu.registers start_bytes.registers))
+      (kept.starts start begins.pc start_bytes (known_at (world_of start) (record { steps = 0; is = refl })).stands)
   keeps_at (suc n) w h = followed_keeps n w (world_at image.regions most (world_of start) n) refl (λ v e. keeps_at n v e) h
 
   pub run_keeps : (w : World) → IsWorldFrom image start most w → KeepsTo table w

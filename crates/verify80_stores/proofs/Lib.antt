@@ -2,6 +2,7 @@ pub mod ListLemmas
 pub mod EndLemmas
 pub mod TableLemmas
 pub mod StoreLemmas
+mod BoardLemmas
 pub mod WatchedLemmas
 pub mod ArithmeticBounds
 pub mod RegisterBytes

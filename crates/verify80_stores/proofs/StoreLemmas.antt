@@ -23,7 +23,7 @@ use Rattle.machine80.specs.World.{World, turn_at, fetched_by, refuses, IsProperE
 use Rattle.frames80.specs.Code.{Code}
 use Rattle.verify80.specs.Looking.{code_of, is_pchl}
 use Rattle.verify80.specs.Starts.{IsStart, IsWorldFrom, NeverGoesWrongFromPowerOn}
-use Rattle.verify80.specs.Reached.{IsReached, StaysOnWalks}
+use Rattle.verify80.specs.Reached.{IsReached, StandsOnWalk, StaysOnWalks}
 use Rattle.verify80_calls.specs.Reached.{AreReached}
 use Rattle.verify80_stores.specs.declared.spans.span.Span.{Span}
 use Rattle.verify80_stores.specs.declared.spans.pairs.Pairs.{Pairs}
@@ -67,7 +67,7 @@ points_by (Stax De) p r address holds there = record { span = p.de; is = refl; w
 points_by i p r address holds there = absurd (omega (arith, there.1))
 
 -- an address is listed, or it isn't
-listed_or_not : (at : ℕ) (stores : List OpenStore) → Any (λ store. store.at ≡ at) stores ⊎ All (λ store. store.at ≢ at) stores
+pub listed_or_not : (at : ℕ) (stores : List OpenStore) → Any (λ store. store.at ≡ at) stores ⊎ All (λ store. store.at ≢ at) stores
 listed_or_not at [] = inr (All-nil (λ (store : OpenStore). store.at ≢ at))
 listed_or_not at (store ∷ stores) = go (nat_same store.at at) (listed_or_not at stores) where
   nat_same : (a b : ℕ) → (a ≡ b) ⊎ (a ≢ b)
@@ -158,19 +158,17 @@ module _ (image : Located) (bytes : ℕ) (reached : List (Option Fetched)) (tabl
     there : reached_at reached w.machine.cpu.pc ≡ Some found
     small : w.machine.cpu.pc < 65536
 
-  here_at : (start : Machine) → IsStart image start → (most : Option ℕ) (w : World) (found : Fetched) → IsWorldFrom image start most w → fetched_by image.regions w ≡ Some found → Here w found
-  here_at start begins most w found from fetched =
-      let stands = walks.stands start begins most w from in
+  here_if : (w : World) (found : Fetched) → StandsOnWalk image w → fetched_by image.regions w ≡ Some found → Here w found
+  here_if w found stands fetched =
       let there = there_if_reached (code_of image) reached are w.machine.cpu.pc stands.reached in
       let one : stands.found ≡ found = (let f : fetched_by image.regions w ≡ Some stands.found = stands.fetched in cc) in
       let two : there.found ≡ stands.found = (let f : (code_of image).look w.machine.cpu.pc ≡ Ok there.found = there.looked in let g : (code_of image).look w.machine.cpu.pc ≡ Ok stands.found = stands.looked in cc) in
       record { there = there.there ∙ ap (λ (f : Fetched). Some f) (two ∙ one); small = omega (arith, there.within, whole) }
 
-  goes : (start : Machine) → IsStart image start → HoldsBytes start → (most : Option ℕ) (w : World) (found : Fetched) → IsWorldFrom image start most w → fetched_by image.regions w ≡ Some found → (address : ℕ) →
+  pub goes_if : (w : World) (found : Fetched) → StandsOnWalk image w → KeepsTo table w → fetched_by image.regions w ≡ Some found → (address : ℕ) →
       Contains (pointed_bytes found.instr w.machine.cpu.registers) address → GoesAsListed image.regions stores w.machine.cpu.pc address
-  goes start begins held most w found from fetched address there =
-      let here = here_at start begins most w found from fetched in
-      let keep = keeps start begins held most w from in
+  goes_if w found stands keep fetched address there =
+      let here = here_if w found stands fetched in
       let points = points_by found.instr keep.pairs w.machine.cpu.registers address keep.holds there in
       let span : span_at reached table w.machine.cpu.pc ≡ Some points.span =
       ap (λ (o : Option Fetched). span_of o (known (pairs_at table w.machine.cpu.pc))) here.there ∙ ap (λ (o : Option Pairs). span_of (Some found) (known o)) keep.there ∙ points.is in
@@ -181,6 +179,17 @@ module _ (image : Located) (bytes : ℕ) (reached : List (Option Fetched)) (tabl
             subst (λ (s : Span). Within s address) (let e : points.span ≡ store.span = cc in e) points.within;
         unlisted = λ none. open_below.rest w.machine.cpu.pc points.span here.small span none address points.within;
       }
+
+  -- a PCHL is listed
+  pub jump_there : (w : World) (found : Fetched) → StandsOnWalk image w → fetched_by image.regions w ≡ Some found → is_pchl found.instr ≡ true → Contains jumps w.machine.cpu.pc
+  jump_there w found stands fetched jump =
+      let here = here_if w found stands fetched in
+      each_jump.all w.machine.cpu.pc here.small (ap (λ (o : Option Fetched). is_kind is_pchl o) here.there ∙ jump)
+
+  goes : (start : Machine) → IsStart image start → HoldsBytes start → (most : Option ℕ) (w : World) (found : Fetched) → IsWorldFrom image start most w → fetched_by image.regions w ≡ Some found → (address : ℕ) →
+      Contains (pointed_bytes found.instr w.machine.cpu.registers) address → GoesAsListed image.regions stores w.machine.cpu.pc address
+  goes start begins held most w found from fetched address there =
+      goes_if w found (walks.stands start begins most w from) (keeps start begins held most w from) fetched address there
 
   go_as_listed : StoresGoAsListed image stores
   go_as_listed start begins held most w found from fetched k d inside =
@@ -207,9 +216,8 @@ module _ (image : Located) (bytes : ℕ) (reached : List (Option Fetched)) (tabl
       outside_end w address (goes start begins held most w stands.found from stands.fetched address out.0) out.1 (listed_or_not w.machine.cpu.pc stores)
   ends_so start begins held most w (JumpOutside to) from stops proper =
       let stands = walks.stands start begins most w from in
-      let here = here_at start begins most w stands.found from stands.fetched in
       let jump : is_pchl stands.found.instr ≡ true = jump_ends image.regions (guard image.regions stands.found.instr w.machine.cpu) (refuses most w.machine.outputs) stands.found w.machine to refl (turn_there most w stands.found (JumpOutside to) stands.fetched stops) in
-      each_jump.all w.machine.cpu.pc here.small (ap (λ (o : Option Fetched). is_kind is_pchl o) here.there ∙ jump)
+      jump_there w stands.found stands stands.fetched jump
   ends_so start begins held most w (Fetch at) from stops proper = absurd proper
   ends_so start begins held most w (Stack at) from stops proper = absurd proper
   ends_so start begins held most w (Direct at) from stops proper = absurd proper

@@ -6,13 +6,13 @@ use Rattle.image80.specs.Image.{Located}
 use Rattle.image80.specs.Regions.{Areas}
 use Rattle.machine80.specs.Step.{Machine}
 use Rattle.machine80.specs.World.{World}
+use Rattle.machine80.specs.Run.{world_of}
 use Rattle.frames80.specs.declared.procedure.Procedure.TheVariants.{Entry}
 use Rattle.verify80_flow.specs.declared.report.ProcRow.{ProcRow}
 use Rattle.frames80.specs.Code.{Code}
 use Rattle.verify80_flow.specs.Rows.{AreRows, IsRow, ReturnsWith}
 use Rattle.verify80.specs.Looking.{code_of, declared_targets}
-use Rattle.verify80.specs.Starts.{IsStart, IsWorldFrom}
-use Rattle.verify80.specs.Reached.{IsReached, StandsOnWalk, StaysOnWalks}
+use Rattle.verify80.specs.Reached.{IsReached, StandsOnWalk}
 use Rattle.verify80_calls.specs.Reached.{AreReached, found_at}
 use Rattle.verify80_stores.specs.declared.spans.pairs.Pairs.{Pairs}
 use Rattle.verify80_stores.specs.Bytes.{HoldsBytes}
@@ -20,7 +20,7 @@ use Rattle.verify80_stores.specs.Pairs.{anything}
 use Rattle.verify80_stores.specs.Following.{AnythingHolds}
 use Rattle.verify80_stores.specs.Returning.{is_marked}
 use Rattle.verify80_stores.specs.Fitting.{entry_in, pairs_at, Has, EntryFits, ReturnsSomewhere, Fits}
-use Rattle.verify80_stores.specs.Runs.{KeepsTo, RunsKeepTo, RunsHoldBytesFromPowerOn}
+use Rattle.verify80_stores.specs.Runs.{KeepsTo, IsKept}
 use Rattle.verify80_stores.specs.Listing.{reached_at}
 
 -- two ways to read a table of entries
@@ -99,14 +99,18 @@ moved marks marks' regions regions' table table' at found one two three fits =
     (subst (λ (r : Areas). EntryFits (λ entry. is_marked marks entry ≡ true) (declared_targets r at) table' at found) two
     (subst (λ (t : List (Option Pairs)). EntryFits (λ entry. is_marked marks entry ≡ true) (declared_targets regions at) t at found) three fits))
 
--- runs keep to a table that has anything everywhere
-pub runs_keep_to_anything : (image : Located) (reached : List (Option Fetched)) (table : List (Option Pairs)) → AreReached (code_of image) reached → length reached ≡ 65536 → StaysOnWalks image → RunsHoldBytesFromPowerOn →
-    AnythingHolds → ((at : ℕ) → at < 65536 → pairs_at table at ≡ Some anything) → RunsKeepTo image table
-runs_keep_to_anything image reached table are whole walks bytes holds everywhere start begins held most w from =
-    let stands = walks.stands start begins most w from in
-    let there = there_if_reached (code_of image) reached are w.machine.cpu.pc stands.reached in
-    record {
-      pairs = anything;
-      there = everywhere w.machine.cpu.pc (omega (arith, there.within, whole));
-      holds = holds w.machine.cpu.registers (bytes image start held most w from).registers;
-    }
+-- a table that has anything everywhere is kept
+pub anything_is_kept : (image : Located) (reached : List (Option Fetched)) (table : List (Option Pairs)) → AreReached (code_of image) reached → length reached ≡ 65536 →
+    AnythingHolds → ((at : ℕ) → at < 65536 → pairs_at table at ≡ Some anything) → IsKept image table
+anything_is_kept image reached table are whole holds everywhere = record {
+  starts = λ start pc held stands. here (world_of start) stands held;
+  steps = λ refused w after known stands before now keeps step. here after stands now;
+} where
+  here : (w : World) → StandsOnWalk image w → HoldsBytes w.machine → KeepsTo table w
+  here w stands held =
+      let there = there_if_reached (code_of image) reached are w.machine.cpu.pc stands.reached in
+      record {
+        pairs = anything;
+        there = everywhere w.machine.cpu.pc (omega (arith, there.within, whole));
+        holds = holds w.machine.cpu.registers held.registers;
+      }

@@ -1,5 +1,6 @@
 pub mod Pointers
 pub mod Stores
+pub mod Boards
 pub mod StoresText
 pub mod DataReach
 pub mod Bytes

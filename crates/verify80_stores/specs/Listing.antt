@@ -4,7 +4,10 @@ use Rattle.decode80.specs.declared.instr.Instr.{Instr}
 use Rattle.decode80.specs.declared.fetching.Fetched.{Fetched}
 use Rattle.image80.specs.Regions.{Areas, in_data}
 use Rattle.image80.specs.Image.{Located}
+use Rattle.machine80.specs.Step.{Machine}
+use Rattle.machine80.specs.World.{World}
 use Rattle.verify80.specs.Starts.{NeverGoesWrongFromPowerOn}
+use Rattle.verify80.specs.Boards.{Anywhere, Executes, IsGuarded, KeepsPromise, KeepsToWalks, MayStart, OnBoard}
 use Rattle.verify80.specs.Reached.{StaysOnWalks}
 use Rattle.verify80_stores.specs.declared.spans.span.Span.{Span}
 use Rattle.verify80_stores.specs.declared.spans.pairs.Pairs.{Pairs}
@@ -14,11 +17,14 @@ use Rattle.verify80_stores.specs.Fitting.{entry_in, pairs_at}
 use Rattle.verify80_stores.specs.declared.stores.OpenStore.{OpenStore}
 use Rattle.verify80_stores.specs.Pointers.{pointer_span}
 
--- no run of the image goes wrong, and each stays on walks
-pub record AreKnown (image : Located) : Type 0 where
-  pub bytes : ℕ
+-- no run of the image goes wrong, and each stays on walks; and so it is on boards
+pub record AreKnown (image : Located) (bytes : ℕ) : Type 0 where
   pub sound : NeverGoesWrongFromPowerOn image bytes
   pub walks : StaysOnWalks image
+  pub promise : (start : Machine) → MayStart image start → (w : World) → OnBoard image.regions Anywhere start w → KeepsPromise image bytes w
+  pub boards : (start : Machine) → MayStart image start → (w : World) → OnBoard image.regions Anywhere start w → KeepsToWalks image w
+  pub guarded : (start : Machine) → MayStart image start → (w v : World) → OnBoard image.regions Anywhere start w →
+      (step : Executes image.regions Anywhere w v) → IsGuarded image.regions w.machine step.after
 
 -- the instruction that is reached at an address
 abbrev pub reached_at : List (Option Fetched) → ℕ → Option Fetched

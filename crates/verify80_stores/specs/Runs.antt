@@ -1,12 +1,15 @@
 -- What a table of pairs says of runs. (This project's own.)
-use Rattle.std.specs.Prelude.{◌≡◌, ◌<◌, ℕ, List, Option, None, Some, Ok}
+use Rattle.std.specs.Prelude.{◌≡◌, ◌<◌, ℕ, Bool, true, List, Option, None, Some, Ok}
+use Rattle.decode80.specs.declared.fetching.Fetched.{Fetched}
 use Rattle.image80.specs.Image.{Located}
-use Rattle.machine80.specs.Step.{Machine}
-use Rattle.machine80.specs.World.{World}
+use Rattle.machine80.specs.Effects.{target}
+use Rattle.machine80.specs.Step.{Machine, Next, step_of}
+use Rattle.machine80.specs.World.{World, FetchesInside, fetched_by, returns}
+use Rattle.machine80.specs.Run.{world_of}
 use Rattle.frames80.specs.Code.{Code}
 use Rattle.verify80.specs.Looking.{code_of}
 use Rattle.verify80.specs.Starts.{IsStart, IsWorldFrom, NeverGoesWrongFromPowerOn}
-use Rattle.verify80.specs.Reached.{StaysOnWalks}
+use Rattle.verify80.specs.Reached.{IsBehindCall, StandsOnWalk, StaysOnWalks}
 use Rattle.verify80_stores.specs.declared.spans.pairs.Pairs.{Pairs}
 use Rattle.verify80_stores.specs.Bytes.{HoldsBytes}
 use Rattle.verify80_stores.specs.Pairs.{Holds}
@@ -25,10 +28,28 @@ RunsKeepTo image table =
     (start : Machine) → IsStart image start → HoldsBytes start → (most : Option ℕ) (w : World) → IsWorldFrom image start most w →
     KeepsTo table w
 
--- runs that stay on walks keep to a table that fits
-abbrev pub RunsKeepToFittingTables : Type 0
-RunsKeepToFittingTables = (image : Located) (bytes : ℕ) (table : List (Option Pairs)) → NeverGoesWrongFromPowerOn image bytes →
-    StaysOnWalks image → Fits (code_of image) table → RunsKeepTo image table
+-- what the verifier knows of a world: it stands on a walk, a return that it takes goes behind a call whose callee returns, and its next
+-- step fetches inside code
+pub record IsKnown (image : Located) (w : World) : Type 0 where
+  pub stands : StandsOnWalk image w
+  pub returning : (found : Fetched) → fetched_by image.regions w ≡ Some found → returns found.instr w.machine.cpu.registers.flags ≡ true →
+      IsBehindCall (code_of image) (target found.instr found.next w.machine.memory w.machine.cpu)
+  pub inside : FetchesInside image.regions w
+
+-- each start keeps to a table, and each step of a known world that keeps to it
+pub record IsKept (image : Located) (table : List (Option Pairs)) : Type 0 where
+  pub starts : (start : Machine) → start.cpu.pc ≡ image.start → HoldsBytes start → StandsOnWalk image (world_of start) →
+      KeepsTo table (world_of start)
+  pub steps : (refused : Bool) (w after : World) → IsKnown image w → StandsOnWalk image after → HoldsBytes w.machine →
+      HoldsBytes after.machine → KeepsTo table w → step_of image.regions refused w.machine ≡ Next after.machine → KeepsTo table after
+
+-- a table that fits is kept, and runs that stay on walks keep to a table that is
+abbrev pub FittingTablesAreKept : Type 0
+FittingTablesAreKept = (image : Located) (table : List (Option Pairs)) → Fits (code_of image) table → IsKept image table
+
+abbrev pub RunsKeepToKeptTables : Type 0
+RunsKeepToKeptTables = (image : Located) (bytes : ℕ) (table : List (Option Pairs)) → NeverGoesWrongFromPowerOn image bytes →
+    StaysOnWalks image → IsKept image table → RunsKeepTo image table
 
 -- and each of their machines holds bytes
 abbrev pub RunsHoldBytesFromPowerOn : Type 0

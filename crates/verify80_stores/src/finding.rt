@@ -8,21 +8,25 @@ ghost use Rattle.verify80_calls.specs.Reached.{AreReached};
 ghost use Rattle.verify80_stores.specs.Bytes.{HasBytes};
 ghost use Rattle.verify80_stores.specs.Pairs.{anything};
 ghost use Rattle.verify80_stores.specs.Fitting.{pairs_at};
-ghost use Rattle.verify80_stores.specs.Runs.{RunsKeepTo};
+ghost use Rattle.verify80_stores.specs.Boards.{PromiseHoldsOnBoards};
+ghost use Rattle.verify80_stores.specs.Runs.{IsKept};
 ghost use Rattle.verify80_stores.specs.Stores.{AreStoresOf, WatchedRunsGoAsListed};
 ghost use Rattle.verify80_stores.specs.Listing.{AreKnown};
 
 use crate::fitting::{fits, fitting_pairs_hold, mark_returning};
 use crate::laws::watched_runs_go_as_listed;
 use crate::listing::{Kind, addresses_of, open_stores};
-use crate::spans::{Pairs, pairs_follow};
+use crate::spans::{Pairs, bytes_stay_bytes, pairs_follow};
 use crate::stores::Stores;
 use crate::widening::{ReachedProgram, propose};
 use decode80::Fetched;
 use image80::Image;
 use loader80::Vouched;
 use std::alloc::{AllocError, Global};
-use verify80::{ProcRow, accepted_images_stay_on_walks, images_never_go_wrong_from_power_on};
+use verify80::{
+    ProcRow, accepted_images_stay_on_walks, images_never_go_wrong_from_power_on,
+    promise_is_kept_on_boards, walks_are_kept_on_boards,
+};
 use verify80_calls::find_reached;
 
 /// Goes over a vouched image, and answers where its register-indirect stores may go.
@@ -31,7 +35,8 @@ use verify80_calls::find_reached;
 /// bytes are in the registers, in memory outside the code and at the ports, if only SP is at the stack's top before the first
 /// step, each store of an address that isn't listed as open goes to data, and each that is goes to an address of its span. So a
 /// run ends at a store only if that is listed, and at a PCHL outside its targets only at one of the listed ones. A board goes on
-/// there, and then nothing is promised, of the other stores either. That a listed store can leave data isn't said. (The stores are MOV M,r, MVI M, INR M, DCR M and STAX: Intel 8080 Microcomputer Systems
+/// there, and then nothing is promised, of the other stores either. Up to there the whole promise holds on every board, whatever
+/// devices write to any byte that is neither code nor stack (`boards`). That a listed store can leave data isn't said. (The stores are MOV M,r, MVI M, INR M, DCR M and STAX: Intel 8080 Microcomputer Systems
 /// User's Manual, chapter 4.)
 ///
 /// Each address is visited a bounded number of times, whatever the image.
@@ -48,9 +53,13 @@ use verify80_calls::find_reached;
 pub fn find_stores(alloc: Global, vouched: &Vouched) -> Result<Stores, AllocError>
     ensures listed { IfOk result (λ stores.
         AreStoresOf vouched.now.image stores.addresses.items stores.open.items stores.jumps.items) }
+    ensures boards { IfOk result (λ stores.
+        PromiseHoldsOnBoards vouched.now.image vouched.now.stack_bytes stores.open.items stores.jumps.items) }
     ensures watched { IfOk result (λ stores. WatchedRunsGoAsListed vouched.now.image stores.open.items stores.jumps.items) }
 {
     runs_of(vouched);
+    fitting_pairs_hold();
+    bytes_stay_bytes();
     watched_runs_go_as_listed();
     let image = vouched.image();
     holds_bytes(alloc, image)?;
@@ -86,11 +95,13 @@ fn are_bytes(memory: &[u8])
 
 /// What is known of a vouched image's runs. (It carries laws, and does nothing.)
 fn runs_of(vouched: &Vouched)
-    ensures runs { AreKnown vouched.now.image }
+    ensures runs { AreKnown vouched.now.image vouched.now.stack_bytes }
     ensures rows { AreRows (code_of vouched.now.image) vouched.now.rows }
 {
     accepted_images_stay_on_walks();
     images_never_go_wrong_from_power_on();
+    promise_is_kept_on_boards();
+    walks_are_kept_on_boards();
     vouched.image().regions.stack();
     vouched.rows();
 }
@@ -105,11 +116,10 @@ fn pairs_of(
     rows: &[ProcRow],
     reached: &[Option<Fetched>],
 ) -> Result<Vec<Option<Pairs>>, AllocError>
-    requires runs { AreKnown image.now }
     requires rows { AreRows (code_of image.now) rows.now }
     requires reached { AreReached (code_of image.now) reached.now }
     requires whole { length reached.now ≡ 65536 }
-    ensures { IfOk result (λ table. RunsKeepTo image.now table.items) }
+    ensures { IfOk result (λ table. IsKept image.now table.items) }
 {
     fitting_pairs_hold();
     pairs_follow();

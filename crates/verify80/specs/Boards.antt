@@ -1,0 +1,141 @@
+-- Runs on a board. A board is a machine that nothing guards, among devices, and it owns every byte but those of code and of the stack:
+-- before each instruction any other byte may have become any byte (devices in the memory map, DMA, cells with two addresses), IN brings
+-- any byte, OUT is taken, PCHL goes where HL says, and a store changes the byte that it names, wherever that is. (Intel 8080
+-- Microcomputer Systems User's Manual, chapter 2: memory-mapped I/O and DMA. That the board is an adversary is this project's own.)
+use Rattle.std.specs.Prelude.{◌≡◌, ◌⊎◌, ℕ, ◌<◌, ◌≤◌, true, false, List, Option, None, Some, IsSome, All, length, slice_index}
+use Rattle.std.specs.Result.{result_ok}
+use Rattle.decode80.specs.declared.instr.Instr.{Instr}
+use Rattle.decode80.specs.declared.instr.Instr.TheVariants.{Lxi, Hlt, In, Out, Pchl}
+use Rattle.decode80.specs.declared.pair.Pair.TheVariants.{Sp}
+use Rattle.decode80.specs.declared.fetching.Fetched.{Fetched}
+use Rattle.decode80.specs.Fetch.{direct_bytes, fetch as fetch_in}
+use Rattle.image80.specs.Range.{in_range}
+use Rattle.image80.specs.Regions.{Areas, AreRegions, in_code, in_data, targets_at, top_of}
+use Rattle.image80.specs.Image.{Located, memory_of}
+use Rattle.machine80.specs.Cpu.{hl_of}
+use Rattle.machine80.specs.Effects.{pointed_bytes, stack_bytes, target}
+use Rattle.machine80.specs.Step.{Machine, Next, fetch, leads_outside, proceeded, step_of}
+use Rattle.machine80.specs.World.{World, fetched_by, places_after, returns, IsNewest, IsJustBelow}
+use Rattle.machine80.specs.Run.{world_of}
+use Rattle.verify80_flow.specs.declared.report.ProcRow.{ProcRow}
+use Rattle.verify80_flow.specs.Accepted.{IsAccepted}
+use Rattle.verify80_flow.specs.Fitting.{IsFitted}
+use Rattle.verify80.specs.Looking.{code_of}
+use Rattle.verify80.specs.Starts.{IsStart}
+use Rattle.verify80.specs.Reached.{StandsOnWalk, IsBehindCall}
+
+-- what the board leaves of a memory: each byte of code and of the stack
+pub record LeavesProgram (regions : Areas) (old new : List ℕ) : Type 0 where
+  pub code : (address : ℕ) → in_code regions address ≡ true → slice_index new address ≡ slice_index old address
+  pub stack : (address : ℕ) → in_range regions.stack address ≡ true → slice_index new address ≡ slice_index old address
+  pub size : length new ≡ length old
+  pub bytes : All (λ byte. byte < 256) new
+
+-- a world with another memory
+abbrev pub with_memory : World → List ℕ → World
+with_memory w memory = record { machine = record w.machine { memory = memory }; places = w.places }
+
+pub record Disturbs (regions : Areas) (w v : World) : Type 0 where
+  pub memory : List ℕ
+  pub leaves : LeavesProgram regions w.machine.memory memory
+  pub is : v ≡ with_memory w memory
+
+-- the instruction that a processor fetches from a memory, wherever that is
+abbrev pub fetched_anywhere : List ℕ → ℕ → Option Fetched
+fetched_anywhere memory address = result_ok (fetch_in (λ place. true) (λ place. slice_index memory place) address)
+
+-- what an instruction leads to if nothing guards it: IN brings this byte, OUT is taken, after HLT nothing comes, and any other does
+-- what it does. (What waits at the ports of the machine, and what was put out, counts for nothing.)
+abbrev pub unguarded : Instr → (byte next : ℕ) → Machine → Option Machine
+unguarded Hlt byte next m = None
+unguarded (In port) byte next m = Some (record m { cpu = record m.cpu { registers = record m.cpu.registers { a = byte }; pc = next } })
+unguarded (Out port) byte next m = Some (record m { cpu = record m.cpu { pc = next } })
+unguarded i byte next m = Some (proceeded i next m)
+
+-- an instruction stores through a register pair to data alone, and jumps by HL to one of its declared targets
+pub record StaysInside (regions : Areas) (m : Machine) (instr : Instr) : Type 0 where
+  pub stores : All (λ address. in_data regions address ≡ true) (pointed_bytes instr m.cpu.registers)
+  pub jumps : instr ≡ Pchl → leads_outside (targets_at regions m.cpu.pc) (hl_of m.cpu.registers) ≡ false
+
+-- an instruction is fetched and executed; if its address is listed, it stays inside
+pub record Executes (regions : Areas) (listed : ℕ → Type 0) (w v : World) : Type 0 where
+  pub found : Fetched
+  pub byte : ℕ
+  pub after : Machine
+  pub fetched : fetched_anywhere w.machine.memory w.machine.cpu.pc ≡ Some found
+  pub small : byte < 256
+  pub inside : listed w.machine.cpu.pc → StaysInside regions w.machine found.instr
+  pub goes : unguarded found.instr byte found.next w.machine ≡ Some after
+  pub is : v ≡ record { machine = after; places = places_after found.instr found.next w.machine.cpu.registers.flags w.places }
+
+-- the worlds of a board, from a machine on: up to the first instruction at a listed address that doesn't stay inside
+pub data OnBoard (regions : Areas) (listed : ℕ → Type 0) (start : Machine) : World → Type 0 where
+  begins : (v : World) → v ≡ world_of start → OnBoard regions listed start v
+  disturbed : (w v : World) → OnBoard regions listed start w → Disturbs regions w v → OnBoard regions listed start v
+  executed : (w v : World) → OnBoard regions listed start w → Executes regions listed w v → OnBoard regions listed start v
+
+-- Each address is listed: worlds up to the first store through a pair outside data, or the first PCHL outside its targets.
+abbrev pub Anywhere : ℕ → Type 0
+Anywhere address = Unit {0}
+
+-- a machine at the image's start, of which the first instruction sets the stack pointer to the stack's top: SP may be anything
+pub record SetsStackFirst (image : Located) (m : Machine) : Type 0 where
+  pub pc : m.cpu.pc ≡ image.start
+  pub whole : length m.memory ≡ 65536
+  pub code : (address : ℕ) → in_code image.regions address ≡ true →
+      slice_index m.memory address ≡ slice_index (memory_of image.chunks) address
+  pub next : ℕ
+  pub first : fetch image.regions (memory_of image.chunks) image.start ≡ Some (record { instr = Lxi Sp (top_of image.regions); next = next })
+
+-- a machine on which a run on a board may begin: at the image's start, with SP at the stack's top, or before the instruction that sets
+-- it so; its other memory, its registers and its flags are whatever they are
+abbrev pub MayStart : Located → Machine → Type 0
+MayStart image m = IsStart image m ⊎ SetsStackFirst image m
+
+-- what is promised of a world on a board: its next instruction is fetched inside code, and is the image's; it stores directly to data
+-- alone; a PCHL has declared targets; if it is a return that is taken, it goes to the place after the newest call that has not returned; as stack it touches only
+-- so many bytes just below the stack's top; and it ends the run only if it is HLT
+pub record KeepsPromise (image : Located) (bytes : ℕ) (w : World) : Type 0 where
+  pub found : Fetched
+  pub anywhere : fetched_anywhere w.machine.memory w.machine.cpu.pc ≡ Some found
+  pub inside : fetched_by image.regions w ≡ Some found
+  pub of_image : fetch image.regions (memory_of image.chunks) w.machine.cpu.pc ≡ Some found
+  pub direct : All (λ address. in_data image.regions address ≡ true) (direct_bytes found.instr)
+  pub declared : found.instr ≡ Pchl → IsSome (targets_at image.regions w.machine.cpu.pc)
+  pub returning : returns found.instr w.machine.cpu.registers.flags ≡ true →
+      IsNewest (target found.instr found.next w.machine.memory w.machine.cpu) w.places
+  pub stack : All (λ address. IsJustBelow (top_of image.regions) bytes address) (stack_bytes found.instr w.machine.cpu)
+  pub ends : (byte : ℕ) → unguarded found.instr byte found.next w.machine ≡ None → found.instr ≡ Hlt
+
+-- on every board, from the image's start, whatever registers, flags and memory hold: up to the first
+-- store through a pair outside data or the first PCHL outside its targets, an image that a table of frames fits keeps the promise
+abbrev pub PromiseIsKeptOnBoards : Type 0
+PromiseIsKeptOnBoards = (image : Located) (bytes : ℕ) → AreRegions image.regions → IsFitted (code_of image) bytes →
+    bytes ≤ image.regions.stack.length → (start : Machine) → MayStart image start → (w : World) →
+    OnBoard image.regions Anywhere start w → KeepsPromise image bytes w
+
+-- a world stands on a walk, and a return that it takes goes behind a call on a walk whose callee returns on a walk
+pub record KeepsToWalks (image : Located) (w : World) : Type 0 where
+  pub stands : StandsOnWalk image w
+  pub returning : (found : Fetched) → fetched_by image.regions w ≡ Some found → returns found.instr w.machine.cpu.registers.flags ≡ true →
+      IsBehindCall (code_of image) (target found.instr found.next w.machine.memory w.machine.cpu)
+
+-- and a program that is accepted stays on its walks
+abbrev pub WalksAreKeptOnBoards : Type 0
+WalksAreKeptOnBoards = (image : Located) (listed : List ProcRow) (bytes : ℕ) → AreRegions image.regions →
+    IsAccepted (code_of image) listed bytes → (start : Machine) → MayStart image start → (w : World) →
+    OnBoard image.regions Anywhere start w → KeepsToWalks image w
+
+-- A step that nothing guards is a step of the machine, whose guard has nothing to say, with other bytes at its ports; what it leaves is
+-- the same but for what the ports hold.
+pub record IsGuarded (regions : Areas) (m after : Machine) : Type 0 where
+  pub inputs : List (List ℕ)
+  pub bytes : All (All (λ byte. byte < 256)) inputs
+  pub there : Machine
+  pub step : step_of regions false (record m { inputs = inputs }) ≡ Next there
+  pub is : record there { inputs = m.inputs; outputs = m.outputs } ≡ after
+
+abbrev pub BoardStepsAreGuarded : Type 0
+BoardStepsAreGuarded = (image : Located) (bytes : ℕ) → AreRegions image.regions → IsFitted (code_of image) bytes →
+    bytes ≤ image.regions.stack.length → (start : Machine) → MayStart image start → (w v : World) →
+    OnBoard image.regions Anywhere start w → (step : Executes image.regions Anywhere w v) → IsGuarded image.regions w.machine step.after

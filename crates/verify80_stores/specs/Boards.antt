@@ -1,0 +1,27 @@
+-- What is known of a program on every board. (This project's own; what a board is and does stands in verify80, specs/Boards.)
+use Rattle.std.specs.Prelude.{◌≡◌, ◌⊎◌, ℕ, List, All, Any, Contains}
+use Rattle.image80.specs.Image.{Located}
+use Rattle.machine80.specs.Effects.{pointed_bytes}
+use Rattle.machine80.specs.Step.{Machine}
+use Rattle.machine80.specs.World.{World}
+use Rattle.verify80.specs.Boards.{MayStart, OnBoard, KeepsPromise}
+use Rattle.verify80_stores.specs.Bytes.{HoldsBytes}
+use Rattle.verify80_stores.specs.declared.stores.OpenStore.{OpenStore}
+use Rattle.verify80_stores.specs.Stores.{GoesAsListed}
+
+-- an open store is listed at an address, or a PCHL is
+abbrev pub IsListedAt : List OpenStore → (jumps : List ℕ) → ℕ → Type 0
+IsListedAt open_stores jumps at = Any (λ store. store.at ≡ at) open_stores ⊎ Contains jumps at
+
+-- a world keeps the promise, and its register-indirect stores go where they are listed to go, or to data
+pub record KeepsWholePromise (image : Located) (bytes : ℕ) (open_stores : List OpenStore) (w : World) : Type 0 where
+  pub promise : KeepsPromise image bytes w
+  pub stores : All (GoesAsListed image.regions open_stores w.machine.cpu.pc) (pointed_bytes promise.found.instr w.machine.cpu.registers)
+
+-- On every board, from the image's start, if SP is at the stack's top or the first instruction sets it so, whatever bytes registers and
+-- memory outside the code hold, and whatever devices write to any byte that is neither code nor stack: each world keeps the promise, up to the first step at a listed
+-- address that stores outside data or jumps by HL to none of its declared targets. If nothing is listed, that is each world of the run.
+abbrev pub PromiseHoldsOnBoards : Located → (bytes : ℕ) → List OpenStore → (jumps : List ℕ) → Type 0
+PromiseHoldsOnBoards image bytes open_stores jumps =
+    (start : Machine) → MayStart image start → HoldsBytes start → (w : World) →
+    OnBoard image.regions (IsListedAt open_stores jumps) start w → KeepsWholePromise image bytes open_stores w
