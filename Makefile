@@ -84,6 +84,7 @@ test: need-rt need-python3
 	@tests/generated/sums $(PROGRAM)
 	@tests/generated/explained $(PROGRAM)
 	@tests/generated/stored $(PROGRAM)
+	@tests/generated/boards $(PROGRAM)
 	@tests/commands/replaced $(PROGRAM)
 	@tests/commands/completion $(PROGRAM)
 	@tests/commands/fault_page
@@ -98,6 +99,7 @@ commands: need-python3 build
 	@tests/generated/sums $(PROGRAM)
 	@tests/generated/explained $(PROGRAM)
 	@tests/generated/stored $(PROGRAM)
+	@tests/generated/boards $(PROGRAM)
 	@tests/commands/replaced $(PROGRAM)
 	@tests/commands/completion $(PROGRAM)
 	@tests/commands/fault_page
