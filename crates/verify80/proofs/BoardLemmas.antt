@@ -1,27 +1,24 @@
 -- On a board each world is watched, and stands on a walk.
-use Rattle.std.specs.Prelude.{◌≡◌, ℕ, suc, ◌+◌, ◌-◌, ◌*◌, ◌<◌, ◌≤◌, true, false, List, Option, None, Some, All, length, refl}
-use Rattle.std.specs.Result.{result_ok}
+use Rattle.std.specs.Prelude.{◌≡◌, ℕ, suc, ◌+◌, ◌-◌, ◌<◌, ◌≤◌, true, false, List, Option, None, Some, All, length}
 use Rattle.std.proofs.Common.{◌∙◌, ap, sym, subst, arith}
-use Rattle.decode80.specs.declared.instr.Instr.{Instr}
 use Rattle.decode80.specs.declared.fetching.Fetched.{Fetched}
 use Rattle.decode80.specs.Fetch.{direct_bytes, FetchReadsCodeAlone}
 use Rattle.frames80.specs.Places.{ChangesByPlaces, ReturnsByPlaces}
 use Rattle.frames80.specs.declared.procedure.Procedure.TheVariants.{Main}
-use Rattle.image80.specs.Regions.{Areas, in_code, in_data}
+use Rattle.image80.specs.Regions.{in_data}
 use Rattle.image80.specs.Image.{Located, memory_of}
 use Rattle.machine80.specs.declared.end.End.{End}
 use Rattle.machine80.specs.declared.end.End.TheVariants.{StoreOutside}
-use Rattle.machine80.specs.Effects.{pointed_bytes, stack_bytes, target}
-use Rattle.machine80.specs.Step.{Machine, Next, execute, fetch, guard, guarded, ends_at, step_on}
-use Rattle.machine80.specs.World.{World, fetched_by, places_after, returns, IsJustBelow, IsNewest}
-use Rattle.machine80.specs.Run.{world_of}
+use Rattle.machine80.specs.Effects.{pointed_bytes, target}
+use Rattle.machine80.specs.Step.{Machine, Next, execute, guard, guarded, ends_at, step_on}
+use Rattle.machine80.specs.World.{World, places_after, returns}
 use Rattle.verify80_flow.specs.Fitting.{Table, Fits, IsFitted}
 use Rattle.verify80_flow.specs.FittingLaws.{NoFault}
 use Rattle.verify80.specs.Looking.{code_of}
 use Rattle.verify80.specs.LookLaws.{LooksFindWhatIsAdmitted, IsAdmitted}
 use Rattle.verify80.specs.Starts.{IsStart}
 use Rattle.verify80.specs.Reached.{IsBehindCall}
-use Rattle.verify80.specs.Boards.{LeavesProgram, with_memory, Disturbs, fetched_anywhere, unguarded, StaysInside, Executes, OnBoard, begins, disturbed, executed, Anywhere, KeepsPromise, KeepsToWalks, IsGuarded}
+use Rattle.verify80.specs.Boards.{LeavesProgram, with_memory, fetched_anywhere, unguarded, StaysInside, Executes, OnBoard, begins, disturbed, executed, Anywhere, KeepsPromise, KeepsToWalks, IsGuarded}
 use Rattle.verify80.proofs.StoreLemmas.{Ground, stack_keeps_words}
 use Rattle.verify80.proofs.ChainLemmas.{Watched, chain_kept}
 use Rattle.verify80.proofs.ArriveLemmas.{here_height, in_words}

@@ -1,6 +1,6 @@
 -- Runs on a board that begin before SP is set: the first instruction sets it, and until then the world differs in SP alone.
-use Rattle.std.specs.Prelude.{◌≡◌, ◌⊎◌, ℕ, ◌<◌, true, false, List, [], All, Option, None, Some, refl}
-use Rattle.std.proofs.Common.{◌∙◌, ap, sym, subst, arith, inl, inr, true≢false}
+use Rattle.std.specs.Prelude.{◌≡◌, ◌⊎◌, ℕ, ◌<◌, true, false, [], All, Option, Some, refl}
+use Rattle.std.proofs.Common.{◌∙◌, ap, sym, subst, inl, inr, true≢false}
 use Rattle.std.proofs.lemmas.List.Elements.{All-nil}
 use Rattle.decode80.specs.declared.instr.Instr.TheVariants.{Lxi}
 use Rattle.decode80.specs.declared.pair.Pair.TheVariants.{Sp}
@@ -9,10 +9,10 @@ use Rattle.image80.specs.Regions.{top_of}
 use Rattle.image80.specs.Image.{Located, memory_of}
 use Rattle.machine80.specs.Effects.{stack_bytes}
 use Rattle.machine80.specs.Step.{Machine, fetch, proceeded, step_on}
-use Rattle.machine80.specs.World.{World, IsJustBelow, fetched_by, returns}
+use Rattle.machine80.specs.World.{World, IsJustBelow, returns}
 use Rattle.machine80.specs.Run.{world_of}
 use Rattle.verify80.specs.Starts.{IsStart}
-use Rattle.verify80.specs.Boards.{Anywhere, Disturbs, Executes, IsGuarded, KeepsPromise, KeepsToWalks, MayStart, OnBoard, begins, disturbed, executed, SetsStackFirst, fetched_anywhere, unguarded, with_memory}
+use Rattle.verify80.specs.Boards.{Anywhere, Executes, IsGuarded, KeepsPromise, KeepsToWalks, MayStart, OnBoard, begins, disturbed, executed, SetsStackFirst, fetched_anywhere, unguarded, with_memory}
 use Rattle.verify80.proofs.BoardSteps.{ends_by_halt, same_machine}
 
 found_is : {a b : Fetched} → Some a ≡ Some b → a ≡ b

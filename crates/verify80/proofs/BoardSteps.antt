@@ -1,8 +1,8 @@
 -- A step that nothing guards is a guarded one, if the guard would say nothing.
-use Rattle.std.specs.Prelude.{◌≡◌, ℕ, zero, suc, ◌+◌, ◌<◌, Bool, true, false, not, ◌&&◌, nat_le, List, [], ◌∷◌, ◌++◌, Option, None, Some, All, Result, Ok, Err, length, slice_index_or, refl, if◌then◌else◌}
+use Rattle.std.specs.Prelude.{◌≡◌, ℕ, zero, suc, ◌+◌, ◌<◌, Bool, true, false, not, ◌&&◌, nat_le, List, [], ◌∷◌, ◌++◌, Option, None, Some, All, Result, Ok, Err, refl, if◌then◌else◌}
 use Rattle.std.specs.List.{list_all, range_with_len}
 use Rattle.std.specs.Result.{result_ok}
-use Rattle.std.proofs.Common.{◌∙◌, ap, sym, subst, arith, cond}
+use Rattle.std.proofs.Common.{◌∙◌, ap, arith, cond}
 use Rattle.std.proofs.lemmas.List.Elements.{All-nil, All-cons}
 use Rattle.decode80.specs.declared.instr.Instr.{Instr}
 use Rattle.decode80.specs.declared.instr.Instr.TheVariants.{Hlt, In, Out, Pchl}
@@ -10,9 +10,8 @@ use Rattle.decode80.specs.declared.fetching.FetchFault.{FetchFault}
 use Rattle.decode80.specs.declared.fetching.FetchFault.TheVariants.{Outside}
 use Rattle.decode80.specs.declared.fetching.Fetched.{Fetched}
 use Rattle.decode80.specs.Decoded.{decoded}
-use Rattle.decode80.specs.Fetch.{ahead, all_code, admitted, admitted_if_used, fetch as fetch_in}
+use Rattle.decode80.specs.Fetch.{ahead, all_code, admitted_if_used, fetch as fetch_in}
 use Rattle.image80.specs.Regions.{Areas, in_code, targets_at}
-use Rattle.machine80.specs.declared.end.End.{End}
 use Rattle.machine80.specs.declared.end.End.TheVariants.{JumpOutside}
 use Rattle.machine80.specs.Cpu.{hl_of}
 use Rattle.machine80.specs.Ports.{next_input, without_next}

@@ -1,5 +1,5 @@
 -- On a board each world keeps to the table of pairs, so its stores go as they are listed.
-use Rattle.std.specs.Prelude.{◌≡◌, ◌≢◌, ◌⊎◌, ℕ, ◌<◌, Bool, true, false, List, All, Any, Contains, Option, None, Some, length, refl}
+use Rattle.std.specs.Prelude.{◌≡◌, ◌≢◌, ◌⊎◌, ℕ, true, false, List, All, Any, Option, length, refl}
 use Rattle.std.proofs.Common.{◌∙◌, subst, sym, ap, inl, inr, get_or}
 use Rattle.std.proofs.lemmas.List.Elements.{Contains-get_or}
 use Rattle.decode80.specs.declared.instr.Instr.{Instr}
@@ -9,12 +9,12 @@ use Rattle.image80.specs.Regions.{in_data}
 use Rattle.image80.specs.Image.{Located}
 use Rattle.machine80.specs.Effects.{pointed_bytes}
 use Rattle.machine80.specs.Step.{Machine}
-use Rattle.machine80.specs.World.{World, fetched_by, places_after}
+use Rattle.machine80.specs.World.{World, places_after}
 use Rattle.machine80.specs.Run.{world_of}
 use Rattle.verify80.specs.Looking.{code_of, is_pchl}
 use Rattle.verify80.specs.Starts.{NeverGoesWrongFromPowerOn}
 use Rattle.verify80.specs.Reached.{StandsOnWalk, StaysOnWalks}
-use Rattle.verify80.specs.Boards.{fetched_anywhere, with_memory, StaysInside, Executes, OnBoard, begins, disturbed, executed, Anywhere, KeepsPromise, MayStart}
+use Rattle.verify80.specs.Boards.{StaysInside, Executes, OnBoard, begins, disturbed, executed, Anywhere, KeepsPromise, MayStart}
 use Rattle.verify80_calls.specs.Reached.{AreReached}
 use Rattle.verify80_stores.specs.declared.spans.pairs.Pairs.{Pairs}
 use Rattle.verify80_stores.specs.Bytes.{HoldsBytes, BytesStayBytes}

@@ -11,18 +11,18 @@ use Rattle.machine80.specs.Effects.{target}
 use Rattle.machine80.specs.Step.{Machine, Turn, Next, Stop, fetch, step_of}
 use Rattle.machine80.specs.World.{World, world_at, turn_at, next_world, following, world_after, places_then, refuses, returns, fetched_by, FetchesInside}
 use Rattle.machine80.specs.Run.{world_of}
-use Rattle.frames80.specs.Code.{Code, role_of}
+use Rattle.frames80.specs.Code.{role_of}
 use Rattle.verify80.specs.Looking.{code_of, declared_targets}
 use Rattle.verify80.specs.Starts.{IsStart, IsWorldFrom, NeverGoesWrongFromPowerOn}
 use Rattle.verify80.specs.Reached.{IsReached, StandsOnWalk, IsBehindCall, StaysOnWalks}
 use Rattle.verify80_stores.specs.declared.spans.pairs.Pairs.{Pairs}
-use Rattle.verify80_stores.specs.Bytes.{AreBytes, HoldsBytes, BytesStayBytes}
-use Rattle.verify80_stores.specs.Pairs.{Holds, AreInside, anything, pairs_after}
+use Rattle.verify80_stores.specs.Bytes.{HoldsBytes, BytesStayBytes}
+use Rattle.verify80_stores.specs.Pairs.{Holds, anything, pairs_after}
 use Rattle.verify80_stores.specs.Following.{PairsFollow, AnythingHolds, MoreHolds}
 use Rattle.verify80_stores.specs.Ways.{MayLeadTo, callee_of}
-use Rattle.verify80_stores.specs.Fitting.{pairs_at, Has, EntryFits, ReturnsSomewhere, Fits}
+use Rattle.verify80_stores.specs.Fitting.{pairs_at, Has, Fits}
 use Rattle.verify80_stores.specs.Runs.{KeepsTo, IsKnown, IsKept}
-use Rattle.verify80_stores.proofs.WayLemmas.{called_is, GoesOn, executes, executed}
+use Rattle.verify80_stores.proofs.WayLemmas.{called_is, executes, executed}
 
 world_or : World → Option World → World
 world_or otherwise None = otherwise

@@ -1,8 +1,7 @@
 -- The stores of runs, by what is listed.
-use Rattle.std.specs.Prelude.{◌≡◌, ◌≢◌, ◌⊎◌, ◌↔◌, ℕ, zero, suc, ◌<◌, Bool, true, false, not, List, [], ◌∷◌, All, Any, Contains, Option, None, Some, Result, Ok, Err, is_some, length, slice_get, slice_index_or, find, refl, if◌then◌else◌}
+use Rattle.std.specs.Prelude.{◌≡◌, ◌≢◌, ◌⊎◌, ℕ, zero, suc, ◌<◌, Bool, true, false, not, List, [], ◌∷◌, All, Any, Contains, Option, None, Some, Ok, length, refl, if◌then◌else◌}
 use Rattle.std.proofs.Common.{subst, sym, ap, ◌∙◌, inl, inr, arith, get_or}
-use Rattle.std.proofs.lemmas.Bool.Decides.{nat_tests}
-use Rattle.std.proofs.lemmas.List.Elements.{Contains-get_or, All-contains, All-nil, All-cons}
+use Rattle.std.proofs.lemmas.List.Elements.{Contains-get_or, All-nil, All-cons}
 use Rattle.decode80.specs.declared.instr.Instr.{Instr}
 use Rattle.decode80.specs.declared.instr.Instr.TheVariants.{Store, MviMemory, InrMemory, DcrMemory, Stax, In, Out, Pchl, Hlt}
 use Rattle.decode80.specs.declared.pair.IndexPair.TheVariants.{Bc, De}
@@ -14,29 +13,27 @@ use Rattle.image80.specs.Image.{Located}
 use Rattle.machine80.specs.declared.end.End.{End}
 use Rattle.machine80.specs.declared.end.End.TheVariants.{Halt, InputEnd, OutputRefused, StoreOutside, JumpOutside, Fetch, Stack, Direct}
 use Rattle.machine80.specs.declared.registers.Registers.{Registers}
-use Rattle.machine80.specs.declared.cpu.Cpu.{Cpu}
 use Rattle.machine80.specs.Cpu.{hl_of, index_pair_of}
 use Rattle.machine80.specs.Ports.{next_input}
 use Rattle.machine80.specs.Effects.{pointed_bytes, stack_bytes}
-use Rattle.machine80.specs.Step.{Machine, Turn, Next, Stop, fetch, first_outside, ends_at, guard, guarded, execute, turn_of, jump_end, leads_outside, proceeded, with_input, step_on, step_of}
+use Rattle.machine80.specs.Step.{Machine, Stop, first_outside, ends_at, guard, guarded, execute, turn_of, leads_outside, proceeded, with_input, step_on}
 use Rattle.machine80.specs.World.{World, turn_at, fetched_by, refuses, IsProperEnd}
-use Rattle.frames80.specs.Code.{Code}
 use Rattle.verify80.specs.Looking.{code_of, is_pchl}
 use Rattle.verify80.specs.Starts.{IsStart, IsWorldFrom, NeverGoesWrongFromPowerOn}
-use Rattle.verify80.specs.Reached.{IsReached, StandsOnWalk, StaysOnWalks}
+use Rattle.verify80.specs.Reached.{StandsOnWalk, StaysOnWalks}
 use Rattle.verify80_calls.specs.Reached.{AreReached}
 use Rattle.verify80_stores.specs.declared.spans.span.Span.{Span}
 use Rattle.verify80_stores.specs.declared.spans.pairs.Pairs.{Pairs}
 use Rattle.verify80_stores.specs.Bytes.{HoldsBytes}
 use Rattle.verify80_stores.specs.Span.{Within}
-use Rattle.verify80_stores.specs.Pairs.{Holds, anything}
+use Rattle.verify80_stores.specs.Pairs.{Holds}
 use Rattle.verify80_stores.specs.Fitting.{pairs_at}
 use Rattle.verify80_stores.specs.Runs.{KeepsTo, RunsKeepTo}
 use Rattle.verify80_stores.specs.declared.stores.OpenStore.{OpenStore}
 use Rattle.verify80_stores.specs.Pointers.{pointer_span, stores_by_pair}
-use Rattle.verify80_stores.specs.Stores.{IsReachedAs, AreReachedAs, IsOpen, GoesAsListed, EndsAsListed, StoresGoAsListed, RunsEndAsListed, AreStoresOf}
+use Rattle.verify80_stores.specs.Stores.{IsReachedAs, AreReachedAs, IsOpen, GoesAsListed, EndsAsListed, StoresGoAsListed, AreStoresOf}
 use Rattle.verify80_stores.specs.Listing.{AreAllBelow, AreOpenBelow, IsListed, is_kind, reached_at, known, span_of, span_at}
-use Rattle.verify80_stores.proofs.TableLemmas.{IsThere, there_if_reached, reached_if_there}
+use Rattle.verify80_stores.proofs.TableLemmas.{there_if_reached, reached_if_there}
 
 -- an instruction stores by a pair whatever the pairs are
 by_any_pair : (i : Instr) (p : Pairs) (s : Span) → pointer_span i p ≡ Some s → stores_by_pair i ≡ true

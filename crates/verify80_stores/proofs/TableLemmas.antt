@@ -1,10 +1,9 @@
 -- A table that fits what is reached fits the program.
-use Rattle.std.specs.Prelude.{◌≡◌, ℕ, zero, suc, ◌<◌, ◌≤◌, Bool, true, false, List, [], ◌∷◌, All, Any, Option, None, Some, Result, Ok, Err, length, slice_get, slice_index_or, replicate, refl}
+use Rattle.std.specs.Prelude.{◌≡◌, ℕ, zero, suc, ◌<◌, Bool, true, false, List, [], ◌∷◌, All, Option, None, Some, Ok, length, slice_get, slice_index_or, refl}
 use Rattle.std.proofs.Common.{subst, sym, ap, ◌∙◌, arith, get_or}
 use Rattle.decode80.specs.declared.fetching.Fetched.{Fetched}
 use Rattle.image80.specs.Image.{Located}
 use Rattle.image80.specs.Regions.{Areas}
-use Rattle.machine80.specs.Step.{Machine}
 use Rattle.machine80.specs.World.{World}
 use Rattle.machine80.specs.Run.{world_of}
 use Rattle.frames80.specs.declared.procedure.Procedure.TheVariants.{Entry}

@@ -1,9 +1,8 @@
 -- The runs of the watched machine are runs from power-on.
-use Rattle.std.specs.Prelude.{◌≡◌, ℕ, List, All, Option, Some}
+use Rattle.std.specs.Prelude.{ℕ, List, All}
 use Rattle.std.proofs.Common.{arith}
 use Rattle.image80.specs.Image.{Located, memory_of}
-use Rattle.machine80.specs.World.{World, IsWorldOf, world_at_start}
-use Rattle.verify80.specs.Starts.{IsStart, IsWorldFrom}
+use Rattle.machine80.specs.World.{world_at_start}
 use Rattle.verify80.specs.Soundness.{RunsBeginFromPowerOn}
 use Rattle.verify80_stores.specs.Bytes.{HasBytes, HoldsBytes}
 use Rattle.verify80_stores.specs.declared.stores.OpenStore.{OpenStore}

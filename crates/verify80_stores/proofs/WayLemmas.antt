@@ -1,17 +1,15 @@
 -- Where the machine goes at each instruction, and what the verifier says of it.
-use Rattle.std.specs.Prelude.{◌≡◌, ◌⊎◌, ℕ, zero, suc, ◌<◌, ◌*◌, ◌==◌, Bool, true, false, not, List, [], ◌∷◌, Contains, Option, None, Some, Result, Ok, Err, IsSome, is_some, length, slice_index_or, refl, if◌then◌else◌}
+use Rattle.std.specs.Prelude.{◌≡◌, ◌⊎◌, ℕ, suc, ◌==◌, Bool, true, false, not, List, [], ◌∷◌, Contains, Option, None, Some, Ok, IsSome, refl, if◌then◌else◌}
 use Rattle.std.specs.List.{list_any}
 use Rattle.std.specs.Option.{option_map_or}
 use Rattle.std.proofs.Common.{subst, sym, ap, ◌∙◌, inl, inr, arith}
 use Rattle.std.proofs.lemmas.Bool.Decides.{nat_tests}
 use Rattle.decode80.specs.declared.instr.Instr.{Instr}
-use Rattle.decode80.specs.declared.instr.Instr.TheVariants.{Mov, Lxi, Inx, Dcx, Jmp, JumpIf, Call, CallIf, Ret, ReturnIf, Rst, In, Out, Pchl, Hlt}
+use Rattle.decode80.specs.declared.instr.Instr.TheVariants.{Lxi, Inx, Dcx, Jmp, JumpIf, Call, CallIf, Ret, ReturnIf, Rst, In, Out, Pchl, Hlt}
 use Rattle.decode80.specs.declared.pair.Pair.TheVariants.{Bc, De, Hl, Sp}
-use Rattle.decode80.specs.declared.condition.Condition.{Condition}
 use Rattle.decode80.specs.declared.fetching.Fetched.{Fetched}
 use Rattle.frames80.specs.declared.role.Role.{Role}
 use Rattle.frames80.specs.declared.fault.FrameFault.{FrameFault}
-use Rattle.frames80.specs.declared.effect.Change.{Change}
 use Rattle.frames80.specs.declared.effect.Effect.{Effect}
 use Rattle.frames80.specs.declared.effect.Effect.TheVariants.{Change as Changes, Halt, Jump, JumpIf as JumpsIf, Case, Call as Calls, CallIf as CallsIf, Return, ReturnIf as ReturnsIf, Refuse}
 use Rattle.frames80.specs.declared.moves.Moves.{Moves}
@@ -28,7 +26,7 @@ use Rattle.machine80.specs.Flags.{holds}
 use Rattle.machine80.specs.Cpu.{hl_of}
 use Rattle.machine80.specs.Ports.{next_input}
 use Rattle.machine80.specs.Effects.{target}
-use Rattle.machine80.specs.Step.{Machine, Turn, Next, Stop, fetch, guard, guarded, execute, turn_of, jump_end, leads_outside, proceeded, with_input, step_on, step_of}
+use Rattle.machine80.specs.Step.{Machine, Turn, Next, Stop, fetch, guard, guarded, execute, turn_of, jump_end, proceeded, with_input, step_on, step_of}
 use Rattle.machine80.specs.World.{returns}
 use Rattle.verify80_flow.specs.Walks.{called}
 use Rattle.verify80.specs.Looking.{declared_targets}

@@ -1,5 +1,5 @@
 -- How far data goes on from an address. (This project's own.)
-use Rattle.std.specs.Prelude.{◌≡◌, ◌≤◌, ◌<◌, ℕ, true, false, ◌⊎◌, List, length, slice_index}
+use Rattle.std.specs.Prelude.{◌≡◌, ◌≤◌, ◌<◌, ℕ, true, false, List, length, slice_index}
 use Rattle.image80.specs.Regions.{Areas, in_data}
 
 -- each address from one on below another is data, and the other is not, if it is an address of memory

@@ -1,7 +1,7 @@
 -- A table of pairs that fits a program: pairs for each address where walks come to, such that what the instruction there makes of
 -- them is among those wherever it may lead; and if nothing is known, behind a call whose callee returns and at the start,
 -- anything. The runs of the program are followed along such a table. (This project's own.)
-use Rattle.std.specs.Prelude.{◌≡◌, ◌<◌, ℕ, true, Bool, List, Contains, Option, None, Some, Ok, length, slice_get}
+use Rattle.std.specs.Prelude.{◌≡◌, ℕ, List, Option, None, Some, Ok, slice_get}
 use Rattle.decode80.specs.declared.fetching.Fetched.{Fetched}
 use Rattle.frames80.specs.Effects.{effect_of}
 use Rattle.frames80.specs.declared.procedure.Procedure.TheVariants.{Entry}

@@ -1,12 +1,11 @@
 -- What a table of pairs says of runs. (This project's own.)
-use Rattle.std.specs.Prelude.{◌≡◌, ◌<◌, ℕ, Bool, true, List, Option, None, Some, Ok}
+use Rattle.std.specs.Prelude.{◌≡◌, ℕ, Bool, true, List, Option, Some}
 use Rattle.decode80.specs.declared.fetching.Fetched.{Fetched}
 use Rattle.image80.specs.Image.{Located}
 use Rattle.machine80.specs.Effects.{target}
 use Rattle.machine80.specs.Step.{Machine, Next, step_of}
 use Rattle.machine80.specs.World.{World, FetchesInside, fetched_by, returns}
 use Rattle.machine80.specs.Run.{world_of}
-use Rattle.frames80.specs.Code.{Code}
 use Rattle.verify80.specs.Looking.{code_of}
 use Rattle.verify80.specs.Starts.{IsStart, IsWorldFrom, NeverGoesWrongFromPowerOn}
 use Rattle.verify80.specs.Reached.{IsBehindCall, StandsOnWalk, StaysOnWalks}

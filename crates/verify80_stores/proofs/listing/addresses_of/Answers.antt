@@ -1,6 +1,6 @@
 use Rattle.verify80_stores.specs.Kinds.{is_of}
 use Rattle.verify80_stores.proofs.ListLemmas.{all_pushed, all_kept}
-use Rattle.std.proofs.Common.{◌≡◌, true, false, sym, ◌∙◌}
+use Rattle.std.proofs.Common.{sym, ◌∙◌}
 use Rattle.verify80_stores.proofs.listing.addresses_of.Goals as goal
 use Rattle.verify80_stores.proofs.listing.addresses_of.Goals.{then-is_kind_at+in_ok-push, else-is_kind_at}
 

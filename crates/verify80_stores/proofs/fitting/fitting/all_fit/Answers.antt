@@ -1,4 +1,4 @@
-use Rattle.std.proofs.Common.{◌≡◌, ◌<◌, ℕ, true, Some, refl, arith, below_more}
+use Rattle.std.proofs.Common.{◌≡◌, true, Some, refl, arith, below_more}
 use Rattle.std.specs.Prelude.{slice_get}
 use Rattle.decode80.specs.declared.fetching.Fetched.{Fetched}
 use Rattle.verify80.specs.Looking.{declared_targets}
