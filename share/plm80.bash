@@ -11,7 +11,7 @@ _plm80() {
             ;;
     esac
     if [[ $COMP_CWORD -eq 1 ]]; then
-        COMPREPLY=($(compgen -W 'link locate run list check explain lib regions cases map extract absolute trace cover stores calls compare inputs module find suggest help -h --help -V --version' -- "$word"))
+        COMPREPLY=($(compgen -W 'lib link locate map module check explain calls stores run trace cover inputs absolute extract compare find suggest cases list regions help -h --help -V --version' -- "$word"))
         return
     fi
     case ${COMP_WORDS[1]} in
@@ -32,7 +32,7 @@ _plm80() {
         cases) options='--out --why -h --help' ;;
         calls) options='--dot --names --why -h --help' ;;
         help)
-            [[ $COMP_CWORD -eq 2 ]] && COMPREPLY=($(compgen -W 'link locate run list check explain lib regions cases map extract absolute trace cover stores calls compare inputs module find suggest help' -- "$word"))
+            [[ $COMP_CWORD -eq 2 ]] && COMPREPLY=($(compgen -W 'lib link locate map module check explain calls stores run trace cover inputs absolute extract compare find suggest cases list regions help' -- "$word"))
             return
             ;;
         *) return ;;

@@ -61,37 +61,47 @@ Example: plm80 locate readings.obj readings.img readings.regions
 
 Faults and what to do: docs/FAULTS.md (installed: share/doc/plm80), man plm80.";
 
-/// The commands of files and of located programs, in the order of the help text. (Several functions make the commands, since
-/// one proof of all their texts is more than the prover takes.)
-fn main_commands() -> [Syntax<'static>; 6] {
-    [LINK, LOCATE, RUN, LIST, CHECK, EXPLAIN]
+/// The commands of object files, in the order of the help text. (Several functions make the commands, since one proof of all their
+/// texts is more than the prover takes.)
+fn object_commands() -> [Syntax<'static>; 5] {
+    [LIB, LINK, LOCATE, MAP, MODULE]
 }
 
-/// The other commands, in the order of the help text.
-fn other_commands() -> [Syntax<'static>; 6] {
-    [LIB, REGIONS, CASES, MAP, EXTRACT, ABSOLUTE]
+/// The commands that verify a located program, in the order of the help text.
+fn verifier_commands() -> [Syntax<'static>; 4] {
+    [CHECK, EXPLAIN, CALLS, STORES]
 }
 
-/// The commands that came last, in the order of the help text.
-fn further_commands() -> [Syntax<'static>; 9] {
+/// The commands that run one, in the order of the help text.
+fn run_commands() -> [Syntax<'static>; 4] {
+    [RUN, TRACE, COVER, INPUTS]
+}
+
+/// The commands of PROMs, and of programs of which there are no object files, in the order of the help text.
+fn prom_commands() -> [Syntax<'static>; 8] {
     [
-        TRACE, COVER, STORES, CALLS, COMPARE, INPUTS, MODULE, FIND, SUGGEST,
+        ABSOLUTE, EXTRACT, COMPARE, FIND, SUGGEST, CASES, LIST, REGIONS,
     ]
 }
 
 /// The command of a name.
 fn command_of(name: &str) -> Option<Syntax<'static>> {
-    for command in main_commands() {
+    for command in object_commands() {
         if command.name == name {
             return Some(command);
         }
     }
-    for command in other_commands() {
+    for command in verifier_commands() {
         if command.name == name {
             return Some(command);
         }
     }
-    for command in further_commands() {
+    for command in run_commands() {
+        if command.name == name {
+            return Some(command);
+        }
+    }
+    for command in prom_commands() {
         if command.name == name {
             return Some(command);
         }
@@ -164,13 +174,16 @@ fn refuse(alloc: Global, kind: ErrorKind, text: &str) -> Result<Error, AllocErro
 /// The program with its commands, for clap.
 fn program<'a>(alloc: Global) -> Result<Command<'a>, AllocError> {
     let mut program = bare_program(alloc)?;
-    for command in main_commands() {
+    for command in object_commands() {
         program = command.add_to(alloc, program)?;
     }
-    for command in other_commands() {
+    for command in verifier_commands() {
         program = command.add_to(alloc, program)?;
     }
-    for command in further_commands() {
+    for command in run_commands() {
+        program = command.add_to(alloc, program)?;
+    }
+    for command in prom_commands() {
         program = command.add_to(alloc, program)?;
     }
     Ok(program)
