@@ -63,7 +63,7 @@ same_byte code held held' at count j same all inside =
     let here : (code (at + j) ≡ true) × (ahead at j ≡ at + j) = byte_is_code code at count j all inside in
     same (ahead at j) (ap code here.1 ∙ here.0)
 
--- what a row of the first byte comes to
+-- what a row of the first byte gives
 admitted_same : (code : ℕ → Bool) (held held' : ℕ → ℕ) (at : ℕ) (r : Option Instr) → ((a : ℕ) → code a ≡ true → held a ≡ held' a) →
     admitted_if_used code at (option_map (completed (held (ahead at 1)) (held (ahead at 2))) r) ≡ admitted_if_used code at (option_map (completed (held' (ahead at 1)) (held' (ahead at 2))) r)
 admitted_same code held held' at None same = refl

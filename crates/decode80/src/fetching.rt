@@ -63,7 +63,7 @@ pub enum FetchFault {
     Unused,
 }
 
-/// The address so many bytes after another one, modulo 65536.
+/// The address a given number of bytes after another one, modulo 65536.
 #[inline]
 #[tactic(auto, unfolding(crate::specs::Fetch::ahead))]
 pub fn ahead(address: u16, bytes: u16) -> u16
@@ -72,7 +72,7 @@ pub fn ahead(address: u16, bytes: u16) -> u16
     address.wrapping_add(bytes)
 }
 
-/// The address so many bytes before another one, modulo 65536.
+/// The address a given number of bytes before another one, modulo 65536.
 #[inline]
 #[tactic(auto, unfolding(crate::specs::Fetch::behind))]
 pub fn behind(address: u16, bytes: u16) -> u16

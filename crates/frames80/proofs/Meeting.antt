@@ -7,7 +7,7 @@ use Rattle.frames80.specs.Word.{met}
 use Rattle.frames80.specs.StackFrame.{StackFrame}
 use Rattle.frames80.specs.Calls.{words_met}
 
--- the words when so many from the front have met
+-- the words when a given number of from the front have met
 abbrev pub met_to : ℕ → List Word → List Word → List Word
 met_to zero xs ys = xs
 met_to (suc i) [] ys = []

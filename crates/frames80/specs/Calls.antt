@@ -14,11 +14,11 @@ abbrev pub room : Role → List Word → ℕ
 room (Main _) words = length words
 room Entry words = length words - 1
 
--- the caller's frame when the callee has returned and taken so many words: they are gone, and the pairs may hold anything
+-- the caller's frame when the callee has returned and taken a given number of words: they are gone, and the pairs may hold anything
 abbrev pub returned : ℕ → StackFrame → StackFrame
 returned taken f = record { taken = f.taken; words = drop taken f.words; pairs = unknown }
 
--- the frame after a call of a procedure that wants and takes so many words
+-- the frame after a call of a procedure that wants and takes a given number of words
 abbrev pub after_call : Role → (wants taken : ℕ) → StackFrame → Result StackFrame CallFault
 after_call role wants taken f = if nat_lt (room role f.words) wants then Err ShortArguments else Ok (returned taken f)
 

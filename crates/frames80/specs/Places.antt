@@ -63,7 +63,7 @@ source (Forget pair) (InPair other) = pair_source pair Unknown other
 source (SetStack _) (InWord i) = Unknown
 source _ place = From place
 
--- where each place of the caller comes from when a callee has taken so many words
+-- where each place of the caller comes from when a callee has taken a given number of words
 abbrev pub source_after : (taken : ℕ) → Place → Source
 source_after taken (InPair _) = Unknown
 source_after taken (InWord i) = From (InWord (taken + i))

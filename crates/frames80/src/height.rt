@@ -17,7 +17,7 @@ pub fn depth(frame: &Frame, role: Role) -> i64
     depth_by(role, frame.words.len() as u32, frame.taken)
 }
 
-/// The depth of a frame with so many words, and so many taken.
+/// The depth of a frame with a given number of words, and of words taken.
 pub fn depth_by(role: Role, words: u32, taken: u32) -> i64
     ensures { result ≡ depth_by role words taken }
 {

@@ -105,7 +105,7 @@ impl Frames {
         keep(&mut self.kept, changed)
     }
 
-    /// The number of a caller's frame after a call of a procedure that takes so many words: they are gone, and BC, DE and HL may
+    /// The number of a caller's frame after a call of a procedure that takes a given number of words: they are gone, and BC, DE and HL may
     /// hold anything.
     ///
     /// # Errors

@@ -9,7 +9,7 @@ pub record Holds (before : List ℕ) (chunk : PlacedBytes) (after : List ℕ) : 
   pub bytes : (address : ℕ) →
       slice_index after address ≡ (if covers chunk address then byte_of chunk address else slice_index before address)
 
--- so many bytes, and each is 0
+-- a given number of bytes, and each is 0
 pub record AreZeros (bytes : List ℕ) (count : ℕ) : Type 0 where
   pub whole : length bytes ≡ count
   pub zeros : (address : ℕ) → slice_index bytes address ≡ 0

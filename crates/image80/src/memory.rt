@@ -26,7 +26,7 @@ impl Image {
     }
 }
 
-/// So many bytes of 0.
+/// A given number of bytes of 0.
 pub(crate) fn zeros(alloc: Global, count: usize) -> Result<Vec<u8>, AllocError>
     ensures { IfOk result (λ bytes. AreZeros bytes.items count) }
 {

@@ -9,7 +9,7 @@ use Rattle.decode80.specs.Spelling.{spelling}
 use Rattle.image80_text.specs.Listing.{bytes_from, columns, fitting, instruction_of, line_length, list_line, lines_from}
 use Rattle.image80_text.specs.ListingLaws.{AreLines, no_line, line}
 
--- the address after so many and one more
+-- the address one more than a given number of bytes further on
 address-next : (at n : ℕ) → ((at + 1) % 65536 + n) % 65536 ≡ (at + suc n) % 65536
 address-next at n = omega arith
 

@@ -18,7 +18,7 @@ abbrev pub fitting : ℕ → Option (Instr × ℕ) → Option (Instr × ℕ)
 fitting left (Some (i, n)) = if nat_le n left then Some (i, n) else None
 fitting left None = None
 
--- the instruction that three bytes begin with, and its length, if so many bytes are left of the range
+-- the instruction that three bytes begin with, and its length, if a given number of bytes are left of the range
 abbrev pub instruction_of : List ℕ → ℕ → Option (Instr × ℕ)
 instruction_of bytes left = fitting left (decoded (slice_index bytes 0) (slice_index bytes 1) (slice_index bytes 2))
 
@@ -55,7 +55,7 @@ range_lines memory range = lines_from memory range.first 0 range.length
 abbrev pub listing_of : Located → List ℕ
 listing_of image = flat_map (range_lines (memory_of image.chunks)) image.regions.code
 
--- the line of the instruction at an address, with so many bytes of its range left
+-- the line of the instruction at an address, with a given number of bytes of its range left
 abbrev pub instruction_line_of : Located → (at left : ℕ) → List ℕ
 instruction_line_of image at left =
     let bytes = bytes_from (memory_of image.chunks) at in

@@ -13,7 +13,7 @@ use Rattle.image80_text.specs.Names.{public_at}
 
 -- ---- the name of an address
 
--- the first public at an address, or else the one at the next address below that has one, at most so many addresses down
+-- the first public at an address, or else the one at the next address below that has one, at most a given number of addresses down
 unfoldable pub nearest_from : List Public → (down address : ℕ) → Option Public
 nearest_from publics zero address = public_at publics address
 nearest_from publics (suc down) address = option_or (public_at publics address) (nearest_from publics down (address - 1))

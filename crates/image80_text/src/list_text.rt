@@ -25,7 +25,7 @@ pub fn listing(alloc: Global, image: &Image) -> Result<Vec<u8>, AllocError>
     Ok(text)
 }
 
-/// The line of one instruction, if so many bytes of its range of code are left.
+/// The line of one instruction, if a given number of bytes of its range of code are left.
 ///
 /// `left` must be at least 1. A byte that begins no instruction, or whose instruction is longer than what is left, has the text
 /// `??`.
@@ -123,7 +123,7 @@ fn bytes_at(memory: &FlatBus, at: u16) -> [u8; 3]
     ]
 }
 
-/// The instruction that the bytes begin with, and its length, if so many bytes are left.
+/// The instruction that the bytes begin with, and its length, if a given number of bytes are left.
 fn instruction_in(bytes: [u8; 3], left: usize) -> Option<(Instr, usize)>
     ensures value { result ≡ instruction_of bytes left }
     ensures length { IfSome result (λ found. (1 ≤ found.1) × (found.1 ≤ 3)) }

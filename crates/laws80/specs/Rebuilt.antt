@@ -32,7 +32,7 @@ pub record AreRebuilt (dump : DumpValue) (options : Options) (name : List ℕ) (
   pub no_fault : HasNoFault options name modules
   pub lie : AllByRecursion (LiesInLink dump (linked_bases options name modules) modules) (enumerate_from 0 modules)
 
--- At each address that a content in CODE covers the dump has the byte that the modules come to.
+-- At each address that a content in CODE covers the dump has the byte that the modules give.
 abbrev pub BytesAreTheDumps : Type 0
 BytesAreTheDumps =
     (dump : DumpValue) (options : Options) (name : List ℕ) (modules : List ModuleValue) (address : ℕ)

@@ -13,7 +13,7 @@ use rom80_find::link_of_found_modules_has_the_bytes;
 
 /// If nothing forbids to link modules and to locate what they are linked into, and the bases that it is located with give each
 /// module its part's place, its segments' places and its externals' words with which it lies in a dump, the dump has at each
-/// address that a content in CODE covers the byte that the modules come to: so the image that `locate` answers of the linked
+/// address that a content in CODE covers the byte that the modules give: so the image that `locate` answers of the linked
 /// module, and the one that `build` answers of the modules.
 pub fn found_modules_are_rebuilt()
     ensures bytes { BytesAreTheDumps }

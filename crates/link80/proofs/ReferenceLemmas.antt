@@ -1,4 +1,4 @@
--- What a reference adds at LINK and at LOCATE comes to its target's place.
+-- What a reference adds at LINK and at LOCATE adds up to its target's place.
 use Rattle.std.specs.Prelude.{◌≡◌, ℕ, ◌+◌, ◌%◌, ◌==◌, nat_eq, true, Option, Some, None, is_none, option_map, unwrap_or, List, [], ◌∷◌, length, map, refl, IsTrue}
 use Rattle.std.specs.List.{flat_map, enumerate_from, AllByRecursion}
 use Rattle.std.specs.Option.{option_map_or}

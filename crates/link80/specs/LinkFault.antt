@@ -39,7 +39,7 @@ first_again before (p ∷ ps) = if is_declared before p.name then Some p.name el
 abbrev pub duplicate_public : List ModuleValue → Option LinkFault
 duplicate_public modules = option_map DuplicatePublic (first_again [] (linked_publics modules))
 
--- the parts of CODE, DATA or STACK come to more than 65535 bytes: the least id
+-- the parts of CODE, DATA or STACK add up to more than 65535 bytes: the least id
 abbrev pub segment_too_long : List ModuleValue → Option LinkFault
 segment_too_long modules =
     option_map SegmentTooLong (find (λ id. nat_lt 65535 (linked_length modules id)) (code_id ∷ data_id ∷ stack_id ∷ []))

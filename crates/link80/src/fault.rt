@@ -10,7 +10,7 @@ pub enum LinkFault {
     /// The first public, by module and then by record, whose name occurred before.
     #[error("DuplicatePublic {0}")]
     DuplicatePublic(Name),
-    /// The first of CODE, DATA and STACK, by its id, whose parts come to more than 65535 bytes.
+    /// The first of CODE, DATA and STACK, by its id, whose parts add up to more than 65535 bytes.
     #[error("SegmentTooLong {0:02X}")]
     SegmentTooLong(u8),
     /// Two modules have a start.

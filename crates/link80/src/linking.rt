@@ -219,7 +219,7 @@ fn link_modules(
 ///
 /// # Errors
 /// The first of these that holds of the roots and the modules that are taken: `DuplicatePublic` with the first public whose name
-/// stands before; `SegmentTooLong` with the first of CODE, DATA and STACK that comes to more than 65535 bytes; `TwoMains`;
+/// stands before; `SegmentTooLong` with the first of CODE, DATA and STACK that adds up to more than 65535 bytes; `TwoMains`;
 /// `HighNotPaged`, if a fixup takes the high byte of a segment's place whose part doesn't start at a multiple of 256;
 /// `TooManyCommons`, if more than 249 commons have names; `TooManyExternals`, if no module declares more than 65536 names
 /// that are used. `Memory` if memory runs out.

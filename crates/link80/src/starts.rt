@@ -64,7 +64,7 @@ impl LaidOut {
     /// The parts of CODE, DATA or STACK.
     ///
     /// # Errors
-    /// `SegmentTooLong` exactly where they come to more than 65535 bytes; `Memory` if memory runs out.
+    /// `SegmentTooLong` exactly where they add up to more than 65535 bytes; `Memory` if memory runs out.
     fn new(alloc: Global, modules: &Modules, id: u8) -> Result<LaidOut, LinkFault>
         requires { IsTrue (is_fixed_id id) }
         ensures laid { IfOk result (λ l. l ≡ laid_out modules.now id) }
@@ -127,7 +127,7 @@ impl<'a> LaidModules<'a> {
     /// Lays the parts of the modules one after another.
     ///
     /// # Errors
-    /// `SegmentTooLong` with the first of CODE, DATA and STACK, by its id, whose parts come to more than 65535 bytes;
+    /// `SegmentTooLong` with the first of CODE, DATA and STACK, by its id, whose parts add up to more than 65535 bytes;
     /// `Memory` if memory runs out.
     pub(crate) fn new(alloc: Global, modules: &'a Modules<'a>) -> Result<LaidModules<'a>, LinkFault>
         ensures same { IfOk result (λ laid. laid ≡ modules.now) }

@@ -2,7 +2,7 @@
 use Rattle.std.specs.Prelude.{◌≡◌, ◌↔◌, ℕ, zero, suc, ◌+◌, ◌-◌, ◌<◌, ◌≤◌, ◌⊎◌, Bool, true, false, Option, Some, None, List, [], ◌∷◌, ◌++◌, slice_get, filter_map, length, Contains, IfSome, refl}
 use Rattle.std.specs.List.{AllZip, list_any, position_from, cons_option}
 use Rattle.std.proofs.Common.{◌∙◌, ap, sym, subst, arith, inl, inr, cond, drop, get_or}
-use Rattle.std.proofs.lemmas.Bool.{cases_Bool, cases_lt, cases_order, or_parts, or_from}
+use Rattle.std.proofs.lemmas.Bool.{cases_lt, cases_order, or_parts, or_from}
 use Rattle.std.proofs.lemmas.Iterator.Adapters.{position_from-zero}
 use Rattle.std.proofs.lemmas.List.{get_or-drop}
 use Rattle.std.proofs.lemmas.List.Quantifiers.{position-Some}

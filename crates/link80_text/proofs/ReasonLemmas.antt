@@ -1,4 +1,4 @@
--- A search that has come to its end gives reasons: what is found are distances, and the edges are the first of the nearest.
+-- A search that has reached its end gives reasons: what is found are distances, and the edges are the first of the nearest.
 use Rattle.std.specs.Prelude.{◌≡◌, ℕ, zero, suc, ◌+◌, ◌-◌, ◌<◌, ◌≤◌, ◌⊎◌, nat_lt, true, false, Option, Some, None, option_map, List, [], ◌∷◌, ◌++◌, filter_map, length, slice_get, slice_index_or, Contains, refl}
 use Rattle.std.specs.List.{cons_option}
 use Rattle.std.proofs.Common.{◌∙◌, ap, sym, subst, arith, inl, inr, cond}

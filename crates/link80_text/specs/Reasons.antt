@@ -11,7 +11,7 @@ use Rattle.link80.specs.Selection.{modules_with}
 
 -- ---- distances from the roots
 
--- so many steps, each from a module to one that it needs, lead from a root to the module at a place
+-- a given number of steps, each from a module to one that it needs, lead from a root to the module at a place
 pub data IsReachedIn (roots : List ModuleValue) (libraries : List (List ModuleValue)) : ℕ → Chosen → Type 0 where
   from_root : (root : ModuleValue) (place : Chosen) → Contains roots root → Needs roots libraries root place
       → IsReachedIn roots libraries 1 place

@@ -7,7 +7,7 @@ use Rattle.link80_text.specs.declared.reasons.search.Found.{Found}
 abbrev pub found_at : List (Option Found) → ℕ → Option Found
 found_at found k = slice_index_or found k None
 
--- the steps to a linked module: none to a root, of which there are so many
+-- the steps to a linked module: none to a root, of which there is a given number
 abbrev pub steps_to : ℕ → List (Option Found) → ℕ → Option ℕ
 steps_to roots found number =
     if nat_lt number roots then Some 0 else option_map (λ f. f.steps) (found_at found (number - roots))
@@ -15,7 +15,7 @@ steps_to roots found number =
 abbrev pub is_at : ℕ → Option ℕ → Bool
 is_at round steps = option_map_or (λ s. s == round) steps false
 
--- an edge leads from what is so many steps from a root to what wasn't found yet
+-- an edge leads from what is a given number of steps from a root to what wasn't found yet
 abbrev pub is_new : (roots round : ℕ) → List (Option Found) → Edge → Bool
 is_new roots round found edge = is_at round (steps_to roots found edge.by) && is_none (found_at found edge.to)
 
@@ -26,7 +26,7 @@ new_found round j = record { edge = j; steps = suc round }
 abbrev pub followed : (round j : ℕ) → List (Option Found) → Edge → List (Option Found)
 followed round j found edge = slice_set found edge.to (Some (new_found round j))
 
--- edges lead to so many modules
+-- edges lead to a given number of modules
 abbrev pub LeadInside : List Edge → ℕ → Type 0
 LeadInside edges count = (j : ℕ) (edge : Edge) → slice_get edges j ≡ Some edge → edge.to < count
 
@@ -52,7 +52,7 @@ pub record IsSearched (roots : ℕ) (edges : List Edge) (round next : ℕ) (foun
   pub served : (j : ℕ) (edge : Edge) (distance : ℕ) → slice_get edges j ≡ Some edge → steps_to roots found edge.by ≡ Some distance
       → (distance < round) ⊎ ((distance ≡ round) × (j < next)) → IsServed found j edge distance
 
--- no more than so many steps
+-- no more than a given number of steps
 abbrev pub IsWithin : ℕ → List (Option Found) → Type 0
 IsWithin most found = (k : ℕ) (w : Found) → found_at found k ≡ Some w → w.steps ≤ most
 
@@ -64,7 +64,7 @@ pub record IsRound (roots : ℕ) (edges : List Edge) (round next : ℕ) (start f
   pub fewer : changed ≡ true → count_by is_none found < count_by is_none start
   pub len : length found ≡ length start
 
--- the search has come to its end
+-- the search has reached its end
 pub record IsComplete (roots : ℕ) (edges : List Edge) (found : List (Option Found)) : Type 0 where
   pub right : (k : ℕ) (w : Found) → found_at found k ≡ Some w → IsRight roots edges found k w
   pub served : (j : ℕ) (edge : Edge) (distance : ℕ) → slice_get edges j ≡ Some edge → steps_to roots found edge.by ≡ Some distance

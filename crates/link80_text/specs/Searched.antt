@@ -15,7 +15,7 @@ pub record SelectionValue : Type 0 where
   pub libraries : List (List ModuleValue)
   pub taken : List Chosen
 
--- the edges are those of the linked modules, and the search along them has come to its end
+-- the edges are those of the linked modules, and the search along them has reached its end
 pub record IsSearchedFor (roots : List ModuleValue) (libraries : List (List ModuleValue)) (taken : List Chosen)
     (modules : List ModuleValue) (edges : List Edge) (found : List (Option Found)) : Type 0 where
   pub selection : IsSelection roots libraries taken

@@ -28,7 +28,7 @@ pub record SpellsProgram (t : Texts) (image : Located) : Type 0 where
   pub contents : SpellsImage t.image (without_regions image)
   pub regions : Spells t.regions image.regions
 
--- the text is the transcript of a run of at most so many steps on these inputs. Exactly as many outputs are taken as the
+-- the text is the transcript of a run of at most a given number of steps on these inputs. Exactly as many outputs are taken as the
 -- limit says, and the next one is refused
 pub record IsTranscript (image : Located) (inputs : List (List ℕ)) (limit steps : ℕ) (o : Outcome) (text : List ℕ) : Type 0 where
   pub last : Machine

@@ -16,7 +16,7 @@ use machine80::{End, Inputs, ListPorts, PagedBus, Ports};
 use std::alloc::{AllocError, Global};
 use verify80::Refusal;
 
-/// What a session came to.
+/// How a session went.
 #[derive(Clone, Copy, Debug, PartialEq, Eq)]
 pub struct Outcome {
     /// The number of bytes of stack that the program needs at most.

@@ -45,7 +45,7 @@ pub fn front_text(
     Ok(text)
 }
 
-/// The last line of a transcript: how the run ended, where the program counter is `at` and so many steps were made. Of the ends
+/// The last line of a transcript: how the run ended, where the program counter is `at` and a given number of steps were made. Of the ends
 /// that a vouched image never has, it is empty.
 ///
 /// # Errors

@@ -99,7 +99,7 @@ impl Vouched {
     ///
     /// Whatever waits at the ports, however many outputs are taken and however long the program runs, each of its steps
     /// fetches only inside code, stores directly only to data, jumps by PCHL only if targets are declared, touches as
-    /// stack only so many bytes below the stack's top, and returns only to the place after the newest call that hasn't
+    /// stack only a given number of bytes below the stack's top, and returns only to the place after the newest call that hasn't
     /// returned; and it ends, if at all, by HLT, at an empty port, at a refused output, at a register-indirect store
     /// outside data or at a PCHL outside its declared targets. The same holds from power-on: whatever registers, flags and
     /// the memory outside code hold, if SP is at the stack's top and each address of code has the image's byte.

@@ -15,7 +15,7 @@ use Rattle.loader80_text.specs.declared.inputs.repeated.Repeated.{Repeated}
 use Rattle.loader80_text.specs.Laws.{SpellsInputs}
 use Rattle.loader80_text.specs.Text.{content_of, text_of, pairs_of, IsRepeated}
 
--- a byte so many times is bytes
+-- a byte a given number of times is bytes
 bytes_replicate : (count byte : ℕ) → byte < 256 → IsBytes (replicate count byte)
 bytes_replicate zero byte small i = omega arith
 bytes_replicate (suc count) byte small zero = small

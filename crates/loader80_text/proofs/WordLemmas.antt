@@ -16,7 +16,7 @@ pub items_last : (port : ℕ) (rest : List ℕ) → slice_split is_comma rest �
     items_of port rest ≡ with_first (item_of port rest) (Some [])
 items_last port rest first = ap (λ (items : List (List ℕ)). all_of (map (item_of port) items)) first
 
--- an item goes from those that are to come to those that are read
+-- an item goes from those that are not read yet to those that are read
 moved : (before : List Repeated) (input : Repeated) (later : Option (List Repeated)) →
     option_map (λ more. (before ++ input ∷ []) ++ more) later ≡ option_map (λ more. before ++ more) (with_first (Some input) later)
 moved before input None = refl

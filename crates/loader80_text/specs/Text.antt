@@ -4,7 +4,7 @@ use Rattle.std.specs.List.{flat_map}
 use Rattle.hex.specs.Hex.{encode_upper}
 use Rattle.loader80_text.specs.declared.inputs.repeated.Repeated.{Repeated}
 
--- what a line has before its line feed: the port, a space, and the byte so many times
+-- what a line has before its line feed: the port, a space, and the byte a given number of times
 abbrev pub content_of : Repeated → List ℕ
 content_of r = encode_upper (r.port ∷ []) ++ 32 ∷ encode_upper (replicate r.count r.byte)
 
@@ -15,7 +15,7 @@ line_of r = content_of r ++ 10 ∷ []
 abbrev pub text_of : List Repeated → List ℕ
 text_of inputs = flat_map line_of inputs
 
--- what is spelled: each byte with its port, so many times over
+-- what is spelled: each byte with its port, a given number of times
 abbrev pub pairs_of : List Repeated → List (ℕ × ℕ)
 pairs_of inputs = flat_map (λ (r : Repeated). replicate r.count (r.port, r.byte)) inputs
 

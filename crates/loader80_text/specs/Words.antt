@@ -22,7 +22,7 @@ times before =
     if length before == 0 then Some 1
     else (if slice_index before (length before - 1) == 42 then count_spelled (take (length before - 1) before) else None)
 
--- one byte so many times at a port
+-- one byte a given number of times at a port
 abbrev pub repeated : ℕ → Option ℕ → Option (List ℕ) → Option Repeated
 repeated port (Some count) (Some (byte ∷ [])) = Some (record { port = port; count = count; byte = byte })
 repeated port count bytes = None

@@ -3,7 +3,7 @@
 //! | Item | What it is |
 //! |---|---|
 //! | [`WordInputs`] | the bytes that words name, and the text that spells them |
-//! | [`Repeated`] | a byte that waits at a port, so many times over |
+//! | [`Repeated`] | a byte that waits at a port, a given number of times |
 //! | [`WordFault`] | a word is of another form |
 //! | [`LengthFault`] | the text has more bytes than a loader reads |
 

@@ -11,7 +11,7 @@
 //! | [`BundleFault`] | why a bundle has no outcome |
 //! | [`inputs_begin_at_the_first_inputs_line`] | where a bundle's inputs begin, as a contract |
 //! | [`WordInputs`] | the bytes that words name, and the text that spells them |
-//! | [`Repeated`] | a byte that waits at a port, so many times over |
+//! | [`Repeated`] | a byte that waits at a port, a given number of times |
 //! | [`WordFault`] | a word is of another form |
 //! | [`LengthFault`] | the text has more bytes than a loader reads |
 #![tactic(auto)]

@@ -14,7 +14,7 @@ use Rattle.loader80_trace.specs.Finished.{HasReached, MakesStep}
 use Rattle.loader80_trace.specs.Traces.{EndsSo}
 use Rattle.loader80_trace.proofs.StepLemmas.{ended_there, reached_next}
 
--- so many steps have been counted, and the run has come so far
+-- a given number of steps have been counted, and the run has come so far
 pub record Counted (regions : Areas) (outputs : ℕ) (start : World) (made : ℕ) (m : Machine) (counts : List ℕ) : Type 0 where
   pub at : HasReached regions outputs start made m
   pub counted : CountsSteps regions (Some outputs) start made counts

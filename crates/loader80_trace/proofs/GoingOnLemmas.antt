@@ -34,7 +34,7 @@ following-machine regions most (Some v) (Some w) e =
     ∙ ap (λ (m : Machine). machine_then (step_of regions (refuses most m.outputs) m)) same
     ∙ sym (machine_after (turn_at regions most w) _)
 
--- a world that has come to a machine goes on as any world of that machine does
+-- a world that has reached a machine goes on as any world of that machine does
 world_at-add : (regions : Areas) (most : Option ℕ) (start : World) (made : ℕ) (from : World) → machine_of (world_at regions most start made) ≡ Some from.machine →
     (more : ℕ) → machine_of (world_at regions most start (made + more)) ≡ machine_of (world_at regions most from more)
 world_at-add regions most start made from there zero = rw add-zero there
@@ -75,7 +75,7 @@ pub runs_on : (regions : Areas) (most : Option ℕ) (start : World) (made limit 
 runs_on regions most start made limit steps before after None reached run = (omega (arith, run.0), reaches_on regions most start made steps before after reached run.1)
 runs_on regions most start made limit steps before after (Some e) reached run = (omega (arith, run.0), ends_on regions most start made steps before after e reached run.1)
 
--- what stays right from the start does from each machine that the run comes to
+-- what stays right from the start does from each machine that the run reaches
 pub stays_on : (regions : Areas) (start : World) (made : ℕ) (before : Machine) → StaysRight regions start → Reaches regions None start made before → StaysRight regions (world_of before)
 stays_on regions start made before stays reached more w at =
     let there = is_there _ w.machine (world_at-add regions None start made (world_of before) (reached-machine regions None start made before reached) more ∙ ap machine_of at) in

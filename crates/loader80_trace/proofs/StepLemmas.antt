@@ -107,7 +107,7 @@ reached_next regions outputs start made m after None reached step none = record 
 }
 reached_next regions outputs start made m after (Some e) reached step none = cc
 
--- the run stays right from a machine that it has come to
+-- the run stays right from a machine that it has reached
 pub right_there : (regions : Areas) (outputs : ℕ) (start : World) (made : ℕ) (m : Machine) → StaysRight regions start → HasReached regions outputs start made m → StaysRight regions (world_of m)
 right_there regions outputs start made m stays reached = stays_on regions start made m stays reached.unlimited
 

@@ -88,7 +88,7 @@ rest_of regions outputs start numbered steps from count made = run_lines regions
 abbrev pub line_of : Areas → (numbered : Bool) → ℕ → Machine → List ℕ
 line_of regions numbered number m = number_text numbered number ++ machine_line regions m
 
--- so many lines have been written, and the run has come so far
+-- a given number of lines have been written, and the run has come so far
 pub record Shown (regions : Areas) (outputs : ℕ) (start : World) (numbered : Bool) (steps from count made : ℕ) (m : Machine) (old now : Option (List ℕ)) : Type 0 where
   pub at : HasReached regions outputs start (from + made) m
   pub wrote : Wrote old now (whole_of regions outputs start numbered steps from count) (rest_of regions outputs start numbered steps from count made)
@@ -223,7 +223,7 @@ before None regions outputs start limit steps from count made m run first (inl s
 before None regions outputs start limit steps from count made m run first (inr less) = omega (arith, run.0)
 before (Some e) regions outputs start limit steps from count made m run first why = omega (arith, run.0, run.1.counted)
 
--- such a run came to its end before the first line
+-- such a run reached its end before the first line
 pub came_before : (regions : Areas) (outputs : ℕ) (start : World) (limit steps from count : ℕ) (ended : Ended) (m : Machine) → IsRun regions (Some outputs) start limit ended.steps m ended.end → ended.cpu ≡ m.cpu → limit ≡ min from steps → (is_some ended.end ≡ true) ⊎ (steps < from) →
     CameToEnd regions (Some outputs) start steps from count ended
 came_before regions outputs start limit steps from count ended m run cpu first why = record {

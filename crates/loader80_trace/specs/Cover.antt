@@ -1,4 +1,4 @@
--- The code of an image, line by line: the instructions at the addresses that walks come to, and the other bytes as data. (Texts:
+-- The code of an image, line by line: the instructions at the addresses that walks reach, and the other bytes as data. (Texts:
 -- 8080 Assembly Language Programming Manual; the columns are this project's.)
 use Rattle.std.specs.Prelude.{◌≡◌, ℕ, zero, suc, ◌+◌, ◌-◌, ◌%◌, ◌==◌, ◌&&◌, ◌||◌, Bool, true, false, not, nat_le, nat_lt, is_some, List, [], ◌∷◌, ◌++◌, Option, None, Some, length, slice_index, codes, if◌then◌else◌}
 use Rattle.std.specs.Fmt.{decimal}
@@ -34,7 +34,7 @@ abbrev pub data_before : (ℕ → Bool) → ℕ → ℕ
 data_before data_here zero = 0
 data_before data_here (suc at) = if data_here at then data_before data_here at + 1 else 0
 
--- such bytes from an address on, up to the first other address, at most so many
+-- such bytes from an address on, up to the first other address, at most a given number
 abbrev pub data_from : (ℕ → Bool) → List ℕ → (most at : ℕ) → List ℕ
 data_from data_here memory zero at = []
 data_from data_here memory (suc most) at =
@@ -79,12 +79,12 @@ is_instruction table at = is_some (found_at table at)
 abbrev pub is_begun : (counts : List ℕ) → List (Option Fetched) → ℕ → Bool
 is_begun counts table at = is_some (found_at table at) && nat_lt 0 (slice_index counts at)
 
--- the last line of a cover: how many instructions were begun, of all that walks come to
+-- the last line of a cover: how many instructions were begun, of all that walks reach
 abbrev pub sums_line : (counts : List ℕ) → List (Option Fetched) → List ℕ
 sums_line counts table = codes "REACHED " ++ (decimal (tally (is_begun counts table) 0 65536)
     ++ (codes " OF " ++ (decimal (tally (is_instruction table) 0 65536) ++ 10 ∷ [])))
 
--- the text is that of the instructions at exactly the addresses that walks of an image come to
+-- the text is that of the instructions at exactly the addresses that walks of an image reach
 pub record ListsReached (image : Located) (listed : List ℕ) : Type 0 where
   pub table : List (Option Fetched)
   pub reached : AreReached (code_of image) table

@@ -7,13 +7,13 @@ use Rattle.machine80.specs.Step.{Machine, Next, step_of, turn_of}
 use Rattle.machine80.specs.World.{World, refuses}
 use Rattle.machine80.specs.Run.{Reaches}
 
--- ports that have refused no output, and take so many at most
+-- ports that have refused no output, and take a given number at most
 pub record AreOpen (outputs : ℕ) (ports : PortLists) : Type 0 where
   pub refused : ports.refused ≡ 0
   pub limit : ports.limit ≡ Some outputs
   pub within : length ports.outputs ≤ outputs
 
--- a run has come to a machine after so many steps, whether no more than `outputs` outputs are taken or each one is
+-- a run has reached a machine after a given number of steps, whether no more than `outputs` outputs are taken or each one is
 pub record HasReached (regions : Areas) (outputs : ℕ) (start : World) (steps : ℕ) (m : Machine) : Type 0 where
   pub limited : Reaches regions (Some outputs) start steps m
   pub unlimited : Reaches regions None start steps m

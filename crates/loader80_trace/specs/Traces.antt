@@ -12,7 +12,7 @@ use Rattle.loader80_trace.specs.declared.fault.TraceFault.{TraceFault}
 use Rattle.loader80_trace.specs.declared.fault.TraceFault.TheVariants.{Write, Memory}
 use Rattle.loader80_trace.specs.Lines.{world_line}
 
--- the line of the world after so many steps
+-- the line of the world after a given number of steps
 abbrev pub step_line : Areas → Option ℕ → World → (numbered : Bool) → ℕ → List ℕ
 step_line regions most start numbered number = world_line regions numbered number (world_at regions most start number)
 
@@ -20,7 +20,7 @@ step_line regions most start numbered number = world_line regions numbered numbe
 unfoldable pub run_lines : Areas → Option ℕ → World → (numbered : Bool) → (from count : ℕ) → List ℕ
 run_lines regions most start numbered from count = flat_map (step_line regions most start numbered) (range_with_len from count)
 
--- how many of `count` worlds from the one after `from` steps on come within so many steps
+-- how many of `count` worlds from the one after `from` steps on come within a given number of steps
 abbrev pub count_within : (steps from count : ℕ) → ℕ
 count_within steps from count = min count (steps + 1 - from)
 
@@ -29,13 +29,13 @@ abbrev pub last_number : Option End → (steps : ℕ) → ℕ
 last_number None steps = steps
 last_number (Some e) steps = steps - 1
 
--- a run of at most so many steps ends so
+-- a run of at most a given number of steps ends so
 pub record EndsSo (regions : Areas) (most : Option ℕ) (start : World) (limit : ℕ) (ended : Ended) : Type 0 where
   pub last : Machine
   pub run : IsRun regions most start limit ended.steps last ended.end
   pub cpu : ended.cpu ≡ last.cpu
 
--- the lines came to the end of the run, which is this
+-- the lines reached the end of the run, which is this
 pub record CameToEnd (regions : Areas) (most : Option ℕ) (start : World) (limit from count : ℕ) (ended : Ended) : Type 0 where
   pub last : Machine
   pub run : IsRun regions most start limit ended.steps last ended.end

@@ -1,4 +1,4 @@
-//! The code of an image, line by line: its instructions at the addresses that walks come to, and its other bytes as data.
+//! The code of an image, line by line: its instructions at the addresses that walks reach, and its other bytes as data.
 //!
 //! | Item | What it is |
 //! |---|---|

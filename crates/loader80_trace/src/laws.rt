@@ -2,7 +2,7 @@
 
 ghost use Rattle.loader80_trace.specs.GoingOn.{RunsGoOn};
 
-/// A run of the machine that a run has come to is the rest of that run: nothing but the machine decides how it goes on.
+/// A run of the machine that a run has reached is the rest of that run: nothing but the machine decides how it goes on.
 pub fn runs_go_on()
     ensures { RunsGoOn }
 {}

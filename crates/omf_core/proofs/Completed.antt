@@ -37,7 +37,7 @@ record Gives (last : List ℕ → ℕ) (at : ℕ) (o : Option RecordFault) : Typ
   fault : (rest bytes : List ℕ) → 0 < word_at rest 1 → record_size rest ≤ length rest
       → byte_sum (take (record_size rest) rest) ≡ byte_sum (bytes ++ last bytes ∷ []) → fault_at rest at ≡ o
 
--- so many bytes of 0, and the last byte
+-- a given number of bytes of 0, and the last byte
 abbrev filling : (List ℕ → ℕ) → List ℕ → ℕ → List ℕ
 filling last front n = replicate n 0 ++ last (front ++ replicate n 0) ∷ []
 

@@ -24,13 +24,13 @@ pub record OpenRecords (bytes : List ℕ) (to : ℕ) (records : List RecordValue
   pub spelled : SpellsRecords bytes 0 to records
   pub going_on : IsTrue (list_all goes_on records)
 
--- so many of those
+-- a given number of those
 pub record OpenCount (bytes : List ℕ) (to count : ℕ) : Type 0 where
   pub records : List RecordValue
   pub before : OpenRecords bytes to records
   pub counted : count ≡ length records
 
--- so many records up to place `to`, the last of which ends the file
+-- a given number of records up to place `to`, the last of which ends the file
 pub record EndedCount (bytes : List ℕ) (to count : ℕ) : Type 0 where
   pub at : ℕ
   pub records : List RecordValue
@@ -39,7 +39,7 @@ pub record EndedCount (bytes : List ℕ) (to count : ℕ) : Type 0 where
   pub ends : SpellsRecord bytes at to (kind_byte EndOfFile) body
   pub counted : count ≡ length records + 1
 
--- The bytes hold so many whole records: up to the one that ends the file, or as far as they go.
+-- The bytes hold a given number of whole records: up to the one that ends the file, or as far as they go.
 pub data CountsRecords (bytes : List ℕ) (count : ℕ) : Type 0 where
   ended : (to : ℕ) → EndedCount bytes to count → CountsRecords bytes count
   cut_off : (to : ℕ) → OpenCount bytes to count → fault_at (drop to bytes) to ≡ Some (Truncated to) → CountsRecords bytes count

@@ -27,7 +27,7 @@ pub record OpenLibrary (bytes : List ℕ) (said index at : ℕ) (modules : List 
   pub spelled : SpellsModules bytes first index modules
   pub indexed : SpellsIndex bytes index at records
 
--- The bytes hold so many whole modules: up to the end of the library, or as far as they go. They may end inside the header,
+-- The bytes hold a given number of whole modules: up to the end of the library, or as far as they go. They may end inside the header,
 -- inside a record outside the modules, inside a module, or before any of these.
 pub data CountsModules (bytes : List ℕ) (count : ℕ) : Type 0 where
   in_header : IsCutOff bytes 0 → count ≡ 0 → CountsModules bytes count

@@ -72,7 +72,7 @@ pub data FaultsLibraryHeader (bytes : List ℕ) : LibraryFault → Type 0 where
 abbrev pub goes_on : Bool → ℕ → Bool
 goes_on indexed byte = is_index_kind byte || (not indexed && byte == kind_byte kind.ModuleHeader)
 
--- what another record comes to: the end of a library of as many modules as its header says, or a fault
+-- what another record leads to: the end of a library of as many modules as its header says, or a fault
 abbrev pub fault_of_record : ℕ → ℕ → ℕ → ℕ → Option LibraryFault
 fault_of_record at said found byte =
     if byte == kind_byte kind.EndOfFile then (if said == found then None else Some (CountDiffers said found))

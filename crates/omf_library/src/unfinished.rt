@@ -20,9 +20,9 @@ use std::alloc::Global;
 pub enum Progress {
     /// Its header is still to come.
     Header,
-    /// Its header says that there are so many modules. No index record has come.
+    /// Its header has said how many modules there are. No index record has come.
     Modules(u16),
-    /// Its header says that there were so many modules. Index records are read up to this place.
+    /// Its header has said how many modules there are. Index records are read up to this place.
     Index(u16, usize),
     /// Its end-of-file record has come.
     Ended,

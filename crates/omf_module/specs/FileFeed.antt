@@ -15,7 +15,7 @@ pub record FileFeedValue : Type 0 where
   pub bytes : List ℕ
   pub kept : Option ModuleFault
 
--- The bytes hold so many whole modules: they spell those from their start on, and no whole module follows.
+-- The bytes hold a given number of whole modules: they spell those from their start on, and no whole module follows.
 pub record CountsModules (bytes : List ℕ) (count : ℕ) : Type 0 where
   pub to : ℕ
   pub modules : List ModuleValue

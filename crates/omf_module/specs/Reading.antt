@@ -1,4 +1,4 @@
--- What the steps of reading come to. (They say no more than the definitions of a module's records and of its first fault.)
+-- What the steps of reading give. (They say no more than the definitions of a module's records and of its first fault.)
 use Rattle.std.specs.Prelude.{◌≡◌, ◌⊎◌, ℕ, ◌<◌, ◌≤◌, Bool, true, false, if◌then◌else◌, Option, None, List, [], ◌++◌, length, IsTrue}
 use Rattle.std.specs.Option.{option_to_list}
 use Rattle.omf_body.specs.declared.entries.CommonEntry.{CommonEntry}

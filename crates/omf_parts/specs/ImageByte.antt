@@ -1,5 +1,5 @@
 -- The bytes that modules define: a chunk for each content, at its place, with its references applied; and the byte at an
--- address, that of the last chunk over it. No linked module occurs here: it is what LINK and LOCATE together come to.
+-- address, that of the last chunk over it. No linked module occurs here: it is what LINK and LOCATE together give.
 -- (ISIS-II User's Guide: LINK, LOCATE and the loading of object files.)
 use Rattle.std.specs.Prelude.{ℕ, ◌+◌, ◌-◌, ◌%◌, ◌&&◌, nat_lt, Bool, Option, None, unwrap_or, List, [], filter, find, map, length, slice_get, slice_index}
 use Rattle.std.specs.List.{last_or, flat_map, enumerate_from}

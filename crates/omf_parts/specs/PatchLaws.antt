@@ -32,7 +32,7 @@ PatchedTwice =
     ≡ with_patches (patch_by field at ((u + v) % 65536) ∷ []) bytes
 
 -- So it is for all references of a content: each is increased by a first word, and by a second one if it is still a
--- reference then, which comes to one total.
+-- reference then, which adds up to one total.
 pub record TwoWords : Type 0 where
   pub at : ℕ
   pub field : Field

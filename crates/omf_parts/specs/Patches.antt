@@ -33,7 +33,7 @@ byte_with patches bytes i =
 abbrev pub with_patches : List Patch → List ℕ → List ℕ
 with_patches patches bytes = map (byte_with patches bytes) (range_with_len 0 (length bytes))
 
--- the patch lies inside so many bytes
+-- the patch lies inside a given number of bytes
 abbrev pub is_inside_bytes : ℕ → Patch → Bool
 is_inside_bytes size p = list_all (λ o. nat_lt o size) (offsets_by p.field p.at)
 

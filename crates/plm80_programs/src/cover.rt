@@ -20,7 +20,7 @@ pub struct CoverArguments<'a> {
 const ABOUT: &str = "Verifies an image and runs it: prints how often it began each instruction";
 
 const AFTER_HELP: &str = "\
-Each instruction that the program may come to has a line, as list prints it,
+Each instruction that the program may reach has a line, as list prints it,
 with the number of times that the run began it, or - if it never did. Its other
 code is data, eight bytes a line. The last line has the number of instructions
 that were begun, and that of all. How the run ends doesn't count: the exit

@@ -15,7 +15,7 @@ line says how many of these stores (MOV M,r, MVI M, INR M, DCR M, STAX) are show
 to stay in data, whatever the program reads and finds in memory, as long as none
 has left it. Then comes a line for each other one: its address, the instruction,
 and the first and the last address that it may have; it may be harmless. A line
-JUMP is for each PCHL. Those that no procedure comes to are left out.
+JUMP is for each PCHL. Those that no procedure reaches are left out.
 
 The exit status is 0 if no line follows the first, 1 if one does, or if the
 image is refused: then the refusal is printed alone, as by check. --names prints

@@ -24,7 +24,7 @@ const ABOUT: &str = "Prints the regions that an image's bytes suggest";
 
 const AFTER_HELP: &str = "\
 What is printed is a regions text to begin with. CODE is the bytes of the
-instructions that the program may come to from its start, behind each call too and
+instructions that the program may reach from its start, behind each call too and
 by the jump tables that cases sees; within the --rom-range options, if there are
 any. STACK is 16 bytes below the address of LXI SP, or what the program needs, as
 far as they are free. DATA is what STA, LDA, SHLD and LHLD name outside CODE, STACK

@@ -28,7 +28,7 @@ pub record LieWithin (first count : ℕ) (d : Difference) : Type 0 where
   pub begins : first ≤ d.first
   pub ends : d.first + d.length ≤ first + count
 
--- the range of so many addresses that ends before an address, if there are any
+-- the range of a given number of addresses that ends before an address, if there are any
 abbrev pub run_of : («end» run : ℕ) → List Difference
 run_of «end» run = if nat_lt 0 run then record { first = «end» - run; length = run } ∷ [] else []
 

@@ -111,7 +111,7 @@ fn differences(
     ensures within { IfOk result (λ ranges. AllByRecursion (LieWithin first (length dump.now)) ranges.items) }
 {
     let mut ranges = Vec::new(alloc);
-    // So many bytes up to this one differ, without one between them that doesn't.
+    // A given number of bytes up to this one differ, without one between them that doesn't.
     let mut run: u32 = 0;
     for at in 0..dump.len() {
         if bytes[at] == dump[at] {

@@ -66,7 +66,7 @@ fn name(bytes: &[u8]) -> Result<NameBytes, FieldFault> {
     Cursor::new(bytes).name()
 }
 
-/// A module with a content of so many bytes, and a relocation of each of them.
+/// A module with a content of a given number of bytes, and a relocation of each of them.
 fn relocated(alloc: Global, count: u16) -> Result<Vec<u8>, Fail> {
     let code = SegmentEntry {
         id: 1,
@@ -114,7 +114,7 @@ fn files_of_many_modules_are_written(rt: HostRuntime) -> Result<(), Fail> {
     Ok(())
 }
 
-/// The modules of a file of so many that declare nothing, and one that declares P.
+/// The modules of a file of a given number of them that declare nothing, and one that declares P.
 fn with_p_last(alloc: Global, count: usize) -> Result<Vec<Module>, Fail> {
     let module = repeated(alloc, &HEADER, &[], 0, &END)?;
     let last = repeated(alloc, &HEADER, &PUBLIC, 1, &END)?;
@@ -154,7 +154,7 @@ fn a_piece_of_many_records(rt: HostRuntime) -> Result<(), Fail> {
     Ok(())
 }
 
-/// Writes a record of so many publics.
+/// Writes a record of a given number of publics.
 fn publics_put(alloc: Global, count: usize, out: &mut Vec<u8>) -> Result<(), Fail> {
     let mut entries = Vec::new(alloc);
     for _ in 0..count {
@@ -169,7 +169,7 @@ fn publics_put(alloc: Global, count: usize, out: &mut Vec<u8>) -> Result<(), Fai
     Ok(put_publics(alloc, 1, &entries, out)?)
 }
 
-/// Writes a record of so many external names.
+/// Writes a record of a given number of external names.
 fn externals_put(alloc: Global, count: usize, out: &mut Vec<u8>) -> Result<(), Fail> {
     let mut entries = Vec::new(alloc);
     for _ in 0..count {

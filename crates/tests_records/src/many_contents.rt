@@ -10,7 +10,7 @@ use std::test::Fail;
 /// The regions of the images, which contents may lie outside of.
 static REGIONS: &[u8] = b"REGIONS 1\nCODE 3000 0001\nSTACK FF00 0100\n";
 
-/// The file of an image of so many contents of one byte, at the addresses from 0 on. Each byte is the low one of its address.
+/// The file of an image of a given number of contents of one byte, at the addresses from 0 on. Each byte is the low one of its address.
 fn image_file(alloc: Global, count: u32) -> Result<Vec<u8>, Fail> {
     let mut file = Vec::new(alloc);
     put_record(alloc, 0x02, &[0x01, 0x41, 0x00, 0x00], &mut file)?;
@@ -23,7 +23,7 @@ fn image_file(alloc: Global, count: u32) -> Result<Vec<u8>, Fail> {
     Ok(file)
 }
 
-/// Whether a memory has the bytes of so many contents, and 0 at the other addresses.
+/// Whether a memory has the bytes of a given number of contents, and 0 at the other addresses.
 fn holds<B: Bus>(bus: &B, count: u32) -> bool {
     for address in 0..65_536_u32 {
         let at = address as u16;

@@ -4,7 +4,7 @@ use image80::{read_regions, write_regions, write_regions2};
 use std::alloc::Global;
 use std::test::Fail;
 
-/// A text of regions with so many bytes of data, each a range of its own, from 0000 on.
+/// A text of regions with a given number of bytes of data, each a range of its own, from 0000 on.
 fn data_text(alloc: Global, count: u32) -> Result<String, Fail> {
     let mut text = format!(in alloc; "REGIONS 1\nSTACK FF00 0100\n")?;
     for first in 0..count {
@@ -33,7 +33,7 @@ fn regions_of_many_ranges_are_written(rt: HostRuntime) -> Result<(), Fail> {
     Ok(())
 }
 
-/// A text of regions in which each of so many addresses, from 0000 on, has one declared target, 0000.
+/// A text of regions in which each of a given number of addresses, from 0000 on, has one declared target, 0000.
 fn case_text(alloc: Global, count: u32) -> Result<String, Fail> {
     let mut text = format!(in alloc; "REGIONS 2\nSTACK FF00 0100\n")?;
     for at in 0..count {
@@ -42,7 +42,7 @@ fn case_text(alloc: Global, count: u32) -> Result<String, Fail> {
     Ok(text)
 }
 
-/// A text of regions in which 0000 has so many declared targets, from 0000 on.
+/// A text of regions in which 0000 has a given number of declared targets, from 0000 on.
 fn target_text(alloc: Global, count: u32) -> Result<String, Fail> {
     let mut text = format!(in alloc; "REGIONS 2\nSTACK FF00 0100\nCASE 0000")?;
     for target in 0..count {

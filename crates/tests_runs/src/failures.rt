@@ -25,7 +25,7 @@ fn fault_of<A: Source, B: Source, C: Source>(
     session(alloc, image, regions, inputs, out, 1_000_000, 65_536).err()
 }
 
-/// The fault of a session whose writer has room for so many bytes, and what is written of the transcript.
+/// The fault of a session whose writer has room for a given number of bytes, and what is written of the transcript.
 fn cut_off(
     alloc: Global,
     room: usize,
@@ -60,7 +60,7 @@ fn reads_of(fails: bool, reads: usize) -> usize {
     if fails { reads } else { usize::MAX }
 }
 
-/// The fault if the reads of the text of this number fail after so many, and how many bytes are written.
+/// The fault if the reads of the text of this number fail after a given number, and how many bytes are written.
 fn fault_after(alloc: Global, number: u8, reads: usize) -> (Option<SessionFault>, usize) {
     let mut image = ByteSource::new(&IMAGE, reads_of(number == 1, reads));
     let mut regions = ByteSource::new(REGIONS, reads_of(number == 2, reads));

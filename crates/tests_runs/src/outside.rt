@@ -13,7 +13,7 @@ pub struct ByteSource<'a> {
 }
 
 impl<'a> ByteSource<'a> {
-    /// A source whose reads fail after so many.
+    /// A source whose reads fail after a given number.
     pub fn new(left: &'a [u8], reads: usize) -> Self
         ensures { ⟦<ByteSource<'a> as Source>⟧.failed result ≡ 0 }
     {
@@ -92,7 +92,7 @@ pub struct ByteSink {
 }
 
 impl ByteSink {
-    /// A sink with room for so many bytes, which it keeps in this vector.
+    /// A sink with room for a given number of bytes, which it keeps in this vector.
     pub fn new(taken: Vec<u8>, room: usize, fails: bool) -> Self
         ensures { ⟦<ByteSink as Sink>⟧.failed result ≡ 0 }
     {

@@ -84,7 +84,7 @@ fn put<B: Bus>(bus: &mut B, opcode: u8, pc: u16) {
     bus.store(pc.wrapping_add(2), 0x12);
 }
 
-/// Whether both steps from a state come to the same end, registers, outputs and inputs, if ports of this kind have an input
+/// Whether both steps from a state reach the same end, registers, outputs and inputs, if ports of this kind have an input
 /// byte or none, and room for one output or for none.
 fn steps_agree(
     alloc: Global,

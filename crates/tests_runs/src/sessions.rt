@@ -20,7 +20,7 @@ const REGIONS: &[u8] = b"REGIONS 1\nCODE 3000 0005\nSTACK 3005 0000\n";
 /// Its input.
 const INPUTS: &[u8] = b"02 41\n";
 
-/// A reader that gives one byte at a time. Once it has given so many, a read is interrupted, that one alone: who tried again would
+/// A reader that gives one byte at a time. Once it has given a number of them, a read is interrupted, that one alone: who tried again would
 /// have all bytes.
 #[derive(Drop)]
 struct SlowReader<'a> {

@@ -24,7 +24,7 @@ abbrev pub return_bytes : Procedure → ℕ
 return_bytes Main = 0
 return_bytes (Entry _) = 2
 
--- below a procedure's words there are so many, it has taken so many, and there is room for what it needs
+-- below a procedure's words there are a given number, it has taken a given number, and there is room for what it needs
 pub record HasRoom (table : Table) (most : ℕ) (p : Procedure) (base taken : ℕ) : Type 0 where
   pub fits : 2 * (base + taken) + return_bytes p + table.bound p ≤ most
 
@@ -33,7 +33,7 @@ pub record AtMain (p : Procedure) (base : ℕ) (places : List ℕ) : Type 0 wher
   pub ground : base ≡ 0
   pub none : places ≡ []
 
--- a procedure was called with this frame of its caller, has taken so many of the caller's words, and returns to the place; the
+-- a procedure was called with this frame of its caller, has taken a given number of the caller's words, and returns to the place; the
 -- caller's other words are there
 pub record UnderCall (table : Table) (last : ℕ) (memory : List ℕ) (p : Procedure) (base taken place : ℕ) (places : List ℕ) (q : Procedure) (base_there place_there : ℕ) (older : List ℕ) (h : StackFrame) : Type 0 where
   pub entry : ℕ
@@ -45,7 +45,7 @@ pub record UnderCall (table : Table) (last : ℕ) (memory : List ℕ) (p : Proce
   pub kept : (i : ℕ) → taken ≤ i → word_from_top h.words i ≡ Own → stack_word memory last (base_there + length h.words - suc i) ≡ place_there
   pub newest : places ≡ place ∷ older
 
--- the open calls: of a procedure with so many words below its own, and so many taken, that returns to the place
+-- the open calls: of a procedure with a given number of words below its own, and a given number taken, that returns to the place
 pub data Chain (table : Table) (most last : ℕ) (memory : List ℕ) : Procedure → (base taken place : ℕ) → List ℕ → Type 0 where
   in_main : (p : Procedure) (base taken place : ℕ) (places : List ℕ) → AtMain p base places → HasRoom table most p base taken → Chain table most last memory p base taken place places
   in_call : (p : Procedure) (base taken place : ℕ) (places : List ℕ) (q : Procedure) (base_there place_there : ℕ) (older : List ℕ) (h : StackFrame) →

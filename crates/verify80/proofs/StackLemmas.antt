@@ -1,4 +1,4 @@
--- The words of the stack by their place from the bottom, and the stack pointer over so many words.
+-- The words of the stack by their place from the bottom, and the stack pointer over a given number of words.
 use Rattle.std.specs.Prelude.{◌≡◌, ◌≢◌, ℕ, zero, suc, ◌+◌, ◌-◌, ◌*◌, ◌%◌, ◌<◌, ◌≤◌, Bool, true, false, not, List, [], ◌∷◌, Some, None, All, length, slice_index, slice_index_or, slice_set, refl}
 use Rattle.std.proofs.Common.{◌∙◌, ap, sym, subst, arith, get_or-set_other, cond}
 use Rattle.std.proofs.lemmas.List.{get_or-set_same, length-set}
@@ -11,7 +11,7 @@ use Rattle.machine80.specs.Effects.{word_in, pushed_bytes, popped_bytes, stored,
 use Rattle.machine80.specs.Step.{first_outside}
 use Rattle.machine80.specs.World.{IsJustBelow}
 
--- the stack pointer over so many words of a stack that ends there
+-- the stack pointer over a given number of words of a stack that ends there
 abbrev pub pointer : (last words : ℕ) → ℕ
 pointer last words = (last - 2 * words) % 65536
 

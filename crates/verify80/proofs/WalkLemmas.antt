@@ -1,4 +1,4 @@
--- What stands where walks come to, and where it leads.
+-- What stands where walks lead, and where it leads.
 use Rattle.std.specs.Prelude.{◌≡◌, ℕ, ◌<◌, ◌≤◌, List, [], ◌∷◌, None, Some, Result, Ok, Err, drop, refl}
 use Rattle.std.proofs.Common.{◌∙◌, ap, sym, subst, inl, inr}
 use Rattle.std.proofs.lemmas.Bool.{cases_lt}
@@ -41,14 +41,14 @@ pub data OpenCalls (code : Code) : Procedure → List ℕ → Type 0 where
   in_call : (p : Procedure) (places : List ℕ) (q : Procedure) (at : ℕ) (f : StackFrame) (target next : ℕ) (older : List ℕ) →
       WasCalled code p places q at f target next older → OpenCalls code q older → OpenCalls code p places
 
--- a walk comes to an address, with such open calls
+-- a walk reaches an address, with such open calls
 pub record OnWalk (code : Code) (at : ℕ) (places : List ℕ) : Type 0 where
   pub procedure : Procedure
   pub frame : StackFrame
   pub walk : Walk code procedure at frame
   pub calls : OpenCalls code procedure places
 
--- what a walk comes to may be executed
+-- what a walk reaches may be executed
 pub record Admits (code : Code) (p : Procedure) (at : ℕ) (f : StackFrame) : Type 0 where
   pub found : Fetched
   pub moves : Moves

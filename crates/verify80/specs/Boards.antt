@@ -93,8 +93,8 @@ abbrev pub MayStart : Located → Machine → Type 0
 MayStart image m = IsStart image m ⊎ SetsStackFirst image m
 
 -- what is promised of a world on a board: its next instruction is fetched inside code, and is the image's; it stores directly to data
--- alone; a PCHL has declared targets; if it is a return that is taken, it goes to the place after the newest call that has not returned; as stack it touches only
--- so many bytes just below the stack's top; and it ends the run only if it is HLT
+-- alone; a PCHL has declared targets; if it is a return that is taken, it goes to the place after the newest call that has not returned;
+-- as stack it touches only a given number of bytes just below the stack's top; and it ends the run only if it is HLT
 pub record KeepsPromise (image : Located) (bytes : ℕ) (w : World) : Type 0 where
   pub found : Fetched
   pub anywhere : fetched_anywhere w.machine.memory w.machine.cpu.pc ≡ Some found

@@ -14,13 +14,13 @@ use Rattle.verify80_flow.specs.Rows.{ReturnsWith}
 use Rattle.verify80.specs.Looking.{code_of}
 use Rattle.verify80.specs.Starts.{IsStart, IsWorldFrom}
 
--- a walk comes to an address
+-- a walk reaches an address
 pub record IsReached (code : Code) (at : ℕ) : Type 0 where
   pub procedure : Procedure
   pub frame : StackFrame
   pub walk : Walk code procedure at frame
 
--- a walk comes to where a world stands, and the world's next step fetches the instruction that the verifier has found there
+-- a walk leads to where a world stands, and the world's next step fetches the instruction that the verifier has found there
 pub record StandsOnWalk (image : Located) (w : World) : Type 0 where
   pub reached : IsReached (code_of image) w.machine.cpu.pc
   pub found : Fetched

@@ -11,7 +11,7 @@ use verify80_flow::fitting_tables_cover_walks;
 
 /// If a table of frames fits an image, and the stack has the bytes that the table says, then whatever waits at the ports,
 /// however many outputs are taken and however long the program runs, each of its steps fetches only inside code, stores by
-/// address only to data and jumps by PCHL only if targets are declared, touches as stack only so many bytes below the stack's
+/// address only to data and jumps by PCHL only if targets are declared, touches as stack only a given number of bytes below the stack's
 /// top, and returns only to the place after the newest call that hasn't returned; and it ends, if at all, by HLT, at an empty
 /// port, at a refused output, at a store through a register pair outside data or at a PCHL to none of its declared targets.
 pub fn fitted_images_never_go_wrong()
@@ -37,7 +37,7 @@ pub fn runs_begin_from_power_on()
     ensures { RunsBeginFromPowerOn }
 {}
 
-/// From power-on, each step of a run of an accepted image is at an address that a walk of its procedures comes to, and fetches the
+/// From power-on, each step of a run of an accepted image is at an address that a walk of its procedures reaches, and fetches the
 /// instruction that the verifier has found there. A return that is taken goes to the address behind a call on a walk, and a walk
 /// of that call's procedure returns.
 pub fn accepted_images_stay_on_walks()

@@ -1,7 +1,7 @@
 -- The bytes of stack over chains of calls, from the depths of a program's frames and its calls. (This project's own.)
 use Rattle.std.specs.Prelude.{◌≡◌, ◌+◌, ℕ, ℤ, pos, negsuc, ◌+ℤ◌, ◌≤ℤ◌, List, Contains, slice_index}
 use Rattle.frames80.specs.declared.procedure.Procedure.{Procedure}
-use Rattle.frames80.specs.declared.procedure.Procedure.TheVariants.{Main, Entry}
+use Rattle.frames80.specs.declared.procedure.Procedure.TheVariants.{Entry}
 use Rattle.frames80.specs.Procedures.{slot_of}
 use Rattle.verify80_bounds.specs.declared.graph.Depth.{Depth}
 use Rattle.verify80_bounds.specs.declared.graph.CallSite.{CallSite}

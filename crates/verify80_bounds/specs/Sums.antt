@@ -34,7 +34,7 @@ pub record AreSums (depths : List Depth) (calls : List CallSite) (sums : List �
   pub call : (call : CallSite) → Contains calls call → Contains open_calls call ⊎ IsAbsorbed calls sums open_calls call
   pub of_list : (call : CallSite) → Contains open_calls call → Contains calls call
 
--- the sums with so many calls to come: none can grow past what an i64 holds
+-- the sums with a given number of calls to come: none can grow past what an i64 holds
 pub record AreSmall (sums : List ℕ) (to_come : ℕ) : Type 0 where
   pub small : (slot : ℕ) → slice_index sums slot + most_step * to_come ≤ most_step * 262145
 

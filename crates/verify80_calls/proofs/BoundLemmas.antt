@@ -22,7 +22,7 @@ passes test (first ∷ calls) call e = by (test first) refl e (passes test calls
     by true is found later = subst (λ (c : Call). test c ≡ true) (ap (λ (o : Option Call). unwrap_or o first) found) is
     by false is found later = later found
 
--- the depth of a chain's call, and what it needs, come to its procedure's bound
+-- the depth of a chain's call, and what it needs add up to its procedure's bound
 adds_up : (nodes : List Node) (p : Procedure) (call : Call) → deepest_call nodes p ≡ Some call
     → call.depth +ℤ pos (needs nodes call.target) ≡ pos (bound_of nodes p)
 adds_up nodes p call found = by (node_of nodes p) found

@@ -8,7 +8,7 @@ use Rattle.verify80_calls.specs.declared.graph.call_graph.Node.{Node}
 use Rattle.verify80_calls.specs.declared.graph.chain.Link.{Link}
 use Rattle.verify80_calls.specs.Chain.{chain_from, deepest_call, link}
 
--- the chain of a procedure that has no call that comes to its bound
+-- the chain of a procedure that has no call that adds up to its bound
 pub ends : (nodes : List Node) (left : ℕ) (caller : Procedure) (made whole : List Link) → deepest_call nodes caller ≡ None
     → made ++ chain_from nodes left caller ≡ whole → made ≡ whole
 ends nodes zero caller made whole none all = sym (append-nil made) ∙ all

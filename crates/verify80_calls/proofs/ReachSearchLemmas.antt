@@ -158,7 +158,7 @@ not_found t at place o same read none inside =
     by None h = refl
     by (Some f) h = absurd (true≢false h)
 
--- all that walks come to is found
+-- all that walks reach is found
 pub all_found : (code : Code) (t : List (Option Fetched)) (q : List ℕ) → IsSearch code t q → IsSome (found_at t code.start) → ((k : ℕ) → k < length q → IsFollowed code t (slice_index q k)) →
     AreReached code t
 all_found code t q s start followed = record {

@@ -1,4 +1,4 @@
--- Where walks lead: the addresses that they come to are those that the instructions lead to, from the start on.
+-- Where walks lead: the addresses that they reach are those that the instructions lead to, from the start on.
 use Rattle.std.specs.Prelude.{◌≡◌, ℕ, ◌<◌, ◌≤◌, List, IsSome, Option, None, Some, Result, Ok, Err, refl}
 use Rattle.std.proofs.Common.{◌∙◌, ap, sym, subst, inl, inr}
 use Rattle.std.proofs.lemmas.Bool.{cases_lt}
@@ -34,7 +34,7 @@ ok_is move moves r one other = cc
 refused : {X : Type 0} (fault : FrameFault) (moves : Moves) (r : Result Moves FrameFault) → r ≡ Err fault → r ≡ Ok moves → X
 refused fault moves r one other = absurd (cc)
 
--- what a walk comes to may be executed
+-- what a walk reaches may be executed
 record Admits (code : Code) (p : Procedure) (at : ℕ) (f : StackFrame) : Type 0 where
   found : Fetched
   moves : Moves
@@ -103,7 +103,7 @@ leads_behind code role Return f moves targets next target moved calls back = non
 leads_behind code role ReturnIf f moves targets next target moved calls back = refl
 leads_behind code role (Refuse fault) f moves targets next target moved calls back = refused fault moves _ refl moved
 
--- every walk comes to an address of a table that is followed
+-- every walk reaches an address of a table that is followed
 module _ (code : Code) (table : List (Option Fetched)) (start : IsSome (found_at table code.start)) (followed : (at : ℕ) → IsSome (found_at table at) → IsFollowed code table at)
     (right : (at : ℕ) (found : Fetched) → found_at table at ≡ Some found → code.look at ≡ Ok found) where
   -- what is found there is what moves there

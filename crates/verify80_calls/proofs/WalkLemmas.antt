@@ -48,7 +48,7 @@ ok_is move moves r one other = cc
 refused : {X : Type 0} (fault : FrameFault) (moves : Moves) (r : Result Moves FrameFault) → r ≡ Err fault → r ≡ Ok moves → X
 refused fault moves r one other = absurd (cc)
 
--- what a walk comes to may be executed
+-- what a walk reaches may be executed
 record Admits (code : Code) (p : Procedure) (at : ℕ) (f : StackFrame) : Type 0 where
   found : Fetched
   moves : Moves
@@ -206,7 +206,7 @@ called_as role Return f moves target moved calls = absurd (cc calls)
 called_as role ReturnIf f moves target moved calls = absurd (cc calls)
 called_as role (Refuse fault) f moves target moved calls = absurd (cc calls)
 
--- every walk of a procedure comes to a point of a table that is followed
+-- every walk of a procedure reaches a point of a table that is followed
 module _ (code : Code) (rows : List ProcRow) (say : SayTakes code rows) (p : Procedure) (table : List (Option Point)) (start : HasPoint table (start_of code p) (start_counts p))
     (followed : (at : ℕ) → IsSome (point_at table at) → IsFollowed code rows table at)
     (right : (at : ℕ) (point : Point) → point_at table at ≡ Some point → code.look at ≡ Ok point.found) where
@@ -343,7 +343,7 @@ ways_stand code none rows say p at c stands found looked =
 pub looked_at : (code : Code) → NoFault code → (p : Procedure) (at : ℕ) (c : Counts) → Stands code p at c → (fault : LookFault) → code.look at ≡ Err fault → ⊥
 looked_at code none p at c stands fault is = none.look at fault (record { procedure = p; frame = stands.frame; walk = stands.walk; looked = is })
 
--- all walks of a procedure that come to an address agree
+-- all walks of a procedure that reach an address agree
 agrees_by : (code : Code) → NoFault code → (p : Procedure) (at : ℕ) (f g : StackFrame) → Walk code p at f → Walk code p at g → (b : Bool) → agree f g ≡ b → counts_of f ≡ counts_of g
 agrees_by code none p at f g one other true same =
     let taken : f.taken ≡ g.taken = grind (arith, nat_tests) in

@@ -10,11 +10,11 @@ use Rattle.verify80_calls.specs.declared.graph.call_graph.Node.{Node}
 use Rattle.verify80_calls.specs.declared.graph.chain.Link.{Link}
 use Rattle.verify80_calls.specs.Nodes.{needs, node_of}
 
--- whether the caller's bytes at a call, and those that the call needs, come to a bound
+-- whether the caller's bytes at a call, and those that the call needs, add up to a bound
 abbrev pub reaches : List Node → (bound : ℕ) → Call → Bool
 reaches nodes bound call = int_eq (call.depth +ℤ pos (needs nodes call.target)) (pos bound)
 
--- the first of a procedure's calls that comes to its bound
+-- the first of a procedure's calls that adds up to its bound
 abbrev pub first_deepest : List Node → Node → Option Call
 first_deepest nodes node = find (reaches nodes node.bound) node.calls.items
 
@@ -24,7 +24,8 @@ deepest_call nodes caller = option_and_then (first_deepest nodes) (node_of nodes
 abbrev pub link : Procedure → Call → Link
 link caller call = record { caller = caller; call = call }
 
--- the chain from a procedure on, of so many calls at most: its first call that comes to its bound, and the chain of what that calls
+-- the chain from a procedure on, of a given number of calls at most: its first call that adds up to its bound, and the chain of what
+-- that calls
 abbrev pub chain_from : List Node → (most : ℕ) → Procedure → List Link
 chain_from nodes zero caller = []
 chain_from nodes (suc most) caller =

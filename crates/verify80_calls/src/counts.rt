@@ -65,7 +65,7 @@ impl Counts {
         Some(Counts { taken, words: 0 })
     }
 
-    /// The counts after a call whose callee has taken so many words.
+    /// The counts after a call whose callee has taken a given number of words.
     pub(crate) fn without(self, taken: u32) -> Counts
         ensures { result ≡ dropped taken self }
     {

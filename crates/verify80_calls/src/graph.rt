@@ -5,7 +5,7 @@
 //! | [`CallGraph`], [`Node`] | the procedures of a program, each with its bound and its calls |
 //! | [`list_text`] | a line for each procedure, and one for each of its calls |
 //! | [`graph_text`] | the same as a graph for Graphviz |
-//! | [`bounds_are_made_of_chains`] | what the calls that are bold in a graph come to, as a contract |
+//! | [`bounds_are_made_of_chains`] | what the calls that are bold in a graph add up to, as a contract |
 
 mod call_graph;
 mod chain;

@@ -8,11 +8,11 @@
 //! | [`Call`] | a call: where it stands, how deep the stack is there, and what it calls |
 //! | [`Procedure`] | the main program, or one that a call reaches |
 //! | [`find_reached`] | goes over an image from its start on |
-//! | [`Reached`] | the instruction at each address that a walk comes to |
+//! | [`Reached`] | the instruction at each address that a walk reaches |
 //! | [`CallGraph`], [`Node`] | the procedures of a program, each with its bound and its calls |
 //! | [`list_text`] | a line for each procedure, and one for each of its calls |
 //! | [`graph_text`] | the same as a graph for Graphviz |
-//! | [`bounds_are_made_of_chains`] | what the calls that are bold in a graph come to, as a contract |
+//! | [`bounds_are_made_of_chains`] | what the calls that are bold in a graph add up to, as a contract |
 #![tactic(auto)]
 
 mod calls;

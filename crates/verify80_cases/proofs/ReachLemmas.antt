@@ -1,4 +1,4 @@
--- A walk over the addresses that a program may come to.
+-- A walk over the addresses that a program may reach.
 use Rattle.std.proofs.Common.{◌≡◌, ◌<◌, ◌≤◌, ◌+◌, ◌⊎◌, inl, inr, ℕ, zero, suc, Bool, true, false, List, [], ◌∷◌, ◌++◌, All, Contains, length, get_or, set, refl, sym, ◌∙◌, ap, subst, true≢false, arith}
 use Rattle.std.specs.Prelude.{nat_lt}
 use Rattle.std.proofs.lemmas.Bool.{cases_eq}
@@ -225,7 +225,7 @@ going_done image m o at m' o' number past going roots done = record {
   followed = λ k less inside. going.followed roots done k (omega (arith, less, past)) inside;
 }
 
--- a walk that has come to its end has marked exactly what may be reached
+-- a walk that has reached its end has marked exactly what may be reached
 pub done_exact : (image : Located) (roots : List ℕ) (m : List Bool) (o : List ℕ) → IsDone image roots m o → AreReachedFrom image roots m
 done_exact image roots m o done = record {
   size = done.size;

@@ -64,7 +64,7 @@ entry_none image reached taken kind address e = step (is_entry kind image reache
     step false i s = i
     step true i s = absurd (true≢false (ap (λ o. elim o [ None ↦ true | Some z ↦ false ]) s))
 
--- so many entries, from the first on
+-- a given number of entries, from the first on
 pub record AreFirst (image : Located) (reached taken : List Bool) (kind : TableKind) (table : ℕ) (goals : List ℕ) : Type 0 where
   pub read : goals ≡ goals_of kind (memory_of image.chunks) table (length goals)
   pub each : (k : ℕ) → k < length goals → is_entry kind image reached taken (table + stride kind * k) ≡ true

@@ -1,4 +1,4 @@
--- The bytes of the instructions that a program may come to. (Intel 8080 Microcomputer Systems User's Manual: an instruction has one
+-- The bytes of the instructions that a program may reach. (Intel 8080 Microcomputer Systems User's Manual: an instruction has one
 -- to three bytes. That a byte which begins no instruction counts as one, so that the verifier names it, is this project's own.)
 use Rattle.std.specs.Prelude.{ℕ, ◌-◌, ◌&&◌, ◌||◌, Bool, false, nat_le, nat_lt, List, Result, Ok, Err, get_or, if◌then◌else◌}
 use Rattle.decode80.specs.declared.fetching.Fetched.{Fetched}

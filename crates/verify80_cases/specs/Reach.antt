@@ -1,4 +1,4 @@
--- The addresses that a program may come to from some roots, whatever its frames: along each branch, behind each call whether it
+-- The addresses that a program may reach from some roots, whatever its frames: along each branch, behind each call whether it
 -- returns or not, and from a PCHL to the targets that are declared for it. (Intel 8080 Microcomputer Systems User's Manual: the
 -- jumps, calls and returns. That a call is gone on behind whatever its callee does is this project's own.)
 use Rattle.std.specs.Prelude.{◌≡◌, ◌<◌, ◌≤◌, ◌↔◌, ℕ, Bool, true, false, List, [], ◌∷◌, ◌++◌, All, Contains, Option, None, Some, Result, Ok, Err, length, get_or, if◌then◌else◌}
@@ -66,7 +66,7 @@ leads_from (Ok found) targets = given (target_of found.instr) ++ (given (falls_t
 unfoldable pub leads_to : Located → ℕ → List ℕ
 leads_to image at = leads_from (fetch_at image.regions (memory_of image.chunks) at) (declared_targets image.regions at)
 
--- the program may come to an address from one of some roots
+-- the program may reach an address from one of some roots
 pub data MayReach (image : Located) (roots : List ℕ) : ℕ → Type 0 where
   begins : (at : ℕ) → Contains roots at → MayReach image roots at
   goes_on : (at to : ℕ) → MayReach image roots at → Contains (leads_to image at) to → MayReach image roots to
@@ -75,12 +75,12 @@ pub data MayReach (image : Located) (roots : List ℕ) : ℕ → Type 0 where
 abbrev pub IsMarked : List Bool → ℕ → Type 0
 IsMarked marks at = get_or marks at false ≡ true
 
--- exactly the addresses are marked that the program may come to from the roots
+-- exactly the addresses are marked that the program may reach from the roots
 pub record AreReachedFrom (image : Located) (roots : List ℕ) (marks : List Bool) : Type 0 where
   pub size : length marks ≡ 65536
   pub exact : (at : ℕ) → IsMarked marks at ↔ MayReach image roots at
 
--- exactly the addresses are marked that the program may come to from its start
+-- exactly the addresses are marked that the program may reach from its start
 abbrev pub AreReached : Located → List Bool → Type 0
 AreReached image marks = AreReachedFrom image (image.start ∷ []) marks
 
@@ -90,11 +90,11 @@ pub record IsWalk (image : Located) (roots : List ℕ) (marks : List Bool) (orde
   pub listed : (at : ℕ) → IsMarked marks at → Contains order at
   pub marked : (k : ℕ) → k < length order → IsMarked marks (get_or order k 0)
 
--- what the first addresses of a walk lead to is marked, so many of them
+-- what the first addresses of a walk lead to is marked, a given number of them
 abbrev pub AreFollowed : Located → List Bool → List ℕ → ℕ → Type 0
 AreFollowed image marks order number = (k : ℕ) → k < number → k < length order → All (IsMarked marks) (leads_to image (get_or order k 0))
 
--- a walk that has come to its end: its roots are marked, and all that the marked addresses lead to
+-- a walk that has reached its end: its roots are marked, and all that the marked addresses lead to
 pub record IsDone (image : Located) (roots : List ℕ) (marks : List Bool) (order : List ℕ) : Type 0 where
   pub size : length marks ≡ 65536
   pub walk : IsWalk image roots marks order

@@ -67,7 +67,7 @@ abbrev pub goal_of : TableKind → (memory : List ℕ) → ℕ → ℕ
 goal_of Words memory address = word_in memory address
 goal_of Jumps memory address = address
 
--- where PCHL goes by a table of so many entries
+-- where PCHL goes by a table of a given number of entries
 abbrev pub goals_of : TableKind → (memory : List ℕ) → (table count : ℕ) → List ℕ
 goals_of kind memory table count = map (λ k. goal_of kind memory (table + stride kind * k)) (range_with_len 0 count)
 
@@ -138,7 +138,7 @@ abbrev pub IsNote : (at : ℕ) → Option SuggestedCase → Option Note → Type
 IsNote at (Some found) note = note ≡ (if found.may_go_on then Some (MayEnd found.table found.«end») else None)
 IsNote at None note = (note ≡ Some (Tableless at)) ⊎ (note ≡ Some (Returns at))
 
--- a walk that has come to its end, from the start and from some other instructions in the code
+-- a walk that has reached its end, from the start and from some other instructions in the code
 pub record IsExplored (image : Located) (marks : List Bool) (order : List ℕ) : Type 0 where
   pub roots : List ℕ
   pub each : All (λ root. (root ≡ image.start) ⊎ (is_target image root ≡ true)) roots

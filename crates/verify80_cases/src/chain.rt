@@ -9,7 +9,7 @@ use verify80::ImageCode;
 /// other one that was reached does so. It is the address itself if there is none.
 pub(crate) fn first_before(code: &ImageCode<'_>, reached: &[bool], at: u16) -> u16 {
     let mut first = at;
-    // Behind so many instructions the addresses come again.
+    // Behind a given number of instructions the addresses come again.
     for _ in 0..65_536_u32 {
         match the_one_before(code, reached, first) {
             Some(before) => first = before,

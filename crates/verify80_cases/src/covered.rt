@@ -1,4 +1,4 @@
-//! The bytes of the instructions that the program may come to.
+//! The bytes of the instructions that the program may reach.
 
 ghost use Rattle.std.specs.Prelude.{◌≡◌, ◌<◌, length, IfOk};
 ghost use Rattle.verify80_cases.specs.Covered.{is_covered, size_at};

@@ -10,7 +10,7 @@
 //! | [`Note`] | what there is to say of a PCHL beside its case |
 //! | [`TableKind`] | what a table consists of |
 //! | [`regions_with_cases`] | the text of regions to which cases are added |
-//! | [`find_reachable`] | the addresses that a program may come to, along the cases of its regions |
+//! | [`find_reachable`] | the addresses that a program may reach, along the cases of its regions |
 //! | [`find_covered`] | the bytes of the instructions there |
 #![tactic(auto)]
 

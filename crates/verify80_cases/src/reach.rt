@@ -1,4 +1,4 @@
-//! The addresses that a program may come to, along the cases that its regions have.
+//! The addresses that a program may reach, along the cases that its regions have.
 
 ghost use Rattle.std.specs.Prelude.{◌≡◌, IfOk, OnOk, length};
 ghost use Rattle.verify80_cases.specs.Reach.{AreReached, Enters, IsDone, given, leads_to, targets_of};
@@ -13,7 +13,7 @@ use verify80::ImageCode;
 /// How many addresses there are.
 const ADDRESSES: usize = 65_536;
 
-/// For each address whether the program may come to it from its start: along each branch, behind each call whether it returns or
+/// For each address whether the program may reach it from its start: along each branch, behind each call whether it returns or
 /// not, and from a PCHL to the targets that the regions have for it. It goes on from those addresses alone at which an instruction
 /// stands whose bytes are all code; an address without one may be marked, and leads nowhere.
 ///
@@ -52,7 +52,7 @@ impl Visited {
 
     ghost use Rattle.std.specs.Prelude.{◌∷◌, ◌++◌};
 
-    /// Enters an address, and all that the program may come to from there.
+    /// Enters an address, and all that the program may reach from there.
     pub(crate) fn explore(&mut self, code: &ImageCode<'_>, at: u16) -> Result<(), AllocError>
         requires { length self.old.marks.items ≡ 65536 }
         ensures { OnOk result ((roots : List ℕ) → IsDone code.now roots self.old.marks.items self.old.order.items →

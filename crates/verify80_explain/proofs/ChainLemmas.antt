@@ -1,4 +1,4 @@
--- Chains of calls, and the bounds that they come to.
+-- Chains of calls, and the bounds that they add up to.
 use Rattle.std.proofs.Common.{◌≡◌, ℕ, ℤ, pos, List, [], ◌∷◌, Some, slice_get, refl, sym, ◌∙◌, ap, subst}
 use Rattle.std.specs.Prelude.{◌+ℤ◌, All}
 use Rattle.std.proofs.lemmas.List.Elements.{All-contains}

@@ -1,4 +1,4 @@
--- The last point of a route is one that a walk comes to, and a ring of calls is a recursion.
+-- The last point of a route is one that a walk reaches, and a ring of calls is a recursion.
 use Rattle.std.proofs.Common.{◌≡◌, ◌⊎◌, inl, inr, ℕ, List, [], ◌∷◌, refl, sym, ◌∙◌, ap, subst}
 use Rattle.frames80.specs.declared.procedure.Procedure.{Procedure}
 use Rattle.frames80.specs.declared.procedure.Procedure.TheVariants.{Main, Entry}

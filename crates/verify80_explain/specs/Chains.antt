@@ -31,13 +31,13 @@ pub record CallsAt (code : Code) (call : CallSite) : Type 0 where
   pub calls : Calls code call.caller call.at frame call.target next
   pub depth : call.depth ≡ depth_of (role_of code call.caller) frame
 
--- calls lead from a procedure to where the last one stands, and the depths come to a sum, with two bytes for each return address
+-- calls lead from a procedure to where the last one stands, and the depths add up to a sum, with two bytes for each return address
 abbrev pub IsChain : Code → Procedure → List CallSite → Standing → ℤ → Type 0
 IsChain code p [] last sum = (last.procedure ≡ p) × StandsAt code last × (sum ≡ last.depth)
 IsChain code p (call ∷ rest) last sum = (call.caller ≡ p) × CallsAt code call
     × ((below : ℤ) × IsChain code (Entry call.target) rest last below × (sum ≡ (call.depth +ℤ pos 2) +ℤ below))
 
--- the chain is the main program's, and comes to so many bytes
+-- the chain is the main program's, and adds up to a given number of bytes
 abbrev pub ChainsTo : Code → ℕ → Chain → Type 0
 ChainsTo code bytes chain = IsChain code Main chain.calls.items chain.last (pos bytes)
 
@@ -82,18 +82,18 @@ pub record AreGreatestOf (code : Code) (s : Search) (depths : List Depth) (sites
   pub entered : AreEntered depths sites
   pub greatest : AreGreatest depths sites bounds
 
--- none of the points is one of a procedure with so many bytes
+-- none of the points is one of a procedure with a given number of bytes
 pub record NoneStands (code : Code) (points : List Point) (p : Procedure) (bytes : ℕ) : Type 0 where
   pub none : (n : ℕ) (point : Point) → slice_get points n ≡ Some point → point.procedure ≡ p
       → pos bytes ≡ depth_of (role_of code point.procedure) point.frame → ⊥
 
--- where a procedure stands with so many bytes
+-- where a procedure stands with a given number of bytes
 pub record EndsWith (code : Code) (p : Procedure) (bytes : ℕ) (last : Standing) : Type 0 where
   pub procedure : last.procedure ≡ p
   pub stands : StandsAt code last
   pub sum : pos bytes ≡ last.depth
 
--- a call of a procedure with which its callee's bytes come to the procedure's
+-- a call of a procedure with which its callee's bytes add up to the procedure's
 pub record AddsUp (bounds : List ℕ) (p : Procedure) (call : CallSite) : Type 0 where
   pub caller : call.caller ≡ p
   pub sum : pos (bytes_of bounds p) ≡ (call.depth +ℤ pos 2) +ℤ pos (bytes_of bounds (Entry call.target))

@@ -14,7 +14,7 @@ pub record IsKnown (s : Search) (k : ℕ) (call : Call) : Type 0 where
   pub there : slice_get s.points.keys calling.point ≡ Some point
   pub same : call ≡ record { caller = point.procedure; at = point.at; target = calling.target }
 
--- the calls are those of the first so many
+-- the calls are those of a given number of the first
 pub record AreKnown (s : Search) (count : ℕ) (calls : List Call) : Type 0 where
   pub all : length calls ≡ count
   pub known : (k : ℕ) (call : Call) → slice_get calls k ≡ Some call → IsKnown s k call

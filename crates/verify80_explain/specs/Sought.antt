@@ -84,7 +84,7 @@ IsNotShown TooManyPoints = Unit {0}
 IsNotShown Memory = Unit {0}
 IsNotShown _ = ⊥
 
--- the points are among so many
+-- the points are among a given number
 abbrev pub AreWithin : ℕ → Evidence → Type 0
 AreWithin count (One number) = number < count
 AreWithin count (Two pair) = (pair.one < count) × (pair.other < count)

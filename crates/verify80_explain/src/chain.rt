@@ -72,11 +72,11 @@ fn site_of(caller: &Point, depth: i64, target: u16) -> CallSite
     }
 }
 
-/// A chain of calls whose bytes on the stack, with two for each return address, come to a sum: to the bound of the main program,
+/// A chain of calls whose bytes on the stack, with two for each return address, add up to a sum: to the bound of the main program,
 /// as `verify` reports it, or as the refusal `StackTooSmall` names it. The limit is that of [`explain`](crate::explain).
 ///
 /// # Errors
-/// `NotShown` if the bound is another number, or a procedure calls itself. `Limit` only if walks come to different points that
+/// `NotShown` if the bound is another number, or a procedure calls itself. `Limit` only if walks reach different points that
 /// weigh more than the limit, or more than 2,097,152, or to a point with more than 1,000,000 words. `Memory` if memory runs out.
 pub fn find_chain(
     alloc: Global,
@@ -93,7 +93,7 @@ pub fn find_chain(
     chain_of(alloc, &code, bytes, limit)
 }
 
-/// A chain of a program's calls that comes to a sum.
+/// A chain of a program's calls that adds up to a sum.
 fn chain_of<C: Code>(
     alloc: Global,
     program: &C,
@@ -115,7 +115,7 @@ fn chain_of<C: Code>(
     }
 }
 
-/// A chain that comes to a sum, if that is the bound by the points that were found.
+/// A chain that adds up to a sum, if that is the bound by the points that were found.
 fn chain_to<C: Code>(
     alloc: Global,
     program: &C,
@@ -237,7 +237,7 @@ fn likely_points<C: Code>(
     Ok(likely)
 }
 
-/// Where a procedure has so many bytes on the stack, if it is where the table says.
+/// Where a procedure has a given number of bytes on the stack, if it is where the table says.
 fn likely_last<C: Code>(
     program: &C,
     search: &Search,
@@ -259,7 +259,7 @@ fn likely_last<C: Code>(
     }
 }
 
-/// Where the point with this number is, if it is of a procedure, with so many bytes on the stack.
+/// Where the point with this number is, if it is of a procedure, with a given number of bytes on the stack.
 fn last_at<C: Code>(
     program: &C,
     search: &Search,
@@ -284,7 +284,7 @@ fn last_at<C: Code>(
     Ok(None)
 }
 
-/// Where a procedure has so many bytes on the stack.
+/// Where a procedure has a given number of bytes on the stack.
 fn last_of<C: Code>(
     program: &C,
     search: &Search,
@@ -319,7 +319,7 @@ fn is_of(point: &Point, procedure: Procedure) -> bool
     point.procedure == procedure
 }
 
-/// Whether a depth is so many bytes.
+/// Whether a depth is a given number of bytes.
 fn comes_to(depth: i64, bytes: u64) -> bool
     ensures { (result ≡ true) ↔ (pos bytes ≡ depth) }
 {
@@ -341,7 +341,7 @@ fn depth_at<C: Code>(program: &C, point: &Point) -> Result<i64, Stop>
     Ok(depth(&point.frame, role_of(program, point.procedure)))
 }
 
-/// For each procedure, the number of its first call with which its callee's bytes come to its own. What is answered doesn't rest on
+/// For each procedure, the number of its first call with which its callee's bytes add up to its own. What is answered doesn't rest on
 /// this table, only how soon.
 fn likely_calls(
     alloc: Global,
@@ -376,7 +376,7 @@ fn likely_call(
     }
 }
 
-/// A call of a procedure with which its callee's bytes come to the procedure's.
+/// A call of a procedure with which its callee's bytes add up to the procedure's.
 fn next_call(
     sites: &[CallSite],
     likely: &[Option<usize>],
@@ -400,7 +400,7 @@ fn next_call(
     None
 }
 
-/// Whether a call is the procedure's, and its callee's bytes come to the procedure's with it.
+/// Whether a call is the procedure's, and its callee's bytes add up to the procedure's with it.
 fn adds_up(site: CallSite, bounds: &Bounds, procedure: Procedure) -> bool
     ensures { (result ≡ true) ↔ AddsUp bounds.now procedure site }
 {

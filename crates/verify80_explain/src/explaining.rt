@@ -33,7 +33,7 @@ const FIRST_WEIGHT: usize = 1_024;
 ///
 /// # Errors
 /// `NotShown` if every walk was followed to its end and none shows the refusal, which then doesn't hold; and for
-/// `StackTooSmall`, `TooManyPoints` and `Memory`, which no ways show. `Limit` only if walks come to different points that weigh more
+/// `StackTooSmall`, `TooManyPoints` and `Memory`, which no ways show. `Limit` only if walks reach different points that weigh more
 /// than the limit, or to a point with more than 1,000,000 words, its own and those taken. `Memory` if memory runs out.
 pub fn explain(
     alloc: Global,

@@ -35,7 +35,7 @@ pub stays : (p q : Point) (run : List Point) (runs : List (List Point)) → has_
     with_point p ((q ∷ run) ∷ runs) ≡ (p ∷ []) ∷ (q ∷ run) ∷ runs
 stays p q run runs other = rw other refl
 
--- a way is cut behind so many points
+-- a way is cut behind a given number of points
 abbrev cut : Point → List Point → ℕ → List (List Point)
 cut p way n = (p ∷ take n way) ∷ runs_of (drop n way)
 

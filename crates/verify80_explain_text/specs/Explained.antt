@@ -46,7 +46,7 @@ abbrev pub runs_of : List Point → List (List Point)
 runs_of [] = []
 runs_of (point ∷ way) = with_point point (runs_of way)
 
--- so many instructions aren't shown
+-- a given number of instructions aren't shown
 abbrev pub left_out : ℕ → List ℕ
 left_out count = codes ".. " ++ (decimal count ++ codes " instructions that leave the stack as it is ..\n")
 

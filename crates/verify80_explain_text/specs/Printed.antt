@@ -27,7 +27,7 @@ pub data GoesOnWithWays (image : Located) (publics : List Public) (refusal : Ref
   no_ways : (Holds (code_of image) refusal → IsNotShown refusal)
       → text ≡ before → GoesOnWithWays image publics refusal limit before text
 
--- a text goes on with a chain of calls that comes to so many bytes; or with that line; or ends, if that isn't the bound
+-- a text goes on with a chain of calls that adds up to a given number of bytes; or with that line; or ends, if that isn't the bound
 pub data GoesOnWithChain (image : Located) (publics : List Public) (bytes limit : ℕ) (before text : List ℕ) : Type 0 where
   chain : (chain : Chain) → ChainsTo (code_of image) bytes chain
       → text ≡ before ++ chain_text image publics chain → GoesOnWithChain image publics bytes limit before text

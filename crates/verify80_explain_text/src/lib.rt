@@ -5,7 +5,7 @@
 //! | Item | What it is |
 //! |---|---|
 //! | [`explanation_text`] | the ways and the calls that show a refusal |
-//! | [`chain_text`] | the calls whose bytes on the stack come to a bound |
+//! | [`chain_text`] | the calls whose bytes on the stack add up to a bound |
 //! | [`append_explanation`], [`append_chain`] | these below a refusal or a report, or that there is too much to show |
 //! | [`ways_are_shown_in_runs`] | what the runs of a way are, as a contract |
 #![tactic(auto)]

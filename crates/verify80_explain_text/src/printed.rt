@@ -34,8 +34,9 @@ pub fn append_explanation(
     }
 }
 
-/// Appends the chain of calls that comes to so many bytes of stack, as [`chain_text`] has it; or the line `TOO MANY WAYS TO SHOW`, if
-/// it isn't found within the limit, which is that of [`explain`]; or nothing, if the main program's bound is another number.
+/// Appends the chain of calls that adds up to a given number of bytes of stack, as [`chain_text`] has it; or the line
+/// `TOO MANY WAYS TO SHOW`, if it isn't found within the limit, which is that of [`explain`]; or nothing, if the main program's bound is
+/// another number.
 ///
 /// # Errors
 /// `AllocError` only if memory runs out; the text may then have a part.

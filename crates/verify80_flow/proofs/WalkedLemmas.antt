@@ -48,7 +48,7 @@ module _ (code : Code) where
           by (inl before) = w.each i q before
           by (inr last) = subst (IsWalked code old.frames) (sym last.1) one
 
-  -- two walks come to one point with different counts
+  -- two walks reach one point with different counts
   pub differs : (frames : List StackFrame) (one other : WalkedPoint) → IsWalked code frames one → IsWalked code frames other → one.procedure ≡ other.procedure → one.at ≡ other.at →
       agree (frame_at frames one.frame) (frame_at frames other.frame) ≡ false → Differ code one.at
   differs frames one other w v procedure address apart = record {

@@ -10,7 +10,7 @@ use Rattle.verify80_flow.specs.Faults.{Holds, HoldsAnyway}
 use Rattle.verify80_flow.specs.Fitting.{IsFitted}
 use Rattle.verify80_flow.specs.Rows.{AreRows}
 
--- a table of frames fits the program with so many bytes of stack, which are the most that a chain of its calls uses; the rows are
+-- a table of frames fits the program with a given number of bytes of stack, which are the most that a chain of its calls uses; the rows are
 -- those of its procedures; and no refusal holds of it, but that the stack may be too small
 pub record IsMeasured (code : Code) (listed : List ProcRow) (bytes : ℕ) : Type 0 where
   pub fitted : IsFitted code bytes
@@ -18,7 +18,7 @@ pub record IsMeasured (code : Code) (listed : List ProcRow) (bytes : ℕ) : Type
   pub rows : AreRows code listed
   pub none_holds : (refusal : Refusal) → refusal ≢ Memory → HoldsAnyway code refusal → ⊥
 
--- a table of frames fits the program with so many bytes of stack, which are the most that a chain of its calls uses and no more
+-- a table of frames fits the program with a given number of bytes of stack, which are the most that a chain of its calls uses and no more
 -- than there are; the rows are those of its procedures; and no refusal holds of it
 pub record IsAccepted (code : Code) (listed : List ProcRow) (bytes : ℕ) : Type 0 where
   pub fitted : IsFitted code bytes

@@ -33,7 +33,7 @@ pub record MovesWrong (code : Code) (at : ℕ) (fault : FrameFault) : Type 0 whe
   pub looked : code.look at ≡ Ok found
   pub moved : moves_of (role_of code procedure) (effect_of found.instr) frame ≡ Err fault
 
--- two walks come to one point with different counts
+-- two walks reach one point with different counts
 pub record Differ (code : Code) (at : ℕ) : Type 0 where
   pub procedure : Procedure
   pub one : StackFrame
@@ -100,7 +100,7 @@ pub record Overruns (code : Code) (need has : ℕ) : Type 0 where
   pub stack : has ≡ code.stack
   pub less : has < need
 
--- so many different points occur: the points are numbered, and no two numbers have one point
+-- a given number of different points occur: the points are numbered, and no two numbers have one point
 pub record Many (code : Code) (most : ℕ) : Type 0 where
   pub procedure : ℕ → Procedure
   pub at : ℕ → ℕ

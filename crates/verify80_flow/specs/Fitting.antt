@@ -65,7 +65,7 @@ pub record Fits (code : Code) (table : Table) : Type 0 where
   pub start : Has table Main code.start main_frame
   pub frames : (p : Procedure) (at : ℕ) (f : StackFrame) → table.frame p at ≡ Some f → FrameFits code table p at f
 
--- there is a fitting table in which the main program needs so many bytes
+-- there is a fitting table in which the main program needs a given number of bytes
 pub record IsFitted (code : Code) (bytes : ℕ) : Type 0 where
   pub table : Table
   pub fits : Fits code table

@@ -65,7 +65,7 @@ abbrev pub takes_of : List (Option ℕ) → Procedure → Option ℕ
 takes_of exits Main = None
 takes_of exits (Entry entry) = exit_of exits entry
 
--- a frame has no more words, and no more words taken, than so many
+-- a frame has no more words, and no more words taken, than a given number
 pub record IsWithin (most : ℕ) (f : StackFrame) : Type 0 where
   pub taken : f.taken ≤ most
   pub words : length f.words ≤ most
@@ -76,7 +76,7 @@ pub record IsSmall (known : Known) : Type 0 where
   pub frames : (i : ℕ) (point : Point) → slice_get known.points i ≡ Some point → IsWithin (length known.points) point.frame
   pub apart : AreApart known.points
 
--- a frame of the table can lead on: the table is small, the frame is there, and it is within so many words
+-- a frame of the table can lead on: the table is small, the frame is there, and it is within a given number of words
 pub record CanLead (table : KnownFrames) (frame most : ℕ) : Type 0 where
   pub small : IsSmall table.known
   pub there : frame < length table.frames
@@ -164,12 +164,12 @@ abbrev pub Steps : (old new : Known) → Procedure → (at : ℕ) → (targets :
 Steps old new p at targets next role moves result = Advances (IsMoving p at targets next role moves)
     (λ known. (f : StackFrame) → Carries moves f → Follows known p targets f next moves) old new result
 
--- how far a PCHL has come that leads to each of its targets: to the first so many
+-- how far a PCHL has come that leads to each of its targets: to a given number of the first
 abbrev pub GoesToFirst : (old now : Known) → Procedure → StackFrame → (targets : List ℕ) → (count : ℕ) → (changed : Bool) → Type 0
 GoesToFirst old now p f targets count changed = Advances (λ exact code. (to : ℕ) → Contains targets to → IsShown exact code p to f)
     (λ known. (i : ℕ) → i < count → (to : ℕ) → HasPoint known p (slice_index_or targets i to) f) old now (Ok changed)
 
--- a procedure returns at an address with so many words taken
+-- a procedure returns at an address with a given number of words taken
 pub record ReturnsAt (p : Procedure) (at taken : ℕ) (code : Code) : Type 0 where
   pub returns : ReturnsWith code p taken
   pub here : returns.at ≡ at

@@ -15,7 +15,7 @@ pub record Occurs (code : Code) (p : Procedure) : Type 0 where
   pub frame : StackFrame
   pub walk : Walk code p at frame
 
--- a walk of the procedure returns with so many words taken
+-- a walk of the procedure returns with a given number of words taken
 pub record ReturnsWith (code : Code) (p : Procedure) (taken : ℕ) : Type 0 where
   pub at : ℕ
   pub frame : StackFrame

@@ -44,7 +44,7 @@ pub record IsEntered (known : Known) (entry : ℕ) : Type 0 where
   pub procedure : point.procedure ≡ Entry entry
   pub address : point.at ≡ entry
 
--- a point of the procedure has so many words taken
+-- a point of the procedure has a given number of words taken
 pub record TakesAt (points : List Point) (p : Procedure) (taken : ℕ) : Type 0 where
   pub number : ℕ
   pub point : Point

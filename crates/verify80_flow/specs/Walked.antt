@@ -12,12 +12,12 @@ use Rattle.verify80_flow.specs.declared.walks.Walks.{Walks}
 use Rattle.frames80.specs.Code.{Code}
 use Rattle.verify80_flow.specs.Walks.{Walk, Moving}
 
--- a walk comes to the point with its frame
+-- a walk reaches the point with its frame
 pub record IsWalked (code : Code) (frames : List StackFrame) (point : WalkedPoint) : Type 0 where
   pub there : point.frame < length frames
   pub walk : Walk code point.procedure point.at (frame_at frames point.frame)
 
--- a walk comes to each of the points
+-- a walk reaches each of the points
 pub record AreWalked (code : Code) (walks : Walks) : Type 0 where
   pub each : (i : ℕ) (point : WalkedPoint) → slice_get walks.points.items i ≡ Some point → IsWalked code walks.frames point
 

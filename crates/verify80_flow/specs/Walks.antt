@@ -81,7 +81,7 @@ pub record Enters (target : ℕ) (p : Procedure) (at : ℕ) (f : StackFrame) : T
   pub start : at ≡ target
   pub frame : f ≡ entry_frame
 
--- an instruction returns, with so many words taken
+-- an instruction returns, with a given number of words taken
 pub record Returns (code : Code) (p : Procedure) (at : ℕ) (f : StackFrame) (taken : ℕ) : Type 0 where
   pub found : Fetched
   pub moves : Moves
@@ -94,7 +94,7 @@ pub record GoesOnAfter (code : Code) (p : Procedure) (f : StackFrame) (taken : �
   pub enough : taken ≤ room (role_of code p) f.words
   pub frame : g ≡ returned taken f
 
--- the walks: a walk of this procedure can come to this address with this frame
+-- the walks: a walk of this procedure can reach this address with this frame
 pub data Walk (code : Code) : Procedure → ℕ → StackFrame → Type 0 where
   begins : (p : Procedure) (at : ℕ) (f : StackFrame) → Begins code p at f → Walk code p at f
   goes_on : (p : Procedure) (at : ℕ) (f : StackFrame) (to : ℕ) (g : StackFrame) →

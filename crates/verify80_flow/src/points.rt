@@ -177,7 +177,7 @@ impl Points {
         self.frames.change(frame, change)
     }
 
-    /// The number of a caller's frame after a call of a procedure that takes so many words.
+    /// The number of a caller's frame after a call of a procedure that takes a given number of words.
     ///
     /// # Errors
     /// `ShortArguments` if the caller has fewer words above its bottom word, or out of memory.

@@ -34,7 +34,7 @@ pub enum Refusal {
     ReturnNotOwn(u16),
     /// The main program returns.
     ReturnFromMain(u16),
-    /// Two walks come to one point with different numbers of words, or of words taken.
+    /// Two walks reach one point with different numbers of words, or of words taken.
     HeightsDiffer(u16),
     /// Two returns of one procedure take different numbers of words; the address is that of one of them.
     UnevenArguments(u16),

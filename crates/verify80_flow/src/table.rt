@@ -57,7 +57,7 @@ impl Model for Table {
 }
 
 impl Table {
-    /// An empty table. With what the program's returns ask for, each frame forgets the rest; and it is spent when so many points
+    /// An empty table. With what the program's returns ask for, each frame forgets the rest; and it is spent when a given number of points
     /// were visited, and four more for each point that there is.
     ///
     /// # Errors
@@ -171,7 +171,7 @@ impl Table {
         Ok(true)
     }
 
-    /// A procedure returns with so many words taken.
+    /// A procedure returns with a given number of words taken.
     ///
     /// # Errors
     /// A refusal that holds, or out of memory.

@@ -111,7 +111,7 @@ impl Walks {
         Ok(())
     }
 
-    /// The point to which a step came, if there are so many.
+    /// The point to which a step came, if there are as many.
     fn point(&self, step: u32) -> Option<WalkedPoint>
         ensures { IfSome result (λ point. (code : CodeSeen) → AreWalked code self.now → IsWalked code self.now.frames point) }
     {
@@ -263,7 +263,7 @@ impl Walks {
         }
     }
 
-    /// Refuses the program if two walks come to one point with different counts.
+    /// Refuses the program if two walks reach one point with different counts.
     ///
     /// # Errors
     /// `HeightsDiffer`, if it holds; or `Memory`.

@@ -280,7 +280,7 @@ impl Search {
     /// # Errors
     /// `AllocError` if memory runs out.
     fn go_forth<C: Code>(&mut self, program: &C) -> Result<(), AllocError> {
-        // The bound is never met: another word comes to each place of a point once, and as often as it is noted above.
+        // The bound is never met: another word reaches each place of a point once, and as often as it is noted above.
         for _ in 0..u64::MAX {
             let Some(places) = self.others.pop() else {
                 break;
@@ -292,7 +292,7 @@ impl Search {
         Ok(())
     }
 
-    /// Notes that another word comes to places, and gives whether that is new of one that is asked for.
+    /// Notes that another word reaches places, and gives whether that is new of one that is asked for.
     ///
     /// # Errors
     /// `AllocError` if memory runs out.
@@ -412,7 +412,7 @@ impl Search {
         }
     }
 
-    /// A place, if another word comes to that from which its word comes.
+    /// A place, if another word reaches that from which its word comes.
     fn carried(&self, point: u32, moved: Option<Moved>) -> u64 {
         match moved {
             Some(moved) if self.others_of(point, moved.from.block()) & moved.from.bit() != 0 => {

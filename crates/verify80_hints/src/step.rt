@@ -1,6 +1,6 @@
 //! The steps by which walks are shown, one after another.
 
-/// How a walk comes to a point: from nothing, or from the points of earlier steps, by the numbers of those steps.
+/// How a walk reaches a point: from nothing, or from the points of earlier steps, by the numbers of those steps.
 #[derive(Clone, Copy)]
 pub enum Step {
     /// The main program begins.
@@ -11,6 +11,6 @@ pub enum Step {
     Enters(u32),
     /// The instruction of the first point calls a procedure, which returns from the second.
     ComesBack(u32, u32),
-    /// No step: the walks of two steps come to one point with different counts.
+    /// No step: the walks of two steps reach one point with different counts.
     Differs(u32, u32),
 }

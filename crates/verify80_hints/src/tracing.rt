@@ -49,7 +49,7 @@ struct Exit {
 struct Search {
     counted: Counted,
     steps: Vec<Step>,
-    /// For each point the step that comes to it.
+    /// For each point the step that reaches it.
     reached: Vec<Option<u32>>,
     /// The points that were reached and are still to be left.
     left: Vec<u32>,
@@ -162,7 +162,7 @@ impl Search {
         Ok(number)
     }
 
-    /// The step that comes to a point, if one does.
+    /// The step that reaches a point, if one does.
     fn step_to(&self, point: u32) -> Option<u32> {
         *self.reached.get(point as usize)?
     }
@@ -273,7 +273,7 @@ impl Search {
         }
     }
 
-    /// A walk comes to a point by a step: for the first time, or with the same counts as before, or a fault is found.
+    /// A walk reaches a point by a step: for the first time, or with the same counts as before, or a fault is found.
     ///
     /// # Errors
     /// `AllocError` if memory runs out.
@@ -310,7 +310,7 @@ impl Search {
         }
     }
 
-    /// A step comes to a point for the first time.
+    /// A step reaches a point for the first time.
     ///
     /// # Errors
     /// `AllocError` if memory runs out.
@@ -431,7 +431,7 @@ fn counts_on<C: Code>(program: &C, from: CountedPoint) -> Option<Counts> {
     Some(Counts { taken, height })
 }
 
-/// The counts after a call of a procedure that takes so many words; `None` if the caller has fewer.
+/// The counts after a call of a procedure that takes a given number of words; `None` if the caller has fewer.
 fn counts_over(from: CountedPoint, taken: u32) -> Option<Counts> {
     let kept = match from.procedure {
         Procedure::Main => 0,

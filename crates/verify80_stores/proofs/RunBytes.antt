@@ -25,7 +25,7 @@ start_holds_bytes image inputs outputs memory waiting = record {
   inputs = waiting;
 }
 
--- what holds of a world's machine, if the run lasts so long
+-- what holds of a world's machine, if the run lasts as long
 abbrev Lasts : (Machine → Type 0) → Option World → Type 0
 Lasts P None = Unit {0}
 Lasts P (Some w) = P w.machine

@@ -219,7 +219,7 @@ module _ (image : Located) (bytes : ℕ) (reached : List (Option Fetched)) (tabl
   ends_so start begins held most w (Stack at) from stops proper = absurd proper
   ends_so start begins held most w (Direct at) from stops proper = absurd proper
 
-  -- what is listed is what walks come to
+  -- what is listed is what walks reach
   kind_there : (kind : Instr → Bool) (at : ℕ) (o : Option Fetched) → reached_at reached at ≡ o → is_kind kind o ≡ true → IsReachedAs (code_of image) kind at
   kind_there kind at None e is = cc
   kind_there kind at (Some found) e is =

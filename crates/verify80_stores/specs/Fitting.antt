@@ -1,4 +1,4 @@
--- A table of pairs that fits a program: pairs for each address where walks come to, such that what the instruction there makes of
+-- A table of pairs that fits a program: pairs for each address that walks reach, such that what the instruction there makes of
 -- them is among those wherever it may lead; and if nothing is known, behind a call whose callee returns and at the start,
 -- anything. The runs of the program are followed along such a table. (This project's own.)
 use Rattle.std.specs.Prelude.{◌≡◌, ℕ, List, Option, None, Some, Ok, slice_get}

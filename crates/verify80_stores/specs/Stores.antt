@@ -19,19 +19,19 @@ use Rattle.verify80_stores.specs.Span.{Within}
 use Rattle.verify80_stores.specs.declared.stores.OpenStore.{OpenStore}
 use Rattle.verify80_stores.specs.Pointers.{stores_by_pair}
 
--- a walk comes to an address, and the instruction there is of a kind
+-- a walk reaches an address, and the instruction there is of a kind
 pub record IsReachedAs (code : Code) (kind : Instr → Bool) (at : ℕ) : Type 0 where
   pub reached : IsReached code at
   pub found : Fetched
   pub looked : code.look at ≡ Ok found
   pub is : kind found.instr ≡ true
 
--- addresses, ascending: exactly those that a walk comes to, of instructions of a kind
+-- addresses, ascending: exactly those that a walk reaches, of instructions of a kind
 pub record AreReachedAs (code : Code) (kind : Instr → Bool) (addresses : List ℕ) : Type 0 where
   pub ascending : AllPairs (λ a b. a < b) addresses
   pub each : (at : ℕ) → Contains addresses at ↔ IsReachedAs code kind at
 
--- an open store: a register-indirect store that a walk comes to, with a span in which not each address is data
+-- an open store: a register-indirect store that a walk reaches, with a span in which not each address is data
 pub record IsOpen (image : Located) (store : OpenStore) : Type 0 where
   pub reached : IsReached (code_of image) store.at
   pub found : Fetched
@@ -75,8 +75,8 @@ RunsEndAsListed image open_stores jumps =
     (start : Machine) → IsStart image start → HoldsBytes start → (most : Option ℕ) (w : World) (e : End) →
     IsWorldFrom image start most w → turn_at image.regions most w ≡ Stop e → EndsAsListed open_stores jumps w.machine.cpu.pc e
 
--- what is listed of an image: each register-indirect store that walks come to, the open ones among them, and each PCHL that walks
--- come to; and its runs go so
+-- what is listed of an image: each register-indirect store that walks reach, the open ones among them, and each PCHL that walks
+-- reach; and its runs go so
 pub record AreStoresOf (image : Located) (addresses : List ℕ) (open_stores : List OpenStore) (jumps : List ℕ) : Type 0 where
   pub each_store : AreReachedAs (code_of image) stores_by_pair addresses
   pub open_ascending : AllPairs (λ a b. a.at < b.at) open_stores

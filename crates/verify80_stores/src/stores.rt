@@ -3,7 +3,7 @@
 use crate::spans::Span;
 use decode80::Instr;
 
-/// The register-indirect stores of a program, and its jumps by PCHL, as far as its walks come to them. All lists are by address.
+/// The register-indirect stores of a program, and its jumps by PCHL, as far as its walks reach them. All lists are by address.
 #[derive(Debug, Drop)]
 pub struct Stores {
     /// The address of each register-indirect store.

@@ -14,7 +14,7 @@ use Rattle.image80.specs.Regions.{in_code}
 use Rattle.verify80.specs.LookLaws.{fetch_at}
 use Rattle.verify80_cases.specs.Covered.{is_covered, size_at, size_of}
 
--- each of so many bytes from an address on
+-- each of a given number of bytes from an address on
 pub all_of : (code : ℕ → Bool) (at count k : ℕ) → all_code code at count ≡ true → k < count → code (at + k) ≡ true
 unfolding all_code
 all_of code at count k all less =

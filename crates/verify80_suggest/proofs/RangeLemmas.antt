@@ -61,7 +61,7 @@ module _ (test : ℕ → Bool) (limit : ℕ) (ranges : List Range) (cover : Cove
           let same : address ≡ limit = grind (arith, nat_tests) in
           sym (ap test same ∙ fails)
 
-  -- so many addresses from the limit on pass, and are a range more
+  -- a given number of addresses from the limit on pass, and are a range more
   pub cover_more : (range : Range) → range.first ≡ limit → 0 < range.length → IsInMemory range →
       ((address : ℕ) → limit ≤ address → address < limit + range.length → test address ≡ true) →
       (range.length < 65535 → limit + range.length < 65536 → test (limit + range.length) ≡ false) →

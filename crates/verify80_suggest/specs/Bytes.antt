@@ -6,7 +6,7 @@ use Rattle.image80.specs.declared.range.Range.{Range}
 use Rattle.image80.specs.Image.{PlacedBytes, covers}
 use Rattle.image80.specs.Range.{in_ranges}
 
--- whether an address is one of so many from the first on
+-- whether an address is one of a given number from the first on
 abbrev pub in_span : (first count : ℕ) → ℕ → Bool
 in_span first count address = nat_le first address && nat_lt address (first + count)
 

@@ -8,7 +8,7 @@ use Rattle.verify80_suggest.specs.declared.setters.Setter.{Setter}
 abbrev pub end_of : (word : ℕ) → ℕ
 end_of word = if word == 0 then 65536 else word
 
--- a stack that ends at an address and consists of free bytes: so many of them as are wanted, or, if they are fewer, all down to
+-- a stack that ends at an address and consists of free bytes: as many of them as are wanted, or, if they are fewer, all down to
 -- one that is taken
 pub record IsBelow (taken : ℕ → Bool) («end» wanted : ℕ) (stack : Range) : Type 0 where
   pub place : stack.first ≡ («end» - stack.length) % 65536

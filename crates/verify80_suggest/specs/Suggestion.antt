@@ -21,7 +21,7 @@ use Rattle.verify80_cases.specs.Marks.{AreMarks, marked}
 use Rattle.verify80_suggest.specs.Ranges.{Covers}
 use Rattle.verify80_suggest.specs.Stack.{IsStack}
 
--- what is found of an image, address by address: whether it has a byte there, whether the program may come to it, whether it is in an
+-- what is found of an image, address by address: whether it has a byte there, whether the program may reach it, whether it is in an
 -- instruction to which it may come, and whether such an instruction names it; and the first two of these that set SP
 pub record Found : Type 0 where
   pub bytes : List Bool
@@ -56,7 +56,7 @@ is_data found ram stack address =
     (if length ram == 0 then marked found.named address && not (marked found.bytes address) else in_ranges ram address)
     && (not (marked found.covered address) && not (in_range stack address))
 
--- regions with a stack of so many bytes, if there are as many
+-- regions with a stack of a given number of bytes, if there are as many
 pub record IsArranged (found : Found) (given : List DeclaredCase) (ram : List Range) (wanted : ℕ) (areas : Areas) : Type 0 where
   pub code : Covers (marked found.covered) areas.code
   pub stack : IsStack (is_taken found) found.first wanted areas.stack

@@ -21,7 +21,7 @@ pub(crate) const NO_STACK: Range = Range {
     length: 0,
 };
 
-/// The regions of what is found of an image, with these cases, and with a stack of so many bytes, if as many are free.
+/// The regions of what is found of an image, with these cases, and with a stack of a given number of bytes, if as many are free.
 ///
 /// # Errors
 /// `AllocError` only if memory runs out.

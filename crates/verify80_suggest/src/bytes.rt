@@ -26,7 +26,7 @@ pub(crate) fn find_bytes(alloc: Global, chunks: &[Chunk]) -> Result<Vec<bool>, A
     Ok(marks)
 }
 
-/// Marks so many addresses from the first on, as far as there are such.
+/// Marks a given number of addresses from the first on, as far as there are such.
 fn mark_span(marks: &mut Vec<bool>, first: u16, count: usize)
     requires { length marks.old.items ≡ 65536 }
     ensures size { length marks.new.items ≡ 65536 }

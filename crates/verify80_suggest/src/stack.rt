@@ -6,7 +6,7 @@ ghost use Rattle.verify80_suggest.specs.Stack.{IsBelow, end_of};
 
 use image80::Range;
 
-/// The stack that ends at the address that LXI SP names, 0 for the end of memory: so many bytes as are wanted, or the fewer ones
+/// The stack that ends at the address that LXI SP names, 0 for the end of memory: as many bytes as are wanted, or the fewer ones
 /// that aren't marked as taken.
 pub(crate) fn stack_below(word: u16, wanted: u64, taken: &[bool]) -> Range
     requires { length taken.now ≡ 65536 }

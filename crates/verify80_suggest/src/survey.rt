@@ -12,7 +12,7 @@ use std::marker::Model;
 use verify80::ImageCode;
 use verify80_cases::{find_covered, find_reachable};
 
-/// What is found of an image: for each address whether it has a byte there, whether the program may come to it, whether it is in an
+/// What is found of an image: for each address whether it has a byte there, whether the program may reach it, whether it is in an
 /// instruction to which it may come, and whether such an instruction names it; and the first two of these that set SP.
 #[derive(Drop)]
 pub(crate) struct Survey {

@@ -17,7 +17,7 @@ weight_of_all code points = sum_by (weight_of code) points
 pub record AreDistinct (points : List Point) : Type 0 where
   pub once : (i j : ℕ) (point : Point) → slice_get points i ≡ Some point → slice_get points j ≡ Some point → i ≡ j
 
--- walks come to different points that weigh more than so much together
+-- walks reach different points that weigh more than a given amount together
 pub record ComesToMore (code : Code) (limit : ℕ) : Type 0 where
   pub points : List Point
   pub walked : (n : ℕ) (point : Point) → slice_get points n ≡ Some point → IsWalked code point
@@ -28,7 +28,7 @@ pub record ComesToMore (code : Code) (limit : ℕ) : Type 0 where
 abbrev pub IsDeep : Point → Type 0
 IsDeep point = 1000000 < length point.frame.words + point.frame.taken
 
--- a walk comes to such a point
+-- a walk reaches such a point
 pub record GoesDeep (code : Code) : Type 0 where
   pub point : Point
   pub walked : IsWalked code point

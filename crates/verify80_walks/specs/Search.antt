@@ -43,7 +43,7 @@ IsLooked code point (Wrong fault) = code.look point.at ≡ Err fault
 IsLooked code point (Stuck fault) = IsStuck code point fault
 IsLooked code point (Moved moves next) = IsMoving code point moves next
 
--- the caller's frame when a callee has returned that took so many words, or none if the caller has fewer
+-- the caller's frame when a callee has returned that took a given number of words, or none if the caller has fewer
 abbrev pub IsBack : Role → (taken : ℕ) → StackFrame → Option StackFrame → Type 0
 IsBack role taken f (Some g) = (taken ≤ room role f.words) × (g ≡ returned taken f)
 IsBack role taken f None = room role f.words < taken
@@ -152,7 +152,7 @@ pub record Grows (code : Code) (old new : Search) : Type 0 where
   pub counts : IsCounted code old → IsCounted code new
   pub followed : new.followed ≡ old.followed
 
--- an exit of the procedure is there, with so many words taken
+-- an exit of the procedure is there, with a given number of words taken
 pub record HasExit (exits : List Exit) (p : Procedure) (taken : ℕ) : Type 0 where
   pub number : ℕ
   pub exit : Exit
@@ -160,7 +160,7 @@ pub record HasExit (exits : List Exit) (p : Procedure) (taken : ℕ) : Type 0 wh
   pub procedure : exit.procedure ≡ p
   pub same : exit.taken ≡ taken
 
--- where a call comes back to, the callee having taken so many words, is there
+-- where a call comes back to, the callee having taken a given number of words, is there
 pub record HasBack (code : Code) (points : List Point) (p : Procedure) (f : StackFrame) (next taken : ℕ) : Type 0 where
   pub back : (g : StackFrame) → GoesOnAfter code p f taken g → Has points (point_of p next g)
 
@@ -261,7 +261,7 @@ pub record AreOrdered (s : Search) : Type 0 where
 pub record CallersAreThere (s : Search) : Type 0 where
   pub there : (k : ℕ) (call : CallingPoint) → slice_get s.calls.items k ≡ Some call → call.point < length s.points.keys
 
--- what a search has found: each point comes from earlier ones and is one that a walk comes to, and each call that is noted is of a
+-- what a search has found: each point comes from earlier ones and is one that a walk reaches, and each call that is noted is of a
 -- point of its own, which weighs eight at least
 pub record IsFound (code : Code) (s : Search) : Type 0 where
   pub sound : IsSound code s
@@ -269,7 +269,7 @@ pub record IsFound (code : Code) (s : Search) : Type 0 where
   pub walked : (n : ℕ) (point : Point) → slice_get s.points.keys n ≡ Some point → IsWalked code point
   pub weighs : (n : ℕ) → n < 8 * length s.calls.items → ComesToMore code n
 
--- each point that a walk comes to is found, and its call is noted
+-- each point that a walk reaches is found, and its call is noted
 pub record IsWhole (code : Code) (s : Search) : Type 0 where
   pub has : (p : Procedure) (at : ℕ) (f : StackFrame) → Walk code p at f → Has s.points.keys (point_of p at f)
   pub calls_there : (n : ℕ) (point : Point) → slice_get s.points.keys n ≡ Some point → NotesCalls code s.calls.items n point

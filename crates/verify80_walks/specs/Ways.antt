@@ -10,7 +10,7 @@ use Rattle.verify80_walks.specs.declared.point.Point.{Point}
 use Rattle.verify80_walks.specs.declared.route.Call.{Call}
 use Rattle.verify80_walks.specs.declared.route.Route.{Route}
 
--- a walk of the point's procedure can come to it
+-- a walk of the point's procedure can reach it
 abbrev pub IsWalked : Code → Point → Type 0
 IsWalked code point = Walk code point.procedure point.at point.frame
 

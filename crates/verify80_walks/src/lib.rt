@@ -1,4 +1,4 @@
-//! The walks of a program, followed one by one, breadth first, and never merged: the points that they come to, and how each is reached.
+//! The walks of a program, followed one by one, breadth first, and never merged: the points that they reach, and how each is reached.
 //!
 //! Proved: each point found is one of a walk; all are found unless they weigh too much.
 //!

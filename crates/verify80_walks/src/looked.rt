@@ -48,7 +48,7 @@ pub fn look_at<C: Code>(alloc: Global, program: &C, point: &Point) -> Result<Loo
     }
 }
 
-/// The caller's frame when a callee has returned that took so many words; `None` if the caller has fewer.
+/// The caller's frame when a callee has returned that took a given number of words; `None` if the caller has fewer.
 ///
 /// # Errors
 /// `Limit` if the frame has more than 1,000,000 words, or as many taken; `Memory` if memory runs out.

@@ -22,7 +22,7 @@ pub enum Origin {
     },
 }
 
-/// A procedure returns from a point, with so many words taken.
+/// A procedure returns from a point, with a given number of words taken.
 #[derive(Clone, Copy)]
 pub struct Exit {
     /// The number of the point.

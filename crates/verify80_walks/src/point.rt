@@ -7,7 +7,7 @@ use std::alloc::{AllocError, Global};
 use std::hash::{Hash, Hasher};
 use verify80_flow::Procedure;
 
-/// A point that a walk comes to: the procedure, the address, and what is known of its stack and register pairs there.
+/// A point that a walk reaches: the procedure, the address, and what is known of its stack and register pairs there.
 #[derive(Debug, Drop)]
 pub struct Point {
     /// The procedure.

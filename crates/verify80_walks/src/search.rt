@@ -1,4 +1,4 @@
-//! The points that the walks of a program come to, found one by one, breadth first.
+//! The points that the walks of a program reach, found one by one, breadth first.
 
 ghost use Rattle.std.specs.Prelude.{◌≡◌, ◌<◌, ◌≤◌, ◌+◌, ◌++◌, ◌∷◌, [], ℕ, true, false, Contains, Some, Ok, Err, IfOk, OnOk, length, slice_get};
 ghost use Rattle.frames80.specs.declared.procedure.Procedure.TheVariants.{Main, Entry};
@@ -227,7 +227,7 @@ impl Search {
         Ok(())
     }
 
-    /// Follows points in order of first sight until all are followed, or until those that were found weigh more than so much.
+    /// Follows points in order of first sight until all are followed, or until those that were found weigh more than a given amount.
     /// Answers whether all are.
     ///
     /// # Errors

@@ -21,7 +21,7 @@ use std::marker::Model;
 
 /// Appends a line for each module that was taken, in order: its name, a name for which it was taken, a module that needs that name,
 /// and the path of its library, as `TAKEN @P0029 FOR @P0029 BY CALC FROM plm80.lib`. Of the modules that need it the nearest to the
-/// roots is named, of several the first, with the first of its names that need it. So one comes to a root, from BY to BY. The
+/// roots is named, of several the first, with the first of its names that need it. So one reaches a root, from BY to BY. The
 /// paths are those of the libraries, by their numbers; a library without one has an empty path.
 ///
 /// # Errors

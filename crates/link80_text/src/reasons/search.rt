@@ -7,14 +7,14 @@ ghost use Rattle.link80_text.specs.Search.{steps_to, is_at, is_new, followed, Is
 use crate::reasons::edges::Edge;
 use std::alloc::{AllocError, Global};
 
-/// A module that was taken is needed through this edge, the last of so many steps from a root.
+/// A module that was taken is needed through this edge, the last of a given number of steps from a root.
 #[derive(Clone, Copy)]
 pub(crate) struct Found {
     pub edge: usize,
     pub steps: usize,
 }
 
-/// For each of so many modules that were taken, the edge of the fewest steps, of several the first.
+/// For each of a given number of modules that were taken, the edge of the fewest steps, of several the first.
 pub(crate) fn fewest_steps(
     alloc: Global,
     roots: usize,
@@ -86,7 +86,7 @@ fn is_new(roots: usize, round: usize, found: &[Option<Found>], edge: Edge) -> bo
     is_at(steps_to(roots, found, edge.by), round) && found[edge.to].is_none()
 }
 
-/// Whether these are so many steps.
+/// Whether these are a given number of steps.
 fn is_at(steps: Option<usize>, round: usize) -> bool
     ensures { result ≡ is_at round steps }
 {

@@ -1,6 +1,6 @@
-//! A byte that waits at a port, so many times over.
+//! A byte that waits at a port, a given number of times.
 
-/// A byte that waits at a port, so many times over.
+/// A byte that waits at a port, a given number of times.
 #[derive(Clone, Copy, Debug, PartialEq, Eq)]
 pub struct Repeated {
     /// The port.

@@ -14,7 +14,7 @@ use std::alloc::{AllocError, Global};
 use std::fmt::Write;
 use verify80_calls::{Reached, find_reached};
 
-/// The code of a vouched image by address: a line for each instruction that walks come to, as a listing has it, and the bytes of
+/// The code of a vouched image by address: a line for each instruction that walks reach, as a listing has it, and the bytes of
 /// code that are in none of them as data, eight a line at most. Adjacent ranges of code count as one; instructions that overlap
 /// have a line each.
 ///

@@ -9,7 +9,7 @@ use image80::Regions;
 use machine80::FlatBus;
 use verify80_calls::Reached;
 
-/// An image's code, with the instructions that walks come to.
+/// An image's code, with the instructions that walks reach.
 #[derive(Drop)]
 pub(crate) struct Layout<'a> {
     pub regions: &'a Regions,
@@ -17,7 +17,7 @@ pub(crate) struct Layout<'a> {
     pub reached: &'a Reached,
 }
 
-/// Whether an address has a byte of code that is in no instruction that walks come to.
+/// Whether an address has a byte of code that is in no instruction that walks reach.
 #[tactic(auto, unfolding(crate::specs::Cover::is_data))]
 pub(crate) fn is_data(layout: &Layout<'_>, at: usize) -> bool
     ensures value { result ≡ is_data layout.now.regions.now layout.now.reached.now at }
@@ -50,7 +50,7 @@ fn is_covered(reached: &Reached, at: u16) -> bool
         || at >= 2 && size_at(reached, at - 2) >= 3
 }
 
-/// How many bytes the instruction at an address has; 0 if walks don't come to it.
+/// How many bytes the instruction at an address has; 0 if walks don't reach it.
 fn size_at(reached: &Reached, at: u16) -> usize
     ensures { result ≡ size_of (found_at reached.now at) }
 {

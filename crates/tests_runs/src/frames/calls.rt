@@ -8,7 +8,7 @@ use std::alloc::Global;
 use std::process::Abort;
 use std::test::Fail;
 
-/// Calls of procedures that want and take so many words, and the caller's frame before and after.
+/// Calls of procedures that want and take a given number of words, and the caller's frame before and after.
 #[rattlefmt::skip]
 static CALLS: [(Role, Parts, u32, u32, Parts); 2] = [
     (Entry, (3, &[Own, Own, Any], [Own, Own, Own]), 2, 1, (3, &[Own, Own], [Any, Any, Any])),
@@ -25,7 +25,7 @@ fn a_call_comes_back(rt: HostRuntime) -> Result<(), Fail> {
     Ok(())
 }
 
-/// The frame after a call of a procedure that wants and takes so many words.
+/// The frame after a call of a procedure that wants and takes a given number of words.
 fn called(
     rt: &impl Abort,
     alloc: Global,

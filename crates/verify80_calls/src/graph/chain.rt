@@ -17,7 +17,7 @@ pub(crate) struct Link {
 }
 
 /// The calls of which the main program's bound is made: from the main program on, of each procedure the first call whose depth and
-/// needs come to its bound.
+/// needs add up to its bound.
 pub(crate) fn chain_of(alloc: Global, nodes: &[Node]) -> Result<Vec<Link>, AllocError>
     ensures { IfOk result (λ chain. chain.items ≡ chain_of nodes.now) }
 {
@@ -35,7 +35,7 @@ pub(crate) fn chain_of(alloc: Global, nodes: &[Node]) -> Result<Vec<Link>, Alloc
     Ok(chain)
 }
 
-/// The first call of a procedure whose depth and needs come to its bound.
+/// The first call of a procedure whose depth and needs add up to its bound.
 fn deepest_call(nodes: &[Node], caller: Procedure) -> Option<Call>
     ensures { result ≡ deepest_call nodes.now caller }
 {
@@ -45,7 +45,7 @@ fn deepest_call(nodes: &[Node], caller: Procedure) -> Option<Call>
     }
 }
 
-/// The first of a node's calls whose depth and needs come to its bound.
+/// The first of a node's calls whose depth and needs add up to its bound.
 fn first_deepest<'a>(nodes: &[Node], node: &'a Node) -> Option<&'a Call>
     ensures { option_copied result ≡ first_deepest nodes.now node.now }
 {
@@ -54,7 +54,7 @@ fn first_deepest<'a>(nodes: &[Node], node: &'a Node) -> Option<&'a Call>
         .find(|call| reaches(nodes, node.bound, **call))
 }
 
-/// Whether the depth and the needs of a call come to a bound.
+/// Whether the depth and the needs of a call add up to a bound.
 fn reaches(nodes: &[Node], bound: u64, call: Call) -> bool
     ensures { result ≡ reaches nodes.now bound call }
 {

@@ -15,7 +15,7 @@ use std::alloc::{AllocError, Global};
 
 /// The procedures of a program as a graph for Graphviz: a box for each, with its address, its name and its bound, and an edge for
 /// each call, with its address and the bytes that the procedure has on the stack there. In bold are the calls of which the main
-/// program's bound is made: from the main program on, of each procedure the first whose depth and needs come to its bound.
+/// program's bound is made: from the main program on, of each procedure the first whose depth and needs add up to its bound.
 ///
 /// # Errors
 /// `AllocError` only if memory runs out.

@@ -1,4 +1,4 @@
-//! The addresses of a vouched image that its procedures come to.
+//! The addresses of a vouched image that its procedures reach.
 
 ghost use Rattle.std.specs.Prelude.{◌≡◌, IfOk};
 ghost use Rattle.verify80.specs.Looking.{code_of};
@@ -12,7 +12,7 @@ use std::marker::Model;
 use verify80::ImageCode;
 use verify80_flow::fitting_tables_cover_walks;
 
-/// The instruction at each address that a walk of an image's procedures comes to.
+/// The instruction at each address that a walk of an image's procedures reaches.
 #[derive(Drop)]
 pub struct Reached {
     table: Vec<Option<Fetched>>,
@@ -41,7 +41,7 @@ impl Reached {
         self.table.as_slice()
     }
 
-    /// The instruction at an address and the address after it; `None` if no walk comes to the address.
+    /// The instruction at an address and the address after it; `None` if no walk reaches the address.
     pub fn at(&self, address: u16) -> Option<Fetched>
         ensures { result ≡ found_at self.now address }
     {
@@ -52,7 +52,7 @@ impl Reached {
 /// Goes over an image along all walks of its procedures, from its start on.
 ///
 /// A walk goes on behind a call only if the procedure that is called returns, and after a PCHL at its declared targets. So each
-/// step of each run of the image is at one of these addresses; that a run comes to each of them isn't said. The time grows with
+/// step of each run of the image is at one of these addresses; that a run reaches each of them isn't said. The time grows with
 /// the number of instructions that are reached.
 ///
 /// # Example

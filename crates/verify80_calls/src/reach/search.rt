@@ -130,7 +130,7 @@ impl Search {
     }
 }
 
-/// Finds what is at each address that a walk comes to.
+/// Finds what is at each address that a walk reaches.
 ///
 /// # Errors
 /// `AllocError` if memory runs out.

@@ -30,7 +30,7 @@ impl Table {
         self.flow(site.procedure, site.next, frame)
     }
 
-    /// A caller goes on after a call of a procedure that takes so many words.
+    /// A caller goes on after a call of a procedure that takes a given number of words.
     ///
     /// # Errors
     /// `ShortArguments` if the caller has fewer words above its bottom word; any other refusal that holds; out of memory.

@@ -6,7 +6,7 @@ use image80::Regions;
 /// A program: its instructions that may be reached, and which of its procedures return.
 #[derive(Clone, Copy)]
 pub struct ReachedProgram<'a> {
-    /// The instruction at each address where the program may come to, and the address after it: by address, 65,536 places.
+    /// The instruction at each address that the program may reach, and the address after it: by address, 65,536 places.
     pub instructions: &'a [Option<Fetched>],
     /// Whether the procedure that begins at an address returns: by address, 65,536 places.
     pub returning: &'a [bool],

@@ -11,7 +11,7 @@ const VISITS: u32 = 32;
 /// How often the table is narrowed.
 const NARROWINGS: u32 = 3;
 
-/// What the pairs may be at each address where the program may come to, 65,536 places by address; `None` if it doesn't come.
+/// What the pairs may be at each address that the program may reach, 65,536 places by address; `None` if it doesn't.
 ///
 /// At the start, and behind each call that returns, they may be anything. Nothing is promised of the table: whoever uses it has to
 /// see that it fits.

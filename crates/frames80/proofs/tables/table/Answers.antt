@@ -4,7 +4,7 @@ use Rattle.std.proofs.lemmas.List.{length_push}
 use Rattle.std.proofs.lemmas.List.Elements.{All-push}
 use Rattle.frames80.proofs.tables.table.Goals as goal
 
--- so many places, each with the value
+-- a given number of places, each with the value
 abbrev Filled : {X : Type 0} → X → List X → ℕ → Type 0
 Filled value xs n = (length xs ≡ n) × All (λ x. x ≡ value) xs
 

@@ -1,5 +1,5 @@
 use Rattle.std.proofs.Common.{◌+◌, ◌∙◌, ap, sym, subst}
-use Rattle.plm80_console.specs.Pieces.{WasRead, file_failures}
+use Rattle.plm80_console.specs.Pieces.{WasRead}
 use Rattle.plm80_console.proofs.PieceLemmas.{no_failures}
 use Rattle.plm80_console.proofs.link_feed.read_link_file.Goals as goal
 

@@ -1,5 +1,5 @@
 use Rattle.std.proofs.Common.{◌∙◌, ap, arith}
-use Rattle.std.specs.Prelude.{Bool, is_some, if◌then◌else◌}
+use Rattle.std.specs.Prelude.{Bool, if◌then◌else◌}
 use Rattle.loader80_trace.specs.Cover.{is_begun}
 use Rattle.loader80_trace.proofs.CoverLemmas.{tally_all, tally_next}
 use Rattle.loader80_trace.proofs.covering.covering.count_begun.Goals as goal
