@@ -183,6 +183,15 @@ impl Frames {
         kept_at(&self.kept, frame).taken
     }
 
+    /// How many words a frame has. It takes no memory.
+    pub fn words(&self, frame: FrameId) -> u32
+        requires { frame < length self.now }
+        ensures { result ≡ length (frame_at self.now frame).words }
+    {
+        let kept = kept_at(&self.kept, frame);
+        self.stacks.height(kept.words)
+    }
+
     /// How many words a callee may take: those above the bottom word, and in the main program all. It takes no memory.
     pub fn room(&self, frame: FrameId, role: Role) -> u32
         requires { frame < length self.now }

@@ -12,7 +12,7 @@ use image80::{Image, RegionMap};
 use std::alloc::Global;
 use std::marker::Model;
 use verify80::{
-    ProcRow, Refusal, Verified, fitted_images_never_go_wrong, images_never_go_wrong_from_power_on,
+    ProcRow, ProgramPoint, Refusal, Verified, fitted_images_never_go_wrong, images_never_go_wrong_from_power_on,
     verify_and_keep,
 };
 
@@ -26,23 +26,28 @@ pub struct Vouched {
     map: RegionMap,
     stack_bytes: u64,
     rows: Vec<ProcRow>,
+    points: Vec<ProgramPoint>,
 }
 
 impl Model for Vouched {
+    ghost use Rattle.verify80_flow.specs.ProgramPoints.{ArePoints};
     ghost use Rattle.verify80.specs.Kept.{IsKept};
+    ghost use Rattle.verify80.specs.Looking.{code_of};
     ghost use Rattle.loader80.specs.Vouched.{IsVouched, Voucher};
 
     ghost Value = { Voucher };
 
     ghost view = { λ v. record { image = v.image; stack_bytes = v.stack_bytes; rows = v.rows.items } };
 
-    ghost invariant = { λ v. IsVouched v.image v.rows.items v.stack_bytes × IsKept v.image v.memory.items v.map };
+    ghost invariant = { λ v. IsVouched v.image v.rows.items v.stack_bytes × IsKept v.image v.memory.items v.map
+        × ArePoints (code_of v.image) v.points.items };
 }
 
 impl Vouched {
     ghost use Rattle.std.specs.Prelude.{◌≡◌, ◌≤◌, length};
     ghost use Rattle.machine80.specs.World.{NeverGoesWrong};
     ghost use Rattle.verify80_flow.specs.Accepted.{IsAccepted};
+    ghost use Rattle.verify80_flow.specs.ProgramPoints.{ArePoints};
     ghost use Rattle.image80.specs.Image.{memory_of};
     ghost use Rattle.image80.specs.RegionMap.{Maps};
     ghost use Rattle.verify80.specs.Kept.{IsKept};
@@ -53,6 +58,7 @@ impl Vouched {
     /// An image that is accepted.
     fn new(image: Image, verified: Verified) -> Vouched
         requires accepted { IsAccepted (code_of image) verified.report.procedures.items verified.report.stack_bytes }
+        requires points { ArePoints (code_of image) verified.points.items }
         requires kept { IsKept image verified.memory.items verified.map }
         ensures image { result.image ≡ image }
         ensures vouched { IsVouched image result.rows result.stack_bytes }
@@ -60,6 +66,7 @@ impl Vouched {
         runs_as_verified(&image);
         let Verified {
             report,
+            points,
             memory,
             map,
         } = verified;
@@ -69,6 +76,7 @@ impl Vouched {
             map,
             stack_bytes: report.stack_bytes,
             rows: report.procedures,
+            points,
         }
     }
 
@@ -119,6 +127,14 @@ impl Vouched {
         ensures vouched { IsVouched self.now.image self.now.rows self.now.stack_bytes }
     {
         self.rows.as_slice()
+    }
+
+    /// The points that the walks of its procedures reach: by procedure, the main program first, then by entry, and by address.
+    pub fn points(&self) -> &[ProgramPoint]
+        ensures points { ArePoints (code_of self.now.image) result.now }
+        ensures vouched { IsVouched self.now.image self.now.rows self.now.stack_bytes }
+    {
+        self.points.as_slice()
     }
 }
 

@@ -85,10 +85,9 @@ pub restart_bytes : (start : ℕ) (chunks : List PlacedBytes) (address : ℕ) �
     byte_at (chunks ++ restart_chunk start ∷ []) address ≡ byte_with_restart start (byte_at chunks address) address
 restart_bytes start chunks address = byte_at-snoc chunks (restart_chunk start) address ∙ three_bytes start (byte_at chunks address) address (address == 0) (address == 1) (address == 2) refl refl refl
 
-pub restart_memory : (options : Options) (m : ModuleValue) (before start : ℕ) (chunks more : List PlacedBytes) → more ≡ chunks ++ restart_chunk before ∷ [] → start ≡ before
+pub restart_memory : (options : Options) (m : ModuleValue) (start : ℕ) (chunks more : List PlacedBytes) → more ≡ chunks ++ restart_chunk start ∷ []
     → HoldsProgram options m chunks → HoldsProgramAndRestart options m start more
-restart_memory options m before start chunks more is same holds address =
+restart_memory options m start chunks more is holds address =
     ap (λ (l : List PlacedBytes). byte_at l address) is
-    ∙ restart_bytes before chunks address
-    ∙ ap (λ (n : ℕ). byte_with_restart before n address) (holds address)
-    ∙ ap (λ (n : ℕ). byte_with_restart n (image_byte (program_bases options m) (m ∷ []) address) address) (sym same)
+    ∙ restart_bytes start chunks address
+    ∙ ap (λ (n : ℕ). byte_with_restart start n address) (holds address)

@@ -1,7 +1,7 @@
 -- A jump to the program's start at address 0, where the processor begins.
 -- (ISIS-II User's Guide, LOCATE: the control RESTART0. 8080 Assembly Language Programming Manual: a reset sets the program
 -- counter to 0.)
-use Rattle.std.specs.Prelude.{◌≡◌, ℕ, ◌/◌, ◌%◌, ◌==◌, if◌then◌else◌, Option, option_map, List, [], ◌∷◌, ◌++◌}
+use Rattle.std.specs.Prelude.{◌≡◌, ℕ, ◌/◌, ◌%◌, ◌==◌, if◌then◌else◌, Option, Some, option_map, List, [], ◌∷◌, ◌++◌}
 use Rattle.std.specs.Option.{option_or}
 use Rattle.decode80.specs.declared.instr.Instr.TheVariants.{Jmp}
 use Rattle.decode80.specs.Spelling.{spelling}
@@ -15,7 +15,7 @@ use Rattle.place80.specs.declared.options.Options.{Options}
 use Rattle.place80.specs.declared.placed_segments.Placed.{Placed}
 use Rattle.place80.specs.declared.place_fault.PlaceFault.{PlaceFault}
 use Rattle.place80.specs.Layout.{layout_of, program_bases}
-use Rattle.place80.specs.Locating.{located_code, located_stack, located_data}
+use Rattle.place80.specs.Locating.{located_chunks, program_start, located_code, located_stack, located_data}
 use Rattle.place80.specs.PlaceFault.{locate_fault, beside_each, with_each, absolute_places, first_sharing, overlap_of}
 
 -- the three bytes of the restart, as a place of absolute content, and as a range of code
@@ -47,6 +47,13 @@ byte_with_restart start other address =
 abbrev pub HoldsProgramAndRestart : Options → ModuleValue → (start : ℕ) → List PlacedBytes → Type 0
 HoldsProgramAndRestart options m start chunks = (address : ℕ) →
     byte_at chunks address ≡ byte_with_restart start (image_byte (program_bases options m) (m ∷ []) address) address
+
+-- the chunks of the program with a restart, which goes to the program's start
+pub record RestartsAt (options : Options) (m : ModuleValue) (chunks : List PlacedBytes) : Type 0 where
+  pub start : ℕ
+  pub goes : program_start options m ≡ Some start
+  pub are : chunks ≡ located_chunks options m ++ restart_chunk start ∷ []
+  pub memory : HoldsProgramAndRestart options m start chunks
 
 -- the regions of the segments, with the restart among the code
 abbrev pub ArrangesWithRestart : List Placed → Areas → Type 0

@@ -2,9 +2,9 @@
 
 ghost use Rattle.std.specs.Prelude.{◌≡◌, ◌⊎◌, ◌∷◌, ◌++◌, [], find, None, Some, IfOk, IfErr, OnOk};
 ghost use Rattle.place80.specs.Layout.{layout_of};
-ghost use Rattle.place80.specs.Locating.{Fit, located_chunks, program_start};
+ghost use Rattle.place80.specs.Locating.{Fit};
 ghost use Rattle.place80.specs.PlaceFault.{overlaps, first_sharing};
-ghost use Rattle.place80.specs.Restart.{restart_place, restart_pairs, restart_chunk, restart_fault, HoldsProgramAndRestart, ArrangesWithRestart};
+ghost use Rattle.place80.specs.Restart.{restart_place, restart_pairs, restart_chunk, restart_fault, RestartsAt, ArrangesWithRestart};
 ghost use Rattle.place80.specs.declared.place_fault.PlaceFault.TheVariants.{Memory};
 
 use crate::laying_out::layout;
@@ -21,8 +21,8 @@ use omf_module::Module;
 use std::alloc::{AllocError, Global};
 
 /// The program's image at its places, as `locate` makes it, with a JMP to its start at address 0, where the processor begins:
-/// the control RESTART0 of LOCATE. Its memory is that of `locate` but for these three bytes, and they are code, too; its start
-/// is still the program's.
+/// the control RESTART0 of LOCATE. Its memory is that of `locate` but for these three bytes, and they are code, too. It starts at 0,
+/// as the board does.
 ///
 /// # Errors
 /// Those of `locate`; and then `Overlap` of 0 and the first segment that has one of the addresses 0 to 2, or of 0 and 0 if an
@@ -33,11 +33,9 @@ pub fn locate_with_restart(
     options: &Options,
 ) -> Result<Image, PlaceFault>
     ensures name { IfOk result (λ image. image.name ≡ program.now.name) }
-    ensures chunks { IfOk result (λ image.
-        image.chunks ≡ located_chunks options.now program.now ++ restart_chunk image.start ∷ []) }
-    ensures memory { IfOk result (λ image. HoldsProgramAndRestart options.now program.now image.start image.chunks) }
+    ensures restart { IfOk result (λ image. RestartsAt options.now program.now image.chunks) }
     ensures regions { IfOk result (λ image. ArrangesWithRestart (layout_of options.now program.now) image.regions) }
-    ensures start { IfOk result (λ image. Some image.start ≡ program_start options.now program.now) }
+    ensures start { IfOk result (λ image. image.start ≡ 0) }
     ensures none { OnOk result (restart_fault options.now program.now ≡ None) }
     ensures fault { IfErr result (λ fault. (fault ≡ Memory) ⊎ (restart_fault options.now program.now ≡ Some fault)) }
 {
@@ -75,7 +73,7 @@ fn with_restart(alloc: Global, image: Image, segments: &[Placed]) -> Result<Imag
     ensures name { IfOk result (λ made. made.name ≡ image.name) }
     ensures chunks { IfOk result (λ made. made.chunks ≡ image.chunks ++ restart_chunk image.start ∷ []) }
     ensures regions { IfOk result (λ made. ArrangesWithRestart segments.now made.regions) }
-    ensures start { IfOk result (λ made. made.start ≡ image.start) }
+    ensures start { IfOk result (λ made. made.start ≡ 0) }
 {
     let regions = regions_with_restart(alloc, segments)?;
     let Image {
@@ -89,7 +87,7 @@ fn with_restart(alloc: Global, image: Image, segments: &[Placed]) -> Result<Imag
         name,
         chunks,
         regions,
-        start,
+        start: 0,
     })
 }
 

@@ -15,7 +15,9 @@ line says how many of these stores (MOV M,r, MVI M, INR M, DCR M, STAX) are show
 to stay in data, whatever the program reads and finds in memory, as long as none
 has left it. Then comes a line for each other one: its address, the instruction,
 and the first and the last address that it may have; it may be harmless. A line
-JUMP is for each PCHL. Those that no procedure reaches are left out.
+JUMP is for each PCHL. Those that no procedure reaches are left out. A line
+SP NOT SET says that SP must be at the stack's top before the program begins,
+since it may use SP before an LXI SP of its own sets it.
 
 The exit status is 0 if no line follows the first, 1 if one does, or if the
 image is refused: then the refusal is printed alone, as by check. --names prints
@@ -63,7 +65,7 @@ fn stores_of(alloc: Global, vouched: &Vouched, names: &Names) -> Result<(Vec<u8>
 
 /// The exit status: whether something is listed.
 fn status_of(stores: &Stores) -> u8 {
-    if stores.open.is_empty() && stores.jumps.is_empty() {
+    if stores.open.is_empty() && stores.jumps.is_empty() && stores.sets_stack {
         0
     } else {
         1

@@ -1,92 +1,181 @@
--- Runs on a board that begin before SP is set: the first instruction sets it, and until then the world differs in SP alone.
-use Rattle.std.specs.Prelude.{◌≡◌, ◌⊎◌, ℕ, ◌<◌, true, false, [], All, Option, Some, refl}
+-- Runs on a board that begin before SP is set: until an instruction sets it, the world differs from one with SP at the stack's top in SP
+-- alone.
+use Rattle.std.specs.Prelude.{◌≡◌, ◌⊎◌, ℕ, ◌<◌, Bool, true, false, List, [], All, Option, None, Some, refl, if◌then◌else◌}
 use Rattle.std.proofs.Common.{◌∙◌, ap, sym, subst, inl, inr, true≢false}
 use Rattle.std.proofs.lemmas.List.Elements.{All-nil}
-use Rattle.decode80.specs.declared.instr.Instr.TheVariants.{Lxi}
-use Rattle.decode80.specs.declared.pair.Pair.TheVariants.{Sp}
+use Rattle.decode80.specs.declared.condition.Condition.{Condition}
+use Rattle.decode80.specs.declared.instr.Instr.{Instr}
+use Rattle.decode80.specs.declared.instr.Instr.TheVariants.{Lxi, Dad, Inx, Dcx, Jmp, JumpIf, Hlt, In, Out, Pchl}
+use Rattle.decode80.specs.declared.pair.Pair.TheVariants.{Bc, De, Hl, Sp}
 use Rattle.decode80.specs.declared.fetching.Fetched.{Fetched}
-use Rattle.image80.specs.Regions.{top_of}
+use Rattle.decode80.specs.Facts.{flow}
+use Rattle.decode80.specs.Fetch.{direct_bytes}
+use Rattle.image80.specs.Range.{in_range}
+use Rattle.image80.specs.Regions.{Areas, in_data, targets_at, top_of}
 use Rattle.image80.specs.Image.{Located, memory_of}
-use Rattle.machine80.specs.Effects.{stack_bytes}
-use Rattle.machine80.specs.Step.{Machine, fetch, proceeded, step_on}
+use Rattle.machine80.specs.declared.cpu.Cpu.{Cpu}
+use Rattle.machine80.specs.declared.flags.Flags.{Flags}
+use Rattle.machine80.specs.declared.end.End.{End}
+use Rattle.machine80.specs.declared.end.End.TheVariants.{Stack, Direct, StoreOutside}
+use Rattle.machine80.specs.Flags.{holds}
+use Rattle.machine80.specs.Effects.{pointed_bytes, stack_bytes}
+use Rattle.machine80.specs.Step.{Machine, ends_at, execute, fetch, first_outside, guard, guarded, proceeded, step_on}
 use Rattle.machine80.specs.World.{World, IsJustBelow, returns}
 use Rattle.machine80.specs.Run.{world_of}
 use Rattle.verify80.specs.Starts.{IsStart}
-use Rattle.verify80.specs.Boards.{Anywhere, Executes, IsGuarded, KeepsPromise, KeepsToWalks, MayStart, OnBoard, begins, disturbed, executed, SetsStackFirst, fetched_anywhere, unguarded, with_memory}
-use Rattle.verify80.proofs.BoardSteps.{ends_by_halt, same_machine}
+use Rattle.verify80.specs.Boards.{Anywhere, Executes, GoesBy, HasAt, IsGuarded, IsUnset, starts, goes_on, KeepsPromise, KeepsToWalks, MayStart, OnBoard, begins, disturbed, executed, StartsUnset, StaysInside, fetched_anywhere, sets_sp, uses_sp, unguarded, with_memory}
+use Rattle.verify80.proofs.BoardSteps.{bridges, ends_by_halt, none_of, same_machine}
 
 found_is : {a b : Fetched} → Some a ≡ Some b → a ≡ b
 found_is {a} {b} h = let e : Some a ≡ Some b = h in cc
 
--- a world with SP at the stack's top
-abbrev with_top : Located → World → World
-with_top image w = record { machine = record w.machine { cpu = record w.machine.cpu { sp = top_of image.regions } }; places = w.places }
-
+-- a machine and a world with SP at the stack's top
 abbrev set_machine : Located → Machine → Machine
 set_machine image m = record m { cpu = record m.cpu { sp = top_of image.regions } }
 
-module _ (image : Located) (bytes : ℕ) (promise : (start : Machine) → IsStart image start → (w : World) → OnBoard image.regions Anywhere start w → KeepsPromise image bytes w) (m : Machine) (s : SetsStackFirst image m) where
+abbrev with_top : Located → World → World
+with_top image w = record { machine = set_machine image w.machine; places = w.places }
+
+-- ---- an instruction that neither sets nor uses SP does the same whatever it is
+
+free_of_sp : (image : Located) (i : Instr) (next : ℕ) (m : Machine) → uses_sp i ≡ false → sets_sp i ≡ false →
+    proceeded i next (set_machine image m) ≡ set_machine image (proceeded i next m)
+free_of_sp image (Lxi Bc n) next m free unset = refl
+free_of_sp image (Lxi De n) next m free unset = refl
+free_of_sp image (Lxi Hl n) next m free unset = refl
+free_of_sp image (Lxi Sp n) next m free unset = absurd (cc)
+free_of_sp image (Inx Bc) next m free unset = refl
+free_of_sp image (Inx De) next m free unset = refl
+free_of_sp image (Inx Hl) next m free unset = refl
+free_of_sp image (Inx Sp) next m free unset = absurd (cc)
+free_of_sp image (Dcx Bc) next m free unset = refl
+free_of_sp image (Dcx De) next m free unset = refl
+free_of_sp image (Dcx Hl) next m free unset = refl
+free_of_sp image (Dcx Sp) next m free unset = absurd (cc)
+free_of_sp image (Dad Bc) next m free unset = refl
+free_of_sp image (Dad De) next m free unset = refl
+free_of_sp image (Dad Hl) next m free unset = refl
+free_of_sp image (Dad Sp) next m free unset = absurd (cc)
+free_of_sp image i next m free unset = by_case i free
+  where
+    by_case : (i : Instr) → uses_sp i ≡ false → proceeded i next (set_machine image m) ≡ set_machine image (proceeded i next m)
+    by_case i free = refl
+
+goes_free : (image : Located) (i : Instr) (byte next : ℕ) (m after : Machine) → uses_sp i ≡ false → sets_sp i ≡ false → unguarded i byte next m ≡ Some after →
+    unguarded i byte next (set_machine image m) ≡ Some (set_machine image after)
+goes_free image Hlt byte next m after free unset h = absurd (cc)
+goes_free image (In port) byte next m after free unset h = ap (λ (x : Machine). Some (set_machine image x)) (same_machine h)
+goes_free image (Out port) byte next m after free unset h = ap (λ (x : Machine). Some (set_machine image x)) (same_machine h)
+goes_free image i byte next m after free unset h =
+    ap Some (free_of_sp image i next m free unset ∙ ap (set_machine image) (same_machine h))
+
+-- an instruction that sets SP leads to the same machine, whatever SP was
+goes_set : (image : Located) (i : Instr) (byte next : ℕ) (m after : Machine) → sets_sp i ≡ true → unguarded i byte next m ≡ Some after →
+    unguarded i byte next (set_machine image m) ≡ Some after
+goes_set image (Lxi Sp n) byte next m after sets h = h
+goes_set image i byte next m after sets h = absurd (cc)
+
+never_returns : (i : Instr) (flags : Flags) → uses_sp i ≡ false → returns i flags ≡ false
+never_returns i flags free = refl
+
+touches_none : (i : Instr) (cpu : Cpu) → uses_sp i ≡ false → stack_bytes i cpu ≡ []
+touches_none i cpu free = refl
+
+-- where it leads
+leads_by : (regions : Areas) (i : Instr) (byte next : ℕ) (m after : Machine) → uses_sp i ≡ false → StaysInside regions m i → unguarded i byte next m ≡ Some after →
+    GoesBy regions m.cpu.pc (flow i) next after.cpu.pc
+leads_by regions Hlt byte next m after free inside h = absurd (cc)
+leads_by regions (In port) byte next m after free inside h = sym (ap (λ (x : Machine). x.cpu.pc) (same_machine h))
+leads_by regions (Out port) byte next m after free inside h = sym (ap (λ (x : Machine). x.cpu.pc) (same_machine h))
+leads_by regions Pchl byte next m after free inside h =
+    subst (λ (x : Machine). GoesBy regions m.cpu.pc (flow Pchl) next x.cpu.pc) (same_machine h) (inside.jumps refl)
+leads_by regions (JumpIf condition to) byte next m after free inside h =
+    subst (λ (x : Machine). GoesBy regions m.cpu.pc (flow (JumpIf condition to)) next x.cpu.pc) (same_machine h) (either (holds condition m.cpu.registers.flags))
+  where
+    either : (b : Bool) → ((if b then to else next) ≡ next) ⊎ ((if b then to else next) ≡ to)
+    either true = inr refl
+    either false = inl refl
+leads_by regions i byte next m after free inside h = sym (ap (λ (x : Machine). x.cpu.pc) (same_machine h))
+
+-- a guard that has nothing to say
+guard_says_nothing : (regions : Areas) (i : Instr) (cpu : Cpu) → stack_bytes i cpu ≡ [] → first_outside (in_data regions) (direct_bytes i) ≡ None →
+    first_outside (in_data regions) (pointed_bytes i cpu.registers) ≡ None → guard regions i cpu ≡ None
+guard_says_nothing regions i cpu none direct pointed =
+    ap (λ (xs : List ℕ). ends_at (first_outside (in_range regions.stack) xs) Stack (ends_at (first_outside (in_data regions) (direct_bytes i)) Direct (ends_at (first_outside (in_data regions) (pointed_bytes i cpu.registers)) StoreOutside None))) none
+    ∙ ap (λ (o : Option ℕ). ends_at o Direct (ends_at (first_outside (in_data regions) (pointed_bytes i cpu.registers)) StoreOutside None)) direct
+    ∙ ap (λ (o : Option ℕ). ends_at o StoreOutside None) pointed
+
+module _ (image : Located) (bytes : ℕ) (promise : (start : Machine) → IsStart image start → (w : World) → OnBoard image.regions Anywhere start w → KeepsPromise image bytes w) (m : Machine) (s : StartsUnset image m) where
   abbrev set : Machine
   set = set_machine image m
 
   is_start : IsStart image set
   is_start = record { pc = s.pc; sp = refl; whole = s.whole; code = s.code }
 
-  abbrev first : Fetched
-  first = record { instr = Lxi Sp (top_of image.regions); next = s.next }
-
-  -- a world before the first instruction
+  -- a world before SP is set
   pub record Before (w : World) : Type 0 where
-    pub pc : w.machine.cpu.pc ≡ image.start
+    pub unset : IsUnset image w.machine.cpu.pc
     pub on : OnBoard image.regions Anywhere set (with_top image w)
 
   promise_there : (w : World) → Before w → KeepsPromise image bytes (with_top image w)
   promise_there w b = promise set is_start (with_top image w) b.on
 
-  is_first : (w : World) (b : Before w) → (promise_there w b).found ≡ first
-  is_first w b =
-      let p = promise_there w b in
-      found_is (sym p.of_image ∙ ap (λ at. fetch image.regions (memory_of image.chunks) at) b.pc ∙ s.first)
+  free : (w : World) (b : Before w) → uses_sp (promise_there w b).found.instr ≡ false
+  free w b = let p = promise_there w b in s.sets w.machine.cpu.pc p.found b.unset p.of_image
 
-  found_first : (w : World) (b : Before w) (found : Fetched) → fetched_anywhere w.machine.memory w.machine.cpu.pc ≡ Some found → found ≡ first
-  found_first w b found h = found_is (sym h ∙ (promise_there w b).anywhere) ∙ is_first w b
+  found_there : (w : World) (b : Before w) (found : Fetched) → fetched_anywhere w.machine.memory w.machine.cpu.pc ≡ Some found → found ≡ (promise_there w b).found
+  found_there w b found h = found_is (sym h ∙ (promise_there w b).anywhere)
 
-  -- the first instruction leads to the same world, whatever SP was
-  goes_so : (w : World) (byte : ℕ) (after : Machine) (found : Fetched) → found ≡ first → unguarded found.instr byte found.next w.machine ≡ Some after →
-      unguarded found.instr byte found.next (with_top image w).machine ≡ Some after
-  goes_so w byte after found same =
-      subst (λ (x : Fetched). unguarded x.instr byte x.next w.machine ≡ Some after → unguarded x.instr byte x.next (with_top image w).machine ≡ Some after) (sym same) (λ h. h)
+  free_here : (w : World) (b : Before w) (e_found : Fetched) → fetched_anywhere w.machine.memory w.machine.cpu.pc ≡ Some e_found → uses_sp e_found.instr ≡ false
+  free_here w b found h = ap (λ (x : Fetched). uses_sp x.instr) (found_there w b found h) ∙ free w b
 
-  executes_so : (w v : World) → Before w → Executes image.regions Anywhere w v → Executes image.regions Anywhere (with_top image w) v
-  executes_so w v b e = record {
+  goes_before : (w v : World) → Before w → (e : Executes image.regions Anywhere w v) → (sets : Bool) → sets_sp e.found.instr ≡ sets →
+      Before v ⊎ OnBoard image.regions Anywhere set v
+  goes_before w v b e true sets = inr (executed (with_top image w) v b.on (record {
     found = e.found;
     byte = e.byte;
     after = e.after;
     fetched = e.fetched;
     small = e.small;
     inside = λ listed. record { stores = (e.inside listed).stores; jumps = (e.inside listed).jumps };
-    goes = goes_so w e.byte e.after e.found (found_first w b e.found e.fetched) e.goes;
+    goes = goes_set image e.found.instr e.byte e.found.next w.machine e.after sets e.goes;
     is = e.is;
-  }
+  }))
+  goes_before w v b e false unset =
+      let p = promise_there w b in
+      let there : HasAt image w.machine.cpu.pc e.found = subst (HasAt image w.machine.cpu.pc) (sym (found_there w b e.found e.fetched)) p.of_image in
+      let off : uses_sp e.found.instr ≡ false = free_here w b e.found e.fetched in
+      let on : IsUnset image e.after.cpu.pc =
+      goes_on w.machine.cpu.pc e.found e.after.cpu.pc b.unset there unset (leads_by image.regions e.found.instr e.byte e.found.next w.machine e.after off (e.inside tt) e.goes) in
+      inl (record {
+        unset = subst (λ (x : World). IsUnset image x.machine.cpu.pc) (sym e.is) on;
+        on = executed (with_top image w) (with_top image v) b.on (record {
+          found = e.found;
+          byte = e.byte;
+          after = set_machine image e.after;
+          fetched = e.fetched;
+          small = e.small;
+          inside = λ listed. record { stores = (e.inside listed).stores; jumps = (e.inside listed).jumps };
+          goes = goes_free image e.found.instr e.byte e.found.next w.machine e.after off unset e.goes;
+          is = ap (with_top image) e.is;
+        });
+      })
 
   pub reaches : (w : World) → OnBoard image.regions Anywhere m w → Before w ⊎ OnBoard image.regions Anywhere set w
-  reaches w (begins _ is) = inl (subst Before (sym is) (record { pc = s.pc; on = begins (world_of set) refl }))
+  reaches w (begins _ is) = inl (subst Before (sym is) (record { unset = starts m.cpu.pc s.pc; on = begins (world_of set) refl }))
   reaches w (disturbed v _ on by) = goes (reaches v on)
     where
       goes : Before v ⊎ OnBoard image.regions Anywhere set v → Before w ⊎ OnBoard image.regions Anywhere set w
       goes (inl b) = inl (subst Before (sym by.is) (record {
-        pc = b.pc;
+        unset = b.unset;
         on = disturbed (with_top image v) (with_memory (with_top image v) by.memory) b.on (record { memory = by.memory; leaves = by.leaves; is = refl });
       }))
       goes (inr there) = inr (disturbed v w there by)
   reaches w (executed v _ on by) = goes (reaches v on)
     where
       goes : Before v ⊎ OnBoard image.regions Anywhere set v → Before w ⊎ OnBoard image.regions Anywhere set w
-      goes (inl b) = inr (executed (with_top image v) w b.on (executes_so v w b by))
+      goes (inl b) = goes_before v w b by (sets_sp by.found.instr) refl
       goes (inr there) = inr (executed v w there by)
-
-  no_return : (w : World) (b : Before w) (found : Fetched) → found ≡ first → returns found.instr w.machine.cpu.registers.flags ≡ true → ⊥
-  no_return w b found same taken = true≢false (sym (subst (λ (x : Fetched). returns x.instr w.machine.cpu.registers.flags ≡ true) same taken))
 
   keeps_before : (w : World) → Before w → KeepsPromise image bytes w
   keeps_before w b =
@@ -98,13 +187,14 @@ module _ (image : Located) (bytes : ℕ) (promise : (start : Machine) → IsStar
         of_image = p.of_image;
         direct = p.direct;
         declared = p.declared;
-        returning = λ taken. absurd (no_return w b p.found (is_first w b) taken);
-        stack = subst (λ (x : Fetched). All (λ address. IsJustBelow (top_of image.regions) bytes address) (stack_bytes x.instr w.machine.cpu)) (sym (is_first w b)) (All-nil (λ address. IsJustBelow (top_of image.regions) bytes address));
+        returning = λ taken. absurd (true≢false (sym taken ∙ never_returns p.found.instr w.machine.cpu.registers.flags (free w b)));
+        stack = subst (λ (xs : List ℕ). All (λ address. IsJustBelow (top_of image.regions) bytes address) xs) (sym (touches_none p.found.instr w.machine.cpu (free w b)))
+            (All-nil (λ address. IsJustBelow (top_of image.regions) bytes address));
         ends = λ byte none. ends_by_halt p.found.instr byte p.found.next w.machine none;
       }
 
-  pub keeps_promise_first : (w : World) → OnBoard image.regions Anywhere m w → KeepsPromise image bytes w
-  keeps_promise_first w on = by (reaches w on)
+  pub keeps_promise_unset : (w : World) → OnBoard image.regions Anywhere m w → KeepsPromise image bytes w
+  keeps_promise_unset w on = by (reaches w on)
     where
       by : Before w ⊎ OnBoard image.regions Anywhere set w → KeepsPromise image bytes w
       by (inl b) = keeps_before w b
@@ -114,19 +204,29 @@ module _ (image : Located) (bytes : ℕ) (promise : (start : Machine) → IsStar
   module _ (steps : (start : Machine) → IsStart image start → (w v : World) → OnBoard image.regions Anywhere start w → (e : Executes image.regions Anywhere w v) → IsGuarded image.regions w.machine e.after) where
     guarded_before : (w v : World) → Before w → (e : Executes image.regions Anywhere w v) → IsGuarded image.regions w.machine e.after
     guarded_before w v b e =
-        let u : Machine = record w.machine { inputs = [] } in
-        let same : e.found ≡ first = found_first w b e.found e.fetched in
-        let fetched : fetch image.regions w.machine.memory w.machine.cpu.pc ≡ Some first = (promise_there w b).inside ∙ ap (λ (x : Fetched). Some x) (is_first w b) in
+        let p = promise_there w b in
+        let same : e.found ≡ p.found = found_there w b e.found e.fetched in
+        let off : uses_sp e.found.instr ≡ false = free_here w b e.found e.fetched in
+        let g = bridges image.regions e.found.instr e.byte e.found.next w.machine e.after e.small (e.inside tt).jumps e.goes in
+        let u : Machine = record w.machine { inputs = g.inputs } in
+        let direct : All (λ address. in_data image.regions address ≡ true) (direct_bytes e.found.instr) =
+        subst (λ (x : Fetched). All (λ address. in_data image.regions address ≡ true) (direct_bytes x.instr)) (sym same) p.direct in
+        let nothing : guard image.regions e.found.instr w.machine.cpu ≡ None =
+        guard_says_nothing image.regions e.found.instr w.machine.cpu (touches_none e.found.instr w.machine.cpu off)
+        (none_of (in_data image.regions) (direct_bytes e.found.instr) direct)
+        (none_of (in_data image.regions) (pointed_bytes e.found.instr w.machine.cpu.registers) (e.inside tt).stores) in
+        let fetched : fetch image.regions w.machine.memory w.machine.cpu.pc ≡ Some e.found = p.inside ∙ ap (λ (x : Fetched). Some x) (sym same) in
         record {
-          inputs = [];
-          bytes = All-nil (All (λ byte. byte < 256));
-          there = proceeded (Lxi Sp (top_of image.regions)) s.next u;
-          step = ap (λ (o : Option Fetched). step_on image.regions false o u) fetched;
-          is = same_machine (subst (λ (x : Fetched). unguarded x.instr e.byte x.next w.machine ≡ Some e.after) same e.goes);
+          inputs = g.inputs;
+          bytes = g.bytes;
+          there = g.there;
+          step = ap (λ (o : Option Fetched). step_on image.regions false o u) fetched
+              ∙ ap (λ (o : Option End). guarded image.regions o false e.found u) nothing ∙ g.executes;
+          is = g.is;
         }
 
-    pub steps_are_guarded_first : (w v : World) → OnBoard image.regions Anywhere m w → (e : Executes image.regions Anywhere w v) → IsGuarded image.regions w.machine e.after
-    steps_are_guarded_first w v on e = by (reaches w on)
+    pub steps_are_guarded_unset : (w v : World) → OnBoard image.regions Anywhere m w → (e : Executes image.regions Anywhere w v) → IsGuarded image.regions w.machine e.after
+    steps_are_guarded_unset w v on e = by (reaches w on)
       where
         by : Before w ⊎ OnBoard image.regions Anywhere set w → IsGuarded image.regions w.machine e.after
         by (inl b) = guarded_before w v b e
@@ -137,13 +237,17 @@ module _ (image : Located) (bytes : ℕ) (promise : (start : Machine) → IsStar
     walks_before : (w : World) → Before w → KeepsToWalks image w
     walks_before w b =
         let k = walks set is_start (with_top image w) b.on in
+        let p = promise_there w b in
         record {
           stands = record { reached = k.stands.reached; found = k.stands.found; looked = k.stands.looked; fetched = k.stands.fetched };
-          returning = λ found fetched taken. absurd (no_return w b found (found_is (sym fetched ∙ (promise_there w b).inside) ∙ is_first w b) taken);
+          returning = λ found fetched taken.
+              let same : found ≡ p.found = found_is (sym fetched ∙ p.inside) in
+              let off : uses_sp found.instr ≡ false = ap (λ (x : Fetched). uses_sp x.instr) same ∙ free w b in
+              absurd (true≢false (sym taken ∙ never_returns found.instr w.machine.cpu.registers.flags off));
         }
 
-    pub keeps_to_walks_first : (w : World) → OnBoard image.regions Anywhere m w → KeepsToWalks image w
-    keeps_to_walks_first w on = by (reaches w on)
+    pub keeps_to_walks_unset : (w : World) → OnBoard image.regions Anywhere m w → KeepsToWalks image w
+    keeps_to_walks_unset w on = by (reaches w on)
       where
         by : Before w ⊎ OnBoard image.regions Anywhere set w → KeepsToWalks image w
         by (inl b) = walks_before w b
@@ -154,16 +258,16 @@ module _ (image : Located) (bytes : ℕ) (promise : (start : Machine) → IsStar
 pub promise_kept : (image : Located) (bytes : ℕ) → ((start : Machine) → IsStart image start → (w : World) → OnBoard image.regions Anywhere start w → KeepsPromise image bytes w) →
     (start : Machine) → MayStart image start → (w : World) → OnBoard image.regions Anywhere start w → KeepsPromise image bytes w
 promise_kept image bytes promise start (inl is) w on = promise start is w on
-promise_kept image bytes promise start (inr s) w on = keeps_promise_first image bytes promise start s w on
+promise_kept image bytes promise start (inr s) w on = keeps_promise_unset image bytes promise start s w on
 
 pub steps_guarded : (image : Located) (bytes : ℕ) → ((start : Machine) → IsStart image start → (w : World) → OnBoard image.regions Anywhere start w → KeepsPromise image bytes w) →
     ((start : Machine) → IsStart image start → (w v : World) → OnBoard image.regions Anywhere start w → (e : Executes image.regions Anywhere w v) → IsGuarded image.regions w.machine e.after) →
     (start : Machine) → MayStart image start → (w v : World) → OnBoard image.regions Anywhere start w → (e : Executes image.regions Anywhere w v) → IsGuarded image.regions w.machine e.after
 steps_guarded image bytes promise steps start (inl is) w v on e = steps start is w v on e
-steps_guarded image bytes promise steps start (inr s) w v on e = steps_are_guarded_first image bytes promise start s steps w v on e
+steps_guarded image bytes promise steps start (inr s) w v on e = steps_are_guarded_unset image bytes promise start s steps w v on e
 
 pub walks_kept : (image : Located) (bytes : ℕ) → ((start : Machine) → IsStart image start → (w : World) → OnBoard image.regions Anywhere start w → KeepsPromise image bytes w) →
     ((start : Machine) → IsStart image start → (w : World) → OnBoard image.regions Anywhere start w → KeepsToWalks image w) →
     (start : Machine) → MayStart image start → (w : World) → OnBoard image.regions Anywhere start w → KeepsToWalks image w
 walks_kept image bytes promise walks start (inl is) w on = walks start is w on
-walks_kept image bytes promise walks start (inr s) w on = keeps_to_walks_first image bytes promise start s walks w on
+walks_kept image bytes promise walks start (inr s) w on = keeps_to_walks_unset image bytes promise start s walks w on

@@ -45,6 +45,18 @@ pub record Ground (regions : Areas) : Type 0 where
   pub code_or_stack : (a : ℕ) → in_code regions a ≡ true → in_range regions.stack a ≡ false
   pub data_or_stack : (a : ℕ) → in_data regions a ≡ true → in_range regions.stack a ≡ false
 
+-- so are the regions of every image, by the laws of regions
+pub ground_of : ((areas : Areas) (a : ℕ) → AreRegions areas → in_code areas a ≡ true → in_data areas a ≡ false) →
+    ((areas : Areas) (a : ℕ) → AreRegions areas → in_code areas a ≡ true → in_range areas.stack a ≡ false) →
+    ((areas : Areas) (a : ℕ) → AreRegions areas → in_data areas a ≡ true → in_range areas.stack a ≡ false) →
+    (regions : Areas) → AreRegions regions → Ground regions
+ground_of code_or_data code_or_stack data_or_stack regions rules = record {
+  rules = rules;
+  code_or_data = λ a. code_or_data regions a rules;
+  code_or_stack = λ a. code_or_stack regions a rules;
+  data_or_stack = λ a. data_or_stack regions a rules;
+}
+
 stack_not_data : (regions : Areas) (a : ℕ) → Ground regions → in_range regions.stack a ≡ true → in_data regions a ≡ false
 stack_not_data regions a ground stack = elim (cases_Bool (in_data regions a)) [
   | inl e ↦ absurd (true≢false (sym stack ∙ ground.data_or_stack a e))

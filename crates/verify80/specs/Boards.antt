@@ -2,12 +2,15 @@
 -- before each instruction any other byte may have become any byte (devices in the memory map, DMA, cells with two addresses), IN brings
 -- any byte, OUT is taken, PCHL goes where HL says, and a store changes the byte that it names, wherever that is. (Intel 8080
 -- Microcomputer Systems User's Manual, chapter 2: memory-mapped I/O and DMA. That the board is an adversary is this project's own.)
-use Rattle.std.specs.Prelude.{◌≡◌, ◌⊎◌, ℕ, ◌<◌, ◌≤◌, true, false, List, Option, None, Some, IsSome, All, length, slice_index}
+use Rattle.std.specs.Prelude.{◌≡◌, ◌⊎◌, ℕ, ◌<◌, ◌≤◌, Bool, true, false, List, Option, None, Some, IsSome, All, length, slice_index}
 use Rattle.std.specs.Result.{result_ok}
 use Rattle.decode80.specs.declared.instr.Instr.{Instr}
-use Rattle.decode80.specs.declared.instr.Instr.TheVariants.{Lxi, Hlt, In, Out, Pchl}
+use Rattle.decode80.specs.declared.instr.Instr.TheVariants.{Lxi, Dad, Inx, Dcx, Sphl, Push, Pop, Xthl, Call, CallIf, Ret, ReturnIf, Rst, Hlt, In, Out, Pchl}
 use Rattle.decode80.specs.declared.pair.Pair.TheVariants.{Sp}
 use Rattle.decode80.specs.declared.fetching.Fetched.{Fetched}
+use Rattle.decode80.specs.declared.flow.Flow.{Flow}
+use Rattle.decode80.specs.declared.flow.Flow.TheVariants.{Continues, Jumps, JumpsIf, JumpsToHl, Calls, CallsIf, Returns, ReturnsIf, Pushes, Pops, Exchanges, Halts}
+use Rattle.decode80.specs.Facts.{flow}
 use Rattle.decode80.specs.Fetch.{direct_bytes, fetch as fetch_in}
 use Rattle.image80.specs.Range.{in_range}
 use Rattle.image80.specs.Regions.{Areas, AreRegions, in_code, in_data, targets_at, top_of}
@@ -78,19 +81,67 @@ pub data OnBoard (regions : Areas) (listed : ℕ → Type 0) (start : Machine) :
 abbrev pub Anywhere : ℕ → Type 0
 Anywhere address = Unit {0}
 
--- a machine at the image's start, of which the first instruction sets the stack pointer to the stack's top: SP may be anything
-pub record SetsStackFirst (image : Located) (m : Machine) : Type 0 where
+-- whether an instruction sets SP to a word of its own, and whether what it does depends on what SP is
+abbrev pub sets_sp : Instr → Bool
+sets_sp (Lxi Sp _) = true
+sets_sp _ = false
+
+abbrev pub uses_sp : Instr → Bool
+uses_sp (Dad Sp) = true
+uses_sp (Inx Sp) = true
+uses_sp (Dcx Sp) = true
+uses_sp Sphl = true
+uses_sp (Push _) = true
+uses_sp (Pop _) = true
+uses_sp Xthl = true
+uses_sp (Call _) = true
+uses_sp (CallIf _ _) = true
+uses_sp Ret = true
+uses_sp (ReturnIf _) = true
+uses_sp (Rst _) = true
+uses_sp _ = false
+
+-- where an instruction at an address leads that uses no stack: to the next one, to an address, to either, or to a declared target
+abbrev pub GoesBy : Areas → (at : ℕ) → Flow → (next to : ℕ) → Type 0
+GoesBy regions at Continues next to = to ≡ next
+GoesBy regions at (Jumps address) next to = to ≡ address
+GoesBy regions at (JumpsIf _ address) next to = (to ≡ next) ⊎ (to ≡ address)
+GoesBy regions at JumpsToHl next to = leads_outside (targets_at regions at) to ≡ false
+GoesBy regions at (Calls _) next to = ⊥
+GoesBy regions at (CallsIf _ _) next to = ⊥
+GoesBy regions at Returns next to = ⊥
+GoesBy regions at (ReturnsIf _) next to = ⊥
+GoesBy regions at Pushes next to = ⊥
+GoesBy regions at Pops next to = ⊥
+GoesBy regions at Exchanges next to = ⊥
+GoesBy regions at Halts next to = ⊥
+
+-- the image has an instruction at an address
+abbrev pub HasAt : Located → (at : ℕ) → Fetched → Type 0
+HasAt image at found = fetch image.regions (memory_of image.chunks) at ≡ Some found
+
+-- the addresses that the main program may reach before it has set SP
+pub data IsUnset (image : Located) : ℕ → Type 0 where
+  starts : (at : ℕ) → at ≡ image.start → IsUnset image at
+  goes_on : (at : ℕ) (found : Fetched) (to : ℕ) → IsUnset image at → HasAt image at found → sets_sp found.instr ≡ false →
+      GoesBy image.regions at (flow found.instr) found.next to → IsUnset image to
+
+-- on each way the main program sets SP before it uses it
+abbrev pub SetsStack : Located → Type 0
+SetsStack image = (at : ℕ) (found : Fetched) → IsUnset image at → HasAt image at found → uses_sp found.instr ≡ false
+
+-- a machine at the image's start, SP being anything, if the program sets it before it uses it
+pub record StartsUnset (image : Located) (m : Machine) : Type 0 where
   pub pc : m.cpu.pc ≡ image.start
   pub whole : length m.memory ≡ 65536
   pub code : (address : ℕ) → in_code image.regions address ≡ true →
       slice_index m.memory address ≡ slice_index (memory_of image.chunks) address
-  pub next : ℕ
-  pub first : fetch image.regions (memory_of image.chunks) image.start ≡ Some (record { instr = Lxi Sp (top_of image.regions); next = next })
+  pub sets : SetsStack image
 
--- a machine on which a run on a board may begin: at the image's start, with SP at the stack's top, or before the instruction that sets
--- it so; its other memory, its registers and its flags are whatever they are
+-- a machine on which a run on a board may begin: at the image's start, with SP at the stack's top, or anywhere if the program sets it
+-- before it uses it; its other memory, its registers and its flags are whatever they are
 abbrev pub MayStart : Located → Machine → Type 0
-MayStart image m = IsStart image m ⊎ SetsStackFirst image m
+MayStart image m = IsStart image m ⊎ StartsUnset image m
 
 -- what is promised of a world on a board: its next instruction is fetched inside code, and is the image's; it stores directly to data
 -- alone; a PCHL has declared targets; if it is a return that is taken, it goes to the place after the newest call that has not returned;

@@ -5,9 +5,9 @@
 //! | Item | What it is |
 //! |---|---|
 //! | [`verify`] | a report on an image, or why it is refused |
-//! | [`verify_and_keep`], [`Verified`] | a report with the image's memory and the map of its regions, for a run |
+//! | [`verify_and_keep`], [`Verified`] | a report with the points that walks reach, the image's memory and the map of its regions |
 //! | [`measure`] | a report on an image, however small its stack is |
-//! | [`Report`], [`ProcRow`] | what is found of an image that is accepted |
+//! | [`Report`], [`ProcRow`], [`ProgramPoint`] | what is found of an image that is accepted |
 //! | [`Refusal`] | why an image is refused |
 //! | [`ImageCode`] | an image as the verifier looks at it, address by address |
 //! | [`looks_are_exact`] | what the analysis sees of an image, as a contract |
@@ -29,5 +29,5 @@ pub use promise::{
     images_never_go_wrong_from_power_on, promise_is_kept_on_boards, runs_begin_from_power_on,
     walks_are_kept_on_boards,
 };
-pub use verify80_flow::{ProcRow, Refusal, Report};
+pub use verify80_flow::{ProcRow, ProgramPoint, Refusal, Report};
 pub use verifying::{Verified, measure, verify, verify_and_keep};

@@ -3,18 +3,21 @@
 ghost use Rattle.std.specs.Prelude.{IfOk, IfErr};
 ghost use Rattle.verify80_flow.specs.Accepted.{IsAccepted, IsMeasured};
 ghost use Rattle.verify80_flow.specs.Faults.{Holds, HoldsAnyway};
+ghost use Rattle.verify80_flow.specs.ProgramPoints.{ArePoints};
 ghost use Rattle.verify80.specs.Kept.{IsKept};
 ghost use Rattle.verify80.specs.Looking.{code_of};
 
 use crate::image_code::ImageCode;
 use image80::{Image, RegionMap};
 use std::alloc::Global;
-use verify80_flow::{Refusal, Report, analyze};
+use verify80_flow::{Analysis, ProgramPoint, Refusal, Report, analyze};
 
 /// What is found of an image that is accepted, with its memory and the map of its regions.
 #[derive(Drop)]
 pub struct Verified {
     pub report: Report,
+    /// The points that walks reach, by procedure and address.
+    pub points: Vec<ProgramPoint>,
     /// The image's memory: 65536 bytes by address.
     pub memory: Vec<u8>,
     /// Which region each address is in.
@@ -52,7 +55,8 @@ pub fn measure(alloc: Global, image: &Image) -> Result<Report, Refusal>
     ensures refused { IfErr result (HoldsAnyway (code_of image.now)) }
 {
     let code = ImageCode::new(alloc, image)?;
-    verify80_flow::measure(alloc, &code)
+    let found = verify80_flow::measure(alloc, &code)?;
+    Ok(found.report)
 }
 
 /// Verifies an image, as [`verify`] does, and keeps what was made of it, so that a run needn't make it once more.
@@ -62,14 +66,16 @@ pub fn measure(alloc: Global, image: &Image) -> Result<Report, Refusal>
 pub fn verify_and_keep(alloc: Global, image: &Image) -> Result<Verified, Refusal>
     ensures accepted { IfOk result (λ verified.
         IsAccepted (code_of image.now) verified.report.procedures.items verified.report.stack_bytes) }
+    ensures points { IfOk result (λ verified. ArePoints (code_of image.now) verified.points.items) }
     ensures kept { IfOk result (λ verified. IsKept image.now verified.memory.items verified.map) }
     ensures refused { IfErr result (Holds (code_of image.now)) }
 {
     let code = ImageCode::new(alloc, image)?;
-    let report = analyze(alloc, &code)?;
+    let Analysis { report, points } = analyze(alloc, &code)?;
     let (memory, map) = code.into_parts();
     Ok(Verified {
         report,
+        points,
         memory,
         map,
     })

@@ -1,10 +1,6 @@
-pub mod WalkLemmas
-pub mod RowLemmas
-pub mod SearchLemmas
+pub mod PointLemmas
 pub mod CallLemmas
-pub mod ReachWalkLemmas
-pub mod ReachRowLemmas
-pub mod ReachSearchLemmas
+pub mod ReachedLemmas
 pub mod BoundLemmas
 pub mod ChainLemmas
 pub mod NodeLemmas

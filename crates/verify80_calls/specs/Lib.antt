@@ -6,7 +6,4 @@ pub mod Laws
 pub mod ListText
 pub mod GraphText
 -- what the crate's own functions promise one another: no public contract cites these
-pub mod Counts
-pub mod Ways
-pub mod Search
-pub mod ReachSearch
+pub mod Points

@@ -1,20 +1,16 @@
 //! The calls of a procedure.
 
-ghost use Rattle.std.specs.Prelude.{◌≡◌, ◌+◌, IfOk, OnOk};
-ghost use Rattle.verify80_flow.specs.FittingLaws.{NoFault};
+ghost use Rattle.std.specs.Prelude.{◌≡◌, IfOk};
+ghost use Rattle.std.specs.List.{filter_map};
 ghost use Rattle.verify80.specs.Looking.{code_of};
 ghost use Rattle.verify80_calls.specs.Calls.{AreCalls};
-ghost use Rattle.verify80_calls.specs.Counts.{depth_in};
-ghost use Rattle.verify80_calls.specs.Search.{AreCallsBelow, ArePoints};
-ghost use Rattle.verify80_calls.specs.Ways.{called_by};
+ghost use Rattle.verify80_calls.specs.Points.{call_at, called_by};
 
-use crate::points::Point;
-use crate::rows::occurs;
-use crate::search::explore;
-use frames80::{Effect, effect_of};
+use crate::points::points_of;
+use frames80::{Code, Effect, depth_by, effect_of, role_of};
 use loader80::Vouched;
 use std::alloc::{AllocError, Global};
-use verify80::ImageCode;
+use verify80::{ImageCode, ProgramPoint};
 use verify80_flow::{Procedure, fitting_tables_cover_walks};
 
 /// A call of a procedure.
@@ -41,65 +37,55 @@ pub fn find_calls(
 ) -> Result<Vec<Call>, AllocError>
     ensures { IfOk result (λ calls. AreCalls (code_of vouched.now.image) procedure calls.items) }
 {
-    fitting_tables_cover_walks();
-    let rows = vouched.rows();
     let code = ImageCode::new(alloc, vouched.image())?;
-    if !occurs(rows, procedure) {
-        return Ok(Vec::new(alloc));
-    }
-    let points = explore(alloc, &code, rows, procedure)?;
-    calls_at(alloc, &code, procedure, &points)
+    calls_among(alloc, vouched, &code, procedure)
 }
 
-/// The calls at these points of a procedure.
+/// The calls of a procedure of a vouched image, whose code is at hand.
+///
+/// # Errors
+/// `AllocError` if memory runs out.
+pub(crate) fn calls_among(
+    alloc: Global,
+    vouched: &Vouched,
+    code: &ImageCode,
+    procedure: Procedure,
+) -> Result<Vec<Call>, AllocError>
+    requires { code.now ≡ vouched.now.image }
+    ensures { IfOk result (λ calls. AreCalls (code_of vouched.now.image) procedure calls.items) }
+{
+    fitting_tables_cover_walks();
+    calls_at(alloc, code, points_of(vouched.points(), procedure))
+}
+
+/// The calls at points.
+///
+/// # Errors
+/// `AllocError` if memory runs out.
 fn calls_at(
     alloc: Global,
     code: &ImageCode,
-    procedure: Procedure,
-    points: &[Option<Point>],
+    points: &[ProgramPoint],
 ) -> Result<Vec<Call>, AllocError>
-    requires sound { NoFault (code_of code.now) }
-    requires points { ArePoints (code_of code.now) procedure points.now }
-    ensures { IfOk result (λ calls. AreCalls (code_of code.now) procedure calls.items) }
+    ensures { IfOk result (λ calls. calls.items ≡ filter_map (call_at (code_of code.now)) points.now) }
 {
-    let mut calls = Vec::new(alloc);
-    for address in 0..65_536_u32 {
-        append_call(&mut calls, code, procedure, points, address as u16)?;
-    }
-    Ok(calls)
+    points
+        .iter()
+        .filter_map(|point| call_at(code, point))
+        .collect(alloc)
 }
 
-/// Appends the call at an address, if there is one.
-fn append_call(
-    calls: &mut Vec<Call>,
-    code: &ImageCode,
-    procedure: Procedure,
-    points: &[Option<Point>],
-    at: u16,
-) -> Result<(), AllocError>
-    requires sound { NoFault (code_of code.now) }
-    requires points { ArePoints (code_of code.now) procedure points.now }
-    requires below { AreCallsBelow (code_of code.now) procedure at calls.old.items }
-    ensures { OnOk result (AreCallsBelow (code_of code.now) procedure (at + 1) calls.new.items) }
+/// The call at a point, if its instruction calls.
+fn call_at(code: &ImageCode, point: &ProgramPoint) -> Option<Call>
+    ensures { result ≡ call_at (code_of code.now) point.now }
 {
-    let Some(point) = points[usize::from(at)] else {
-        return Ok(());
-    };
-    let Some(target) = target_of(effect_of(point.found.instr)) else {
-        return Ok(());
-    };
-    calls.push(call_at(procedure, point, at, target))?;
-    Ok(())
-}
-
-/// The call of an address at a point of a procedure.
-fn call_at(procedure: Procedure, point: Point, at: u16, target: u16) -> Call
-    ensures at { result.at ≡ at }
-    ensures depth { result.depth ≡ depth_in procedure point.counts }
-    ensures target { result.target ≡ target }
-{
-    let depth = point.counts.depth(procedure);
-    Call { at, depth, target }
+    let found = code.look(point.at).ok()?;
+    let target = target_of(effect_of(found.instr))?;
+    Some(Call {
+        at: point.at,
+        depth: depth_by(role_of(code, point.procedure), point.words, point.taken),
+        target,
+    })
 }
 
 /// The address that an effect calls.

@@ -7,8 +7,7 @@
 //! | [`find_calls`] | the calls of a procedure, with its depth at each |
 //! | [`Call`] | a call: where it stands, how deep the stack is there, and what it calls |
 //! | [`Procedure`] | the main program, or one that a call reaches |
-//! | [`find_reached`] | goes over an image from its start on |
-//! | [`Reached`] | the instruction at each address that a walk reaches |
+//! | [`find_reached`], [`Reached`] | the instruction at each address that a walk reaches |
 //! | [`CallGraph`], [`Node`] | the procedures of a program, each with its bound and its calls |
 //! | [`list_text`] | a line for each procedure, and one for each of its calls |
 //! | [`graph_text`] | the same as a graph for Graphviz |
@@ -16,15 +15,11 @@
 #![tactic(auto)]
 
 mod calls;
-mod counts;
 mod graph;
 mod points;
-mod reach;
-mod rows;
-mod search;
-mod ways;
+mod reached;
 
 pub use calls::{Call, find_calls};
 pub use graph::{CallGraph, Node, bounds_are_made_of_chains, graph_text, list_text};
-pub use reach::{Reached, find_reached};
+pub use reached::{Reached, find_reached};
 pub use verify80_flow::Procedure;

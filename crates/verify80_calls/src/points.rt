@@ -1,11 +1,19 @@
-//! The points of a procedure.
+//! The points of a procedure, among those of a program.
 
-use crate::counts::Counts;
-use decode80::Fetched;
+ghost use Rattle.frames80.specs.Code.{Code};
+ghost use Rattle.verify80_flow.specs.ProgramPoints.{ArePoints};
+ghost use Rattle.verify80_calls.specs.Points.{ArePointsOf};
 
-/// What is known at an address of a procedure: its instruction, and the counts of the frame there.
-#[derive(Clone, Copy, Debug)]
-pub(crate) struct Point {
-    pub(crate) found: Fetched,
-    pub(crate) counts: Counts,
+use frames80::{Procedure, slot};
+use verify80::ProgramPoint;
+
+/// The points of a procedure among those of a program, which are by procedure and address. The time grows with the logarithm of
+/// their number.
+pub(crate) fn points_of(points: &[ProgramPoint], procedure: Procedure) -> &[ProgramPoint]
+    ensures { (code : Code) → ArePoints code points.now → ArePointsOf code procedure result.now }
+{
+    let first = points.partition_point(|point| slot(point.procedure) < slot(procedure));
+    let rest = &points[first..];
+    let count = rest.partition_point(|point| slot(point.procedure) <= slot(procedure));
+    &rest[..count]
 }

@@ -15,5 +15,6 @@ pub mod PigeonLemmas
 pub mod GraphLemmas
 pub mod RefusedLemmas
 pub mod AcceptLemmas
+pub mod ProgramPointLemmas
 pub mod MeasureLemmas
 pub mod WalkedLemmas

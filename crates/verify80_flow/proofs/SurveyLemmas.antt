@@ -44,7 +44,7 @@ below_more count i point xs there other less is before here = elim (split i coun
     same o x y one two = cc
 
 -- no two procedures have one slot
-slot_apart : (p q : Procedure) → slot_of p ≡ slot_of q → p ≡ q
+pub slot_apart : (p q : Procedure) → slot_of p ≡ slot_of q → p ≡ q
 slot_apart Main Main e = refl
 slot_apart Main (Entry b) e = absurd (omega arith)
 slot_apart (Entry a) Main e = absurd (omega arith)

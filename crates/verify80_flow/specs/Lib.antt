@@ -5,6 +5,7 @@ pub mod Faults
 pub mod Fitting
 pub mod Rows
 pub mod FittingLaws
+pub mod ProgramPoints
 pub mod Accepted
 -- what the crate's own functions promise one another: no public contract cites these
 pub mod Points

@@ -1,14 +1,16 @@
 //! The whole analysis of a program.
 
 ghost use Rattle.std.specs.Prelude.{◌≡◌, IfOk, IfErr, IfSome};
-ghost use Rattle.verify80_flow.specs.Accepted.{IsAccepted, IsMeasured};
+ghost use Rattle.verify80_flow.specs.Accepted.{IsAccepted, IsAnalysis, IsMeasured};
 ghost use Rattle.verify80_flow.specs.Faults.{Holds, HoldsAnyway};
 ghost use Rattle.verify80_flow.specs.Known.{IsFilled, Refused, is_exact, nothing_known};
+ghost use Rattle.verify80_flow.specs.ProgramPoints.{ArePoints};
 
 use crate::fill::fill;
 use crate::laws::frame_laws;
+use crate::program_points::list_points;
 use crate::refusal::Refusal;
-use crate::report::Report;
+use crate::report::{Analysis, Report};
 use crate::rows::list_rows;
 use crate::stack::bound_stack;
 use crate::table::Table;
@@ -21,21 +23,23 @@ use verify80_hints::{AskedPlaces, find_steps};
 /// How many visits a program gets at first, beside those for each of its points.
 const FIRST_VISITS: u64 = 20_000;
 
-/// Goes over every walk of every procedure of a program, and reports on its procedures and its stack. A program of which a
-/// refusal holds isn't accepted, and one of which none holds is refused only if memory runs out.
+/// Goes over every walk of every procedure of a program, and reports on its procedures and its stack, and on the points that walks
+/// reach. A program of which a refusal holds isn't accepted, and one of which none holds is refused only if memory runs out.
 ///
 /// # Errors
 /// A refusal that holds, or `Memory`.
-pub fn analyze<C: Code>(alloc: Global, program: &C) -> Result<Report, Refusal>
-    ensures accepted { IfOk result (λ r. IsAccepted (C.code program.now) r.procedures.items r.stack_bytes) }
+pub fn analyze<C: Code>(alloc: Global, program: &C) -> Result<Analysis, Refusal>
+    ensures accepted { IfOk result (λ found. IsAccepted (C.code program.now) found.report.procedures.items found.report.stack_bytes) }
+    ensures points { IfOk result (λ found. ArePoints (C.code program.now) found.points.items) }
     ensures refused { IfErr result (Holds (C.code program.now)) }
 {
-    let report = measure(alloc, program)?;
+    let found = measure(alloc, program)?;
     let stack = program.stack();
-    if report.stack_bytes > u64::from(stack) {
-        return Err(Refusal::StackTooSmall(report.stack_bytes, stack));
+    let needed = found.report.stack_bytes;
+    if needed > u64::from(stack) {
+        return Err(Refusal::StackTooSmall(needed, stack));
     }
-    Ok(report)
+    Ok(found)
 }
 
 /// Goes over a program as [`analyze`] does, and reports on it however small its stack is: on one too that is refused for nothing
@@ -43,23 +47,24 @@ pub fn analyze<C: Code>(alloc: Global, program: &C) -> Result<Report, Refusal>
 ///
 /// # Errors
 /// A refusal that holds, but never `StackTooSmall`; or `Memory`.
-pub fn measure<C: Code>(alloc: Global, program: &C) -> Result<Report, Refusal>
-    ensures measured { IfOk result (λ r. IsMeasured (C.code program.now) r.procedures.items r.stack_bytes) }
+pub fn measure<C: Code>(alloc: Global, program: &C) -> Result<Analysis, Refusal>
+    ensures measured { IfOk result (λ found. IsMeasured (C.code program.now) found.report.procedures.items found.report.stack_bytes) }
+    ensures points { IfOk result (λ found. ArePoints (C.code program.now) found.points.items) }
     ensures refused { IfErr result (HoldsAnyway (C.code program.now)) }
 {
-    if let Some(report) = measure_soon(alloc, program)? {
-        return Ok(report);
+    if let Some(found) = measure_soon(alloc, program)? {
+        return Ok(found);
     }
-    if let Some(report) = measure_asked(alloc, program)? {
-        return Ok(report);
+    if let Some(found) = measure_asked(alloc, program)? {
+        return Ok(found);
     }
     refuse_return(alloc, program)?;
     measure_whole(alloc, program)
 }
 
 /// Measures a program if a few visits of each point are enough.
-fn measure_soon<C: Code>(alloc: Global, program: &C) -> Result<Option<Report>, Refusal>
-    ensures measured { IfOk result (λ r. IfSome r (λ r. IsMeasured (C.code program.now) r.procedures.items r.stack_bytes)) }
+fn measure_soon<C: Code>(alloc: Global, program: &C) -> Result<Option<Analysis>, Refusal>
+    ensures found { IfOk result (λ found. IfSome found (IsAnalysis (C.code program.now))) }
     ensures refused { IfErr result (HoldsAnyway (C.code program.now)) }
 {
     let mut table = Table::new(alloc, program, None, FIRST_VISITS)?;
@@ -68,8 +73,8 @@ fn measure_soon<C: Code>(alloc: Global, program: &C) -> Result<Option<Report>, R
 
 /// Measures a program by frames that have forgotten what no return asks for. It is unanswered if a return has another word, which may
 /// be for what was forgotten.
-fn measure_asked<C: Code>(alloc: Global, program: &C) -> Result<Option<Report>, Refusal>
-    ensures measured { IfOk result (λ r. IfSome r (λ r. IsMeasured (C.code program.now) r.procedures.items r.stack_bytes)) }
+fn measure_asked<C: Code>(alloc: Global, program: &C) -> Result<Option<Analysis>, Refusal>
+    ensures found { IfOk result (λ found. IfSome found (IsAnalysis (C.code program.now))) }
     ensures refused { IfErr result (HoldsAnyway (C.code program.now)) }
 {
     let asked = AskedPlaces::find(alloc, program)?;
@@ -82,13 +87,13 @@ fn fill_asked_and_report<C: Code>(
     alloc: Global,
     program: &C,
     table: &mut Table,
-) -> Result<Option<Report>, Refusal>
+) -> Result<Option<Analysis>, Refusal>
     requires { table.old.known ≡ nothing_known table.old.known.forgets }
-    ensures measured { IfOk result (λ r. IfSome r (λ r. IsMeasured (C.code program.now) r.procedures.items r.stack_bytes)) }
+    ensures found { IfOk result (λ found. IfSome found (IsAnalysis (C.code program.now))) }
     ensures refused { IfErr result (HoldsAnyway (C.code program.now)) }
 {
     match fill_and_report(alloc, program, table) {
-        Ok(report) => Ok(report),
+        Ok(found) => Ok(found),
         Err(refusal) if refusal.rests_on_a_word() => Ok(None),
         Err(refusal) => Err(refusal),
     }
@@ -103,8 +108,8 @@ fn refuse_return<C: Code>(alloc: Global, program: &C) -> Result<(), Refusal>
 }
 
 /// Measures a program, however many visits it takes.
-fn measure_whole<C: Code>(alloc: Global, program: &C) -> Result<Report, Refusal>
-    ensures measured { IfOk result (λ r. IsMeasured (C.code program.now) r.procedures.items r.stack_bytes) }
+fn measure_whole<C: Code>(alloc: Global, program: &C) -> Result<Analysis, Refusal>
+    ensures found { IfOk result (IsAnalysis (C.code program.now)) }
     ensures refused { IfErr result (HoldsAnyway (C.code program.now)) }
 {
     let mut table = Table::new(alloc, program, None, u64::MAX)?;
@@ -116,9 +121,9 @@ fn fill_whole_and_report<C: Code>(
     alloc: Global,
     program: &C,
     table: &mut Table,
-) -> Result<Report, Refusal>
+) -> Result<Analysis, Refusal>
     requires { table.old.known ≡ nothing_known table.old.known.forgets }
-    ensures measured { IfOk result (λ r. IsMeasured (C.code program.now) r.procedures.items r.stack_bytes) }
+    ensures found { IfOk result (IsAnalysis (C.code program.now)) }
     ensures refused { IfErr result (Refused (is_exact table.old.known.forgets) (C.code program.now)) }
 {
     fill(program, table, false)?;
@@ -130,9 +135,9 @@ fn fill_and_report<C: Code>(
     alloc: Global,
     program: &C,
     table: &mut Table,
-) -> Result<Option<Report>, Refusal>
+) -> Result<Option<Analysis>, Refusal>
     requires { table.old.known ≡ nothing_known table.old.known.forgets }
-    ensures measured { IfOk result (λ r. IfSome r (λ r. IsMeasured (C.code program.now) r.procedures.items r.stack_bytes)) }
+    ensures found { IfOk result (λ found. IfSome found (IsAnalysis (C.code program.now))) }
     ensures refused { IfErr result (Refused (is_exact table.old.known.forgets) (C.code program.now)) }
 {
     if !fill(program, table, true)? {
@@ -142,16 +147,20 @@ fn fill_and_report<C: Code>(
 }
 
 /// Reports on a program whose table is filled.
-fn report_on<C: Code>(alloc: Global, program: &C, table: &Table) -> Result<Report, Refusal>
+fn report_on<C: Code>(alloc: Global, program: &C, table: &Table) -> Result<Analysis, Refusal>
     requires { IsFilled (C.code program.now) table.now.known }
-    ensures measured { IfOk result (λ r. IsMeasured (C.code program.now) r.procedures.items r.stack_bytes) }
+    ensures found { IfOk result (IsAnalysis (C.code program.now)) }
     ensures refused { IfErr result (Refused (is_exact table.now.known.forgets) (C.code program.now)) }
 {
     frame_laws();
     let wants = find_wants(alloc, table)?;
     let bounds = bound_stack(alloc, program, table, &wants)?;
-    Ok(Report {
+    let report = Report {
         procedures: list_rows(alloc, table, &wants, &bounds)?,
         stack_bytes: bounds.get(Procedure::Main),
+    };
+    Ok(Analysis {
+        report,
+        points: list_points(alloc, table)?,
     })
 }

@@ -10,6 +10,7 @@
 //! | [`Refusal`] | why a program is refused |
 //! | [`fitting_tables_cover_walks`] | if a table of frames fits, no walk is at a fault, as a contract |
 //! | [`Report`], [`ProcRow`] | what is found of a program that is accepted |
+//! | [`Analysis`], [`ProgramPoint`] | a report with the points that walks reach |
 #![tactic(auto)]
 
 mod analysis;
@@ -17,6 +18,7 @@ mod fill;
 mod fitting;
 mod laws;
 mod points;
+mod program_points;
 mod refusal;
 mod report;
 mod rows;
@@ -31,4 +33,4 @@ pub use analysis::{analyze, measure};
 pub use fitting::fitting_tables_cover_walks;
 pub use frames80::Procedure;
 pub use refusal::Refusal;
-pub use report::{ProcRow, Report};
+pub use report::{Analysis, ProcRow, ProgramPoint, Report};

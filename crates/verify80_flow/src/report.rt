@@ -1,5 +1,7 @@
 //! What the verifier finds out about an image that it accepts.
 
+use frames80::Procedure;
+
 /// A procedure that a call or RST reaches.
 #[derive(Clone, Copy, Debug, PartialEq, Eq)]
 pub struct ProcRow {
@@ -24,4 +26,26 @@ pub struct Report {
     /// The greatest sum over chains of calls from the main program: what each caller has on the stack, its return address,
     /// and what the last procedure has.
     pub stack_bytes: u64,
+}
+
+/// A point that walks reach: an address of a procedure, and how many words its frame has there, the same on each walk.
+#[derive(Clone, Copy, Debug, PartialEq, Eq)]
+pub struct ProgramPoint {
+    /// The procedure.
+    pub procedure: Procedure,
+    /// The address.
+    pub at: u16,
+    /// How many words the procedure has on the stack. One that is called begins with one, its return address.
+    pub words: u32,
+    /// How many words it has taken from beneath its return address.
+    pub taken: u32,
+}
+
+/// All that is found of a program.
+#[derive(Debug, Drop)]
+pub struct Analysis {
+    /// The report.
+    pub report: Report,
+    /// The points that walks reach: by procedure, the main program first, then by entry, and by address.
+    pub points: Vec<ProgramPoint>,
 }

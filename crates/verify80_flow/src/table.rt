@@ -11,6 +11,7 @@ ghost use Rattle.frames80.specs.StackFrame.{entry_frame, main_frame};
 ghost use Rattle.frames80_interned.specs.Admitted.{move_of};
 ghost use Rattle.frames80_interned.specs.Frames.{frame_at, IsFrame, StayNumbered};
 ghost use Rattle.verify80_flow.specs.Survey.{EffectIsAt, IsEntered};
+ghost use Rattle.verify80_flow.specs.ProgramPoints.{program_point};
 ghost use Rattle.frames80.specs.Code.{role_of};
 
 mod leading;
@@ -18,6 +19,7 @@ mod leading;
 use crate::laws::frame_laws;
 use crate::points::Points;
 use crate::refusal::Refusal;
+use crate::report::ProgramPoint;
 use crate::site::Site;
 use frames80::{CallFault, Change, Code, Effect, Procedure, Role, effect_of, role_of};
 use frames80_interned::{FrameId, Frames, MeetFault};
@@ -357,6 +359,21 @@ impl Table {
         ensures { IfSome (slice_get self.now.known.points i) (λ point. result ≡ point.frame.taken) }
     {
         self.frames().taken(self.points.frame(i))
+    }
+
+    /// What is kept of the point that stands at `i`.
+    pub(crate) fn program_point(&self, i: usize) -> ProgramPoint
+        requires { i < length self.now.known.points }
+        ensures { IfSome (slice_get self.now.known.points i) (λ point. result ≡ program_point point) }
+    {
+        let (procedure, at) = self.points.place(i);
+        let frame = self.points.frame(i);
+        ProgramPoint {
+            procedure,
+            at,
+            words: self.frames().words(frame),
+            taken: self.frames().taken(frame),
+        }
     }
 
     /// The frames by number.

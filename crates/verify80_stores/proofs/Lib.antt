@@ -15,3 +15,4 @@ pub mod FollowLemmas
 pub mod StepPairs
 pub mod WayLemmas
 pub mod KeepLemmas
+pub mod StackLemmas

@@ -13,4 +13,5 @@ pub mod Fitting
 pub mod Runs
 -- what the crate's own functions promise one another: no public contract cites these
 pub mod Kinds
+pub mod StackPointer
 pub mod Listing

@@ -1,6 +1,6 @@
 -- What is printed of the stores of a program. (The text of an instruction is that of the Intel 8080 Assembly Language Programming
 -- Manual; the lines are this project's own.)
-use Rattle.std.specs.Prelude.{ℕ, ◌-◌, List, [], ◌∷◌, ◌++◌, length, codes}
+use Rattle.std.specs.Prelude.{ℕ, ◌-◌, Bool, true, false, List, [], ◌∷◌, ◌++◌, length, codes}
 use Rattle.std.specs.Fmt.{decimal}
 use Rattle.std.specs.List.{flat_map}
 use Rattle.text80.specs.Digits.{word_text}
@@ -20,7 +20,13 @@ store_line store =
 abbrev pub jump_line : ℕ → List ℕ
 jump_line at = codes "JUMP " ++ (word_text at ++ 10 ∷ [])
 
+-- the line of a program that may use SP before it is set
+abbrev pub stack_line : (sets_stack : Bool) → List ℕ
+stack_line true = []
+stack_line false = codes "SP NOT SET\n"
+
 -- all lines
-abbrev pub stores_text_of : (addresses : List ℕ) → (open_stores : List OpenStore) → (jumps : List ℕ) → List ℕ
-stores_text_of addresses open_stores jumps =
-    count_line (length addresses - length open_stores) (length addresses) ++ flat_map store_line open_stores ++ flat_map jump_line jumps
+abbrev pub stores_text_of : (sets_stack : Bool) → (addresses : List ℕ) → (open_stores : List OpenStore) → (jumps : List ℕ) → List ℕ
+stores_text_of sets_stack addresses open_stores jumps =
+    count_line (length addresses - length open_stores) (length addresses)
+    ++ (stack_line sets_stack ++ flat_map store_line open_stores ++ flat_map jump_line jumps)

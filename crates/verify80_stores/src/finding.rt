@@ -1,9 +1,10 @@
 //! The stores of a program.
 
-ghost use Rattle.std.specs.Prelude.{◌≡◌, ◌<◌, ◌≤◌, ℕ, Some, IfOk, length};
+ghost use Rattle.std.specs.Prelude.{◌≡◌, ◌<◌, ◌≤◌, ℕ, Some, IfOk, length, true};
 ghost use Rattle.verify80_flow.specs.Rows.{AreRows};
 ghost use Rattle.image80.specs.Image.{memory_of};
 ghost use Rattle.verify80.specs.Looking.{code_of};
+ghost use Rattle.verify80.specs.Boards.{SetsStack};
 ghost use Rattle.verify80_calls.specs.Reached.{AreReached};
 ghost use Rattle.verify80_stores.specs.Bytes.{HasBytes};
 ghost use Rattle.verify80_stores.specs.Pairs.{anything};
@@ -17,6 +18,7 @@ use crate::fitting::{fits, fitting_pairs_hold, mark_returning};
 use crate::laws::watched_runs_go_as_listed;
 use crate::listing::{Kind, addresses_of, open_stores};
 use crate::spans::{Pairs, bytes_stay_bytes, pairs_follow};
+use crate::stack_pointer::sets_stack;
 use crate::stores::Stores;
 use crate::widening::{ReachedProgram, propose};
 use decode80::Fetched;
@@ -55,6 +57,7 @@ pub fn find_stores(alloc: Global, vouched: &Vouched) -> Result<Stores, AllocErro
         AreStoresOf vouched.now.image stores.addresses.items stores.open.items stores.jumps.items) }
     ensures boards { IfOk result (λ stores.
         PromiseHoldsOnBoards vouched.now.image vouched.now.stack_bytes stores.open.items stores.jumps.items) }
+    ensures stack { IfOk result (λ stores. stores.sets_stack ≡ true → SetsStack vouched.now.image) }
     ensures watched { IfOk result (λ stores. WatchedRunsGoAsListed vouched.now.image stores.open.items stores.jumps.items) }
 {
     runs_of(vouched);
@@ -73,6 +76,7 @@ pub fn find_stores(alloc: Global, vouched: &Vouched) -> Result<Stores, AllocErro
         addresses,
         open,
         jumps,
+        sets_stack: sets_stack(alloc, image)?,
     })
 }
 

@@ -29,6 +29,7 @@ mod lines;
 mod listing;
 mod pointer;
 mod spans;
+mod stack_pointer;
 mod stores;
 mod widening;
 

@@ -10,17 +10,20 @@ use std::alloc::{AllocError, Global};
 use text80::word_digits;
 
 /// The lines of a program's stores: how many of its register-indirect stores are shown to stay in data, of how many, such as
-/// `STORES 11 OF 12`; each of the others, such as `STORE 011E MOV M,A 0000 FFFF`, with the first and the last address that it may
+/// `STORES 11 OF 12`; `SP NOT SET` unless the program sets SP on each way before it uses it; each of the other stores, such as `STORE 011E MOV M,A 0000 FFFF`, with the first and the last address that it may
 /// have; and each PCHL, such as `JUMP 0065`.
 ///
 /// # Errors
 /// `AllocError` only if memory runs out.
 pub fn stores_text(alloc: Global, stores: &Stores) -> Result<Vec<u8>, AllocError>
     ensures { IfOk result (λ text.
-        text.items ≡ stores_text_of stores.now.addresses.items stores.now.open.items stores.now.jumps.items) }
+        text.items ≡ stores_text_of stores.now.sets_stack stores.now.addresses.items stores.now.open.items stores.now.jumps.items) }
 {
     let all = stores.addresses.len();
     let mut text = count_text(alloc, all.saturating_sub(stores.open.len()), all)?;
+    if !stores.sets_stack {
+        text.extend_from_slice(b"SP NOT SET\n".as_slice())?;
+    }
     append_stores(alloc, &mut text, &stores.open)?;
     append_jumps(&mut text, &stores.jumps)?;
     Ok(text)

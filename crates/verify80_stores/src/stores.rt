@@ -12,6 +12,8 @@ pub struct Stores {
     pub open: Vec<OpenStore>,
     /// The address of each PCHL.
     pub jumps: Vec<u16>,
+    /// Whether the program sets SP on each way before it uses it.
+    pub sets_stack: bool,
 }
 
 /// A register-indirect store that isn't shown to stay in data. It may be harmless.

@@ -4,10 +4,12 @@ ghost use Rattle.std.specs.Prelude.{◌≡◌, ◌++◌, All, IfOk, OnOk, map};
 ghost use Rattle.verify80.specs.Looking.{code_of};
 ghost use Rattle.verify80_calls.specs.Nodes.{HasItsCalls, IsNodeOf, heading_of, headings, main_heading, row_heading};
 
-use crate::{Call, Procedure, find_calls};
+use crate::calls::calls_among;
+use crate::{Call, Procedure};
 use loader80::{ProcRow, Vouched};
 use std::alloc::{AllocError, Global};
 use std::marker::Model;
+use verify80::ImageCode;
 
 /// A procedure with its bound and its calls.
 #[derive(Debug, Drop)]
@@ -46,9 +48,10 @@ impl CallGraph {
         ensures procedures { IfOk result (λ graph. map heading_of graph ≡ headings vouched.now) }
         ensures calls { IfOk result (λ graph. All (HasItsCalls (code_of vouched.now.image)) graph) }
     {
+        let code = ImageCode::new(alloc, vouched.image())?;
         let mut nodes = Vec::new(alloc);
-        nodes.push(main_node(alloc, vouched)?)?;
-        append_nodes(alloc, vouched, vouched.rows(), &mut nodes)?;
+        nodes.push(main_node(alloc, vouched, &code)?)?;
+        append_nodes(alloc, vouched, &code, vouched.rows(), &mut nodes)?;
         Ok(CallGraph { nodes })
     }
 
@@ -61,7 +64,8 @@ impl CallGraph {
 }
 
 /// The main program.
-fn main_node(alloc: Global, vouched: &Vouched) -> Result<Node, AllocError>
+fn main_node(alloc: Global, vouched: &Vouched, code: &ImageCode) -> Result<Node, AllocError>
+    requires { code.now ≡ vouched.now.image }
     ensures heading { IfOk result (λ node. heading_of node ≡ main_heading vouched.now) }
     ensures calls { IfOk result (HasItsCalls (code_of vouched.now.image)) }
 {
@@ -69,12 +73,18 @@ fn main_node(alloc: Global, vouched: &Vouched) -> Result<Node, AllocError>
         procedure: Procedure::Main,
         address: vouched.image().start,
         bound: vouched.stack_bytes(),
-        calls: find_calls(alloc, vouched, Procedure::Main)?,
+        calls: calls_among(alloc, vouched, code, Procedure::Main)?,
     })
 }
 
 /// The procedure of a row.
-fn row_node(alloc: Global, vouched: &Vouched, row: &ProcRow) -> Result<Node, AllocError>
+fn row_node(
+    alloc: Global,
+    vouched: &Vouched,
+    code: &ImageCode,
+    row: &ProcRow,
+) -> Result<Node, AllocError>
+    requires { code.now ≡ vouched.now.image }
     ensures heading { IfOk result (IsNodeOf row.now) }
     ensures calls { IfOk result (HasItsCalls (code_of vouched.now.image)) }
 {
@@ -83,7 +93,7 @@ fn row_node(alloc: Global, vouched: &Vouched, row: &ProcRow) -> Result<Node, All
         procedure,
         address: row.entry,
         bound: row.bound,
-        calls: find_calls(alloc, vouched, procedure)?,
+        calls: calls_among(alloc, vouched, code, procedure)?,
     })
 }
 
@@ -91,16 +101,18 @@ fn row_node(alloc: Global, vouched: &Vouched, row: &ProcRow) -> Result<Node, All
 fn append_nodes(
     alloc: Global,
     vouched: &Vouched,
+    code: &ImageCode,
     rows: &[ProcRow],
     nodes: &mut Vec<Node>,
 ) -> Result<(), AllocError>
-    requires { All (HasItsCalls (code_of vouched.now.image)) nodes.old.items }
+    requires code { code.now ≡ vouched.now.image }
+    requires calls { All (HasItsCalls (code_of vouched.now.image)) nodes.old.items }
     ensures headings { OnOk result
         (map heading_of nodes.new.items ≡ map heading_of nodes.old.items ++ map row_heading rows.now) }
     ensures calls { OnOk result (All (HasItsCalls (code_of vouched.now.image)) nodes.new.items) }
 {
     for row in rows {
-        nodes.push(row_node(alloc, vouched, row)?)?;
+        nodes.push(row_node(alloc, vouched, code, row)?)?;
     }
     Ok(())
 }

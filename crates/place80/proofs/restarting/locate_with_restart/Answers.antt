@@ -1,8 +1,8 @@
-use Rattle.std.proofs.Common.{◌<◌, ◌∙◌, ap, sym, subst, List}
+use Rattle.std.proofs.Common.{◌<◌, ◌∙◌, ◌∷◌, ◌++◌, [], ap, sym, subst, List}
 use Rattle.std.specs.List.{AllByRecursion}
 use Rattle.place80.specs.declared.placed_segments.Placed.{Placed}
 use Rattle.place80.specs.PlaceFault.{first_sharing}
-use Rattle.place80.specs.Restart.{restart_pairs}
+use Rattle.place80.specs.Restart.{restart_chunk, restart_pairs}
 use Rattle.place80.proofs.LocatingLemmas.{laid_fit}
 use Rattle.place80.proofs.RestartLemmas.{none_beside, restart_memory}
 use Rattle.place80.proofs.restarting.locate_with_restart.Goals as goal
@@ -18,7 +18,12 @@ with_restart-requires-clause-apart c =
     (ap (λ (l : List Placed). first_sharing (restart_pairs c.args.program.now l)) (c.deref-in-None.ensures.value ∙ sym c.deref.ensures.value)
     ∙ sym c.first_over_restart.ensures ∙ c.in-None.is)
 
-pub returns-in_ok-with_restart-in-None-clause-memory : goal.returns-in_ok-with_restart-in-None-clause-memory
-returns-in_ok-with_restart-in-None-clause-memory c =
-    restart_memory c.args.options.now c.args.program.now c.in_ok-image.image.start c.in_ok-with_restart-in-None.field-0.start c.in_ok-image.image.chunks c.in_ok-with_restart-in-None.field-0.chunks
-    c.in_ok-with_restart-in-None.ensures.chunks c.in_ok-with_restart-in-None.ensures.start c.in_ok-image.ensures.memory
+pub returns-in_ok-with_restart-in-None-clause-restart : goal.returns-in_ok-with_restart-in-None-clause-restart
+returns-in_ok-with_restart-in-None-clause-restart c = record {
+  start = c.in_ok-image.image.start;
+  goes = sym c.in_ok-image.ensures.start;
+  are = c.in_ok-with_restart-in-None.ensures.chunks ∙ ap (λ chunks. chunks ++ restart_chunk c.in_ok-image.image.start ∷ []) c.in_ok-image.ensures.chunks;
+  memory =
+      restart_memory c.args.options.now c.args.program.now c.in_ok-image.image.start c.in_ok-image.image.chunks c.in_ok-with_restart-in-None.field-0.chunks
+      c.in_ok-with_restart-in-None.ensures.chunks c.in_ok-image.ensures.memory;
+}

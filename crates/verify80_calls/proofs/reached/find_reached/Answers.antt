@@ -1,0 +1,31 @@
+use Rattle.std.proofs.Common.{◌≡◌, ◌+◌, ◌∙◌, Option, None, Some, refl, sym, subst, arith, slice_set, rules}
+use Rattle.std.specs.Prelude.{result_ok}
+use Rattle.image80.specs.Image.{Located}
+use Rattle.verify80.specs.Looking.{code_of}
+use Rattle.verify80_calls.proofs.ReachedLemmas.{AreNoted, all_noted, none_noted, one_noted}
+use Rattle.verify80_calls.proofs.reached.find_reached.Goals as goal
+
+-- what no Some is, is None
+none_of : {X : Type 0} (Is : Option X → Type 0) → ((x : X) → Is (Some x) → ⊥) → (y : Option X) → Is y → y ≡ None
+none_of Is none None is = refl
+none_of Is none (Some x) is = absurd (none x is)
+
+pub loop-point-init : goal.loop-point-init
+loop-point-init c = none_noted (code_of c.args.vouched.now.image) c.points-points.result.now c.in_ok-table.table.items (c.in_ok-table.ensures.items_if_clones_equal (none_of _ (λ x is. is)))
+
+pub loop-point-preserved : goal.loop-point-preserved
+loop-point-preserved c =
+    let image = c.args.vouched.now.image in
+    let same : c.in_ok-code.code ≡ image = c.in_ok-code.ensures ∙ c.image.ensures.image in
+    let accepted = c.points-points.ensures.vouched.accepted in
+    let none = c.fitting_tables_cover_walks.ensures.no_fault (code_of image) accepted.fitted.table accepted.fitted.fits in
+    let points = c.points-points.result.now in
+    let i = c.loop-point.point-index in
+    let table = c.loop-point.table.items in
+    let point = c.next-in-Some.result.now in
+    rw c.note.ensures
+    (subst (λ (im : Located). AreNoted (code_of image) points (i + 1) (slice_set table point.at (result_ok ((code_of im).look point.at)))) (sym same)
+    (one_noted (code_of image) none points c.points-points.ensures.points i table point (search rules) (search rules) c.loop-point.invariant))
+
+pub returns : goal.returns
+returns c = all_noted (code_of c.args.vouched.now.image) c.points-points.result.now c.points-points.ensures.points c.loop-point.table.items c.loop-point.invariant

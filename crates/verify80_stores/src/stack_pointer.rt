@@ -1,0 +1,223 @@
+//! Whether a program sets SP before it uses it.
+//!
+//! The addresses that the main program may reach with SP not set are searched, and nothing rests on how: that none is forgotten is
+//! looked at address by address.
+
+ghost use Rattle.std.specs.Prelude.{◌≡◌, true, length, IfOk};
+ghost use Rattle.image80.specs.Image.{Located};
+ghost use Rattle.decode80.specs.Facts.{flow};
+ghost use Rattle.verify80.specs.Boards.{GoesBy, HasAt, SetsStack, sets_sp, uses_sp};
+ghost use Rattle.verify80_stores.specs.StackPointer.{AreClosed, IsClosedAt, LeadsToMarked, is_marked};
+
+use decode80::{Fetched, Flow, Instr, Pair, fetch};
+use image80::{Image, Regions};
+use std::alloc::{AllocError, Global};
+use verify80::ImageCode;
+
+/// Whether the main program of an image sets SP, on each way, before an instruction uses it. If it does, SP may be anything where a
+/// run begins.
+///
+/// # Errors
+/// `AllocError` if memory runs out.
+pub(crate) fn sets_stack(alloc: Global, image: &Image) -> Result<bool, AllocError>
+    ensures { IfOk result (λ sets. sets ≡ true → SetsStack image.now) }
+{
+    let code = ImageCode::new(alloc, image)?;
+    let marks = find_unset(alloc, &code, &image.regions, image.start)?;
+    Ok(marks[usize::from(image.start)] && are_closed(&code, &image.regions, &marks))
+}
+
+/// Whether each marked address is closed.
+fn are_closed(code: &ImageCode, regions: &Regions, marks: &[bool]) -> bool
+    requires regions { regions.now ≡ code.now.regions }
+    requires whole { length marks.now ≡ 65536 }
+    ensures { result ≡ true → AreClosed code.now marks.now 65536 }
+{
+    for address in 0..65_536_u32 {
+        let at = address as u16;
+        if marks[usize::from(at)] && !is_closed(code, regions, marks, at) {
+            return false;
+        }
+    }
+    true
+}
+
+/// Whether the instruction at an address doesn't use SP, and, unless it sets it, leads to marked addresses alone. If no instruction is
+/// there, nothing is wanted.
+fn is_closed(code: &ImageCode, regions: &Regions, marks: &[bool], at: u16) -> bool
+    requires regions { regions.now ≡ code.now.regions }
+    requires whole { length marks.now ≡ 65536 }
+    ensures { result ≡ true → IsClosedAt code.now marks.now at }
+{
+    match fetch(at, code) {
+        Ok(found) if uses_sp(found.instr) => false,
+        Ok(found) => sets_sp(found.instr) || leads_to_marked(regions, marks, at, found),
+        Err(_) => true,
+    }
+}
+
+/// Whether each address to which an instruction leads is marked.
+fn leads_to_marked(regions: &Regions, marks: &[bool], at: u16, found: Fetched) -> bool
+    requires { length marks.now ≡ 65536 }
+    ensures { result ≡ true → LeadsToMarked regions.now marks.now at (flow found.instr) found.next }
+{
+    match found.instr.flow() {
+        Flow::Continues => is_marked(marks, found.next),
+        Flow::Jumps(to) => is_marked(marks, to),
+        Flow::JumpsIf(_, to) => is_marked(marks, found.next) && is_marked(marks, to),
+        Flow::JumpsToHl => targets_are_marked(regions, marks, at),
+        Flow::Calls(_)
+        | Flow::CallsIf(_, _)
+        | Flow::Returns
+        | Flow::ReturnsIf(_)
+        | Flow::Pushes
+        | Flow::Pops
+        | Flow::Exchanges
+        | Flow::Halts => true,
+    }
+}
+
+/// Whether targets are declared for an address, and each is marked.
+fn targets_are_marked(regions: &Regions, marks: &[bool], at: u16) -> bool
+    requires { length marks.now ≡ 65536 }
+    ensures { result ≡ true → LeadsToMarked regions.now marks.now at JumpsToHl 0 }
+{
+    match regions.targets(at) {
+        Some(targets) => targets.iter().all(|target| is_marked(marks, *target)),
+        None => false,
+    }
+}
+
+/// Whether an address is marked.
+fn is_marked(marks: &[bool], at: u16) -> bool
+    requires { length marks.now ≡ 65536 }
+    ensures { result ≡ is_marked marks.now at }
+{
+    marks[usize::from(at)]
+}
+
+/// Whether an instruction sets SP to a word of its own.
+fn sets_sp(instr: Instr) -> bool
+    ensures { result ≡ sets_sp instr }
+{
+    matches!(instr, Instr::Lxi(Pair::Sp, _))
+}
+
+/// Whether what an instruction does depends on SP.
+fn uses_sp(instr: Instr) -> bool
+    ensures { result ≡ uses_sp instr }
+{
+    matches!(
+        instr,
+        Instr::Dad(Pair::Sp)
+            | Instr::Inx(Pair::Sp)
+            | Instr::Dcx(Pair::Sp)
+            | Instr::Sphl
+            | Instr::Push(_)
+            | Instr::Pop(_)
+            | Instr::Xthl
+            | Instr::Call(_)
+            | Instr::CallIf(_, _)
+            | Instr::Ret
+            | Instr::ReturnIf(_)
+            | Instr::Rst(_)
+    )
+}
+
+/// The addresses that are found, and those of them that are still to be followed.
+#[derive(Drop)]
+struct Search {
+    marks: Vec<bool>,
+    queue: Vec<u16>,
+}
+
+/// The addresses that the main program may reach before it has set SP, marked by address.
+///
+/// # Errors
+/// `AllocError` if memory runs out.
+fn find_unset(
+    alloc: Global,
+    code: &ImageCode,
+    regions: &Regions,
+    start: u16,
+) -> Result<Vec<bool>, AllocError>
+    ensures { IfOk result (λ marks. length marks.items ≡ 65536) }
+{
+    let mut search = Search {
+        marks: vec![in alloc; false; 65536]?,
+        queue: Vec::new(alloc),
+    };
+    search.enter(start)?;
+    // Each address is entered once.
+    for _ in 0..65_536 {
+        let Some(at) = search.queue.pop() else {
+            break;
+        };
+        search.follow(code, regions, at)?;
+    }
+    Ok(search.marks)
+}
+
+impl Search {
+    /// Marks an address that isn't marked, and notes it to be followed.
+    ///
+    /// # Errors
+    /// `AllocError` if memory runs out.
+    fn enter(&mut self, at: u16) -> Result<(), AllocError>
+        requires { length self.old.marks.items ≡ 65536 }
+        ensures { length self.new.marks.items ≡ 65536 }
+    {
+        if !self.marks[usize::from(at)] {
+            self.marks[usize::from(at)] = true;
+            self.queue.push(at)?;
+        }
+        Ok(())
+    }
+
+    /// Enters each address to which the instruction at an address leads, unless it sets SP.
+    ///
+    /// # Errors
+    /// `AllocError` if memory runs out.
+    fn follow(&mut self, code: &ImageCode, regions: &Regions, at: u16) -> Result<(), AllocError>
+        requires { length self.old.marks.items ≡ 65536 }
+        ensures { length self.new.marks.items ≡ 65536 }
+    {
+        let Ok(found) = fetch(at, code) else {
+            return Ok(());
+        };
+        if sets_sp(found.instr) {
+            return Ok(());
+        }
+        match found.instr.flow() {
+            Flow::Continues => self.enter(found.next),
+            Flow::Jumps(to) => self.enter(to),
+            Flow::JumpsIf(_, to) => {
+                self.enter(found.next)?;
+                self.enter(to)
+            }
+            Flow::JumpsToHl => self.enter_all(regions.targets(at).unwrap_or(&[])),
+            Flow::Calls(_)
+            | Flow::CallsIf(_, _)
+            | Flow::Returns
+            | Flow::ReturnsIf(_)
+            | Flow::Pushes
+            | Flow::Pops
+            | Flow::Exchanges
+            | Flow::Halts => Ok(()),
+        }
+    }
+
+    /// Enters addresses.
+    ///
+    /// # Errors
+    /// `AllocError` if memory runs out.
+    fn enter_all(&mut self, targets: &[u16]) -> Result<(), AllocError>
+        requires { length self.old.marks.items ≡ 65536 }
+        ensures { length self.new.marks.items ≡ 65536 }
+    {
+        for target in targets {
+            self.enter(*target)?;
+        }
+        Ok(())
+    }
+}
