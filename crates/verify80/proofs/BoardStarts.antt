@@ -5,7 +5,7 @@ use Rattle.std.proofs.Common.{◌∙◌, ap, sym, subst, inl, inr, true≢false}
 use Rattle.std.proofs.lemmas.List.Elements.{All-nil}
 use Rattle.decode80.specs.declared.condition.Condition.{Condition}
 use Rattle.decode80.specs.declared.instr.Instr.{Instr}
-use Rattle.decode80.specs.declared.instr.Instr.TheVariants.{Lxi, Dad, Inx, Dcx, Jmp, JumpIf, Hlt, In, Out, Pchl}
+use Rattle.decode80.specs.declared.instr.Instr.TheVariants.{Lxi, Dad, Inx, Dcx, Sphl, Push, Pop, Xthl, Call, CallIf, Ret, ReturnIf, Rst, JumpIf, Hlt, In, Out, Pchl}
 use Rattle.decode80.specs.declared.pair.Pair.TheVariants.{Bc, De, Hl, Sp}
 use Rattle.decode80.specs.declared.fetching.Fetched.{Fetched}
 use Rattle.decode80.specs.Facts.{flow}
@@ -56,10 +56,16 @@ free_of_sp image (Dad Bc) next m free unset = refl
 free_of_sp image (Dad De) next m free unset = refl
 free_of_sp image (Dad Hl) next m free unset = refl
 free_of_sp image (Dad Sp) next m free unset = absurd (cc)
-free_of_sp image i next m free unset = by_case i free
-  where
-    by_case : (i : Instr) → uses_sp i ≡ false → proceeded i next (set_machine image m) ≡ set_machine image (proceeded i next m)
-    by_case i free = refl
+free_of_sp image Sphl next m free unset = absurd (cc)
+free_of_sp image (Push pair) next m free unset = absurd (cc)
+free_of_sp image (Pop pair) next m free unset = absurd (cc)
+free_of_sp image Xthl next m free unset = absurd (cc)
+free_of_sp image (Call to) next m free unset = absurd (cc)
+free_of_sp image (CallIf condition to) next m free unset = absurd (cc)
+free_of_sp image Ret next m free unset = absurd (cc)
+free_of_sp image (ReturnIf condition) next m free unset = absurd (cc)
+free_of_sp image (Rst number) next m free unset = absurd (cc)
+free_of_sp image i next m free unset = refl
 
 goes_free : (image : Located) (i : Instr) (byte next : ℕ) (m after : Machine) → uses_sp i ≡ false → sets_sp i ≡ false → unguarded i byte next m ≡ Some after →
     unguarded i byte next (set_machine image m) ≡ Some (set_machine image after)
@@ -76,9 +82,19 @@ goes_set image (Lxi Sp n) byte next m after sets h = h
 goes_set image i byte next m after sets h = absurd (cc)
 
 never_returns : (i : Instr) (flags : Flags) → uses_sp i ≡ false → returns i flags ≡ false
+never_returns Ret flags free = absurd (cc)
+never_returns (ReturnIf condition) flags free = absurd (cc)
 never_returns i flags free = refl
 
 touches_none : (i : Instr) (cpu : Cpu) → uses_sp i ≡ false → stack_bytes i cpu ≡ []
+touches_none (Push pair) cpu free = absurd (cc)
+touches_none (Pop pair) cpu free = absurd (cc)
+touches_none Xthl cpu free = absurd (cc)
+touches_none (Call to) cpu free = absurd (cc)
+touches_none (CallIf condition to) cpu free = absurd (cc)
+touches_none Ret cpu free = absurd (cc)
+touches_none (ReturnIf condition) cpu free = absurd (cc)
+touches_none (Rst number) cpu free = absurd (cc)
 touches_none i cpu free = refl
 
 -- where it leads
@@ -95,6 +111,14 @@ leads_by regions (JumpIf condition to) byte next m after free inside h =
     either : (b : Bool) → ((if b then to else next) ≡ next) ⊎ ((if b then to else next) ≡ to)
     either true = inr refl
     either false = inl refl
+leads_by regions (Push pair) byte next m after free inside h = absurd (cc)
+leads_by regions (Pop pair) byte next m after free inside h = absurd (cc)
+leads_by regions Xthl byte next m after free inside h = absurd (cc)
+leads_by regions (Call to) byte next m after free inside h = absurd (cc)
+leads_by regions (CallIf condition to) byte next m after free inside h = absurd (cc)
+leads_by regions Ret byte next m after free inside h = absurd (cc)
+leads_by regions (ReturnIf condition) byte next m after free inside h = absurd (cc)
+leads_by regions (Rst number) byte next m after free inside h = absurd (cc)
 leads_by regions i byte next m after free inside h = sym (ap (λ (x : Machine). x.cpu.pc) (same_machine h))
 
 -- a guard that has nothing to say
