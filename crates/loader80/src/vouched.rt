@@ -12,8 +12,8 @@ use image80::{Image, RegionMap};
 use std::alloc::Global;
 use std::marker::Model;
 use verify80::{
-    ProcRow, ProgramPoint, Refusal, Verified, fitted_images_never_go_wrong, images_never_go_wrong_from_power_on,
-    verify_and_keep,
+    ProcRow, ProgramPoint, Refusal, Verified, fitted_images_never_go_wrong,
+    images_never_go_wrong_from_power_on, verify_and_keep,
 };
 
 /// An image that was vouched for: the verifier accepts it, so no run of it goes wrong.
