@@ -1,5 +1,6 @@
 -- The calls at the points of a procedure.
-use Rattle.std.specs.Prelude.{◌≡◌, ℕ, zero, suc, ◌<◌, List, [], ◌∷◌, All, AllPairs, Contains, Option, None, Some, Result, Ok, Err, length, result_ok, slice_index_or, refl}
+use Rattle.std.specs.Prelude.{◌≡◌, ℕ, zero, suc, ◌<◌, List, [], ◌∷◌, All, AllPairs, Contains, Option, None, Some, Result, Ok, Err, length, slice_index_or, refl}
+use Rattle.std.specs.Result.{result_ok}
 use Rattle.std.proofs.Common.{◌∙◌, ap, sym, subst, arith}
 use Rattle.std.specs.List.{filter_map, cons_option}
 use Rattle.std.specs.Option.{option_map}
@@ -130,14 +131,14 @@ module _ (code : Code) (none : NoFault code) (p : Procedure) where
   each_call : (points : List ProgramPoint) → All (IsReachedPoint code) points → All (λ (point : ProgramPoint). point.procedure ≡ p) points →
       All (IsCall code p) (filter_map (call_at code) points)
   each_call [] reached own = All-nil (IsCall code p)
-  each_call (point ∷ points) reached own = by (call_at code point) refl
+  each_call (point ∷ points) reached own =
+      by (each_call points (All-tail (IsReachedPoint code) point points reached) (All-tail (λ (x : ProgramPoint). x.procedure ≡ p) point points own))
+      (call_at code point) refl
     where
-      rest : All (IsCall code p) (filter_map (call_at code) points)
-      rest = each_call points (All-tail (IsReachedPoint code) point points reached) (All-tail (λ (x : ProgramPoint). x.procedure ≡ p) point points own)
-
-      by : (o : Option Call) → call_at code point ≡ o → All (IsCall code p) (cons_option o (filter_map (call_at code) points))
-      by None is = rest
-      by (Some call) is =
+      by : All (IsCall code p) (filter_map (call_at code) points) → (o : Option Call) → call_at code point ≡ o →
+          All (IsCall code p) (cons_option o (filter_map (call_at code) points))
+      by rest None is = rest
+      by rest (Some call) is =
           All-cons (IsCall code p) call (filter_map (call_at code) points)
           (is_call point (All-head (IsReachedPoint code) point points reached) (All-head (λ (x : ProgramPoint). x.procedure ≡ p) point points own) call is) rest
 
@@ -156,14 +157,12 @@ module _ (code : Code) (none : NoFault code) (p : Procedure) where
   above : (place : ℕ) (points : List ProgramPoint) → All (λ (point : ProgramPoint). place < point.at) points →
       All (λ (call : Call). place < call.at) (filter_map (call_at code) points)
   above place [] all = All-nil (λ (call : Call). place < call.at)
-  above place (point ∷ points) all = by (call_at code point) refl
+  above place (point ∷ points) all = by (above place points (All-tail (λ (x : ProgramPoint). place < x.at) point points all)) (call_at code point) refl
     where
-      rest : All (λ (call : Call). place < call.at) (filter_map (call_at code) points)
-      rest = above place points (All-tail (λ (x : ProgramPoint). place < x.at) point points all)
-
-      by : (o : Option Call) → call_at code point ≡ o → All (λ (call : Call). place < call.at) (cons_option o (filter_map (call_at code) points))
-      by None is = rest
-      by (Some call) is =
+      by : All (λ (call : Call). place < call.at) (filter_map (call_at code) points) → (o : Option Call) → call_at code point ≡ o →
+          All (λ (call : Call). place < call.at) (cons_option o (filter_map (call_at code) points))
+      by rest None is = rest
+      by rest (Some call) is =
           All-cons (λ (c : Call). place < c.at) call (filter_map (call_at code) points)
           (subst (λ n. place < n) (sym (place_of point call is)) (All-head (λ (x : ProgramPoint). place < x.at) point points all)) rest
 
@@ -176,14 +175,13 @@ module _ (code : Code) (none : NoFault code) (p : Procedure) where
 
   rising : (points : List ProgramPoint) → AllPairs (λ (a b : ProgramPoint). a.at < b.at) points → AllPairs (λ (a b : Call). a.at < b.at) (filter_map (call_at code) points)
   rising [] pairs = λ i j d order inside. absurd (omega (arith, inside))
-  rising (point ∷ points) pairs = by (call_at code point) refl
+  rising (point ∷ points) pairs =
+      by (rising points (λ i j d order inside. pairs (suc i) (suc j) d (omega (arith, order)) (omega (arith, inside)))) (call_at code point) refl
     where
-      rest : AllPairs (λ (a b : Call). a.at < b.at) (filter_map (call_at code) points)
-      rest = rising points (λ i j d order inside. pairs (suc i) (suc j) d (omega (arith, order)) (omega (arith, inside)))
-
-      by : (o : Option Call) → call_at code point ≡ o → AllPairs (λ (a b : Call). a.at < b.at) (cons_option o (filter_map (call_at code) points))
-      by None is = rest
-      by (Some call) is = pairs_cons call (filter_map (call_at code) points)
+      by : AllPairs (λ (a b : Call). a.at < b.at) (filter_map (call_at code) points) → (o : Option Call) → call_at code point ≡ o →
+          AllPairs (λ (a b : Call). a.at < b.at) (cons_option o (filter_map (call_at code) points))
+      by rest None is = rest
+      by rest (Some call) is = pairs_cons call (filter_map (call_at code) points)
           (subst (λ n. All (λ (c : Call). n < c.at) (filter_map (call_at code) points)) (sym (place_of point call is))
           (above point.at points (λ j d less. pairs 0 (suc j) d (omega arith) (omega (arith, less))))) rest
 
@@ -194,14 +192,11 @@ module _ (code : Code) (none : NoFault code) (p : Procedure) where
   contains_call (first ∷ points) zero point call inside here is =
       let e : call_at code first ≡ Some call = ap (call_at code) here ∙ is in
       subst (λ (o : Option Call). Contains (cons_option o (filter_map (call_at code) points)) call) (sym e) (0, omega arith, refl)
-  contains_call (first ∷ points) (suc k) point call inside here is = by (call_at code first)
+  contains_call (first ∷ points) (suc k) point call inside here is = by (contains_call points k point call (omega (arith, inside)) here is) (call_at code first)
     where
-      rest : Contains (filter_map (call_at code) points) call
-      rest = contains_call points k point call (omega (arith, inside)) here is
-
-      by : (o : Option Call) → Contains (cons_option o (filter_map (call_at code) points)) call
-      by None = rest
-      by (Some other) = (suc rest.0, let r = rest.1 in omega (arith, r), rest.2)
+      by : Contains (filter_map (call_at code) points) call → (o : Option Call) → Contains (cons_option o (filter_map (call_at code) points)) call
+      by rest None = rest
+      by rest (Some other) = (suc rest.0, let r = rest.1 in omega (arith, r), rest.2)
 
   -- what is at a point of a walk's call
   call_there : (at : ℕ) (f : StackFrame) (target next : ℕ) → Calls code p at f target next → (point : ProgramPoint) → point.at ≡ at →

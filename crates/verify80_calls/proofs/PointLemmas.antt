@@ -54,10 +54,10 @@ lower_too : (m n place : ℕ) → m ≤ n → nat_le n place ≡ true → nat_le
 lower_too m n place order less = grind (arith, nat_tests)
 
 not_less : (m n : ℕ) → nat_lt m n ≡ false → n ≤ m
-not_less m n no = grind (arith, nat_tests)
+not_less m n wrong = grind (arith, nat_tests)
 
 at_most : (m n : ℕ) → nat_le m n ≡ true → m ≤ n
-at_most m n yes = grind (arith, nat_tests)
+at_most m n holds = grind (arith, nat_tests)
 
 less_same : (m n : ℕ) → m ≡ n → nat_lt m n ≡ true → ⊥
 less_same m n same less = grind (arith, nat_tests)
@@ -169,3 +169,19 @@ module _ (code : Code) (p : Procedure) (points : List ProgramPoint) (are : ArePo
         subst (λ (a : ProgramPoint). a.at < (get_or between j d).at) (sym (read i d low))
         (subst (λ (b : ProgramPoint). (get_or points (first + i) d).at < b.at) (sym (read j d high)) rises);
   }
+
+-- the same of parts of the list
+pub up_to_last_of : (code : Code) (points : List ProgramPoint) (first place : ℕ) (rest : List ProgramPoint) → ArePoints code points → rest ≡ drop first points →
+    IsPartitionedBy (is_not_behind place) rest
+up_to_last_of code points first place rest are is = subst (IsPartitionedBy (is_not_behind place)) (sym is) (up_to_last code points first place are)
+
+pub of_parts : (code : Code) (p : Procedure) (points : List ProgramPoint) → ArePoints code points → (first count : ℕ) (rest own : List ProgramPoint) →
+    rest ≡ drop first points → own ≡ take count rest →
+    IsPartitionPoint (λ (y : ProgramPoint). is_before (slot_of p) y ≡ true) (λ (y : ProgramPoint). is_before (slot_of p) y ≡ false) points first →
+    IsPartitionPoint (λ (y : ProgramPoint). is_not_behind (slot_of p) y ≡ true) (λ (y : ProgramPoint). is_not_behind (slot_of p) y ≡ false) rest count →
+    first ≤ length points → count ≤ length rest → ArePointsOf code p own
+of_parts code p points are first count rest own rest_is own_is starts ends first_in count_in =
+    subst (ArePointsOf code p) (sym (own_is ∙ ap (take count) rest_is))
+    (of_procedure code p points are first count starts
+    (subst (λ (l : List ProgramPoint). IsPartitionPoint (λ (y : ProgramPoint). is_not_behind (slot_of p) y ≡ true) (λ (y : ProgramPoint). is_not_behind (slot_of p) y ≡ false) l count) rest_is ends)
+    first_in (subst (λ (l : List ProgramPoint). count ≤ length l) rest_is count_in))

@@ -1,14 +1,17 @@
 -- A table of instructions by address, while those of points are noted in it.
-use Rattle.std.specs.Prelude.{◌≡◌, ◌≢◌, ℕ, ◌+◌, ◌<◌, ◌≤◌, List, Contains, IsSome, is_some, Option, None, Some, Result, Ok, Err, length, replicate, result_ok, slice_index_or, slice_set, refl}
+use Rattle.std.specs.Prelude.{◌≡◌, ◌≢◌, ℕ, ◌+◌, ◌<◌, ◌≤◌, List, Contains, IsSome, is_some, Option, None, Some, Result, Ok, Err, length, replicate, slice_index_or, slice_set, refl}
+use Rattle.std.specs.Result.{result_ok}
 use Rattle.std.proofs.Common.{◌∙◌, ap, sym, subst, arith, inl, inr, true≢false}
 use Rattle.std.proofs.lemmas.Bool.{cases_lt, cases_eq}
-use Rattle.std.proofs.lemmas.List.{length-set, length-replicate, get_or-replicate, get_or-set_same, get_or-set_other, get_or_past}
+use Rattle.std.proofs.lemmas.List.{length-set, length-replicate, get_or-replicate, get_or-set_same, get_or-set_other, get_or_default, get_or_past}
 use Rattle.decode80.specs.declared.fetching.Fetched.{Fetched}
 use Rattle.frames80.specs.declared.code.LookFault.{LookFault}
 use Rattle.frames80.specs.Code.{Code}
 use Rattle.verify80_flow.specs.FittingLaws.{NoFault}
 use Rattle.verify80_flow.specs.declared.report.ProgramPoint.{ProgramPoint}
 use Rattle.verify80_flow.specs.ProgramPoints.{ArePoints, IsReachedPoint}
+use Rattle.image80.specs.Image.{Located}
+use Rattle.verify80.specs.Looking.{code_of}
 use Rattle.verify80.specs.Reached.{IsReached}
 use Rattle.verify80_calls.specs.Reached.{AreReached, found_at}
 
@@ -72,10 +75,7 @@ one_noted code none points are i table point inside is before = record {
     after = slice_set table point.at (result_ok (code.look point.at))
 
     at_i : (d : ProgramPoint) → slice_index_or points i d ≡ point
-    at_i d = get_or_same points i d point inside is
-      where
-        get_or_same : (xs : List ProgramPoint) (k : ℕ) (d e : ProgramPoint) → k < length xs → e ≡ slice_index_or xs k e → slice_index_or xs k d ≡ e
-        get_or_same xs k d e less here = grind (arith)
+    at_i d = get_or_default points i d point inside ∙ sym is
 
     reached_point : IsReachedPoint code point
     reached_point = subst (IsReachedPoint code) (sym is) (are.each i point inside)
@@ -95,14 +95,26 @@ one_noted code none points are i table point inside is before = record {
     kept : (at : ℕ) → at ≢ point.at → found_at after at ≡ found_at table at
     kept at other = get_or-set_other table point.at at (result_ok (code.look point.at)) None other
 
+pub one_more_noted : (image im : Located) → im ≡ image → NoFault (code_of image) → (points : List ProgramPoint) → ArePoints (code_of image) points →
+    (i : ℕ) (table more : List (Option Fetched)) (d : ProgramPoint) → i < length points →
+    more ≡ slice_set table (slice_index_or points i d).at (result_ok ((code_of im).look (slice_index_or points i d).at)) →
+    AreNoted (code_of image) points i table → AreNoted (code_of image) points (i + 1) more
+one_more_noted image im same none points are i table more d inside is before =
+    let point : ProgramPoint = slice_index_or points i d in
+    subst (AreNoted (code_of image) points (i + 1))
+    (sym (is ∙ ap (λ (x : Located). slice_set table point.at (result_ok ((code_of x).look point.at))) same))
+    (one_noted (code_of image) none points are i table point inside (get_or_default points i d point inside) before)
+
 -- all points
-pub all_noted : (code : Code) (points : List ProgramPoint) → ArePoints code points → (table : List (Option Fetched)) → AreNoted code points (length points) table → AreReached code table
-all_noted code points are table noted = record {
+pub all_noted : (code : Code) (points : List ProgramPoint) → ArePoints code points → (count : ℕ) (table : List (Option Fetched)) → length points ≤ count →
+    AreNoted code points count table → AreReached code table
+all_noted code points are count table all noted = record {
   found = noted.found;
   none = λ at nothing reached.
       let has = are.all reached.procedure at reached.frame reached.walk in
       let here : slice_index_or points has.there.0 has.point ≡ has.point = has.there.2 in
+      let inside = has.there.1 in
       let some : IsSome (found_at table at) =
-      subst (λ a. IsSome (found_at table a)) (ap (λ (x : ProgramPoint). x.at) here ∙ has.at) (noted.noted has.there.0 has.point has.there.1) in
+      subst (λ a. IsSome (found_at table a)) (ap (λ (x : ProgramPoint). x.at) here ∙ has.at) (noted.noted has.there.0 has.point (omega (arith, inside, all))) in
       true≢false (sym some ∙ ap is_some nothing);
 }

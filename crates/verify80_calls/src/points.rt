@@ -13,7 +13,8 @@ pub(crate) fn points_of(points: &[ProgramPoint], procedure: Procedure) -> &[Prog
     ensures { (code : Code) → ArePoints code points.now → ArePointsOf code procedure result.now }
 {
     let first = points.partition_point(|point| slot(point.procedure) < slot(procedure));
-    let rest = &points[first..];
+    let (_, rest) = points.split_at(first);
     let count = rest.partition_point(|point| slot(point.procedure) <= slot(procedure));
-    &rest[..count]
+    let (own, _) = rest.split_at(count);
+    own
 }

@@ -1,6 +1,7 @@
 //! The addresses of a vouched image that its procedures reach.
 
-ghost use Rattle.std.specs.Prelude.{◌≡◌, IfOk, length, result_ok, slice_set};
+ghost use Rattle.std.specs.Prelude.{◌≡◌, IfOk, length, slice_set};
+ghost use Rattle.std.specs.Result.{result_ok};
 ghost use Rattle.verify80.specs.Looking.{code_of};
 ghost use Rattle.verify80_calls.specs.Reached.{AreReached};
 

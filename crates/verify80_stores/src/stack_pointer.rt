@@ -4,9 +4,9 @@
 //! looked at address by address.
 
 ghost use Rattle.std.specs.Prelude.{◌≡◌, true, length, IfOk};
-ghost use Rattle.image80.specs.Image.{Located};
+ghost use Rattle.decode80.specs.declared.flow.Flow.TheVariants.{JumpsToHl};
 ghost use Rattle.decode80.specs.Facts.{flow};
-ghost use Rattle.verify80.specs.Boards.{GoesBy, HasAt, SetsStack, sets_sp, uses_sp};
+ghost use Rattle.verify80.specs.Boards.{SetsStack, sets_sp, uses_sp};
 ghost use Rattle.verify80_stores.specs.StackPointer.{AreClosed, IsClosedAt, LeadsToMarked, is_marked};
 
 use decode80::{Fetched, Flow, Instr, Pair, fetch};

@@ -1,8 +1,6 @@
-use Rattle.std.proofs.Common.{◌≡◌, ◌+◌, ◌∙◌, Option, None, Some, refl, sym, subst, arith, slice_set, rules}
-use Rattle.std.specs.Prelude.{result_ok}
-use Rattle.image80.specs.Image.{Located}
+use Rattle.std.proofs.Common.{◌≡◌, ◌∙◌, Option, None, Some, refl, rules}
 use Rattle.verify80.specs.Looking.{code_of}
-use Rattle.verify80_calls.proofs.ReachedLemmas.{AreNoted, all_noted, none_noted, one_noted}
+use Rattle.verify80_calls.proofs.ReachedLemmas.{all_noted, none_noted, one_more_noted}
 use Rattle.verify80_calls.proofs.reached.find_reached.Goals as goal
 
 -- what no Some is, is None
@@ -22,10 +20,8 @@ loop-point-preserved c =
     let points = c.points-points.result.now in
     let i = c.loop-point.point-index in
     let table = c.loop-point.table.items in
-    let point = c.next-in-Some.result.now in
-    rw c.note.ensures
-    (subst (λ (im : Located). AreNoted (code_of image) points (i + 1) (slice_set table point.at (result_ok ((code_of im).look point.at)))) (sym same)
-    (one_noted (code_of image) none points c.points-points.ensures.points i table point (search rules) (search rules) c.loop-point.invariant))
+    one_more_noted image c.in_ok-code.code same none points c.points-points.ensures.points i table c.note.new.table.items _ c.loop-point-test.true c.note.ensures
+    c.loop-point.invariant
 
 pub returns : goal.returns
-returns c = all_noted (code_of c.args.vouched.now.image) c.points-points.result.now c.points-points.ensures.points c.loop-point.table.items c.loop-point.invariant
+returns c = all_noted (code_of c.args.vouched.now.image) c.points-points.result.now c.points-points.ensures.points c.loop-point.point-index c.loop-point.table.items (search rules) c.loop-point.invariant
