@@ -55,7 +55,8 @@ pub(crate) fn calls_among(
     ensures { IfOk result (λ calls. AreCalls (code_of vouched.now.image) procedure calls.items) }
 {
     fitting_tables_cover_walks();
-    calls_at(alloc, code, points_of(vouched.points(), procedure))
+    let calls = calls_at(alloc, code, points_of(vouched.points(), procedure))?;
+    Ok(calls)
 }
 
 /// The calls at points.
