@@ -1,11 +1,84 @@
 -- Marked addresses that are closed are all that the main program may reach with SP not set.
-use Rattle.std.specs.Prelude.{◌≡◌, ◌<◌, ◌≤◌, ◌⊎◌, ℕ, Bool, true, false, List, length, slice_index_or}
+use Rattle.std.specs.Prelude.{◌≡◌, ◌<◌, ◌≤◌, ◌+◌, ◌==◌, ◌&&◌, ◌||◌, ℕ, Bool, true, false, not, List, [], ◌∷◌, Option, Some, None, Result, Ok, Err, length, slice_index, slice_index_or, refl}
+use Rattle.std.specs.List.{list_all, list_any}
+use Rattle.std.specs.Result.{result_ok}
 use Rattle.std.proofs.Common.{◌∙◌, ap, sym, subst, arith, inl, inr, true≢false}
-use Rattle.std.proofs.lemmas.Bool.{cases_lt}
+use Rattle.std.proofs.lemmas.Bool.{cases_lt, eqb-true}
 use Rattle.std.proofs.lemmas.List.{get_or_past}
-use Rattle.image80.specs.Image.{Located}
-use Rattle.verify80.specs.Boards.{IsUnset, starts, goes_on, SetsStack}
-use Rattle.verify80_stores.specs.StackPointer.{AreClosed, IsClosedAt, is_marked}
+use Rattle.decode80.specs.declared.fetching.Fetched.{Fetched}
+use Rattle.decode80.specs.declared.fetching.FetchFault.{FetchFault}
+use Rattle.decode80.specs.Facts.{flow}
+use Rattle.decode80.specs.Fetch.{fetch as fetch_in}
+use Rattle.image80.specs.Image.{Located, memory_of}
+use Rattle.image80.specs.Regions.{in_code}
+use Rattle.machine80.specs.Step.{fetch}
+use Rattle.verify80.specs.Boards.{HasAt, IsUnset, starts, goes_on, SetsStack, sets_sp, uses_sp}
+use Rattle.verify80_stores.specs.StackPointer.{AreClosed, IsClosedAt, LeadsToMarked, is_marked}
+
+-- what is fetched of an image's memory is what the image has there
+abbrev Finds : Located → (at : ℕ) → Result Fetched FetchFault → Type 0
+Finds image at found = fetch_in (in_code image.regions) (λ place. slice_index (memory_of image.chunks) place) at ≡ found
+
+same_found : {a b : Fetched} → Some a ≡ Some b → a ≡ b
+same_found {a} {b} h = let e : Some a ≡ Some b = h in cc
+
+has_found : (image : Located) (at : ℕ) (found other : Fetched) → Finds image at (Ok found) → HasAt image at other → found ≡ other
+unfolding fetch
+has_found image at found other finds has = same_found (sym (ap result_ok finds) ∙ has)
+
+has_none : (image : Located) (at : ℕ) (fault : FetchFault) (other : Fetched) → Finds image at (Err fault) → HasAt image at other → ⊥
+unfolding fetch
+has_none image at fault other finds has = let e : None ≡ Some other = sym (ap result_ok finds) ∙ has in cc
+
+-- when an address is closed
+pub closed_setting : (image : Located) (marks : List Bool) (at : ℕ) (found : Fetched) → Finds image at (Ok found) → uses_sp found.instr ≡ false → sets_sp found.instr ≡ true →
+    IsClosedAt image marks at
+closed_setting image marks at found finds off sets = record {
+  free = λ other has. subst (λ (x : Fetched). uses_sp x.instr ≡ false) (has_found image at found other finds has) off;
+  leads = λ other has unset.
+      absurd (true≢false (sym (subst (λ (x : Fetched). sets_sp x.instr ≡ true) (has_found image at found other finds has) sets) ∙ unset));
+}
+
+pub closed_leading : (image : Located) (marks : List Bool) (at : ℕ) (found : Fetched) → Finds image at (Ok found) → uses_sp found.instr ≡ false →
+    LeadsToMarked image.regions marks at (flow found.instr) found.next → IsClosedAt image marks at
+closed_leading image marks at found finds off leads = record {
+  free = λ other has. subst (λ (x : Fetched). uses_sp x.instr ≡ false) (has_found image at found other finds has) off;
+  leads = λ other has unset.
+      subst (λ (x : Fetched). LeadsToMarked image.regions marks at (flow x.instr) x.next) (has_found image at found other finds has) leads;
+}
+
+pub closed_without : (image : Located) (marks : List Bool) (at : ℕ) (fault : FetchFault) → Finds image at (Err fault) → IsClosedAt image marks at
+closed_without image marks at fault finds = record {
+  free = λ other has. absurd (has_none image at fault other finds has);
+  leads = λ other has unset. absurd (has_none image at fault other finds has);
+}
+
+-- one more address
+pub one_more_closed : (image : Located) (marks : List Bool) (n : ℕ) → AreClosed image marks n → (is_marked marks n ≡ true → IsClosedAt image marks n) → AreClosed image marks (n + 1)
+one_more_closed image marks n before here = λ at less marked. elim (cases_lt at n) [
+  | inl earlier ↦ before at earlier marked
+  | inr late ↦
+      let e : n ≡ at = omega (arith, less, late) in
+      subst (IsClosedAt image marks) e (here (subst (λ a. is_marked marks a ≡ true) (sym e) marked))
+]
+
+-- targets that are marked
+both : (a b : Bool) → (a && b) ≡ true → (a ≡ true) × (b ≡ true)
+both true b e = (refl, e)
+both false b e = absurd (cc)
+
+pub target_marked : (marks : List Bool) (targets : List ℕ) (to : ℕ) → list_all (is_marked marks) targets ≡ true → not (list_any (λ target. target == to) targets) ≡ false →
+    is_marked marks to ≡ true
+target_marked marks [] to all inside = absurd (true≢false inside)
+target_marked marks (target ∷ targets) to all inside =
+    by (both (is_marked marks target) (list_all (is_marked marks) targets) all).0
+    (λ rest. target_marked marks targets to (both (is_marked marks target) (list_all (is_marked marks) targets) all).1 rest)
+    (target == to) refl inside
+  where
+    by : is_marked marks target ≡ true → (not (list_any (λ t. t == to) targets) ≡ false → is_marked marks to ≡ true) → (b : Bool) → (target == to) ≡ b →
+        not (b || list_any (λ t. t == to) targets) ≡ false → is_marked marks to ≡ true
+    by here later true same e = subst (λ n. is_marked marks n ≡ true) (eqb-true target to same) here
+    by here later false other e = later e
 
 -- a marked address is one of memory
 inside : (marks : List Bool) (at : ℕ) → length marks ≡ 65536 → is_marked marks at ≡ true → at < 65536

@@ -4,6 +4,7 @@
 //! looked at address by address.
 
 ghost use Rattle.std.specs.Prelude.{◌≡◌, true, length, IfOk};
+ghost use Rattle.std.specs.List.{list_all};
 ghost use Rattle.decode80.specs.declared.flow.Flow.TheVariants.{JumpsToHl};
 ghost use Rattle.decode80.specs.Facts.{flow};
 ghost use Rattle.verify80.specs.Boards.{SetsStack, sets_sp, uses_sp};
@@ -24,7 +25,10 @@ pub(crate) fn sets_stack(alloc: Global, image: &Image) -> Result<bool, AllocErro
 {
     let code = ImageCode::new(alloc, image)?;
     let marks = find_unset(alloc, &code, &image.regions, image.start)?;
-    Ok(marks[usize::from(image.start)] && are_closed(&code, &image.regions, &marks))
+    if !is_marked(&marks, image.start) {
+        return Ok(false);
+    }
+    Ok(are_closed(&code, &image.regions, &marks))
 }
 
 /// Whether each marked address is closed.
@@ -34,21 +38,23 @@ fn are_closed(code: &ImageCode, regions: &Regions, marks: &[bool]) -> bool
     ensures { result ≡ true → AreClosed code.now marks.now 65536 }
 {
     for address in 0..65_536_u32 {
-        let at = address as u16;
-        if marks[usize::from(at)] && !is_closed(code, regions, marks, at) {
+        if !is_closed(code, regions, marks, address as u16) {
             return false;
         }
     }
     true
 }
 
-/// Whether the instruction at an address doesn't use SP, and, unless it sets it, leads to marked addresses alone. If no instruction is
-/// there, nothing is wanted.
+/// Whether an address isn't marked, or the instruction there doesn't use SP, and, unless it sets it, leads to marked addresses alone. If
+/// no instruction is there, nothing is wanted.
 fn is_closed(code: &ImageCode, regions: &Regions, marks: &[bool], at: u16) -> bool
     requires regions { regions.now ≡ code.now.regions }
     requires whole { length marks.now ≡ 65536 }
-    ensures { result ≡ true → IsClosedAt code.now marks.now at }
+    ensures { result ≡ true → is_marked marks.now at ≡ true → IsClosedAt code.now marks.now at }
 {
+    if !is_marked(marks, at) {
+        return true;
+    }
     match fetch(at, code) {
         Ok(found) if uses_sp(found.instr) => false,
         Ok(found) => sets_sp(found.instr) || leads_to_marked(regions, marks, at, found),
@@ -83,9 +89,17 @@ fn targets_are_marked(regions: &Regions, marks: &[bool], at: u16) -> bool
     ensures { result ≡ true → LeadsToMarked regions.now marks.now at JumpsToHl 0 }
 {
     match regions.targets(at) {
-        Some(targets) => targets.iter().all(|target| is_marked(marks, *target)),
+        Some(targets) => are_marked(marks, targets),
         None => false,
     }
+}
+
+/// Whether each of these addresses is marked.
+fn are_marked(marks: &[bool], targets: &[u16]) -> bool
+    requires { length marks.now ≡ 65536 }
+    ensures { result ≡ list_all (is_marked marks.now) targets.now }
+{
+    targets.iter().all(|target| is_marked(marks, *target))
 }
 
 /// Whether an address is marked.
@@ -143,8 +157,9 @@ fn find_unset(
 ) -> Result<Vec<bool>, AllocError>
     ensures { IfOk result (λ marks. length marks.items ≡ 65536) }
 {
+    let marks = unmarked(alloc, 65_536)?;
     let mut search = Search {
-        marks: vec![in alloc; false; 65536]?,
+        marks,
         queue: Vec::new(alloc),
     };
     search.enter(start)?;
@@ -156,6 +171,16 @@ fn find_unset(
         search.follow(code, regions, at)?;
     }
     Ok(search.marks)
+}
+
+/// A given number of places, none of which is marked.
+///
+/// # Errors
+/// `AllocError` if memory runs out.
+fn unmarked(alloc: Global, count: usize) -> Result<Vec<bool>, AllocError>
+    ensures { IfOk result (λ marks. length marks.items ≡ count) }
+{
+    Ok(vec![in alloc; false; count]?)
 }
 
 impl Search {
