@@ -65,6 +65,16 @@ impl Lists {
         self.links.get(*newest as usize).copied()
     }
 
+    /// The way in a list that has only one.
+    pub(crate) fn only(&self, list: usize) -> Option<Way> {
+        let link = self.newest(list)?;
+        if link.before == NONE {
+            Some(link.way)
+        } else {
+            None
+        }
+    }
+
     /// The link before one.
     pub(crate) fn before(&self, link: Link) -> Option<Link> {
         self.links.get(link.before as usize).copied()

@@ -48,6 +48,11 @@ impl Point {
         is_return && self.procedure != Procedure::Main
     }
 
+    /// Whether it is no start, and leads to one point alone, over no call.
+    pub(crate) fn leads_straight(self) -> bool {
+        matches!(self.effect, Effect::Change(_) | Effect::Jump(_)) && !self.starts()
+    }
+
     /// Whether every place keeps its word on a way on.
     pub(crate) fn keeps(self, turn: Turn) -> bool {
         matches!(turn, Turn::Leads(_)) && self.effect.change() == Change::Keep

@@ -11,6 +11,7 @@ use std::alloc::AllocError;
 impl<'a, C: Code> Search<'a, C> {
     /// Goes back from places of a point, over each way to it.
     pub(super) fn go_back(&mut self, places: Places) -> Result<(), AllocError> {
+        let places = self.go_straight_back(places)?;
         let mut link = self.leading.newest(places.point as usize);
         for _ in 0..u32::MAX {
             let Some(found) = link else {
@@ -23,6 +24,39 @@ impl<'a, C: Code> Search<'a, C> {
             Some(point) => self.go_back_to_cases(places, point),
             None => Ok(()),
         }
+    }
+
+    /// Goes back from places of a point as long as only one point leads there, which leads nowhere else and keeps them. Gives the
+    /// places from which that isn't so.
+    fn go_straight_back(&mut self, places: Places) -> Result<Places, AllocError> {
+        let mut places = places;
+        // The bound is never met: each place of a point is asked for once.
+        for _ in 0..u64::MAX {
+            let Some(before) = self.straight_before(places) else {
+                break;
+            };
+            let bits = self.asked.add(before)?;
+            places = Places { bits, ..before };
+            if bits == 0 {
+                break;
+            }
+        }
+        Ok(places)
+    }
+
+    /// The same places of the only point that leads to a point, if it leads nowhere else and keeps them.
+    fn straight_before(&self, places: Places) -> Option<Places> {
+        let way = self.leading.only(places.point as usize)?;
+        let from = self.point(way.from)?;
+        let point = self.point(places.point)?;
+        if !from.leads_straight() || self.cases.newest(usize::from(point.at)).is_some() {
+            return None;
+        }
+        if from.keeps(way.turn) || from.moves(way.turn).kept_of(places) == places.bits {
+            let point = way.from;
+            return Some(Places { point, ..places });
+        }
+        None
     }
 
     /// Goes back from places of a point to each PCHL that leads to it, if walks have the same counts there.
