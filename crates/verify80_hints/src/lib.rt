@@ -1,4 +1,4 @@
-//! Hints for the analysis: in which order points are visited, and where words of frames come from.
+//! Hints for the analysis: in which order points are visited, and which words of frames returns ask for.
 //!
 //! Proved: nothing rests on it.
 //!
@@ -11,19 +11,21 @@
 #![tactic(auto)]
 
 mod asked;
+mod asks;
 mod callers;
-mod counted;
+mod lists;
 mod marks;
+mod moves;
 mod order;
-mod origins;
 mod pending;
+mod place_sets;
 mod places;
+mod point;
+mod search;
 mod step;
-mod tracing;
-mod word_paths;
 
 pub use asked::AskedPlaces;
 pub use callers::Callers;
 pub use pending::Pending;
+pub use search::find_steps;
 pub use step::Step;
-pub use tracing::find_steps;

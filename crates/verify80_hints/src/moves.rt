@@ -1,0 +1,94 @@
+//! Where the words of places come from over an instruction, and where they move.
+
+use crate::places::{Place, Places};
+use frames80::{Change, FramePair};
+
+/// What a place gets: the word of another place, or a word that is no return address.
+#[derive(Clone, Copy)]
+pub(crate) struct Move {
+    pub(crate) to: Place,
+    pub(crate) from: Option<Place>,
+}
+
+/// What each place gets that an instruction writes. Every other place keeps its word.
+#[derive(Clone, Copy)]
+pub(crate) struct Moves([Option<Move>; 3]);
+
+impl Move {
+    /// A pair gets a word that is no return address.
+    fn lost(pair: FramePair) -> Move {
+        Move {
+            to: Place::of_pair(pair),
+            from: None,
+        }
+    }
+}
+
+impl Moves {
+    /// Those of a change, with a given number of words before it.
+    pub(crate) fn of_change(change: Change, height: u32) -> Moves {
+        let top = height.checked_sub(1).map(Place::of_word);
+        let above = Place::of_word(height);
+        let de = Place::of_pair(FramePair::De);
+        let hl = Place::of_pair(FramePair::Hl);
+        match change {
+            Change::Push(pair) => Moves::one(above, Some(Place::of_pair(pair))),
+            Change::PushAny => Moves::one(above, None),
+            Change::Pop(pair) => Moves::one(Place::of_pair(pair), top),
+            Change::Forget(pair) => Moves::one(Place::of_pair(pair), None),
+            Change::Swap => Moves::two((hl, top), (top.unwrap_or(above), Some(hl))),
+            Change::Exchange => Moves::two((de, Some(hl)), (hl, Some(de))),
+            Change::Keep | Change::Drop | Change::SetStack(_) => Moves([None, None, None]),
+        }
+    }
+
+    /// Those of a call that comes back.
+    pub(crate) fn of_call() -> Moves {
+        Moves([
+            Some(Move::lost(FramePair::Bc)),
+            Some(Move::lost(FramePair::De)),
+            Some(Move::lost(FramePair::Hl)),
+        ])
+    }
+
+    /// One move.
+    fn one(to: Place, from: Option<Place>) -> Moves {
+        Moves([Some(Move { to, from }), None, None])
+    }
+
+    /// Two moves at once.
+    fn two(one: (Place, Option<Place>), other: (Place, Option<Place>)) -> Moves {
+        let (to, from) = one;
+        let first = Move { to, from };
+        let (to, from) = other;
+        Moves([Some(first), Some(Move { to, from }), None])
+    }
+
+    /// Each of them.
+    pub(crate) fn each(self) -> [Option<Move>; 3] {
+        self.0
+    }
+
+    /// Those of places that keep their words.
+    pub(crate) fn kept_of(self, places: Places) -> u64 {
+        let mut kept = places.bits;
+        for found in self.0 {
+            match found {
+                Some(found) if found.to.block() == places.block => kept &= !found.to.bit(),
+                _ => {}
+            }
+        }
+        kept
+    }
+
+    /// The other place to which the word of a place moves.
+    pub(crate) fn moved_to(self, place: Place) -> Place {
+        for found in self.0 {
+            match found {
+                Some(found) if found.from == Some(place) => return found.to,
+                _ => {}
+            }
+        }
+        place
+    }
+}

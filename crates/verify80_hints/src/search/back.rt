@@ -1,0 +1,192 @@
+//! What is asked for at a point is asked for where it comes from.
+
+use crate::lists::{Turn, Way};
+use crate::moves::Move;
+use crate::places::{Place, Places};
+use crate::point::Point;
+use crate::search::{Exit, Search};
+use frames80::{Code, Procedure};
+use std::alloc::AllocError;
+
+impl<'a, C: Code> Search<'a, C> {
+    /// Goes back from places of a point, over each way to it.
+    pub(super) fn go_back(&mut self, places: Places) -> Result<(), AllocError> {
+        let places = self.go_straight_back(places)?;
+        let mut link = self.leading.newest(places.point as usize);
+        for _ in 0..u32::MAX {
+            let Some(found) = link else {
+                break;
+            };
+            self.carry(found.way, places)?;
+            link = self.leading.before(found);
+        }
+        match self.point(places.point) {
+            Some(point) => self.go_back_to_cases(places, point),
+            None => Ok(()),
+        }
+    }
+
+    /// Goes back from places of a point as long as only one point leads there, which leads nowhere else and keeps them. Gives the
+    /// places from which that isn't so.
+    fn go_straight_back(&mut self, places: Places) -> Result<Places, AllocError> {
+        let mut places = places;
+        // The bound is never met: each place of a point is asked for once.
+        for _ in 0..u64::MAX {
+            let Some(before) = self.straight_before(places) else {
+                break;
+            };
+            let bits = self.asked.add(before)?;
+            places = Places { bits, ..before };
+            if bits == 0 {
+                break;
+            }
+        }
+        Ok(places)
+    }
+
+    /// The same places of the only point that leads to a point, if it leads nowhere else and keeps them.
+    fn straight_before(&self, places: Places) -> Option<Places> {
+        let way = self.leading.only(places.point as usize)?;
+        let from = self.point(way.from)?;
+        let point = self.point(places.point)?;
+        if !from.leads_straight() || self.cases.newest(usize::from(point.at)).is_some() {
+            return None;
+        }
+        if from.keeps(way.turn) || from.moves(way.turn).kept_of(places) == places.bits {
+            let point = way.from;
+            return Some(Places { point, ..places });
+        }
+        None
+    }
+
+    /// Goes back from places of a point to each PCHL that leads to it, if walks have the same counts there.
+    fn go_back_to_cases(&mut self, places: Places, point: Point) -> Result<(), AllocError> {
+        let mut link = self.cases.newest(usize::from(point.at));
+        for _ in 0..u32::MAX {
+            let Some(found) = link else {
+                break;
+            };
+            if let Some(from) = self.case_before(found.way.from, point) {
+                let turn = found.way.turn;
+                self.carry(Way { from, turn }, places)?;
+            }
+            link = self.cases.before(found);
+        }
+        Ok(())
+    }
+
+    /// The number of the point at the address of a PCHL that leads to a point.
+    fn case_before(&self, at: u32, point: Point) -> Option<u32> {
+        let number = self.numbers.get(point.procedure, u16::try_from(at).ok()?)?;
+        let from = self.point(number)?;
+        if from.counts == point.counts {
+            Some(number)
+        } else {
+            None
+        }
+    }
+
+    /// Goes back from places of a point over a way to it.
+    pub(super) fn carry(&mut self, way: Way, places: Places) -> Result<(), AllocError> {
+        let Some(from) = self.point(way.from) else {
+            return Ok(());
+        };
+        let before = Places {
+            point: way.from,
+            ..places
+        };
+        let choice = match way.turn {
+            Turn::Leads(choice) => choice,
+            Turn::OverCall => 0,
+        };
+        if from.keeps(way.turn) {
+            return self.ask(from, before, choice);
+        }
+        let moves = from.moves(way.turn);
+        let bits = moves.kept_of(places);
+        self.ask(from, Places { bits, ..before }, choice)?;
+        for found in moves.each() {
+            match found {
+                Some(found) if places.has(found.to) => {
+                    self.carry_moved(from, way, places.point, found)?;
+                }
+                _ => {}
+            }
+        }
+        Ok(())
+    }
+
+    /// Goes back from a place of a point to the one from which its word moves; if there is none, a walk is found.
+    fn carry_moved(
+        &mut self,
+        from: Point,
+        way: Way,
+        to: u32,
+        found: Move,
+    ) -> Result<(), AllocError> {
+        match found.from {
+            Some(place) => self.ask(from, Places::one(way.from, place), 1),
+            None => self.find_over(way, to, found.to),
+        }
+    }
+
+    /// Places of a point are asked for, and their words go on by this choice.
+    pub(super) fn ask(
+        &mut self,
+        point: Point,
+        places: Places,
+        choice: u16,
+    ) -> Result<(), AllocError> {
+        if places.bits == 0 {
+            return Ok(());
+        }
+        let bits = self.asked.add(places)?;
+        if bits == 0 {
+            return Ok(());
+        }
+        let new = Places { bits, ..places };
+        self.choose(new, choice)?;
+        self.asks.add(point.rank, new)?;
+        if new.block == 0 && point.starts() {
+            return self.start(point, new);
+        }
+        Ok(())
+    }
+
+    /// Places are asked for at the start of a procedure: the return address, or pairs, which have other words.
+    fn start(&mut self, point: Point, new: Places) -> Result<(), AllocError> {
+        if let Some(pair) = new.first_pair() {
+            self.find_from(point.step, new.point, pair)?;
+        }
+        match point.procedure {
+            Procedure::Entry(entry) if new.has(Place::of_word(0)) => {
+                self.exit(entry, point, new.point)
+            }
+            _ => Ok(()),
+        }
+    }
+
+    /// A walk leads from the start of a procedure to a return with its return address: the calls that wait for that go on.
+    fn exit(&mut self, entry: u16, point: Point, number: u32) -> Result<(), AllocError> {
+        if self.exit_of(entry).is_some() {
+            return Ok(());
+        }
+        let (step, end) = self.follow(point.step, number, Place::of_word(0))?;
+        let taken = match self.point(end) {
+            Some(end) => end.counts.taken,
+            None => 0,
+        };
+        if let Some(exit) = self.exits.get_mut(usize::from(entry)) {
+            *exit = Some(Exit { step, taken });
+        }
+        let mut link = self.callers.newest(usize::from(entry));
+        for _ in 0..u32::MAX {
+            let Some(caller) = link else {
+                break;
+            };
+            self.left.push(caller.way.from)?;
+            link = self.callers.before(caller);
+        }
+        Ok(())
+    }
+}

@@ -1,0 +1,150 @@
+//! Words are followed to the returns that ask for them.
+
+use crate::lists::{Turn, Way};
+use crate::places::{Place, Places};
+use crate::point::Point;
+use crate::search::Search;
+use crate::step::Step;
+use frames80::{Code, Effect};
+use std::alloc::AllocError;
+
+/// More blocks than a frame has places for: a choice has its bits in the sets of places so many blocks apart.
+const BLOCKS: u32 = 2048;
+
+/// How a word goes on: by which way, to which address, and to which place there.
+#[derive(Clone, Copy)]
+struct Hop {
+    turn: Turn,
+    at: u16,
+    place: Place,
+}
+
+impl<'a, C: Code> Search<'a, C> {
+    /// A walk is found if none was before: another word comes over a way to a place that is asked for.
+    pub(super) fn find_over(&mut self, way: Way, to: u32, place: Place) -> Result<(), AllocError> {
+        match (self.point(way.from), self.point(to)) {
+            (Some(from), Some(end)) if !self.is_found => {
+                let step = self.step_on(from, from.step, way.turn, end.at)?;
+                self.find_from(step, to, place)
+            }
+            _ => Ok(()),
+        }
+    }
+
+    /// A walk is found if none was before: its last step reaches a point with another word in a place that is asked for.
+    pub(super) fn find_from(
+        &mut self,
+        step: u32,
+        number: u32,
+        place: Place,
+    ) -> Result<(), AllocError> {
+        if self.is_found {
+            return Ok(());
+        }
+        let (step, end) = self.follow(step, number, place)?;
+        self.find(step, end)
+    }
+
+    /// A walk is found, and ends with a step at a return. What comes then doesn't matter: the return leads nowhere.
+    pub(super) fn find(&mut self, step: u32, number: u32) -> Result<(), AllocError> {
+        self.is_found = true;
+        if let Some(end) = self.point(number) {
+            self.add_step(Step::GoesOn(step, end.at))?;
+        }
+        Ok(())
+    }
+
+    /// Takes the steps by which the word of a place comes to a return, and gives the last one and its point.
+    pub(super) fn follow(
+        &mut self,
+        step: u32,
+        number: u32,
+        place: Place,
+    ) -> Result<(u32, u32), AllocError> {
+        let (mut step, mut number, mut place) = (step, number, place);
+        // The bound is never met: what asks for a place was asked for before it.
+        for _ in 0..u64::MAX {
+            let Some(from) = self.point(number) else {
+                break;
+            };
+            let Some(hop) = self.hop(from, number, place) else {
+                break;
+            };
+            let Some(to) = self.numbers.get(from.procedure, hop.at) else {
+                break;
+            };
+            step = self.step_on(from, step, hop.turn, hop.at)?;
+            (number, place) = (to, hop.place);
+        }
+        Ok((step, number))
+    }
+
+    /// How the word of a place of a point goes on; `None` if that is at a return, or nothing asks for it.
+    fn hop(&self, from: Point, number: u32, place: Place) -> Option<Hop> {
+        if from.returns() && place == Place::of_word(0) {
+            return None;
+        }
+        let choice = self.choice(number, place);
+        let mut hop = Hop {
+            turn: Turn::Leads(choice),
+            at: from.next,
+            place,
+        };
+        match from.effect {
+            Effect::Jump(to) => hop.at = to,
+            Effect::JumpIf(to) if choice != 0 => hop.at = to,
+            Effect::Case => hop.at = *self.program.targets(from.at).get(usize::from(choice))?,
+            Effect::Call(_) => hop.turn = Turn::OverCall,
+            Effect::Change(_) if choice != 0 => hop.place = from.moves(hop.turn).moved_to(place),
+            Effect::Change(_) | Effect::JumpIf(_) | Effect::CallIf(_) | Effect::ReturnIf => {}
+            Effect::Return | Effect::Halt | Effect::Refuse(_) => return None,
+        }
+        Some(hop)
+    }
+
+    /// Takes a step on from a point, and gives its number.
+    fn step_on(&mut self, from: Point, step: u32, turn: Turn, at: u16) -> Result<u32, AllocError> {
+        match (turn, from.effect) {
+            (Turn::OverCall, Effect::Call(target) | Effect::CallIf(target)) => {
+                let exit = match self.exit_of(target) {
+                    Some(exit) => exit.step,
+                    None => step,
+                };
+                self.add_step(Step::ComesBack(step, exit))
+            }
+            _ => self.add_step(Step::GoesOn(step, at)),
+        }
+    }
+
+    /// The words of places that had no choice go on by this one. It is kept bit by bit: most are 0, which takes no memory.
+    pub(super) fn choose(&mut self, places: Places, choice: u16) -> Result<(), AllocError> {
+        let (mut left, mut block) = (choice, places.block);
+        for _ in 0..16 {
+            if left == 0 {
+                break;
+            }
+            if left & 1 != 0 {
+                self.choices.add(Places { block, ..places })?;
+            }
+            left /= 2;
+            block = block.wrapping_add(BLOCKS);
+        }
+        Ok(())
+    }
+
+    /// The choice of a place of a point.
+    fn choice(&self, point: u32, place: Place) -> u16 {
+        let (mut choice, mut bit, mut block) = (0, 1u16, place.block());
+        for _ in 0..16 {
+            if block >= self.choices.blocks() {
+                break;
+            }
+            if self.choices.get(point, block) & place.bit() != 0 {
+                choice |= bit;
+            }
+            bit = bit.wrapping_shl(1);
+            block = block.wrapping_add(BLOCKS);
+        }
+        choice
+    }
+}
