@@ -1,9 +1,8 @@
 -- Runs on a board that begin before SP is set: until an instruction sets it, the world differs from one with SP at the stack's top in SP
 -- alone.
-use Rattle.std.specs.Prelude.{◌≡◌, ◌⊎◌, ℕ, ◌<◌, Bool, true, false, List, [], All, Option, None, Some, refl, if◌then◌else◌}
+use Rattle.std.specs.Prelude.{◌≡◌, ◌⊎◌, ℕ, Bool, true, false, List, [], All, Option, None, Some, refl, if◌then◌else◌}
 use Rattle.std.proofs.Common.{◌∙◌, ap, sym, subst, inl, inr, true≢false}
 use Rattle.std.proofs.lemmas.List.Elements.{All-nil}
-use Rattle.decode80.specs.declared.condition.Condition.{Condition}
 use Rattle.decode80.specs.declared.instr.Instr.{Instr}
 use Rattle.decode80.specs.declared.instr.Instr.TheVariants.{Lxi, Dad, Inx, Dcx, Sphl, Push, Pop, Xthl, Call, CallIf, Ret, ReturnIf, Rst, JumpIf, Hlt, In, Out, Pchl}
 use Rattle.decode80.specs.declared.pair.Pair.TheVariants.{Bc, De, Hl, Sp}
@@ -11,15 +10,15 @@ use Rattle.decode80.specs.declared.fetching.Fetched.{Fetched}
 use Rattle.decode80.specs.Facts.{flow}
 use Rattle.decode80.specs.Fetch.{direct_bytes}
 use Rattle.image80.specs.Range.{in_range}
-use Rattle.image80.specs.Regions.{Areas, in_data, targets_at, top_of}
-use Rattle.image80.specs.Image.{Located, memory_of}
+use Rattle.image80.specs.Regions.{Areas, in_data, top_of}
+use Rattle.image80.specs.Image.{Located}
 use Rattle.machine80.specs.declared.cpu.Cpu.{Cpu}
 use Rattle.machine80.specs.declared.flags.Flags.{Flags}
 use Rattle.machine80.specs.declared.end.End.{End}
 use Rattle.machine80.specs.declared.end.End.TheVariants.{Stack, Direct, StoreOutside}
 use Rattle.machine80.specs.Flags.{holds}
 use Rattle.machine80.specs.Effects.{pointed_bytes, stack_bytes}
-use Rattle.machine80.specs.Step.{Machine, ends_at, execute, fetch, first_outside, guard, guarded, proceeded, step_on}
+use Rattle.machine80.specs.Step.{Machine, ends_at, fetch, first_outside, guard, guarded, proceeded, step_on}
 use Rattle.machine80.specs.World.{World, IsJustBelow, returns}
 use Rattle.machine80.specs.Run.{world_of}
 use Rattle.verify80.specs.Starts.{IsStart}

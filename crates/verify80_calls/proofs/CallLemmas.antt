@@ -4,7 +4,7 @@ use Rattle.std.specs.Result.{result_ok}
 use Rattle.std.proofs.Common.{◌∙◌, ap, sym, subst, arith}
 use Rattle.std.specs.List.{filter_map, cons_option}
 use Rattle.std.specs.Option.{option_map}
-use Rattle.std.proofs.lemmas.List.Elements.{All-nil, All-cons, All-head, All-tail, All-weaker}
+use Rattle.std.proofs.lemmas.List.Elements.{All-nil, All-cons, All-head, All-tail}
 use Rattle.decode80.specs.declared.fetching.Fetched.{Fetched}
 use Rattle.frames80.specs.declared.role.Role.{Role}
 use Rattle.frames80.specs.declared.fault.FrameFault.{FrameFault}
@@ -15,7 +15,7 @@ use Rattle.frames80.specs.declared.moves.Moves.TheVariants.{End, On, Jump as Mov
 use Rattle.frames80.specs.StackFrame.{StackFrame}
 use Rattle.frames80.specs.Effects.{effect_of}
 use Rattle.frames80.specs.Moves.{moves_of, changed, change_fault, return_fault, unless}
-use Rattle.frames80.specs.Calls.{depth_by, depth_of}
+use Rattle.frames80.specs.Calls.{depth_by}
 use Rattle.frames80.specs.declared.procedure.Procedure.{Procedure}
 use Rattle.frames80.specs.declared.code.LookFault.{LookFault}
 use Rattle.frames80.specs.Code.{Code, role_of}
@@ -24,7 +24,7 @@ use Rattle.verify80_flow.specs.Walks.{Walk, Moving, Calls, called}
 use Rattle.verify80_flow.specs.declared.report.ProgramPoint.{ProgramPoint}
 use Rattle.verify80_flow.specs.ProgramPoints.{IsReachedPoint}
 use Rattle.verify80_calls.specs.declared.calls.Call.{Call}
-use Rattle.verify80_calls.specs.Calls.{AreCalls, HasCall, IsCall}
+use Rattle.verify80_calls.specs.Calls.{AreCalls, IsCall}
 use Rattle.verify80_calls.specs.Points.{ArePointsOf, call_at, call_of, call_to, called_by}
 
 -- a move that is answered

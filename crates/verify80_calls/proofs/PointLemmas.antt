@@ -1,6 +1,6 @@
 -- The points of a procedure stand together among those of a program.
-use Rattle.std.proofs.Common.{◌≡◌, ◌<◌, ◌≤◌, ◌+◌, ◌-◌, ℕ, Bool, true, false, nat_lt, nat_le, List, length, get_or, take, drop, inl, inr, refl, sym, ap, subst, ◌∙◌, arith, true≢false}
-use Rattle.std.specs.Prelude.{All, AllPairs, Contains}
+use Rattle.std.proofs.Common.{◌≡◌, ◌<◌, ◌≤◌, ◌+◌, ◌-◌, ℕ, Bool, true, false, nat_lt, nat_le, List, length, get_or, take, drop, inl, inr, refl, sym, ap, subst, ◌∙◌, arith}
+use Rattle.std.specs.Prelude.{All, AllPairs}
 use Rattle.std.specs.List.Sorted.{IsPartitionedBy, IsPartitionPoint}
 use Rattle.std.proofs.lemmas.Bool.{cases_lt}
 use Rattle.std.proofs.lemmas.Bool.Decides.{nat_tests}
@@ -11,7 +11,6 @@ use Rattle.frames80.specs.declared.procedure.Procedure.{Procedure}
 use Rattle.frames80.specs.declared.procedure.Procedure.TheVariants.{Main, Entry}
 use Rattle.frames80.specs.Procedures.{slot_of}
 use Rattle.frames80.specs.Code.{Code}
-use Rattle.verify80_flow.specs.Walks.{Walk}
 use Rattle.verify80_flow.specs.declared.report.ProgramPoint.{ProgramPoint}
 use Rattle.verify80_flow.specs.ProgramPoints.{ArePoints, HasReachedPoint, IsReachedPoint, rank_of}
 use Rattle.verify80_calls.specs.Points.{ArePointsOf}

@@ -1,5 +1,5 @@
 -- A table of instructions by address, while those of points are noted in it.
-use Rattle.std.specs.Prelude.{◌≡◌, ◌≢◌, ℕ, ◌+◌, ◌<◌, ◌≤◌, List, Contains, IsSome, is_some, Option, None, Some, Result, Ok, Err, length, replicate, slice_index_or, slice_set, refl}
+use Rattle.std.specs.Prelude.{◌≡◌, ◌≢◌, ℕ, ◌+◌, ◌<◌, ◌≤◌, List, IsSome, is_some, Option, None, Some, Result, Ok, Err, length, replicate, slice_index_or, slice_set, refl}
 use Rattle.std.specs.Result.{result_ok}
 use Rattle.std.proofs.Common.{◌∙◌, ap, sym, subst, arith, inl, inr, true≢false}
 use Rattle.std.proofs.lemmas.Bool.{cases_lt, cases_eq}
