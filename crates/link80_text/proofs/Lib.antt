@@ -1,6 +1,7 @@
 mod LaidLemmas
 mod TextLemmas
 mod StartLemmas
+mod NeedLemmas
 mod SearchLemmas
 mod EdgeLemmas
 mod ProviderLemmas

@@ -1,7 +1,7 @@
 -- Where a part starts: after the end of those before it.
-use Rattle.std.specs.Prelude.{◌≡◌, ℕ, zero, suc, ◌+◌, ◌<◌, ◌≤◌, Bool, true, false, if◌then◌else◌, Some, option_map, List, [], ◌∷◌, map, take, slice_get, slice_index, length}
+use Rattle.std.specs.Prelude.{◌≡◌, ℕ, zero, suc, ◌+◌, ◌<◌, ◌≤◌, Bool, true, false, if◌then◌else◌, Some, option_map, List, [], ◌∷◌, ◌++◌, map, take, slice_get, slice_index, length}
 use Rattle.std.specs.List.{take-map}
-use Rattle.std.proofs.Common.{◌∙◌, ap, arith, get_or}
+use Rattle.std.proofs.Common.{refl, ◌∙◌, ap, arith, get_or}
 use Rattle.std.proofs.lemmas.Option.{slice_get-map, slice_get-get_or}
 use Rattle.omf_parts.specs.declared.segment.Segment.{Segment}
 use Rattle.omf_parts.specs.Segments.{segment_in}
@@ -33,3 +33,9 @@ part_start_after read xs n d id inside laid =
 pub near_rounded : (paged : Bool) (n : ℕ) → rounded paged n ≤ n + 255
 near_rounded true n = omega arith
 near_rounded false n = omega arith
+
+-- the end with one more part
+pub end_more : (id before : ℕ) (ms : List ModuleValue) (m : ModuleValue)
+    → parts_end id before (ms ++ m ∷ []) ≡ rounded (segment_in m.segments id).paged (parts_end id before ms) + (segment_in m.segments id).length
+end_more id before [] m = refl
+end_more id before (x ∷ ms) m = end_more id (rounded (segment_in x.segments id).paged before + (segment_in x.segments id).length) ms m

@@ -4,6 +4,8 @@ pub mod HighBytes
 pub mod Reasons
 -- what the crate's own functions promise one another: no public contract cites these
 pub mod Words
+pub mod Ends
+pub mod Needs
 pub mod Edges
 pub mod Search
 pub mod Searched

@@ -17,6 +17,7 @@ mod laid;
 mod lines;
 mod modules;
 mod named;
+mod needs;
 mod parts;
 mod reasons;
 mod unresolved;

@@ -1,10 +1,12 @@
 //! The lines of the modules that need unresolved names.
 
-ghost use Rattle.std.specs.Prelude.{◌≡◌, ◌++◌, map, OnOk};
+ghost use Rattle.std.specs.Prelude.{◌≡◌, ◌++◌, ℕ, List, map, IfOk, OnOk};
 ghost use Rattle.std.specs.List.{flat_map};
-ghost use Rattle.link80_text.specs.Parts.{modules_of, IsMade, needs_name, line_of_need, needing_line, needing_text, unresolved_text};
+ghost use Rattle.link80_text.specs.Parts.{modules_of, IsMade, line_of_need, needing_text, unresolved_text};
+ghost use Rattle.link80_text.specs.Needs.{AreNeeds, IsChain, first_line, line_at, others_of};
 
 use crate::modules::linked_modules;
+use crate::needs::Needs;
 use crate::words::append_word;
 use link80::Linked;
 use omf_core::Name;
@@ -28,38 +30,81 @@ pub fn append_unresolved(
     ensures { OnOk result (text.new.items ≡ text.old.items ++ unresolved_text (modules_of roots.now libraries.now made.now)) }
 {
     let modules = linked_modules(alloc, roots, libraries, &made.taken)?;
-    append_names(text, &modules, &made.unresolved)
+    let needs = Needs::of(alloc, &modules)?;
+    append_names(text, &needs, &modules, &made.unresolved)
 }
 
 /// Appends the lines of these names.
-fn append_names(text: &mut Vec<u8>, modules: &[&Module], names: &[Name]) -> Result<(), AllocError>
+fn append_names(
+    text: &mut Vec<u8>,
+    needs: &Needs<'_>,
+    modules: &[&Module],
+    names: &[Name],
+) -> Result<(), AllocError>
+    requires { AreNeeds (map (λ m. m.now) modules.now) 0 needs.now }
     ensures { OnOk result (text.new.items ≡ text.old.items
         ++ flat_map (needing_text (map (λ m. m.now) modules.now)) names.now) }
 {
     for name in names {
-        append_needing(text, modules, name)?;
+        append_needing(text, needs, modules, name)?;
     }
     Ok(())
 }
 
 /// Appends the lines of the modules that need a name.
-fn append_needing(text: &mut Vec<u8>, modules: &[&Module], name: &Name) -> Result<(), AllocError>
+fn append_needing(
+    text: &mut Vec<u8>,
+    needs: &Needs<'_>,
+    modules: &[&Module],
+    name: &Name,
+) -> Result<(), AllocError>
+    requires { AreNeeds (map (λ m. m.now) modules.now) 0 needs.now }
     ensures { OnOk result (text.new.items ≡ text.old.items ++ needing_text (map (λ m. m.now) modules.now) name.now) }
 {
-    for source in modules {
-        append_needing_line(text, source, name)?;
+    let mut at = needs.first(name);
+    for _ in 0..modules.len() {
+        if at.is_none() {
+            return Ok(());
+        }
+        at = append_next(text, needs, modules, name, at)?;
     }
     Ok(())
 }
 
-/// Appends the line of a module, if it needs the name.
-fn append_needing_line(text: &mut Vec<u8>, source: &Module, name: &Name) -> Result<(), AllocError>
-    ensures { OnOk result (text.new.items ≡ text.old.items ++ needing_line name.now source.now) }
+/// Appends the line of the module of an entry, and gives the next entry.
+fn append_next(
+    text: &mut Vec<u8>,
+    needs: &Needs<'_>,
+    modules: &[&Module],
+    name: &Name,
+    at: Option<usize>,
+) -> Result<Option<usize>, AllocError>
+    ensures text { OnOk result ((rest : List ℕ) → IsChain needs.now.needs at rest
+        → text.new.items ≡ text.old.items ++ first_line (map (λ m. m.now) modules.now) name.now rest) }
+    ensures next { IfOk result (λ next. (rest : List ℕ) → IsChain needs.now.needs at rest → IsChain needs.now.needs next (others_of rest)) }
 {
-    if needs_name(source, name) {
-        append_line(text, name, source.name())
-    } else {
-        Ok(())
+    let Some(index) = at else {
+        return Ok(None);
+    };
+    let Some(need) = needs.get(index) else {
+        return Ok(None);
+    };
+    append_module(text, modules, name, need.number)?;
+    Ok(need.next)
+}
+
+/// Appends the line of the module with a number, if there is one.
+fn append_module(
+    text: &mut Vec<u8>,
+    modules: &[&Module],
+    name: &Name,
+    number: usize,
+) -> Result<(), AllocError>
+    ensures { OnOk result (text.new.items ≡ text.old.items ++ line_at (map (λ m. m.now) modules.now) name.now number) }
+{
+    match modules.get(number) {
+        Some(source) => append_line(text, name, source.name()),
+        None => Ok(()),
     }
 }
 
@@ -71,11 +116,4 @@ fn append_line(text: &mut Vec<u8>, name: &Name, by: &Name) -> Result<(), AllocEr
     append_word(text, b" BY ".as_slice(), by.bytes())?;
     text.push(b'\n')?;
     Ok(())
-}
-
-/// Whether a module has the name as external.
-fn needs_name(source: &Module, name: &Name) -> bool
-    ensures { result ≡ needs_name name.now source.now }
-{
-    source.externals().iter().any(|external| *external == *name)
 }

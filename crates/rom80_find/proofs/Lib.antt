@@ -1,6 +1,9 @@
 pub mod SolveLemmas
 pub mod CodeLieLemmas
 pub mod SieveLemmas
+pub mod BitLemmas
+pub mod MarkLemmas
+pub mod LoneLemmas
 pub mod PlaceLemmas
 pub mod WordLemmas
 pub mod RepeatLemmas

@@ -1,18 +1,22 @@
 -- The places before an address, and before the next one.
-use Rattle.std.specs.Prelude.{◌≡◌, ℕ, zero, suc, ◌+◌, ◌-◌, ◌<◌, ◌==◌, ◌||◌, Bool, true, false, Option, Some, None, IfSome, List, [], ◌∷◌, ◌++◌, length, filter, slice_index_or}
-use Rattle.std.specs.List.{list_any}
+use Rattle.std.specs.Prelude.{◌≡◌, ℕ, zero, suc, ◌+◌, ◌-◌, ◌*◌, ◌/◌, ◌%◌, ◌<◌, ◌≤◌, ◌==◌, ◌||◌, Bool, true, false, Option, Some, None, IfSome, List, [], ◌∷◌, ◌++◌, length, filter, slice_index_or}
+use Rattle.std.specs.Int.{bit_at}
+use Rattle.std.specs.List.{list_all, list_any}
 use Rattle.std.proofs.Common.{append-nil, refl, sym, ◌∙◌, ap, subst, arith, get_or, ◌⊎◌, inl, inr}
-use Rattle.std.proofs.lemmas.Bool.{eqb-true, eq-eqb, or_cases, true≢false, cases_lt}
+use Rattle.std.proofs.lemmas.Bool.{eqb-true, eq-eqb, ne_eqb, or_cases, true≢false, cases_lt}
+use Rattle.std.proofs.lemmas.Nat.Bits.{bit_at-zero}
 use Rattle.std.proofs.lemmas.List.Recursion.{or_at}
 use Rattle.std.proofs.lemmas.List.Folds.{list_any-append}
 use Rattle.std.proofs.lemmas.List.Quantifiers.{all_pairs_push}
 use Rattle.rom80_find.specs.Dump.{DumpValue}
 use Rattle.rom80_find.specs.declared.pattern.code_byte.CodeByte.{CodeByte}
 use Rattle.rom80_find.specs.Runs.{IsAnswer, IsAnswerBefore}
-use Rattle.rom80_find.specs.Places.{LiesAt, place_of, is_free, is_known_fixup, ArePlaces, is_listed}
+use Rattle.rom80_find.specs.Places.{LiesAt, place_of, is_known_fixup, ArePlaces, is_listed}
+use Rattle.rom80_find.specs.Lone.{AreLone, is_crowded}
+use Rattle.rom80_find.specs.Marks.{AreSieved, IsSievedWord, has_bit, passes}
 use Rattle.rom80_find.specs.Search.{SearchValue, search_of}
-use Rattle.rom80_find.specs.Sieve.{AreSieved}
-use Rattle.rom80_find.proofs.CodeLieLemmas.{lies_plain, parts_lie}
+use Rattle.rom80_find.proofs.CodeLieLemmas.{parts_lie}
+use Rattle.rom80_find.proofs.LoneLemmas.{all_plain, free_lies, lies_passes}
 use Rattle.rom80_find.proofs.RepeatLemmas.{lies_some, rest_lies}
 
 before_or_here : (at a : ℕ) → a < at + 1 → (a < at) ⊎ (at ≡ a)
@@ -72,20 +76,22 @@ none_yet dump code = record {
     lt_zero a lt = omega arith
 
 -- one address, by what is left of the sieve and the bytes in fixups
-module _ (dump : DumpValue) (code : List CodeByte) (at : ℕ) (lt : at < 65536) (alive : List Bool) (sieved : AreSieved dump code alive) where
-  pub sieved_away : slice_index_or alive at false ≡ false → LiesAt dump code at → ⊥
-  sieved_away e l = true≢false (sym (lies_plain dump code at l) ∙ (sym (sieved.each at lt) ∙ e))
+module _ (dump : DumpValue) (lone : List Bool) (code : List CodeByte) (at : ℕ) (are : AreLone code lone)
+    (here : Bool) (sieved : here ≡ list_all (passes dump lone at) code) where
+  pub sieved_away : here ≡ false → LiesAt dump code at → ⊥
+  sieved_away e l = true≢false (sym (lies_passes dump lone code at l) ∙ (sym sieved ∙ e))
 
   -- its bytes lie there
-  pub lies_here : slice_index_or alive at false ≡ true → LiesAt dump (filter is_known_fixup code) at → LiesAt dump (filter is_free code) at
-      → LiesAt dump code at
-  lies_here e known free = parts_lie dump code at (sym (sieved.each at lt) ∙ e) (rest_lies dump code at known free)
+  lies_here : here ≡ true → LiesAt dump (filter is_known_fixup code) at → LiesAt dump (filter (is_crowded lone) code) at → LiesAt dump code at
+  lies_here e known crowded =
+      let pass = sym sieved ∙ e in
+      parts_lie dump code at (all_plain dump lone at code pass) (rest_lies dump code at known (free_lies dump lone code at are pass crowded))
 
   -- so the answer at it says whether it is the next place
-  module _ (here : Bool) (is-here : slice_index_or alive at false ≡ here) (places : List ℕ) (h : ArePlaces dump code at places) where
+  module _ (places : List ℕ) (h : ArePlaces dump code at places) where
     next : (answer : Option Bool) (new : List ℕ)
         → IfSome answer (λ _. (here ≡ true) × LiesAt dump (filter is_known_fixup code) at)
-        → IfSome answer (λ lies. IsAnswer dump (filter is_free code) at lies)
+        → IfSome answer (λ lies. IsAnswer dump (filter (is_crowded lone) code) at lies)
         → (answer ≡ None → here ≡ true → LiesAt dump (filter is_known_fixup code) at → ⊥)
         → new ≡ places ++ place_of answer at
         → ArePlaces dump code (at + 1) new
@@ -94,13 +100,13 @@ module _ (dump : DumpValue) (code : List CodeByte) (at : ℕ) (lt : at < 65536) 
       where
         away : (t : Bool) → here ≡ t → LiesAt dump code at → ⊥
         away true e l = none refl e (lies_some dump code at is_known_fixup l)
-        away false e l = sieved_away (is-here ∙ e) l
+        away false e l = sieved_away e l
     next (Some true) new k f none is = subst (λ (l : List ℕ). ArePlaces dump code (at + 1) l) (sym is)
-        (there dump code at places h (lies_here (is-here ∙ k.0) k.1 (f.yes refl)))
+        (there dump code at places h (lies_here k.0 k.1 (f.yes refl)))
     next (Some false) new k f none is = subst (λ (l : List ℕ). ArePlaces dump code (at + 1) l) (sym (is ∙ append-nil places))
-        (not_there dump code at places h (λ l. f.no refl (lies_some dump code at is_free l)))
+        (not_there dump code at places h (λ l. f.no refl (lies_some dump code at (is_crowded lone) l)))
 
-    pub next_places : (s : SearchValue) → s ≡ search_of dump code → (answer : Option Bool) (new : List ℕ)
+    pub next_places : (s : SearchValue) → s ≡ search_of dump lone code → (answer : Option Bool) (new : List ℕ)
         → IfSome answer (λ _. (here ≡ true) × LiesAt s.dump s.known at)
         → IfSome answer (λ lies. IsAnswer s.dump s.free at lies)
         → (answer ≡ None → here ≡ true → LiesAt s.dump s.known at → ⊥)
@@ -111,6 +117,27 @@ module _ (dump : DumpValue) (code : List CodeByte) (at : ℕ) (lt : at < 65536) 
         (subst (λ (s : SearchValue). IfSome answer (λ lies. IsAnswer s.dump s.free at lies)) same f)
         (subst (λ (s : SearchValue). answer ≡ None → here ≡ true → LiesAt s.dump s.known at → ⊥) same none) is
 
+plus_zero : (n : ℕ) → n ≡ n + 0
+plus_zero n = omega arith
+
+-- a word of which no address is left
+module _ (dump : DumpValue) (lone : List Bool) (code : List CodeByte) (first : ℕ) (sieved : IsSievedWord dump lone code first 0) (places : List ℕ) where
+  no_bit : (i : ℕ) → has_bit 0 i ≡ false
+  no_bit i = ne_eqb (bit_at 0 i) 1 (λ e. omega (arith, bit_at-zero i, e))
+
+  none_here : (i : ℕ) → i < 64 → LiesAt dump code (first + i) → ⊥
+  none_here i lt l = true≢false (sym (lies_passes dump lone code (first + i) l) ∙ (sym (sieved.each i lt) ∙ no_bit i))
+
+  none_before : (k : ℕ) → k ≤ 64 → ArePlaces dump code first places → ArePlaces dump code (first + k) places
+  none_before zero le h = subst (λ (n : ℕ). ArePlaces dump code n places) (plus_zero first) h
+  none_before (suc k) le h =
+      let more : first + k + 1 ≡ first + suc k = omega arith in
+      subst (λ (n : ℕ). ArePlaces dump code n places) more
+      (not_there dump code (first + k) places (none_before k (omega arith) h) (none_here k (omega arith)))
+
+  pub none_in_word : ArePlaces dump code first places → ArePlaces dump code (first + 64) places
+  none_in_word h = none_before 64 (omega arith) h
+
 pub before_next : (s new : SearchValue) (at : ℕ) → new ≡ s → (answer : Option Bool)
     → IfSome answer (λ lies. IsAnswer s.dump s.free at lies) → IsAnswerBefore new.dump new.free (at + 1) answer
 before_next s new at is None h = tt
@@ -118,10 +145,13 @@ before_next s new at is (Some lies) h = λ one.
     let same : at ≡ at + 1 - 1 = omega arith in
     subst (λ (n : ℕ). IsAnswer new.dump new.free n lies) same (subst (λ (v : SearchValue). IsAnswer v.dump v.free at lies) (sym is) h)
 
-pub same_default : {A : Type 0} (xs : List A) (i : ℕ) (d e : A) → i < length xs → get_or xs i d ≡ get_or xs i e
-same_default [] i d e lt = elim lt [ ]
-same_default (x ∷ xs) zero d e lt = refl
-same_default (x ∷ xs) (suc i) d e lt = same_default xs i d e (omega arith)
-
-pub found_at : (alive : List Bool) (at : ℕ) (b r : Bool) → length alive ≡ 65536 → at < 65536 → r ≡ get_or alive at r → r ≡ b → slice_index_or alive at false ≡ b
-found_at alive at b r whole lt is e = same_default alive at false r (omega arith) ∙ (sym is ∙ e)
+-- a word of the addresses that are left
+pub sieved_word : (dump : DumpValue) (lone : List Bool) (code : List CodeByte) (alive : List ℕ) (w word : ℕ) → w < 1024
+    → AreSieved dump lone code alive → word ≡ slice_index_or alive w 0 → IsSievedWord dump lone code (64 * w) word
+sieved_word dump lone code alive w word lt sieved is = record {
+  each = λ i li.
+      let at : (64 * w + i) / 64 ≡ w = omega arith in
+      let bit : (64 * w + i) % 64 ≡ i = omega arith in
+      ap (λ (n : ℕ). has_bit n i) (is ∙ ap (λ (k : ℕ). slice_index_or alive k 0) (sym at))
+      ∙ (ap (λ (k : ℕ). has_bit (slice_index_or alive ((64 * w + i) / 64) 0) k) (sym bit) ∙ sieved.each (64 * w + i) (omega arith));
+}

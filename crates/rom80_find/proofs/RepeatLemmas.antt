@@ -71,14 +71,6 @@ lies_some dump code address p h = record {
   lies = record { absolute = h.lies.absolute; here = h.lies.here; bytes = keep-some dump address h.value p code h.lies.bytes };
 }
 
-pub free_filter : (code : List CodeByte) → AreFree (filter is_free code)
-free_filter [] = tt
-free_filter (b ∷ bs) = one (is_free b) refl (free_filter bs)
-  where
-    one : (t : Bool) → is_free b ≡ t → AreFree (filter is_free bs) → AreFree (filter is_free (b ∷ bs))
-    one true e rest = rw e (e, rest)
-    one false e rest = rw e rest
-
 -- a known value is the same with all values
 known_same : (value other : ℕ → ℕ) (n : ℕ) → value 0 ≡ other 0 → value 1 ≡ other 1 → nat_le 2 n ≡ false → value n ≡ other n
 known_same value other zero z o k = z

@@ -1,55 +1,15 @@
--- The entries of a dump by address, and the addresses that are left.
-use Rattle.std.specs.Prelude.{◌≡◌, ◌≢◌, ℕ, ◌+◌, ◌%◌, ◌<◌, ◌≤◌, [], ◌∷◌, ◌==◌, ◌&&◌, ◌||◌, not, Bool, true, false, Option, Some, None, List, length, slice_index}
+-- The addresses that are left.
+use Rattle.std.specs.Prelude.{◌≡◌, ℕ, ◌+◌, ◌*◌, ◌/◌, ◌%◌, ◌<◌, ◌≤◌, ◌==◌, ◌&&◌, ◌||◌, not, Bool, true, false, List, length, bit_and, slice_index_or}
 use Rattle.std.specs.List.{list_all}
-use Rattle.std.specs.Option.{option_map_or}
-use Rattle.std.proofs.Common.{refl, sym, ◌∙◌, ap, arith, get_or, take, below_more, get_or-set_other, get_or-set_same, set}
-use Rattle.std.proofs.lemmas.Bool.{and_parts, ne_eqb, true≢false}
+use Rattle.std.proofs.Common.{refl, sym, ◌∙◌, ap, arith, get_or, take, get_or-set_other, get_or-set_same, set, inl, inr}
+use Rattle.std.proofs.lemmas.Bool.{true≢false, cases_lt, eqb-true, eq-eqb, ne_eqb}
+use Rattle.std.proofs.lemmas.Nat.Bits.{bit_at-zero, bit_at_ones}
+use Rattle.std.specs.Int.{bit_at}
 use Rattle.std.proofs.lemmas.List.Folds.{list_all_more}
-use Rattle.rom80_find.specs.Dump.{DumpValue, dump_byte}
-use Rattle.rom80_find.specs.declared.pattern.code_byte.Half.{Half}
-use Rattle.rom80_find.specs.declared.pattern.code_byte.Half.TheVariants as half
 use Rattle.rom80_find.specs.declared.pattern.code_byte.CodeByte.{CodeByte}
-use Rattle.rom80_find.specs.CodeBytes.{number_of, half_of, is_low}
-use Rattle.rom80_find.specs.Places.{fits, is_plain, fits_if_plain}
-use Rattle.rom80_find.specs.Candidates.{is_half}
-use Rattle.rom80_find.specs.Runs.{AreFrom, AreUpTo, IsOneRun}
-use Rattle.rom80_find.specs.Sieve.{entry_at, IsRing}
+use Rattle.rom80_find.specs.Marks.{bit_in, has_bit}
+use Rattle.rom80_find.proofs.BitLemmas.{both_have, same_default}
 use Rattle.rom80_find.proofs.SolveLemmas.{iff_bool, all_first}
-
-pub entries_more : (f : ℕ → ℕ) (ring : List ℕ) (at entry : ℕ) → at < length ring → entry ≡ f at
-    → ((k : ℕ) → k < at → slice_index ring k ≡ f k) → (k : ℕ) → k < at + 1 → slice_index (set ring at entry) k ≡ f k
-entries_more f ring at entry lt e h = below_more _ _
-    (λ k below. let ne : k ≢ at = omega arith in rw get_or-set_other (h k below))
-    (rw get_or-set_same e)
-
-low-of : (h : Half) (word : ℕ) → is_low h ≡ true → half_of h word ≡ word % 256
-low-of half.Low word e = refl
-low-of half.High word e = grind arith
-
-same-entry : (o : Option ℕ) (fill low : ℕ) → fill ≢ low → (option_map_or (λ (byte : ℕ). byte) o fill == low) ≡ option_map_or (λ (d : ℕ). d == low) o false
-same-entry None fill low ne = ne_eqb fill low ne
-same-entry (Some d) fill low ne = refl
-
--- an entry is that of a byte outside fixups exactly if the dump has it
-pub plain_entry : (dump : DumpValue) (fill : ℕ) (ring : List ℕ) (a : ℕ) (b : CodeByte) → a < 65536 → b.offset < 65536 → IsRing dump fill ring
-    → fill ≢ b.addend % 256 → is_plain b ≡ true → (slice_index ring (a + b.offset) == b.addend % 256) ≡ fits_if_plain dump a b
-plain_entry dump fill ring a b la lb ring-is ne plain =
-    let low = and_parts (is_low b.half) (number_of b.target == 0) plain in
-    let there : slice_index ring (a + b.offset) ≡ entry_at dump fill ((a + b.offset) % 65536) = ring-is.each (a + b.offset) (omega arith) in
-    let half : half_of b.half ((0 + b.addend) % 65536) ≡ b.addend % 256 = low-of b.half _ low.0 ∙ omega arith in
-    rw there (same-entry (dump_byte dump ((a + b.offset) % 65536)) fill (b.addend % 256) ne
-    ∙ ap (λ (x : ℕ). option_map_or (λ (d : ℕ). d == x) (dump_byte dump ((a + b.offset) % 65536)) false) (sym half)
-    ∙ ap (λ (t : Bool). not t || fits dump a b 0) (sym plain))
-
-pub other_fits : (dump : DumpValue) (a : ℕ) (b : CodeByte) → is_plain b ≡ false → fits_if_plain dump a b ≡ true
-other_fits dump a b e = ap (λ (t : Bool). not t || fits dump a b 0) e
-
-and-true : (x y : Bool) → y ≡ true → x ≡ (x && y)
-and-true true y e = sym e
-and-true false y e = refl
-
-pub kept : (old fits : Bool) → fits ≡ true → old ≡ (old && fits)
-kept old fits e = and-true old fits e
 
 -- one more byte
 pub sieved_more : (p : CodeByte → Bool) (code : List CodeByte) (i : ℕ) (d : CodeByte) (first old new : Bool) → i < length code
@@ -68,15 +28,61 @@ sieved_out p code k true new h none = none ∙ iff_bool false (list_all p code) 
     (λ e. elim (true≢false (sym (all_first p code k e) ∙ (sym h ∙ none))) [ ])
 sieved_out p code k false new h none = none
 
--- what fits at the first address of a block fits at each, if the dump has the same bytes there
-fits-same : (dump : DumpValue) (from to : ℕ) (b : CodeByte) → dump_byte dump ((to + b.offset) % 65536) ≡ dump_byte dump ((from + b.offset) % 65536)
-    → fits_if_plain dump from b ≡ fits_if_plain dump to b
-fits-same dump from to b e = ap (λ (o : Option ℕ). not (is_plain b) || option_map_or (λ d. is_half b.half b.addend d 0) o false) (sym e)
+-- all of them
+pub all_set : (alive : List ℕ) (count : ℕ) → length alive ≡ count → ((k : ℕ) → slice_index_or alive k 18446744073709551615 ≡ 18446744073709551615)
+    → (a : ℕ) → a < 64 * count → bit_in alive a ≡ true
+all_set alive count whole each a lt =
+    ap (λ (n : ℕ). has_bit n (a % 64)) (same_default alive (a / 64) 0 18446744073709551615 (omega (arith, whole, lt)) ∙ each (a / 64))
+    ∙ eq-eqb (bit_at 18446744073709551615 (a % 64)) 1 (bit_at_ones 64 (a % 64) (omega arith))
 
-pub run_fits : (dump : DumpValue) (low high start a : ℕ) (code : List CodeByte) → AreFrom low code → AreUpTo high code
-    → IsOneRun dump low high start → start ≤ a → a < start + 1024
-    → list_all (fits_if_plain dump start) code ≡ list_all (fits_if_plain dump a) code
-run_fits dump low high start a [] above below run from to = refl
-run_fits dump low high start a (b ∷ bs) above below run from to =
-    ap (λ (t : Bool). t && list_all (fits_if_plain dump start) bs) (fits-same dump start a b (run a b.offset from to above.0 below.0))
-    ∙ ap (λ (t : Bool). fits_if_plain dump a b && t) (run_fits dump low high start a bs above.1 below.1 run from to)
+-- one more word of the addresses that are kept
+module _ (first row alive : List ℕ) (offset w bits : ℕ) (lt : w < 1024) (whole : length alive ≡ 1024)
+    (are : (i : ℕ) → i < 64 → has_bit bits i ≡ bit_in row (64 * w + offset + i))
+    (rest : (v : ℕ) → w ≤ v → slice_index_or alive v 0 ≡ slice_index_or first v 0) where
+  abbrev left : ℕ
+  left = bit_and (slice_index_or alive w 0) bits
+
+  here : (a : ℕ) → a / 64 ≡ w → bit_in (set alive w left) a ≡ has_bit left (a % 64)
+  here a e = ap (λ (n : ℕ). has_bit n (a % 64)) (ap (λ (k : ℕ). slice_index_or (set alive w left) k 0) e ∙ get_or-set_same alive w left 0 (omega (arith, lt, whole)))
+
+  before : (a : ℕ) → a < 64 * w → bit_in (set alive w left) a ≡ bit_in alive a
+  before a below = ap (λ (n : ℕ). has_bit n (a % 64)) (get_or-set_other alive w (a / 64) left 0 (omega arith))
+
+  pub done_more : ((a : ℕ) → a < 64 * w → bit_in alive a ≡ (bit_in first a && bit_in row (a + offset)))
+      → (a : ℕ) → a < 64 * (w + 1) → bit_in (set alive w left) a ≡ (bit_in first a && bit_in row (a + offset))
+  done_more done a la = elim (cases_lt a (64 * w)) [
+    | inl below ↦ before a below ∙ done a below
+    | inr from ↦
+        let word : a / 64 ≡ w = omega arith in
+        let at : 64 * w + offset + a % 64 ≡ a + offset = omega arith in
+        here a word ∙ (both_have (slice_index_or alive w 0) bits (a % 64)
+        ∙ (ap (λ (t : Bool). t && has_bit bits (a % 64)) (ap (λ (n : ℕ). has_bit n (a % 64)) (rest w (omega arith) ∙ ap (λ (k : ℕ). slice_index_or first k 0) (sym word)))
+        ∙ ap (λ (t : Bool). bit_in first a && t) (are (a % 64) (omega arith) ∙ ap (λ (n : ℕ). bit_in row n) at)))
+  ]
+
+  pub rest_more : (v : ℕ) → w + 1 ≤ v → slice_index_or (set alive w left) v 0 ≡ slice_index_or first v 0
+  rest_more v le = get_or-set_other alive w v left 0 (omega arith) ∙ rest v (omega arith)
+
+  pub none_more : (any : Bool) → (any ≡ false → (a : ℕ) → a < 64 * w → bit_in alive a ≡ false) → (any || not (left == 0)) ≡ false
+      → (a : ℕ) → a < 64 * (w + 1) → bit_in (set alive w left) a ≡ false
+  none_more any none e a la = elim (cases_lt a (64 * w)) [
+    | inl below ↦ before a below ∙ none (first_false any (not (left == 0)) e) a below
+    | inr from ↦
+        let word : a / 64 ≡ w = omega arith in
+        here a word ∙ (ap (λ (n : ℕ). has_bit n (a % 64)) (eqb-true left 0 (not_false (left == 0) (second_false any (not (left == 0)) e))) ∙ no_bit (a % 64))
+  ]
+    where
+      first_false : (x y : Bool) → (x || y) ≡ false → x ≡ false
+      first_false true y h = h
+      first_false false y h = refl
+
+      second_false : (x y : Bool) → (x || y) ≡ false → y ≡ false
+      second_false true y h = elim (true≢false h) [ ]
+      second_false false y h = h
+
+      not_false : (x : Bool) → not x ≡ false → x ≡ true
+      not_false true h = refl
+      not_false false h = elim (true≢false h) [ ]
+
+      no_bit : (i : ℕ) → has_bit 0 i ≡ false
+      no_bit i = ne_eqb (bit_at 0 i) 1 (λ q. omega (arith, bit_at-zero i, q))

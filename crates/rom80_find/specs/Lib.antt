@@ -1,7 +1,8 @@
 pub mod Dump
 pub mod Candidates
 pub mod Places
-pub mod Sieve
+pub mod Lone
+pub mod Marks
 pub mod Words
 pub mod Runs
 pub mod Search

@@ -16,11 +16,6 @@ pub record IsRepeated (dump : DumpValue) (low high address : ℕ) : Type 0 where
   pub same : (offset : ℕ) → low ≤ offset → offset ≤ high
       → dump_byte dump ((address + offset) % 65536) ≡ dump_byte dump ((address - 1 + offset) % 65536)
 
--- at each of these offsets after each of 1,024 addresses the dump has the byte that it has there after the first of them
-abbrev pub IsOneRun : (dump : DumpValue) (low high start : ℕ) → Type 0
-IsOneRun dump low high start = (address offset : ℕ) → start ≤ address → address < start + 1024 → low ≤ offset → offset ≤ high
-    → dump_byte dump ((address + offset) % 65536) ≡ dump_byte dump ((start + offset) % 65536)
-
 -- the bytes have offsets from one to another
 abbrev pub AreFrom : (low : ℕ) → List CodeByte → Type 0
 AreFrom low code = AllByRecursion (λ b. low ≤ b.offset) code

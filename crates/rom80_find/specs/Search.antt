@@ -1,21 +1,22 @@
 -- A search for code in a dump, as a contract sees it.
-use Rattle.std.specs.Prelude.{◌≤◌, [], List, length, filter}
+use Rattle.std.specs.Prelude.{◌≤◌, [], Bool, List, length, filter}
 use Rattle.rom80_find.specs.declared.pattern.code_byte.CodeByte.{CodeByte}
 use Rattle.rom80_find.specs.declared.candidates.Candidates.{Candidates}
 use Rattle.rom80_find.specs.declared.fixup_bytes.FixupBytes.{FixupBytes}
 use Rattle.rom80_find.specs.Dump.{DumpValue}
-use Rattle.rom80_find.specs.Places.{AreBelow, IsClearBut, is_free, is_known_fixup}
+use Rattle.rom80_find.specs.Places.{AreBelow, IsClearBut, is_known_fixup}
+use Rattle.rom80_find.specs.Lone.{is_crowded}
 use Rattle.rom80_find.specs.Runs.{AreFree, AreFrom, AreUpTo}
 
--- the dump, and the bytes in fixups of values that are known and of others
+-- the dump, and the bytes in fixups of values that are known, and of others that aren't of one word
 pub record SearchValue : Type 0 where
   pub dump : DumpValue
   pub known : List CodeByte
   pub free : List CodeByte
 
 -- the search for code
-abbrev pub search_of : DumpValue → List CodeByte → SearchValue
-search_of dump code = record { dump = dump; known = filter is_known_fixup code; free = filter is_free code }
+abbrev pub search_of : DumpValue → (lone : List Bool) → List CodeByte → SearchValue
+search_of dump lone code = record { dump = dump; known = filter is_known_fixup code; free = filter (is_crowded lone) code }
 
 -- the table has an entry for each value of these bytes, which may be every word
 pub record IsSearch (bytes : FixupBytes) (table : List Candidates) : Type 0 where

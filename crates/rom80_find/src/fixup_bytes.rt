@@ -1,16 +1,18 @@
 //! The bytes of a module's code in fixups.
 
-ghost use Rattle.std.specs.Prelude.{◌≡◌, ◌≤◌, filter, nat_le, IfOk};
+ghost use Rattle.std.specs.Prelude.{◌≡◌, filter, IfOk};
 ghost use Rattle.rom80_find.specs.CodeBytes.{number_of};
-ghost use Rattle.rom80_find.specs.Places.{is_known_fixup, is_free};
+ghost use Rattle.rom80_find.specs.Lone.{is_crowded};
+ghost use Rattle.rom80_find.specs.Places.{is_known_fixup};
 ghost use Rattle.rom80_find.specs.Runs.{AreFrom, AreUpTo};
 
+use crate::lone::is_crowded;
 use crate::offsets::Offsets;
 use crate::pattern::{CodeByte, number_of};
 use std::alloc::{AllocError, Global};
 
-/// The bytes of code in fixups: those of absolute values and of CODE, which are known, and those of other values, with bounds of the
-/// latter's offsets.
+/// The bytes of code in fixups: those of absolute values and of CODE, which are known, and those of other values that aren't of one
+/// word, with bounds of the latter's offsets.
 #[derive(Drop)]
 pub(crate) struct FixupBytes {
     pub known: Vec<CodeByte>,
@@ -19,15 +21,19 @@ pub(crate) struct FixupBytes {
 }
 
 impl FixupBytes {
-    /// The bytes of the code in fixups.
-    pub(crate) fn of(alloc: Global, code: &[CodeByte]) -> Result<FixupBytes, AllocError>
+    /// The bytes of the code in fixups, but for those of `lone` values.
+    pub(crate) fn of(
+        alloc: Global,
+        code: &[CodeByte],
+        lone: &[bool],
+    ) -> Result<FixupBytes, AllocError>
         ensures known { IfOk result (λ bytes. bytes.known.items ≡ filter is_known_fixup code.now) }
-        ensures free { IfOk result (λ bytes. bytes.free.items ≡ filter is_free code.now) }
+        ensures free { IfOk result (λ bytes. bytes.free.items ≡ filter (is_crowded lone.now) code.now) }
         ensures low { IfOk result (λ bytes. AreFrom bytes.offsets.low bytes.free.items) }
         ensures high { IfOk result (λ bytes. AreUpTo bytes.offsets.high bytes.free.items) }
     {
         let known = known_bytes(alloc, code)?;
-        let free = free_bytes(alloc, code)?;
+        let free = crowded_bytes(alloc, code, lone)?;
         let offsets = Offsets::of(&free);
         Ok(FixupBytes {
             known,
@@ -43,29 +49,26 @@ fn known_bytes(alloc: Global, code: &[CodeByte]) -> Result<Vec<CodeByte>, AllocE
 {
     let mut bytes = Vec::new(alloc);
     for byte in code {
-        if !byte.is_plain() && !is_free(byte) {
+        if !byte.is_plain() && number_of(byte.target) < 2 {
             bytes.push(*byte)?;
         }
     }
     Ok(bytes)
 }
 
-/// Those of other values.
-fn free_bytes(alloc: Global, code: &[CodeByte]) -> Result<Vec<CodeByte>, AllocError>
-    ensures { IfOk result (λ bytes. bytes.items ≡ filter is_free code.now) }
+/// Those of other values that aren't lone.
+fn crowded_bytes(
+    alloc: Global,
+    code: &[CodeByte],
+    lone: &[bool],
+) -> Result<Vec<CodeByte>, AllocError>
+    ensures { IfOk result (λ bytes. bytes.items ≡ filter (is_crowded lone.now) code.now) }
 {
     let mut bytes = Vec::new(alloc);
     for byte in code {
-        if is_free(byte) {
+        if is_crowded(byte, lone) {
             bytes.push(*byte)?;
         }
     }
     Ok(bytes)
-}
-
-/// Whether the byte is of another value than that of absolute bytes or of CODE.
-fn is_free(byte: &CodeByte) -> bool
-    ensures { result ≡ is_free byte.now }
-{
-    2 <= number_of(byte.target)
 }

@@ -12,6 +12,7 @@
 //! | Part | What it does |
 //! |---|---|
 //! | `pattern` | reads the code of a module as a pattern: bytes that are halves of values of targets, plus addends |
+//! | `indexed_dump` | a dump with what is looked up in it for each module |
 //! | `listing`, `words` | find the addresses at which a pattern lies in a dump, and the words of its targets there |
 //! | `found` | says the same of modules, by LOCATE's own definition of their bytes |
 //! | `lines` | prints it |
@@ -21,15 +22,18 @@ mod candidates;
 mod dump;
 mod fixup_bytes;
 mod found;
+mod indexed_dump;
 mod lines;
 mod listing;
+mod lone;
+mod marks;
 mod offsets;
 mod pattern;
-mod rings;
 mod runs;
 mod search;
 mod sieve;
 mod solving;
+mod table;
 mod words;
 
 pub use dump::Dump;

@@ -1,23 +1,24 @@
 //! A search for code in a dump, from one address to the next.
 
-ghost use Rattle.std.specs.Prelude.{◌≡◌, ◌≤◌, Bool, true, Some, None, IfOk, IfSome};
+ghost use Rattle.std.specs.Prelude.{◌≡◌, ◌≤◌, Bool, true, Some, None, length, IfOk, IfSome};
 ghost use Rattle.rom80_find.specs.Places.{AreBelow, LiesAt};
 ghost use Rattle.rom80_find.specs.Runs.{IsAnswer, IsAnswerBefore};
 ghost use Rattle.rom80_find.specs.Search.{search_of};
 
 use crate::candidates::Candidates;
 use crate::fixup_bytes::FixupBytes;
+use crate::indexed_dump::IndexedDump;
 use crate::pattern::CodeByte;
-use crate::runs::Runs;
-use crate::solving::{any_table, lies_at};
+use crate::solving::lies_at;
+use crate::table::table;
 use std::alloc::{AllocError, Global};
 use std::marker::Model;
 
-/// A search for the bytes of code in fixups in a dump. In its table every value may be every word. A contract sees the dump and
+/// A search for the bytes of code in fixups, but for lone ones, in a dump. In its table every value may be every word. A contract sees the dump and
 /// the bytes.
 #[derive(Drop)]
 pub(crate) struct Search<'a> {
-    runs: Runs<'a>,
+    dump: &'a IndexedDump<'a>,
     bytes: FixupBytes,
     table: Vec<Candidates>,
 }
@@ -27,29 +28,30 @@ impl<'a> Model for Search<'a> {
 
     ghost Value = { SearchValue };
 
-    ghost view = { λ s. record { dump = s.runs; known = s.bytes.known.items; free = s.bytes.free.items } };
+    ghost view = { λ s. record { dump = s.dump.now; known = s.bytes.known.items; free = s.bytes.free.items } };
 
     ghost invariant = { λ s. IsSearch s.bytes s.table.items };
 }
 
 impl<'a> Search<'a> {
-    /// The search for code whose targets have numbers below `count`.
+    /// The search for code whose targets have numbers below the length of `lone`, which says of each whether it has no more than
+    /// one fixup.
     pub(crate) fn of(
         alloc: Global,
-        runs: Runs<'a>,
+        dump: &'a IndexedDump<'a>,
         code: &[CodeByte],
-        count: usize,
+        lone: &[bool],
     ) -> Result<Search<'a>, AllocError>
-        requires two { 2 ≤ count }
-        requires below { AreBelow count code.now }
-        ensures { IfOk result (λ search. search ≡ search_of runs.entry code.now) }
+        requires two { 2 ≤ length lone.now }
+        requires below { AreBelow (length lone.now) code.now }
+        ensures { IfOk result (λ search. search ≡ search_of dump.now lone.now code.now) }
     {
-        let bytes = FixupBytes::of(alloc, code)?;
-        let table = any_table(alloc, count)?;
-        Ok(Search { runs, bytes, table })
+        let bytes = FixupBytes::of(alloc, code, lone)?;
+        let table = table(alloc, Candidates::Any, lone.len())?;
+        Ok(Search { dump, bytes, table })
     }
 
-    /// Whether there are values with which the dump has the bytes in fixups with CODE at the address. `alive` says whether it has
+    /// Whether there are values with which the dump has these bytes with CODE at the address. `alive` says whether it has
     /// the others, and `before` is the answer at the address before. `None` if it lacks one of the others or of known values.
     pub(crate) fn lies_next(
         &mut self,
@@ -75,7 +77,7 @@ impl<'a> Search<'a> {
         ensures lies { IsAnswer self.old.dump self.old.known address result }
     {
         lies_at(
-            self.runs.dump(),
+            self.dump.dump(),
             address,
             &self.bytes.known,
             &mut self.table,
@@ -87,7 +89,7 @@ impl<'a> Search<'a> {
         ensures same { self.new ≡ self.old }
         ensures lies { IsAnswer self.old.dump self.old.free address result }
     {
-        lies_at(self.runs.dump(), address, &self.bytes.free, &mut self.table)
+        lies_at(self.dump.dump(), address, &self.bytes.free, &mut self.table)
     }
 
     /// The same, by the answer at the address before, if the dump has the same bytes there.
@@ -109,6 +111,6 @@ impl<'a> Search<'a> {
     fn is_repeated(&self, address: u16) -> bool
         ensures { result ≡ true → (lies : Bool) → IsAnswerBefore self.now.dump self.now.free address (Some lies) → IsAnswer self.now.dump self.now.free address lies }
     {
-        self.runs.is_repeated(self.bytes.offsets, address)
+        self.dump.is_repeated(self.bytes.offsets, address)
     }
 }

@@ -1,169 +1,96 @@
-//! Places at which a module's bytes outside fixups are those of a dump.
+//! The addresses at which a dump has the bytes of code for which a row decides.
 
-ghost use Rattle.std.specs.Prelude.{◌≡◌, ℕ, ◌+◌, ◌<◌, ◌≤◌, ◌&&◌, true, false, length, slice_index_or, IfOk};
+ghost use Rattle.std.specs.Prelude.{◌≡◌, ℕ, ◌+◌, ◌*◌, ◌<◌, ◌&&◌, true, false, length, IfOk, IfSome};
 ghost use Rattle.std.specs.List.{list_all};
-ghost use Rattle.rom80_find.specs.Dump.{dump_of};
-ghost use Rattle.rom80_find.specs.Places.{fits_if_plain};
-ghost use Rattle.rom80_find.specs.Sieve.{AreSieved, IsSievedBy};
+ghost use Rattle.rom80_find.specs.Marks.{AreSieved, bit_in, passes, row_of};
 
-use crate::dump::Dump;
-use crate::offsets::Offsets;
+use crate::indexed_dump::IndexedDump;
+use crate::lone::is_lone;
+use crate::marks::{ANY, bits_from};
 use crate::pattern::CodeByte;
-use crate::rings::{ADDRESSES, Rings};
-use crate::runs::Runs;
+use crate::table::table;
 use std::alloc::{AllocError, Global};
 
-/// How many addresses are sieved at once.
-const BLOCK: usize = 1024;
+/// How many words of 64 bits have a bit for each address.
+pub(crate) const WORDS: usize = 1024;
 
-/// For each address whether the dump has all bytes outside fixups with CODE there.
+/// For each address whether the dump has, with CODE there, all bytes outside fixups, and any bytes where those of `lone` values are.
 pub(crate) fn sieve(
     alloc: Global,
-    runs: &Runs<'_>,
+    dump: &IndexedDump<'_>,
     code: &[CodeByte],
-) -> Result<Vec<bool>, AllocError>
-    ensures { IfOk result (λ alive. AreSieved runs.now code.now alive.items) }
+    lone: &[bool],
+) -> Result<Vec<u64>, AllocError>
+    ensures { IfOk result (λ alive. AreSieved dump.now lone.now code.now alive.items) }
 {
-    let rings = Rings::of(alloc, runs.dump())?;
-    let mut alive = all_addresses(alloc, ADDRESSES)?;
-    let offsets = Offsets::of(code);
-    for block in 0..ADDRESSES / BLOCK {
-        let start = block * BLOCK;
-        let is_run = runs.is_one_run(offsets, start);
-        sieve_next(&mut alive, &rings, code, start, is_run);
-    }
+    let mut alive = all_addresses(alloc, WORDS)?;
+    sieve_by_all(&mut alive, dump, code, lone);
     Ok(alive)
 }
 
-/// All addresses.
-fn all_addresses(alloc: Global, count: usize) -> Result<Vec<bool>, AllocError>
+/// The bits of `count` words, all set.
+fn all_addresses(alloc: Global, count: usize) -> Result<Vec<u64>, AllocError>
     ensures whole { IfOk result (λ alive. length alive.items ≡ count) }
-    ensures each { IfOk result (λ alive. (a : ℕ) → a < count → slice_index_or alive.items a false ≡ true) }
+    ensures each { IfOk result (λ alive. (a : ℕ) → a < 64 * count → bit_in alive.items a ≡ true) }
 {
-    Ok(vec![in alloc; true; count]?)
+    let alive = table(alloc, u64::MAX, count)?;
+    Ok(alive)
 }
 
-/// Drops the addresses of a block at which the dump lacks a byte outside fixups; none of them is dropped yet. If the dump has the same
-/// bytes after each of them, the first one decides for all.
-fn sieve_next(alive: &mut [bool], rings: &Rings<'_>, code: &[CodeByte], start: usize, is_run: bool)
-    requires all { length alive.old ≡ 65536 }
-    requires block { start + 1024 ≤ 65536 }
-    requires new { (a : ℕ) → start ≤ a → a < start + 1024 → slice_index_or alive.old a false ≡ true }
-    requires run { is_run ≡ true → (a : ℕ) → start ≤ a → a < start + 1024 →
-        list_all (fits_if_plain rings.now start) code.now ≡ list_all (fits_if_plain rings.now a) code.now }
-    ensures whole { length alive.new ≡ 65536 }
-    ensures each { (a : ℕ) → start ≤ a → a < start + 1024 →
-        slice_index_or alive.new a false ≡ list_all (fits_if_plain rings.now a) code.now }
-    ensures before { (a : ℕ) → a < start → slice_index_or alive.new a false ≡ slice_index_or alive.old a false }
-    ensures after { (a : ℕ) → start + 1024 ≤ a → slice_index_or alive.new a false ≡ slice_index_or alive.old a false }
-{
-    if is_run {
-        let keep = has_plain(rings.dump(), start as u16, code);
-        fill_block(alive, start, keep);
-    } else {
-        sieve_block(alive, rings, start, code);
-    }
-}
-
-/// Whether the dump has all bytes outside fixups with CODE at the address.
-fn has_plain(dump: Dump<'_>, address: u16, code: &[CodeByte]) -> bool
-    ensures { result ≡ list_all (fits_if_plain (dump_of dump.entry) address) code.now }
+/// Drops the addresses at which the dump lacks a byte, and stops once none is left.
+fn sieve_by_all(alive: &mut [u64], dump: &IndexedDump<'_>, code: &[CodeByte], lone: &[bool])
+    requires all { length alive.old ≡ 1024 }
+    ensures whole { length alive.new ≡ 1024 }
+    ensures each { (a : ℕ) → a < 65536 → bit_in alive.new a ≡ (bit_in alive.old a && list_all (passes dump.now lone.now a) code.now) }
 {
     for byte in code {
-        if !fits_if_plain(dump, address, *byte) {
-            return false;
-        }
-    }
-    true
-}
-
-/// Whether the dump has this byte with CODE at the address, if it is one outside fixups.
-fn fits_if_plain(dump: Dump<'_>, address: u16, byte: CodeByte) -> bool
-    ensures { result ≡ fits_if_plain (dump_of dump.entry) address byte }
-{
-    if !byte.is_plain() {
-        return true;
-    }
-    match dump.byte_at(address.wrapping_add(byte.offset)) {
-        Some(found) => u16::from(found) == byte.addend % 256,
-        None => false,
-    }
-}
-
-/// Keeps or drops all addresses of a block.
-fn fill_block(alive: &mut [bool], start: usize, keep: bool)
-    requires all { length alive.old ≡ 65536 }
-    requires block { start + 1024 ≤ 65536 }
-    ensures whole { length alive.new ≡ 65536 }
-    ensures each { (a : ℕ) → start ≤ a → a < start + 1024 → slice_index_or alive.new a false ≡ keep }
-    ensures before { (a : ℕ) → a < start → slice_index_or alive.new a false ≡ slice_index_or alive.old a false }
-    ensures after { (a : ℕ) → start + 1024 ≤ a → slice_index_or alive.new a false ≡ slice_index_or alive.old a false }
-{
-    for at in start..start + BLOCK {
-        alive[at] = keep;
-    }
-}
-
-/// Drops the addresses of a block at which the dump lacks a byte outside fixups, and stops once none is left.
-fn sieve_block(alive: &mut [bool], rings: &Rings<'_>, start: usize, code: &[CodeByte])
-    requires all { length alive.old ≡ 65536 }
-    requires block { start + 1024 ≤ 65536 }
-    ensures whole { length alive.new ≡ 65536 }
-    ensures each { (a : ℕ) → start ≤ a → a < start + 1024 →
-        slice_index_or alive.new a false ≡ (slice_index_or alive.old a false && list_all (fits_if_plain rings.now a) code.now) }
-    ensures before { (a : ℕ) → a < start → slice_index_or alive.new a false ≡ slice_index_or alive.old a false }
-    ensures after { (a : ℕ) → start + 1024 ≤ a → slice_index_or alive.new a false ≡ slice_index_or alive.old a false }
-{
-    for byte in code {
-        if !sieve_by(alive, rings, start, *byte) {
+        if !sieve_by(alive, dump, *byte, lone) {
             return;
         }
     }
 }
 
-/// Drops the addresses of a block at which the dump lacks this byte, if it is one outside fixups, and answers whether any may be
-/// left.
-fn sieve_by(alive: &mut [bool], rings: &Rings<'_>, start: usize, byte: CodeByte) -> bool
-    requires all { length alive.old ≡ 65536 }
-    requires block { start + 1024 ≤ 65536 }
-    ensures whole { length alive.new ≡ 65536 }
-    ensures each { (a : ℕ) → start ≤ a → a < start + 1024 →
-        slice_index_or alive.new a false ≡ (slice_index_or alive.old a false && fits_if_plain rings.now a byte) }
-    ensures before { (a : ℕ) → a < start → slice_index_or alive.new a false ≡ slice_index_or alive.old a false }
-    ensures after { (a : ℕ) → start + 1024 ≤ a → slice_index_or alive.new a false ≡ slice_index_or alive.old a false }
-    ensures none { result ≡ false → (a : ℕ) → start ≤ a → a < start + 1024 → slice_index_or alive.new a false ≡ false }
+/// Drops the addresses at which the dump lacks this byte, if a row decides for it, and answers whether any may be left.
+fn sieve_by(alive: &mut [u64], dump: &IndexedDump<'_>, byte: CodeByte, lone: &[bool]) -> bool
+    requires all { length alive.old ≡ 1024 }
+    ensures whole { length alive.new ≡ 1024 }
+    ensures each { (a : ℕ) → a < 65536 → bit_in alive.new a ≡ (bit_in alive.old a && passes dump.now lone.now a byte) }
+    ensures none { result ≡ false → (a : ℕ) → a < 65536 → bit_in alive.new a ≡ false }
 {
-    if !byte.is_plain() {
-        return true;
-    }
-    let offset = usize::from(byte.offset);
-    let entry = (byte.addend % 256) as u8;
-    // At an address without a byte the ring has another one than this.
-    if entry == 0 {
-        drop_others(alive, rings.ones(), start, offset, entry)
-    } else {
-        drop_others(alive, rings.zeros(), start, offset, entry)
+    match row_of(&byte, lone) {
+        Some(row) => keep_marked(alive, dump.row(row), usize::from(byte.offset)),
+        None => true,
     }
 }
 
-/// Drops the addresses of a block `offset` after which the ring has another byte, and answers whether any is left.
-fn drop_others(alive: &mut [bool], ring: &[u8], start: usize, offset: usize, entry: u8) -> bool
-    requires all { length alive.old ≡ 65536 }
-    requires ring { length ring.now ≡ 131072 }
-    requires block { start + 1024 ≤ 65536 }
+/// The row that has the byte, if one decides for it.
+fn row_of(byte: &CodeByte, lone: &[bool]) -> Option<usize>
+    ensures row { result ≡ row_of lone.now byte.now }
+    ensures few { IfSome result (λ row. row < 257) }
+{
+    if byte.is_plain() {
+        Some(usize::from(byte.addend % 256))
+    } else if is_lone(byte, lone) {
+        Some(ANY)
+    } else {
+        None
+    }
+}
+
+/// Drops the addresses `offset` after which the row has no bit, and answers whether any is left.
+fn keep_marked(alive: &mut [u64], row: &[u64], offset: usize) -> bool
+    requires all { length alive.old ≡ 1024 }
+    requires row { length row.now ≡ 2048 }
     requires near { offset < 65536 }
-    ensures whole { length alive.new ≡ 65536 }
-    ensures each { (a : ℕ) → start ≤ a → a < start + 1024 → IsSievedBy ring.now offset entry (slice_index_or alive.old a false) (slice_index_or alive.new a false) a }
-    ensures before { (a : ℕ) → a < start → slice_index_or alive.new a false ≡ slice_index_or alive.old a false }
-    ensures after { (a : ℕ) → start + 1024 ≤ a → slice_index_or alive.new a false ≡ slice_index_or alive.old a false }
-    ensures none { result ≡ false → (a : ℕ) → start ≤ a → a < start + 1024 → slice_index_or alive.new a false ≡ false }
+    ensures whole { length alive.new ≡ 1024 }
+    ensures each { (a : ℕ) → a < 65536 → bit_in alive.new a ≡ (bit_in alive.old a && bit_in row.now (a + offset)) }
+    ensures none { result ≡ false → (a : ℕ) → a < 65536 → bit_in alive.new a ≡ false }
 {
     let mut any = false;
-    for at in start..start + BLOCK {
-        let same = ring[at + offset] == entry;
-        let before = alive[at];
-        alive[at] = before & same;
-        any = any | (before & same);
+    for word in 0..WORDS {
+        let left = alive[word] & bits_from(row, 64 * word + offset);
+        alive[word] = left;
+        any = any | (left != 0);
     }
     any
 }

@@ -1,6 +1,6 @@
 //! The values that the targets of a module may have at one address.
 
-ghost use Rattle.std.specs.Prelude.{◌≡◌, ◌≢◌, ℕ, ◌<◌, ◌≤◌, ◌&&◌, ◌||◌, ◌==◌, not, true, false, List, [], length, IfOk, IfSome, IfNone, slice_index_or, take};
+ghost use Rattle.std.specs.Prelude.{◌≡◌, ◌≢◌, ℕ, ◌<◌, ◌≤◌, ◌&&◌, ◌||◌, ◌==◌, not, true, false, [], length, IfSome, IfNone, slice_index_or, take};
 ghost use Rattle.rom80_find.specs.Dump.{DumpValue, dump_of};
 ghost use Rattle.rom80_find.specs.CodeBytes.{number_of};
 ghost use Rattle.rom80_find.specs.declared.candidates.Candidates.TheVariants.{Any};
@@ -10,15 +10,6 @@ ghost use Rattle.rom80_find.specs.Places.{Describes, IsClearBut, LiesAt, HasNone
 use crate::candidates::Candidates;
 use crate::dump::Dump;
 use crate::pattern::{CodeByte, number_of};
-use std::alloc::{AllocError, Global};
-
-/// A table in which `count` values may be every word.
-pub(crate) fn any_table(alloc: Global, count: usize) -> Result<Vec<Candidates>, AllocError>
-    ensures whole { IfOk result (λ table. length table.items ≡ count) }
-    ensures clear { IfOk result (λ table. IsClearBut [] table.items) }
-{
-    Ok(vec![in alloc; Candidates::Any; count]?)
-}
 
 /// Leaves in the table the words that each value may be with CODE at the address, and answers the number of bytes that it read: all
 /// of them exactly if each value has a word left. In the table that it takes every value may be every word.
@@ -62,6 +53,9 @@ pub(crate) fn lies_at(
     ensures no { result ≡ false → LiesAt (dump_of dump.entry) code.now address → ⊥ }
     ensures clear { IsClearBut [] table.new.items }
 {
+    if code.is_empty() {
+        return true;
+    }
     if !reaches(dump, address, code) {
         return false;
     }

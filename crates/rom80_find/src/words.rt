@@ -11,7 +11,8 @@ ghost use Rattle.rom80_find.specs.Words.{AreOnlyWords, AreAscending, AreAscendin
 use crate::candidates::Candidates;
 use crate::dump::Dump;
 use crate::pattern::{CodeByte, target_of};
-use crate::solving::{any_table, solve};
+use crate::solving::solve;
+use crate::table::table;
 use omf_parts::Target;
 use std::alloc::{AllocError, Global};
 
@@ -43,7 +44,7 @@ pub(crate) fn words_at(
     ensures targets { IfOk result (λ found. IfSome found (λ words. AllByRecursion IsOfATarget words.items)) }
     ensures none { IfOk result (λ found. IfNone found (LiesAt (dump_of dump.entry) code.now address → ⊥)) }
 {
-    let mut table = any_table(alloc, count)?;
+    let mut table = table(alloc, Candidates::Any, count)?;
     words_by(alloc, dump, code, address, &mut table)
 }
 

@@ -3,7 +3,7 @@
 ghost use Rattle.std.specs.Prelude.{◌≡◌, map};
 ghost use Rattle.link80_text.specs.HighBytes.{first_given, high_of_fixup, high_of_content, high_of_module, first_high};
 
-use crate::causes::starts::PartStarts;
+use crate::causes::starts::{PartEnds, PartStarts};
 use omf_parts::{Content, Field, Fixup, Module, Target};
 
 /// A fixup of a high byte: the number of its module, the segment and the offset where it is, the segment that it refers to, and where the
@@ -21,11 +21,13 @@ pub(crate) struct HighByte {
 pub(crate) fn first_high(modules: &[&Module]) -> Option<HighByte>
     ensures { result ≡ first_high (map (λ m. m.now) modules.now) }
 {
+    let mut ends = PartEnds::none();
     for (number, source) in modules.iter().enumerate() {
-        let starts = PartStarts::new(modules, number);
+        let starts = PartStarts::new(modules, number, ends);
         if let Some(found) = high_of_module(&starts, number, source.contents()) {
             return Some(found);
         }
+        ends = ends.with(source, number);
     }
     None
 }

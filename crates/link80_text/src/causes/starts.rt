@@ -1,11 +1,13 @@
 //! Where the parts of a module start in the linked segments.
 
-ghost use Rattle.std.specs.Prelude.{◌≡◌, ◌<◌, ◌+◌, ◌*◌, ◌≤◌, ◌%◌, length, map, IsTrue};
+ghost use Rattle.std.specs.Prelude.{◌≡◌, ◌<◌, ◌+◌, ◌*◌, ◌≤◌, ◌%◌, ◌++◌, ◌∷◌, [], List, length, map, take, IsTrue};
+ghost use Rattle.omf_parts.specs.Modules.{ModuleValue};
 ghost use Rattle.omf_parts.specs.Place.{part_start, is_laid_out, rounded};
 ghost use Rattle.link80.specs.Linked.{moved, parts_end};
+ghost use Rattle.link80_text.specs.Ends.{AreEnds, AreNear};
 
 use omf_core::segment_id::{CODE, DATA};
-use omf_parts::{Module, segment_in};
+use omf_parts::{Module, Segment, segment_in};
 use std::marker::Model;
 
 /// A module by its number among those that are linked, and where its parts of CODE and DATA start. A contract sees the modules and
@@ -33,16 +35,22 @@ impl<'a, 'b> Model for PartStarts<'a, 'b> {
 }
 
 impl<'a, 'b> PartStarts<'a, 'b> {
-    /// The module with this number.
-    pub(crate) fn new(modules: &'b [&'a Module], number: usize) -> PartStarts<'a, 'b>
-        requires { number < length modules.now }
+    /// The module with this number, if the parts of those before it end there.
+    pub(crate) fn new(
+        modules: &'b [&'a Module],
+        number: usize,
+        ends: PartEnds,
+    ) -> PartStarts<'a, 'b>
+        requires number { number < length modules.now }
+        requires near { AreNear number ends }
+        requires ends { AreEnds (map (λ m. m.now) (take number modules.now)) ends }
         ensures { result ≡ (map (λ m. m.now) modules.now, number) }
     {
         PartStarts {
             modules,
             number,
-            code: moved_start(modules, number, CODE),
-            variables: moved_start(modules, number, DATA),
+            code: moved_start(modules, number, CODE, ends.code),
+            variables: moved_start(modules, number, DATA, ends.variables),
         }
     }
 
@@ -59,28 +67,56 @@ impl<'a, 'b> PartStarts<'a, 'b> {
     }
 }
 
-/// Where the part of CODE or DATA of the module with this number starts, as a word.
-fn moved_start(modules: &[&Module], number: usize, id: u8) -> u16
+/// Where the part of CODE or DATA of the module with this number starts, as a word, if those before it end at `end`.
+fn moved_start(modules: &[&Module], number: usize, id: u8, end: u128) -> u16
     requires number { number < length modules.now }
     requires laid { IsTrue (is_laid_out id) }
+    requires end { end ≡ parts_end id 0 (map (λ m. m.now) (take number modules.now)) }
+    requires near { end ≤ 65790 * number }
     ensures { result ≡ part_start (map (λ m. m.now) modules.now) number id % 65536 }
 {
-    let end = parts_end(&modules[..number], id);
     let part = segment_in(modules[number].segments(), id);
     (rounded(end, part.paged) % 65536) as u16
 }
 
-/// The end of the last of these parts, which lie one after another.
-fn parts_end(modules: &[&Module], id: u8) -> u128
-    ensures end { result ≡ parts_end id 0 (map (λ m. m.now) modules.now) }
-    ensures near { result ≤ 65790 * length modules.now }
-{
-    let mut end = 0;
-    for source in modules {
-        let part = segment_in(source.segments(), id);
-        end = rounded(end, part.paged) + u128::from(part.length);
+/// The ends of the last of some modules' parts of CODE and DATA, which lie one after another.
+#[derive(Clone, Copy)]
+pub(crate) struct PartEnds {
+    pub code: u128,
+    pub variables: u128,
+}
+
+impl PartEnds {
+    /// The ends of no parts.
+    pub(crate) fn none() -> PartEnds
+        ensures near { AreNear 0 result }
+        ensures ends { AreEnds [] result }
+    {
+        PartEnds {
+            code: 0,
+            variables: 0,
+        }
     }
-    end
+
+    /// The ends with the parts of one more module, which is the one with this number.
+    pub(crate) fn with(self, source: &Module, number: usize) -> PartEnds
+        requires { AreNear number self }
+        ensures near { AreNear (number + 1) result }
+        ensures ends { (before : List ModuleValue) → AreEnds before self → AreEnds (before ++ source.now ∷ []) result }
+    {
+        PartEnds {
+            code: end_with(self.code, segment_in(source.segments(), CODE)),
+            variables: end_with(self.variables, segment_in(source.segments(), DATA)),
+        }
+    }
+}
+
+/// The end of a part that is laid after what ends at `before`.
+fn end_with(before: u128, part: Segment) -> u128
+    requires { before + 255 < 340282366920938463463374607431768145920 }
+    ensures { result ≡ rounded part.paged before + part.length }
+{
+    rounded(before, part.paged) + u128::from(part.length)
 }
 
 /// The start of a part that is laid after what ends at `before`.

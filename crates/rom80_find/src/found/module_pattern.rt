@@ -13,6 +13,7 @@ use crate::found::laws::{
     pattern_places_are_module_places, pattern_words_are_module_words, pattern_words_may_be_listed,
     patterns_lie_as_modules,
 };
+use crate::indexed_dump::IndexedDump;
 use crate::listing::{count_of, places};
 use crate::pattern::{CodeByte, code_bytes};
 use crate::words::{Word, words_at};
@@ -72,8 +73,12 @@ impl<'a> ModulePattern<'a> {
     ///
     /// # Errors
     /// `AllocError` only if memory ran out.
-    pub(crate) fn places(&self, alloc: Global, dump: Dump<'_>) -> Result<Vec<u16>, AllocError>
-        ensures { IfOk result (λ places. AreModulePlaces (dump_of dump.entry) self.now places.items) }
+    pub(crate) fn places(
+        &self,
+        alloc: Global,
+        dump: &IndexedDump<'_>,
+    ) -> Result<Vec<u16>, AllocError>
+        ensures { IfOk result (λ places. AreModulePlaces dump.now self.now places.items) }
     {
         patterns_lie_as_modules();
         pattern_places_are_module_places();

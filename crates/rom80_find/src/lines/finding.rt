@@ -1,13 +1,12 @@
 //! What is found of a module.
 
 ghost use Rattle.std.specs.Prelude.{◌≡◌, IfOk, length, filter};
-ghost use Rattle.rom80_find.specs.Dump.{dump_of};
 ghost use Rattle.rom80_find.specs.Places.{is_plain};
 ghost use Rattle.rom80_find.specs.Found.{has_place, is_short};
 ghost use Rattle.rom80_find.specs.Prints.{FindsModule};
 
-use crate::dump::Dump;
 use crate::found::ModulePattern;
+use crate::indexed_dump::IndexedDump;
 use crate::lines::places::append_places;
 use crate::pattern::CodeByte;
 use omf_parts::Module;
@@ -40,11 +39,11 @@ const FEWEST: usize = 4;
 /// Appends the lines of a module's places, and says what is found of it.
 pub(crate) fn append_found(
     alloc: Global,
-    dump: Dump<'_>,
+    dump: &IndexedDump<'_>,
     source: &Module,
     text: &mut Vec<u8>,
 ) -> Result<Finding, AllocError>
-    ensures { IfOk result (λ finding. FindsModule (dump_of dump.entry) source.now finding text.old.items text.new.items) }
+    ensures { IfOk result (λ finding. FindsModule dump.now source.now finding text.old.items text.new.items) }
 {
     let pattern = ModulePattern::of(alloc, source)?;
     if is_short(&pattern) {
@@ -54,7 +53,7 @@ pub(crate) fn append_found(
     if places.is_empty() {
         return Ok(Finding::Missing);
     }
-    append_places(alloc, dump, &pattern, &places, text)?;
+    append_places(alloc, dump.dump(), &pattern, &places, text)?;
     Ok(Finding::There)
 }
 

@@ -7,6 +7,7 @@ ghost use Rattle.rom80_find.specs.Lines.{count_line};
 ghost use Rattle.rom80_find.specs.Prints.{PrintsFound};
 
 use crate::dump::Dump;
+use crate::indexed_dump::IndexedDump;
 use crate::lines::finding::append_found;
 use omf_parts::Module;
 use std::alloc::{AllocError, Global};
@@ -25,18 +26,19 @@ pub fn append_members(
 ) -> Result<(), AllocError>
     ensures { OnOk result (PrintsMembers (dump_of dump.entry) members.now text.old.items text.new.items) }
 {
-    let missing = append_found_ones(alloc, dump, members, text)?;
+    let dump = IndexedDump::of(alloc, dump)?;
+    let missing = append_found_ones(alloc, &dump, members, text)?;
     append_count(alloc, text, missing, members.len())
 }
 
 /// Appends the lines of the modules that are found, and says how many aren't.
 fn append_found_ones(
     alloc: Global,
-    dump: Dump<'_>,
+    dump: &IndexedDump<'_>,
     members: &[Module],
     text: &mut Vec<u8>,
 ) -> Result<usize, AllocError>
-    ensures { IfOk result (λ missing. PrintsFound (dump_of dump.entry) members.now missing text.old.items text.new.items) }
+    ensures { IfOk result (λ missing. PrintsFound dump.now members.now missing text.old.items text.new.items) }
 {
     let mut missing = 0;
     for source in members {

@@ -7,6 +7,7 @@ ghost use Rattle.rom80_find.specs.Lines.{missing_line, short_line};
 ghost use Rattle.rom80_find.specs.Prints.{PrintsModule};
 
 use crate::dump::Dump;
+use crate::indexed_dump::IndexedDump;
 use crate::lines::finding::{Finding, append_found};
 use omf_core::Name;
 use omf_parts::Module;
@@ -29,9 +30,10 @@ pub fn append_modules(
 ) -> Result<bool, AllocError>
     ensures { IfOk result (λ are_there. PrintsModules (dump_of dump.entry) modules.now are_there text.old.items text.new.items) }
 {
+    let dump = IndexedDump::of(alloc, dump)?;
     let mut are_there = true;
     for source in modules {
-        if append_module(alloc, dump, source, text)? {
+        if append_module(alloc, &dump, source, text)? {
             are_there = false;
         }
     }
@@ -41,11 +43,11 @@ pub fn append_modules(
 /// Appends the lines of a module, and says whether it is missing.
 fn append_module(
     alloc: Global,
-    dump: Dump<'_>,
+    dump: &IndexedDump<'_>,
     source: &Module,
     text: &mut Vec<u8>,
 ) -> Result<bool, AllocError>
-    ensures { IfOk result (λ missing. PrintsModule (dump_of dump.entry) source.now missing text.old.items text.new.items) }
+    ensures { IfOk result (λ missing. PrintsModule dump.now source.now missing text.old.items text.new.items) }
 {
     match append_found(alloc, dump, source, text)? {
         Finding::There => Ok(false),

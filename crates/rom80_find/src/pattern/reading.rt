@@ -11,6 +11,7 @@ ghost use Rattle.rom80_find.specs.Modules.{code_bytes, code_length, covers, has_
 
 use crate::pattern::code_byte::{CodeByte, Half};
 use crate::pattern::resolving::{Resolved, ResolvedModule};
+use crate::table::table;
 use omf_core::segment_id::CODE;
 use omf_parts::relocation_laws::sound_modules_keep_rules;
 use omf_parts::{Content, Field, Fixup, Module, Target};
@@ -38,21 +39,13 @@ fn code_table(alloc: Global, source: &ResolvedModule) -> Result<Vec<Option<CodeB
     ensures rules { OnOk result (IsModule source.now) }
 {
     sound_modules_keep_rules();
-    let mut table = empty_table(alloc, source.code_length())?;
+    let mut table = table(alloc, None, source.code_length())?;
     for content in source.contents() {
         if content.segment == CODE {
             place(&mut table, source, content);
         }
     }
     Ok(table)
-}
-
-/// A table without bytes.
-fn empty_table(alloc: Global, count: usize) -> Result<Vec<Option<CodeByte>>, AllocError>
-    ensures whole { IfOk result (λ table. length table.items ≡ count) }
-    ensures each { IfOk result (λ table. (o : ℕ) → slice_index_or table.items o None ≡ None) }
-{
-    Ok(vec![in alloc; None; count]?)
 }
 
 /// The bytes that are there.

@@ -1,24 +1,30 @@
-use Rattle.std.proofs.Common.{◌∙◌, arith, subst, refl, ◌<◌}
-use Rattle.rom80_find.specs.Dump.{DumpValue, dump_of}
-use Rattle.rom80_find.specs.Sieve.{AreSieved}
-use Rattle.rom80_find.proofs.PlaceLemmas.{next_places, before_next, found_at}
+use Rattle.std.proofs.Common.{◌≡◌, ◌+◌, ◌*◌, ◌∙◌, sym, subst, arith, ℕ, Bool, List}
+use Rattle.std.specs.Prelude.{slice_index_or}
+use Rattle.rom80_find.specs.Marks.{AreSieved}
+use Rattle.rom80_find.specs.Places.{ArePlaces}
+use Rattle.rom80_find.specs.Runs.{IsAnswerBefore}
+use Rattle.rom80_find.specs.Search.{SearchValue}
+use Rattle.rom80_find.proofs.PlaceLemmas.{sieved_word}
+use Rattle.rom80_find.proofs.BitLemmas.{same_default}
 use Rattle.rom80_find.proofs.listing.places.Goals as goal
 
-pub loop-at-preserved : goal.loop-at-preserved
-loop-at-preserved c =
-    let dump = dump_of c.args.dump in
+pub loop-word-preserved : goal.loop-word-preserved
+loop-word-preserved c =
+    let now = c.loop-word.invariant in
+    let w = c.loop-word.word in
+    let dump = c.args.dump.now in
+    let lone = c.in_ok-lone.lone.items in
     let code = c.args.code.now in
-    let at = c.loop-at.at in
     let alive = c.in_ok-alive.alive.items in
-    let search = c.loop-at.search in
-    let now = c.loop-at.invariant in
-    let found = c.lies_next-before in
-    let lt : at < 65536 = omega arith in
-    let sieved : AreSieved dump code alive = subst (λ (d : DumpValue). AreSieved d code alive) c.in_ok-runs.ensures c.in_ok-alive.ensures in
-    let is-here = found_at alive at c.index.result.now c.index.result.now sieved.whole lt c.index.ensures refl in
+    let more : 64 * w + 64 ≡ 64 * (w + 1) = omega arith in
+    let sieved : AreSieved dump lone code alive = subst (λ (l : List Bool). AreSieved dump l code alive) c.deref.ensures.value c.in_ok-alive.ensures in
+    let word : c.index.result.now ≡ slice_index_or alive w 0 =
+    c.index.ensures ∙ same_default alive w c.index.result.now 0 (omega (arith, sieved.whole, c.loop-word-test.true)) in
     record {
-      search = found.ensures.same ∙ now.search;
-      before = before_next search found.new.self at found.ensures.same found.result found.ensures.free;
-      places = next_places dump code at lt alive sieved c.index.result.now is-here c.loop-at.places.items now.places search now.search
-          found.result c.push_place.new.places.items found.ensures.known found.ensures.free found.ensures.none c.in_ok-push_place.ensures;
+      search = c.push_places.ensures.same ∙ now.search;
+      before = subst (λ (n : ℕ). IsAnswerBefore c.push_places.new.search.dump c.push_places.new.search.free n c.in_ok-before.before) more
+          (subst (λ (s : SearchValue). IsAnswerBefore s.dump s.free (64 * w + 64) c.in_ok-before.before) (sym c.push_places.ensures.same) c.in_ok-before.ensures.before);
+      places = subst (λ (n : ℕ). ArePlaces dump code n c.push_places.new.places.items) more
+          (c.in_ok-before.ensures.places dump lone code now.search
+          (sieved_word dump lone code alive w c.index.result.now c.loop-word-test.true sieved word) c.in_ok-lone.ensures.lone now.places);
     }

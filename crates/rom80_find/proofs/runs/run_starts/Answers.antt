@@ -1,6 +1,6 @@
 use Rattle.std.proofs.Common.{arith, ◌∙◌, ◌-◌}
 use Rattle.rom80_find.specs.Dump.{dump_of}
-use Rattle.rom80_find.proofs.PlaceLemmas.{same_default}
+use Rattle.rom80_find.proofs.BitLemmas.{same_default}
 use Rattle.rom80_find.proofs.RunLemmas.{starts_more}
 use Rattle.rom80_find.proofs.runs.run_starts.Goals as goal
 

@@ -1,24 +1,26 @@
 use Rattle.std.proofs.Common.{◌≡◌, ℕ, List, arith, length, sym, subst}
 use Rattle.rom80_find.specs.declared.pattern.code_byte.CodeByte.{CodeByte}
-use Rattle.rom80_find.specs.Places.{AreBelow, is_free, is_known_fixup}
+use Rattle.rom80_find.specs.Lone.{is_crowded}
+use Rattle.rom80_find.specs.Places.{AreBelow, is_known_fixup}
 use Rattle.rom80_find.specs.Runs.{AreFree}
 use Rattle.rom80_find.proofs.CodeLieLemmas.{below_filter}
-use Rattle.rom80_find.proofs.RepeatLemmas.{free_filter}
+use Rattle.rom80_find.proofs.LoneLemmas.{crowded_filter}
 use Rattle.rom80_find.proofs.search.Search.of.Goals as goal
 
 pub invariant_of-result : goal.invariant_of-result
 invariant_of-result c =
     let code = c.args.code.now in
+    let lone = c.args.lone.now in
     let bytes = c.in_ok-bytes.bytes in
-    let whole : length c.in_ok-table.table.items ≡ c.args.count = c.in_ok-table.ensures.whole in
+    let whole : length c.in_ok-table.table.items ≡ length lone = c.in_ok-table.ensures.whole in
     record {
       two = omega (arith, whole, c.requires.two);
       known = subst (λ (n : ℕ). AreBelow n bytes.known.items) (sym whole)
-          (subst (λ (l : List CodeByte). AreBelow c.args.count l) (sym c.in_ok-bytes.ensures.known) (below_filter c.args.count is_known_fixup code c.requires.below));
+          (subst (λ (l : List CodeByte). AreBelow (length lone) l) (sym c.in_ok-bytes.ensures.known) (below_filter (length lone) is_known_fixup code c.requires.below));
       below = subst (λ (n : ℕ). AreBelow n bytes.free.items) (sym whole)
-          (subst (λ (l : List CodeByte). AreBelow c.args.count l) (sym c.in_ok-bytes.ensures.free) (below_filter c.args.count is_free code c.requires.below));
-      free = subst (λ (l : List CodeByte). AreFree l) (sym c.in_ok-bytes.ensures.free) (free_filter code);
+          (subst (λ (l : List CodeByte). AreBelow (length lone) l) (sym c.in_ok-bytes.ensures.free) (below_filter (length lone) (is_crowded lone) code c.requires.below));
+      free = subst (λ (l : List CodeByte). AreFree l) (sym c.in_ok-bytes.ensures.free) (crowded_filter lone code);
       low = c.in_ok-bytes.ensures.low;
       high = c.in_ok-bytes.ensures.high;
-      clear = c.in_ok-table.ensures.clear;
+      clear = λ number two all. c.in_ok-table.ensures.each number;
     }

@@ -1,5 +1,4 @@
 use Rattle.std.proofs.Common.{◌≡◌, ◌∙◌, sym, subst, List, ℕ, length, eqb-true}
-use Rattle.rom80_find.specs.Dump.{dump_of}
 use Rattle.rom80_find.specs.Lies.{AreModulePlaces}
 use Rattle.rom80_find.proofs.EmptyLemmas.{empty_places}
 use Rattle.rom80_find.proofs.found.module_pattern.ModulePattern.places.Goals as goal
@@ -8,5 +7,5 @@ pub returns-then-has_none : goal.returns-then-has_none
 returns-then-has_none c =
     let code = c.code-code.result.now in
     let none : length code ≡ 0 = eqb-true (length code) 0 (sym c.has_none.ensures ∙ c.if-has_none.true) in
-    subst (λ (l : List ℕ). AreModulePlaces (dump_of c.args.dump) c.args.self.now l) (sym c.new.ensures.items)
-    (empty_places c.patterns_lie_as_modules.ensures (dump_of c.args.dump) c.args.self.now c.code-code.ensures.rules.sound c.code-code.ensures.short code c.code-code.ensures.bytes none)
+    subst (λ (l : List ℕ). AreModulePlaces c.args.dump.now c.args.self.now l) (sym c.new.ensures.items)
+    (empty_places c.patterns_lie_as_modules.ensures c.args.dump.now c.args.self.now c.code-code.ensures.rules.sound c.code-code.ensures.short code c.code-code.ensures.bytes none)

@@ -1,0 +1,134 @@
+//! Which modules need a name.
+
+ghost use Rattle.std.specs.Prelude.{◌≡◌, ◌++◌, ◌∷◌, ◌+◌, ℕ, [], Some, None, List, map, length, slice_get, IfOk, OnOk};
+ghost use Rattle.link80_text.specs.Needs.{AreNeeds, AreWith, SetsFirst, first_of, is_of};
+ghost use Rattle.link80_text.specs.declared.needs.Need.{Need};
+
+use indexmap::IndexMap;
+use omf_core::Name;
+use omf_library::NameHashes;
+use omf_parts::Module;
+use std::alloc::{AllocError, Global};
+use std::marker::Model;
+
+/// A module that needs a name, by its number, and the entry of the next one that does.
+#[derive(Clone, Copy)]
+pub(crate) struct Need {
+    pub number: usize,
+    pub next: Option<usize>,
+}
+
+/// For each name the modules that need it, one after another: one table for all names. No name is copied.
+#[derive(Drop)]
+pub(crate) struct Needs<'a> {
+    heads: IndexMap<&'a [u8], usize, NameHashes>,
+    needs: Vec<Need>,
+}
+
+impl<'a> Model for Needs<'a> {
+    ghost use Rattle.std.specs.Prelude.{map};
+    ghost use Rattle.link80_text.specs.Needs.{NeedsValue};
+
+    ghost Value = { NeedsValue };
+
+    ghost view = { λ n. record { heads = map (λ e. (e.0.now, e.1)) n.heads.entries; needs = n.needs.items } };
+}
+
+impl<'a> Needs<'a> {
+    /// What these modules need. They are taken from the last one on, so that the first one that needs a name comes first.
+    pub(crate) fn of(alloc: Global, modules: &[&'a Module]) -> Result<Needs<'a>, AllocError>
+        ensures { IfOk result (λ needs. AreNeeds (map (λ m. m.now) modules.now) 0 needs) }
+    {
+        let mut needs = Needs {
+            heads: IndexMap::with_hasher(alloc, hashes_of(modules)),
+            needs: Vec::new(alloc),
+        };
+        for done in 0..modules.len() {
+            let number = modules.len() - 1 - done;
+            needs.add_all(number, modules[number].externals())?;
+        }
+        Ok(needs)
+    }
+
+    /// Adds the names of a module, which comes before those that are there.
+    fn add_all(&mut self, number: usize, names: &'a [Name]) -> Result<(), AllocError>
+        ensures { OnOk result ((rest : List ℕ → List ℕ) → AreWith [] number rest self.old → AreWith names.now number rest self.new) }
+    {
+        for name in names {
+            self.add(number, name)?;
+        }
+        Ok(())
+    }
+
+    /// Adds a name of a module, if that isn't there yet.
+    fn add(&mut self, number: usize, name: &'a Name) -> Result<(), AllocError>
+        ensures { OnOk result ((names : List (List ℕ)) (rest : List ℕ → List ℕ) → AreWith names number rest self.old
+            → AreWith (names ++ name.now ∷ []) number rest self.new) }
+    {
+        let first = self.first(name);
+        if self.is_of(first, number) {
+            return Ok(());
+        }
+        let index = self.link(number, first)?;
+        self.set(name, index)?;
+        Ok(())
+    }
+
+    /// The entry of the first module that needs a name.
+    pub(crate) fn first(&self, name: &Name) -> Option<usize>
+        ensures { result ≡ first_of self.now.heads name.now }
+    {
+        self.heads.get(name.bytes()).copied()
+    }
+
+    /// An entry.
+    pub(crate) fn get(&self, index: usize) -> Option<Need>
+        ensures { result ≡ slice_get self.now.needs index }
+    {
+        self.needs.get(index).copied()
+    }
+
+    /// Whether an entry is of this module.
+    fn is_of(&self, at: Option<usize>, number: usize) -> bool
+        ensures { result ≡ is_of self.now.needs at number }
+    {
+        match at {
+            Some(index) => match self.get(index) {
+                Some(need) => need.number == number,
+                None => false,
+            },
+            None => false,
+        }
+    }
+
+    /// Appends an entry, and gives its index.
+    fn link(&mut self, number: usize, next: Option<usize>) -> Result<usize, AllocError>
+        ensures heads { OnOk result (self.new.heads ≡ self.old.heads) }
+        ensures needs { OnOk result (self.new.needs ≡ self.old.needs ++ record { number = number; next = next } ∷ []) }
+        ensures index { IfOk result (λ index. index ≡ length self.old.needs) }
+    {
+        let index = self.needs.len();
+        self.needs.push(Need { number, next })?;
+        Ok(index)
+    }
+
+    /// The name has this entry from then on.
+    fn set(&mut self, name: &'a Name, index: usize) -> Result<(), AllocError>
+        ensures heads { OnOk result (SetsFirst name.now index self.old.heads self.new.heads) }
+        ensures needs { OnOk result (self.new.needs ≡ self.old.needs) }
+    {
+        self.heads.insert(name.bytes(), index)?;
+        Ok(())
+    }
+}
+
+/// The hashes of a table of the names that the modules need.
+fn hashes_of(modules: &[&Module]) -> NameHashes {
+    let mut hashes = NameHashes::new();
+    for source in modules {
+        for name in source.externals() {
+            hashes.feed(name);
+        }
+    }
+    hashes
+}

@@ -1,0 +1,10 @@
+use Rattle.std.proofs.Common.{ℕ, List, sym, subst}
+use Rattle.rom80_find.specs.Dump.{DumpValue, dump_of}
+use Rattle.rom80_find.specs.Marks.{AreMarks, IsRow}
+use Rattle.rom80_find.proofs.indexed_dump.IndexedDump.row.Goals as goal
+
+pub returns : goal.returns
+returns c =
+    let dump = dump_of c.self.inside.dump in
+    subst (λ (d : DumpValue). IsRow d c.args.row c.row_in.result.now) c.self.view_is
+    (c.row_in.ensures dump (subst (λ (l : List ℕ). AreMarks dump 131072 l) (sym c.deref.ensures.value) c.self.invariant.rows))
