@@ -7,8 +7,7 @@ use plm80_names::{
     NAMED_FILES, NamedFiles, Names, named_refusal, named_refusal_report, named_report,
 };
 use std::alloc::{AllocError, Global};
-use verify80_explain::measure;
-use verify80_explain_text::{append_chain, append_explanation};
+use verify80_explain::{append_chain, append_explanation, measure};
 
 /// The most that the points that are found weigh together: eight for a point, one for each word of its frame and each word taken, and as
 /// much again for each declared target. So as many points as `check` follows, 262,144, each with its return address.

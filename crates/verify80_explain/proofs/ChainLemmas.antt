@@ -1,22 +1,14 @@
--- Chains of calls, and the bounds that they add up to.
-use Rattle.std.proofs.Common.{◌≡◌, ℕ, ℤ, pos, List, [], ◌∷◌, Some, slice_get, refl, sym, ◌∙◌, ap, subst}
-use Rattle.std.specs.Prelude.{◌+ℤ◌, All}
-use Rattle.std.proofs.lemmas.List.Elements.{All-contains}
-use Rattle.std.proofs.lemmas.Option.{same_Some}
-use Rattle.verify80_bounds.specs.Chains.{bytes_of}
+-- Chains of calls.
+use Rattle.std.proofs.Common.{◌≡◌, ℤ, pos, List, [], ◌∷◌, ◌++◌, reverse, refl, sym, ◌∙◌, ap, subst}
+use Rattle.std.specs.Prelude.{◌+ℤ◌}
+use Rattle.std.proofs.lemmas.List.{reverse-append}
 use Rattle.verify80_bounds.specs.declared.graph.CallSite.{CallSite}
 use Rattle.frames80.specs.declared.procedure.Procedure.{Procedure}
 use Rattle.frames80.specs.declared.procedure.Procedure.TheVariants.{Main, Entry}
-use Rattle.frames80.specs.Calls.{depth_of}
-use Rattle.frames80.specs.Code.{Code, role_of}
-use Rattle.verify80_flow.specs.Walks.{Calls}
+use Rattle.frames80.specs.Code.{Code}
 use Rattle.verify80_flow.specs.Use.{Use, last, through}
 use Rattle.verify80_explain.specs.declared.chain.Standing.{Standing}
-use Rattle.verify80_walks.specs.declared.point.Point.{Point}
-use Rattle.verify80_walks.specs.declared.origin.CallingPoint.{CallingPoint}
-use Rattle.verify80_walks.specs.declared.search.Search.{Search}
-use Rattle.verify80_explain.specs.Chains.{CallsAt, ChainsAreUses, EndsWith, IsChain, IsNextCall, IsSiteOf, StandsAt}
-use Rattle.verify80_walks.specs.Search.{IsFound}
+use Rattle.verify80_explain.specs.Chains.{CallsAt, ChainsAreUses, IsChain}
 
 uses : (code : Code) (p : Procedure) (calls : List CallSite) (standing : Standing) (sum : ℤ) → IsChain code p calls standing sum → Use code p sum
 uses code p [] standing sum c =
@@ -30,45 +22,8 @@ uses code p (call ∷ rest) standing sum c =
 pub chains-are-uses : ChainsAreUses
 chains-are-uses code bytes chain c = uses code Main chain.calls.items chain.last (pos bytes) c
 
--- a chain goes on by a call
-pub chain-call : (code : Code) (sites : List CallSite) (bounds : List ℕ) (p : Procedure) (call : CallSite) → All (CallsAt code) sites → IsNextCall sites bounds p call → (rest : List CallSite) (standing : Standing) →
-    IsChain code (Entry call.target) rest standing (pos (bytes_of bounds (Entry call.target))) → IsChain code p (call ∷ rest) standing (pos (bytes_of bounds p))
-chain-call code sites bounds p call all next rest standing c = (next.adds_up.caller, All-contains (CallsAt code) sites call all next.known, (pos (bytes_of bounds (Entry call.target)), c, next.adds_up.sum))
-
--- a chain ends
-pub chain-end : (code : Code) (p : Procedure) (bytes : ℕ) (standing : Standing) → EndsWith code p bytes standing → IsChain code p [] standing (pos bytes)
-chain-end code p bytes standing e = (e.procedure, e.stands, e.sum)
-
--- the call of a point
-pub calls-at : (code : Code) (s : Search) → IsFound code s → (k : ℕ) (calling : CallingPoint) (point : Point) (depth : ℤ) → slice_get s.calls.items k ≡ Some calling → slice_get s.points.keys calling.point ≡ Some point →
-    depth ≡ depth_of (role_of code point.procedure) point.frame → CallsAt code (record { caller = point.procedure; at = point.at; depth = depth; target = calling.target })
-calls-at code s h k calling point depth is there e =
-    let c = h.sound.calls k calling is in
-    let same : c.point ≡ point = same_Some c.point point (sym c.is ∙ there) in
-    record {
-      frame = point.frame;
-      next = calling.next;
-      walk = h.walked calling.point point there;
-      calls = subst (λ (p : Point). Calls code p.procedure p.at p.frame calling.target calling.next) same c.calls;
-      depth = e;
-    }
-
--- the call of a point, as it is noted
-pub site-of : (code : Code) (s : Search) (calling one : CallingPoint) (point : Point) (depth : ℤ) → Some calling ≡ Some one → slice_get s.points.keys calling.point ≡ Some point → depth ≡ depth_of (role_of code point.procedure) point.frame →
-    IsSiteOf code s.points.keys one (record { caller = point.procedure; at = point.at; depth = depth; target = calling.target })
-site-of code s calling one point depth same there e =
-    subst (λ (c : CallingPoint). IsSiteOf code s.points.keys c (record { caller = point.procedure; at = point.at; depth = depth; target = calling.target })) (same_Some calling one same)
-    (record { point = point; there = there; caller = refl; target = refl; depth = e })
-
--- a point of a procedure
-pub stands-at : (code : Code) (s : Search) → IsFound code s → (n : ℕ) (point : Point) (p : Procedure) (depth : ℤ) (bytes : ℕ) → slice_get s.points.keys n ≡ Some point → point.procedure ≡ p → depth ≡ depth_of (role_of code point.procedure) point.frame → pos bytes ≡ depth →
-    EndsWith code p bytes (record { procedure = p; at = point.at; depth = depth })
-stands-at code s h n point p depth bytes is same e sum = record {
-  procedure = refl;
-  stands = subst (λ q. StandsAt code (record { procedure = q; at = point.at; depth = depth })) same (record { frame = point.frame; walk = h.walked n point is; depth = e });
-  sum = sum;
-}
-
--- what is read where there is nothing
-abbrev pub no_calling : CallingPoint
-no_calling = record { point = 0; target = 0; next = 0 }
+-- a chain has one call more before its others, which are listed last first
+pub chain-before : (code : Code) (p : Procedure) (back : List CallSite) (standing : Standing) (below sum : ℤ) (call : CallSite) → IsChain code p (reverse back) standing below → CallsAt code call → p ≡ Entry call.target →
+    sum ≡ (call.depth +ℤ pos 2) +ℤ below → IsChain code call.caller (reverse (back ++ call ∷ [])) standing sum
+chain-before code p back standing below sum call c at of is = subst (λ calls. IsChain code call.caller calls standing sum) (sym (reverse-append back (call ∷ [])))
+    (refl, at, (below, subst (λ q. IsChain code q (reverse back) standing below) of c, is))

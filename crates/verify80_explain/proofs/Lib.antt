@@ -1,10 +1,7 @@
-pub mod ListLemmas
 pub mod ShownLemmas
-pub mod EvidenceLemmas
-pub mod RecursionLemmas
-pub mod RingLemmas
-pub mod KnownLemmas
+pub mod SoughtLemmas
+pub mod WayLemmas
 pub mod ChainLemmas
-pub mod ClashLemmas
-pub mod BoundLemmas
-pub mod StopLemmas
+pub mod RunLemmas
+pub mod LawLemmas
+pub mod TextLemmas

@@ -1,6 +1,6 @@
 //! What shows a refusal.
 
-use verify80_walks::{Call, Route};
+use crate::route::{Call, Route};
 
 /// What shows a refusal.
 #[derive(Debug, Drop)]

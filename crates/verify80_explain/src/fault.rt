@@ -1,8 +1,7 @@
 //! Why there is no explanation.
 
-use std::alloc::AllocError;
+use std::alloc::{AllocError, AllocFailed};
 use thiserror::Error;
-use verify80_walks::Stop;
 
 /// Why there is no explanation.
 #[derive(Clone, Copy, PartialEq, Eq, Debug, Error)]
@@ -18,28 +17,14 @@ pub enum Unexplained {
     Memory,
 }
 
-impl From<Stop> for Unexplained {
-    ghost use Rattle.std.specs.Prelude.{◌≡◌, ◌≢◌};
-    ghost use Rattle.verify80_walks.specs.declared.fault.Stop.TheVariants.{Limit as StopsByLimit};
-    ghost use Rattle.verify80_explain.specs.declared.fault.Unexplained.TheVariants.{Limit, NotShown};
-
-    ghost from_gives = { λ stop fault. (fault ≢ NotShown) × (fault ≡ Limit → stop ≡ StopsByLimit) };
-
-    fn from(stop: Stop) -> Unexplained {
-        match stop {
-            Stop::Limit => Unexplained::Limit,
-            Stop::Memory => Unexplained::Memory,
-        }
+impl From<AllocError> for Unexplained {
+    fn from(_: AllocError) -> Unexplained {
+        Unexplained::Memory
     }
 }
 
-impl From<AllocError> for Unexplained {
-    ghost use Rattle.std.specs.Prelude.{◌≡◌};
-    ghost use Rattle.verify80_explain.specs.declared.fault.Unexplained.TheVariants.{Memory};
-
-    ghost from_gives = { λ _ fault. fault ≡ Memory };
-
-    fn from(_: AllocError) -> Unexplained {
+impl<T: Drop> From<AllocFailed<T>> for Unexplained {
+    fn from(_: AllocFailed<T>) -> Unexplained {
         Unexplained::Memory
     }
 }

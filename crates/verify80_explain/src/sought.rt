@@ -1,17 +1,21 @@
-//! What shows a refusal, and where it is found among the points of a search.
+//! What shows a refusal, and whether points of a search do.
 
-ghost use Rattle.std.specs.Prelude.{◌≡◌, Err, IfOk, IfSome, IfNone};
-ghost use Rattle.verify80_explain.specs.declared.sought.Kind.TheVariants.{Fault as KindOfFault, Clash as KindOfClash};
-ghost use Rattle.verify80_walks.specs.declared.fault.Stop.TheVariants.{Limit};
-ghost use Rattle.verify80_walks.specs.Counts.{HasDeep};
-ghost use Rattle.verify80_explain.specs.Sought.{IsEvidence, IsNoEvidence, IsSoughtFor, IsOfNoWay};
+ghost use Rattle.std.specs.Prelude.{◌≡◌, IfOk, IfSome};
+ghost use Rattle.verify80_explain.specs.declared.sought.Kind.TheVariants.{Fault as OfFault, Clash as OfClash, Ring as OfRing};
+ghost use Rattle.verify80_explain.specs.Evidence.{IsSoughtFor, ShowsKind};
 
-use crate::clashes::find_clash;
-use crate::evidence::{Clash, Fault, Pair, find_fault};
+use crate::evidence::{Clash, Fault, is_clash, is_fault};
+use crate::explanation::Explanation;
+use crate::fault::Unexplained;
+use crate::finding::{find_clash, find_fault};
+use crate::point::Point;
+use crate::reached::are_reached;
+use crate::ring::{find_ring, show_ring};
+use crate::search::{Origin, Search};
+use crate::ways::route_to;
 use frames80::{Code, FrameFault, LookFault};
 use std::alloc::Global;
 use verify80_flow::Refusal;
-use verify80_walks::{Point, Stop};
 
 /// What shows a refusal, at an address.
 #[derive(Clone, Copy)]
@@ -27,21 +31,14 @@ pub(crate) enum Kind {
     Fault(Fault),
     /// Two points that clash.
     Clash(Clash),
-}
-
-/// Points that show a refusal, by their numbers.
-#[derive(Clone, Copy)]
-pub(crate) enum Evidence {
-    /// One point.
-    One(usize),
-    /// Two points.
-    Two(Pair),
+    /// Calls that lead back to the procedure of the first of them.
+    Ring,
 }
 
 impl Sought {
     /// A fault at an address.
     fn fault(at: u16, fault: Fault) -> Sought
-        ensures { result ≡ record { at = at; kind = KindOfFault fault } }
+        ensures { result ≡ record { at = at; kind = OfFault fault } }
     {
         Sought {
             at,
@@ -51,7 +48,7 @@ impl Sought {
 
     /// A clash at an address.
     fn clash(at: u16, clash: Clash) -> Sought
-        ensures { result ≡ record { at = at; kind = KindOfClash clash } }
+        ensures { result ≡ record { at = at; kind = OfClash clash } }
     {
         Sought {
             at,
@@ -59,10 +56,19 @@ impl Sought {
         }
     }
 
-    /// What shows a refusal; `None` if no walks do.
+    /// A ring by a call at an address.
+    fn ring(at: u16) -> Sought
+        ensures { result ≡ record { at = at; kind = OfRing } }
+    {
+        Sought {
+            at,
+            kind: Kind::Ring,
+        }
+    }
+
+    /// What shows a refusal; `None` for those of the stack, of the number of points, and of memory, which no ways show.
     pub(crate) fn of(refusal: Refusal) -> Option<Sought>
-        ensures sought { IfSome result (IsSoughtFor refusal) }
-        ensures none { IfNone result (IsOfNoWay refusal) }
+        ensures { IfSome result (IsSoughtFor refusal) }
     {
         Some(match refusal {
             Refusal::FetchOutside(at) => Sought::fault(at, Fault::Look(LookFault::Outside)),
@@ -83,36 +89,98 @@ impl Sought {
             Refusal::HeightsDiffer(at) => Sought::clash(at, Clash::Heights),
             Refusal::UnevenArguments(at) => Sought::clash(at, Clash::Returns),
             Refusal::ShortArguments(at) => Sought::clash(at, Clash::Shortage),
-            Refusal::Recursion(_)
-            | Refusal::StackTooSmall(_, _)
-            | Refusal::TooManyPoints
-            | Refusal::Memory => return None,
+            Refusal::Recursion(at) => Sought::ring(at),
+            Refusal::StackTooSmall(_, _) | Refusal::TooManyPoints | Refusal::Memory => return None,
         })
     }
 
-    /// The first points that show it.
-    ///
-    /// # Errors
-    /// `Limit` if a frame has more than 1,000,000 words, or as many taken; `Memory` if memory runs out.
-    pub(crate) fn find<C: Code>(
+    /// The explanation that shows it, if points of a search do.
+    pub(crate) fn show<C: Code>(
         self,
         alloc: Global,
         program: &C,
-        points: &[Point],
-    ) -> Result<Option<Evidence>, Stop>
-        ensures found { IfOk result (λ found. IfSome found (IsEvidence (C.code program.now) points.now self)) }
-        ensures none { IfOk result (λ found. IfNone found (IsNoEvidence (C.code program.now) points.now self)) }
-        ensures limited { result ≡ Err Limit → HasDeep points.now }
+        search: &Search,
+    ) -> Result<Option<Explanation>, Unexplained>
+        ensures { IfOk result (λ shown. IfSome shown (ShowsKind (C.code program.now) self.at self.kind)) }
     {
-        Ok(match self.kind {
+        let points = search.points.as_slice();
+        let origins = search.origins.as_slice();
+        match self.kind {
             Kind::Fault(fault) => {
-                let number = find_fault(alloc, program, points, self.at, fault)?;
-                number.map(Evidence::One)
+                let Some(number) = find_fault(alloc, program, points, self.at, fault)? else {
+                    return Ok(None);
+                };
+                show_fault(alloc, program, points, origins, self.at, fault, number)
             }
             Kind::Clash(clash) => {
-                let pair = find_clash(alloc, program, points, self.at, clash)?;
-                pair.map(Evidence::Two)
+                let Some(pair) = find_clash(alloc, program, points, self.at, clash)? else {
+                    return Ok(None);
+                };
+                show_clash(
+                    alloc, program, points, origins, self.at, clash, pair.one, pair.other,
+                )
             }
-        })
+            Kind::Ring => {
+                let Some(ring) = find_ring(alloc, search, self.at)? else {
+                    return Ok(None);
+                };
+                show_ring(alloc, program, points, origins, self.at, &ring)
+            }
+        }
+    }
+}
+
+/// The way to a point, if the instruction at an address may not be executed there for this reason.
+fn show_fault<C: Code>(
+    alloc: Global,
+    program: &C,
+    points: &[Point],
+    origins: &[Origin],
+    at: u16,
+    fault: Fault,
+    number: usize,
+) -> Result<Option<Explanation>, Unexplained>
+    ensures { IfOk result (λ shown. IfSome shown (ShowsKind (C.code program.now) at (OfFault fault))) }
+{
+    if number >= points.len() || !is_fault(alloc, program, &points[number], at, fault)? {
+        return Ok(None);
+    }
+    if !are_reached(alloc, program, points, origins)? {
+        return Ok(None);
+    }
+    match route_to(alloc, program, points, origins, number)? {
+        Some(route) => Ok(Some(Explanation::Way(route))),
+        None => Ok(None),
+    }
+}
+
+/// The ways to two points, if they clash so, the first of them at an address.
+fn show_clash<C: Code>(
+    alloc: Global,
+    program: &C,
+    points: &[Point],
+    origins: &[Origin],
+    at: u16,
+    clash: Clash,
+    one: usize,
+    other: usize,
+) -> Result<Option<Explanation>, Unexplained>
+    ensures { IfOk result (λ shown. IfSome shown (ShowsKind (C.code program.now) at (OfClash clash))) }
+{
+    if one >= points.len() || other >= points.len() {
+        return Ok(None);
+    }
+    if !is_clash(alloc, program, &points[one], &points[other], at, clash)? {
+        return Ok(None);
+    }
+    if !are_reached(alloc, program, points, origins)? {
+        return Ok(None);
+    }
+    let Some(route) = route_to(alloc, program, points, origins, one)? else {
+        return Ok(None);
+    };
+    match route_to(alloc, program, points, origins, other)? {
+        Some(second) => Ok(Some(Explanation::Ways(route, second))),
+        None => Ok(None),
     }
 }

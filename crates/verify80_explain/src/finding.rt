@@ -1,0 +1,238 @@
+//! A search through the points for those that show a refusal. Nothing rests on what it finds.
+
+use crate::evidence::{Clash, Fault, is_clash, is_fault};
+use crate::fault::Unexplained;
+use crate::looked::{call_at, words_taken};
+use crate::point::Point;
+use frames80::{Code, slot};
+use indexmap::IndexMap;
+use std::alloc::{AllocError, Global};
+use verify80_flow::Procedure;
+
+/// Two points of a search, by their numbers.
+#[derive(Clone, Copy)]
+pub(crate) struct Pair {
+    pub(crate) one: usize,
+    pub(crate) other: usize,
+}
+
+/// What two points of a procedure differ by: words taken and, of a point that doesn't return, words.
+#[derive(Clone, Copy, PartialEq, Eq)]
+struct Count {
+    taken: u32,
+    words: usize,
+}
+
+/// The first point of a procedure that has a count, and the first one that has another.
+#[derive(Clone, Copy)]
+struct Counts {
+    first: usize,
+    count: Count,
+    other: Option<usize>,
+}
+
+/// The first point where the instruction at an address may not be executed for this reason.
+pub(crate) fn find_fault<C: Code>(
+    alloc: Global,
+    program: &C,
+    points: &[Point],
+    at: u16,
+    fault: Fault,
+) -> Result<Option<usize>, Unexplained> {
+    for number in 0..points.len() {
+        if is_fault(alloc, program, &points[number], at, fault)? {
+            return Ok(Some(number));
+        }
+    }
+    Ok(None)
+}
+
+/// The first two points that clash so, the first of them at an address.
+pub(crate) fn find_clash<C: Code>(
+    alloc: Global,
+    program: &C,
+    points: &[Point],
+    at: u16,
+    clash: Clash,
+) -> Result<Option<Pair>, Unexplained> {
+    match clash {
+        Clash::Heights | Clash::Returns => find_difference(alloc, program, points, at, clash),
+        Clash::Shortage => find_shortage(alloc, program, points, at),
+    }
+}
+
+/// The first two points of one procedure whose counts differ, the first of them at an address.
+fn find_difference<C: Code>(
+    alloc: Global,
+    program: &C,
+    points: &[Point],
+    at: u16,
+    clash: Clash,
+) -> Result<Option<Pair>, Unexplained> {
+    let counts = count_points(alloc, program, points, at, clash)?;
+    for one in 0..points.len() {
+        if points[one].at == at {
+            if let Some(other) = differing(alloc, program, &points[one], &counts, at, clash)? {
+                return Ok(Some(Pair { one, other }));
+            }
+        }
+    }
+    Ok(None)
+}
+
+/// The first point of a point's procedure that has another count.
+fn differing<C: Code>(
+    alloc: Global,
+    program: &C,
+    point: &Point,
+    counts: &IndexMap<usize, Counts>,
+    at: u16,
+    clash: Clash,
+) -> Result<Option<usize>, Unexplained> {
+    let Some(known) = counts.get(&slot(point.procedure)) else {
+        return Ok(None);
+    };
+    let Some(other) = known.other else {
+        return Ok(None);
+    };
+    match count_of(alloc, program, point, at, clash)? {
+        Some(count) if count == known.count => Ok(Some(other)),
+        Some(_) => Ok(Some(known.first)),
+        None => Ok(None),
+    }
+}
+
+/// For each procedure, the first of its points that has a count, and the first one that has another.
+fn count_points<C: Code>(
+    alloc: Global,
+    program: &C,
+    points: &[Point],
+    at: u16,
+    clash: Clash,
+) -> Result<IndexMap<usize, Counts>, Unexplained> {
+    let mut counts = IndexMap::new(alloc);
+    for number in 0..points.len() {
+        if let Some(count) = count_of(alloc, program, &points[number], at, clash)? {
+            note(&mut counts, slot(points[number].procedure), number, count)?;
+        }
+    }
+    Ok(counts)
+}
+
+/// Notes the count of a point of a procedure.
+fn note(
+    counts: &mut IndexMap<usize, Counts>,
+    place: usize,
+    number: usize,
+    count: Count,
+) -> Result<(), AllocError> {
+    let noted = match counts.get(&place) {
+        None => Counts {
+            first: number,
+            count,
+            other: None,
+        },
+        Some(known) => {
+            if known.other.is_some() || known.count == count {
+                return Ok(());
+            }
+            Counts {
+                first: known.first,
+                count: known.count,
+                other: Some(number),
+            }
+        }
+    };
+    counts.insert(place, noted)?;
+    Ok(())
+}
+
+/// What a point may differ by from others of its procedure: its height, if it is at an address, or the words taken, if it returns.
+fn count_of<C: Code>(
+    alloc: Global,
+    program: &C,
+    point: &Point,
+    at: u16,
+    clash: Clash,
+) -> Result<Option<Count>, Unexplained> {
+    match clash {
+        Clash::Heights if point.at == at => Ok(Some(Count {
+            taken: point.frame.taken,
+            words: point.frame.words.len(),
+        })),
+        Clash::Returns => match words_taken(alloc, program, point)? {
+            Some(taken) => Ok(Some(Count { taken, words: 0 })),
+            None => Ok(None),
+        },
+        _ => Ok(None),
+    }
+}
+
+/// The first two points of which one calls at an address, and the other, of its callee, has taken more words than the caller has.
+fn find_shortage<C: Code>(
+    alloc: Global,
+    program: &C,
+    points: &[Point],
+    at: u16,
+) -> Result<Option<Pair>, Unexplained> {
+    // All calls at one address have one callee, so where it has taken most is found once.
+    let mut most = None;
+    for one in 0..points.len() {
+        let point = &points[one];
+        if point.at == at {
+            let Some(call) = call_at(alloc, program, point)? else {
+                return Ok(None);
+            };
+            let last = match most {
+                Some(last) => last,
+                None => most_taken(points, Procedure::Entry(call.target)),
+            };
+            most = Some(last);
+            if last < points.len()
+                && is_clash(alloc, program, point, &points[last], at, Clash::Shortage)?
+            {
+                return first_short(alloc, program, points, one);
+            }
+        }
+    }
+    Ok(None)
+}
+
+/// A point that calls, and the first one that has taken more words than it has to give.
+fn first_short<C: Code>(
+    alloc: Global,
+    program: &C,
+    points: &[Point],
+    one: usize,
+) -> Result<Option<Pair>, Unexplained> {
+    let Some(point) = points.get(one) else {
+        return Ok(None);
+    };
+    for other in 0..points.len() {
+        if is_clash(
+            alloc,
+            program,
+            point,
+            &points[other],
+            point.at,
+            Clash::Shortage,
+        )? {
+            return Ok(Some(Pair { one, other }));
+        }
+    }
+    Ok(None)
+}
+
+/// The number of a point of a procedure that has taken most words; 0 if none has taken any.
+fn most_taken(points: &[Point], procedure: Procedure) -> usize {
+    let mut most = 0;
+    let mut last = 0;
+    for number in 0..points.len() {
+        let point = &points[number];
+        if point.procedure == procedure && point.frame.taken > most {
+            most = point.frame.taken;
+            last = number;
+        }
+    }
+    last
+}

@@ -1,0 +1,49 @@
+//! Numbers by what each belongs to.
+
+use indexmap::IndexMap;
+use std::alloc::{AllocError, Global};
+
+/// Numbers from 0 on, each of a key. Those of one key are found without the others.
+#[derive(Drop)]
+pub(crate) struct Groups {
+    /// For each key, its last number.
+    last: IndexMap<usize, usize>,
+    /// For each number, the one before it that is of the same key.
+    before: Vec<Option<usize>>,
+}
+
+impl Groups {
+    /// No numbers.
+    pub(crate) fn new(alloc: Global) -> Groups {
+        Groups {
+            last: IndexMap::new(alloc),
+            before: Vec::new(alloc),
+        }
+    }
+
+    /// Gives the next number to a key.
+    pub(crate) fn push(&mut self, key: usize) -> Result<(), AllocError> {
+        let number = self.before.len();
+        let before = self.last.insert(key, number)?;
+        self.before.push(before)?;
+        Ok(())
+    }
+
+    /// The numbers of a key, in order.
+    pub(crate) fn of(&self, alloc: Global, key: usize) -> Result<Vec<usize>, AllocError> {
+        let mut of = Vec::new(alloc);
+        let mut at = self.last.get(&key).copied();
+        for _ in 0..self.before.len() {
+            let Some(number) = at else {
+                break;
+            };
+            of.push(number)?;
+            at = match self.before.get(number) {
+                Some(before) => *before,
+                None => None,
+            };
+        }
+        of.reverse();
+        Ok(of)
+    }
+}

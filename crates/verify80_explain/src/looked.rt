@@ -1,0 +1,146 @@
+//! A look at a point.
+
+ghost use Rattle.std.specs.Prelude.{◌≡◌, ◌≤◌, true, IfOk, IfSome, Some, length};
+ghost use Rattle.verify80_flow.specs.Walks.{Calls, Returns, called, returning};
+ghost use Rattle.verify80_explain.specs.Reached.{IsBack, IsLooked};
+
+use crate::fault::Unexplained;
+use crate::point::Point;
+use frames80::{CallFault, Code, Frame, FrameFault, LookFault, Moves, Role, after, next, role_of};
+use std::alloc::Global;
+
+/// The most words that a frame has that is followed, and the most that it has taken.
+const MOST_WORDS: usize = 1_000_000;
+
+/// What a look at a point finds.
+#[derive(Drop)]
+pub(crate) enum Looked {
+    /// No instruction may be executed at the address.
+    Wrong(LookFault),
+    /// The instruction may not be executed with the frame.
+    Stuck(FrameFault),
+    /// Where the instruction leads, and the address after it.
+    Moved(Moves, u16),
+}
+
+/// A call: the address that is called, and the one after the instruction.
+#[derive(Clone, Copy)]
+pub(crate) struct Called {
+    pub(crate) target: u16,
+    pub(crate) next: u16,
+}
+
+/// A look at a point: what its instruction makes of its frame.
+pub(crate) fn look_at<C: Code>(
+    alloc: Global,
+    program: &C,
+    point: &Point,
+) -> Result<Looked, Unexplained>
+    ensures { IfOk result (IsLooked (C.code program.now) point.now) }
+{
+    let found = match program.look(point.at) {
+        Ok(found) => found,
+        Err(fault) => return Ok(Looked::Wrong(fault)),
+    };
+    if !is_within(&point.frame) {
+        return Err(Unexplained::Limit);
+    }
+    match next(
+        alloc,
+        &point.frame,
+        found.instr,
+        role_of(program, point.procedure),
+    ) {
+        Ok(moves) => Ok(Looked::Moved(moves, found.next)),
+        Err(FrameFault::Memory) => Err(Unexplained::Memory),
+        Err(fault) => Ok(Looked::Stuck(fault)),
+    }
+}
+
+/// Whether a frame is followed: it has up to 1,000,000 words, and as many taken.
+pub(crate) fn is_within(frame: &Frame) -> bool
+    ensures words { result ≡ true → length frame.now.words ≤ 1000000 }
+    ensures taken { result ≡ true → frame.now.taken ≤ 1000000 }
+{
+    frame.taken as usize <= MOST_WORDS && frame.words.len() <= MOST_WORDS
+}
+
+/// The caller's frame when a callee has returned that took a given number of words; `None` if the caller has fewer.
+pub(crate) fn back(
+    alloc: Global,
+    frame: &Frame,
+    role: Role,
+    taken: u32,
+) -> Result<Option<Frame>, Unexplained>
+    ensures { IfOk result (λ back. IfSome back (IsBack role taken frame.now)) }
+{
+    if !is_within(frame) {
+        return Err(Unexplained::Limit);
+    }
+    match after(alloc, frame, role, taken, taken) {
+        Ok(frame) => Ok(Some(frame)),
+        Err(CallFault::ShortArguments) => Ok(None),
+        Err(CallFault::Memory) => Err(Unexplained::Memory),
+    }
+}
+
+/// How many words a point's procedure has taken where the point returns; `None` if it doesn't.
+pub(crate) fn words_taken<C: Code>(
+    alloc: Global,
+    program: &C,
+    point: &Point,
+) -> Result<Option<u32>, Unexplained>
+    ensures { IfOk result (λ r.
+        IfSome r (Returns (C.code program.now) point.now.procedure point.now.at point.now.frame)) }
+{
+    match look_at(alloc, program, point)? {
+        Looked::Moved(moves, _next) => Ok(returning(&moves)),
+        Looked::Wrong(_fault) => Ok(None),
+        Looked::Stuck(_fault) => Ok(None),
+    }
+}
+
+/// With how many words taken a move returns; `None` if it doesn't.
+fn returning(moves: &Moves) -> Option<u32>
+    ensures { result ≡ returning moves.now }
+{
+    match moves {
+        Moves::Return(taken) => Some(*taken),
+        Moves::MaybeReturn(_, taken) => Some(*taken),
+        _ => None,
+    }
+}
+
+/// What a point calls; `None` if it doesn't call.
+pub(crate) fn call_at<C: Code>(
+    alloc: Global,
+    program: &C,
+    point: &Point,
+) -> Result<Option<Called>, Unexplained>
+    ensures { IfOk result (λ r. IfSome r (λ call.
+        Calls (C.code program.now) point.now.procedure point.now.at point.now.frame call.target call.next)) }
+{
+    match look_at(alloc, program, point)? {
+        Looked::Moved(moves, next) => Ok(call_of(&moves, next)),
+        Looked::Wrong(_fault) => Ok(None),
+        Looked::Stuck(_fault) => Ok(None),
+    }
+}
+
+/// What a move calls; `None` if it doesn't call.
+fn call_of(moves: &Moves, next: u16) -> Option<Called>
+    ensures called { IfSome result (λ call. called moves.now ≡ Some call.target) }
+    ensures next { IfSome result (λ call. call.next ≡ next) }
+{
+    match moves {
+        Moves::Call(_, target) => Some(Called {
+            target: *target,
+            next,
+        }),
+        Moves::MaybeCall(_, target) => Some(Called {
+            target: *target,
+            next,
+        }),
+        _ => None,
+    }
+}

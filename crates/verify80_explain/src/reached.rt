@@ -1,0 +1,177 @@
+//! Whether the points of a search are reached: each comes from earlier ones, as its origin says.
+
+ghost use Rattle.std.specs.Prelude.{◌≡◌, ◌≤◌, true, IfOk, length};
+ghost use Rattle.verify80_flow.specs.Walks.{Begins, LeadsTo};
+ghost use Rattle.verify80_explain.specs.Reached.{AreReached, AreWalked, BackFrom, Comes, EntersFrom};
+ghost use Rattle.verify80_explain.specs.Ways.{LeadsOn};
+
+use crate::fault::Unexplained;
+use crate::looked::{Looked, back, call_at, look_at, words_taken};
+use crate::point::Point;
+use crate::search::Origin;
+use frames80::{Code, Frame, Moves, role_of};
+use std::alloc::{AllocError, Global};
+use verify80_flow::Procedure;
+
+/// Whether each point comes from earlier ones, as its origin says, so that a walk reaches it.
+pub(crate) fn are_reached<C: Code>(
+    alloc: Global,
+    program: &C,
+    points: &[Point],
+    origins: &[Origin],
+) -> Result<bool, Unexplained>
+    ensures reached { IfOk result (λ r. r ≡ true → AreReached (C.code program.now) points.now origins.now) }
+    ensures walked { IfOk result (λ r. r ≡ true → AreWalked (C.code program.now) points.now) }
+{
+    if origins.len() != points.len() {
+        return Ok(false);
+    }
+    for number in 0..points.len() {
+        if !comes_from(
+            alloc,
+            program,
+            points,
+            number,
+            &points[number],
+            origins[number],
+        )? {
+            return Ok(false);
+        }
+    }
+    Ok(true)
+}
+
+/// Whether the point of a number comes from earlier ones, as an origin says.
+fn comes_from<C: Code>(
+    alloc: Global,
+    program: &C,
+    points: &[Point],
+    number: usize,
+    point: &Point,
+    origin: Origin,
+) -> Result<bool, Unexplained>
+    requires { number ≤ length points.now }
+    ensures { IfOk result (λ r. r ≡ true → Comes (C.code program.now) points.now number point.now origin) }
+{
+    match origin {
+        Origin::Begins => Ok(begins(alloc, program, point)?),
+        Origin::GoesOn(from) => {
+            if from >= number {
+                return Ok(false);
+            }
+            leads_on(alloc, program, &points[from], point)
+        }
+        Origin::Enters(call) => {
+            if call >= number {
+                return Ok(false);
+            }
+            enters(alloc, program, &points[call], point)
+        }
+        Origin::ComesBack { call, exit } => {
+            if call >= number || exit >= number {
+                return Ok(false);
+            }
+            comes_back(alloc, program, &points[call], &points[exit], point)
+        }
+    }
+}
+
+/// Whether the main program begins at a point.
+fn begins<C: Code>(alloc: Global, program: &C, point: &Point) -> Result<bool, AllocError>
+    ensures { IfOk result (λ r. r ≡ true → Begins (C.code program.now) point.now.procedure point.now.at point.now.frame) }
+{
+    let frame = Frame::main_entry(alloc)?;
+    Ok(
+        point.procedure == Procedure::Main
+            && point.at == program.start()
+            && is_same(&point.frame, &frame),
+    )
+}
+
+/// Whether two frames are the same.
+fn is_same(one: &Frame, other: &Frame) -> bool
+    ensures { result ≡ true → one.now ≡ other.now }
+{
+    *one == *other
+}
+
+/// Whether the instruction of a point leads to another one.
+fn leads_on<C: Code>(
+    alloc: Global,
+    program: &C,
+    one: &Point,
+    other: &Point,
+) -> Result<bool, Unexplained>
+    ensures { IfOk result (λ r. r ≡ true → LeadsOn (C.code program.now) one.now other.now) }
+{
+    let Looked::Moved(moves, next) = look_at(alloc, program, one)? else {
+        return Ok(false);
+    };
+    let targets = program.targets(one.at);
+    Ok(other.procedure == one.procedure && leads_to(&moves, targets, next, other.at, &other.frame))
+}
+
+/// Whether a move leads to an address with a frame, calls aside.
+fn leads_to(moves: &Moves, targets: &[u16], next: u16, to: u16, frame: &Frame) -> bool
+    ensures { result ≡ true → LeadsTo moves.now targets.now next to frame.now }
+{
+    match moves {
+        Moves::On(after) => to == next && is_same(frame, after),
+        Moves::Jump(after, address) => to == *address && is_same(frame, after),
+        Moves::Either(after, address) => (to == next || to == *address) && is_same(frame, after),
+        Moves::Case(after) => targets.contains(&to) && is_same(frame, after),
+        Moves::MaybeCall(after, _target) => to == next && is_same(frame, after),
+        Moves::MaybeReturn(after, _taken) => to == next && is_same(frame, after),
+        Moves::End => false,
+        Moves::Call(_frame, _target) => false,
+        Moves::Return(_taken) => false,
+    }
+}
+
+/// Whether a point calls the procedure that is entered at another one.
+fn enters<C: Code>(
+    alloc: Global,
+    program: &C,
+    one: &Point,
+    other: &Point,
+) -> Result<bool, Unexplained>
+    ensures { IfOk result (λ r. r ≡ true → EntersFrom (C.code program.now) one.now other.now) }
+{
+    let frame = Frame::entry(alloc)?;
+    let Some(call) = call_at(alloc, program, one)? else {
+        return Ok(false);
+    };
+    Ok(
+        other.procedure == Procedure::Entry(call.target)
+            && other.at == call.target
+            && is_same(&other.frame, &frame),
+    )
+}
+
+/// Whether a point calls a procedure that returns from a second one, and goes on at a third.
+fn comes_back<C: Code>(
+    alloc: Global,
+    program: &C,
+    one: &Point,
+    callee: &Point,
+    other: &Point,
+) -> Result<bool, Unexplained>
+    ensures { IfOk result (λ r. r ≡ true → BackFrom (C.code program.now) one.now callee.now other.now) }
+{
+    let Some(call) = call_at(alloc, program, one)? else {
+        return Ok(false);
+    };
+    let Some(taken) = words_taken(alloc, program, callee)? else {
+        return Ok(false);
+    };
+    let role = role_of(program, one.procedure);
+    let Some(frame) = back(alloc, &one.frame, role, taken)? else {
+        return Ok(false);
+    };
+    Ok(
+        other.procedure == one.procedure
+            && other.at == call.next
+            && callee.procedure == Procedure::Entry(call.target)
+            && is_same(&other.frame, &frame),
+    )
+}

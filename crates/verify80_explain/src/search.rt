@@ -1,0 +1,311 @@
+//! A search for the points that the walks of a program reach, one by one, breadth first. Nothing rests on what it finds: of the points
+//! that show a refusal it is checked that each comes from earlier ones (`reached`).
+
+use crate::fault::Unexplained;
+use crate::groups::Groups;
+use crate::looked::{Looked, back, look_at};
+use crate::point::Point;
+use frames80::{Code, Frame, Moves, role_of, slot};
+use indexmap::IndexSet;
+use std::alloc::{AllocError, Global};
+use verify80_flow::Procedure;
+
+/// Where a point of a search comes from: numbers of points that were found before it.
+#[derive(Clone, Copy)]
+pub(crate) enum Origin {
+    /// The main program begins there.
+    Begins,
+    /// The instruction of a point leads there.
+    GoesOn(usize),
+    /// A point calls the procedure, which is entered there.
+    Enters(usize),
+    /// A point calls a procedure that returns from another point, and goes on there.
+    ComesBack {
+        /// The point that calls.
+        call: usize,
+        /// The point from which the procedure returns.
+        exit: usize,
+    },
+}
+
+/// A point that calls an address, and would come back to `next`.
+#[derive(Clone, Copy)]
+pub(crate) struct CallingPoint {
+    pub(crate) point: usize,
+    pub(crate) target: u16,
+    pub(crate) next: u16,
+}
+
+/// A point that returns, with a given number of words taken.
+#[derive(Clone, Copy)]
+struct Exit {
+    point: usize,
+    taken: u32,
+}
+
+/// A point: its procedure's place in a table, its address, and the number of its frame.
+#[derive(Clone, Copy, PartialEq, Eq, Hash)]
+struct Key {
+    place: usize,
+    at: u16,
+    frame: usize,
+}
+
+/// The points that were found, in order of first sight, and where each comes from.
+#[derive(Drop)]
+pub(crate) struct Search {
+    pub(crate) points: Vec<Point>,
+    /// The points that are known.
+    known: IndexSet<Key>,
+    /// The frames of the points, each once.
+    frames: IndexSet<Frame>,
+    /// Where each of the points comes from.
+    pub(crate) origins: Vec<Origin>,
+    /// The points that call, in order of first sight.
+    pub(crate) calls: Vec<CallingPoint>,
+    /// The numbers of the calls by callee.
+    calls_of: Groups,
+    /// The points that return, in order of first sight; one for each number of words that a procedure takes.
+    exits: Vec<Exit>,
+    /// The numbers of the exits by procedure.
+    exits_of: Groups,
+    /// How many points have been followed.
+    followed: usize,
+    /// What the points weigh together, or the most that a number can say.
+    weight: usize,
+}
+
+impl Search {
+    /// The start of the main program alone.
+    pub(crate) fn new<C: Code>(alloc: Global, program: &C) -> Result<Search, AllocError> {
+        let mut search = Search {
+            points: Vec::new(alloc),
+            known: IndexSet::new(alloc),
+            frames: IndexSet::new(alloc),
+            origins: Vec::new(alloc),
+            calls: Vec::new(alloc),
+            calls_of: Groups::new(alloc),
+            exits: Vec::new(alloc),
+            exits_of: Groups::new(alloc),
+            followed: 0,
+            weight: 0,
+        };
+        let frame = Frame::main_entry(alloc)?;
+        search.add(
+            alloc,
+            program,
+            Procedure::Main,
+            program.start(),
+            frame,
+            Origin::Begins,
+        )?;
+        Ok(search)
+    }
+
+    /// Follows points in order of first sight until all are followed, or until those that were found weigh more than a given amount.
+    /// Answers whether all are.
+    pub(crate) fn grow<C: Code>(
+        &mut self,
+        alloc: Global,
+        program: &C,
+        weight: usize,
+    ) -> Result<bool, Unexplained> {
+        for number in self.followed..usize::MAX {
+            if number >= self.points.len() {
+                break;
+            }
+            if self.weight > weight {
+                return Ok(false);
+            }
+            self.visit(alloc, program, number)?;
+            self.followed = number + 1;
+        }
+        Ok(true)
+    }
+
+    /// Adds a point if it isn't there yet.
+    fn add<C: Code>(
+        &mut self,
+        alloc: Global,
+        program: &C,
+        procedure: Procedure,
+        at: u16,
+        frame: Frame,
+        origin: Origin,
+    ) -> Result<(), AllocError> {
+        let key = Key {
+            place: slot(procedure),
+            at,
+            frame: self.number_of(alloc, &frame)?,
+        };
+        if self.known.insert(key)? {
+            let point = Point {
+                procedure,
+                at,
+                frame,
+            };
+            self.weight = self.weight.saturating_add(weight_of(program, &point));
+            self.points.push(point)?;
+            self.origins.push(origin)?;
+        }
+        Ok(())
+    }
+
+    /// The number of a frame.
+    fn number_of(&mut self, alloc: Global, frame: &Frame) -> Result<usize, AllocError> {
+        if let Some(number) = self.frames.get_index_of(frame) {
+            return Ok(number);
+        }
+        let (number, _) = self.frames.insert_full(frame.copy(alloc)?)?;
+        Ok(number)
+    }
+
+    /// Adds where a point leads.
+    fn visit<C: Code>(
+        &mut self,
+        alloc: Global,
+        program: &C,
+        number: usize,
+    ) -> Result<(), Unexplained> {
+        let Some(point) = self.points.get(number) else {
+            return Ok(());
+        };
+        let (procedure, at) = (point.procedure, point.at);
+        match look_at(alloc, program, point)? {
+            Looked::Wrong(_) | Looked::Stuck(_) => Ok(()),
+            Looked::Moved(moves, next) => {
+                self.follow(alloc, program, number, procedure, at, moves, next)
+            }
+        }
+    }
+
+    /// Adds where the move of a point leads.
+    fn follow<C: Code>(
+        &mut self,
+        alloc: Global,
+        program: &C,
+        number: usize,
+        procedure: Procedure,
+        at: u16,
+        moves: Moves,
+        next: u16,
+    ) -> Result<(), Unexplained> {
+        let on = Origin::GoesOn(number);
+        match moves {
+            Moves::End => {}
+            Moves::On(frame) => self.add(alloc, program, procedure, next, frame, on)?,
+            Moves::Jump(frame, to) => self.add(alloc, program, procedure, to, frame, on)?,
+            Moves::Either(frame, to) => {
+                let other = frame.copy(alloc)?;
+                self.add(alloc, program, procedure, next, frame, on)?;
+                self.add(alloc, program, procedure, to, other, on)?;
+            }
+            Moves::Case(frame) => {
+                for to in program.targets(at) {
+                    self.add(alloc, program, procedure, *to, frame.copy(alloc)?, on)?;
+                }
+            }
+            Moves::Call(_frame, target) => self.call(alloc, program, number, target, next)?,
+            Moves::MaybeCall(frame, target) => {
+                self.add(alloc, program, procedure, next, frame, on)?;
+                self.call(alloc, program, number, target, next)?;
+            }
+            Moves::Return(taken) => self.leave(alloc, program, number, procedure, taken)?,
+            Moves::MaybeReturn(frame, taken) => {
+                self.add(alloc, program, procedure, next, frame, on)?;
+                self.leave(alloc, program, number, procedure, taken)?;
+            }
+        }
+        Ok(())
+    }
+
+    /// Adds what a call leads to: its callee's start, and where it goes on after each known exit of the callee.
+    fn call<C: Code>(
+        &mut self,
+        alloc: Global,
+        program: &C,
+        point: usize,
+        target: u16,
+        next: u16,
+    ) -> Result<(), Unexplained> {
+        let callee = Procedure::Entry(target);
+        let frame = Frame::entry(alloc)?;
+        self.add(alloc, program, callee, target, frame, Origin::Enters(point))?;
+        let call = CallingPoint {
+            point,
+            target,
+            next,
+        };
+        self.calls.push(call)?;
+        self.calls_of.push(slot(callee))?;
+        for number in self.exits_of.of(alloc, slot(callee))? {
+            if let Some(exit) = self.exits.get(number) {
+                let exit = *exit;
+                self.come_back(alloc, program, call, exit)?;
+            }
+        }
+        Ok(())
+    }
+
+    /// Adds what an exit leads to: where each known call of the procedure goes on.
+    fn leave<C: Code>(
+        &mut self,
+        alloc: Global,
+        program: &C,
+        point: usize,
+        procedure: Procedure,
+        taken: u32,
+    ) -> Result<(), Unexplained> {
+        for number in self.exits_of.of(alloc, slot(procedure))? {
+            if let Some(exit) = self.exits.get(number) {
+                if exit.taken == taken {
+                    return Ok(());
+                }
+            }
+        }
+        let exit = Exit { point, taken };
+        self.exits.push(exit)?;
+        self.exits_of.push(slot(procedure))?;
+        for number in self.calls_of.of(alloc, slot(procedure))? {
+            if let Some(call) = self.calls.get(number) {
+                let call = *call;
+                self.come_back(alloc, program, call, exit)?;
+            }
+        }
+        Ok(())
+    }
+
+    /// Adds where a call goes on when its callee has returned.
+    fn come_back<C: Code>(
+        &mut self,
+        alloc: Global,
+        program: &C,
+        call: CallingPoint,
+        exit: Exit,
+    ) -> Result<(), Unexplained> {
+        let Some(caller) = self.points.get(call.point) else {
+            return Ok(());
+        };
+        let procedure = caller.procedure;
+        let role = role_of(program, procedure);
+        let Some(frame) = back(alloc, &caller.frame, role, exit.taken)? else {
+            return Ok(());
+        };
+        let origin = Origin::ComesBack {
+            call: call.point,
+            exit: exit.point,
+        };
+        self.add(alloc, program, procedure, call.next, frame, origin)?;
+        Ok(())
+    }
+}
+
+/// What a point weighs, or the most that a number can say: eight for itself, one for each word of its frame and each word taken; as
+/// much again for each declared target.
+fn weight_of<C: Code>(program: &C, point: &Point) -> usize {
+    let words = point.frame.words.len();
+    let own = words
+        .saturating_add(8)
+        .saturating_add(point.frame.taken as usize);
+    own.saturating_mul(program.targets(point.at).len().saturating_add(1))
+}

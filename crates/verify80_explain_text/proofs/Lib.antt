@@ -1,3 +1,0 @@
-pub mod RunLemmas
-pub mod LawLemmas
-pub mod TextLemmas
