@@ -83,6 +83,7 @@ test: need-rt need-python3
 	@tests/commands/walk $(PROGRAM)
 	@tests/generated/sums $(PROGRAM)
 	@tests/generated/explained $(PROGRAM)
+	@tests/generated/explained --further $(PROGRAM)
 	@tests/generated/stored $(PROGRAM)
 	@tests/generated/boards $(PROGRAM)
 	@tests/commands/replaced $(PROGRAM)
