@@ -14,8 +14,8 @@ use crate::table::table;
 use std::alloc::{AllocError, Global};
 use std::marker::Model;
 
-/// A search for the bytes of code in fixups, but for lone ones, in a dump. In its table every value may be every word. A contract sees the dump and
-/// the bytes.
+/// A search for the bytes of code in fixups, but for lone ones, in a dump. In its table every value may be every word. A contract sees the
+/// dump and the bytes.
 #[derive(Drop)]
 pub(crate) struct Search<'a> {
     dump: &'a IndexedDump<'a>,

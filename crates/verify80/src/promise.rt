@@ -51,8 +51,9 @@ pub fn accepted_images_stay_on_walks()
 }
 
 /// The promise on every board, where nothing guards a step and devices may write any byte that is neither code nor stack: from the
-/// image's start, if SP is at the stack's top or the first instruction is the LXI SP that sets it, whatever else registers, flags and
-/// memory hold, up to the first store through a register pair outside data or the first PCHL outside its targets. `specs/Boards.antt` says what a board is.
+/// image's start, if SP is at the stack's top or the program sets it before it uses it, whatever else registers, flags and memory hold,
+/// up to the first store through a register pair outside data or the first PCHL outside its targets. `specs/Boards.antt` says what a
+/// board is.
 pub fn promise_is_kept_on_boards()
     ensures promise { PromiseIsKeptOnBoards }
     ensures steps { BoardStepsAreGuarded }

@@ -18,10 +18,10 @@ pub record KeepsWholePromise (image : Located) (bytes : ℕ) (open_stores : List
   pub promise : KeepsPromise image bytes w
   pub stores : All (GoesAsListed image.regions open_stores w.machine.cpu.pc) (pointed_bytes promise.found.instr w.machine.cpu.registers)
 
--- On every board, from the image's start, if SP is at the stack's top or the first instruction sets it so, whatever bytes registers and
--- memory outside the code hold, and whatever devices write to any byte that is neither code nor stack: each world keeps the promise, up to
--- the first step at a listed address that stores outside data or jumps by HL to none of its declared targets. If nothing is listed, that
--- is each world of the run.
+-- On every board, from the image's start, if SP is at the stack's top or the program sets it before it uses it, whatever bytes registers
+-- and memory outside the code hold, and whatever devices write to any byte that is neither code nor stack: each world keeps the promise,
+-- up to the first step at a listed address that stores outside data or jumps by HL to none of its declared targets. If nothing is listed,
+-- that is each world of the run.
 abbrev pub PromiseHoldsOnBoards : Located → (bytes : ℕ) → List OpenStore → (jumps : List ℕ) → Type 0
 PromiseHoldsOnBoards image bytes open_stores jumps =
     (start : Machine) → MayStart image start → HoldsBytes start → (w : World) →

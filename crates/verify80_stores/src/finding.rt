@@ -33,13 +33,13 @@ use verify80_calls::find_reached;
 
 /// Goes over a vouched image, and answers where its register-indirect stores may go.
 ///
-/// On a board, if nothing stops a store outside data, this is what the promise of [`loader80::vouch`] still needs: whatever
-/// bytes are in the registers, in memory outside the code and at the ports, if only SP is at the stack's top before the first
-/// step, each store of an address that isn't listed as open goes to data, and each that is goes to an address of its span. So a
-/// run ends at a store only if that is listed, and at a PCHL outside its targets only at one of the listed ones. A board goes on
-/// there, and then nothing is promised, of the other stores either. Up to there the whole promise holds on every board, whatever
-/// devices write to any byte that is neither code nor stack (`boards`). That a listed store can leave data isn't said. (The stores are MOV M,r, MVI M, INR M, DCR M and STAX: Intel 8080 Microcomputer Systems
-/// User's Manual, chapter 4.)
+/// On a board, if nothing stops a store outside data, this is what the promise of [`loader80::vouch`] still needs: whatever bytes are in
+/// the registers, in memory outside the code and at the ports, if only SP is at the stack's top before the first step, each store of an
+/// address that isn't listed as open goes to data, and each that is goes to an address of its span. So a run ends at a store only if that
+/// is listed, and at a PCHL outside its targets only at one of the listed ones. A board goes on there, and then nothing is promised, of the
+/// other stores either. Up to there the whole promise holds on every board, whatever devices write to any byte that is neither code nor
+/// stack (`boards`). That a listed store can leave data isn't said. (The stores are MOV M,r, MVI M, INR M, DCR M and STAX: Intel 8080
+/// Microcomputer Systems User's Manual, chapter 4.)
 ///
 /// Each address is visited a bounded number of times, whatever the image.
 ///

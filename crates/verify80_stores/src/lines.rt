@@ -10,8 +10,8 @@ use std::alloc::{AllocError, Global};
 use text80::word_digits;
 
 /// The lines of a program's stores: how many of its register-indirect stores are shown to stay in data, of how many, such as
-/// `STORES 11 OF 12`; `SP NOT SET` unless the program sets SP on each way before it uses it; each of the other stores, such as `STORE 011E MOV M,A 0000 FFFF`, with the first and the last address that it may
-/// have; and each PCHL, such as `JUMP 0065`.
+/// `STORES 11 OF 12`; `SP NOT SET` unless the program sets SP on each way before it uses it; each of the other stores, such as
+/// `STORE 011E MOV M,A 0000 FFFF`, with the first and the last address that it may have; and each PCHL, such as `JUMP 0065`.
 ///
 /// # Errors
 /// `AllocError` only if memory runs out.
