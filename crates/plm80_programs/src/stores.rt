@@ -65,7 +65,7 @@ fn stores_of(alloc: Global, vouched: &Vouched, names: &Names) -> Result<(Vec<u8>
 
 /// The exit status: whether something is listed.
 fn status_of(stores: &Stores) -> u8 {
-    if stores.open.is_empty() && stores.jumps.is_empty() && stores.sets_stack {
+    if stores.open.is_empty() && stores.open_jumps.is_empty() && stores.sets_stack {
         0
     } else {
         1

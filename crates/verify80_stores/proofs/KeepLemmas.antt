@@ -1,12 +1,16 @@
 -- Runs keep to a table that fits.
-use Rattle.std.specs.Prelude.{◌≡◌, ◌⊎◌, ℕ, zero, suc, Bool, true, List, Option, None, Some, Ok, IsSome, refl}
+use Rattle.std.specs.Prelude.{◌≡◌, ◌⊎◌, ◌<◌, ℕ, zero, suc, Bool, true, false, List, [], Option, None, Some, Ok, IsSome, Contains, length, slice_get, slice_index, refl}
 use Rattle.std.proofs.Common.{subst, sym, ap, ◌∙◌, inl, inr}
+use Rattle.decode80.specs.declared.condition.Condition.{Condition}
 use Rattle.decode80.specs.declared.instr.Instr.TheVariants.{Pchl}
 use Rattle.decode80.specs.declared.fetching.Fetched.{Fetched}
-use Rattle.frames80.specs.Effects.{effect_of}
-use Rattle.image80.specs.Regions.{Areas, targets_at}
-use Rattle.image80.specs.Image.{Located}
-use Rattle.machine80.specs.declared.registers.Registers.{Registers}
+use Rattle.decode80.specs.declared.flow.Flow.{Flow}
+use Rattle.decode80.specs.declared.flow.Flow.TheVariants.{Continues, Jumps, JumpsIf, JumpsToHl, Calls, CallsIf, Returns, ReturnsIf, Pushes, Pops, Exchanges, Halts}
+use Rattle.decode80.specs.Facts.{flow}
+use Rattle.image80.specs.Regions.{Areas, AreRegions, in_code, targets_at}
+use Rattle.image80.specs.Image.{Located, memory_of}
+use Rattle.machine80.specs.Flags.{holds as holds_of}
+use Rattle.machine80.specs.Cpu.{hl_of}
 use Rattle.machine80.specs.Effects.{target}
 use Rattle.machine80.specs.Step.{Machine, Turn, Next, Stop, fetch, step_of}
 use Rattle.machine80.specs.World.{World, world_at, turn_at, next_world, following, world_after, places_then, refuses, returns, fetched_by, FetchesInside}
@@ -15,14 +19,22 @@ use Rattle.frames80.specs.Code.{role_of}
 use Rattle.verify80.specs.Looking.{code_of, declared_targets}
 use Rattle.verify80.specs.Starts.{IsStart, IsWorldFrom, NeverGoesWrongFromPowerOn}
 use Rattle.verify80.specs.Reached.{IsReached, StandsOnWalk, IsBehindCall, StaysOnWalks}
-use Rattle.verify80_stores.specs.declared.spans.pairs.Pairs.{Pairs}
-use Rattle.verify80_stores.specs.Bytes.{HoldsBytes, BytesStayBytes}
-use Rattle.verify80_stores.specs.Pairs.{Holds, anything, pairs_after}
-use Rattle.verify80_stores.specs.Following.{PairsFollow, AnythingHolds, MoreHolds}
-use Rattle.verify80_stores.specs.Ways.{MayLeadTo, callee_of}
-use Rattle.verify80_stores.specs.Fitting.{pairs_at, Has, Fits}
+use Rattle.verify80_stores.specs.declared.states.state.State.{State}
+use Rattle.verify80_stores.specs.declared.fitting.fitting.Placed.{Placed}
+use Rattle.verify80_stores.specs.Bytes.{AreBytes, HoldsBytes, BytesStayBytes, FetchedOperandsAreBounded, MemoryKeepsItsLength}
+use Rattle.verify80_stores.specs.Span.{Within}
+use Rattle.verify80_stores.specs.State.{Holds, HoldsRegisters, HoldsWords, anything}
+use Rattle.verify80_stores.specs.Following.{byte_at, state_after}
+use Rattle.verify80_stores.specs.Given.{given}
+use Rattle.verify80_stores.specs.Steps.{is_taken, ReadsCode, AreCodeBytes, HasCode}
+use Rattle.verify80_stores.specs.Fitting.{Has, HasAfter, FitsBy, Fits}
 use Rattle.verify80_stores.specs.Runs.{KeepsTo, IsKnown, IsKept}
-use Rattle.verify80_stores.proofs.WayLemmas.{called_is, executes, executed}
+use Rattle.verify80_stores.proofs.StateLemmas.{anything_holds}
+use Rattle.verify80_stores.proofs.MemoryLemmas.{Ground, none_hold}
+use Rattle.verify80_stores.proofs.GivenLemmas.{given_holds}
+use Rattle.verify80_stores.proofs.InsideLemmas.{state_around}
+use Rattle.verify80_stores.proofs.StepLemmas.{passed, step_state, step_code}
+use Rattle.verify80_stores.proofs.WayLemmas.{Leads, calls_so, executes}
 
 world_or : World → Option World → World
 world_or otherwise None = otherwise
@@ -52,21 +64,76 @@ module _ (stay : BytesStayBytes) where
   run_bytes regions start most (suc n) w bytes h =
       mutual_bytes regions most w (world_at regions most (world_of start) n) (λ v e. run_bytes regions start most n v bytes e) h
 
-module _ (image : Located) (table : List (Option Pairs)) (fits : Fits (code_of image) table) (stay : BytesStayBytes) (follow : PairsFollow) (all_hold : AnythingHolds) (more : MoreHolds) where
-  keeps_by : (w : World) (words : Pairs) → Has table w.machine.cpu.pc words → Holds words w.machine.cpu.registers → KeepsTo table w
-  keeps_by w words has holds = record { pairs = has.pairs; there = has.there; holds = more words has.pairs w.machine.cpu.registers has.inside holds }
+-- the table has a state that holds
+pub record Meets (regions : Areas) (table : List Placed) (to : ℕ) (m : Machine) : Type 0 where
+  pub state : State
+  pub has : Has table to state
+  pub holds : Holds regions state m
 
-  -- behind a call whose callee returns there may be anything
+-- what a state owes where its flow leads, it has there
+module _ (regions : Areas) (targets : List ℕ) (table : List Placed) (after : Bool → State → State) (m there : Machine) (bytes : AreBytes m.cpu.registers) where
+  abbrev pub Follows : Flow → Type 0
+  Follows w = (t : State) → Holds regions t m → Holds regions (after (is_taken w m.cpu.registers.flags) t) there
+
+  at_once : (next to : ℕ) (s : State) → to ≡ next → Has table next s → Holds regions s there → Meets regions table to there
+  at_once next to s same has holds = record { state = s; has = subst (λ n. Has table n s) (sym same) has; holds = holds }
+
+  by_condition : (taken : Bool) (left : Option State) (t : State) (to address : ℕ) → left ≡ Some t → HasAfter table address (after taken) left → to ≡ address → Holds regions (after taken t) there → Meets regions table to there
+  by_condition taken left t to address is has same holds =
+      at_once address to (after taken t) same (subst (λ (o : Option State). HasAfter table address (after taken) o) is has) holds
+
+  if_given : (condition : Condition) (taken : Bool) (s : State) (to address : ℕ) → Holds regions s m → holds_of condition m.cpu.registers.flags ≡ taken → HasAfter table address (after taken) (given condition taken s) → to ≡ address →
+      ((t : State) → Holds regions t m → Holds regions (after taken t) there) → Meets regions table to there
+  if_given condition taken s to address holds is has same follow =
+      let left = given_holds condition taken s m.cpu.registers bytes holds.registers is in
+      by_condition taken (given condition taken s) left.left to address left.is has same
+      (follow left.left (record { registers = left.holds; words = rw left.words holds.words }))
+
+  with_taken : (w : Flow) (taken : Bool) → is_taken w m.cpu.registers.flags ≡ taken → Follows w → (t : State) → Holds regions t m → Holds regions (after taken t) there
+  with_taken w taken is follow t holds = subst (λ b. Holds regions (after b t) there) is (follow t holds)
+
+  pub arrives : (w : Flow) (s : State) (next to : ℕ) → FitsBy targets table after s next w → Leads w m.cpu.registers.flags targets next (hl_of m.cpu.registers) to → Follows w → Holds regions s m →
+      Meets regions table to there
+  arrives Continues s next to fits leads follow holds = at_once next to (after false s) leads fits (follow s holds)
+  arrives Pushes s next to fits leads follow holds = at_once next to (after false s) leads fits (follow s holds)
+  arrives Pops s next to fits leads follow holds = at_once next to (after false s) leads fits (follow s holds)
+  arrives Exchanges s next to fits leads follow holds = at_once next to (after false s) leads fits (follow s holds)
+  arrives (Jumps address) s next to fits leads follow holds = at_once address to (after false s) leads fits (follow s holds)
+  arrives (JumpsIf condition address) s next to fits (inl way) follow holds = if_given condition true s to address holds way.0 fits.0 way.1 (with_taken (JumpsIf condition address) true way.0 follow)
+  arrives (JumpsIf condition address) s next to fits (inr way) follow holds = if_given condition false s to next holds way.0 fits.1 way.1 (with_taken (JumpsIf condition address) false way.0 follow)
+  arrives JumpsToHl s next to fits leads follow holds =
+      at_once to to (after false s) refl (fits to leads.0 (subst (λ n. Within s.hl.words n) (sym leads.1) holds.registers.hl.words)) (follow s holds)
+  arrives (Calls address) s next to fits leads follow holds = at_once address to (after true s) leads fits (follow s holds)
+  arrives (CallsIf condition address) s next to fits (inl way) follow holds = if_given condition true s to address holds way.0 fits.0 way.1 (with_taken (CallsIf condition address) true way.0 follow)
+  arrives (CallsIf condition address) s next to fits (inr way) follow holds = if_given condition false s to next holds way.0 fits.1 way.1 (with_taken (CallsIf condition address) false way.0 follow)
+  arrives Returns s next to fits leads follow holds = absurd leads
+  arrives (ReturnsIf condition) s next to fits leads follow holds = if_given condition false s to next holds leads.0 fits leads.1 (with_taken (ReturnsIf condition) false leads.0 follow)
+  arrives Halts s next to fits leads follow holds = absurd leads
+
+-- a state that says nothing holds of any machine
+pub nothing_holds : (regions : Areas) (ground : Ground regions) (m : Machine) → HoldsBytes m → Holds regions anything m
+nothing_holds regions ground m bytes = record { registers = anything_holds m.cpu.registers bytes.registers; words = none_hold regions ground m.memory m.cpu.sp }
+
+-- a step leaves the image's code as it is
+pub code_stays : (image : Located) (ground : Ground image.regions) (refused : Bool) (m after : Machine) (found : Fetched) → fetch image.regions m.memory m.cpu.pc ≡ Some found → step_of image.regions refused m ≡ Next after →
+    HasCode image m.memory → HasCode image after.memory
+code_stays image ground refused m after found fetched step code a here = step_code image.regions ground [] refused m after found a fetched step here ∙ code a here
+
+module _ (image : Located) (bytes : List (Option ℕ)) (table : List Placed) (ground : Ground image.regions) (are_code : AreCodeBytes image bytes) (fits : Fits (code_of image) bytes table)
+    (bounded : FetchedOperandsAreBounded) (length_stays : MemoryKeepsItsLength) where
+  keeps_by : (w : World) (s : State) → Has table w.machine.cpu.pc s → Holds image.regions s w.machine → HasCode image w.machine.memory → length w.machine.memory ≡ 65536 → KeepsTo image table w
+  keeps_by w s has holds code whole = record {
+    place = has.place; placed = has.placed; there = has.there; at = has.at; holds = state_around image.regions s has.placed.state w.machine has.inside holds; code = code; whole = whole;
+  }
+
+  -- behind a call whose callee returns nothing is known
   behind_has : (at : ℕ) → IsBehindCall (code_of image) at → Has table at anything
   behind_has at behind =
       let call = behind.call in
-      let fit = fits.entries behind.place call.found (record { procedure = behind.caller; frame = behind.frame; walk = behind.walk }) call.moving.looked in
-      let callee : callee_of (effect_of call.found.instr) ≡ Some behind.target = called_is (role_of (code_of image) behind.caller) (effect_of call.found.instr) behind.frame call.moves behind.target call.moving.moved call.call in
-      let has : Has table call.found.next anything = fit.behind behind.target callee (behind.taken, behind.returns) in
+      let calls = calls_so (role_of (code_of image) behind.caller) call.found.instr behind.frame call.moves behind.target call.moving.moved call.call in
+      let has : Has table call.found.next anything =
+      fits.behind behind.place call.found (record { procedure = behind.caller; frame = behind.frame; walk = behind.walk }) call.moving.looked behind.target calls (behind.taken, behind.returns) in
       subst (λ n. Has table n anything) (sym call.after) has
-
-  same_pairs : (o : Option Pairs) (p q : Pairs) (r : Registers) → o ≡ Some p → o ≡ Some q → Holds p r → Holds q r
-  same_pairs o p q r first second holds = subst (λ (x : Pairs). Holds x r) (let e : p ≡ q = cc in e) holds
 
   -- what a walk finds where a world stands is what its next step fetches, and a PCHL there has declared targets
   declared_at : (w : World) (known : IsKnown image w) (found : Fetched) → fetched_by image.regions w ≡ Some found → found.instr ≡ Pchl → IsSome (targets_at image.regions w.machine.cpu.pc)
@@ -75,34 +142,46 @@ module _ (image : Located) (table : List (Option Pairs)) (fits : Fits (code_of i
       let same : inside.found ≡ found = (let f : fetched_by image.regions w ≡ Some inside.found = inside.fetched in cc) in
       inside.declared (ap (λ (x : Fetched). x.instr) same ∙ is)
 
+  -- the bytes that the table knows are those that are read
+  reads_code : (memory : List ℕ) → HasCode image memory → ReadsCode bytes memory
+  reads_code memory code at byte is = let known = are_code at byte is in code at known.0 ∙ known.1
+
   gone : (refused : Bool) (w after : World) (known : IsKnown image w) (found : Fetched) → fetched_by image.regions w ≡ Some found → IsReached (code_of image) w.machine.cpu.pc → (code_of image).look w.machine.cpu.pc ≡ Ok found →
-      KeepsTo table w → HoldsBytes w.machine → HoldsBytes after.machine → step_of image.regions refused w.machine ≡ Next after.machine →
-      ((returns found.instr w.machine.cpu.registers.flags ≡ true) × (after.machine.cpu.pc ≡ target found.instr found.next w.machine.memory w.machine.cpu)) ⊎ MayLeadTo (effect_of found.instr) (declared_targets image.regions w.machine.cpu.pc) found.next after.machine.cpu.pc →
-      KeepsTo table after
-  gone refused w after known found fetched reached looked keeps bytes_before bytes_after step (inl taken) =
+      (keeps : KeepsTo image table w) → HoldsBytes w.machine → HoldsBytes after.machine → step_of image.regions refused w.machine ≡ Next after.machine →
+      ((returns found.instr w.machine.cpu.registers.flags ≡ true) × (after.machine.cpu.pc ≡ target found.instr found.next w.machine.memory w.machine.cpu))
+      ⊎ Leads (flow found.instr) w.machine.cpu.registers.flags (declared_targets image.regions w.machine.cpu.pc) found.next (hl_of w.machine.cpu.registers) after.machine.cpu.pc →
+      KeepsTo image table after
+  gone refused w after known found fetched reached looked keeps before now step (inl taken) =
       keeps_by after anything
       (subst (λ n. Has table n anything) (sym taken.1) (behind_has (target found.instr found.next w.machine.memory w.machine.cpu) (known.returning found fetched taken.0)))
-      (all_hold after.machine.cpu.registers bytes_after.registers)
-  gone refused w after known found fetched reached looked keeps bytes_before bytes_after step (inr way) =
-      let fit = fits.entries w.machine.cpu.pc found reached looked in
-      let holds : Holds fit.pairs w.machine.cpu.registers = same_pairs (pairs_at table w.machine.cpu.pc) keeps.pairs fit.pairs w.machine.cpu.registers keeps.there fit.there keeps.holds in
-      keeps_by after (pairs_after found.instr fit.pairs) (fit.leads after.machine.cpu.pc way)
-      (follow image.regions refused w.machine after.machine found fit.pairs bytes_before fetched step holds)
+      (nothing_holds image.regions ground after.machine now)
+      (code_stays image ground refused w.machine after.machine found fetched step keeps.code) (length_stays image.regions refused w.machine after.machine step ∙ keeps.whole)
+  gone refused w after known found fetched reached looked keeps before now step (inr way) =
+      let at : keeps.placed.at ≡ w.machine.cpu.pc = keeps.at in
+      let fit = fits.entries keeps.place keeps.placed found keeps.there (subst (λ n. IsReached (code_of image) n) (sym at) reached) (subst (λ n. (code_of image).look n ≡ Ok found) (sym at) looked) in
+      let fit_here = subst (λ n. FitsBy (declared_targets image.regions n) table (λ taken t. state_after bytes found.instr taken found.next t) keeps.placed.state found.next (flow found.instr)) at fit in
+      let bound = bounded image.regions w.machine.memory w.machine.cpu.pc found before.memory fetched in
+      let meets = arrives image.regions (declared_targets image.regions w.machine.cpu.pc) table (λ taken t. state_after bytes found.instr taken found.next t) w.machine after.machine before.registers
+      (flow found.instr) keeps.placed.state found.next after.machine.cpu.pc fit_here way
+      (λ t holds. step_state image.regions ground bytes refused w.machine after.machine found t bound.operand before now.registers keeps.whole (reads_code w.machine.memory keeps.code) fetched step holds)
+      keeps.holds in
+      keeps_by after meets.state meets.has meets.holds
+      (code_stays image ground refused w.machine after.machine found fetched step keeps.code) (length_stays image.regions refused w.machine after.machine step ∙ keeps.whole)
 
   -- a step keeps to the table, and so does a start
   pub is_kept : IsKept image table
   is_kept = record {
-    starts = λ start pc held stands.
-        keeps_by (world_of start) anything (subst (λ n. Has table n anything) (sym pc) fits.start) (all_hold start.cpu.registers held.registers);
+    starts = λ start pc code whole held stands.
+        keeps_by (world_of start) anything (subst (λ n. Has table n anything) (sym pc) fits.start) (nothing_holds image.regions ground start held) code whole;
     steps = λ refused w after known on before now keeps step.
         let stands : StandsOnWalk image w = known.stands in
-        let way = executes image.regions refused stands.found.instr stands.found.next w.machine after.machine (declared_at w known stands.found stands.fetched)
-        (executed image.regions refused w.machine after.machine stands.found stands.fetched step) in
+        let pass = passed image.regions refused w.machine after.machine stands.found stands.fetched step in
+        let way = executes image.regions refused stands.found.instr stands.found.next w.machine after.machine (declared_at w known stands.found stands.fetched) pass.executed in
         gone refused w after known stands.found stands.fetched stands.reached stands.looked keeps before now step way.way;
   }
 
 -- runs keep to a table that is kept
-module _ (image : Located) (bytes : ℕ) (table : List (Option Pairs)) (sound : NeverGoesWrongFromPowerOn image bytes) (walks : StaysOnWalks image) (kept : IsKept image table) (stay : BytesStayBytes)
+module _ (image : Located) (bytes : ℕ) (table : List Placed) (sound : NeverGoesWrongFromPowerOn image bytes) (walks : StaysOnWalks image) (kept : IsKept image table) (stay : BytesStayBytes)
     (start : Machine) (begins : IsStart image start) (start_bytes : HoldsBytes start) (most : Option ℕ) where
   known_at : (w : World) → IsWorldFrom image start most w → IsKnown image w
   known_at w from = record {
@@ -111,29 +190,29 @@ module _ (image : Located) (bytes : ℕ) (table : List (Option Pairs)) (sound : 
     inside = sound.fetches_and_stores start begins most w from;
   }
 
-  stepped : (w after : World) (t : Turn) (places : List ℕ) → IsWorldFrom image start most w → IsWorldFrom image start most after → KeepsTo table w → HoldsBytes w.machine → HoldsBytes after.machine → turn_at image.regions most w ≡ t → world_after t places ≡ Some after → KeepsTo table after
+  stepped : (w after : World) (t : Turn) (places : List ℕ) → IsWorldFrom image start most w → IsWorldFrom image start most after → KeepsTo image table w → HoldsBytes w.machine → HoldsBytes after.machine → turn_at image.regions most w ≡ t → world_after t places ≡ Some after → KeepsTo image table after
   stepped w after (Stop e) places from next keeps before now h is = cc
   stepped w after (Next m) places from next keeps before now h is =
       let same : m ≡ after.machine = ap (λ (x : World). x.machine) (world_in is) in
       kept.steps (refuses most w.machine.outputs) w after (known_at w from) (known_at after next).stands before now keeps (h ∙ ap (λ (x : Machine). Next x) same)
 
-  next_keeps : (w after : World) → IsWorldFrom image start most w → IsWorldFrom image start most after → KeepsTo table w → HoldsBytes w.machine → next_world image.regions most w ≡ Some after → KeepsTo table after
+  next_keeps : (w after : World) → IsWorldFrom image start most w → IsWorldFrom image start most after → KeepsTo image table w → HoldsBytes w.machine → next_world image.regions most w ≡ Some after → KeepsTo image table after
   next_keeps w after from next keeps held h =
       stepped w after (turn_at image.regions most w)
       (places_then (fetch image.regions w.machine.memory w.machine.cpu.pc) w.machine.cpu.registers.flags w.places)
       from next keeps held (next_bytes stay image.regions most w after held h) refl h
 
-  followed_keeps : (n : ℕ) (w : World) (o : Option World) → world_at image.regions most (world_of start) n ≡ o → ((v : World) → o ≡ Some v → KeepsTo table v) → following image.regions most o ≡ Some w → KeepsTo table w
+  followed_keeps : (n : ℕ) (w : World) (o : Option World) → world_at image.regions most (world_of start) n ≡ o → ((v : World) → o ≡ Some v → KeepsTo image table v) → following image.regions most o ≡ Some w → KeepsTo image table w
   followed_keeps n w None at before h = cc
   followed_keeps n w (Some v) at before h =
       next_keeps v w (record { steps = n; is = at }) (record { steps = suc n; is = ap (λ (o : Option World). following image.regions most o) at ∙ h })
       (before v refl) (run_bytes stay image.regions start most n v start_bytes at) h
 
-  keeps_at : (n : ℕ) (w : World) → world_at image.regions most (world_of start) n ≡ Some w → KeepsTo table w
+  keeps_at : (n : ℕ) (w : World) → world_at image.regions most (world_of start) n ≡ Some w → KeepsTo image table w
   keeps_at zero w h =
-      subst (λ (x : World). KeepsTo table x) (world_in h)
-      (kept.starts start begins.pc start_bytes (known_at (world_of start) (record { steps = 0; is = refl })).stands)
+      subst (λ (x : World). KeepsTo image table x) (world_in h)
+      (kept.starts start begins.pc begins.code begins.whole start_bytes (known_at (world_of start) (record { steps = 0; is = refl })).stands)
   keeps_at (suc n) w h = followed_keeps n w (world_at image.regions most (world_of start) n) refl (λ v e. keeps_at n v e) h
 
-  pub run_keeps : (w : World) → IsWorldFrom image start most w → KeepsTo table w
+  pub run_keeps : (w : World) → IsWorldFrom image start most w → KeepsTo image table w
   run_keeps w from = keeps_at from.steps w from.is

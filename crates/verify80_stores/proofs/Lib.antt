@@ -11,8 +11,13 @@ pub mod FetchBounds
 pub mod StepBytes
 pub mod RunBytes
 pub mod SpanLemmas
+pub mod OutcomeLemmas
+pub mod StateLemmas
 pub mod FollowLemmas
-pub mod StepPairs
+pub mod MemoryLemmas
+pub mod GivenLemmas
+pub mod InsideLemmas
+pub mod StepLemmas
 pub mod WayLemmas
 pub mod KeepLemmas
 pub mod StackLemmas

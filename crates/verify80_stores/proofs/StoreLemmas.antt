@@ -1,5 +1,8 @@
 -- The stores of runs, by what is listed.
-use Rattle.std.specs.Prelude.{◌≡◌, ◌≢◌, ◌⊎◌, ℕ, zero, suc, ◌<◌, Bool, true, false, not, List, [], ◌∷◌, All, Any, Contains, Option, None, Some, Ok, length, refl, if◌then◌else◌}
+use Rattle.std.specs.Prelude.{◌≡◌, ◌≢◌, ◌⊎◌, ℕ, zero, suc, ◌<◌, ◌&&◌, ◌==◌, Bool, true, false, not, List, [], ◌∷◌, All, Any, Contains, Option, None, Some, Ok, length, slice_get, refl, if◌then◌else◌}
+use Rattle.std.specs.List.{list_any}
+use Rattle.std.specs.Option.{option_map_or}
+use Rattle.std.proofs.lemmas.Bool.Decides.{nat_tests}
 use Rattle.std.proofs.Common.{subst, sym, ap, ◌∙◌, inl, inr, arith, get_or}
 use Rattle.std.proofs.lemmas.List.Elements.{Contains-get_or, All-nil, All-cons}
 use Rattle.decode80.specs.declared.instr.Instr.{Instr}
@@ -18,50 +21,68 @@ use Rattle.machine80.specs.Ports.{next_input}
 use Rattle.machine80.specs.Effects.{pointed_bytes, stack_bytes}
 use Rattle.machine80.specs.Step.{Machine, Stop, first_outside, ends_at, guard, guarded, execute, turn_of, leads_outside, proceeded, with_input, step_on}
 use Rattle.machine80.specs.World.{World, turn_at, fetched_by, refuses, IsProperEnd}
-use Rattle.verify80.specs.Looking.{code_of, is_pchl}
+use Rattle.verify80.specs.Looking.{code_of, declared_targets, is_pchl}
 use Rattle.verify80.specs.Starts.{IsStart, IsWorldFrom, NeverGoesWrongFromPowerOn}
 use Rattle.verify80.specs.Reached.{StandsOnWalk, StaysOnWalks}
 use Rattle.verify80_calls.specs.Reached.{AreReached}
 use Rattle.verify80_stores.specs.declared.spans.span.Span.{Span}
-use Rattle.verify80_stores.specs.declared.spans.pairs.Pairs.{Pairs}
+use Rattle.verify80_stores.specs.declared.states.state.State.{State}
+use Rattle.verify80_stores.specs.declared.fitting.fitting.Placed.{Placed}
 use Rattle.verify80_stores.specs.Bytes.{HoldsBytes}
 use Rattle.verify80_stores.specs.Span.{Within}
-use Rattle.verify80_stores.specs.Pairs.{Holds}
-use Rattle.verify80_stores.specs.Fitting.{pairs_at}
+use Rattle.verify80_stores.specs.State.{Holds, HoldsRegisters}
+use Rattle.verify80_stores.specs.Following.{entry_in}
+use Rattle.verify80_stores.specs.Returning.{is_marked}
 use Rattle.verify80_stores.specs.Runs.{KeepsTo, RunsKeepTo}
 use Rattle.verify80_stores.specs.declared.stores.OpenStore.{OpenStore}
-use Rattle.verify80_stores.specs.Pointers.{pointer_span, stores_by_pair}
+use Rattle.verify80_stores.specs.Pointers.{stores_by_pair}
+use Rattle.verify80_stores.specs.Opening.{pointer_span, StaysIn, MayLeave, IsLeftOpen}
 use Rattle.verify80_stores.specs.Stores.{IsReachedAs, AreReachedAs, IsOpen, GoesAsListed, EndsAsListed, StoresGoAsListed, AreStoresOf}
-use Rattle.verify80_stores.specs.Listing.{AreAllBelow, AreOpenBelow, IsListed, is_kind, reached_at, known, span_of, span_at}
+use Rattle.verify80_stores.specs.Listing.{AreAllBelow, AreOpenBelow, AreOpenMarks, AreSpans, IsSpanned, IsLeftAt, IsListed, is_kind, is_at, is_marked_at, reached_at}
+use Rattle.verify80_stores.proofs.SpanLemmas.{inside_within}
 use Rattle.verify80_stores.proofs.TableLemmas.{there_if_reached, reached_if_there}
+use Rattle.verify80_stores.proofs.WayLemmas.{there_by}
 
--- an instruction stores by a pair whatever the pairs are
-by_any_pair : (i : Instr) (p : Pairs) (s : Span) → pointer_span i p ≡ Some s → stores_by_pair i ≡ true
-by_any_pair (Store from) p s h = refl
-by_any_pair (MviMemory byte) p s h = refl
-by_any_pair InrMemory p s h = refl
-by_any_pair DcrMemory p s h = refl
-by_any_pair (Stax pair) p s h = refl
-by_any_pair i p s h = cc
+-- an instruction that stores by a pair is such a store
+by_any_pair : (i : Instr) (s : State) (span : Span) → pointer_span i s ≡ Some span → stores_by_pair i ≡ true
+by_any_pair (Store from) s span h = refl
+by_any_pair (MviMemory byte) s span h = refl
+by_any_pair InrMemory s span h = refl
+by_any_pair DcrMemory s span h = refl
+by_any_pair (Stax pair) s span h = refl
+by_any_pair i s span h = cc
+
+-- a store is no PCHL
+no_jump : (i : Instr) → stores_by_pair i ≡ true → is_pchl i ≡ true → ⊥
+no_jump Pchl stores jump = cc
+no_jump (Store from) stores jump = cc
+no_jump (MviMemory byte) stores jump = cc
+no_jump InrMemory stores jump = cc
+no_jump DcrMemory stores jump = cc
+no_jump (Stax pair) stores jump = cc
+no_jump i stores jump = cc
 
 -- the address that a pair points to is one of its span
-record Points (i : Instr) (p : Pairs) (address : ℕ) : Type 0 where
+record Points (i : Instr) (s : State) (address : ℕ) : Type 0 where
   span : Span
-  is : pointer_span i p ≡ Some span
+  is : pointer_span i s ≡ Some span
   within : Within span address
 
 alone : (x y : ℕ) → Contains (x ∷ []) y → x ≡ y
 alone x y (zero, inside, same) = same
 alone x y (suc k, inside, same) = absurd (omega arith)
 
-points_by : (i : Instr) (p : Pairs) (r : Registers) (address : ℕ) → Holds p r → Contains (pointed_bytes i r) address → Points i p address
-points_by (Store from) p r address holds there = record { span = p.hl; is = refl; within = subst (λ a. Within p.hl a) (alone (hl_of r) address there) holds.hl }
-points_by (MviMemory byte) p r address holds there = record { span = p.hl; is = refl; within = subst (λ a. Within p.hl a) (alone (hl_of r) address there) holds.hl }
-points_by InrMemory p r address holds there = record { span = p.hl; is = refl; within = subst (λ a. Within p.hl a) (alone (hl_of r) address there) holds.hl }
-points_by DcrMemory p r address holds there = record { span = p.hl; is = refl; within = subst (λ a. Within p.hl a) (alone (hl_of r) address there) holds.hl }
-points_by (Stax Bc) p r address holds there = record { span = p.bc; is = refl; within = subst (λ a. Within p.bc a) (alone (index_pair_of r Bc) address there) holds.bc }
-points_by (Stax De) p r address holds there = record { span = p.de; is = refl; within = subst (λ a. Within p.de a) (alone (index_pair_of r De) address there) holds.de }
-points_by i p r address holds there = absurd (omega (arith, there.1))
+by_hl : (i : Instr) (s : State) (r : Registers) (address : ℕ) → pointer_span i s ≡ Some s.hl.words → HoldsRegisters s r → Contains (hl_of r ∷ []) address → Points i s address
+by_hl i s r address is holds there = record { span = s.hl.words; is = is; within = subst (λ a. Within s.hl.words a) (alone (hl_of r) address there) holds.hl.words }
+
+points_by : (i : Instr) (s : State) (r : Registers) (address : ℕ) → HoldsRegisters s r → Contains (pointed_bytes i r) address → Points i s address
+points_by (Store from) s r address holds there = by_hl (Store from) s r address refl holds there
+points_by (MviMemory byte) s r address holds there = by_hl (MviMemory byte) s r address refl holds there
+points_by InrMemory s r address holds there = by_hl InrMemory s r address refl holds there
+points_by DcrMemory s r address holds there = by_hl DcrMemory s r address refl holds there
+points_by (Stax Bc) s r address holds there = record { span = s.bc.words; is = refl; within = subst (λ a. Within s.bc.words a) (alone (index_pair_of r Bc) address there) holds.bc.words }
+points_by (Stax De) s r address holds there = record { span = s.de.words; is = refl; within = subst (λ a. Within s.de.words a) (alone (index_pair_of r De) address there) holds.de.words }
+points_by i s r address holds there = absurd (omega (arith, there.1))
 
 -- an address is listed, or it isn't
 pub listed_or_not : (at : ℕ) (stores : List OpenStore) → Any (λ store. store.at ≡ at) stores ⊎ All (λ store. store.at ≢ at) stores
@@ -124,12 +145,23 @@ no_store regions refused (Out port) next m a h = no_output_end regions refused n
 no_store regions refused Pchl next m a h = no_jump_store (leads_outside (targets_at regions m.cpu.pc) (hl_of m.cpu.registers)) (hl_of m.cpu.registers) a (proceeded Pchl next m) h
 no_store regions refused i next m a h = cc
 
-jump_is : (regions : Areas) (refused : Bool) (i : Instr) (next : ℕ) (m : Machine) (to : ℕ) → execute regions refused i next m ≡ Stop (JumpOutside to) → is_pchl i ≡ true
+outside_if : (outside : Bool) (to : ℕ) (after : Machine) (e : End) → turn_of (if outside then Some (JumpOutside to) else None) after ≡ Stop e → outside ≡ true
+outside_if true to after e h = refl
+outside_if false to after e h = cc
+
+abbrev JumpsOutside : Areas → Instr → Machine → Type 0
+JumpsOutside regions i m = (is_pchl i ≡ true) × (leads_outside (targets_at regions m.cpu.pc) (hl_of m.cpu.registers) ≡ true)
+
+jump_is : (regions : Areas) (refused : Bool) (i : Instr) (next : ℕ) (m : Machine) (to : ℕ) → execute regions refused i next m ≡ Stop (JumpOutside to) → JumpsOutside regions i m
 jump_is regions refused Hlt next m to h = cc
 jump_is regions refused (In port) next m to h = absurd (no_input_end next port m (next_input m.inputs port) (JumpOutside to) (λ p e. cc) h)
 jump_is regions refused (Out port) next m to h = absurd (no_output_end regions refused next port m (JumpOutside to) (λ p e. cc) h)
-jump_is regions refused Pchl next m to h = refl
+jump_is regions refused Pchl next m to h = (refl, outside_if (leads_outside (targets_at regions m.cpu.pc) (hl_of m.cpu.registers)) (hl_of m.cpu.registers) (proceeded Pchl next m) (JumpOutside to) h)
 jump_is regions refused i next m to h = cc
+
+-- what is one of the declared targets isn't outside them
+pub any_by : (x : ℕ) (xs : List ℕ) → Contains xs x → list_any (λ y. y == x) xs ≡ true
+any_by x xs there = grind (arith, nat_tests, there)
 
 store_ends : (regions : Areas) (g : Option End) (refused : Bool) (found : Fetched) (m : Machine) (a : ℕ) → guard regions found.instr m.cpu ≡ g → guarded regions g refused found m ≡ Stop (StoreOutside a) →
     Contains (pointed_bytes found.instr m.cpu.registers) a × (in_data regions a ≡ false)
@@ -140,16 +172,26 @@ store_ends regions (Some e) refused found m a is h =
     (store_guard (first_outside (in_range regions.stack) (stack_bytes found.instr m.cpu)) (first_outside (in_data regions) (direct_bytes found.instr)) (first_outside (in_data regions) (pointed_bytes found.instr m.cpu.registers)) a
     (is ∙ ap (λ (x : End). Some x) same))
 
-jump_ends : (regions : Areas) (g : Option End) (refused : Bool) (found : Fetched) (m : Machine) (to : ℕ) → guard regions found.instr m.cpu ≡ g → guarded regions g refused found m ≡ Stop (JumpOutside to) → is_pchl found.instr ≡ true
+jump_ends : (regions : Areas) (g : Option End) (refused : Bool) (found : Fetched) (m : Machine) (to : ℕ) → guard regions found.instr m.cpu ≡ g → guarded regions g refused found m ≡ Stop (JumpOutside to) → JumpsOutside regions found.instr m
 jump_ends regions None refused found m to is h = jump_is regions refused found.instr found.next m to h
 jump_ends regions (Some e) refused found m to is h =
     let same : e ≡ JumpOutside to = cc in
     absurd (jump_guard (first_outside (in_range regions.stack) (stack_bytes found.instr m.cpu)) (first_outside (in_data regions) (direct_bytes found.instr)) (first_outside (in_data regions) (pointed_bytes found.instr m.cpu.registers)) to
     (is ∙ ap (λ (x : End). Some x) same))
 
-module _ (image : Located) (bytes : ℕ) (reached : List (Option Fetched)) (table : List (Option Pairs)) (addresses : List ℕ) (stores : List OpenStore) (jumps : List ℕ) (sound : NeverGoesWrongFromPowerOn image bytes)
-    (walks : StaysOnWalks image) (are : AreReached (code_of image) reached) (whole : length reached ≡ 65536) (keeps : RunsKeepTo image table) (each_store : AreAllBelow reached stores_by_pair 65536 addresses)
-    (open_below : AreOpenBelow image.regions reached table 65536 stores) (each_jump : AreAllBelow reached is_pchl 65536 jumps) where
+-- a target that is declared is not outside
+inside_targets : (declared : Option (List ℕ)) (hl : ℕ) → leads_outside declared hl ≡ true → Contains (option_map_or (λ targets. targets) declared []) hl → ⊥
+inside_targets None hl outside there = cc
+inside_targets (Some targets) hl outside there = (let any : list_any (λ y. y == hl) targets ≡ true = any_by hl targets there in let e : not (list_any (λ y. y == hl) targets) ≡ true = outside in cc)
+
+-- none is listed there
+none_listed : (at : ℕ) {stores : List OpenStore} → Any (λ store. store.at ≡ at) stores → All (λ store. store.at ≢ at) stores → ⊥
+none_listed at {stores} (k, store, inside, is, same) none = none k store inside (ap (λ (s : OpenStore). s.at) is ∙ same)
+
+module _ (image : Located) (bytes : ℕ) (reached : List (Option Fetched)) (table : List Placed) (marks : List Bool) (spans : List (Option Span)) (addresses : List ℕ) (stores : List OpenStore) (jumps open_jumps : List ℕ)
+    (sound : NeverGoesWrongFromPowerOn image bytes) (walks : StaysOnWalks image) (are : AreReached (code_of image) reached) (whole : length reached ≡ 65536) (keeps : RunsKeepTo image table)
+    (are_marks : AreOpenMarks image.regions reached table marks) (are_spans : AreSpans reached table spans) (each_store : AreAllBelow (is_at stores_by_pair reached) 65536 addresses)
+    (open_below : AreOpenBelow reached marks spans 65536 stores) (each_jump : AreAllBelow (is_at is_pchl reached) 65536 jumps) (each_open_jump : AreAllBelow (is_marked_at is_pchl reached marks) 65536 open_jumps) where
   -- a world stands at an instruction that is reached
   record Here (w : World) (found : Fetched) : Type 0 where
     there : reached_at reached w.machine.cpu.pc ≡ Some found
@@ -162,26 +204,53 @@ module _ (image : Located) (bytes : ℕ) (reached : List (Option Fetched)) (tabl
       let two : there.found ≡ stands.found = (let f : (code_of image).look w.machine.cpu.pc ≡ Ok there.found = there.looked in let g : (code_of image).look w.machine.cpu.pc ≡ Ok stands.found = stands.looked in cc) in
       record { there = there.there ∙ ap (λ (f : Fetched). Some f) (two ∙ one); small = omega (arith, there.within, whole) }
 
-  pub goes_if : (w : World) (found : Fetched) → StandsOnWalk image w → KeepsTo table w → fetched_by image.regions w ≡ Some found → (address : ℕ) →
+  -- it is marked as open, or it stays inside
+  marked_so : (kind : Instr → Bool) (at : ℕ) (found : Fetched) → reached_at reached at ≡ Some found → kind found.instr ≡ true → is_marked marks at ≡ true → is_marked_at kind reached marks at ≡ true
+  marked_so kind at found there is marked =
+      let here : is_at kind reached at ≡ true = ap (λ (o : Option Fetched). is_kind kind o) there ∙ is in
+      rw (here, marked) refl
+
+  stays_here : (w : World) (found : Fetched) (keep : KeepsTo image table w) → reached_at reached w.machine.cpu.pc ≡ Some found → is_marked marks w.machine.cpu.pc ≡ false →
+      StaysIn image.regions (declared_targets image.regions w.machine.cpu.pc) found.instr keep.placed.state
+  stays_here w found keep there unmarked =
+      let at : keep.placed.at ≡ w.machine.cpu.pc = keep.at in
+      subst (λ n. StaysIn image.regions (declared_targets image.regions n) found.instr keep.placed.state) at
+      (are_marks.stays keep.place keep.placed found keep.there (subst (λ n. reached_at reached n ≡ Some found) (sym at) there) (subst (λ n. is_marked marks n ≡ false) (sym at) unmarked))
+
+  spanned : (w : World) (found : Fetched) (keep : KeepsTo image table w) (span : Span) → reached_at reached w.machine.cpu.pc ≡ Some found → pointer_span found.instr keep.placed.state ≡ Some span →
+      IsSpanned spans w.machine.cpu.pc span
+  spanned w found keep span there is =
+      let at : keep.placed.at ≡ w.machine.cpu.pc = keep.at in
+      subst (λ n. IsSpanned spans n span) at (are_spans keep.place keep.placed found span keep.there (subst (λ n. reached_at reached n ≡ Some found) (sym at) there) is)
+
+  pub goes_if : (w : World) (found : Fetched) → StandsOnWalk image w → KeepsTo image table w → fetched_by image.regions w ≡ Some found → (address : ℕ) →
       Contains (pointed_bytes found.instr w.machine.cpu.registers) address → GoesAsListed image.regions stores w.machine.cpu.pc address
   goes_if w found stands keep fetched address there =
       let here = here_if w found stands fetched in
-      let points = points_by found.instr keep.pairs w.machine.cpu.registers address keep.holds there in
-      let span : span_at reached table w.machine.cpu.pc ≡ Some points.span =
-      ap (λ (o : Option Fetched). span_of o (known (pairs_at table w.machine.cpu.pc))) here.there ∙ ap (λ (o : Option Pairs). span_of (Some found) (known o)) keep.there ∙ points.is in
+      let points = points_by found.instr keep.placed.state w.machine.cpu.registers address keep.holds.registers there in
+      let whole_span = spanned w found keep points.span here.there points.is in
+      let within : Within whole_span.whole address = inside_within points.span whole_span.whole address whole_span.inside points.within in
       record {
         listed = λ k d inside same.
             let store = get_or stores k d in
-            let other : span_at reached table w.machine.cpu.pc ≡ Some store.span = subst (λ n. span_at reached table n ≡ Some store.span) same (open_below.each k d inside).span in
-            subst (λ (s : Span). Within s address) (let e : points.span ≡ store.span = cc in e) points.within;
-        unlisted = λ none. open_below.rest w.machine.cpu.pc points.span here.small span none address points.within;
-      }
+            let other : entry_in (slice_get spans w.machine.cpu.pc) ≡ Some store.span = subst (λ n. entry_in (slice_get spans n) ≡ Some store.span) same (open_below.each k d inside).span in
+            let mine : entry_in (slice_get spans w.machine.cpu.pc) ≡ Some whole_span.whole = whole_span.there in
+            subst (λ (s : Span). Within s address) (let e : whole_span.whole ≡ store.span = cc in e) within;
+        unlisted = λ none. go here points.span points.is points.within whole_span.whole whole_span.there none (is_marked marks w.machine.cpu.pc) refl;
+      } where
+    go : Here w found → (span : Span) → pointer_span found.instr keep.placed.state ≡ Some span → Within span address → (whole_one : Span) → entry_in (slice_get spans w.machine.cpu.pc) ≡ Some whole_one →
+        All (λ store. store.at ≢ w.machine.cpu.pc) stores → (b : Bool) → is_marked marks w.machine.cpu.pc ≡ b → in_data image.regions address ≡ true
+    go here span is inside whole_one there_one none true marked =
+        absurd (none_listed w.machine.cpu.pc (open_below.all w.machine.cpu.pc whole_one here.small (marked_so stores_by_pair w.machine.cpu.pc found here.there (by_any_pair found.instr keep.placed.state span is) marked) there_one) none)
+    go here span is inside whole_one there_one none false unmarked = (stays_here w found keep here.there unmarked).stores span is address inside
 
-  -- a PCHL is listed
-  pub jump_there : (w : World) (found : Fetched) → StandsOnWalk image w → fetched_by image.regions w ≡ Some found → is_pchl found.instr ≡ true → Contains jumps w.machine.cpu.pc
-  jump_there w found stands fetched jump =
-      let here = here_if w found stands fetched in
-      each_jump.all w.machine.cpu.pc here.small (ap (λ (o : Option Fetched). is_kind is_pchl o) here.there ∙ jump)
+  -- a PCHL is listed, or goes to a declared target
+  pub jump_there : (w : World) (found : Fetched) → StandsOnWalk image w → KeepsTo image table w → fetched_by image.regions w ≡ Some found → is_pchl found.instr ≡ true →
+      Contains open_jumps w.machine.cpu.pc ⊎ Contains (declared_targets image.regions w.machine.cpu.pc) (hl_of w.machine.cpu.registers)
+  jump_there w found stands keep fetched jump = go (here_if w found stands fetched) (is_marked marks w.machine.cpu.pc) refl where
+    go : Here w found → (b : Bool) → is_marked marks w.machine.cpu.pc ≡ b → Contains open_jumps w.machine.cpu.pc ⊎ Contains (declared_targets image.regions w.machine.cpu.pc) (hl_of w.machine.cpu.registers)
+    go here true marked = inl (each_open_jump.all w.machine.cpu.pc here.small (marked_so is_pchl w.machine.cpu.pc found here.there jump marked))
+    go here false unmarked = inr ((stays_here w found keep here.there unmarked).jumps jump (hl_of w.machine.cpu.registers) keep.holds.registers.hl.words)
 
   goes : (start : Machine) → IsStart image start → HoldsBytes start → (most : Option ℕ) (w : World) (found : Fetched) → IsWorldFrom image start most w → fetched_by image.regions w ≡ Some found → (address : ℕ) →
       Contains (pointed_bytes found.instr w.machine.cpu.registers) address → GoesAsListed image.regions stores w.machine.cpu.pc address
@@ -203,7 +272,12 @@ module _ (image : Located) (bytes : ℕ) (reached : List (Option Fetched)) (tabl
       guarded image.regions (guard image.regions found.instr w.machine.cpu) (refuses most w.machine.outputs) found w.machine ≡ Stop e
   turn_there most w found e fetched stops = sym (ap (λ (o : Option Fetched). step_on image.regions (refuses most w.machine.outputs) o w.machine) fetched) ∙ stops
 
-  ends_so : (start : Machine) → IsStart image start → HoldsBytes start → (most : Option ℕ) (w : World) (e : End) → IsWorldFrom image start most w → turn_at image.regions most w ≡ Stop e → IsProperEnd e → EndsAsListed stores jumps w.machine.cpu.pc e
+  jump_listed : (w : World) (to : ℕ) → leads_outside (targets_at image.regions w.machine.cpu.pc) (hl_of w.machine.cpu.registers) ≡ true →
+      Contains open_jumps w.machine.cpu.pc ⊎ Contains (declared_targets image.regions w.machine.cpu.pc) (hl_of w.machine.cpu.registers) → Contains open_jumps w.machine.cpu.pc
+  jump_listed w to outside (inl listed) = listed
+  jump_listed w to outside (inr target) = absurd (inside_targets (targets_at image.regions w.machine.cpu.pc) (hl_of w.machine.cpu.registers) outside target)
+
+  ends_so : (start : Machine) → IsStart image start → HoldsBytes start → (most : Option ℕ) (w : World) (e : End) → IsWorldFrom image start most w → turn_at image.regions most w ≡ Stop e → IsProperEnd e → EndsAsListed stores open_jumps w.machine.cpu.pc e
   ends_so start begins held most w Halt from stops proper = tt
   ends_so start begins held most w (InputEnd port) from stops proper = tt
   ends_so start begins held most w (OutputRefused port) from stops proper = tt
@@ -213,8 +287,8 @@ module _ (image : Located) (bytes : ℕ) (reached : List (Option Fetched)) (tabl
       outside_end w address (goes start begins held most w stands.found from stands.fetched address out.0) out.1 (listed_or_not w.machine.cpu.pc stores)
   ends_so start begins held most w (JumpOutside to) from stops proper =
       let stands = walks.stands start begins most w from in
-      let jump : is_pchl stands.found.instr ≡ true = jump_ends image.regions (guard image.regions stands.found.instr w.machine.cpu) (refuses most w.machine.outputs) stands.found w.machine to refl (turn_there most w stands.found (JumpOutside to) stands.fetched stops) in
-      jump_there w stands.found stands stands.fetched jump
+      let jump = jump_ends image.regions (guard image.regions stands.found.instr w.machine.cpu) (refuses most w.machine.outputs) stands.found w.machine to refl (turn_there most w stands.found (JumpOutside to) stands.fetched stops) in
+      jump_listed w to jump.1 (jump_there w stands.found stands (keeps start begins held most w from) stands.fetched jump.0)
   ends_so start begins held most w (Fetch at) from stops proper = absurd proper
   ends_so start begins held most w (Stack at) from stops proper = absurd proper
   ends_so start begins held most w (Direct at) from stops proper = absurd proper
@@ -226,39 +300,62 @@ module _ (image : Located) (bytes : ℕ) (reached : List (Option Fetched)) (tabl
       let walk = reached_if_there (code_of image) reached are at found e in
       record { reached = walk.0; found = found; looked = walk.1; is = is }
 
-  there_of_kind : (kind : Instr → Bool) (xs : List ℕ) → AreAllBelow reached kind 65536 xs → (at : ℕ) → IsReachedAs (code_of image) kind at → Contains xs at
+  there_of_kind : (kind : Instr → Bool) (xs : List ℕ) → AreAllBelow (is_at kind reached) 65536 xs → (at : ℕ) → IsReachedAs (code_of image) kind at → Contains xs at
   there_of_kind kind xs below at is =
       let there = there_if_reached (code_of image) reached are at is.reached in
       let same : is.found ≡ there.found = (let f : (code_of image).look at ≡ Ok there.found = there.looked in let g : (code_of image).look at ≡ Ok is.found = is.looked in cc) in
       below.all at (omega (arith, there.within, whole)) (ap (λ (o : Option Fetched). is_kind kind o) there.there ∙ ap (λ (f : Fetched). kind f.instr) (sym same) ∙ is.is)
 
-  all_of_kind : (kind : Instr → Bool) (xs : List ℕ) → AreAllBelow reached kind 65536 xs → AreReachedAs (code_of image) kind xs
+  all_of_kind : (kind : Instr → Bool) (xs : List ℕ) → AreAllBelow (is_at kind reached) 65536 xs → AreReachedAs (code_of image) kind xs
   all_of_kind kind xs below = record {
     ascending = below.ascending;
     each = λ at. (λ there. kind_there kind at (reached_at reached at) refl (below.each at there).1, there_of_kind kind xs below at);
   }
 
-  open_there : (store : OpenStore) → IsListed image.regions reached table 65536 store → IsOpen image store
-  open_there store l =
-      let walk = reached_if_there (code_of image) reached are store.at l.found l.there in
-      let span : pointer_span l.found.instr (known (pairs_at table store.at)) ≡ Some store.span = sym (ap (λ (o : Option Fetched). span_of o (known (pairs_at table store.at))) l.there) ∙ l.span in
-      record {
-        reached = walk.0;
-        found = l.found;
-        looked = walk.1;
-        instr = l.instr;
-        stores = by_any_pair store.instr (known (pairs_at table store.at)) store.span (subst (λ (i : Instr). pointer_span i (known (pairs_at table store.at)) ≡ Some store.span) l.instr span);
-        outside = l.outside;
-        within = l.within;
-        no_data = l.no_data;
-      }
+  first_of : (a b : Bool) → (a && b) ≡ true → a ≡ true
+  first_of true b h = refl
+  first_of false b h = cc
 
-  pub are_stores : AreStoresOf image addresses stores jumps
+  open_jump_there : (at : ℕ) → Contains open_jumps at → IsReachedAs (code_of image) is_pchl at
+  open_jump_there at there = kind_there is_pchl at (reached_at reached at) refl (first_of (is_at is_pchl reached at) (is_marked marks at) (each_open_jump.each at there).1)
+
+  -- a state that leaves a store open shows an address of its whole span that is no data
+  open_by : (store : OpenStore) (l : IsListed reached marks spans 65536 store) (left : IsLeftAt image.regions reached table store.at) → left.found ≡ l.found → IsOpen image store
+  open_by store l left same = go left.leaves where
+    go : IsLeftOpen image.regions left.found.instr left.placed.state → IsOpen image store
+    go (inl may) =
+        let at : left.placed.at ≡ store.at = left.here in
+        let whole_span = are_spans left.place left.placed left.found may.span left.there (subst (λ n. reached_at reached n ≡ Some left.found) (sym at) left.instr) may.is in
+        let mine : entry_in (slice_get spans store.at) ≡ Some whole_span.whole = subst (λ n. entry_in (slice_get spans n) ≡ Some whole_span.whole) at whole_span.there in
+        let its : whole_span.whole ≡ store.span = (let e : entry_in (slice_get spans store.at) ≡ Some store.span = l.span in cc) in
+        let walk = reached_if_there (code_of image) reached are store.at l.found l.there in
+        record {
+          reached = walk.0;
+          found = l.found;
+          looked = walk.1;
+          instr = l.instr;
+          stores = l.stores;
+          outside = may.outside;
+          within = subst (λ (s : Span). Within s may.outside) its (inside_within may.span whole_span.whole may.outside whole_span.inside may.within);
+          no_data = may.no_data;
+        }
+    go (inr jump) =
+        let is : left.found.instr ≡ store.instr = ap (λ (f : Fetched). f.instr) same ∙ l.instr in
+        absurd (no_jump store.instr l.stores (sym (ap is_pchl is) ∙ jump))
+
+  open_there : (store : OpenStore) → IsListed reached marks spans 65536 store → IsOpen image store
+  open_there store l =
+      let left = are_marks.leaves store.at l.marked in
+      open_by store l left (let f : reached_at reached store.at ≡ Some left.found = left.instr in let g : reached_at reached store.at ≡ Some l.found = l.there in let e : left.found ≡ l.found = cc in e)
+
+  pub are_stores : AreStoresOf image addresses stores jumps open_jumps
   are_stores = record {
     each_store = all_of_kind stores_by_pair addresses each_store;
     open_ascending = open_below.ascending;
     each_open = λ k d inside. open_there (get_or stores k d) (open_below.each k d inside);
     each_jump = all_of_kind is_pchl jumps each_jump;
+    jumps_ascending = each_open_jump.ascending;
+    each_open_jump = λ k d inside. open_jump_there (get_or open_jumps k d) (Contains-get_or open_jumps k d inside);
     stores_go = go_as_listed;
     runs_end = λ start begins held most w e from stops. ends_so start begins held most w e from stops (sound.ends start begins most w e from stops);
   }

@@ -13,14 +13,17 @@ use Rattle.verify80_flow.specs.Rows.{AreRows, IsRow, ReturnsWith}
 use Rattle.verify80.specs.Looking.{code_of, declared_targets}
 use Rattle.verify80.specs.Reached.{IsReached, StandsOnWalk}
 use Rattle.verify80_calls.specs.Reached.{AreReached, found_at}
-use Rattle.verify80_stores.specs.declared.spans.pairs.Pairs.{Pairs}
-use Rattle.verify80_stores.specs.Bytes.{HoldsBytes}
-use Rattle.verify80_stores.specs.Pairs.{anything}
-use Rattle.verify80_stores.specs.Following.{AnythingHolds}
+use Rattle.verify80_stores.specs.declared.fitting.fitting.Placed.{Placed}
+use Rattle.verify80_stores.specs.Bytes.{HoldsBytes, MemoryKeepsItsLength}
+use Rattle.verify80_stores.specs.State.{Holds, anything}
+use Rattle.verify80_stores.specs.Following.{entry_in}
+use Rattle.verify80_stores.specs.Steps.{HasCode}
 use Rattle.verify80_stores.specs.Returning.{is_marked}
-use Rattle.verify80_stores.specs.Fitting.{entry_in, pairs_at, Has, EntryFits, ReturnsSomewhere, Fits}
+use Rattle.verify80_stores.specs.Fitting.{Has, FitsAt, LeadsBehind, ReturnsSomewhere, Fits}
 use Rattle.verify80_stores.specs.Runs.{KeepsTo, IsKept}
-use Rattle.verify80_stores.specs.Listing.{reached_at}
+use Rattle.verify80_stores.specs.Listing.{reached_at, SaysNothingAt}
+use Rattle.verify80_stores.proofs.MemoryLemmas.{Ground}
+use Rattle.verify80_stores.proofs.KeepLemmas.{nothing_holds, code_stays}
 
 -- two ways to read a table of entries
 pub same_entry : {A : Type 0} (table : List (Option A)) (at : ℕ) → entry_in (slice_get table at) ≡ slice_index_or table at None
@@ -70,46 +73,38 @@ marked_if_returning code rows marks are marked entry returns =
     let same : here ≡ row.1 = row.3 in
     row_or_never code here entry marks here.returns refl (are.each place row.1 row.2) (ap (λ (r : ProcRow). r.entry) same ∙ row.4) (marked place row.1 row.2) returns
 
-pub fits_program : (image : Located) (rows : List ProcRow) (marks : List Bool) (reached : List (Option Fetched)) (table : List (Option Pairs)) → AreReached (code_of image) reached → AreRows (code_of image) rows →
-    All (λ row. row.returns ≡ true → is_marked marks row.entry ≡ true) rows → Has table image.start anything →
-    ((at : ℕ) (found : Fetched) → at < length reached → entry_in (slice_get reached at) ≡ Some found → EntryFits (λ entry. is_marked marks entry ≡ true) (declared_targets image.regions at) table at found) →
-    Fits (code_of image) table
-fits_program image rows marks reached table are rows_are marked start entries = record {
+pub fits_program : (image : Located) (rows : List ProcRow) (marks : List Bool) (reached : List (Option Fetched)) (bytes : List (Option ℕ)) (table : List Placed) → AreReached (code_of image) reached → length reached ≡ 65536 →
+    AreRows (code_of image) rows → All (λ row. row.returns ≡ true → is_marked marks row.entry ≡ true) rows → Has table image.start anything →
+    ((place : ℕ) (placed : Placed) (found : Fetched) → slice_get table place ≡ Some placed → reached_at reached placed.at ≡ Some found → FitsAt bytes (declared_targets image.regions placed.at) table placed.state found) →
+    ((at : ℕ) (found : Fetched) → at < 65536 → reached_at reached at ≡ Some found → LeadsBehind (λ entry. is_marked marks entry ≡ true) table found) →
+    Fits (code_of image) bytes table
+fits_program image rows marks reached bytes table are whole rows_are marked start entries behind = record {
   start = start;
-  entries = λ at found walk looked. fit at found walk looked (there_if_reached (code_of image) reached are at walk);
+  entries = λ place placed found there walk looked. entries place placed found there (here placed.at found looked (there_if_reached (code_of image) reached are placed.at walk));
+  behind = λ at found walk looked entry calls returns.
+      let there = there_if_reached (code_of image) reached are at walk in
+      behind at found (omega (arith, there.within, whole)) (here at found looked there) entry calls (marked_if_returning (code_of image) rows marks rows_are marked entry returns);
 } where
-  fit : (at : ℕ) (found : Fetched) → IsReached (code_of image) at → (code_of image).look at ≡ Ok found → IsThere (code_of image) reached are at →
-      EntryFits (ReturnsSomewhere (code_of image)) ((code_of image).targets at) table at found
-  fit at found walk looked there =
+  here : (at : ℕ) (found : Fetched) → (code_of image).look at ≡ Ok found → IsThere (code_of image) reached are at → reached_at reached at ≡ Some found
+  here at found looked there =
       let same : there.found ≡ found = (let other : (code_of image).look at ≡ Ok there.found = there.looked in cc) in
-      let here = entries at found there.within (there.there ∙ ap (λ (f : Fetched). Some f) same) in
-      record {
-        pairs = here.pairs;
-        there = here.there;
-        leads = here.leads;
-        behind = λ entry calls returns. here.behind entry calls (marked_if_returning (code_of image) rows marks rows_are marked entry returns);
-      }
+      there.there ∙ ap (λ (f : Fetched). Some f) same
 
--- pairs fit the same things under other names
-pub moved : (marks marks' : List Bool) (regions regions' : Areas) (table table' : List (Option Pairs)) (at : ℕ) (found : Fetched) → marks ≡ marks' → regions ≡ regions' → table ≡ table' →
-    EntryFits (λ entry. is_marked marks entry ≡ true) (declared_targets regions at) table at found → EntryFits (λ entry. is_marked marks' entry ≡ true) (declared_targets regions' at) table' at found
-moved marks marks' regions regions' table table' at found one two three fits =
-    subst (λ (m : List Bool). EntryFits (λ entry. is_marked m entry ≡ true) (declared_targets regions' at) table' at found) one
-    (subst (λ (r : Areas). EntryFits (λ entry. is_marked marks entry ≡ true) (declared_targets r at) table' at found) two
-    (subst (λ (t : List (Option Pairs)). EntryFits (λ entry. is_marked marks entry ≡ true) (declared_targets regions at) t at found) three fits))
-
--- a table that has anything everywhere is kept
-pub anything_is_kept : (image : Located) (reached : List (Option Fetched)) (table : List (Option Pairs)) → AreReached (code_of image) reached → length reached ≡ 65536 →
-    AnythingHolds → ((at : ℕ) → at < 65536 → pairs_at table at ≡ Some anything) → IsKept image table
-anything_is_kept image reached table are whole holds everywhere = record {
-  starts = λ start pc held stands. here (world_of start) stands held;
-  steps = λ refused w after known stands before now keeps step. here after stands now;
+-- a table that says nothing anywhere is kept
+pub nothing_is_kept : (image : Located) (reached : List (Option Fetched)) (table : List Placed) → AreReached (code_of image) reached → length reached ≡ 65536 → Ground image.regions → MemoryKeepsItsLength →
+    ((at : ℕ) → at < 65536 → SaysNothingAt table at) → IsKept image table
+nothing_is_kept image reached table are whole ground length_stays everywhere = record {
+  starts = λ start pc code size held stands. here (world_of start) stands held code size;
+  steps = λ refused w after known stands before now keeps step.
+      here after stands now (code_stays image ground refused w.machine after.machine known.stands.found known.stands.fetched step keeps.code)
+      (length_stays image.regions refused w.machine after.machine step ∙ keeps.whole);
 } where
-  here : (w : World) → StandsOnWalk image w → HoldsBytes w.machine → KeepsTo table w
-  here w stands held =
+  here : (w : World) → StandsOnWalk image w → HoldsBytes w.machine → HasCode image w.machine.memory → length w.machine.memory ≡ 65536 → KeepsTo image table w
+  here w stands held code size =
       let there = there_if_reached (code_of image) reached are w.machine.cpu.pc stands.reached in
+      let says = everywhere w.machine.cpu.pc (omega (arith, there.within, whole)) in
       record {
-        pairs = anything;
-        there = everywhere w.machine.cpu.pc (omega (arith, there.within, whole));
-        holds = holds w.machine.cpu.registers held.registers;
+        place = says.place; placed = says.placed; there = says.there; at = says.here;
+        holds = rw says.nothing (nothing_holds image.regions ground w.machine held);
+        code = code; whole = size;
       }

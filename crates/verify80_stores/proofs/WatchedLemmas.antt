@@ -15,9 +15,9 @@ holds_bytes image inputs outputs memory waiting = record {
   inputs = waiting;
 }
 
-pub watched_runs : (image : Located) (addresses : List ℕ) (stores : List OpenStore) (jumps : List ℕ) → RunsBeginFromPowerOn → HasBytes (memory_of image.chunks) → AreStoresOf image addresses stores jumps →
-    WatchedRunsGoAsListed image stores jumps
-watched_runs image addresses stores jumps begins memory listed = record {
+pub watched_runs : (image : Located) (addresses : List ℕ) (stores : List OpenStore) (jumps open_jumps : List ℕ) → RunsBeginFromPowerOn → HasBytes (memory_of image.chunks) → AreStoresOf image addresses stores jumps open_jumps →
+    WatchedRunsGoAsListed image stores open_jumps
+watched_runs image addresses stores jumps open_jumps begins memory listed = record {
   stores_go = λ most w run waiting found fetched.
       listed.stores_go (world_at_start image run.inputs run.outputs).machine (begins image run.inputs run.outputs) (holds_bytes image run.inputs run.outputs memory waiting) most w found
       (record { steps = run.steps; is = run.is }) fetched;

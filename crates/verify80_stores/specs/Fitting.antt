@@ -1,44 +1,83 @@
--- A table of pairs that fits a program: pairs for each address that walks reach, such that what the instruction there makes of
--- them is among those wherever it may lead; and if nothing is known, behind a call whose callee returns and at the start,
--- anything. The runs of the program are followed along such a table. (This project's own.)
-use Rattle.std.specs.Prelude.{◌≡◌, ℕ, List, Option, None, Some, Ok, slice_get}
+-- A table of states that fits a program: states, each at an address, such that what the instruction there makes of one is inside one
+-- wherever it leads; and if nothing is known, behind a call whose callee returns and at the start, one that says nothing. The runs of the
+-- program are followed along such a table. (This project's own.)
+use Rattle.std.specs.Prelude.{◌≡◌, ℕ, Bool, true, false, List, Contains, Option, None, Some, Ok, slice_get}
 use Rattle.decode80.specs.declared.fetching.Fetched.{Fetched}
-use Rattle.frames80.specs.Effects.{effect_of}
+use Rattle.decode80.specs.declared.instr.Instr.{Instr}
+use Rattle.decode80.specs.declared.flow.Flow.{Flow}
+use Rattle.decode80.specs.declared.flow.Flow.TheVariants.{Continues, Jumps, JumpsIf, JumpsToHl, Calls, CallsIf, Returns, ReturnsIf, Pushes, Pops, Exchanges, Halts}
+use Rattle.decode80.specs.Facts.{flow}
 use Rattle.frames80.specs.declared.procedure.Procedure.TheVariants.{Entry}
 use Rattle.frames80.specs.Code.{Code}
 use Rattle.verify80_flow.specs.Rows.{ReturnsWith}
 use Rattle.verify80.specs.Reached.{IsReached}
-use Rattle.verify80_stores.specs.declared.spans.pairs.Pairs.{Pairs}
-use Rattle.verify80_stores.specs.Pairs.{AreInside, anything, pairs_after}
-use Rattle.verify80_stores.specs.Ways.{MayLeadTo, callee_of}
+use Rattle.verify80_stores.specs.declared.states.state.State.{State}
+use Rattle.verify80_stores.specs.declared.fitting.fitting.Placed.{Placed}
+use Rattle.verify80_stores.specs.Span.{Within}
+use Rattle.verify80_stores.specs.State.{IsStateInside, anything}
+use Rattle.verify80_stores.specs.Following.{state_after}
+use Rattle.verify80_stores.specs.Given.{given}
 
--- what stands in a table at an address, if anything does
-abbrev pub entry_in : {A : Type 0} → Option (Option A) → Option A
-entry_in None = None
-entry_in (Some entry) = entry
+-- the table has a state at an address that says no more than this one
+pub record Has (table : List Placed) (to : ℕ) (s : State) : Type 0 where
+  pub place : ℕ
+  pub placed : Placed
+  pub there : slice_get table place ≡ Some placed
+  pub at : placed.at ≡ to
+  pub inside : IsStateInside s placed.state
 
-abbrev pub pairs_at : List (Option Pairs) → ℕ → Option Pairs
-pairs_at table at = entry_in (slice_get table at)
+-- the same of what an instruction makes of a state, if there is one
+abbrev pub HasAfter : List Placed → (to : ℕ) → (State → State) → Option State → Type 0
+HasAfter table to after None = Unit {0}
+HasAfter table to after (Some s) = Has table to (after s)
 
--- the table has pairs at an address, and these words are among theirs
-pub record Has (table : List (Option Pairs)) (at : ℕ) (words : Pairs) : Type 0 where
-  pub pairs : Pairs
-  pub there : pairs_at table at ≡ Some pairs
-  pub inside : AreInside words pairs
+-- what a state owes where an instruction leads: `after` is what the instruction makes of a state, its call or return taken or not
+abbrev pub FitsBy : (targets : List ℕ) → List Placed → (after : Bool → State → State) → State → (next : ℕ) → Flow → Type 0
+FitsBy targets table after s next Continues = Has table next (after false s)
+FitsBy targets table after s next Pushes = Has table next (after false s)
+FitsBy targets table after s next Pops = Has table next (after false s)
+FitsBy targets table after s next Exchanges = Has table next (after false s)
+FitsBy targets table after s next (Jumps to) = Has table to (after false s)
+FitsBy targets table after s next (JumpsIf condition to) =
+    HasAfter table to (after true) (given condition true s) × HasAfter table next (after false) (given condition false s)
+FitsBy targets table after s next JumpsToHl = (to : ℕ) → Contains targets to → Within s.hl.words to → Has table to (after false s)
+FitsBy targets table after s next (Calls to) = Has table to (after true s)
+FitsBy targets table after s next (CallsIf condition to) =
+    HasAfter table to (after true) (given condition true s) × HasAfter table next (after false) (given condition false s)
+FitsBy targets table after s next Returns = Unit {0}
+FitsBy targets table after s next (ReturnsIf condition) = HasAfter table next (after false) (given condition false s)
+FitsBy targets table after s next Halts = Unit {0}
 
--- the pairs at an address fit the instruction there, if these procedures return
-pub record EntryFits (returning : ℕ → Type 0) (targets : List ℕ) (table : List (Option Pairs)) (at : ℕ) (found : Fetched) : Type 0 where
-  pub pairs : Pairs
-  pub there : pairs_at table at ≡ Some pairs
-  pub leads : (to : ℕ) → MayLeadTo (effect_of found.instr) targets found.next to → Has table to (pairs_after found.instr pairs)
-  pub behind : (entry : ℕ) → callee_of (effect_of found.instr) ≡ Some entry → returning entry → Has table found.next anything
+-- a state at an address fits the instruction there
+abbrev pub FitsAt : (code : List (Option ℕ)) → (targets : List ℕ) → List Placed → State → Fetched → Type 0
+FitsAt code targets table s found = FitsBy targets table (λ taken t. state_after code found.instr taken found.next t) s found.next (flow found.instr)
+
+-- a flow calls the procedure that begins at an address
+abbrev pub CallsEntry : Flow → ℕ → Type 0
+CallsEntry (Calls to) entry = to ≡ entry
+CallsEntry (CallsIf condition to) entry = to ≡ entry
+CallsEntry Continues entry = ⊥
+CallsEntry (Jumps to) entry = ⊥
+CallsEntry (JumpsIf condition to) entry = ⊥
+CallsEntry JumpsToHl entry = ⊥
+CallsEntry Returns entry = ⊥
+CallsEntry (ReturnsIf condition) entry = ⊥
+CallsEntry Pushes entry = ⊥
+CallsEntry Pops entry = ⊥
+CallsEntry Exchanges entry = ⊥
+CallsEntry Halts entry = ⊥
+
+-- if the callee of an instruction is one of these, which return, the table has a state behind it that says nothing
+abbrev pub LeadsBehind : (returning : ℕ → Type 0) → List Placed → Fetched → Type 0
+LeadsBehind returning table found = (entry : ℕ) → CallsEntry (flow found.instr) entry → returning entry → Has table found.next anything
 
 -- a walk of the procedure that begins at an address returns
 abbrev pub ReturnsSomewhere : Code → ℕ → Type 0
 ReturnsSomewhere code entry = (taken : ℕ) × ReturnsWith code (Entry entry) taken
 
 -- the table fits
-pub record Fits (code : Code) (table : List (Option Pairs)) : Type 0 where
+pub record Fits (code : Code) (bytes : List (Option ℕ)) (table : List Placed) : Type 0 where
   pub start : Has table code.start anything
-  pub entries : (at : ℕ) (found : Fetched) → IsReached code at → code.look at ≡ Ok found →
-      EntryFits (ReturnsSomewhere code) (code.targets at) table at found
+  pub entries : (place : ℕ) (placed : Placed) (found : Fetched) → slice_get table place ≡ Some placed → IsReached code placed.at →
+      code.look placed.at ≡ Ok found → FitsAt bytes (code.targets placed.at) table placed.state found
+  pub behind : (at : ℕ) (found : Fetched) → IsReached code at → code.look at ≡ Ok found → LeadsBehind (ReturnsSomewhere code) table found

@@ -2,16 +2,18 @@ pub mod Pointers
 pub mod Stores
 pub mod Boards
 pub mod StoresText
-pub mod DataReach
 pub mod Bytes
 pub mod Span
-pub mod Pairs
+-- what the crate's own functions promise one another: no public contract cites these
+pub mod State
 pub mod Following
-pub mod Ways
+pub mod Given
+pub mod Steps
 pub mod Returning
 pub mod Fitting
 pub mod Runs
--- what the crate's own functions promise one another: no public contract cites these
+pub mod DataReach
 pub mod Kinds
 pub mod StackPointer
+pub mod Opening
 pub mod Listing

@@ -1,24 +1,28 @@
--- What is listed of the instructions that are reached, by the pairs that a table has for them. (This project's own.)
-use Rattle.std.specs.Prelude.{◌≡◌, ◌≢◌, ◌<◌, ℕ, Bool, true, false, List, All, AllPairs, Contains, Option, None, Some, slice_get}
+-- What is listed of the instructions that are reached, by the states that a table has for them. (This project's own.)
+use Rattle.std.specs.Prelude.{◌≡◌, ◌<◌, ◌&&◌, ℕ, Bool, true, false, List, All, AllPairs, Any, Contains, Option, None, Some, slice_get}
 use Rattle.decode80.specs.declared.instr.Instr.{Instr}
 use Rattle.decode80.specs.declared.fetching.Fetched.{Fetched}
-use Rattle.image80.specs.Regions.{Areas, in_data}
+use Rattle.image80.specs.Regions.{Areas, AreRegions}
 use Rattle.image80.specs.Image.{Located}
 use Rattle.machine80.specs.Step.{Machine}
 use Rattle.machine80.specs.World.{World}
 use Rattle.verify80.specs.Starts.{NeverGoesWrongFromPowerOn}
 use Rattle.verify80.specs.Boards.{Anywhere, Executes, IsGuarded, KeepsPromise, KeepsToWalks, MayStart, OnBoard}
 use Rattle.verify80.specs.Reached.{StaysOnWalks}
+use Rattle.verify80.specs.Looking.{declared_targets}
 use Rattle.verify80_stores.specs.declared.spans.span.Span.{Span}
-use Rattle.verify80_stores.specs.declared.spans.pairs.Pairs.{Pairs}
-use Rattle.verify80_stores.specs.Span.{Within}
-use Rattle.verify80_stores.specs.Pairs.{anything}
-use Rattle.verify80_stores.specs.Fitting.{entry_in, pairs_at}
+use Rattle.verify80_stores.specs.declared.fitting.fitting.Placed.{Placed}
 use Rattle.verify80_stores.specs.declared.stores.OpenStore.{OpenStore}
-use Rattle.verify80_stores.specs.Pointers.{pointer_span}
+use Rattle.verify80_stores.specs.Span.{IsInside}
+use Rattle.verify80_stores.specs.Following.{entry_in}
+use Rattle.verify80_stores.specs.Returning.{is_marked}
+use Rattle.verify80_stores.specs.State.{anything}
+use Rattle.verify80_stores.specs.Pointers.{stores_by_pair}
+use Rattle.verify80_stores.specs.Opening.{pointer_span, StaysIn, IsLeftOpen}
 
 -- no run of the image goes wrong, and each stays on walks; and so it is on boards
 pub record AreKnown (image : Located) (bytes : ℕ) : Type 0 where
+  pub rules : AreRegions image.regions
   pub sound : NeverGoesWrongFromPowerOn image bytes
   pub walks : StaysOnWalks image
   pub promise : (start : Machine) → MayStart image start → (w : World) → OnBoard image.regions Anywhere start w → KeepsPromise image bytes w
@@ -34,39 +38,67 @@ abbrev pub is_kind : (Instr → Bool) → Option Fetched → Bool
 is_kind kind None = false
 is_kind kind (Some found) = kind found.instr
 
--- addresses of instructions of a kind, ascending: all of those below a bound
-pub record AreAllBelow (reached : List (Option Fetched)) (kind : Instr → Bool) (bound : ℕ) (addresses : List ℕ) : Type 0 where
+-- whether the instruction at an address is of a kind, and whether it also is marked
+abbrev pub is_at : (Instr → Bool) → List (Option Fetched) → ℕ → Bool
+is_at kind reached at = is_kind kind (reached_at reached at)
+
+abbrev pub is_marked_at : (Instr → Bool) → List (Option Fetched) → (marks : List Bool) → ℕ → Bool
+is_marked_at kind reached marks at = is_at kind reached at && is_marked marks at
+
+-- addresses, ascending: all of those below a bound for which something holds
+pub record AreAllBelow (is : ℕ → Bool) (bound : ℕ) (addresses : List ℕ) : Type 0 where
   pub ascending : AllPairs (λ a b. a < b) addresses
-  pub each : (at : ℕ) → Contains addresses at → (at < bound) × (is_kind kind (reached_at reached at) ≡ true)
-  pub all : (at : ℕ) → at < bound → is_kind kind (reached_at reached at) ≡ true → Contains addresses at
+  pub each : (at : ℕ) → Contains addresses at → (at < bound) × (is at ≡ true)
+  pub all : (at : ℕ) → at < bound → is at ≡ true → Contains addresses at
 
--- the pairs that are known, or anything
-abbrev pub known : Option Pairs → Pairs
-known None = anything
-known (Some pairs) = pairs
+-- a state of the table that leaves open the instruction at an address
+pub record IsLeftAt (regions : Areas) (reached : List (Option Fetched)) (table : List Placed) (at : ℕ) : Type 0 where
+  pub place : ℕ
+  pub placed : Placed
+  pub found : Fetched
+  pub there : slice_get table place ≡ Some placed
+  pub here : placed.at ≡ at
+  pub instr : reached_at reached at ≡ Some found
+  pub leaves : IsLeftOpen regions found.instr placed.state
 
-abbrev pub span_of : Option Fetched → Pairs → Option Span
-span_of None pairs = None
-span_of (Some found) pairs = pointer_span found.instr pairs
+-- marks for the addresses at which a state of the table leaves the instruction open
+pub record AreOpenMarks (regions : Areas) (reached : List (Option Fetched)) (table : List Placed) (marks : List Bool) : Type 0 where
+  pub stays : (place : ℕ) (placed : Placed) (found : Fetched) → slice_get table place ≡ Some placed → reached_at reached placed.at ≡ Some found →
+      is_marked marks placed.at ≡ false → StaysIn regions (declared_targets regions placed.at) found.instr placed.state
+  pub leaves : (at : ℕ) → is_marked marks at ≡ true → IsLeftAt regions reached table at
 
--- where the instruction at an address may store by a pair, as the table has it
-abbrev pub span_at : List (Option Fetched) → List (Option Pairs) → ℕ → Option Span
-span_at reached table at = span_of (reached_at reached at) (known (pairs_at table at))
+-- the span at an address has the words of another
+pub record IsSpanned (spans : List (Option Span)) (at : ℕ) (span : Span) : Type 0 where
+  pub whole : Span
+  pub there : entry_in (slice_get spans at) ≡ Some whole
+  pub inside : IsInside span whole
 
--- an open store is that of its address: the instruction, and its span, in which not each address is data
-pub record IsListed (regions : Areas) (reached : List (Option Fetched)) (table : List (Option Pairs)) (bound : ℕ) (store : OpenStore) : Type 0 where
+-- spans by address, that have the words of all that states of the table say of the stores there
+abbrev pub AreSpans : List (Option Fetched) → List Placed → List (Option Span) → Type 0
+AreSpans reached table spans = (place : ℕ) (placed : Placed) (found : Fetched) (span : Span) → slice_get table place ≡ Some placed →
+    reached_at reached placed.at ≡ Some found → pointer_span found.instr placed.state ≡ Some span → IsSpanned spans placed.at span
+
+-- an open store is that of its address: the instruction, which is marked, and its span
+pub record IsListed (reached : List (Option Fetched)) (marks : List Bool) (spans : List (Option Span)) (bound : ℕ) (store : OpenStore) : Type 0 where
   pub below : store.at < bound
   pub found : Fetched
   pub there : reached_at reached store.at ≡ Some found
   pub instr : found.instr ≡ store.instr
-  pub span : span_at reached table store.at ≡ Some store.span
-  pub outside : ℕ
-  pub within : Within store.span outside
-  pub no_data : in_data regions outside ≡ false
+  pub stores : stores_by_pair store.instr ≡ true
+  pub marked : is_marked marks store.at ≡ true
+  pub span : entry_in (slice_get spans store.at) ≡ Some store.span
 
--- the open stores below a bound, ascending; what isn't listed stays in data
-pub record AreOpenBelow (regions : Areas) (reached : List (Option Fetched)) (table : List (Option Pairs)) (bound : ℕ) (stores : List OpenStore) : Type 0 where
+-- the open stores below a bound, ascending: each marked store that has a span is there
+pub record AreOpenBelow (reached : List (Option Fetched)) (marks : List Bool) (spans : List (Option Span)) (bound : ℕ) (stores : List OpenStore) : Type 0 where
   pub ascending : AllPairs (λ a b. a.at < b.at) stores
-  pub each : All (IsListed regions reached table bound) stores
-  pub rest : (at : ℕ) (span : Span) → at < bound → span_at reached table at ≡ Some span → All (λ store. store.at ≢ at) stores →
-      (address : ℕ) → Within span address → in_data regions address ≡ true
+  pub each : All (IsListed reached marks spans bound) stores
+  pub all : (at : ℕ) (span : Span) → at < bound → is_marked_at stores_by_pair reached marks at ≡ true →
+      entry_in (slice_get spans at) ≡ Some span → Any (λ store. store.at ≡ at) stores
+
+-- the state at an address says nothing
+pub record SaysNothingAt (table : List Placed) (at : ℕ) : Type 0 where
+  pub place : ℕ
+  pub placed : Placed
+  pub there : slice_get table place ≡ Some placed
+  pub here : placed.at ≡ at
+  pub nothing : placed.state ≡ anything

@@ -1,7 +1,8 @@
--- What a table of pairs says of runs. (This project's own.)
-use Rattle.std.specs.Prelude.{◌≡◌, ℕ, Bool, true, List, Option, Some}
+-- What a table of states says of runs. (This project's own.)
+use Rattle.std.specs.Prelude.{◌≡◌, ℕ, Bool, true, List, Option, Some, length, slice_get}
 use Rattle.decode80.specs.declared.fetching.Fetched.{Fetched}
 use Rattle.image80.specs.Image.{Located}
+use Rattle.image80.specs.Regions.{AreRegions}
 use Rattle.machine80.specs.Effects.{target}
 use Rattle.machine80.specs.Step.{Machine, Next, step_of}
 use Rattle.machine80.specs.World.{World, FetchesInside, fetched_by, returns}
@@ -9,23 +10,28 @@ use Rattle.machine80.specs.Run.{world_of}
 use Rattle.verify80.specs.Looking.{code_of}
 use Rattle.verify80.specs.Starts.{IsStart, IsWorldFrom, NeverGoesWrongFromPowerOn}
 use Rattle.verify80.specs.Reached.{IsBehindCall, StandsOnWalk, StaysOnWalks}
-use Rattle.verify80_stores.specs.declared.spans.pairs.Pairs.{Pairs}
+use Rattle.verify80_stores.specs.declared.fitting.fitting.Placed.{Placed}
 use Rattle.verify80_stores.specs.Bytes.{HoldsBytes}
-use Rattle.verify80_stores.specs.Pairs.{Holds}
-use Rattle.verify80_stores.specs.Fitting.{pairs_at, Fits}
+use Rattle.verify80_stores.specs.State.{Holds}
+use Rattle.verify80_stores.specs.Steps.{AreCodeBytes, HasCode}
+use Rattle.verify80_stores.specs.Fitting.{Fits}
 
--- a world's pairs are among those that the table has at its address
-pub record KeepsTo (table : List (Option Pairs)) (w : World) : Type 0 where
-  pub pairs : Pairs
-  pub there : pairs_at table w.machine.cpu.pc ≡ Some pairs
-  pub holds : Holds pairs w.machine.cpu.registers
+-- one of the states that the table has at a world's address holds, and the world's memory has the image's code
+pub record KeepsTo (image : Located) (table : List Placed) (w : World) : Type 0 where
+  pub place : ℕ
+  pub placed : Placed
+  pub there : slice_get table place ≡ Some placed
+  pub at : placed.at ≡ w.machine.cpu.pc
+  pub holds : Holds image.regions placed.state w.machine
+  pub code : HasCode image w.machine.memory
+  pub whole : length w.machine.memory ≡ 65536
 
 -- so it is for each world of each run from power-on, whatever bytes are in the registers, in memory outside the code and at the
 -- ports
-abbrev pub RunsKeepTo : Located → List (Option Pairs) → Type 0
+abbrev pub RunsKeepTo : Located → List Placed → Type 0
 RunsKeepTo image table =
     (start : Machine) → IsStart image start → HoldsBytes start → (most : Option ℕ) (w : World) → IsWorldFrom image start most w →
-    KeepsTo table w
+    KeepsTo image table w
 
 -- what the verifier knows of a world: it stands on a walk, a return that it takes goes behind a call whose callee returns, and its next
 -- step fetches inside code
@@ -36,18 +42,19 @@ pub record IsKnown (image : Located) (w : World) : Type 0 where
   pub inside : FetchesInside image.regions w
 
 -- each start keeps to a table, and each step of a known world that keeps to it
-pub record IsKept (image : Located) (table : List (Option Pairs)) : Type 0 where
-  pub starts : (start : Machine) → start.cpu.pc ≡ image.start → HoldsBytes start → StandsOnWalk image (world_of start) →
-      KeepsTo table (world_of start)
+pub record IsKept (image : Located) (table : List Placed) : Type 0 where
+  pub starts : (start : Machine) → start.cpu.pc ≡ image.start → HasCode image start.memory → length start.memory ≡ 65536 → HoldsBytes start → StandsOnWalk image (world_of start) →
+      KeepsTo image table (world_of start)
   pub steps : (refused : Bool) (w after : World) → IsKnown image w → StandsOnWalk image after → HoldsBytes w.machine →
-      HoldsBytes after.machine → KeepsTo table w → step_of image.regions refused w.machine ≡ Next after.machine → KeepsTo table after
+      HoldsBytes after.machine → KeepsTo image table w → step_of image.regions refused w.machine ≡ Next after.machine → KeepsTo image table after
 
 -- a table that fits is kept, and runs that stay on walks keep to a table that is
 abbrev pub FittingTablesAreKept : Type 0
-FittingTablesAreKept = (image : Located) (table : List (Option Pairs)) → Fits (code_of image) table → IsKept image table
+FittingTablesAreKept = (image : Located) (code : List (Option ℕ)) (table : List Placed) → AreRegions image.regions → AreCodeBytes image code →
+    Fits (code_of image) code table → IsKept image table
 
 abbrev pub RunsKeepToKeptTables : Type 0
-RunsKeepToKeptTables = (image : Located) (bytes : ℕ) (table : List (Option Pairs)) → NeverGoesWrongFromPowerOn image bytes →
+RunsKeepToKeptTables = (image : Located) (bytes : ℕ) (table : List Placed) → NeverGoesWrongFromPowerOn image bytes →
     StaysOnWalks image → IsKept image table → RunsKeepTo image table
 
 -- and each of their machines holds bytes

@@ -75,15 +75,17 @@ RunsEndAsListed image open_stores jumps =
     (start : Machine) → IsStart image start → HoldsBytes start → (most : Option ℕ) (w : World) (e : End) →
     IsWorldFrom image start most w → turn_at image.regions most w ≡ Stop e → EndsAsListed open_stores jumps w.machine.cpu.pc e
 
--- what is listed of an image: each register-indirect store that walks reach, the open ones among them, and each PCHL that walks
--- reach; and its runs go so
-pub record AreStoresOf (image : Located) (addresses : List ℕ) (open_stores : List OpenStore) (jumps : List ℕ) : Type 0 where
+-- what is listed of an image: each register-indirect store and each PCHL that walks reach, and the open ones among them; and its runs
+-- go so
+pub record AreStoresOf (image : Located) (addresses : List ℕ) (open_stores : List OpenStore) (jumps open_jumps : List ℕ) : Type 0 where
   pub each_store : AreReachedAs (code_of image) stores_by_pair addresses
   pub open_ascending : AllPairs (λ a b. a.at < b.at) open_stores
   pub each_open : All (IsOpen image) open_stores
   pub each_jump : AreReachedAs (code_of image) is_pchl jumps
+  pub jumps_ascending : AllPairs (λ a b. a < b) open_jumps
+  pub each_open_jump : All (IsReachedAs (code_of image) is_pchl) open_jumps
   pub stores_go : StoresGoAsListed image open_stores
-  pub runs_end : RunsEndAsListed image open_stores jumps
+  pub runs_end : RunsEndAsListed image open_stores open_jumps
 
 -- the runs of the watched machine, which begin with the image's memory and with registers of 0, are some of these, if bytes wait at
 -- the ports: their stores go as listed, and they end as listed
@@ -95,5 +97,5 @@ pub record WatchedRunsGoAsListed (image : Located) (open_stores : List OpenStore
       turn_at image.regions most w ≡ Stop e → EndsAsListed open_stores jumps w.machine.cpu.pc e
 
 abbrev pub StoresAreThoseOfWatchedRuns : Type 0
-StoresAreThoseOfWatchedRuns = (image : Located) (addresses : List ℕ) (open_stores : List OpenStore) (jumps : List ℕ) →
-    HasBytes (memory_of image.chunks) → AreStoresOf image addresses open_stores jumps → WatchedRunsGoAsListed image open_stores jumps
+StoresAreThoseOfWatchedRuns = (image : Located) (addresses : List ℕ) (open_stores : List OpenStore) (jumps open_jumps : List ℕ) →
+    HasBytes (memory_of image.chunks) → AreStoresOf image addresses open_stores jumps open_jumps → WatchedRunsGoAsListed image open_stores open_jumps

@@ -1,6 +1,6 @@
 -- What is printed of the stores of a program. (The text of an instruction is that of the Intel 8080 Assembly Language Programming
 -- Manual; the lines are this project's own.)
-use Rattle.std.specs.Prelude.{ℕ, ◌-◌, Bool, true, false, List, [], ◌∷◌, ◌++◌, length, codes}
+use Rattle.std.specs.Prelude.{ℕ, zero, suc, ◌-◌, Bool, true, false, List, [], ◌∷◌, ◌++◌, length, codes}
 use Rattle.std.specs.Fmt.{decimal}
 use Rattle.std.specs.List.{flat_map}
 use Rattle.text80.specs.Digits.{word_text}
@@ -11,12 +11,17 @@ use Rattle.verify80_stores.specs.declared.stores.OpenStore.{OpenStore}
 abbrev pub count_line : (shown all : ℕ) → List ℕ
 count_line shown all = codes "STORES " ++ decimal shown ++ (codes " OF " ++ decimal all ++ 10 ∷ [])
 
+-- how many of the PCHLs are shown to go to declared targets, if there is one
+abbrev pub jumps_line : (shown all : ℕ) → List ℕ
+jumps_line shown zero = []
+jumps_line shown (suc all) = codes "JUMPS " ++ decimal shown ++ (codes " OF " ++ decimal (suc all) ++ 10 ∷ [])
+
 -- an open store: its address, its instruction, and the first and the last address that it may have
 unfoldable pub store_line : OpenStore → List ℕ
 store_line store =
     codes "STORE " ++ (word_text store.at ++ 32 ∷ (text store.instr ++ 32 ∷ (word_text store.span.first ++ 32 ∷ (word_text store.span.last ++ 10 ∷ []))))
 
--- a PCHL
+-- an open PCHL
 abbrev pub jump_line : ℕ → List ℕ
 jump_line at = codes "JUMP " ++ (word_text at ++ 10 ∷ [])
 
@@ -26,7 +31,8 @@ stack_line true = []
 stack_line false = codes "SP NOT SET\n"
 
 -- all lines
-abbrev pub stores_text_of : (sets_stack : Bool) → (addresses : List ℕ) → (open_stores : List OpenStore) → (jumps : List ℕ) → List ℕ
-stores_text_of sets_stack addresses open_stores jumps =
+abbrev pub stores_text_of : (sets_stack : Bool) → (addresses : List ℕ) → (open_stores : List OpenStore) → (jumps open_jumps : List ℕ) → List ℕ
+stores_text_of sets_stack addresses open_stores jumps open_jumps =
     count_line (length addresses - length open_stores) (length addresses)
-    ++ (stack_line sets_stack ++ flat_map store_line open_stores ++ flat_map jump_line jumps)
+    ++ (jumps_line (length jumps - length open_jumps) (length jumps)
+    ++ (stack_line sets_stack ++ flat_map store_line open_stores ++ flat_map jump_line open_jumps))

@@ -1,28 +1,30 @@
 //! The stores of a program.
 
-ghost use Rattle.std.specs.Prelude.{◌≡◌, ◌<◌, ◌≤◌, ℕ, Some, IfOk, length, true};
+ghost use Rattle.std.specs.Prelude.{◌≡◌, ◌<◌, ℕ, Some, IfOk, length, slice_get, true};
 ghost use Rattle.verify80_flow.specs.Rows.{AreRows};
 ghost use Rattle.image80.specs.Image.{memory_of};
+ghost use Rattle.image80.specs.Regions.{AreRegions};
 ghost use Rattle.verify80.specs.Looking.{code_of};
 ghost use Rattle.verify80.specs.Boards.{SetsStack};
 ghost use Rattle.verify80_calls.specs.Reached.{AreReached};
 ghost use Rattle.verify80_stores.specs.Bytes.{HasBytes};
-ghost use Rattle.verify80_stores.specs.Pairs.{anything};
-ghost use Rattle.verify80_stores.specs.Fitting.{pairs_at};
 ghost use Rattle.verify80_stores.specs.Boards.{PromiseHoldsOnBoards};
 ghost use Rattle.verify80_stores.specs.Runs.{IsKept};
 ghost use Rattle.verify80_stores.specs.Stores.{AreStoresOf, WatchedRunsGoAsListed};
-ghost use Rattle.verify80_stores.specs.Listing.{AreKnown};
+ghost use Rattle.verify80_stores.specs.Listing.{AreKnown, SaysNothingAt};
 
-use crate::fitting::{fits, fitting_pairs_hold, mark_returning};
+use crate::code_bytes::code_bytes;
+use crate::fitting::{Placed, fits, fitting_states_hold, mark_returning};
 use crate::laws::watched_runs_go_as_listed;
-use crate::listing::{Kind, addresses_of, open_stores};
-use crate::spans::{Pairs, bytes_stay_bytes, pairs_follow};
+use crate::listing::{Kind, addresses_of, open_jumps, open_marks, open_stores, spans_of};
+use crate::search::{Proposal, ReachedProgram, propose};
+use crate::spans::bytes_stay_bytes;
 use crate::stack_pointer::sets_stack;
+use crate::states::State;
 use crate::stores::Stores;
-use crate::widening::{ReachedProgram, propose};
 use decode80::Fetched;
 use image80::Image;
+use image80::laws::code_data_and_stack_are_apart;
 use loader80::Vouched;
 use std::alloc::{AllocError, Global};
 use verify80::{
@@ -41,7 +43,8 @@ use verify80_calls::find_reached;
 /// stack (`boards`). That a listed store can leave data isn't said. (The stores are MOV M,r, MVI M, INR M, DCR M and STAX: Intel 8080
 /// Microcomputer Systems User's Manual, chapter 4.)
 ///
-/// Each address is visited a bounded number of times, whatever the image.
+/// Loops with constant bounds are walked through, up to some thousand states at an address; how many states there are, and how often
+/// each is visited, is bounded, whatever the image.
 ///
 /// # Example
 /// ```
@@ -54,28 +57,33 @@ use verify80_calls::find_reached;
 /// `AllocError` only if memory runs out.
 pub fn find_stores(alloc: Global, vouched: &Vouched) -> Result<Stores, AllocError>
     ensures listed { IfOk result (λ stores.
-        AreStoresOf vouched.now.image stores.addresses.items stores.open.items stores.jumps.items) }
+        AreStoresOf vouched.now.image stores.addresses.items stores.open.items stores.jumps.items stores.open_jumps.items) }
     ensures boards { IfOk result (λ stores.
-        PromiseHoldsOnBoards vouched.now.image vouched.now.stack_bytes stores.open.items stores.jumps.items) }
+        PromiseHoldsOnBoards vouched.now.image vouched.now.stack_bytes stores.open.items stores.open_jumps.items) }
     ensures stack { IfOk result (λ stores. stores.sets_stack ≡ true → SetsStack vouched.now.image) }
-    ensures watched { IfOk result (λ stores. WatchedRunsGoAsListed vouched.now.image stores.open.items stores.jumps.items) }
+    ensures watched { IfOk result (λ stores. WatchedRunsGoAsListed vouched.now.image stores.open.items stores.open_jumps.items) }
 {
     runs_of(vouched);
-    fitting_pairs_hold();
+    fitting_states_hold();
     bytes_stay_bytes();
+    code_data_and_stack_are_apart();
     watched_runs_go_as_listed();
     let image = vouched.image();
     holds_bytes(alloc, image)?;
     let found = find_reached(alloc, vouched)?;
     let reached = found.instructions();
-    let table = pairs_of(alloc, image, vouched.rows(), reached)?;
+    let table = states_of(alloc, image, vouched.rows(), reached)?;
+    let marks = open_marks(alloc, &image.regions, reached, &table)?;
+    let spans = spans_of(alloc, reached, &table)?;
     let addresses = addresses_of(alloc, Kind::Store, reached)?;
+    let open = open_stores(alloc, reached, &marks, &spans)?;
     let jumps = addresses_of(alloc, Kind::Jump, reached)?;
-    let open = open_stores(alloc, &image.regions, reached, &table)?;
+    let open_jumps = open_jumps(alloc, reached, &marks)?;
     Ok(Stores {
         addresses,
         open,
         jumps,
+        open_jumps,
         sets_stack: sets_stack(alloc, image)?,
     })
 }
@@ -110,41 +118,67 @@ fn runs_of(vouched: &Vouched)
     vouched.rows();
 }
 
-/// What the pairs may be at each address, in all runs.
+/// States, to which all runs keep.
 ///
 /// # Errors
 /// `AllocError` if memory runs out.
-fn pairs_of(
+fn states_of(
     alloc: Global,
     image: &Image,
     rows: &[ProcRow],
     reached: &[Option<Fetched>],
-) -> Result<Vec<Option<Pairs>>, AllocError>
+) -> Result<Vec<Placed>, AllocError>
     requires rows { AreRows (code_of image.now) rows.now }
     requires reached { AreReached (code_of image.now) reached.now }
     requires whole { length reached.now ≡ 65536 }
+    requires rules { AreRegions image.now.regions }
     ensures { IfOk result (λ table. IsKept image.now table.items) }
 {
-    fitting_pairs_hold();
-    pairs_follow();
+    fitting_states_hold();
+    code_data_and_stack_are_apart();
     let returning = mark_returning(alloc, rows)?;
+    let code = code_bytes(alloc, image)?;
     let program = ReachedProgram {
+        code: &code,
         instructions: reached,
         returning: &returning,
         start: image.start,
         regions: &image.regions,
     };
-    let table = propose(alloc, program)?;
-    if fits(&table, &returning, image.start, &image.regions, reached) {
+    let Proposal {
+        table,
+        hints,
+        behind,
+    } = propose(alloc, program)?;
+    if fits(
+        &table,
+        &hints,
+        &behind,
+        &code,
+        &returning,
+        image.start,
+        &image.regions,
+        reached,
+    ) {
         return Ok(table);
     }
-    let wide = anything(alloc, 65_536)?;
-    Ok(wide)
+    anything(alloc)
 }
 
-/// Anything, at `count` addresses.
-fn anything(alloc: Global, count: usize) -> Result<Vec<Option<Pairs>>, AllocError>
-    ensures { IfOk result (λ table. (at : ℕ) → at < count → pairs_at table.items at ≡ Some anything) }
+/// A table of which the state at each address says nothing.
+///
+/// # Errors
+/// `AllocError` if memory runs out.
+fn anything(alloc: Global) -> Result<Vec<Placed>, AllocError>
+    ensures { IfOk result (λ table. (at : ℕ) → at < 65536 → SaysNothingAt table.items at) }
 {
-    Ok(vec![in alloc; Some(Pairs::ANY); count]?)
+    let mut table = Vec::with_capacity(alloc, 65_536)?;
+    for at in 0..65_536_usize {
+        table.push(Placed {
+            at: at as u16,
+            state: State::ANY,
+            hint: 0,
+        })?;
+    }
+    Ok(table)
 }

@@ -1,8 +1,8 @@
 //! What is printed of the stores of a program.
 
-ghost use Rattle.std.specs.Prelude.{◌≡◌, ◌++◌, IfOk, OnOk};
+ghost use Rattle.std.specs.Prelude.{◌≡◌, ◌<◌, ◌++◌, IfOk, OnOk};
 ghost use Rattle.std.specs.List.{flat_map};
-ghost use Rattle.verify80_stores.specs.StoresText.{count_line, jump_line, store_line, stores_text_of};
+ghost use Rattle.verify80_stores.specs.StoresText.{count_line, jumps_line, jump_line, store_line, stores_text_of};
 
 use crate::stores::{OpenStore, Stores};
 use decode80::write_text;
@@ -10,22 +10,28 @@ use std::alloc::{AllocError, Global};
 use text80::word_digits;
 
 /// The lines of a program's stores: how many of its register-indirect stores are shown to stay in data, of how many, such as
-/// `STORES 11 OF 12`; `SP NOT SET` unless the program sets SP on each way before it uses it; each of the other stores, such as
-/// `STORE 011E MOV M,A 0000 FFFF`, with the first and the last address that it may have; and each PCHL, such as `JUMP 0065`.
+/// `STORES 11 OF 12`; if there is a PCHL, how many of them are shown to go to declared targets, such as `JUMPS 1 OF 2`; `SP NOT SET`
+/// unless the program sets SP on each way before it uses it; each of the other stores, such as `STORE 011E MOV M,A 0000 FFFF`, with the
+/// first and the last address that it may have; and each of the other PCHLs, such as `JUMP 0065`.
 ///
 /// # Errors
 /// `AllocError` only if memory runs out.
 pub fn stores_text(alloc: Global, stores: &Stores) -> Result<Vec<u8>, AllocError>
     ensures { IfOk result (λ text.
-        text.items ≡ stores_text_of stores.now.sets_stack stores.now.addresses.items stores.now.open.items stores.now.jumps.items) }
+        text.items ≡ stores_text_of stores.now.sets_stack stores.now.addresses.items stores.now.open.items stores.now.jumps.items stores.now.open_jumps.items) }
 {
     let all = stores.addresses.len();
     let mut text = count_text(alloc, all.saturating_sub(stores.open.len()), all)?;
+    let jumps = stores.jumps.len();
+    if jumps > 0 {
+        let line = jumps_text(alloc, jumps.saturating_sub(stores.open_jumps.len()), jumps)?;
+        text.extend_from_slice(&line)?;
+    }
     if !stores.sets_stack {
         text.extend_from_slice(b"SP NOT SET\n".as_slice())?;
     }
     append_stores(alloc, &mut text, &stores.open)?;
-    append_jumps(&mut text, &stores.jumps)?;
+    append_jumps(&mut text, &stores.open_jumps)?;
     Ok(text)
 }
 
@@ -34,6 +40,15 @@ fn count_text(alloc: Global, shown: usize, all: usize) -> Result<Vec<u8>, AllocE
     ensures { IfOk result (λ text. text.items ≡ count_line shown all) }
 {
     let line = format!(in alloc; "STORES {shown} OF {all}\n")?;
+    Ok(line.into_bytes())
+}
+
+/// The line of the counts of PCHLs.
+fn jumps_text(alloc: Global, shown: usize, all: usize) -> Result<Vec<u8>, AllocError>
+    requires { 0 < all }
+    ensures { IfOk result (λ text. text.items ≡ jumps_line shown all) }
+{
+    let line = format!(in alloc; "JUMPS {shown} OF {all}\n")?;
     Ok(line.into_bytes())
 }
 
@@ -65,7 +80,7 @@ fn append_store(alloc: Global, text: &mut Vec<u8>, store: OpenStore) -> Result<(
     Ok(())
 }
 
-/// Appends the line of each PCHL.
+/// Appends the line of each open PCHL.
 fn append_jumps(text: &mut Vec<u8>, jumps: &[u16]) -> Result<(), AllocError>
     ensures { OnOk result (text.new.items ≡ text.old.items ++ flat_map jump_line jumps.now) }
 {
@@ -75,7 +90,7 @@ fn append_jumps(text: &mut Vec<u8>, jumps: &[u16]) -> Result<(), AllocError>
     Ok(())
 }
 
-/// Appends the line of a PCHL.
+/// Appends the line of an open PCHL.
 fn append_jump(text: &mut Vec<u8>, at: u16) -> Result<(), AllocError>
     ensures { OnOk result (text.new.items ≡ text.old.items ++ jump_line at) }
 {

@@ -1,19 +1,25 @@
 //! What is listed of the instructions that are reached.
 
-ghost use Rattle.std.specs.Prelude.{◌≡◌, ◌+◌, ◌<◌, ℕ, true, Some, IfOk, IfSome, IfNone, length};
+ghost use Rattle.std.specs.Prelude.{◌≡◌, ◌⊎◌, ◌+◌, ◌<◌, ℕ, true, false, Some, All, IfOk, IfSome, IfNone, length, slice_get};
 ghost use Rattle.image80.specs.Regions.{in_data};
+ghost use Rattle.verify80.specs.Looking.{declared_targets, is_pchl};
 ghost use Rattle.verify80_stores.specs.declared.spans.span.Span.{Span};
 ghost use Rattle.verify80_stores.specs.Span.{Within};
+ghost use Rattle.verify80_stores.specs.Following.{entry_in};
 ghost use Rattle.verify80_stores.specs.DataReach.{AreDataEnds};
-ghost use Rattle.verify80_stores.specs.Listing.{AreAllBelow, AreOpenBelow, IsListed, is_kind, reached_at, span_at};
+ghost use Rattle.verify80_stores.specs.Returning.{is_marked};
+ghost use Rattle.verify80_stores.specs.Pointers.{stores_by_pair};
+ghost use Rattle.verify80_stores.specs.Opening.{pointer_span, StaysIn, IsLeftOpen};
+ghost use Rattle.verify80_stores.specs.Listing.{AreAllBelow, AreOpenBelow, AreOpenMarks, AreSpans, IsListed, is_at, is_marked_at, reached_at};
 ghost use Rattle.verify80_stores.specs.Kinds.{is_of};
 
 use crate::data_ends::{data_ends, is_all_data};
-use crate::fitting::pairs_at;
+use crate::fitting::{Placed, is_marked, reached_at, targets_at, unmarked};
 use crate::pointer::pointer_span;
-use crate::spans::Pairs;
+use crate::spans::Span;
+use crate::states::State;
 use crate::stores::OpenStore;
-use decode80::{Fetched, Instr};
+use decode80::{Fetched, Instr, Storing};
 use image80::Regions;
 use std::alloc::{AllocError, Global};
 
@@ -32,7 +38,7 @@ impl Kind {
         ensures { result ≡ is_of self instr }
     {
         match self {
-            Kind::Store => pointer_span(instr, Pairs::ANY).is_some(),
+            Kind::Store => matches!(instr.storing(), Storing::ThroughHl | Storing::Through(_)),
             Kind::Jump => matches!(instr, Instr::Pchl),
         }
     }
@@ -47,78 +53,221 @@ pub(crate) fn addresses_of(
     kind: Kind,
     reached: &[Option<Fetched>],
 ) -> Result<Vec<u16>, AllocError>
-    requires { length reached.now ≡ 65536 }
-    ensures { IfOk result (λ addresses. AreAllBelow reached.now (is_of kind) 65536 addresses.items) }
+    ensures { IfOk result (λ addresses. AreAllBelow (is_at (is_of kind) reached.now) 65536 addresses.items) }
 {
     let mut addresses = Vec::new(alloc);
     for at in 0..65_536_usize {
-        if is_kind_at(kind, reached, at) {
-            addresses.push(at as u16)?;
+        let address = at as u16;
+        if is_at(kind, reached, address) {
+            addresses.push(address)?;
         }
     }
     Ok(addresses)
 }
 
 /// Whether an instruction of a kind is reached at an address.
-fn is_kind_at(kind: Kind, reached: &[Option<Fetched>], at: usize) -> bool
-    requires { at < length reached.now }
-    ensures { result ≡ is_kind (is_of kind) (reached_at reached.now at) }
+fn is_at(kind: Kind, reached: &[Option<Fetched>], at: u16) -> bool
+    ensures { result ≡ is_at (is_of kind) reached.now at }
 {
-    match reached[at] {
+    match reached_at(reached, at) {
         Some(found) => kind.has(found.instr),
         None => false,
     }
 }
 
-/// The stores that aren't shown to stay in data, given what the pairs may be at each address.
+/// The PCHLs that are marked as open.
+///
+/// # Errors
+/// `AllocError` if memory runs out.
+pub(crate) fn open_jumps(
+    alloc: Global,
+    reached: &[Option<Fetched>],
+    marks: &[bool],
+) -> Result<Vec<u16>, AllocError>
+    ensures { IfOk result (λ addresses. AreAllBelow (is_marked_at is_pchl reached.now marks.now) 65536 addresses.items) }
+{
+    let mut addresses = Vec::new(alloc);
+    for at in 0..65_536_usize {
+        let address = at as u16;
+        if is_at(Kind::Jump, reached, address) && is_marked(marks, address) {
+            addresses.push(address)?;
+        }
+    }
+    Ok(addresses)
+}
+
+/// Whether an instruction in a state stores to data and jumps to a declared target, if it does so by a pair.
+fn stays_in(
+    regions: &Regions,
+    ends: &[u32],
+    targets: &[u16],
+    instr: Instr,
+    state: State,
+) -> bool
+    requires { AreDataEnds regions.now ends.now }
+    ensures stays { result ≡ true → StaysIn regions.now targets.now instr state }
+    ensures leaves { result ≡ false → IsLeftOpen regions.now instr state }
+{
+    match pointer_span(instr, state) {
+        Some(span) => is_all_data(regions, ends, span),
+        None => match instr {
+            Instr::Pchl => is_target(targets, state.hl.words),
+            _ => true,
+        },
+    }
+}
+
+/// Whether a pair is one of these targets, and no other word.
+fn is_target(targets: &[u16], words: Span) -> bool
+    ensures { result ≡ true → (to : ℕ) → Within words to → Contains targets.now to }
+{
+    words.is_alone() && targets.contains(&words.first)
+}
+
+ghost use Rattle.std.specs.Prelude.{Contains};
+
+/// Marks for the addresses at which a state of the table leaves the instruction open.
+///
+/// # Errors
+/// `AllocError` if memory runs out.
+pub(crate) fn open_marks(
+    alloc: Global,
+    regions: &Regions,
+    reached: &[Option<Fetched>],
+    table: &[Placed],
+) -> Result<Vec<bool>, AllocError>
+    ensures { IfOk result (λ marks. AreOpenMarks regions.now reached.now table.now marks.items) }
+{
+    let ends = data_ends(alloc, regions)?;
+    let mut marks = unmarked(alloc, 65_536)?;
+    for placed in table {
+        if is_left_open(regions, &ends, reached, *placed) {
+            marks[usize::from(placed.at)] = true;
+        }
+    }
+    Ok(marks)
+}
+
+/// Whether a state leaves the instruction at its address open.
+fn is_left_open(
+    regions: &Regions,
+    ends: &[u32],
+    reached: &[Option<Fetched>],
+    placed: Placed,
+) -> bool
+    requires { AreDataEnds regions.now ends.now }
+    ensures stays { result ≡ false → (found : Fetched) → reached_at reached.now placed.at ≡ Some found →
+        StaysIn regions.now (declared_targets regions.now placed.at) found.instr placed.state }
+    ensures leaves { result ≡ true → (found : Fetched) × ((reached_at reached.now placed.at ≡ Some found) × IsLeftOpen regions.now found.instr placed.state) }
+{
+    match reached_at(reached, placed.at) {
+        Some(found) => !stays_in(
+            regions,
+            ends,
+            targets_at(regions, placed.at),
+            found.instr,
+            placed.state,
+        ),
+        None => false,
+    }
+}
+
+/// By address the words that a pair may be in the states of the table if the instruction there stores by it.
+///
+/// # Errors
+/// `AllocError` if memory runs out.
+pub(crate) fn spans_of(
+    alloc: Global,
+    reached: &[Option<Fetched>],
+    table: &[Placed],
+) -> Result<Vec<Option<Span>>, AllocError>
+    ensures { IfOk result (λ spans. AreSpans reached.now table.now spans.items) }
+{
+    let mut spans = no_spans(alloc, 65_536)?;
+    for placed in table {
+        if let Some(span) = span_of(reached, *placed) {
+            let place = usize::from(placed.at);
+            spans[place] = Some(joined(spans[place], span));
+        }
+    }
+    Ok(spans)
+}
+
+/// No span at any of `count` addresses.
+fn no_spans(alloc: Global, count: usize) -> Result<Vec<Option<Span>>, AllocError>
+    ensures { IfOk result (λ spans. length spans.items ≡ count) }
+{
+    Ok(vec![in alloc; None; count]?)
+}
+
+/// Where a state lets the instruction at its address store by a pair.
+fn span_of(reached: &[Option<Fetched>], placed: Placed) -> Option<Span>
+    ensures { result ≡ span_in (reached_at reached.now placed.at) placed.state }
+{
+    let found = reached_at(reached, placed.at)?;
+    pointer_span(found.instr, placed.state)
+}
+
+ghost use Rattle.verify80_stores.specs.Opening.{span_in};
+
+/// A span with these words too.
+fn joined(old: Option<Span>, span: Span) -> Span
+    ensures { result ≡ joined_span old span }
+{
+    match old {
+        Some(old) => old.hull(span),
+        None => span,
+    }
+}
+
+ghost use Rattle.verify80_stores.specs.Opening.{joined_span};
+
+/// The stores that are marked as open, with their spans.
 ///
 /// # Errors
 /// `AllocError` if memory runs out.
 pub(crate) fn open_stores(
     alloc: Global,
-    regions: &Regions,
     reached: &[Option<Fetched>],
-    table: &[Option<Pairs>],
+    marks: &[bool],
+    spans: &[Option<Span>],
 ) -> Result<Vec<OpenStore>, AllocError>
-    requires { length reached.now ≡ 65536 }
-    ensures { IfOk result (λ stores. AreOpenBelow regions.now reached.now table.now 65536 stores.items) }
+    ensures { IfOk result (λ stores. AreOpenBelow reached.now marks.now spans.now 65536 stores.items) }
 {
-    let ends = data_ends(alloc, regions)?;
     let mut stores = Vec::new(alloc);
     for at in 0..65_536_usize {
-        if let Some(store) = open_store(regions, &ends, reached, table, at) {
+        if let Some(store) = open_store(reached, marks, spans, at as u16) {
             stores.push(store)?;
         }
     }
     Ok(stores)
 }
 
-/// The store at an address, if it isn't shown to stay in data.
+/// The store at an address, if it is marked as open.
 fn open_store(
-    regions: &Regions,
-    ends: &[u32],
     reached: &[Option<Fetched>],
-    table: &[Option<Pairs>],
-    at: usize,
+    marks: &[bool],
+    spans: &[Option<Span>],
+    at: u16,
 ) -> Option<OpenStore>
-    requires ends { AreDataEnds regions.now ends.now }
-    requires whole { length reached.now ≡ 65536 }
-    requires address { at < 65536 }
-    ensures some { IfSome result (λ store. (store.at ≡ at) × IsListed regions.now reached.now table.now (at + 1) store) }
-    ensures none { IfNone result ((span : Span) → span_at reached.now table.now at ≡ Some span →
-        (address : ℕ) → Within span address → in_data regions.now address ≡ true) }
+    ensures some { IfSome result (λ store. (store.at ≡ at) × IsListed reached.now marks.now spans.now (at + 1) store) }
+    ensures none { IfNone result ((span : Span) → is_marked_at stores_by_pair reached.now marks.now at ≡ true →
+        entry_in (slice_get spans.now at) ≡ Some span → ⊥) }
 {
-    let Fetched { instr, next: _ } = reached[at]?;
-    let address = at as u16;
-    let pairs = pairs_at(table, address).unwrap_or(Pairs::ANY);
-    let span = pointer_span(instr, pairs)?;
-    if is_all_data(regions, ends, span) {
-        None
-    } else {
-        Some(OpenStore {
-            at: address,
-            instr,
-            span,
-        })
+    let Fetched { instr, next: _ } = reached_at(reached, at)?;
+    if !Kind::Store.has(instr) || !is_marked(marks, at) {
+        return None;
+    }
+    let span = span_at(spans, at)?;
+    Some(OpenStore { at, instr, span })
+}
+
+/// The span at an address, if one is there.
+fn span_at(spans: &[Option<Span>], at: u16) -> Option<Span>
+    ensures { result ≡ entry_in (slice_get spans.now at) }
+{
+    match spans.get(usize::from(at)) {
+        Some(span) => *span,
+        None => None,
     }
 }

@@ -8,10 +8,12 @@ use decode80::Instr;
 pub struct Stores {
     /// The address of each register-indirect store.
     pub addresses: Vec<u16>,
-    /// Those that aren't shown to stay in data.
+    /// The stores that aren't shown to stay in data.
     pub open: Vec<OpenStore>,
     /// The address of each PCHL.
     pub jumps: Vec<u16>,
+    /// The PCHLs that aren't shown to go to declared targets.
+    pub open_jumps: Vec<u16>,
     /// Whether the program sets SP on each way before it uses it.
     pub sets_stack: bool,
 }

@@ -1,169 +1,249 @@
-//! Whether a table of pairs fits a program.
+//! Whether a table of states fits a program.
 
-ghost use Rattle.std.specs.Prelude.{◌≡◌, ◌<◌, ◌≤◌, ℕ, true, EachIndex, Some, length, slice_get, slice_index};
+ghost use Rattle.std.specs.Prelude.{◌≡◌, ◌<◌, ℕ, true, Contains, Some, length, slice_get};
 ghost use Rattle.decode80.specs.declared.fetching.Fetched.{Fetched};
 ghost use Rattle.verify80.specs.Looking.{declared_targets};
-ghost use Rattle.verify80_stores.specs.Pairs.{anything};
-ghost use Rattle.verify80_stores.specs.Ways.{MayLeadTo, callee_of};
+ghost use Rattle.verify80_stores.specs.declared.fitting.fitting.Placed.{Placed};
+ghost use Rattle.verify80_stores.specs.Span.{Within};
+ghost use Rattle.verify80_stores.specs.State.{anything};
+ghost use Rattle.verify80_stores.specs.Following.{state_after};
+ghost use Rattle.verify80_stores.specs.Listing.{reached_at};
 ghost use Rattle.verify80_stores.specs.Returning.{is_marked};
-ghost use Rattle.verify80_stores.specs.Fitting.{entry_in, pairs_at, Has, EntryFits};
+ghost use Rattle.verify80_stores.specs.Fitting.{Has, HasAfter, LeadsBehind, FitsAt};
 
 use crate::fitting::returning::is_marked;
-use crate::{Pairs, pairs_after};
-use decode80::Fetched;
-use frames80::{Effect, effect_of};
+use crate::spans::Span;
+use crate::states::{State, given, state_after};
+use decode80::{Fetched, Flow};
 use image80::Regions;
 
-/// The pairs at an address.
-pub fn pairs_at(table: &[Option<Pairs>], at: u16) -> Option<Pairs>
-    ensures { result ≡ pairs_at table.now at }
-{
-    match table.get(usize::from(at)) {
-        Some(pairs) => *pairs,
-        None => None,
-    }
+/// A state at an address.
+#[derive(Clone, Copy, Debug)]
+pub(crate) struct Placed {
+    pub at: u16,
+    pub state: State,
+    /// Where its hints begin: for each way on the place of a state that says no more.
+    pub hint: u32,
 }
 
-/// Whether the table has pairs at an address, and these words are among theirs.
-fn has(table: &[Option<Pairs>], at: u16, words: Pairs) -> bool
-    ensures { result ≡ true → Has table.now at words }
+/// Whether the state at a place of the table stands at an address, and says no more than this one.
+fn has_at(table: &[Placed], place: u32, to: u16, state: State) -> bool
+    ensures { result ≡ true → Has table.now to state }
 {
-    match pairs_at(table, at) {
-        Some(pairs) => words.are_inside(pairs),
+    match table.get(place as usize) {
+        Some(placed) => placed.at == to && state.is_inside(placed.state),
         None => false,
     }
 }
 
-/// Whether the table has them at each of these addresses.
-fn has_at_each(table: &[Option<Pairs>], addresses: &[u16], words: Pairs) -> bool
-    ensures { result ≡ true → EachIndex addresses.now (λ k. Has table.now (slice_index addresses.now k) words) }
+/// Whether the state at the place that a hint names does.
+fn has(table: &[Placed], hints: &[u32], hint: u32, to: u16, state: State) -> bool
+    ensures { result ≡ true → Has table.now to state }
 {
-    for at in addresses {
-        if !has(table, *at, words) {
+    match hints.get(hint as usize) {
+        Some(place) => has_at(table, *place, to, state),
+        None => false,
+    }
+}
+
+/// Whether it does, if there is a state that is left.
+fn has_after(
+    table: &[Placed],
+    hints: &[u32],
+    hint: u32,
+    to: u16,
+    code: &[Option<u8>],
+    found: Fetched,
+    taken: bool,
+    left: Option<State>,
+) -> bool
+    ensures { result ≡ true → HasAfter table.now to (λ t. state_after code.now found.instr taken found.next t) left }
+{
+    match left {
+        None => true,
+        Some(state) => has(
+            table,
+            hints,
+            hint,
+            to,
+            state_after(code, found.instr, taken, found.next, state),
+        ),
+    }
+}
+
+/// Whether the table has a state at each of these targets that HL may be.
+fn has_at_each(
+    table: &[Placed],
+    hints: &[u32],
+    hint: u32,
+    targets: &[u16],
+    hl: Span,
+    state: State,
+) -> bool
+    ensures { result ≡ true → (to : ℕ) → Contains targets.now to → Within hl to → Has table.now to state }
+{
+    let mut next = hint;
+    for to in targets {
+        if hl.first <= *to && *to <= hl.last && !has(table, hints, next, *to, state) {
             return false;
         }
+        next = next.saturating_add(1);
     }
     true
 }
 
-/// Whether the table has them wherever an effect may lead.
-fn has_on_all_ways(
-    table: &[Option<Pairs>],
-    effect: Effect,
+/// Whether a state fits the instruction there.
+fn state_fits(
+    table: &[Placed],
+    hints: &[u32],
+    code: &[Option<u8>],
     targets: &[u16],
-    next: u16,
-    words: Pairs,
-) -> bool
-    ensures { result ≡ true → (to : ℕ) → MayLeadTo effect targets.now next to → Has table.now to words }
-{
-    match effect {
-        Effect::Halt | Effect::Return => true,
-        Effect::Change(_) | Effect::ReturnIf | Effect::Refuse(_) => has(table, next, words),
-        Effect::Jump(to) | Effect::Call(to) => has(table, to, words),
-        Effect::JumpIf(to) | Effect::CallIf(to) => has(table, next, words) && has(table, to, words),
-        Effect::Case => has_at_each(table, targets, words),
-    }
-}
-
-/// Whether anything may be in the pairs behind a call, if the callee returns.
-fn has_anything_behind(
-    table: &[Option<Pairs>],
-    returning: &[bool],
-    effect: Effect,
-    next: u16,
-) -> bool
-    ensures { result ≡ true → (entry : ℕ) → callee_of effect ≡ Some entry → is_marked returning.now entry ≡ true →
-        Has table.now next anything }
-{
-    match effect {
-        Effect::Call(entry) | Effect::CallIf(entry) => {
-            !is_marked(returning, entry) || has(table, next, Pairs::ANY)
-        }
-        _ => true,
-    }
-}
-
-/// Whether the pairs at an address fit the instruction there.
-fn entry_fits(
-    table: &[Option<Pairs>],
-    returning: &[bool],
-    targets: &[u16],
-    at: u16,
+    placed: Placed,
     found: Fetched,
 ) -> bool
-    ensures { result ≡ true → EntryFits (λ entry. is_marked returning.now entry ≡ true) targets.now table.now at found }
+    ensures { result ≡ true → FitsAt code.now targets.now table.now placed.state found }
 {
-    let Some(pairs) = pairs_at(table, at) else {
-        return false;
-    };
-    let effect = effect_of(found.instr);
-    has_on_all_ways(
-        table,
-        effect,
-        targets,
-        found.next,
-        pairs_after(found.instr, pairs),
-    ) && has_anything_behind(table, returning, effect, found.next)
+    let Placed { at: _, state, hint } = placed;
+    let Fetched { instr, next } = found;
+    let second = hint.saturating_add(1);
+    match instr.flow() {
+        Flow::Continues | Flow::Pushes | Flow::Pops | Flow::Exchanges => {
+            has(table, hints, hint, next, state_after(code, instr, false, next, state))
+        }
+        Flow::Jumps(to) => has(table, hints, hint, to, state_after(code, instr, false, next, state)),
+        Flow::JumpsIf(condition, to) | Flow::CallsIf(condition, to) => {
+            has_after(table, hints, hint, to, code, found, true, given(condition, true, state))
+                && has_after(table, hints, second, next, code, found, false, given(condition, false, state))
+        }
+        Flow::JumpsToHl => has_at_each(
+            table,
+            hints,
+            hint,
+            targets,
+            state.hl.words,
+            state_after(code, instr, false, next, state),
+        ),
+        Flow::Calls(to) => has(table, hints, hint, to, state_after(code, instr, true, next, state)),
+        Flow::ReturnsIf(condition) => {
+            has_after(table, hints, hint, next, code, found, false, given(condition, false, state))
+        }
+        Flow::Returns | Flow::Halts => true,
+    }
 }
 
-/// Whether a table of pairs fits a program that begins at `start`, of which these instructions are reached, by address, and whose
-/// procedures return at these marks, by entry.
-pub fn fits(
-    table: &[Option<Pairs>],
+/// Whether a table of states fits a program that begins at `start`, of which these instructions are reached, by address, and whose
+/// procedures return at these marks, by entry. The first of the hints is that of the start; `behind` has by address the place of the
+/// state behind the call there.
+pub(crate) fn fits(
+    table: &[Placed],
+    hints: &[u32],
+    behind: &[u32],
+    code: &[Option<u8>],
     returning: &[bool],
     start: u16,
     regions: &Regions,
     reached: &[Option<Fetched>],
 ) -> bool
-    requires { length reached.now ≤ 65536 }
     ensures start { result ≡ true → Has table.now start anything }
-    ensures entries { result ≡ true → (at : ℕ) (found : Fetched) → at < length reached.now → entry_in (slice_get reached.now at) ≡ Some found →
-        EntryFits (λ entry. is_marked returning.now entry ≡ true) (declared_targets regions.now at) table.now at found }
+    ensures entries { result ≡ true → (place : ℕ) (placed : Placed) (found : Fetched) → slice_get table.now place ≡ Some placed →
+        reached_at reached.now placed.at ≡ Some found → FitsAt code.now (declared_targets regions.now placed.at) table.now placed.state found }
+    ensures behind { result ≡ true → (at : ℕ) (found : Fetched) → at < 65536 → reached_at reached.now at ≡ Some found →
+        LeadsBehind (λ entry. is_marked returning.now entry ≡ true) table.now found }
 {
-    has(table, start, Pairs::ANY) && all_fit(table, returning, regions, reached)
+    has(table, hints, 0, start, State::ANY)
+        && all_lead_behind(table, behind, returning, reached)
+        && all_fit(table, hints, code, regions, reached)
 }
 
-/// Whether the pairs fit at each address where an instruction is reached.
-fn all_fit(
-    table: &[Option<Pairs>],
+/// Whether behind each call whose callee returns the table has a state that says nothing.
+fn all_lead_behind(
+    table: &[Placed],
+    behind: &[u32],
     returning: &[bool],
-    regions: &Regions,
     reached: &[Option<Fetched>],
 ) -> bool
-    requires { length reached.now ≤ 65536 }
-    ensures { result ≡ true → (at : ℕ) (found : Fetched) → at < length reached.now → entry_in (slice_get reached.now at) ≡ Some found →
-        EntryFits (λ entry. is_marked returning.now entry ≡ true) (declared_targets regions.now at) table.now at found }
+    ensures { result ≡ true → (at : ℕ) (found : Fetched) → at < 65536 → reached_at reached.now at ≡ Some found →
+        LeadsBehind (λ entry. is_marked returning.now entry ≡ true) table.now found }
 {
-    for place in 0..reached.len() {
-        if !fits_at(table, returning, regions, reached, place) {
+    for at in 0..65_536_usize {
+        if !leads_behind(table, behind, returning, reached, at as u16) {
             return false;
         }
     }
     true
 }
 
-/// Whether they fit at one address, if an instruction is reached there.
-fn fits_at(
-    table: &[Option<Pairs>],
+/// Whether behind a call it has.
+fn leads_behind(
+    table: &[Placed],
+    behind: &[u32],
     returning: &[bool],
+    reached: &[Option<Fetched>],
+    at: u16,
+) -> bool
+    ensures { result ≡ true → (found : Fetched) → reached_at reached.now at ≡ Some found →
+        LeadsBehind (λ entry. is_marked returning.now entry ≡ true) table.now found }
+{
+    let Some(Fetched { instr, next }) = reached_at(reached, at) else {
+        return true;
+    };
+    match instr.flow() {
+        Flow::Calls(entry) | Flow::CallsIf(_, entry) => {
+            !is_marked(returning, entry) || has(table, behind, u32::from(at), next, State::ANY)
+        }
+        _ => true,
+    }
+}
+
+/// Whether each state fits.
+fn all_fit(
+    table: &[Placed],
+    hints: &[u32],
+    code: &[Option<u8>],
     regions: &Regions,
     reached: &[Option<Fetched>],
-    place: usize,
 ) -> bool
-    requires address { place < 65536 }
-    requires within { place < length reached.now }
-    ensures { result ≡ true → (found : Fetched) → entry_in (slice_get reached.now place) ≡ Some found →
-        EntryFits (λ entry. is_marked returning.now entry ≡ true) (declared_targets regions.now place) table.now place found }
+    ensures { result ≡ true → (place : ℕ) (placed : Placed) (found : Fetched) → slice_get table.now place ≡ Some placed →
+        reached_at reached.now placed.at ≡ Some found → FitsAt code.now (declared_targets regions.now placed.at) table.now placed.state found }
 {
-    let at = place as u16;
-    match reached[place] {
-        Some(found) => entry_fits(table, returning, targets_at(regions, at), at, found),
+    for placed in table {
+        if !placed_fits(table, hints, code, regions, reached, *placed) {
+            return false;
+        }
+    }
+    true
+}
+
+/// Whether one does, if an instruction is reached there.
+fn placed_fits(
+    table: &[Placed],
+    hints: &[u32],
+    code: &[Option<u8>],
+    regions: &Regions,
+    reached: &[Option<Fetched>],
+    placed: Placed,
+) -> bool
+    ensures { result ≡ true → (found : Fetched) → reached_at reached.now placed.at ≡ Some found →
+        FitsAt code.now (declared_targets regions.now placed.at) table.now placed.state found }
+{
+    match reached_at(reached, placed.at) {
+        Some(found) => state_fits(table, hints, code, targets_at(regions, placed.at), placed, found),
         None => true,
     }
 }
 
+/// The instruction that is reached at an address.
+pub(crate) fn reached_at(reached: &[Option<Fetched>], at: u16) -> Option<Fetched>
+    ensures { result ≡ reached_at reached.now at }
+{
+    match reached.get(usize::from(at)) {
+        Some(found) => *found,
+        None => None,
+    }
+}
+
 /// The targets that are declared for an address.
-fn targets_at(regions: &Regions, at: u16) -> &[u16]
+pub(crate) fn targets_at(regions: &Regions, at: u16) -> &[u16]
     ensures { result.now ≡ declared_targets regions.now at }
 {
     match regions.targets(at) {

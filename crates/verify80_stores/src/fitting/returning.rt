@@ -1,6 +1,6 @@
 //! Which procedures return.
 
-ghost use Rattle.std.specs.Prelude.{◌≡◌, true, All, IfOk, length};
+ghost use Rattle.std.specs.Prelude.{◌≡◌, ℕ, true, false, All, IfOk, length};
 ghost use Rattle.verify80_stores.specs.Returning.{is_marked};
 
 use std::alloc::{AllocError, Global};
@@ -10,7 +10,7 @@ use verify80::ProcRow;
 ///
 /// # Errors
 /// `AllocError` if memory runs out.
-pub fn mark_returning(alloc: Global, rows: &[ProcRow]) -> Result<Vec<bool>, AllocError>
+pub(crate) fn mark_returning(alloc: Global, rows: &[ProcRow]) -> Result<Vec<bool>, AllocError>
     ensures { IfOk result (λ marks. All (λ row. row.returns ≡ true → is_marked marks.items row.entry ≡ true) rows.now) }
 {
     let mut marks = unmarked(alloc, 65_536)?;
@@ -23,8 +23,9 @@ pub fn mark_returning(alloc: Global, rows: &[ProcRow]) -> Result<Vec<bool>, Allo
 }
 
 /// `count` marks, none of them set.
-fn unmarked(alloc: Global, count: usize) -> Result<Vec<bool>, AllocError>
-    ensures { IfOk result (λ marks. length marks.items ≡ count) }
+pub(crate) fn unmarked(alloc: Global, count: usize) -> Result<Vec<bool>, AllocError>
+    ensures count { IfOk result (λ marks. length marks.items ≡ count) }
+    ensures none { IfOk result (λ marks. (at : ℕ) → is_marked marks.items at ≡ false) }
 {
     Ok(vec![in alloc; false; count]?)
 }

@@ -1,4 +1,6 @@
-//! Spans of words and of bytes.
+//! Spans of words.
+
+use crate::spans::byte_span::ByteSpan;
 
 /// The words from a first to a last one, both among them.
 #[derive(Clone, Copy, Debug, PartialEq, Eq)]
@@ -7,65 +9,9 @@ pub struct Span {
     pub last: u16,
 }
 
-/// The bytes from a first to a last one, both among them: what half of a pair may be.
-#[derive(Clone, Copy, Debug, PartialEq, Eq)]
-pub(crate) struct ByteSpan {
-    pub first: u8,
-    pub last: u8,
-}
-
-impl ByteSpan {
-    ghost use Rattle.std.specs.Prelude.{◌≡◌};
-    ghost use Rattle.verify80_stores.specs.Span.{any_byte, byte_alone, next_byte, previous_byte};
-
-    /// Any byte.
-    pub const ANY: ByteSpan = ByteSpan {
-        first: 0,
-        last: u8::MAX,
-    };
-
-    /// One byte alone.
-    pub fn alone(byte: u8) -> ByteSpan
-        ensures { result ≡ byte_alone byte }
-    {
-        ByteSpan {
-            first: byte,
-            last: byte,
-        }
-    }
-
-    /// What becomes of these bytes by adding 1: any byte, if one of them may wrap.
-    pub fn next(self) -> ByteSpan
-        ensures { result ≡ next_byte self }
-    {
-        if self.last < u8::MAX {
-            ByteSpan {
-                first: self.first.wrapping_add(1),
-                last: self.last.wrapping_add(1),
-            }
-        } else {
-            ByteSpan::ANY
-        }
-    }
-
-    /// What becomes of these bytes by subtracting 1: any byte, if one of them may wrap.
-    pub fn previous(self) -> ByteSpan
-        ensures { result ≡ previous_byte self }
-    {
-        if self.first > 0 {
-            ByteSpan {
-                first: self.first - 1,
-                last: self.last.saturating_sub(1),
-            }
-        } else {
-            ByteSpan::ANY
-        }
-    }
-}
-
 impl Span {
     ghost use Rattle.std.specs.Prelude.{◌≡◌, ◌↔◌, true, IsTrue};
-    ghost use Rattle.verify80_stores.specs.Span.{any_word, word_alone, next_span, previous_span, sum_span, high_of, low_of, joined, hull, IsInside};
+    ghost use Rattle.verify80_stores.specs.Span.{any_word, word_alone, is_alone, next_span, previous_span, sum_span, sum_carries, high_of, low_of, joined, hull, meet, IsInside};
 
     /// Any word.
     pub const ANY: Span = Span {
@@ -90,6 +36,23 @@ impl Span {
         other.first <= self.first && self.last <= other.last
     }
 
+    /// Whether it is one word.
+    pub(crate) fn is_alone(self) -> bool
+        ensures { result ≡ is_alone self }
+    {
+        self.first == self.last
+    }
+
+    /// The words that both have.
+    pub(crate) fn meet(self, other: Span) -> Span
+        ensures { result ≡ meet self other }
+    {
+        Span {
+            first: self.first.max(other.first),
+            last: self.last.min(other.last),
+        }
+    }
+
     /// The smallest span with the words of both.
     pub fn hull(self, other: Span) -> Span
         ensures { result ≡ hull self other }
@@ -100,7 +63,7 @@ impl Span {
         }
     }
 
-    /// What becomes of these words by adding 1, as INX does: any word, if one of them may wrap.
+    /// What becomes of these words by adding 1, as INX does: any word, if one of several may wrap.
     pub(crate) fn next(self) -> Span
         ensures { result ≡ next_span self }
     {
@@ -109,12 +72,14 @@ impl Span {
                 first: self.first.wrapping_add(1),
                 last: self.last.wrapping_add(1),
             }
+        } else if self.first == u16::MAX {
+            Span::alone(0)
         } else {
             Span::ANY
         }
     }
 
-    /// What becomes of these words by subtracting 1, as DCX does: any word, if one of them may wrap.
+    /// What becomes of these words by subtracting 1, as DCX does: any word, if one of several may wrap.
     pub(crate) fn previous(self) -> Span
         ensures { result ≡ previous_span self }
     {
@@ -123,6 +88,8 @@ impl Span {
                 first: self.first - 1,
                 last: self.last.saturating_sub(1),
             }
+        } else if self.last == 0 {
+            Span::alone(u16::MAX)
         } else {
             Span::ANY
         }
@@ -146,6 +113,19 @@ impl Span {
             }
         } else {
             Span::ANY
+        }
+    }
+
+    /// Whether these sums carry, as far as it is known.
+    pub(crate) fn carries(self, other: Span) -> Option<bool>
+        ensures { result ≡ sum_carries self other }
+    {
+        if u32::from(self.last) + u32::from(other.last) < 65536 {
+            Some(false)
+        } else if u32::from(self.first) + u32::from(other.first) >= 65536 {
+            Some(true)
+        } else {
+            None
         }
     }
 

@@ -1,9 +1,11 @@
+use Rattle.verify80_stores.proofs.MemoryLemmas.{ground_of}
 use Rattle.verify80_stores.proofs.KeepLemmas.{run_bytes, run_keeps, is_kept}
-use Rattle.verify80_stores.proofs.fitting.laws.fitting_pairs_hold.Goals as goal
+use Rattle.verify80_stores.proofs.fitting.laws.fitting_states_hold.Goals as goal
 
 pub returns-clause-kept : goal.returns-clause-kept
-returns-clause-kept c image table fits =
-    is_kept image table fits c.bytes_stay_bytes.ensures.bytes c.pairs_follow.ensures.follow c.pairs_follow.ensures.anything c.pairs_follow.ensures.more
+returns-clause-kept c image code table rules are fits =
+    let apart = c.code_data_and_stack_are_apart.ensures in
+    is_kept image code table (ground_of apart.code_or_data apart.code_or_stack apart.data_or_stack image.regions rules) are fits c.bytes_stay_bytes.ensures.operands c.bytes_stay_bytes.ensures.length
 
 pub returns-clause-keep : goal.returns-clause-keep
 returns-clause-keep c image bytes table sound walks kept start begins start_bytes most w from =

@@ -1,0 +1,34 @@
+//! The bytes of a program's code, by address.
+
+ghost use Rattle.std.specs.Prelude.{◌≡◌, ℕ, None, IfOk, length};
+ghost use Rattle.verify80_stores.specs.Following.{byte_at};
+ghost use Rattle.verify80_stores.specs.Steps.{AreCodeBytes};
+
+use image80::{Image, RegionMap};
+use std::alloc::{AllocError, Global};
+
+/// For each address the byte that the image has there, if code is there.
+///
+/// # Errors
+/// `AllocError` if memory runs out.
+pub(crate) fn code_bytes(alloc: Global, image: &Image) -> Result<Vec<Option<u8>>, AllocError>
+    ensures { IfOk result (λ code. AreCodeBytes image.now code.items) }
+{
+    let map = RegionMap::new(alloc, &image.regions)?;
+    let memory = image.memory(alloc)?;
+    let mut code = no_bytes(alloc, 65_536)?;
+    for address in 0..65_536_usize {
+        if map.is_code(address as u16) {
+            code[address] = Some(memory[address]);
+        }
+    }
+    Ok(code)
+}
+
+/// No byte at any of `count` addresses.
+fn no_bytes(alloc: Global, count: usize) -> Result<Vec<Option<u8>>, AllocError>
+    ensures count { IfOk result (λ code. length code.items ≡ count) }
+    ensures none { IfOk result (λ code. (at : ℕ) → byte_at code.items at ≡ None) }
+{
+    Ok(vec![in alloc; None; count]?)
+}

@@ -1,0 +1,230 @@
+//! What a later store, jump by HL or condition may depend on, at each address.
+
+use crate::search::program::ReachedProgram;
+use crate::search::units::Units;
+use decode80::{Fetched, Flow, Instr, Operand, Operation, Pair, Rotation, Storing};
+use std::alloc::{AllocError, Global};
+
+/// How often the program is gone through, at most: then the rest is left as it is.
+const SWEEPS: usize = 32;
+
+/// By address the parts of a state that are needed before the instruction there.
+///
+/// # Errors
+/// `AllocError` if memory runs out.
+pub(crate) fn find_needs(
+    alloc: Global,
+    program: ReachedProgram<'_>,
+) -> Result<Vec<Units>, AllocError> {
+    let mut needs = vec![in alloc; Units::NONE; 65_536]?;
+    for _ in 0..SWEEPS {
+        if !sweep(program, &mut needs) {
+            break;
+        }
+    }
+    Ok(needs)
+}
+
+/// Goes through the program once, from its end, and says whether something changed.
+fn sweep(program: ReachedProgram<'_>, needs: &mut [Units]) -> bool {
+    let mut is_changed = false;
+    for below in 0..65_536_u32 {
+        let at = (65_535 - below) as u16;
+        if let Some(found) = program.at(at) {
+            let need = need_before(program, needs, at, found);
+            if let Some(place) = needs.get_mut(usize::from(at)) {
+                if *place != need {
+                    *place = need;
+                    is_changed = true;
+                }
+            }
+        }
+    }
+    is_changed
+}
+
+/// What is needed at an address so far.
+pub(crate) fn need_at(needs: &[Units], at: u16) -> Units {
+    match needs.get(usize::from(at)) {
+        Some(need) => *need,
+        None => Units::NONE,
+    }
+}
+
+/// What is needed before an instruction.
+fn need_before(program: ReachedProgram<'_>, needs: &[Units], at: u16, found: Fetched) -> Units {
+    let Fetched { instr, next } = found;
+    match instr.flow() {
+        Flow::Returns | Flow::Halts => Units::NONE,
+        Flow::Continues | Flow::Pushes | Flow::Pops | Flow::Exchanges => {
+            through(instr, need_at(needs, next))
+        }
+        Flow::Jumps(to) => need_at(needs, to),
+        Flow::JumpsIf(condition, to) => need_at(needs, next)
+            .and(need_at(needs, to))
+            .and(Units::of_condition(condition)),
+        Flow::ReturnsIf(condition) => need_at(needs, next).and(Units::of_condition(condition)),
+        Flow::Calls(to) => called(need_at(needs, to)),
+        Flow::CallsIf(condition, to) => called(need_at(needs, to))
+            .and(need_at(needs, next))
+            .and(Units::of_condition(condition)),
+        Flow::JumpsToHl => {
+            let mut need = Units::HL;
+            for to in program.targets(at) {
+                need = need.and(need_at(needs, *to));
+            }
+            need
+        }
+    }
+}
+
+/// What is needed before a call, given what its callee needs.
+fn called(need: Units) -> Units {
+    need.without(Units::WORDS).and(need.shallower())
+}
+
+/// What is needed before an instruction that goes on, given what is needed after it.
+fn through(instr: Instr, need: Units) -> Units {
+    let pointed = match instr.storing() {
+        Storing::ThroughHl => Units::HL,
+        Storing::Through(pair) => Units::of_index_pair(pair),
+        Storing::Nowhere | Storing::Byte(_) | Storing::Word(_) => Units::NONE,
+    };
+    moved_through(instr, need).and(pointed)
+}
+
+/// The flags that an operation writes.
+const FLAGS: Units = Units(1920);
+/// Those that INR and DCR write.
+const COUNTED: Units = Units(1664);
+/// Those that DAD, the rotations, STC and CMC write.
+const CARRIED: Units = Units(1280);
+
+/// The same without what the instruction stores.
+fn moved_through(instr: Instr, need: Units) -> Units {
+    match instr {
+        Instr::Mov(to, from) => copied(need, Units::of(to), Units::of(from)),
+        Instr::Load(to) => copied(need, Units::of(to), Units::HL),
+        Instr::Mvi(to, _) => copied(need, Units::of(to), Units::NONE),
+        Instr::Inr(register) | Instr::Dcr(register) => {
+            let counts = need.has(Units::of(register).and(Units::ZERO).and(Units::SIGN));
+            let rest = need.without(COUNTED);
+            if counts { rest.and(Units::of(register)) } else { rest }
+        }
+        Instr::InrMemory | Instr::DcrMemory => need.without(COUNTED),
+        Instr::Lxi(Pair::Sp, _) | Instr::Sphl => need.without(Units::WORDS),
+        Instr::Lxi(pair, _) => need.without(Units::of_pair(pair)),
+        Instr::Inx(Pair::Sp) | Instr::Dcx(Pair::Sp) => need.without(Units::WORDS),
+        // The low half is followed with the high one: a carry goes from one to the other.
+        Instr::Inx(pair) | Instr::Dcx(pair) if need.has(Units::of_pair(pair)) => {
+            need.and(Units::of_pair(pair))
+        }
+        Instr::Dad(pair) => {
+            let adds = need.has(Units::HL.and(Units::CARRY));
+            let rest = need.without(CARRIED);
+            if adds {
+                rest.and(Units::HL).and(Units::of_pair(pair))
+            } else {
+                rest
+            }
+        }
+        Instr::Operate(operation, operand) => operated(operation, operand, need),
+        Instr::Rotate(rotation) => rotated(rotation, need),
+        Instr::Daa => need.without(FLAGS.and(Units::A)),
+        Instr::Cma => need.without(Units::TEST),
+        Instr::Stc => need.without(CARRIED),
+        Instr::Cmc => need.without(Units::TEST),
+        Instr::Ldax(pair) => copied(need, Units::A, Units::of_index_pair(pair)),
+        Instr::Lda(_) | Instr::In(_) => copied(need, Units::A, Units::NONE),
+        Instr::Lhld(_) => need.without(Units::HL),
+        Instr::Xchg => exchanged(need),
+        Instr::Push(pair) => {
+            let rest = need.without(Units::WORDS).and(need.shallower());
+            if need.has(Units::FIRST) {
+                rest.and(Units::of_stack_pair(pair))
+            } else {
+                rest
+            }
+        }
+        Instr::Pop(pair) => {
+            let written = Units::of_stack_pair(pair);
+            let rest = need
+                .without(Units::WORDS)
+                .without(written)
+                .and(need.deeper());
+            if need.has(written) { rest.and(Units::FIRST) } else { rest }
+        }
+        Instr::Xthl => {
+            let rest = need.without(Units::FIRST.and(Units::HL));
+            let word = if need.has(Units::HL) {
+                Units::FIRST
+            } else {
+                Units::NONE
+            };
+            let pair = if need.has(Units::FIRST) {
+                Units::HL
+            } else {
+                Units::NONE
+            };
+            rest.and(word).and(pair)
+        }
+        _ => need,
+    }
+}
+
+/// What is needed before something is copied.
+fn copied(need: Units, to: Units, from: Units) -> Units {
+    let rest = if to == Units::A {
+        need.without(Units::A.and(Units::TEST))
+    } else {
+        need.without(to)
+    };
+    if need.has(to) { rest.and(from) } else { rest }
+}
+
+/// What is needed before DE and HL are exchanged.
+fn exchanged(need: Units) -> Units {
+    let both = Units(120);
+    let from_de = Units((need.0 & 24) * 4);
+    let from_hl = Units((need.0 & 96) / 4);
+    need.without(both).and(from_de).and(from_hl)
+}
+
+/// What is needed before an operation on A.
+fn operated(operation: Operation, operand: Operand, need: Units) -> Units {
+    let read = match operand {
+        Operand::Register(register) => Units::of(register),
+        Operand::Memory => Units::HL,
+        Operand::Immediate(_) => Units::NONE,
+    };
+    let asks = need.has(FLAGS);
+    let (rest, asks) = match operation {
+        Operation::Compare => (need.without(FLAGS), asks),
+        _ => (
+            need.without(FLAGS.and(Units::A)),
+            asks || need.has(Units::A),
+        ),
+    };
+    if !asks {
+        return rest;
+    }
+    match operation {
+        Operation::ExclusiveOr | Operation::Subtract if read == Units::A => rest,
+        Operation::AddCarry | Operation::SubtractBorrow => {
+            rest.and(Units::A).and(read).and(Units::CARRY)
+        }
+        _ => rest.and(Units::A).and(read),
+    }
+}
+
+/// What is needed before a rotation.
+fn rotated(rotation: Rotation, need: Units) -> Units {
+    let rest = need.without(CARRIED);
+    if !need.has(Units::A) {
+        return rest;
+    }
+    match rotation {
+        Rotation::Left | Rotation::Right => rest,
+        Rotation::LeftThroughCarry | Rotation::RightThroughCarry => rest.and(Units::CARRY),
+    }
+}

@@ -1,0 +1,365 @@
+//! The states that are known so far, by address.
+
+use crate::search::landmarks::Landmarks;
+use crate::search::needs::need_at;
+use crate::search::units::{PARTS, Units, reduced, value_of};
+use crate::states::State;
+use std::alloc::{AllocError, Global};
+
+/// No state.
+pub(crate) const NOWHERE: u32 = u32::MAX;
+/// How many states an address has, at most.
+const STATES: u32 = 1024;
+/// How many states there are in all before each address has fewer.
+const MANY: usize = 200_000;
+/// How many it has then.
+const FEWER: u32 = 16;
+/// How many states there are in all before each address has one.
+const TOO_MANY: usize = 300_000;
+
+/// A state at an address.
+#[derive(Clone, Copy)]
+pub(crate) struct Node {
+    pub at: u16,
+    pub state: State,
+    /// How often it has taken in another.
+    pub growths: u32,
+    /// The next state at this address.
+    pub next: u32,
+    /// The state that has taken this one in: itself, if none has.
+    pub taken_by: u32,
+    pub is_waiting: bool,
+    /// Where its hints begin, once it has any.
+    pub hint: u32,
+}
+
+/// The states at one address.
+#[derive(Clone, Copy)]
+struct Group {
+    first: u32,
+    count: u32,
+    /// The parts by which they are no longer told apart.
+    joined: Units,
+}
+
+/// The states that are known so far, and those from which others have still to be followed.
+#[derive(Drop)]
+pub(crate) struct Nodes {
+    nodes: Vec<Node>,
+    groups: Vec<Group>,
+    waiting: Vec<u32>,
+    needs: Vec<Units>,
+    landmarks: Landmarks,
+    /// Whether a state has taken in another.
+    has_grown: bool,
+}
+
+impl Nodes {
+    /// No states.
+    ///
+    /// # Errors
+    /// `AllocError` if memory runs out.
+    pub fn new(
+        alloc: Global,
+        needs: Vec<Units>,
+        landmarks: Landmarks,
+    ) -> Result<Nodes, AllocError> {
+        let none = Group {
+            first: NOWHERE,
+            count: 0,
+            joined: Units::NONE,
+        };
+        Ok(Nodes {
+            nodes: Vec::new(alloc),
+            groups: vec![in alloc; none; 65_536]?,
+            waiting: Vec::new(alloc),
+            needs,
+            landmarks,
+            has_grown: false,
+        })
+    }
+
+    /// How many states there are, with those that were taken in.
+    pub fn len(&self) -> usize {
+        self.nodes.len()
+    }
+
+    /// Whether a state has taken in another.
+    pub fn has_grown(&self) -> bool {
+        self.has_grown
+    }
+
+    /// A state, if there is one at a place.
+    pub fn get(&self, place: u32) -> Option<Node> {
+        match self.nodes.get(place as usize) {
+            Some(node) => Some(*node),
+            None => None,
+        }
+    }
+
+    /// What is needed of a state at an address.
+    pub fn needed(&self, at: u16, state: State) -> State {
+        reduced(state, need_at(&self.needs, at))
+    }
+
+    /// Notes where the hints of a state begin.
+    pub fn set_hint(&mut self, place: u32, hint: u32) {
+        if let Some(node) = self.nodes.get_mut(place as usize) {
+            node.hint = hint;
+        }
+    }
+
+    /// Narrows a state.
+    pub fn set_state(&mut self, place: u32, state: State) {
+        if let Some(node) = self.nodes.get_mut(place as usize) {
+            node.state = state;
+        }
+    }
+
+    /// A state from which others have still to be followed.
+    pub fn next_waiting(&mut self) -> Option<u32> {
+        let place = self.waiting.pop()?;
+        if let Some(node) = self.nodes.get_mut(place as usize) {
+            node.is_waiting = false;
+        }
+        Some(place)
+    }
+
+    /// The state that has a state now.
+    pub fn holder(&self, place: u32) -> u32 {
+        let mut holder = place;
+        for _ in 0..self.nodes.len() {
+            match self.get(holder) {
+                Some(node) if node.taken_by != holder => holder = node.taken_by,
+                _ => break,
+            }
+        }
+        holder
+    }
+
+    /// The place of a state at an address that says no more than this one: one that is there, or one that is made.
+    ///
+    /// # Errors
+    /// `AllocError` if memory runs out.
+    pub fn enter(&mut self, alloc: Global, at: u16, state: State) -> Result<u32, AllocError> {
+        let state = self.needed(at, state);
+        if let Some(place) = self.find_around(at, state) {
+            return Ok(place);
+        }
+        if self.group(at).count >= self.most() {
+            self.join_some(alloc, at)?;
+        }
+        let joined = self.group(at).joined;
+        if joined != Units::NONE {
+            if let Some(place) = self.find_alike(at, state, joined) {
+                self.grow(place, state)?;
+                return Ok(place);
+            }
+        }
+        self.append(at, state)
+    }
+
+    /// How many states an address has now, at most.
+    fn most(&self) -> u32 {
+        if self.nodes.len() < MANY {
+            STATES
+        } else if self.nodes.len() < TOO_MANY {
+            FEWER
+        } else {
+            1
+        }
+    }
+
+    /// The states at an address.
+    fn group(&self, at: u16) -> Group {
+        match self.groups.get(usize::from(at)) {
+            Some(group) => *group,
+            None => Group {
+                first: NOWHERE,
+                count: 0,
+                joined: Units::NONE,
+            },
+        }
+    }
+
+    /// Sets the states at an address.
+    fn set_group(&mut self, at: u16, group: Group) {
+        if let Some(place) = self.groups.get_mut(usize::from(at)) {
+            *place = group;
+        }
+    }
+
+    /// A state at an address that says no more than this one.
+    fn find_around(&self, at: u16, state: State) -> Option<u32> {
+        let mut place = self.group(at).first;
+        for _ in 0..self.nodes.len() {
+            let node = self.get(place)?;
+            if state.is_inside(node.state) {
+                return Some(place);
+            }
+            place = node.next;
+        }
+        None
+    }
+
+    /// A state at an address that is told apart from this one by none but these parts.
+    fn find_alike(&self, at: u16, state: State, joined: Units) -> Option<u32> {
+        let parts = Units::ALL.without(joined);
+        let key = reduced(state, parts);
+        let mut place = self.group(at).first;
+        for _ in 0..self.nodes.len() {
+            let node = self.get(place)?;
+            if reduced(node.state, parts) == key {
+                return Some(place);
+            }
+            place = node.next;
+        }
+        None
+    }
+
+    /// Appends a state, from which others have to be followed.
+    fn append(&mut self, at: u16, state: State) -> Result<u32, AllocError> {
+        let place = self.nodes.len() as u32;
+        let group = self.group(at);
+        self.nodes.push(Node {
+            at,
+            state,
+            growths: 0,
+            next: group.first,
+            taken_by: place,
+            is_waiting: true,
+            hint: NOWHERE,
+        })?;
+        self.set_group(
+            at,
+            Group {
+                first: place,
+                count: group.count.saturating_add(1),
+                joined: group.joined,
+            },
+        );
+        self.waiting.push(place)?;
+        Ok(place)
+    }
+
+    /// A state takes in another, and others have to be followed from it again.
+    fn grow(&mut self, place: u32, state: State) -> Result<(), AllocError> {
+        self.has_grown = true;
+        let Some(node) = self.nodes.get_mut(place as usize) else {
+            return Ok(());
+        };
+        node.state = self.landmarks.grown(node.state, state, node.growths);
+        node.growths = node.growths.saturating_add(1);
+        let was_waiting = node.is_waiting;
+        node.is_waiting = true;
+        if !was_waiting {
+            self.waiting.push(place)?;
+        }
+        Ok(())
+    }
+
+    /// No longer tells apart the states at an address by the part that tells the most of them apart, until there are few enough.
+    fn join_some(&mut self, alloc: Global, at: u16) -> Result<(), AllocError> {
+        for _ in 0..PARTS {
+            if self.group(at).count < self.most() {
+                break;
+            }
+            let part = self.part_that_tells_most(alloc, at)?;
+            self.join_by(at, part)?;
+        }
+        Ok(())
+    }
+
+    /// The part of which the states at an address have the most values, of those by which they still are told apart.
+    fn part_that_tells_most(&self, alloc: Global, at: u16) -> Result<Units, AllocError> {
+        let joined = self.group(at).joined;
+        let mut most = 0;
+        let mut best = Units::ALL;
+        for part in 0..PARTS {
+            let unit = Units::numbered(part);
+            if !joined.has(unit) {
+                let count = self.count_values(alloc, at, part)?;
+                if count > most {
+                    most = count;
+                    best = unit;
+                }
+            }
+        }
+        Ok(best)
+    }
+
+    /// How many values a part has in the states at an address.
+    fn count_values(&self, alloc: Global, at: u16, part: usize) -> Result<usize, AllocError> {
+        let mut values = Vec::new(alloc);
+        let mut place = self.group(at).first;
+        for _ in 0..self.nodes.len() {
+            let Some(node) = self.get(place) else {
+                break;
+            };
+            values.push(value_of(node.state, part))?;
+            place = node.next;
+        }
+        values.sort_unstable();
+        values.dedup();
+        Ok(values.len())
+    }
+
+    /// Joins the states at an address that only these parts and those before tell apart.
+    fn join_by(&mut self, at: u16, part: Units) -> Result<(), AllocError> {
+        let group = self.group(at);
+        let joined = group.joined.and(part);
+        self.set_group(
+            at,
+            Group {
+                first: NOWHERE,
+                count: 0,
+                joined,
+            },
+        );
+        let mut place = group.first;
+        for _ in 0..self.nodes.len() {
+            let Some(node) = self.get(place) else {
+                break;
+            };
+            self.regroup(at, place, node.state, joined)?;
+            place = node.next;
+        }
+        Ok(())
+    }
+
+    /// Puts a state back at its address, or into one from which these parts alone tell it apart.
+    fn regroup(
+        &mut self,
+        at: u16,
+        place: u32,
+        state: State,
+        joined: Units,
+    ) -> Result<(), AllocError> {
+        match self.find_alike(at, state, joined) {
+            Some(holder) => {
+                if let Some(node) = self.nodes.get_mut(place as usize) {
+                    node.taken_by = holder;
+                }
+                if let Some(node) = self.nodes.get_mut(holder as usize) {
+                    node.growths = 0;
+                }
+                self.grow(holder, state)
+            }
+            None => {
+                let group = self.group(at);
+                if let Some(node) = self.nodes.get_mut(place as usize) {
+                    node.next = group.first;
+                }
+                self.set_group(
+                    at,
+                    Group {
+                        first: place,
+                        count: group.count.saturating_add(1),
+                        joined,
+                    },
+                );
+                Ok(())
+            }
+        }
+    }
+}

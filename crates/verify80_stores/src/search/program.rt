@@ -1,0 +1,117 @@
+//! The program that states are proposed for, and its ways.
+
+use crate::states::{State, given, state_after};
+use decode80::{Fetched, Flow, Instr};
+use image80::Regions;
+
+/// A program: its code, its instructions that may be reached, and which of its procedures return.
+#[derive(Clone, Copy)]
+pub(crate) struct ReachedProgram<'a> {
+    /// The byte of code at each address: by address, 65,536 places.
+    pub code: &'a [Option<u8>],
+    /// The instruction at each address that the program may reach, and the address after it: by address, 65,536 places.
+    pub instructions: &'a [Option<Fetched>],
+    /// Whether the procedure that begins at an address returns: by address, 65,536 places.
+    pub returning: &'a [bool],
+    /// The address of the first instruction.
+    pub start: u16,
+    /// Where data is, and the targets of each PCHL.
+    pub regions: &'a Regions,
+}
+
+impl<'a> ReachedProgram<'a> {
+    /// The instruction at an address.
+    pub fn at(self, address: u16) -> Option<Fetched> {
+        match self.instructions.get(usize::from(address)) {
+            Some(found) => *found,
+            None => None,
+        }
+    }
+
+    /// Whether the procedure that begins at an address returns.
+    fn returns(self, entry: u16) -> bool {
+        match self.returning.get(usize::from(entry)) {
+            Some(returns) => *returns,
+            None => false,
+        }
+    }
+
+    /// The targets that are declared for the PCHL at an address.
+    pub fn targets(self, address: u16) -> &'a [u16] {
+        let regions = self.regions;
+        match regions.targets(address) {
+            Some(targets) => targets,
+            None => &[],
+        }
+    }
+
+    /// The address behind the call at an address, if its callee returns.
+    pub fn behind(self, at: u16) -> Option<u16> {
+        let Fetched { instr, next } = self.at(at)?;
+        match instr.flow() {
+            Flow::Calls(entry) | Flow::CallsIf(_, entry) if self.returns(entry) => Some(next),
+            _ => None,
+        }
+    }
+
+    /// How many ways an instruction has, each with a hint of its own.
+    pub fn count_ways(self, at: u16, instr: Instr) -> usize {
+        match instr.flow() {
+            Flow::Returns | Flow::Halts => 0,
+            Flow::Continues
+            | Flow::Pushes
+            | Flow::Pops
+            | Flow::Exchanges
+            | Flow::Jumps(_)
+            | Flow::Calls(_)
+            | Flow::ReturnsIf(_) => 1,
+            Flow::JumpsIf(_, _) | Flow::CallsIf(_, _) => 2,
+            Flow::JumpsToHl => self.targets(at).len(),
+        }
+    }
+
+    /// Where the way of a number leads from a state, and with what; `None` if that way isn't gone.
+    pub fn way(self, at: u16, found: Fetched, state: State, number: usize) -> Option<(u16, State)> {
+        let Fetched { instr, next } = found;
+        match instr.flow() {
+            Flow::Returns | Flow::Halts => None,
+            Flow::Continues | Flow::Pushes | Flow::Pops | Flow::Exchanges => {
+                Some((next, self.after(found, false, state)))
+            }
+            Flow::Jumps(to) => Some((to, self.after(found, false, state))),
+            Flow::JumpsIf(condition, to) | Flow::CallsIf(condition, to) => match number {
+                0 => self.left(found, true, to, given(condition, true, state)),
+                _ => self.left(found, false, next, given(condition, false, state)),
+            },
+            Flow::ReturnsIf(condition) => {
+                self.left(found, false, next, given(condition, false, state))
+            }
+            Flow::Calls(to) => Some((to, self.after(found, true, state))),
+            Flow::JumpsToHl => {
+                let to = *self.targets(at).get(number)?;
+                if state.hl.words.first <= to && to <= state.hl.words.last {
+                    Some((to, self.after(found, false, state)))
+                } else {
+                    None
+                }
+            }
+        }
+    }
+
+    /// What an instruction makes of a state.
+    fn after(self, found: Fetched, taken: bool, state: State) -> State {
+        state_after(self.code, found.instr, taken, found.next, state)
+    }
+
+    /// A way of a state that is left, if one is.
+    fn left(
+        self,
+        found: Fetched,
+        taken: bool,
+        to: u16,
+        left: Option<State>,
+    ) -> Option<(u16, State)> {
+        let state = left?;
+        Some((to, self.after(found, taken, state)))
+    }
+}

@@ -1,0 +1,123 @@
+//! A table of states is proposed.
+
+use crate::fitting::Placed;
+use crate::search::compacting::{compact, narrow};
+use crate::search::landmarks::Landmarks;
+use crate::search::needs::find_needs;
+use crate::search::nodes::{NOWHERE, Node, Nodes};
+use crate::search::program::ReachedProgram;
+use crate::states::State;
+use std::alloc::{AllocError, Global};
+
+/// How many states are followed, at most, each as often as it grows.
+const STEPS: u32 = 4_000_000;
+/// How often the table is narrowed, if states were joined.
+const NARROWINGS: u32 = 3;
+
+/// A table of states, and for each of their ways a place of the table. The first hint is that of the start; `behind` has by address the
+/// place of the state behind the call there.
+#[derive(Drop)]
+pub(crate) struct Proposal {
+    pub table: Vec<Placed>,
+    pub hints: Vec<u32>,
+    pub behind: Vec<u32>,
+}
+
+/// What is known at each address that the program may reach.
+///
+/// At the start, and behind each call that returns, nothing is. Nothing is promised of the table: whoever uses it has to see that it
+/// fits.
+///
+/// # Errors
+/// `AllocError` only if memory runs out.
+pub(crate) fn propose(
+    alloc: Global,
+    program: ReachedProgram<'_>,
+) -> Result<Proposal, AllocError> {
+    let needs = find_needs(alloc, program)?;
+    let landmarks = Landmarks::new(alloc, program)?;
+    let mut nodes = Nodes::new(alloc, needs, landmarks)?;
+    let mut hints = Vec::new(alloc);
+    let start = nodes.enter(alloc, program.start, State::ANY)?;
+    let behind = enter_behind(alloc, &mut nodes, program)?;
+    for _ in 0..STEPS {
+        let Some(place) = nodes.next_waiting() else {
+            break;
+        };
+        follow_from(alloc, &mut nodes, &mut hints, program, place)?;
+    }
+    if nodes.has_grown() {
+        for _ in 0..NARROWINGS {
+            narrow(alloc, &mut nodes, &hints, &behind, program, start)?;
+        }
+    }
+    compact(alloc, &nodes, &hints, &behind, program, start)
+}
+
+/// Behind each call whose callee returns nothing is known: by address of the call the place of a state that says so.
+fn enter_behind(
+    alloc: Global,
+    nodes: &mut Nodes,
+    program: ReachedProgram<'_>,
+) -> Result<Vec<u32>, AllocError> {
+    let mut behind = vec![in alloc; NOWHERE; 65_536]?;
+    for number in 0..65_536_u32 {
+        let at = number as u16;
+        if let Some(next) = program.behind(at) {
+            let place = nodes.enter(alloc, next, State::ANY)?;
+            if let Some(slot) = behind.get_mut(usize::from(at)) {
+                *slot = place;
+            }
+        }
+    }
+    Ok(behind)
+}
+
+/// Follows the state at a place through the instruction there, unless another has taken it in.
+fn follow_from(
+    alloc: Global,
+    nodes: &mut Nodes,
+    hints: &mut Vec<u32>,
+    program: ReachedProgram<'_>,
+    place: u32,
+) -> Result<(), AllocError> {
+    match nodes.get(place) {
+        Some(node) if node.taken_by == place => follow(alloc, nodes, hints, program, place, node),
+        _ => Ok(()),
+    }
+}
+
+/// Enters what each way makes of a state, and notes where.
+fn follow(
+    alloc: Global,
+    nodes: &mut Nodes,
+    hints: &mut Vec<u32>,
+    program: ReachedProgram<'_>,
+    place: u32,
+    node: Node,
+) -> Result<(), AllocError> {
+    let Some(found) = program.at(node.at) else {
+        return Ok(());
+    };
+    let ways = program.count_ways(node.at, found.instr);
+    let first = if node.hint == NOWHERE {
+        let first = hints.len();
+        for _ in 0..ways {
+            hints.push(NOWHERE)?;
+        }
+        nodes.set_hint(place, first as u32);
+        first
+    } else {
+        node.hint as usize
+    };
+    for number in 0..ways {
+        let to = match program.way(node.at, found, node.state, number) {
+            Some((to, state)) => nodes.enter(alloc, to, state)?,
+            None => NOWHERE,
+        };
+        if let Some(hint) = hints.get_mut(first.saturating_add(number)) {
+            *hint = to;
+        }
+    }
+    Ok(())
+}

@@ -1,0 +1,15 @@
+//! What is known of a machine at an instruction, and what becomes of that.
+//!
+//! | Item | What it is |
+//! |---|---|
+//! | [`State`] | what registers, flags and the words on top of the stack may be |
+//! | [`state_after`] | what they may be after an instruction |
+//! | [`given`] | what a condition says of them |
+
+mod following;
+mod given;
+mod state;
+
+pub(crate) use following::{index_words, state_after};
+pub(crate) use given::given;
+pub(crate) use state::{PairSpan, State, Words};
