@@ -39,7 +39,13 @@ stands_so image m places inputs outputs s = record { reached = s.reached; found 
 keeps_so : (image : Located) (table : List Placed) (m : Machine) (places : List ℕ) (inputs : List (List ℕ)) (outputs : List (ℕ × ℕ)) → KeepsTo image table (record { machine = m; places = places }) →
     KeepsTo image table (record { machine = record m { inputs = inputs; outputs = outputs }; places = places })
 keeps_so image table m places inputs outputs k = record {
-  place = k.place; placed = k.placed; there = k.there; at = k.at; holds = record { registers = k.holds.registers; words = k.holds.words }; code = k.code; whole = k.whole;
+  place = k.place;
+  placed = k.placed;
+  there = k.there;
+  at = k.at;
+  holds = record { registers = k.holds.registers; words = k.holds.words };
+  code = k.code;
+  whole = k.whole;
 }
 
 starts_at : (image : Located) (start : Machine) → MayStart image start → start.cpu.pc ≡ image.start
@@ -54,7 +60,10 @@ starts_with image start (inr sets) = (sets.code, sets.whole)
 disturbed_keeps : (image : Located) (ground : Ground image.regions) (table : List Placed) (w : World) (memory : List ℕ) → LeavesProgram image.regions w.machine.memory memory → KeepsTo image table w →
     KeepsTo image table (with_memory w memory)
 disturbed_keeps image ground table w memory leaves k = record {
-  place = k.place; placed = k.placed; there = k.there; at = k.at;
+  place = k.place;
+  placed = k.placed;
+  there = k.there;
+  at = k.at;
   holds = record {
     registers = k.holds.registers;
     words = words_stay image.regions ground k.placed.state.words w.machine.memory memory w.machine.cpu.sp leaves.stack k.holds.words;
@@ -142,7 +151,13 @@ module _ (image : Located) (bytes : ℕ) (reached : List (Option Fetched)) (tabl
         } in
         let k = s.keeps_to in
         let keeps_here : KeepsTo image table u = record {
-          place = k.place; placed = k.placed; there = k.there; at = k.at; holds = record { registers = k.holds.registers; words = k.holds.words }; code = k.code; whole = k.whole;
+          place = k.place;
+          placed = k.placed;
+          there = k.there;
+          at = k.at;
+          holds = record { registers = k.holds.registers; words = k.holds.words };
+          code = k.code;
+          whole = k.whole;
         } in
         let stands_there : StandsOnWalk image there = stands_so image g.there places w.machine.inputs w.machine.outputs (subst (StandsOnWalk image) v_is (known.boards start is_start v on).stands) in
         let keeps_there : KeepsTo image table there = kept.steps false u there known_here stands_there held held_there keeps_here g.step in

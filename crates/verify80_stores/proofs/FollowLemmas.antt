@@ -170,9 +170,10 @@ compares : (t : ByteSpan) (r : Registers) (v : ℕ) (half : Bool) (b : Bool) →
 unfolding flags_of_result
 compares t r v half true alone small other inside =
     let same : t.first ≡ v = is_first t v alone inside in
-    rw alone
-    (same_test ((256 + r.a - (v + 0)) % 256 == 0) (r.a == t.first) (λ h. grind (arith, nat_tests)) (λ h. grind (arith, nat_tests)),
-    same_test (nat_lt r.a (v + 0)) (nat_lt r.a t.first) (λ h. grind (arith, nat_tests)) (λ h. grind (arith, nat_tests)))
+    rw alone (
+      same_test ((256 + r.a - (v + 0)) % 256 == 0) (r.a == t.first) (λ h. grind (arith, nat_tests)) (λ h. grind (arith, nat_tests)),
+      same_test (nat_lt r.a (v + 0)) (nat_lt r.a t.first) (λ h. grind (arith, nat_tests)) (λ h. grind (arith, nat_tests)),
+    )
 compares t r v half false alone small other inside = rw alone tt
 
 module _ (s : State) (r : Registers) (t : ByteSpan) (v : ℕ) (bytes : AreBytes r) (small : v < 256) (holds : HoldsRegisters s r) (inside : ByteWithin t v) where
@@ -456,7 +457,15 @@ module _ (code : List (Option ℕ)) (memory : List ℕ) (reads : ReadsCode code 
       (words_hold (loaded_word code address) (byte_in memory (ahead address 1)) (byte_in memory address) low
       (word_known (byte_at code (ahead address 1)) (byte_at code address) _ _ (λ byte e. reads (ahead address 1) byte e) (λ byte e. reads address byte e) high low))
   changed_registers regions Xchg cpu s small bytes holds words = record {
-    a = holds.a; bc = holds.bc; de = holds.hl; hl = holds.de; copy = exchanges_copy s.copy cpu.registers holds.copy; zero = holds.zero; carry = holds.carry; sign = holds.sign; compared = holds.compared;
+    a = holds.a;
+    bc = holds.bc;
+    de = holds.hl;
+    hl = holds.de;
+    copy = exchanges_copy s.copy cpu.registers holds.copy;
+    zero = holds.zero;
+    carry = holds.carry;
+    sign = holds.sign;
+    compared = holds.compared;
   }
   changed_registers regions (Pop StackBc) cpu s small bytes holds words = bc_written_holds s cpu.registers (known_word s.words.first) _ _ holds
       (words_hold (known_word s.words.first) _ _ (memory_byte memory cpu.sp held) (popped_within regions s.words.first memory cpu.sp words.first held))

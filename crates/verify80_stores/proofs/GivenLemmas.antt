@@ -72,17 +72,41 @@ carry_leaves (Some n) false s r holds compares is = from_leaves n r.a s.a (sym c
 -- a flag becomes known
 zero_is : (s : State) (r : Registers) (wanted : Bool) → HoldsRegisters s r → r.flags.zero ≡ wanted → HoldsRegisters (record s { zero = Some wanted }) r
 zero_is s r wanted holds is = record {
-  a = holds.a; bc = holds.bc; de = holds.de; hl = holds.hl; copy = holds.copy; zero = is; carry = holds.carry; sign = holds.sign; compared = holds.compared;
+  a = holds.a;
+  bc = holds.bc;
+  de = holds.de;
+  hl = holds.hl;
+  copy = holds.copy;
+  zero = is;
+  carry = holds.carry;
+  sign = holds.sign;
+  compared = holds.compared;
 }
 
 carry_is : (s : State) (r : Registers) (wanted : Bool) → HoldsRegisters s r → r.flags.carry ≡ wanted → HoldsRegisters (record s { carry = Some wanted }) r
 carry_is s r wanted holds is = record {
-  a = holds.a; bc = holds.bc; de = holds.de; hl = holds.hl; copy = holds.copy; zero = holds.zero; carry = is; sign = holds.sign; compared = holds.compared;
+  a = holds.a;
+  bc = holds.bc;
+  de = holds.de;
+  hl = holds.hl;
+  copy = holds.copy;
+  zero = holds.zero;
+  carry = is;
+  sign = holds.sign;
+  compared = holds.compared;
 }
 
 sign_is : (s : State) (r : Registers) (wanted : Bool) → HoldsRegisters s r → r.flags.sign ≡ wanted → HoldsRegisters (record s { sign = Some wanted }) r
 sign_is s r wanted holds is = record {
-  a = holds.a; bc = holds.bc; de = holds.de; hl = holds.hl; copy = holds.copy; zero = holds.zero; carry = holds.carry; sign = is; compared = holds.compared;
+  a = holds.a;
+  bc = holds.bc;
+  de = holds.de;
+  hl = holds.hl;
+  copy = holds.copy;
+  zero = holds.zero;
+  carry = holds.carry;
+  sign = is;
+  compared = holds.compared;
 }
 
 same_left : (known wanted truth : Bool) (s : State) (r : Registers) → HoldsRegisters s r → truth ≡ known → truth ≡ wanted → Leaves (if_same known wanted s) s r

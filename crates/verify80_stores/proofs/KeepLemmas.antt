@@ -123,7 +123,13 @@ module _ (image : Located) (bytes : List (Option ℕ)) (table : List Placed) (gr
     (bounded : FetchedOperandsAreBounded) (length_stays : MemoryKeepsItsLength) where
   keeps_by : (w : World) (s : State) → Has table w.machine.cpu.pc s → Holds image.regions s w.machine → HasCode image w.machine.memory → length w.machine.memory ≡ 65536 → KeepsTo image table w
   keeps_by w s has holds code whole = record {
-    place = has.place; placed = has.placed; there = has.there; at = has.at; holds = state_around image.regions s has.placed.state w.machine has.inside holds; code = code; whole = whole;
+    place = has.place;
+    placed = has.placed;
+    there = has.there;
+    at = has.at;
+    holds = state_around image.regions s has.placed.state w.machine has.inside holds;
+    code = code;
+    whole = whole;
   }
 
   -- behind a call whose callee returns nothing is known

@@ -1,6 +1,8 @@
 pub mod ListLemmas
 pub mod EndLemmas
 pub mod TableLemmas
+pub mod VecLemmas
+pub mod TallyLemmas
 pub mod StoreLemmas
 mod BoardLemmas
 pub mod WatchedLemmas

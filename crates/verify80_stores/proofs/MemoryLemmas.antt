@@ -202,16 +202,16 @@ module _ (regions : Areas) (ground : Ground regions) where
     deep_word o k at' small place holds =
         word_moved o m after (ahead sp k) at' (λ low_in. place)
         (λ low_in high_in. (kept k (omega arith), subst (λ n. slice_index after n ≡ slice_index m n) (sym (next_byte sp k)) (kept (k + 1) (omega arith)))) holds where
-      kept : (j : ℕ) → j < 6 → slice_index after (ahead sp j) ≡ slice_index m (ahead sp j)
-      kept j less = let apart = top_apart sp j less in two_stored m (ahead sp j) (behind sp 1) (behind sp 2) high low apart.0 apart.1
+          kept : (j : ℕ) → j < 6 → slice_index after (ahead sp j) ≡ slice_index m (ahead sp j)
+          kept j less = let apart = top_apart sp j less in two_stored m (ahead sp j) (behind sp 1) (behind sp 2) high low apart.0 apart.1
 
     first_word : (o : Option Span) → HoldsWord regions o m sp → HoldsWord regions o after (ahead (behind sp 2) 2)
     first_word o holds =
         word_moved o m after sp (ahead (behind sp 2) 2) (λ low_in. top_second sp (small_on_stack regions sp ground low_in))
         (λ low_in high_in.
-            let apart = sp_apart sp (small_on_stack regions sp ground low_in) in
-            let next = top_apart sp 1 (omega arith) in
-            (two_stored m sp (behind sp 1) (behind sp 2) high low apart.0 apart.1, two_stored m (ahead sp 1) (behind sp 1) (behind sp 2) high low next.0 next.1)) holds
+        let apart = sp_apart sp (small_on_stack regions sp ground low_in) in
+        let next = top_apart sp 1 (omega arith) in
+        (two_stored m sp (behind sp 1) (behind sp 2) high low apart.0 apart.1, two_stored m (ahead sp 1) (behind sp 1) (behind sp 2) high low next.0 next.1)) holds
 
     pub words_pushed : (w : Words) (span : Span) → (in_range regions.stack (behind sp 1) ≡ true) × (in_range regions.stack (behind sp 2) ≡ true) → Within span (word high low) → HoldsWords regions w m sp →
         HoldsWords regions (pushed w (Some span)) after (behind sp 2)
@@ -275,8 +275,8 @@ module _ (regions : Areas) (ground : Ground regions) where
     below_word o k more less holds =
         word_moved o m exchanged (ahead sp k) (ahead sp k) (λ in_stack. refl)
         (λ one two. (kept k more (omega arith), subst (λ n. slice_index exchanged n ≡ slice_index m n) (sym (next_byte sp k)) (kept (k + 1) (omega arith) (omega arith)))) holds where
-      kept : (j : ℕ) → 2 ≤ j → j < 8 → slice_index exchanged (ahead sp j) ≡ slice_index m (ahead sp j)
-      kept j from small = let apart = sp_first sp j sp_small from small in two_stored m (ahead sp j) sp (ahead sp 1) low high apart.0 apart.1
+          kept : (j : ℕ) → 2 ≤ j → j < 8 → slice_index exchanged (ahead sp j) ≡ slice_index m (ahead sp j)
+          kept j from small = let apart = sp_first sp j sp_small from small in two_stored m (ahead sp j) sp (ahead sp 1) low high apart.0 apart.1
 
     words_exchanged : (w : Words) (span : Span) → Within span (word high low) → HoldsWords regions w m sp → HoldsWords regions (record w { first = Some span }) exchanged sp
     words_exchanged w span inside holds = record {

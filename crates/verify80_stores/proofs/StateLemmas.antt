@@ -99,31 +99,81 @@ copy_stays L H r byte same = same
 pub with_byte_holds : (s : State) (r : Registers) (to : Register) (span : ByteSpan) (byte : ℕ) → AreBytes r → HoldsRegisters s r → ByteWithin span byte →
     HoldsRegisters (with_byte s to span) (with_register r to byte)
 with_byte_holds s r A span byte bytes holds inside = record {
-  a = inside; bc = holds.bc; de = holds.de; hl = holds.hl; copy = refl; zero = holds.zero; carry = holds.carry; sign = holds.sign; compared = tt;
+  a = inside;
+  bc = holds.bc;
+  de = holds.de;
+  hl = holds.hl;
+  copy = refl;
+  zero = holds.zero;
+  carry = holds.carry;
+  sign = holds.sign;
+  compared = tt;
 }
 with_byte_holds s r B span byte bytes holds inside = record {
-  a = holds.a; bc = halves_hold span s.bc.low byte r.c inside holds.bc.low; de = holds.de; hl = holds.hl; copy = copy_stays B s.copy r byte holds.copy;
-  zero = holds.zero; carry = holds.carry; sign = holds.sign; compared = holds.compared;
+  a = holds.a;
+  bc = halves_hold span s.bc.low byte r.c inside holds.bc.low;
+  de = holds.de;
+  hl = holds.hl;
+  copy = copy_stays B s.copy r byte holds.copy;
+  zero = holds.zero;
+  carry = holds.carry;
+  sign = holds.sign;
+  compared = holds.compared;
 }
 with_byte_holds s r C span byte bytes holds inside = record {
-  a = holds.a; bc = halves_hold (high_of s.bc.words) span r.b byte (high_holds s.bc r.b r.c bytes.c holds.bc) inside; de = holds.de; hl = holds.hl; copy = copy_stays C s.copy r byte holds.copy;
-  zero = holds.zero; carry = holds.carry; sign = holds.sign; compared = holds.compared;
+  a = holds.a;
+  bc = halves_hold (high_of s.bc.words) span r.b byte (high_holds s.bc r.b r.c bytes.c holds.bc) inside;
+  de = holds.de;
+  hl = holds.hl;
+  copy = copy_stays C s.copy r byte holds.copy;
+  zero = holds.zero;
+  carry = holds.carry;
+  sign = holds.sign;
+  compared = holds.compared;
 }
 with_byte_holds s r D span byte bytes holds inside = record {
-  a = holds.a; bc = holds.bc; de = halves_hold span s.de.low byte r.e inside holds.de.low; hl = holds.hl; copy = copy_stays D s.copy r byte holds.copy;
-  zero = holds.zero; carry = holds.carry; sign = holds.sign; compared = holds.compared;
+  a = holds.a;
+  bc = holds.bc;
+  de = halves_hold span s.de.low byte r.e inside holds.de.low;
+  hl = holds.hl;
+  copy = copy_stays D s.copy r byte holds.copy;
+  zero = holds.zero;
+  carry = holds.carry;
+  sign = holds.sign;
+  compared = holds.compared;
 }
 with_byte_holds s r E span byte bytes holds inside = record {
-  a = holds.a; bc = holds.bc; de = halves_hold (high_of s.de.words) span r.d byte (high_holds s.de r.d r.e bytes.e holds.de) inside; hl = holds.hl; copy = copy_stays E s.copy r byte holds.copy;
-  zero = holds.zero; carry = holds.carry; sign = holds.sign; compared = holds.compared;
+  a = holds.a;
+  bc = holds.bc;
+  de = halves_hold (high_of s.de.words) span r.d byte (high_holds s.de r.d r.e bytes.e holds.de) inside;
+  hl = holds.hl;
+  copy = copy_stays E s.copy r byte holds.copy;
+  zero = holds.zero;
+  carry = holds.carry;
+  sign = holds.sign;
+  compared = holds.compared;
 }
 with_byte_holds s r H span byte bytes holds inside = record {
-  a = holds.a; bc = holds.bc; de = holds.de; hl = halves_hold span s.hl.low byte r.l inside holds.hl.low; copy = copy_stays H s.copy r byte holds.copy;
-  zero = holds.zero; carry = holds.carry; sign = holds.sign; compared = holds.compared;
+  a = holds.a;
+  bc = holds.bc;
+  de = holds.de;
+  hl = halves_hold span s.hl.low byte r.l inside holds.hl.low;
+  copy = copy_stays H s.copy r byte holds.copy;
+  zero = holds.zero;
+  carry = holds.carry;
+  sign = holds.sign;
+  compared = holds.compared;
 }
 with_byte_holds s r L span byte bytes holds inside = record {
-  a = holds.a; bc = holds.bc; de = holds.de; hl = halves_hold (high_of s.hl.words) span r.h byte (high_holds s.hl r.h r.l bytes.l holds.hl) inside; copy = copy_stays L s.copy r byte holds.copy;
-  zero = holds.zero; carry = holds.carry; sign = holds.sign; compared = holds.compared;
+  a = holds.a;
+  bc = holds.bc;
+  de = holds.de;
+  hl = halves_hold (high_of s.hl.words) span r.h byte (high_holds s.hl r.h r.l bytes.l holds.hl) inside;
+  copy = copy_stays L s.copy r byte holds.copy;
+  zero = holds.zero;
+  carry = holds.carry;
+  sign = holds.sign;
+  compared = holds.compared;
 }
 
 -- the copy of A when a pair is written
@@ -157,17 +207,41 @@ hl_copy E r high low same = same
 -- a pair is written
 pub bc_written_holds : (s : State) (r : Registers) (span : Span) (high low : ℕ) → HoldsRegisters s r → HoldsPair (pair_of_words span) high low → HoldsRegisters (with_words s Bc span) (record r { b = high; c = low })
 bc_written_holds s r span high low holds pair = record {
-  a = holds.a; bc = pair; de = holds.de; hl = holds.hl; copy = bc_copy s.copy r high low holds.copy; zero = holds.zero; carry = holds.carry; sign = holds.sign; compared = holds.compared;
+  a = holds.a;
+  bc = pair;
+  de = holds.de;
+  hl = holds.hl;
+  copy = bc_copy s.copy r high low holds.copy;
+  zero = holds.zero;
+  carry = holds.carry;
+  sign = holds.sign;
+  compared = holds.compared;
 }
 
 pub de_written_holds : (s : State) (r : Registers) (span : Span) (high low : ℕ) → HoldsRegisters s r → HoldsPair (pair_of_words span) high low → HoldsRegisters (with_words s De span) (record r { d = high; e = low })
 de_written_holds s r span high low holds pair = record {
-  a = holds.a; bc = holds.bc; de = pair; hl = holds.hl; copy = de_copy s.copy r high low holds.copy; zero = holds.zero; carry = holds.carry; sign = holds.sign; compared = holds.compared;
+  a = holds.a;
+  bc = holds.bc;
+  de = pair;
+  hl = holds.hl;
+  copy = de_copy s.copy r high low holds.copy;
+  zero = holds.zero;
+  carry = holds.carry;
+  sign = holds.sign;
+  compared = holds.compared;
 }
 
 pub hl_written_holds : (s : State) (r : Registers) (span : Span) (high low : ℕ) → HoldsRegisters s r → HoldsPair (pair_of_words span) high low → HoldsRegisters (with_words s Hl span) (record r { h = high; l = low })
 hl_written_holds s r span high low holds pair = record {
-  a = holds.a; bc = holds.bc; de = holds.de; hl = pair; copy = hl_copy s.copy r high low holds.copy; zero = holds.zero; carry = holds.carry; sign = holds.sign; compared = holds.compared;
+  a = holds.a;
+  bc = holds.bc;
+  de = holds.de;
+  hl = pair;
+  copy = hl_copy s.copy r high low holds.copy;
+  zero = holds.zero;
+  carry = holds.carry;
+  sign = holds.sign;
+  compared = holds.compared;
 }
 
 pub with_words_holds : (s : State) (cpu : Cpu) (pair : Pair) (span : Span) (n : ℕ) → HoldsRegisters s cpu.registers → Within span n → HoldsRegisters (with_words s pair span) (with_pair cpu pair n).registers
@@ -198,8 +272,15 @@ pub outcome_holds : (s : State) (r : Registers) (out : Outcome) (byte : ℕ) (ha
     HoldsRegisters (with_outcome s out) (record r { flags = flags_of_result byte half full })
 unfolding flags_of_result
 outcome_holds s r out byte half full holds makes = record {
-  a = holds.a; bc = holds.bc; de = holds.de; hl = holds.hl; copy = copy_same s.copy holds.copy;
-  zero = zero_known out.value byte makes.value; carry = makes.carry; sign = sign_known out.value byte makes.value; compared = tt;
+  a = holds.a;
+  bc = holds.bc;
+  de = holds.de;
+  hl = holds.hl;
+  copy = copy_same s.copy holds.copy;
+  zero = zero_known out.value byte makes.value;
+  carry = makes.carry;
+  sign = sign_known out.value byte makes.value;
+  compared = tt;
 } where
   copy_same : (copy : Register) → register_of r copy ≡ r.a → register_of (record r { flags = flags_of_result byte half full }) copy ≡ r.a
   copy_same A same = refl
@@ -223,25 +304,56 @@ flags_copy L r f same = same
 pub carry_holds : (s : State) (r : Registers) (known : Option Bool) (carry : Bool) → HoldsRegisters s r → IsKnown known carry →
     HoldsRegisters (with_carry s known) (record r { flags = record r.flags { carry = carry } })
 carry_holds s r known carry holds is = record {
-  a = holds.a; bc = holds.bc; de = holds.de; hl = holds.hl; copy = flags_copy s.copy r (record r.flags { carry = carry }) holds.copy;
-  zero = holds.zero; carry = is; sign = holds.sign; compared = tt;
+  a = holds.a;
+  bc = holds.bc;
+  de = holds.de;
+  hl = holds.hl;
+  copy = flags_copy s.copy r (record r.flags { carry = carry }) holds.copy;
+  zero = holds.zero;
+  carry = is;
+  sign = holds.sign;
+  compared = tt;
 }
 
 pub any_flags_hold : (s : State) (r : Registers) (f : Flags) → HoldsRegisters s r → HoldsRegisters (with_any_flags s) (record r { flags = f })
 any_flags_hold s r f holds = record {
-  a = holds.a; bc = holds.bc; de = holds.de; hl = holds.hl; copy = flags_copy s.copy r f holds.copy; zero = tt; carry = tt; sign = tt; compared = tt;
+  a = holds.a;
+  bc = holds.bc;
+  de = holds.de;
+  hl = holds.hl;
+  copy = flags_copy s.copy r f holds.copy;
+  zero = tt;
+  carry = tt;
+  sign = tt;
+  compared = tt;
 }
 
 -- a comparison is known
 pub compared_holds : (s : State) (r : Registers) (compared : Option ℕ) → HoldsRegisters s r → Compares compared r.a r.flags → HoldsRegisters (record s { compared = compared }) r
 compared_holds s r compared holds is = record {
-  a = holds.a; bc = holds.bc; de = holds.de; hl = holds.hl; copy = holds.copy; zero = holds.zero; carry = holds.carry; sign = holds.sign; compared = is;
+  a = holds.a;
+  bc = holds.bc;
+  de = holds.de;
+  hl = holds.hl;
+  copy = holds.copy;
+  zero = holds.zero;
+  carry = holds.carry;
+  sign = holds.sign;
+  compared = is;
 }
 
 -- another register is known to have A's byte
 pub copy_holds : (s : State) (r : Registers) (copy : Register) → HoldsRegisters s r → register_of r copy ≡ r.a → HoldsRegisters (record s { copy = copy }) r
 copy_holds s r copy holds same = record {
-  a = holds.a; bc = holds.bc; de = holds.de; hl = holds.hl; copy = same; zero = holds.zero; carry = holds.carry; sign = holds.sign; compared = holds.compared;
+  a = holds.a;
+  bc = holds.bc;
+  de = holds.de;
+  hl = holds.hl;
+  copy = same;
+  zero = holds.zero;
+  carry = holds.carry;
+  sign = holds.sign;
+  compared = holds.compared;
 }
 
 -- bytes of a pair are cut
@@ -261,17 +373,41 @@ cut_low_holds p span h l small holds inside =
 
 bc_is : (s : State) (r : Registers) (p : PairSpan) → HoldsRegisters s r → HoldsPair p r.b r.c → HoldsRegisters (record s { bc = p }) r
 bc_is s r p holds pair = record {
-  a = holds.a; bc = pair; de = holds.de; hl = holds.hl; copy = holds.copy; zero = holds.zero; carry = holds.carry; sign = holds.sign; compared = holds.compared;
+  a = holds.a;
+  bc = pair;
+  de = holds.de;
+  hl = holds.hl;
+  copy = holds.copy;
+  zero = holds.zero;
+  carry = holds.carry;
+  sign = holds.sign;
+  compared = holds.compared;
 }
 
 de_is : (s : State) (r : Registers) (p : PairSpan) → HoldsRegisters s r → HoldsPair p r.d r.e → HoldsRegisters (record s { de = p }) r
 de_is s r p holds pair = record {
-  a = holds.a; bc = holds.bc; de = pair; hl = holds.hl; copy = holds.copy; zero = holds.zero; carry = holds.carry; sign = holds.sign; compared = holds.compared;
+  a = holds.a;
+  bc = holds.bc;
+  de = pair;
+  hl = holds.hl;
+  copy = holds.copy;
+  zero = holds.zero;
+  carry = holds.carry;
+  sign = holds.sign;
+  compared = holds.compared;
 }
 
 hl_is : (s : State) (r : Registers) (p : PairSpan) → HoldsRegisters s r → HoldsPair p r.h r.l → HoldsRegisters (record s { hl = p }) r
 hl_is s r p holds pair = record {
-  a = holds.a; bc = holds.bc; de = holds.de; hl = pair; copy = holds.copy; zero = holds.zero; carry = holds.carry; sign = holds.sign; compared = holds.compared;
+  a = holds.a;
+  bc = holds.bc;
+  de = holds.de;
+  hl = pair;
+  copy = holds.copy;
+  zero = holds.zero;
+  carry = holds.carry;
+  sign = holds.sign;
+  compared = holds.compared;
 }
 
 cut_copy_holds : (s : State) (r : Registers) (copy : Register) (span : ByteSpan) → AreBytes r → HoldsRegisters s r → ByteWithin span (register_of r copy) → HoldsRegisters (cut_copy s copy span) r
@@ -285,7 +421,15 @@ cut_copy_holds s r L span bytes holds inside = hl_is s r (cut_low s.hl span) hol
 
 a_is : (s : State) (r : Registers) (span : ByteSpan) → HoldsRegisters s r → ByteWithin span r.a → HoldsRegisters (record s { a = span }) r
 a_is s r span holds inside = record {
-  a = inside; bc = holds.bc; de = holds.de; hl = holds.hl; copy = holds.copy; zero = holds.zero; carry = holds.carry; sign = holds.sign; compared = holds.compared;
+  a = inside;
+  bc = holds.bc;
+  de = holds.de;
+  hl = holds.hl;
+  copy = holds.copy;
+  zero = holds.zero;
+  carry = holds.carry;
+  sign = holds.sign;
+  compared = holds.compared;
 }
 
 pub cut_holds : (s : State) (r : Registers) (span : ByteSpan) → AreBytes r → HoldsRegisters s r → ByteWithin span r.a → HoldsRegisters (cut s span) r
@@ -302,6 +446,13 @@ any_pair_holds h l high low = record { words = any_word_within (word h l) (word_
 
 pub anything_holds : (r : Registers) → AreBytes r → HoldsRegisters anything r
 anything_holds r bytes = record {
-  a = any_byte_within r.a bytes.a; bc = any_pair_holds r.b r.c bytes.b bytes.c; de = any_pair_holds r.d r.e bytes.d bytes.e; hl = any_pair_holds r.h r.l bytes.h bytes.l;
-  copy = refl; zero = tt; carry = tt; sign = tt; compared = tt;
+  a = any_byte_within r.a bytes.a;
+  bc = any_pair_holds r.b r.c bytes.b bytes.c;
+  de = any_pair_holds r.d r.e bytes.d bytes.e;
+  hl = any_pair_holds r.h r.l bytes.h bytes.l;
+  copy = refl;
+  zero = tt;
+  carry = tt;
+  sign = tt;
+  compared = tt;
 }

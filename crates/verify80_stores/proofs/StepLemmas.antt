@@ -49,7 +49,15 @@ passed regions refused m after found fetched h =
 -- the registers of a state whose words are others
 pub other_words : (s : State) (w : Words) (r : Registers) → HoldsRegisters s r → HoldsRegisters (record s { words = w }) r
 other_words s w r holds = record {
-  a = holds.a; bc = holds.bc; de = holds.de; hl = holds.hl; copy = holds.copy; zero = holds.zero; carry = holds.carry; sign = holds.sign; compared = holds.compared;
+  a = holds.a;
+  bc = holds.bc;
+  de = holds.de;
+  hl = holds.hl;
+  copy = holds.copy;
+  zero = holds.zero;
+  carry = holds.carry;
+  sign = holds.sign;
+  compared = holds.compared;
 }
 
 module _ (regions : Areas) (ground : Ground regions) (code : List (Option ℕ)) where

@@ -1,5 +1,5 @@
 -- The stores of runs, by what is listed.
-use Rattle.std.specs.Prelude.{◌≡◌, ◌≢◌, ◌⊎◌, ℕ, zero, suc, ◌<◌, ◌&&◌, ◌==◌, Bool, true, false, not, List, [], ◌∷◌, All, Any, Contains, Option, None, Some, Ok, length, slice_get, refl, if◌then◌else◌}
+use Rattle.std.specs.Prelude.{◌≡◌, ◌≢◌, ◌⊎◌, ℕ, zero, suc, ◌<◌, ◌&&◌, ◌||◌, ◌==◌, Bool, true, false, not, List, [], ◌∷◌, All, Any, Contains, Option, None, Some, Ok, length, slice_get, refl, if◌then◌else◌}
 use Rattle.std.specs.List.{list_any}
 use Rattle.std.specs.Option.{option_map_or}
 use Rattle.std.proofs.lemmas.Bool.Decides.{nat_tests}
@@ -161,7 +161,12 @@ jump_is regions refused i next m to h = cc
 
 -- what is one of the declared targets isn't outside them
 pub any_by : (x : ℕ) (xs : List ℕ) → Contains xs x → list_any (λ y. y == x) xs ≡ true
-any_by x xs there = grind (arith, nat_tests, there)
+any_by x [] there = absurd (omega (arith, there.1))
+any_by x (y ∷ xs) (zero, inside, same) = (let e : y == x ≡ true = grind (arith, nat_tests, same) in rw e refl)
+any_by x (y ∷ xs) (suc k, inside, same) = go (y == x) (any_by x xs (k, omega (arith, inside), same)) where
+  go : (b : Bool) → list_any (λ y. y == x) xs ≡ true → (b || list_any (λ y. y == x) xs) ≡ true
+  go true rest = refl
+  go false rest = rest
 
 store_ends : (regions : Areas) (g : Option End) (refused : Bool) (found : Fetched) (m : Machine) (a : ℕ) → guard regions found.instr m.cpu ≡ g → guarded regions g refused found m ≡ Stop (StoreOutside a) →
     Contains (pointed_bytes found.instr m.cpu.registers) a × (in_data regions a ≡ false)
@@ -185,8 +190,8 @@ inside_targets None hl outside there = cc
 inside_targets (Some targets) hl outside there = (let any : list_any (λ y. y == hl) targets ≡ true = any_by hl targets there in let e : not (list_any (λ y. y == hl) targets) ≡ true = outside in cc)
 
 -- none is listed there
-none_listed : (at : ℕ) {stores : List OpenStore} → Any (λ store. store.at ≡ at) stores → All (λ store. store.at ≢ at) stores → ⊥
-none_listed at {stores} (k, store, inside, is, same) none = none k store inside (ap (λ (s : OpenStore). s.at) is ∙ same)
+none_listed : (at : ℕ) (stores : List OpenStore) → Any (λ store. store.at ≡ at) stores → All (λ store. store.at ≢ at) stores → ⊥
+none_listed at stores (k, store, inside, is, same) none = none k store inside (ap (λ (s : OpenStore). s.at) is ∙ same)
 
 module _ (image : Located) (bytes : ℕ) (reached : List (Option Fetched)) (table : List Placed) (marks : List Bool) (spans : List (Option Span)) (addresses : List ℕ) (stores : List OpenStore) (jumps open_jumps : List ℕ)
     (sound : NeverGoesWrongFromPowerOn image bytes) (walks : StaysOnWalks image) (are : AreReached (code_of image) reached) (whole : length reached ≡ 65536) (keeps : RunsKeepTo image table)
@@ -238,11 +243,11 @@ module _ (image : Located) (bytes : ℕ) (reached : List (Option Fetched)) (tabl
             subst (λ (s : Span). Within s address) (let e : whole_span.whole ≡ store.span = cc in e) within;
         unlisted = λ none. go here points.span points.is points.within whole_span.whole whole_span.there none (is_marked marks w.machine.cpu.pc) refl;
       } where
-    go : Here w found → (span : Span) → pointer_span found.instr keep.placed.state ≡ Some span → Within span address → (whole_one : Span) → entry_in (slice_get spans w.machine.cpu.pc) ≡ Some whole_one →
-        All (λ store. store.at ≢ w.machine.cpu.pc) stores → (b : Bool) → is_marked marks w.machine.cpu.pc ≡ b → in_data image.regions address ≡ true
-    go here span is inside whole_one there_one none true marked =
-        absurd (none_listed w.machine.cpu.pc (open_below.all w.machine.cpu.pc whole_one here.small (marked_so stores_by_pair w.machine.cpu.pc found here.there (by_any_pair found.instr keep.placed.state span is) marked) there_one) none)
-    go here span is inside whole_one there_one none false unmarked = (stays_here w found keep here.there unmarked).stores span is address inside
+        go : Here w found → (span : Span) → pointer_span found.instr keep.placed.state ≡ Some span → Within span address → (whole_one : Span) → entry_in (slice_get spans w.machine.cpu.pc) ≡ Some whole_one →
+            All (λ store. store.at ≢ w.machine.cpu.pc) stores → (b : Bool) → is_marked marks w.machine.cpu.pc ≡ b → in_data image.regions address ≡ true
+        go here span is inside whole_one there_one none true marked =
+            absurd (none_listed w.machine.cpu.pc stores (open_below.all w.machine.cpu.pc whole_one here.small (marked_so stores_by_pair w.machine.cpu.pc found here.there (by_any_pair found.instr keep.placed.state span is) marked) there_one) none)
+        go here span is inside whole_one there_one none false unmarked = (stays_here w found keep here.there unmarked).stores span is address inside
 
   -- a PCHL is listed, or goes to a declared target
   pub jump_there : (w : World) (found : Fetched) → StandsOnWalk image w → KeepsTo image table w → fetched_by image.regions w ≡ Some found → is_pchl found.instr ≡ true →

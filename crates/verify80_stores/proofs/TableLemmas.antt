@@ -1,5 +1,5 @@
 -- A table that fits what is reached fits the program.
-use Rattle.std.specs.Prelude.{◌≡◌, ℕ, zero, suc, ◌<◌, Bool, true, false, List, [], ◌∷◌, All, Option, None, Some, Ok, length, slice_get, slice_index_or, refl}
+use Rattle.std.specs.Prelude.{◌≡◌, ℕ, zero, suc, ◌<◌, Bool, true, false, List, [], ◌∷◌, All, Option, None, Some, Result, Ok, Err, IfOk, length, slice_get, slice_index_or, refl}
 use Rattle.std.proofs.Common.{subst, sym, ap, ◌∙◌, arith, get_or}
 use Rattle.decode80.specs.declared.fetching.Fetched.{Fetched}
 use Rattle.image80.specs.Image.{Located}
@@ -104,7 +104,30 @@ nothing_is_kept image reached table are whole ground length_stays everywhere = r
       let there = there_if_reached (code_of image) reached are w.machine.cpu.pc stands.reached in
       let says = everywhere w.machine.cpu.pc (omega (arith, there.within, whole)) in
       record {
-        place = says.place; placed = says.placed; there = says.there; at = says.here;
+        place = says.place;
+        placed = says.placed;
+        there = says.there;
+        at = says.here;
         holds = rw says.nothing (nothing_holds image.regions ground w.machine held);
-        code = code; whole = size;
+        code = code;
+        whole = size;
       }
+
+-- what holds of an answer, if there is one
+pub ok_more : {A E : Type 0} (P Q : A → Type 0) (r : Result A E) → ((x : A) → P x → Q x) → IfOk r P → IfOk r Q
+ok_more P Q (Ok x) more holds = more x holds
+ok_more P Q (Err e) more holds = holds
+
+-- what fits, under other names
+abbrev pub AllFit : List Bool → Areas → List (Option ℕ) → List (Option Fetched) → List Placed → Type 0
+AllFit marks regions bytes reached table =
+    ((place : ℕ) (placed : Placed) (found : Fetched) → slice_get table place ≡ Some placed → reached_at reached placed.at ≡ Some found → FitsAt bytes (declared_targets regions placed.at) table placed.state found) ×
+    ((at : ℕ) (found : Fetched) → at < 65536 → reached_at reached at ≡ Some found → LeadsBehind (λ entry. is_marked marks entry ≡ true) table found)
+
+pub moved : (marks marks' : List Bool) (regions regions' : Areas) (bytes bytes' : List (Option ℕ)) (reached : List (Option Fetched)) (table table' : List Placed) → marks ≡ marks' → regions ≡ regions' → bytes ≡ bytes' → table ≡ table' →
+    AllFit marks regions bytes reached table → AllFit marks' regions' bytes' reached table'
+moved marks marks' regions regions' bytes bytes' reached table table' one two three four fit =
+    subst (λ (m : List Bool). AllFit m regions' bytes' reached table') one
+    (subst (λ (r : Areas). AllFit marks r bytes' reached table') two
+    (subst (λ (b : List (Option ℕ)). AllFit marks regions b reached table') three
+    (subst (λ (t : List Placed). AllFit marks regions bytes reached t) four fit)))

@@ -1,8 +1,8 @@
 -- What holds of a state before a step of the machine, and what holds then after it. (This project's own.)
-use Rattle.std.specs.Prelude.{◌≡◌, ℕ, Bool, true, false, List, Option, Some, slice_index}
+use Rattle.std.specs.Prelude.{◌≡◌, ℕ, Bool, true, false, List, Option, None, Some, slice_index, if◌then◌else◌}
 use Rattle.decode80.specs.declared.flow.Flow.{Flow}
 use Rattle.decode80.specs.declared.flow.Flow.TheVariants.{Continues, Jumps, JumpsIf, JumpsToHl, Calls, CallsIf, Returns, ReturnsIf, Pushes, Pops, Exchanges, Halts}
-use Rattle.image80.specs.Regions.{in_code}
+use Rattle.image80.specs.Regions.{Areas, in_code}
 use Rattle.image80.specs.Image.{Located, memory_of}
 use Rattle.machine80.specs.declared.flags.Flags.{Flags}
 use Rattle.machine80.specs.Flags.{holds}
@@ -26,6 +26,10 @@ is_taken Halts flags = false
 -- a memory has the bytes of code
 abbrev pub ReadsCode : (code : List (Option ℕ)) → (memory : List ℕ) → Type 0
 ReadsCode code memory = (at byte : ℕ) → byte_at code at ≡ Some byte → slice_index memory at ≡ byte
+
+-- the byte of a memory at an address, if code is there
+abbrev pub code_in : Areas → (memory : List ℕ) → ℕ → Option ℕ
+code_in regions memory at = if in_code regions at then Some (slice_index memory at) else None
 
 -- the bytes are those of an image's code, by address
 abbrev pub AreCodeBytes : Located → (code : List (Option ℕ)) → Type 0

@@ -1,6 +1,6 @@
 -- What is printed of the stores of a program. (The text of an instruction is that of the Intel 8080 Assembly Language Programming
 -- Manual; the lines are this project's own.)
-use Rattle.std.specs.Prelude.{ℕ, zero, suc, ◌-◌, Bool, true, false, List, [], ◌∷◌, ◌++◌, length, codes}
+use Rattle.std.specs.Prelude.{ℕ, ◌-◌, ◌==◌, Bool, true, false, List, [], ◌∷◌, ◌++◌, length, codes, if◌then◌else◌}
 use Rattle.std.specs.Fmt.{decimal}
 use Rattle.std.specs.List.{flat_map}
 use Rattle.text80.specs.Digits.{word_text}
@@ -13,8 +13,7 @@ count_line shown all = codes "STORES " ++ decimal shown ++ (codes " OF " ++ deci
 
 -- how many of the PCHLs are shown to go to declared targets, if there is one
 abbrev pub jumps_line : (shown all : ℕ) → List ℕ
-jumps_line shown zero = []
-jumps_line shown (suc all) = codes "JUMPS " ++ decimal shown ++ (codes " OF " ++ decimal (suc all) ++ 10 ∷ [])
+jumps_line shown all = if all == 0 then [] else codes "JUMPS " ++ decimal shown ++ (codes " OF " ++ decimal all ++ 10 ∷ [])
 
 -- an open store: its address, its instruction, and the first and the last address that it may have
 unfoldable pub store_line : OpenStore → List ℕ

@@ -1,10 +1,11 @@
 //! The bytes of a program's code, by address.
 
 ghost use Rattle.std.specs.Prelude.{◌≡◌, ℕ, None, IfOk, length};
+ghost use Rattle.image80.specs.RegionMap.{Maps};
 ghost use Rattle.verify80_stores.specs.Following.{byte_at};
-ghost use Rattle.verify80_stores.specs.Steps.{AreCodeBytes};
+ghost use Rattle.verify80_stores.specs.Steps.{AreCodeBytes, code_in};
 
-use image80::{Image, RegionMap};
+use image80::{Image, RegionMap, Regions};
 use std::alloc::{AllocError, Global};
 
 /// For each address the byte that the image has there, if code is there.
@@ -18,11 +19,22 @@ pub(crate) fn code_bytes(alloc: Global, image: &Image) -> Result<Vec<Option<u8>>
     let memory = image.memory(alloc)?;
     let mut code = no_bytes(alloc, 65_536)?;
     for address in 0..65_536_usize {
-        if map.is_code(address as u16) {
-            code[address] = Some(memory[address]);
-        }
+        code[address] = code_byte(&image.regions, &map, &memory, address as u16);
     }
     Ok(code)
+}
+
+/// The byte of a memory at an address, if code is there.
+fn code_byte(regions: &Regions, map: &RegionMap, memory: &[u8], at: u16) -> Option<u8>
+    requires maps { Maps regions.now map.now }
+    requires whole { length memory.now ≡ 65536 }
+    ensures { result ≡ code_in regions.now memory.now at }
+{
+    if map.is_code(at) {
+        Some(memory[usize::from(at)])
+    } else {
+        None
+    }
 }
 
 /// No byte at any of `count` addresses.

@@ -135,6 +135,7 @@ fn states_of(
     ensures { IfOk result (λ table. IsKept image.now table.items) }
 {
     fitting_states_hold();
+    bytes_stay_bytes();
     code_data_and_stack_are_apart();
     let returning = mark_returning(alloc, rows)?;
     let code = code_bytes(alloc, image)?;

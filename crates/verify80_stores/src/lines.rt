@@ -1,6 +1,6 @@
 //! What is printed of the stores of a program.
 
-ghost use Rattle.std.specs.Prelude.{◌≡◌, ◌<◌, ◌++◌, IfOk, OnOk};
+ghost use Rattle.std.specs.Prelude.{◌≡◌, ◌++◌, IfOk, OnOk};
 ghost use Rattle.std.specs.List.{flat_map};
 ghost use Rattle.verify80_stores.specs.StoresText.{count_line, jumps_line, jump_line, store_line, stores_text_of};
 
@@ -23,10 +23,8 @@ pub fn stores_text(alloc: Global, stores: &Stores) -> Result<Vec<u8>, AllocError
     let all = stores.addresses.len();
     let mut text = count_text(alloc, all.saturating_sub(stores.open.len()), all)?;
     let jumps = stores.jumps.len();
-    if jumps > 0 {
-        let line = jumps_text(alloc, jumps.saturating_sub(stores.open_jumps.len()), jumps)?;
-        text.extend_from_slice(&line)?;
-    }
+    let line = jumps_text(alloc, jumps.saturating_sub(stores.open_jumps.len()), jumps)?;
+    text.extend_from_slice(&line)?;
     if !stores.sets_stack {
         text.extend_from_slice(b"SP NOT SET\n".as_slice())?;
     }
@@ -43,11 +41,13 @@ fn count_text(alloc: Global, shown: usize, all: usize) -> Result<Vec<u8>, AllocE
     Ok(line.into_bytes())
 }
 
-/// The line of the counts of PCHLs.
+/// The line of the counts of PCHLs, if there is one.
 fn jumps_text(alloc: Global, shown: usize, all: usize) -> Result<Vec<u8>, AllocError>
-    requires { 0 < all }
     ensures { IfOk result (λ text. text.items ≡ jumps_line shown all) }
 {
+    if all == 0 {
+        return Ok(Vec::new(alloc));
+    }
     let line = format!(in alloc; "JUMPS {shown} OF {all}\n")?;
     Ok(line.into_bytes())
 }

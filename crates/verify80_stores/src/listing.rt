@@ -89,21 +89,22 @@ pub(crate) fn open_jumps(
     let mut addresses = Vec::new(alloc);
     for at in 0..65_536_usize {
         let address = at as u16;
-        if is_at(Kind::Jump, reached, address) && is_marked(marks, address) {
+        if is_open_jump(reached, marks, address) {
             addresses.push(address)?;
         }
     }
     Ok(addresses)
 }
 
+/// Whether a PCHL is reached at an address that is marked as open.
+fn is_open_jump(reached: &[Option<Fetched>], marks: &[bool], at: u16) -> bool
+    ensures { result ≡ is_marked_at is_pchl reached.now marks.now at }
+{
+    is_at(Kind::Jump, reached, at) && is_marked(marks, at)
+}
+
 /// Whether an instruction in a state stores to data and jumps to a declared target, if it does so by a pair.
-fn stays_in(
-    regions: &Regions,
-    ends: &[u32],
-    targets: &[u16],
-    instr: Instr,
-    state: State,
-) -> bool
+fn stays_in(regions: &Regions, ends: &[u32], targets: &[u16], instr: Instr, state: State) -> bool
     requires { AreDataEnds regions.now ends.now }
     ensures stays { result ≡ true → StaysIn regions.now targets.now instr state }
     ensures leaves { result ≡ false → IsLeftOpen regions.now instr state }
@@ -159,6 +160,7 @@ fn is_left_open(
     ensures stays { result ≡ false → (found : Fetched) → reached_at reached.now placed.at ≡ Some found →
         StaysIn regions.now (declared_targets regions.now placed.at) found.instr placed.state }
     ensures leaves { result ≡ true → (found : Fetched) × ((reached_at reached.now placed.at ≡ Some found) × IsLeftOpen regions.now found.instr placed.state) }
+    ensures address { placed.at < 65536 }
 {
     match reached_at(reached, placed.at) {
         Some(found) => !stays_in(
@@ -186,8 +188,7 @@ pub(crate) fn spans_of(
     let mut spans = no_spans(alloc, 65_536)?;
     for placed in table {
         if let Some(span) = span_of(reached, *placed) {
-            let place = usize::from(placed.at);
-            spans[place] = Some(joined(spans[place], span));
+            spans[usize::from(placed.at)] = joined_at(&spans, placed.at, span);
         }
     }
     Ok(spans)
@@ -202,7 +203,8 @@ fn no_spans(alloc: Global, count: usize) -> Result<Vec<Option<Span>>, AllocError
 
 /// Where a state lets the instruction at its address store by a pair.
 fn span_of(reached: &[Option<Fetched>], placed: Placed) -> Option<Span>
-    ensures { result ≡ span_in (reached_at reached.now placed.at) placed.state }
+    ensures span { result ≡ span_in (reached_at reached.now placed.at) placed.state }
+    ensures address { placed.at < 65536 }
 {
     let found = reached_at(reached, placed.at)?;
     pointer_span(found.instr, placed.state)
@@ -210,13 +212,13 @@ fn span_of(reached: &[Option<Fetched>], placed: Placed) -> Option<Span>
 
 ghost use Rattle.verify80_stores.specs.Opening.{span_in};
 
-/// A span with these words too.
-fn joined(old: Option<Span>, span: Span) -> Span
-    ensures { result ≡ joined_span old span }
+/// The span at an address with these words too.
+fn joined_at(spans: &[Option<Span>], at: u16, span: Span) -> Option<Span>
+    ensures { result ≡ Some (joined_span (entry_in (slice_get spans.now at)) span) }
 {
-    match old {
-        Some(old) => old.hull(span),
-        None => span,
+    match span_at(spans, at) {
+        Some(old) => Some(old.hull(span)),
+        None => Some(span),
     }
 }
 

@@ -108,12 +108,41 @@ fn state_fits(
     let second = hint.saturating_add(1);
     match instr.flow() {
         Flow::Continues | Flow::Pushes | Flow::Pops | Flow::Exchanges => {
-            has(table, hints, hint, next, state_after(code, instr, false, next, state))
+            has(
+                table,
+                hints,
+                hint,
+                next,
+                state_after(code, instr, false, next, state),
+            )
         }
-        Flow::Jumps(to) => has(table, hints, hint, to, state_after(code, instr, false, next, state)),
+        Flow::Jumps(to) => has(
+            table,
+            hints,
+            hint,
+            to,
+            state_after(code, instr, false, next, state),
+        ),
         Flow::JumpsIf(condition, to) | Flow::CallsIf(condition, to) => {
-            has_after(table, hints, hint, to, code, found, true, given(condition, true, state))
-                && has_after(table, hints, second, next, code, found, false, given(condition, false, state))
+            has_after(
+                table,
+                hints,
+                hint,
+                to,
+                code,
+                found,
+                true,
+                given(condition, true, state),
+            ) && has_after(
+                table,
+                hints,
+                second,
+                next,
+                code,
+                found,
+                false,
+                given(condition, false, state),
+            )
         }
         Flow::JumpsToHl => has_at_each(
             table,
@@ -123,9 +152,24 @@ fn state_fits(
             state.hl.words,
             state_after(code, instr, false, next, state),
         ),
-        Flow::Calls(to) => has(table, hints, hint, to, state_after(code, instr, true, next, state)),
+        Flow::Calls(to) => has(
+            table,
+            hints,
+            hint,
+            to,
+            state_after(code, instr, true, next, state),
+        ),
         Flow::ReturnsIf(condition) => {
-            has_after(table, hints, hint, next, code, found, false, given(condition, false, state))
+            has_after(
+                table,
+                hints,
+                hint,
+                next,
+                code,
+                found,
+                false,
+                given(condition, false, state),
+            )
         }
         Flow::Returns | Flow::Halts => true,
     }
@@ -227,7 +271,14 @@ fn placed_fits(
         FitsAt code.now (declared_targets regions.now placed.at) table.now placed.state found }
 {
     match reached_at(reached, placed.at) {
-        Some(found) => state_fits(table, hints, code, targets_at(regions, placed.at), placed, found),
+        Some(found) => state_fits(
+            table,
+            hints,
+            code,
+            targets_at(regions, placed.at),
+            placed,
+            found,
+        ),
         None => true,
     }
 }

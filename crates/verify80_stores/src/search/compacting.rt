@@ -2,7 +2,7 @@
 
 use crate::fitting::Placed;
 use crate::search::landmarks::Landmarks;
-use crate::search::nodes::{NOWHERE, Node, Nodes};
+use crate::search::nodes::{NOWHERE, Node, Nodes, place_of};
 use crate::search::program::ReachedProgram;
 use crate::search::proposing::Proposal;
 use crate::states::State;
@@ -29,14 +29,14 @@ pub(crate) fn narrow(
         join_at(&mut led, nodes.holder(*place), State::ANY, nodes);
     }
     for number in 0..nodes.len() {
-        let place = number as u32;
+        let place = place_of(number);
         if let Some((node, found)) = followed(nodes, program, place) {
             join_ways(nodes, hints, program, node, found, &mut led);
         }
     }
     for number in 0..nodes.len() {
         if let Some(Some(state)) = led.get(number) {
-            nodes.set_state(number as u32, *state);
+            nodes.set_state(place_of(number), *state);
         }
     }
     Ok(())
@@ -112,9 +112,11 @@ pub(crate) fn compact(
         let held = new_place(&places, nodes.holder(*place));
         proposal.behind.push(held)?;
     }
-    proposal.hints.push(new_place(&places, nodes.holder(start)))?;
+    proposal
+        .hints
+        .push(new_place(&places, nodes.holder(start)))?;
     for number in 0..nodes.len() {
-        let place = number as u32;
+        let place = place_of(number);
         if let Some(node) = nodes.get(place) {
             if node.taken_by == place {
                 append_state(&mut proposal, nodes, hints, program, &places, node)?;
@@ -130,8 +132,8 @@ fn number_states(alloc: Global, nodes: &Nodes) -> Result<Vec<u32>, AllocError> {
     let mut count = 0_u32;
     for number in 0..nodes.len() {
         places.push(count)?;
-        if let Some(node) = nodes.get(number as u32) {
-            if node.taken_by == number as u32 {
+        if let Some(node) = nodes.get(place_of(number)) {
+            if node.taken_by == place_of(number) {
                 count = count.saturating_add(1);
             }
         }
@@ -156,7 +158,7 @@ fn append_state(
     places: &[u32],
     node: Node,
 ) -> Result<(), AllocError> {
-    let hint = proposal.hints.len() as u32;
+    let hint = place_of(proposal.hints.len());
     if let Some(found) = program.at(node.at) {
         for number in 0..program.count_ways(node.at, found.instr) {
             let held = nodes.holder(hint_at(hints, node.hint, number));

@@ -109,7 +109,11 @@ fn moved_through(instr: Instr, need: Units) -> Units {
         Instr::Inr(register) | Instr::Dcr(register) => {
             let counts = need.has(Units::of(register).and(Units::ZERO).and(Units::SIGN));
             let rest = need.without(COUNTED);
-            if counts { rest.and(Units::of(register)) } else { rest }
+            if counts {
+                rest.and(Units::of(register))
+            } else {
+                rest
+            }
         }
         Instr::InrMemory | Instr::DcrMemory => need.without(COUNTED),
         Instr::Lxi(Pair::Sp, _) | Instr::Sphl => need.without(Units::WORDS),
@@ -152,7 +156,11 @@ fn moved_through(instr: Instr, need: Units) -> Units {
                 .without(Units::WORDS)
                 .without(written)
                 .and(need.deeper());
-            if need.has(written) { rest.and(Units::FIRST) } else { rest }
+            if need.has(written) {
+                rest.and(Units::FIRST)
+            } else {
+                rest
+            }
         }
         Instr::Xthl => {
             let rest = need.without(Units::FIRST.and(Units::HL));

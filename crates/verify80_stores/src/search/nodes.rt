@@ -17,6 +17,11 @@ const FEWER: u32 = 16;
 /// How many states there are in all before each address has one.
 const TOO_MANY: usize = 300_000;
 
+/// The place of a number.
+pub(crate) fn place_of(number: usize) -> u32 {
+    u32::try_from(number).unwrap_or(NOWHERE)
+}
+
 /// A state at an address.
 #[derive(Clone, Copy)]
 pub(crate) struct Node {
@@ -219,7 +224,7 @@ impl Nodes {
 
     /// Appends a state, from which others have to be followed.
     fn append(&mut self, at: u16, state: State) -> Result<u32, AllocError> {
-        let place = self.nodes.len() as u32;
+        let place = place_of(self.nodes.len());
         let group = self.group(at);
         self.nodes.push(Node {
             at,

@@ -4,7 +4,7 @@ use crate::fitting::Placed;
 use crate::search::compacting::{compact, narrow};
 use crate::search::landmarks::Landmarks;
 use crate::search::needs::find_needs;
-use crate::search::nodes::{NOWHERE, Node, Nodes};
+use crate::search::nodes::{NOWHERE, Node, Nodes, place_of};
 use crate::search::program::ReachedProgram;
 use crate::states::State;
 use std::alloc::{AllocError, Global};
@@ -30,10 +30,7 @@ pub(crate) struct Proposal {
 ///
 /// # Errors
 /// `AllocError` only if memory runs out.
-pub(crate) fn propose(
-    alloc: Global,
-    program: ReachedProgram<'_>,
-) -> Result<Proposal, AllocError> {
+pub(crate) fn propose(alloc: Global, program: ReachedProgram<'_>) -> Result<Proposal, AllocError> {
     let needs = find_needs(alloc, program)?;
     let landmarks = Landmarks::new(alloc, program)?;
     let mut nodes = Nodes::new(alloc, needs, landmarks)?;
@@ -105,7 +102,7 @@ fn follow(
         for _ in 0..ways {
             hints.push(NOWHERE)?;
         }
-        nodes.set_hint(place, first as u32);
+        nodes.set_hint(place, place_of(first));
         first
     } else {
         node.hint as usize

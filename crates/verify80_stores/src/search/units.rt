@@ -10,25 +10,41 @@ pub(crate) struct Units(pub u16);
 
 impl Units {
     pub const NONE: Units = Units(0);
+
     pub const A: Units = Units(1);
+
     pub const B: Units = Units(2);
+
     pub const C: Units = Units(4);
+
     pub const D: Units = Units(8);
+
     pub const E: Units = Units(16);
+
     pub const H: Units = Units(32);
+
     pub const L: Units = Units(64);
+
     pub const HL: Units = Units(96);
+
     pub const ZERO: Units = Units(128);
+
     pub const CARRY: Units = Units(256);
+
     pub const SIGN: Units = Units(512);
     /// What A was compared with last, and A with it.
     pub const TEST: Units = Units(1024);
+
     pub const FIRST: Units = Units(2048);
+
     pub const SECOND: Units = Units(4096);
+
     pub const THIRD: Units = Units(8192);
+
     pub const FOURTH: Units = Units(16384);
     /// The words on the stack.
     pub const WORDS: Units = Units(30720);
+
     pub const ALL: Units = Units(32767);
 
     /// The part of a number below 15.
@@ -126,13 +142,21 @@ pub(crate) fn reduced(state: State, parts: Units) -> State {
         de: reduced_pair(state.de, parts.has(Units::D), parts.has(Units::E)),
         hl: reduced_pair(state.hl, parts.has(Units::H), parts.has(Units::L)),
         copy: if keeps_a { state.copy } else { Register::A },
-        zero: if parts.has(Units::ZERO) { state.zero } else { None },
+        zero: if parts.has(Units::ZERO) {
+            state.zero
+        } else {
+            None
+        },
         carry: if parts.has(Units::CARRY) {
             state.carry
         } else {
             None
         },
-        sign: if parts.has(Units::SIGN) { state.sign } else { None },
+        sign: if parts.has(Units::SIGN) {
+            state.sign
+        } else {
+            None
+        },
         compared: if parts.has(Units::TEST) {
             state.compared
         } else {

@@ -49,10 +49,14 @@ fn loaded(code: &[Option<u8>], at: Span) -> ByteSpan
 }
 
 /// The word that is read at an address.
+#[tactic(auto, unfolding(decode80::specs::Fetch::ahead))]
 fn loaded_word(code: &[Option<u8>], address: u16) -> Span
     ensures { result ≡ loaded_word code.now address }
 {
-    match (byte_at(code, address.wrapping_add(1)), byte_at(code, address)) {
+    match (
+        byte_at(code, address.wrapping_add(1)),
+        byte_at(code, address),
+    ) {
         (Some(high), Some(low)) => Span::alone(256 * u16::from(high) + u16::from(low)),
         _ => Span::ANY,
     }
@@ -225,9 +229,7 @@ fn popped_to(pair: StackPair, words: Span, state: State) -> State
         StackPair::Bc => state.with_words(Pair::Bc, words),
         StackPair::De => state.with_words(Pair::De, words),
         StackPair::Hl => state.with_words(Pair::Hl, words),
-        StackPair::Psw => state
-            .with_byte(Register::A, words.high())
-            .with_any_flags(),
+        StackPair::Psw => state.with_byte(Register::A, words.high()).with_any_flags(),
     }
 }
 
@@ -275,24 +277,39 @@ fn registers_after(code: &[Option<u8>], instr: Instr, state: State) -> State
         Instr::Rotate(rotation) => state
             .with_byte(Register::A, rotated(rotation, state.a, state.carry))
             .with_carry(None),
-        Instr::Daa => state
-            .with_byte(Register::A, ByteSpan::ANY)
-            .with_any_flags(),
+        Instr::Daa => state.with_byte(Register::A, ByteSpan::ANY).with_any_flags(),
         Instr::Cma => state.with_byte(Register::A, state.a.complemented()),
         Instr::Stc => state.with_carry(Some(true)),
         Instr::Cmc => state.with_carry(turned(state.carry)),
         Instr::Ldax(pair) => {
             state.with_byte(Register::A, loaded(code, index_words(state, pair)))
         }
-        Instr::Lda(address) => {
-            state.with_byte(Register::A, known_byte(byte_at(code, address)))
-        }
+        Instr::Lda(address) => { state.with_byte(Register::A, known_byte(byte_at(code, address))) }
         Instr::In(_) => state.with_byte(Register::A, ByteSpan::ANY),
         Instr::Lhld(address) => state.with_words(Pair::Hl, loaded_word(code, address)),
         Instr::Xchg => exchanged(state),
         Instr::Pop(pair) => popped_to(pair, known_word(state.words.first), state),
         Instr::Xthl => state.with_words(Pair::Hl, known_word(state.words.first)),
-        _ => state,
+        Instr::Store(_)
+        | Instr::MviMemory(_)
+        | Instr::Jmp(_)
+        | Instr::JumpIf(_, _)
+        | Instr::Call(_)
+        | Instr::CallIf(_, _)
+        | Instr::Ret
+        | Instr::ReturnIf(_)
+        | Instr::Rst(_)
+        | Instr::Push(_)
+        | Instr::Stax(_)
+        | Instr::Shld(_)
+        | Instr::Sta(_)
+        | Instr::Pchl
+        | Instr::Sphl
+        | Instr::Out(_)
+        | Instr::Ei
+        | Instr::Di
+        | Instr::Nop
+        | Instr::Hlt => state,
     }
 }
 
@@ -319,13 +336,7 @@ fn words_after(instr: Instr, taken: bool, next: u16, state: State) -> Words
             ..state.words
         },
         Instr::Call(_) | Instr::CallIf(_, _) | Instr::Rst(_) => called(taken, next, state.words),
-        Instr::ReturnIf(_) => {
-            if taken {
-                Words::NONE
-            } else {
-                state.words
-            }
-        }
+        Instr::ReturnIf(_) => { if taken { Words::NONE } else { state.words } }
         Instr::Ret
         | Instr::Sphl
         | Instr::Lxi(Pair::Sp, _)

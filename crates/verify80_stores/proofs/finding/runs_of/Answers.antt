@@ -10,6 +10,7 @@ returns-clause-runs c =
     let known : IsVouched vouched.image vouched.rows vouched.stack_bytes = c.image.ensures.vouched in
     let rules : AreRegions vouched.image.regions = subst (λ (i : Located). AreRegions i.regions) (c.behind-vouched.view_is ∙ c.image.ensures.image) c.stack.ensures.rules in
     record {
+      rules = rules;
       sound = c.images_never_go_wrong_from_power_on.ensures vouched.image vouched.stack_bytes rules known.accepted.fitted known.accepted.within;
       walks = c.accepted_images_stay_on_walks.ensures vouched.image vouched.rows vouched.stack_bytes rules known.accepted;
       promise = c.promise_is_kept_on_boards.ensures.promise vouched.image vouched.stack_bytes rules known.accepted.fitted known.accepted.within;

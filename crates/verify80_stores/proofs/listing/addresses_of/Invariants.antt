@@ -1,6 +1,6 @@
 use Rattle.verify80_stores.specs.Kinds.{is_of}
-use Rattle.verify80_stores.specs.Listing.{AreAllBelow}
+use Rattle.verify80_stores.specs.Listing.{AreAllBelow, is_at}
 use Rattle.verify80_stores.proofs.listing.addresses_of.Given as goal
 
 abbrev pub invariant-loop-at : goal.invariant-loop-at
-invariant-loop-at l = AreAllBelow l.reached (is_of l.kind) l.at l.addresses.items
+invariant-loop-at l = AreAllBelow (is_at (is_of l.kind) l.reached) l.at l.addresses.items

@@ -7,8 +7,8 @@ loop-at-preserved c =
     elim c.match-open_store.branch [
       | in-Some+in_ok-push w ↦
           rw (w.stores-is, w.in_ok-push.ensures.items)
-          (open_pushed c.args.regions.now c.args.reached.now c.args.table.now c.loop-at.at c.loop-at.stores.items w.in-Some.store c.loop-at.invariant w.in-Some.ensures.some.0 w.in-Some.ensures.some.1)
+          (open_pushed c.args.reached.now c.args.marks.now c.args.spans.now c.loop-at.at c.loop-at.stores.items w.in-Some.store c.loop-at.invariant w.in-Some.ensures.some.0 w.in-Some.ensures.some.1)
       | in_default w ↦
           rw w.stores-is
-          (open_kept c.args.regions.now c.args.reached.now c.args.table.now c.loop-at.at c.loop-at.stores.items c.loop-at.invariant w.in_default.ensures.none)
+          (open_kept c.args.reached.now c.args.marks.now c.args.spans.now c.loop-at.at c.loop-at.stores.items c.loop-at.invariant w.in_default.ensures.none)
     ]

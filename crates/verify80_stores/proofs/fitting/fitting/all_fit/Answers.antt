@@ -1,17 +1,22 @@
-use Rattle.std.proofs.Common.{◌≡◌, true, Some, refl, arith, below_more}
+use Rattle.std.proofs.Common.{◌≡◌, Some, refl, arith, subst, below_more}
 use Rattle.std.specs.Prelude.{slice_get}
+use Rattle.std.proofs.lemmas.Option.{slice_get_within}
 use Rattle.decode80.specs.declared.fetching.Fetched.{Fetched}
 use Rattle.verify80.specs.Looking.{declared_targets}
-use Rattle.verify80_stores.specs.Returning.{is_marked}
-use Rattle.verify80_stores.specs.Fitting.{entry_in, EntryFits}
+use Rattle.verify80_stores.specs.declared.fitting.fitting.Placed.{Placed}
+use Rattle.verify80_stores.specs.Fitting.{FitsAt}
+use Rattle.verify80_stores.specs.Listing.{reached_at}
+use Rattle.verify80_stores.proofs.VecLemmas.{for_this}
 use Rattle.verify80_stores.proofs.fitting.fitting.all_fit.Goals as goal
 
-pub loop-place-preserved : goal.loop-place-preserved
-loop-place-preserved c at found h e =
-    below_more
-    (λ at. (found : Fetched) → entry_in (slice_get c.args.reached.now at) ≡ Some found →
-    EntryFits (λ entry. is_marked c.args.returning.now entry ≡ true) (declared_targets c.args.regions.now at) c.args.table.now at found)
-    c.loop-place.place (λ k below found e. c.loop-place.invariant k found below e) (c.if-not-fits_at.ensures refl) at h found e
+pub loop-placed-preserved : goal.loop-placed-preserved
+loop-placed-preserved c place less =
+    below_more (λ place. (placed : Placed) (found : Fetched) → slice_get c.args.table.now place ≡ Some placed → reached_at c.args.reached.now placed.at ≡ Some found →
+    FitsAt c.args.code.now (declared_targets c.args.regions.now placed.at) c.args.table.now placed.state found)
+    c.loop-placed.placed-index c.loop-placed.invariant
+    (λ placed found there instr. for_this (λ (p : Placed). (found : Fetched) → reached_at c.args.reached.now p.at ≡ Some found → FitsAt c.args.code.now (declared_targets c.args.regions.now p.at) c.args.table.now p.state found)
+    c.args.table.now c.loop-placed.placed-index _ placed there (c.if-not-placed_fits.ensures refl) found instr)
+    place less
 
 pub returns : goal.returns
-returns c is at found h e = c.loop-place.invariant at found (omega arith) e
+returns c is place placed found there instr = c.loop-placed.invariant place (let inside = slice_get_within c.args.table.now place placed there in let enough = c.loop-placed-test.false in omega (arith, inside, enough)) placed found there instr

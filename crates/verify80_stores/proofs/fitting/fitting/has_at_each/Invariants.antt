@@ -1,6 +1,7 @@
 use Rattle.std.proofs.Common.{ℕ, ◌<◌, get_or}
+use Rattle.verify80_stores.specs.Span.{Within}
 use Rattle.verify80_stores.specs.Fitting.{Has}
 use Rattle.verify80_stores.proofs.fitting.fitting.has_at_each.Given as goal
 
-abbrev pub invariant-loop-at : goal.invariant-loop-at
-invariant-loop-at l = (k : ℕ) → k < l.at-index → Has l.table (get_or l.addresses k 0) l.words
+abbrev pub invariant-loop-to : goal.invariant-loop-to
+invariant-loop-to l = (k : ℕ) → k < l.to-index → Within l.hl (get_or l.targets k 0) → Has l.table (get_or l.targets k 0) l.state

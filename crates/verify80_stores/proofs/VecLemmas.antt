@@ -1,0 +1,51 @@
+-- Vectors by address, read and written.
+use Rattle.std.specs.Prelude.{◌≡◌, ◌≢◌, ◌⊎◌, ℕ, zero, suc, ◌<◌, ◌+◌, Bool, true, false, List, [], ◌∷◌, Option, None, Some, length, replicate, slice_get, slice_index_or, slice_set, refl}
+use Rattle.std.proofs.Common.{subst, sym, ap, ◌∙◌, inl, inr, arith, get_or, get_or-set_other}
+use Rattle.std.proofs.lemmas.List.{get_or-set_same}
+use Rattle.verify80_stores.specs.Following.{entry_in}
+use Rattle.verify80_stores.specs.Returning.{is_marked}
+use Rattle.verify80_stores.proofs.TableLemmas.{same_entry}
+
+-- an element that is got
+pub got : {A : Type 0} (xs : List A) (k : ℕ) (x : A) → slice_get xs k ≡ Some x → get_or xs k x ≡ x
+got [] k x h = cc
+got (y ∷ xs) zero x h = cc
+got (y ∷ xs) (suc k) x h = got xs k x h
+
+pub got_some : {A : Type 0} (xs : List A) (k : ℕ) (d : A) → k < length xs → slice_get xs k ≡ Some (get_or xs k d)
+got_some [] k d inside = absurd (omega arith)
+got_some (y ∷ xs) zero d inside = refl
+got_some (y ∷ xs) (suc k) d inside = got_some xs k d (omega (arith, inside))
+
+-- what holds of the element that is read at a place holds of the one that is got there
+pub for_this : {A : Type 0} (P : A → Type 0) (xs : List A) (k : ℕ) (d x : A) → slice_get xs k ≡ Some x → P (get_or xs k d) → P x
+for_this P [] k d x h holds = cc
+for_this P (y ∷ xs) zero d x h holds = subst P (let same : y ≡ x = cc in same) holds
+for_this P (y ∷ xs) (suc k) d x h holds = for_this P xs k d x h holds
+
+-- marks, none of which is set, and one of which is
+pub none_marked : (count at : ℕ) → is_marked (replicate count false) at ≡ false
+none_marked zero at = refl
+none_marked (suc n) zero = refl
+none_marked (suc n) (suc at) = none_marked n at
+
+pub nat_same : (a b : ℕ) → (a ≡ b) ⊎ (a ≢ b)
+nat_same a b = grind arith
+
+pub marked_here : (marks : List Bool) (at : ℕ) → at < length marks → is_marked (slice_set marks at true) at ≡ true
+marked_here marks at inside = get_or-set_same marks at true false inside
+
+pub marked_elsewhere : (marks : List Bool) (at other : ℕ) → other ≢ at → is_marked (slice_set marks at true) other ≡ is_marked marks other
+marked_elsewhere marks at other apart = get_or-set_other marks at other true false apart
+
+-- entries, one of which is set
+pub entry_here : {A : Type 0} (table : List (Option A)) (at : ℕ) (x : Option A) → at < length table → entry_in (slice_get (slice_set table at x) at) ≡ x
+entry_here table at x inside = same_entry (slice_set table at x) at ∙ get_or-set_same table at x None inside
+
+pub entry_elsewhere : {A : Type 0} (table : List (Option A)) (at other : ℕ) (x : Option A) → other ≢ at → entry_in (slice_get (slice_set table at x) other) ≡ entry_in (slice_get table other)
+entry_elsewhere table at other x apart = same_entry (slice_set table at x) other ∙ get_or-set_other table at other x None apart ∙ sym (same_entry table other)
+
+pub none_there : {A : Type 0} (count at : ℕ) → entry_in {A = A} (slice_get (replicate count None) at) ≡ None
+none_there zero at = refl
+none_there (suc n) zero = refl
+none_there (suc n) (suc at) = none_there n at

@@ -1,0 +1,9 @@
+use Rattle.std.proofs.Common.{◌≡◌, length}
+use Rattle.verify80_stores.specs.Steps.{AreCodeBytes}
+use Rattle.verify80_stores.proofs.code_bytes.code_bytes.Given as goal
+
+abbrev pub invariant-loop-address : goal.invariant-loop-address
+invariant-loop-address l = record {
+  whole : length l.code.items ≡ 65536;
+  are : AreCodeBytes l.image l.code.items;
+}
