@@ -14,14 +14,15 @@ On a board nothing stops a store through BC, DE or HL that leaves data. The firs
 line says how many of these stores (MOV M,r, MVI M, INR M, DCR M, STAX) are shown
 to stay in data, whatever the program reads and finds in memory, as long as none
 has left it. Then comes a line for each other one: its address, the instruction,
-and the first and the last address that it may have; it may be harmless. A line
-JUMP is for each PCHL. Those that no procedure reaches are left out. A line
-SP NOT SET says that SP must be at the stack's top before the program begins,
-since it may use SP before an LXI SP of its own sets it.
+and the first and the last address that it may have; it may be harmless. If there
+is a PCHL, a second line says how many of them are shown to go to a declared
+target, and a line JUMP is for each other one. What no procedure reaches is left
+out. A line SP NOT SET says that SP must be at the stack's top before the program
+begins, since it may use SP before an LXI SP of its own sets it.
 
-The exit status is 0 if no line follows the first, 1 if one does, or if the
-image is refused: then the refusal is printed alone, as by check. --names prints
-behind a line the name of its first address, as check does.
+The exit status is 0 if there is no line STORE, JUMP or SP NOT SET, 1 if there is
+one, or if the image is refused: then the refusal is printed alone, as by check.
+--names prints behind a line the name of its first address, as check does.
 
 Example: plm80 stores readings.img readings.regions
 

@@ -117,6 +117,9 @@ exchanged A = A
 exchanged B = B
 exchanged C = C
 
+abbrev pub exchanged_pairs : State → State
+exchanged_pairs s = record s { de = s.hl; hl = s.de; copy = exchanged s.copy }
+
 abbrev pub index_words : State → IndexPair → Span
 index_words s IndexBc = s.bc.words
 index_words s IndexDe = s.de.words
@@ -150,7 +153,7 @@ registers_after code (Ldax pair) s = with_byte s A (loaded code (index_words s p
 registers_after code (Lda address) s = with_byte s A (known_byte (byte_at code address))
 registers_after code (In port) s = with_byte s A any_byte
 registers_after code (Lhld address) s = with_words s Hl (loaded_word code address)
-registers_after code Xchg s = record s { de = s.hl; hl = s.de; copy = exchanged s.copy }
+registers_after code Xchg s = exchanged_pairs s
 registers_after code (Pop pair) s = popped_to pair (known_word s.words.first) s
 registers_after code Xthl s = with_words s Hl (known_word s.words.first)
 registers_after code instr s = s

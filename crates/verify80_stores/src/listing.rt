@@ -1,6 +1,6 @@
 //! What is listed of the instructions that are reached.
 
-ghost use Rattle.std.specs.Prelude.{◌≡◌, ◌⊎◌, ◌+◌, ◌<◌, ℕ, true, false, Some, All, IfOk, IfSome, IfNone, length, slice_get};
+ghost use Rattle.std.specs.Prelude.{◌≡◌, ◌⊎◌, ◌+◌, ◌<◌, ℕ, true, false, Some, Contains, IfOk, IfSome, IfNone, length, slice_get};
 ghost use Rattle.image80.specs.Regions.{in_data};
 ghost use Rattle.verify80.specs.Looking.{declared_targets, is_pchl};
 ghost use Rattle.verify80_stores.specs.declared.spans.span.Span.{Span};
@@ -9,7 +9,7 @@ ghost use Rattle.verify80_stores.specs.Following.{entry_in};
 ghost use Rattle.verify80_stores.specs.DataReach.{AreDataEnds};
 ghost use Rattle.verify80_stores.specs.Returning.{is_marked};
 ghost use Rattle.verify80_stores.specs.Pointers.{stores_by_pair};
-ghost use Rattle.verify80_stores.specs.Opening.{pointer_span, StaysIn, IsLeftOpen};
+ghost use Rattle.verify80_stores.specs.Opening.{joined_span, span_in, StaysIn, IsLeftOpen};
 ghost use Rattle.verify80_stores.specs.Listing.{AreAllBelow, AreOpenBelow, AreOpenMarks, AreSpans, IsListed, is_at, is_marked_at, reached_at};
 ghost use Rattle.verify80_stores.specs.Kinds.{is_of};
 
@@ -125,8 +125,6 @@ fn is_target(targets: &[u16], words: Span) -> bool
     words.is_alone() && targets.contains(&words.first)
 }
 
-ghost use Rattle.std.specs.Prelude.{Contains};
-
 /// Marks for the addresses at which a state of the table leaves the instruction open.
 ///
 /// # Errors
@@ -210,8 +208,6 @@ fn span_of(reached: &[Option<Fetched>], placed: Placed) -> Option<Span>
     pointer_span(found.instr, placed.state)
 }
 
-ghost use Rattle.verify80_stores.specs.Opening.{span_in};
-
 /// The span at an address with these words too.
 fn joined_at(spans: &[Option<Span>], at: u16, span: Span) -> Option<Span>
     ensures { result ≡ Some (joined_span (entry_in (slice_get spans.now at)) span) }
@@ -221,8 +217,6 @@ fn joined_at(spans: &[Option<Span>], at: u16, span: Span) -> Option<Span>
         None => Some(span),
     }
 }
-
-ghost use Rattle.verify80_stores.specs.Opening.{joined_span};
 
 /// The stores that are marked as open, with their spans.
 ///

@@ -1,7 +1,8 @@
 //! What becomes of a state at an instruction.
 
 ghost use Rattle.std.specs.Prelude.{◌≡◌};
-ghost use Rattle.verify80_stores.specs.Following.{byte_at, known_byte, known_word, loaded, loaded_word, moved, counted, resulted, tested, is_accumulator, operand_bytes, after_operation, added_carry, turned, exchanged, index_words, popped_to, registers_after, pushed_words, called, words_after, state_after};
+ghost use Rattle.verify80_stores.specs.Following.{byte_at, known_byte, known_word, loaded, loaded_word, moved, counted, resulted, tested, is_accumulator, operand_bytes, after_operation, added_carry, turned, exchanged_pairs, index_words, popped_to, registers_after, pushed_words, called, words_after, state_after};
+ghost use Rattle.verify80_stores.specs.State.{compared_with};
 
 use crate::spans::{ByteSpan, Outcome, Span, operated, rotated};
 use crate::states::state::{State, Words};
@@ -139,8 +140,6 @@ fn compared_with(byte: ByteSpan) -> Option<u8>
     }
 }
 
-ghost use Rattle.verify80_stores.specs.State.{compared_with};
-
 /// An operation on A and a byte, which may be A itself.
 fn after_operation(operation: Operation, itself: bool, byte: ByteSpan, state: State) -> State
     ensures { result ≡ after_operation operation itself byte state }
@@ -190,8 +189,8 @@ fn turned(carry: Option<bool>) -> Option<bool>
 }
 
 /// DE and HL are exchanged.
-fn exchanged(state: State) -> State
-    ensures { result ≡ registers_after [] Instr.Xchg state }
+fn exchanged_pairs(state: State) -> State
+    ensures { result ≡ exchanged_pairs state }
 {
     let copy = match state.copy {
         Register::D => Register::H,
@@ -207,9 +206,6 @@ fn exchanged(state: State) -> State
         ..state
     }
 }
-
-ghost use Rattle.std.specs.Prelude.{[]};
-ghost use Rattle.decode80.specs.declared.instr.Instr.TheVariants as Instr;
 
 /// What a pair that LDAX and STAX name may be.
 pub(crate) fn index_words(state: State, pair: IndexPair) -> Span
@@ -287,7 +283,7 @@ fn registers_after(code: &[Option<u8>], instr: Instr, state: State) -> State
         Instr::Lda(address) => { state.with_byte(Register::A, known_byte(byte_at(code, address))) }
         Instr::In(_) => state.with_byte(Register::A, ByteSpan::ANY),
         Instr::Lhld(address) => state.with_words(Pair::Hl, loaded_word(code, address)),
-        Instr::Xchg => exchanged(state),
+        Instr::Xchg => exchanged_pairs(state),
         Instr::Pop(pair) => popped_to(pair, known_word(state.words.first), state),
         Instr::Xthl => state.with_words(Pair::Hl, known_word(state.words.first)),
         Instr::Store(_)
