@@ -8,8 +8,14 @@ use std::alloc::{AllocError, Global};
 
 /// No state.
 pub(crate) const NOWHERE: u32 = u32::MAX;
-/// How many states an address has, at most.
-const STATES: u32 = 1024;
+/// How many states an address has, at most: a loop of 4,096 turns is walked through.
+const STATES: u32 = 4352;
+/// How many it has, at most, once some of them are no longer told apart.
+const JOINED: u32 = 256;
+/// How many lists the states are in, by what they say.
+const LISTS: usize = 524_288;
+/// How many of the states that came to an address last are looked at for one that says no more than another.
+const NEWEST: usize = 32;
 /// How many states there are in all before each address has fewer.
 const MANY: usize = 200_000;
 /// How many it has then.
@@ -31,6 +37,8 @@ pub(crate) struct Node {
     pub growths: u32,
     /// The next state at this address.
     pub next: u32,
+    /// The next state in the same list.
+    pub next_listed: u32,
     /// The state that has taken this one in: itself, if none has.
     pub taken_by: u32,
     pub is_waiting: bool,
@@ -43,6 +51,8 @@ pub(crate) struct Node {
 struct Group {
     first: u32,
     count: u32,
+    /// The state that says nothing, if there is one.
+    nothing: u32,
     /// The parts by which they are no longer told apart.
     joined: Units,
 }
@@ -52,6 +62,8 @@ struct Group {
 pub(crate) struct Nodes {
     nodes: Vec<Node>,
     groups: Vec<Group>,
+    /// The first state of each list.
+    lists: Vec<u32>,
     waiting: Vec<u32>,
     needs: Vec<Units>,
     landmarks: Landmarks,
@@ -72,11 +84,13 @@ impl Nodes {
         let none = Group {
             first: NOWHERE,
             count: 0,
+            nothing: NOWHERE,
             joined: Units::NONE,
         };
         Ok(Nodes {
             nodes: Vec::new(alloc),
             groups: vec![in alloc; none; 65_536]?,
+            lists: vec![in alloc; NOWHERE; LISTS]?,
             waiting: Vec::new(alloc),
             needs,
             landmarks,
@@ -151,7 +165,7 @@ impl Nodes {
         if let Some(place) = self.find_around(at, state) {
             return Ok(place);
         }
-        if self.group(at).count >= self.most() {
+        if self.group(at).count >= self.most(at) {
             self.join_some(alloc, at)?;
         }
         let joined = self.group(at).joined;
@@ -165,9 +179,13 @@ impl Nodes {
     }
 
     /// How many states an address has now, at most.
-    fn most(&self) -> u32 {
+    fn most(&self, at: u16) -> u32 {
         if self.nodes.len() < MANY {
-            STATES
+            if self.group(at).joined == Units::NONE {
+                STATES
+            } else {
+                JOINED
+            }
         } else if self.nodes.len() < TOO_MANY {
             FEWER
         } else {
@@ -182,6 +200,7 @@ impl Nodes {
             None => Group {
                 first: NOWHERE,
                 count: 0,
+                nothing: NOWHERE,
                 joined: Units::NONE,
             },
         }
@@ -194,15 +213,36 @@ impl Nodes {
         }
     }
 
-    /// A state at an address that says no more than this one.
+    /// A state at an address that says no more than this one, if one is found: the one that says nothing, the same one, or one of those
+    /// that came last.
     fn find_around(&self, at: u16, state: State) -> Option<u32> {
-        let mut place = self.group(at).first;
-        for _ in 0..self.nodes.len() {
+        let group = self.group(at);
+        if group.nothing != NOWHERE {
+            return Some(self.holder(group.nothing));
+        }
+        if let Some(place) = self.find_same(at, state) {
+            return Some(self.holder(place));
+        }
+        let mut place = group.first;
+        for _ in 0..NEWEST {
             let node = self.get(place)?;
             if state.is_inside(node.state) {
                 return Some(place);
             }
             place = node.next;
+        }
+        None
+    }
+
+    /// The same state at the address.
+    fn find_same(&self, at: u16, state: State) -> Option<u32> {
+        let mut place = *self.lists.get(list_of(at, state))?;
+        for _ in 0..self.nodes.len() {
+            let node = self.get(place)?;
+            if node.at == at && node.state == state {
+                return Some(place);
+            }
+            place = node.next_listed;
         }
         None
     }
@@ -226,11 +266,13 @@ impl Nodes {
     fn append(&mut self, at: u16, state: State) -> Result<u32, AllocError> {
         let place = place_of(self.nodes.len());
         let group = self.group(at);
+        let next_listed = self.put_first(list_of(at, state), place);
         self.nodes.push(Node {
             at,
             state,
             growths: 0,
             next: group.first,
+            next_listed,
             taken_by: place,
             is_waiting: true,
             hint: NOWHERE,
@@ -240,11 +282,28 @@ impl Nodes {
             Group {
                 first: place,
                 count: group.count.saturating_add(1),
+                nothing: if state == self.needed(at, State::ANY) {
+                    place
+                } else {
+                    group.nothing
+                },
                 joined: group.joined,
             },
         );
         self.waiting.push(place)?;
         Ok(place)
+    }
+
+    /// Puts a state first in a list, and gives the one that was first.
+    fn put_first(&mut self, list: usize, place: u32) -> u32 {
+        match self.lists.get_mut(list) {
+            Some(first) => {
+                let next = *first;
+                *first = place;
+                next
+            }
+            None => NOWHERE,
+        }
     }
 
     /// A state takes in another, and others have to be followed from it again.
@@ -266,7 +325,7 @@ impl Nodes {
     /// No longer tells apart the states at an address by the part that tells the most of them apart, until there are few enough.
     fn join_some(&mut self, alloc: Global, at: u16) -> Result<(), AllocError> {
         for _ in 0..PARTS {
-            if self.group(at).count < self.most() {
+            if self.group(at).joined != Units::NONE && self.group(at).count < self.most(at) {
                 break;
             }
             let part = self.part_that_tells_most(alloc, at)?;
@@ -318,6 +377,7 @@ impl Nodes {
             Group {
                 first: NOWHERE,
                 count: 0,
+                nothing: group.nothing,
                 joined,
             },
         );
@@ -360,6 +420,7 @@ impl Nodes {
                     Group {
                         first: place,
                         count: group.count.saturating_add(1),
+                        nothing: group.nothing,
                         joined,
                     },
                 );
@@ -367,4 +428,13 @@ impl Nodes {
             }
         }
     }
+}
+
+/// The list of a state.
+fn list_of(at: u16, state: State) -> usize {
+    let mut sum = u32::from(at);
+    for part in 0..PARTS {
+        sum = sum.wrapping_mul(0x9E37_79B1) ^ value_of(state, part);
+    }
+    (sum.wrapping_mul(0x9E37_79B1) / 8192) as usize % LISTS
 }
