@@ -86,6 +86,7 @@ test: need-rt need-python3
 	@tests/generated/explained --further $(PROGRAM)
 	@tests/generated/stored $(PROGRAM)
 	@tests/generated/boards $(PROGRAM)
+	@tests/generated/manners $(PROGRAM)
 	@tests/commands/replaced $(PROGRAM)
 	@tests/commands/completion $(PROGRAM)
 	@tests/commands/fault_page
@@ -101,6 +102,7 @@ commands: need-python3 build
 	@tests/generated/explained $(PROGRAM)
 	@tests/generated/stored $(PROGRAM)
 	@tests/generated/boards $(PROGRAM)
+	@tests/generated/manners $(PROGRAM)
 	@tests/commands/replaced $(PROGRAM)
 	@tests/commands/completion $(PROGRAM)
 	@tests/commands/fault_page
