@@ -1,6 +1,6 @@
 //! The image, its regions and the inputs of its run, and how far it runs: what several commands that run it take.
 
-use crate::status_of;
+use crate::{explain_end, status_of};
 use clap::ArgMatches;
 use image80::Image;
 use loader80::{Ended, InputsFault, SessionFault, Vouched, ending_text, read_inputs};
@@ -100,7 +100,7 @@ impl<'a> RunFiles<'a> {
             Ok(inputs) => Ok(inputs),
             Err(InputsFault::BadLine(number)) => {
                 let reported = console.report_file(self.inputs, SessionFault::Inputs(number));
-                console.explain_line(text, number);
+                console.explain_inputs(text, number);
                 Err(reported)
             }
             Err(InputsFault::Memory) => Err(console.report_memory()),
@@ -215,6 +215,7 @@ pub fn print_ending(
         return Err(console.report_memory());
     };
     console.print(&text)?;
+    explain_end(console, ended.end, ended.cpu.pc());
     Ok(status_of(ended.end))
 }
 
