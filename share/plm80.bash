@@ -4,6 +4,13 @@
 _plm80() {
     local word=${COMP_WORDS[COMP_CWORD]} before=${COMP_WORDS[COMP_CWORD - 1]} options
     COMPREPLY=()
+    # ADDRESS=FILE is three words if bash parts words at =, else one.
+    if [[ $word == '=' ]]; then
+        word=
+    elif [[ $before == --rom && $word == *=* ]]; then
+        mapfile -t COMPREPLY < <(compgen -P "${word%%=*}=" -f -- "${word#*=}")
+        return
+    fi
     case $before in
         --name | --code | --stack | --common | --data | --memory | --stack-size | --memory-size | --steps | --outputs | --first | \
             --length | --start | --fill | --last | --from | --count | --rom-range | --ram-range)
@@ -11,7 +18,7 @@ _plm80() {
             ;;
     esac
     if [[ $COMP_CWORD -eq 1 ]]; then
-        COMPREPLY=($(compgen -W 'lib link locate map module check explain calls stores run trace cover inputs absolute extract compare find suggest cases list regions help -h --help -V --version' -- "$word"))
+        COMPREPLY=($(compgen -W 'lib link locate map module check explain calls stores run trace cover inputs absolute extract compare find suggest cases list regions help --why -h --help -V --version' -- "$word"))
         return
     fi
     case ${COMP_WORDS[1]} in

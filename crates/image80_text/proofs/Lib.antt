@@ -1,3 +1,4 @@
 mod NearestLemmas
 mod TextLemmas
 mod ListingLemmas
+mod TableLemmas

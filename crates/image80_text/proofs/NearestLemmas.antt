@@ -1,14 +1,22 @@
 -- The nearest of some publics, and of one more.
-use Rattle.std.specs.Prelude.{◌≡◌, ℕ, ◌≤◌, ◌<◌, Bool, true, false, nat_le, Option, Some, None, List, [], ◌∷◌, ◌++◌, find, refl}
+use Rattle.std.specs.Prelude.{◌≡◌, ℕ, ◌≤◌, ◌<◌, Bool, true, false, nat_le, if◌then◌else◌, Option, Some, None, List, [], ◌∷◌, ◌++◌, find, refl}
 use Rattle.std.specs.List.{AllByRecursion}
 use Rattle.std.specs.Option.{option_or}
-use Rattle.std.proofs.Common.{◌∙◌, ap, sym, arith, cond}
+use Rattle.std.proofs.Common.{◌∙◌, ap, sym, subst, arith, cond, append_assoc, append-nil}
 use Rattle.std.proofs.lemmas.Bool.{leb-true, true≢false}
 use Rattle.std.proofs.lemmas.Bool.Decides.{nat_tests}
 use Rattle.std.proofs.lemmas.List.Folds.{find-append}
 use Rattle.image80.specs.declared.range.Range.{Range}
 use Rattle.omf_parts.specs.declared.symbols.Public.{Public}
-use Rattle.image80_text.specs.Names.{is_at, lies_below, nearer, nearer_of, IsNearest, IsNearestIn}
+use Rattle.image80_text.specs.Names.{is_at, lies_below, IsNearest, IsNearestIn}
+
+-- the nearer one of the nearest public so far and a later one
+abbrev pub nearer_of : Option Public → Public → Option Public
+nearer_of None p = Some p
+nearer_of (Some earlier) p = if nat_le p.offset earlier.offset then Some earlier else Some p
+
+abbrev pub nearer : Range → ℕ → Option Public → Public → Option Public
+nearer range address nearest p = if lies_below range address p then nearer_of nearest p else nearest
 
 all_more : (P : Public → Type 0) (xs : List Public) (x : Public) → AllByRecursion P xs → P x → AllByRecursion P (xs ++ x ∷ [])
 all_more P [] x all this = (this, tt)
@@ -83,3 +91,15 @@ module _ (range : Range) (address : ℕ) where
         | true ↦ taken seen best x nearest
         | false ↦ passed seen best x nearest
       ] refl
+
+  -- of any publics one is the nearest, or none is in the range
+  pub nearest_of_more : (left seen : List Public) (best : Option Public) → IsNearestIn range address seen best
+      → (o : Option Public) × IsNearestIn range address (seen ++ left) o
+  nearest_of_more [] seen best nearest =
+      (best, subst (λ (ps : List Public). IsNearestIn range address ps best) (sym (append-nil seen)) nearest)
+  nearest_of_more (x ∷ xs) seen best nearest =
+      subst (λ (ps : List Public). (o : Option Public) × IsNearestIn range address ps o) (append_assoc seen (x ∷ []) xs)
+      (nearest_of_more xs (seen ++ x ∷ []) (nearer range address best x) (nearest_more seen best x nearest))
+
+  pub nearest_exists : (publics : List Public) → (o : Option Public) × IsNearestIn range address publics o
+  nearest_exists publics = nearest_of_more publics [] None tt

@@ -6,6 +6,7 @@ use Rattle.std.specs.Option.{option_and_then, option_map, option_map_or, option_
 use Rattle.std.proofs.Math.Nat.{eq-or-lt_of_le}
 use Rattle.std.proofs.lemmas.Bool.{leb-true, eqb-true, and_parts}
 use Rattle.std.proofs.lemmas.Bool.Decides.{nat_tests}
+use Rattle.std.proofs.lemmas.Option.{same_Some}
 use Rattle.std.proofs.lemmas.List.Quantifiers.{position-Some}
 use Rattle.std.proofs.lemmas.List.Splits.{length-slice_split, join_with_byte-slice_split}
 use Rattle.text80.specs.Digits.{byte_text, word_text}
@@ -13,9 +14,9 @@ use Rattle.image80.specs.declared.range.Range.{Range}
 use Rattle.image80.specs.Range.{in_range}
 use Rattle.image80.specs.Lines.{is_line_feed, parts}
 use Rattle.omf_parts.specs.declared.symbols.Public.{Public}
-use Rattle.image80_text.specs.Names.{is_at, public_at, lies_below, IsNearest, IsNearestIn, IsNearestWithin, IsNearestOf}
-use Rattle.image80_text.specs.NameText.{nearest_from, nearest_of, above_text, name_text, digit_value, pair_value, address_at, instruction_address, address_behind, each_line, label_text, labelled_line, named_line, NoPublicsNoNames, PrintedAddressIsNamed}
-use Rattle.image80_text.proofs.NearestLemmas.{lies_at_most, none_found}
+use Rattle.image80_text.specs.Names.{is_at, public_at, lies_below, IsNearest, IsNearestIn, IsNearestWithin}
+use Rattle.image80_text.specs.NameText.{nearest_from, nearest_of, above_text, name_text, digit_value, pair_value, address_at, instruction_address, address_behind, each_line, label_text, labelled_line, named_line, NoPublicsNoNames, PrintedAddressIsNamed, NearestIsGreatest}
+use Rattle.image80_text.proofs.NearestLemmas.{lies_at_most, none_found, nearest_exists}
 
 all_so : (P Q : Public → Type 0) → ((x : Public) → P x → Q x) → (xs : List Public) → AllByRecursion P xs → AllByRecursion Q xs
 all_so P Q weaker [] all = tt
@@ -82,43 +83,41 @@ module _ (range : Range) (address : ℕ) where
       down_to publics p (address - range.first) address (omega arith) (omega arith) most (omega arith) near
 
 -- what is found passes the test
-found_passes : (test : Range → Bool) (ranges : List Range) (range : Range) → find test ranges ≡ Some range → test range ≡ true
-found_passes test [] range e = absurd cc
-found_passes test (x ∷ xs) range e =
-    elim (test x) as (λ b. test x ≡ b → cond b (Some x) (find test xs) ≡ Some range → test range ≡ true) [
-      | true ↦ λ passes is. ap test (sym (some_same x range is)) ∙ passes
-      | false ↦ λ fails is. found_passes test xs range is
+pub found_passes : {A : Type 0} (test : A → Bool) (xs : List A) (found : A) → find test xs ≡ Some found → test found ≡ true
+found_passes test [] found e = absurd cc
+found_passes test (x ∷ xs) found e =
+    elim (test x) as (λ b. test x ≡ b → cond b (Some x) (find test xs) ≡ Some found → test found ≡ true) [
+      | true ↦ λ passes is. ap test (sym (same_Some x found is)) ∙ passes
+      | false ↦ λ fails is. found_passes test xs found is
     ] refl e
-  where
-    some_same : (x y : Range) → Some x ≡ Some y → x ≡ y
-    some_same x y e = cc
 
-within : (publics : List Public) (address : ℕ) (r : Option Range) (o : Option Public)
-    → ((range : Range) → r ≡ Some range → in_range range address ≡ true) → IsNearestWithin r address publics o
-    → option_and_then (λ range. nearest_from publics (address - range.first) address) r ≡ o
-within publics address None o inside is = sym is
-within publics address (Some range) o inside is = nearest_in_range range address publics o (inside range refl) is
+-- the nearest public of the code is the greatest in its range
+greatest_in : (publics : List Public) (address : ℕ) (r : Option Range)
+    → ((range : Range) → r ≡ Some range → in_range range address ≡ true)
+    → IsNearestWithin r address publics (option_and_then (λ range. nearest_from publics (address - range.first) address) r)
+greatest_in publics address None inside = refl
+greatest_in publics address (Some range) inside =
+    let nearest = nearest_exists range address publics in
+    subst (λ (o : Option Public). IsNearestIn range address publics o)
+    (sym (nearest_in_range range address publics nearest.0 (inside range refl) nearest.1)) nearest.1
 
--- the nearest public of the code
-pub nearest_is : (code : List Range) (publics : List Public) (address : ℕ) (o : Option Public)
-    → IsNearestOf code address publics o → nearest_of code publics address ≡ o
-nearest_is code publics address o is =
-    within publics address (find (λ range. in_range range address) code) o
-    (λ range e. found_passes (λ range. in_range range address) code range e) is
+pub nearest_is_greatest : NearestIsGreatest
+nearest_is_greatest code publics address =
+    greatest_in publics address (find (λ range. in_range range address) code)
+    (λ range e. found_passes (λ range. in_range range address) code range e)
 
+-- the name of an address whose nearest public is known
 pub named_above : (code : List Range) (publics : List Public) (address : ℕ) (p : Public) (distance : ℕ)
-    → IsNearestOf code address publics (Some p) → distance ≡ address - p.offset
+    → nearest_of code publics address ≡ Some p → distance ≡ address - p.offset
     → above_text distance p ≡ name_text code publics address
 named_above code publics address p distance is far =
     ap (λ d. above_text d p) far
-    ∙ ap (λ (o : Option Public). option_map_or (λ p. above_text (address - p.offset) p) o [])
-    (sym (nearest_is code publics address (Some p) is))
+    ∙ ap (λ (o : Option Public). option_map_or (λ p. above_text (address - p.offset) p) o []) (sym is)
 
-pub not_named : (code : List Range) (publics : List Public) (address : ℕ) → IsNearestOf code address publics None
+pub not_named : (code : List Range) (publics : List Public) (address : ℕ) → nearest_of code publics address ≡ None
     → name_text code publics address ≡ []
 not_named code publics address is =
-    ap (λ (o : Option Public). option_map_or (λ p. above_text (address - p.offset) p) o [])
-    (nearest_is code publics address None is)
+    ap (λ (o : Option Public). option_map_or (λ p. above_text (address - p.offset) p) o []) is
 
 -- ---- lines
 
@@ -162,7 +161,7 @@ no_label : (o : Option ℕ) → option_map_or (label_text []) o [] ≡ []
 no_label None = refl
 no_label (Some address) = refl
 
-none_from : (down address : ℕ) → nearest_from [] down address ≡ None
+pub none_from : (down address : ℕ) → nearest_from [] down address ≡ None
 unfolding nearest_from
 none_from zero address = refl
 none_from (suc down) address = none_from down (address - 1)

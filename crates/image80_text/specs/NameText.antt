@@ -9,7 +9,7 @@ use Rattle.image80.specs.declared.range.Range.{Range}
 use Rattle.image80.specs.Range.{in_range}
 use Rattle.image80.specs.Lines.{parts}
 use Rattle.omf_parts.specs.declared.symbols.Public.{Public}
-use Rattle.image80_text.specs.Names.{public_at}
+use Rattle.image80_text.specs.Names.{public_at, IsNearestOf}
 
 -- ---- the name of an address
 
@@ -105,3 +105,9 @@ NoPublicsNoNames =
 -- An address that is printed in four digits is the one that is named.
 abbrev pub PrintedAddressIsNamed : Type 0
 PrintedAddressIsNamed = (address : ℕ) (rest : List ℕ) → address < 65536 → address_at (word_text address ++ rest) ≡ Some address
+
+-- The nearest public is the greatest at or below the address in its range of code, and of several there the first; none exactly
+-- where no public is in that range at or below the address, or no range has it.
+abbrev pub NearestIsGreatest : Type 0
+NearestIsGreatest =
+    (code : List Range) (publics : List Public) (address : ℕ) → IsNearestOf code address publics (nearest_of code publics address)

@@ -1,7 +1,7 @@
 -- Names for the addresses of an image. Its publics are declarations of segment 0, whose offsets are addresses.
 -- (8080 Object Module Formats, public declarations record; ISIS-II User's Guide, LOCATE without PURGE. That the nearest name is
 -- sought in one range of code is this project's own.)
-use Rattle.std.specs.Prelude.{◌≡◌, ℕ, ◌≤◌, ◌==◌, Bool, true, false, ◌&&◌, nat_le, if◌then◌else◌, Option, Some, None, List, find}
+use Rattle.std.specs.Prelude.{◌≡◌, ℕ, ◌≤◌, ◌==◌, Bool, true, false, ◌&&◌, nat_le, Option, Some, None, List, find}
 use Rattle.std.specs.List.{AllByRecursion}
 use Rattle.image80.specs.declared.range.Range.{Range}
 use Rattle.image80.specs.Range.{in_range}
@@ -37,11 +37,3 @@ IsNearestWithin (Some range) address publics answer = IsNearestIn range address 
 
 abbrev pub IsNearestOf : List Range → (address : ℕ) → List Public → Option Public → Type 0
 IsNearestOf code address publics answer = IsNearestWithin (find (λ range. in_range range address) code) address publics answer
-
--- the nearer one of the nearest public so far and a later one
-abbrev pub nearer_of : Option Public → Public → Option Public
-nearer_of None p = Some p
-nearer_of (Some earlier) p = if nat_le p.offset earlier.offset then Some earlier else Some p
-
-abbrev pub nearer : Range → ℕ → Option Public → Public → Option Public
-nearer range address nearest p = if lies_below range address p then nearer_of nearest p else nearest

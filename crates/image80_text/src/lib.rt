@@ -4,12 +4,11 @@
 //!
 //! | Item | What it is |
 //! |---|---|
-//! | [`public_at`] | the first public at an address |
-//! | [`nearest_public`] | the greatest public at or below an address in the same range of code, with the distance |
+//! | [`PublicTable`] | publics, looked up by address: the first one there, the nearest at or below it in the same range of code |
 //! | [`append_name`], [`append_label`] | the name of an address behind a line; the line of the public at an address |
 //! | [`name_line`], [`name_lines`] | a line, and the lines of a text, with the names of the addresses that stand in them behind |
 //! | [`label_lines`] | lines of instructions, with lines for their names before them |
-//! | [`laws`] | texts without names are as before, as a contract |
+//! | [`laws`] | texts without names are as before, the nearest public is the greatest, as contracts |
 //! | [`listing`] | the instructions of an image's code, a line each |
 //! | [`instruction_line`] | the line of one instruction |
 //! | [`append_columns`] | the columns before the text of a line |
@@ -17,16 +16,14 @@
 #![tactic(auto)]
 
 mod addresses;
-mod exact;
 pub mod laws;
 mod lines;
 mod list_text;
 pub mod listing_laws;
 mod naming;
-mod nearest;
+mod table;
 
-pub use exact::public_at;
 pub use lines::{label_lines, name_line, name_lines};
 pub use list_text::{append_columns, instruction_line, listing};
 pub use naming::{append_label, append_name};
-pub use nearest::nearest_public;
+pub use table::PublicTable;

@@ -5,9 +5,9 @@ ghost use Rattle.image80_text.specs.NameText.{labelled_line, labelled_text, name
 
 use crate::addresses::{address_behind, instruction_address};
 use crate::naming::{append_label, append_name};
+use crate::table::PublicTable;
 use image80::Range;
 use image80::lines::first_line;
-use omf_parts::Public;
 use std::alloc::{AllocError, Global};
 
 /// Lines of instructions, each with a line before it that has the name of the first public at its address, if there is one. The
@@ -18,7 +18,7 @@ use std::alloc::{AllocError, Global};
 /// `AllocError` only if memory runs out.
 pub fn label_lines(
     alloc: Global,
-    publics: &[Public],
+    publics: &PublicTable,
     numbered: bool,
     text: &[u8],
 ) -> Result<Vec<u8>, AllocError>
@@ -37,7 +37,7 @@ pub fn label_lines(
 
 /// Appends the line of an instruction, with the line of its name before it.
 fn append_labelled(
-    publics: &[Public],
+    publics: &PublicTable,
     numbered: bool,
     line: &[u8],
     text: &mut Vec<u8>,
@@ -59,7 +59,7 @@ fn append_labelled(
 /// `AllocError` only if memory runs out.
 pub fn name_lines(
     alloc: Global,
-    publics: &[Public],
+    publics: &PublicTable,
     code: &[Range],
     word: &[u8],
     text: &[u8],
@@ -80,7 +80,7 @@ pub fn name_lines(
 /// Appends a line, with the name of the address that follows its first word, if it is this one.
 fn append_named(
     alloc: Global,
-    publics: &[Public],
+    publics: &PublicTable,
     code: &[Range],
     word: &[u8],
     line: &[u8],
@@ -101,7 +101,7 @@ fn append_named(
 /// `AllocError` only if memory runs out.
 pub fn name_line(
     alloc: Global,
-    publics: &[Public],
+    publics: &PublicTable,
     code: &[Range],
     address: u16,
     line: &[u8],

@@ -3,8 +3,7 @@
 ghost use Rattle.std.specs.Prelude.{◌≡◌, ◌++◌, OnOk};
 ghost use Rattle.image80_text.specs.NameText.{above_text, distance_text, label_text, name_text};
 
-use crate::exact::public_at;
-use crate::nearest::nearest_public;
+use crate::table::PublicTable;
 use image80::Range;
 use omf_parts::Public;
 use std::alloc::{AllocError, Global};
@@ -17,14 +16,14 @@ use std::alloc::{AllocError, Global};
 /// `AllocError` only if memory runs out.
 pub fn append_name(
     alloc: Global,
-    publics: &[Public],
+    publics: &PublicTable,
     code: &[Range],
     address: u16,
     text: &mut Vec<u8>,
 ) -> Result<(), AllocError>
     ensures { OnOk result (text.new.items ≡ text.old.items ++ name_text code.now publics.now address) }
 {
-    match nearest_public(publics, code, address) {
+    match publics.nearest(code, address) {
         Some((public, distance)) => append_above(alloc, public, distance, text),
         None => Ok(()),
     }
@@ -59,10 +58,14 @@ fn append_distance(alloc: Global, distance: u16, text: &mut Vec<u8>) -> Result<(
 ///
 /// # Errors
 /// `AllocError` only if memory runs out.
-pub fn append_label(publics: &[Public], address: u16, text: &mut Vec<u8>) -> Result<(), AllocError>
+pub fn append_label(
+    publics: &PublicTable,
+    address: u16,
+    text: &mut Vec<u8>,
+) -> Result<(), AllocError>
     ensures { OnOk result (text.new.items ≡ text.old.items ++ label_text publics.now address) }
 {
-    if let Some(public) = public_at(publics, address) {
+    if let Some(public) = publics.at(address) {
         text.extend_from_slice(public.name.bytes())?;
         text.push(b'\n')?;
     }

@@ -17,7 +17,9 @@ use Rattle.machine80.specs.Flags.{flags_byte}
 use Rattle.machine80.specs.Ports.{next_input}
 use Rattle.machine80.specs.Step.{Machine, fetch}
 use Rattle.machine80.specs.World.{World}
+use Rattle.omf_parts.specs.declared.symbols.Public.{Public}
 use Rattle.image80_text.specs.Listing.{columns}
+use Rattle.image80_text.specs.NameText.{label_text}
 
 -- the byte that an instruction takes from a port, if one waits there, or gives to one
 abbrev pub port_byte : Instr → Machine → Option ℕ
@@ -66,7 +68,12 @@ abbrev pub number_text : (numbered : Bool) → ℕ → List ℕ
 number_text true number = decimal number ++ 32 ∷ []
 number_text false number = []
 
--- the line of a world's next instruction; none if the run has ended before
-abbrev pub world_line : Areas → (numbered : Bool) → ℕ → Option World → List ℕ
-world_line regions numbered number None = []
-world_line regions numbered number (Some w) = number_text numbered number ++ machine_line regions w.machine
+-- what stands before an instruction: the line of its name, if its address has one, and its number
+abbrev pub front_text : List Public → (numbered : Bool) → (at number : ℕ) → List ℕ
+front_text publics numbered at number = label_text publics at ++ number_text numbered number
+
+-- the line of a world's next instruction, with that of its name before it; none if the run has ended before
+abbrev pub world_line : Areas → List Public → (numbered : Bool) → ℕ → Option World → List ℕ
+world_line regions publics numbered number None = []
+world_line regions publics numbered number (Some w) =
+    front_text publics numbered w.machine.cpu.pc number ++ machine_line regions w.machine

@@ -2,6 +2,7 @@
 use Rattle.std.specs.Prelude.{◌≡◌, ℕ, ◌+◌, ◌-◌, ◌<◌, ◌≤◌, Bool, List, ◌++◌, Option, None, Some, Result, Ok, Err, min}
 use Rattle.std.specs.List.{flat_map, range_with_len}
 use Rattle.std.specs.Io.KnownBytes.{Appends}
+use Rattle.omf_parts.specs.declared.symbols.Public.{Public}
 use Rattle.image80.specs.Regions.{Areas}
 use Rattle.machine80.specs.declared.end.End.{End}
 use Rattle.machine80.specs.Step.{Machine}
@@ -12,13 +13,13 @@ use Rattle.loader80_trace.specs.declared.fault.TraceFault.{TraceFault}
 use Rattle.loader80_trace.specs.declared.fault.TraceFault.TheVariants.{Write, Memory}
 use Rattle.loader80_trace.specs.Lines.{world_line}
 
--- the line of the world after a given number of steps
-abbrev pub step_line : Areas → Option ℕ → World → (numbered : Bool) → ℕ → List ℕ
-step_line regions most start numbered number = world_line regions numbered number (world_at regions most start number)
+-- the line of the world after a given number of steps, with that of its name before it
+abbrev pub step_line : Areas → Option ℕ → World → List Public → (numbered : Bool) → ℕ → List ℕ
+step_line regions most start publics numbered number = world_line regions publics numbered number (world_at regions most start number)
 
 -- the lines of `count` worlds, from the one after `from` steps on: line i is that of the world after `from` + i steps
-unfoldable pub run_lines : Areas → Option ℕ → World → (numbered : Bool) → (from count : ℕ) → List ℕ
-run_lines regions most start numbered from count = flat_map (step_line regions most start numbered) (range_with_len from count)
+unfoldable pub run_lines : Areas → Option ℕ → World → List Public → (numbered : Bool) → (from count : ℕ) → List ℕ
+run_lines regions most start publics numbered from count = flat_map (step_line regions most start publics numbered) (range_with_len from count)
 
 -- how many of `count` worlds from the one after `from` steps on come within a given number of steps
 abbrev pub count_within : (steps from count : ℕ) → ℕ

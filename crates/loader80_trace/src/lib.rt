@@ -4,7 +4,7 @@
 //!
 //! | Item | What it is |
 //! |---|---|
-//! | [`write_lines`], [`Limits`], [`Span`], [`TraceFault`] | the lines of some of a run's instructions, written as they come |
+//! | [`write_lines`], [`Limits`], [`Span`], [`LineForm`], [`TraceFault`] | the lines of some of a run's instructions, written as they come |
 //! | [`finish`], [`Finished`] | a run to its end, with what it leaves |
 //! | [`count_steps`], [`Counts`] | how often a run begins the instruction at each address |
 //! | [`memory_bytes`] | the bytes of a memory |
@@ -29,5 +29,6 @@ pub use covering::{cover, list_reached};
 pub use fault::TraceFault;
 pub use finishing::{Finished, finish};
 pub use limits::{Limits, Span};
+pub use line::LineForm;
 pub use memory::memory_bytes;
 pub use tracing::write_lines;

@@ -5,10 +5,10 @@ ghost use Rattle.decode80.specs.Spelling.{spelling};
 ghost use Rattle.text80.specs.Digits.{byte_text, word_text};
 ghost use Rattle.decode80.specs.Text.{text};
 ghost use Rattle.image80_text.specs.Listing.{columns};
-ghost use Rattle.loader80_trace.specs.Lines.{byte_shown, filled, instruction_line, number_text, registers_text};
+ghost use Rattle.loader80_trace.specs.Lines.{byte_shown, filled, front_text, instruction_line, number_text, registers_text};
 
 use decode80::{Instr, Pair, encode, write_text};
-use image80_text::append_columns;
+use image80_text::{PublicTable, append_columns, append_label};
 use machine80::Cpu;
 use std::alloc::{AllocError, Global};
 use std::fmt::Write;
@@ -104,8 +104,32 @@ fn append_word(name: &[u8], word: u16, line: &mut Vec<u8>) -> Result<(), AllocEr
     line.extend_from_slice(&word_digits(word))
 }
 
+/// What stands before an instruction.
+#[derive(Clone, Copy)]
+pub struct LineForm<'a> {
+    /// Whether it is the number of steps that were made before it.
+    pub numbered: bool,
+    /// The publics by which addresses are named, each on a line of its own; it may have none.
+    pub publics: &'a PublicTable,
+}
+
+/// Appends what stands before an instruction: the line of its name, if its address has one, and its number, if lines are numbered.
+pub(crate) fn append_front(
+    alloc: Global,
+    publics: &PublicTable,
+    numbered: bool,
+    at: u16,
+    number: u64,
+    line: &mut Vec<u8>,
+) -> Result<(), AllocError>
+    ensures { OnOk result (line.new.items ≡ line.old.items ++ front_text publics.now numbered at number) }
+{
+    append_label(publics, at, line)?;
+    append_number(alloc, numbered, number, line)
+}
+
 /// Appends the number of a line, if lines are numbered.
-pub(crate) fn append_number(
+fn append_number(
     alloc: Global,
     numbered: bool,
     number: u64,

@@ -8,14 +8,14 @@ ghost use Rattle.machine80.specs.Step.{PortsAfter, with_ports};
 ghost use Rattle.machine80.specs.World.{World, world_at_start};
 ghost use Rattle.machine80.specs.Run.{world_of};
 ghost use Rattle.machine80_quick.specs.Quick.{StaysRight};
-ghost use Rattle.loader80_trace.specs.Lines.{byte_seen, machine_line, number_text};
+ghost use Rattle.loader80_trace.specs.Lines.{byte_seen, machine_line};
 ghost use Rattle.loader80_trace.specs.Finished.{AreOpen, HasReached, MakesStep};
 ghost use Rattle.loader80_trace.specs.Traces.{AppendsFront, IsTraced, count_within, run_lines, trace_failures};
 
 use crate::fault::TraceFault;
 use crate::finishing::finish;
 use crate::limits::{Limits, Span};
-use crate::line::{append_line, append_number};
+use crate::line::{LineForm, append_front, append_line};
 use crate::stepping::{Rules, make_step};
 use decode80::{Fetched, Instr};
 use image80::RegionMap;
@@ -27,8 +27,8 @@ use std::alloc::{AllocError, Global};
 
 /// Writes the lines of some instructions of a run, each as it comes: the run of a vouched image from its start with these inputs.
 /// A line has the instruction as a listing has it, the byte that it takes from a port or gives to one, and the registers before
-/// it; if lines are numbered, the number of steps that were made before it comes first. After the last step that the limits
-/// let it make, the next instruction has a line too.
+/// it; if lines are numbered, the number of steps that were made before it comes first. Before the line of an instruction whose
+/// address has a name there is a line for that. After the last step that the limits let it make, the next instruction has a line too.
 ///
 /// The answer is how the run ended, if its last line is among these or before them, and `None` if the lines ran out first.
 ///
@@ -43,18 +43,18 @@ pub fn write_lines<K: Sink>(
     inputs: Inputs,
     limits: Limits,
     span: Span,
-    numbered: bool,
+    form: LineForm<'_>,
     out: &mut K,
 ) -> Result<Option<Ended>, TraceFault>
     requires { K.failed out.old < u64.MAX }
     ensures lines { OnOk result (let start = world_at_start vouched.now.image (lists_of inputs.pairs.items) [] in
-        Appends (K.written out.old) (K.written out.new) (run_lines vouched.now.image.regions (Some limits.outputs) start numbered
-        span.from (count_within limits.steps span.from span.count))) }
+        Appends (K.written out.old) (K.written out.new) (run_lines vouched.now.image.regions (Some limits.outputs) start
+        form.entry.publics.now form.entry.numbered span.from (count_within limits.steps span.from span.count))) }
     ensures traced { IfOk result (let start = world_at_start vouched.now.image (lists_of inputs.pairs.items) [] in
         IsTraced vouched.now.image.regions (Some limits.outputs) start limits.steps span.from span.count) }
     ensures front { OnErr result (let start = world_at_start vouched.now.image (lists_of inputs.pairs.items) [] in
         AppendsFront (K.written out.old) (K.written out.new) (run_lines vouched.now.image.regions (Some limits.outputs) start
-        numbered span.from (count_within limits.steps span.from span.count))) }
+        form.entry.publics.now form.entry.numbered span.from (count_within limits.steps span.from span.count))) }
     ensures failures { K.failed out.new ≡ K.failed out.old + trace_failures result }
 {
     images_that_never_go_wrong_stay_right();
@@ -76,7 +76,7 @@ pub fn write_lines<K: Sink>(
     let lines = Lines {
         span,
         steps: limits.steps,
-        numbered,
+        form,
     };
     write_each(
         alloc,
@@ -91,18 +91,18 @@ pub fn write_lines<K: Sink>(
 
 /// Which lines are written.
 #[derive(Clone, Copy)]
-struct Lines {
+struct Lines<'a> {
     span: Span,
     /// The run's steps at most.
     steps: u64,
-    numbered: bool,
+    form: LineForm<'a>,
 }
 
 /// Writes the lines from a machine on to which the run has come.
 fn write_each<K: Sink>(
     alloc: Global,
     rules: &Rules<'_>,
-    lines: Lines,
+    lines: Lines<'_>,
     first: Cpu,
     bus: &mut PagedBus,
     ports: &mut ListPorts,
@@ -113,16 +113,16 @@ fn write_each<K: Sink>(
     requires open { AreOpen rules.now.outputs ports.old }
     requires within { lines.span.from ≤ lines.steps }
     ensures lines { OnOk result ((start : World) → StaysRight rules.now.regions.now start →
-        HasReached rules.now.regions.now rules.now.outputs start lines.span.from (with_ports first bus.old ports.old) →
+        HasReached rules.now.regions.now rules.now.outputs start lines.entry.span.from (with_ports first bus.old ports.old) →
         Appends (K.written out.old) (K.written out.new) (run_lines rules.now.regions.now (Some rules.now.outputs) start
-        lines.numbered lines.span.from (count_within lines.steps lines.span.from lines.span.count))) }
+        lines.entry.form.publics.now lines.entry.form.numbered lines.entry.span.from (count_within lines.entry.steps lines.entry.span.from lines.entry.span.count))) }
     ensures traced { IfOk result (λ traced. (start : World) → StaysRight rules.now.regions.now start →
-        HasReached rules.now.regions.now rules.now.outputs start lines.span.from (with_ports first bus.old ports.old) →
-        IsTraced rules.now.regions.now (Some rules.now.outputs) start lines.steps lines.span.from lines.span.count traced) }
+        HasReached rules.now.regions.now rules.now.outputs start lines.entry.span.from (with_ports first bus.old ports.old) →
+        IsTraced rules.now.regions.now (Some rules.now.outputs) start lines.entry.steps lines.entry.span.from lines.entry.span.count traced) }
     ensures front { OnErr result ((start : World) → StaysRight rules.now.regions.now start →
-        HasReached rules.now.regions.now rules.now.outputs start lines.span.from (with_ports first bus.old ports.old) →
+        HasReached rules.now.regions.now rules.now.outputs start lines.entry.span.from (with_ports first bus.old ports.old) →
         AppendsFront (K.written out.old) (K.written out.new) (run_lines rules.now.regions.now (Some rules.now.outputs) start
-        lines.numbered lines.span.from (count_within lines.steps lines.span.from lines.span.count))) }
+        lines.entry.form.publics.now lines.entry.form.numbered lines.entry.span.from (count_within lines.entry.steps lines.entry.span.from lines.entry.span.count))) }
     ensures failures { K.failed out.new ≡ K.failed out.old + trace_failures result }
 {
     let mut cpu = first;
@@ -131,7 +131,14 @@ fn write_each<K: Sink>(
         let number = lines.span.from + made;
         let before = cpu;
         line.clear();
-        append_number(alloc, lines.numbered, number, &mut line)?;
+        append_front(
+            alloc,
+            lines.form.publics,
+            lines.form.numbered,
+            before.pc,
+            number,
+            &mut line,
+        )?;
         let end = show_step(alloc, rules, &mut cpu, bus, ports, &mut line)?;
         write_all(out, &line)?;
         if number == lines.steps {

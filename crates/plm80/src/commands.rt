@@ -15,13 +15,14 @@ use plm80_programs::{
 use std::process::ExitCode;
 
 /// Does the command, and gives the exit status: 1 if an image is refused, 2 at a fault, 3 or 4 as a run ends, and else 0. A fault is
-/// one line on standard error, with words below it if they are asked for; clap's errors and help are printed there too.
-pub fn run_command(rt: &HostRuntime, arguments: &[String]) -> ExitCode {
+/// one line on standard error, with words below it if the command asks for them, or `always`; clap's errors and help are printed
+/// there too.
+pub fn run_command(rt: &HostRuntime, arguments: &[String], always: bool) -> ExitCode {
     let (request, why) = match read_arguments(rt, arguments) {
         Ok(asked) => asked,
         Err(error) => return print_error(rt, &error),
     };
-    match perform(Console::new(rt, why), request) {
+    match perform(Console::new(rt, why || always), request) {
         Ok(status) => ExitCode::from(status),
         Err(Reported) => ExitCode::from(2),
     }

@@ -17,10 +17,10 @@ use loader80::SessionFault;
 use loader80_streams::{Reading, Writing};
 pub use loader80_text::{BUNDLE_LIMIT, BundleFault, bundle};
 use plm80_console::{Console, NotedWriter, Reported};
-use plm80_programs::status_of;
+use plm80_programs::{explain_end, status_of};
 use std::alloc::AllocError;
 use std::env;
-use std::io::ErrorKind;
+use std::io::{ErrorKind, IsTerminal};
 use std::process::ExitCode;
 
 /// The steps that a bundle's run makes at most.
@@ -34,7 +34,7 @@ const OUTPUTS: usize = 65_536;
 ///
 /// The exit status is 0 if the run halted or a command is done, 1 if the image is refused, 2 at a fault, 3 if the run ended at a
 /// port, a store outside data or a jump outside its declared targets, and 4 if its steps were used up. A fault is one line on
-/// standard error; with `--why` words about it follow.
+/// standard error; with `--why`, or if the environment has `PLM80_WHY`, words about it follow.
 fn main(rt: HostRuntime) -> ExitCode {
     let arguments = match env::args(&rt) {
         Ok(arguments) => arguments.collect::<Vec<String>>(rt.alloc()),
@@ -52,21 +52,43 @@ fn main(rt: HostRuntime) -> ExitCode {
 
 /// Does what the arguments ask for, the first of which is the program's own name.
 fn run(rt: &HostRuntime, arguments: &[String]) -> ExitCode {
+    let always = is_always_explained(rt);
     match arguments {
-        [] | [_] => run_bundle(Console::new(rt, false)),
+        [] | [_] => run_bundle(Console::new(rt, always)),
         [_, why] if why.as_str() == "--why" => run_bundle(Console::new(rt, true)),
-        _ => run_command(rt, arguments),
+        _ => run_command(rt, arguments, always),
+    }
+}
+
+/// Whether the environment asks for words about every fault: `PLM80_WHY` is set, and neither empty nor 0.
+fn is_always_explained(rt: &HostRuntime) -> bool {
+    match env::var(rt, "PLM80_WHY") {
+        Ok(value) => !matches!(value.as_str(), "" | "0"),
+        Err(_) => false,
+    }
+}
+
+/// Says at a terminal what is read there.
+fn announce_bundle(rt: &HostRuntime) {
+    if rt.stdin().is_terminal() {
+        let _ = eprintln!(rt;
+            "plm80: reads a bundle from standard input; plm80 --help lists the commands"
+        );
     }
 }
 
 /// Runs the bundle on standard input, and gives the exit status.
 fn run_bundle(console: Console<'_>) -> ExitCode {
+    announce_bundle(console.runtime());
     let mut copied = CopiedReader::new(console, console.runtime().stdin());
     let mut output = NotedWriter::new(console.runtime().stdout());
     let mut input = Reading::new(&mut copied);
     let mut out = Writing::new(&mut output);
     match bundle(console.alloc(), &mut input, &mut out, STEPS, OUTPUTS) {
-        Ok(outcome) => ExitCode::from(status_of(outcome.end)),
+        Ok(outcome) => {
+            explain_end(console, outcome.end, outcome.at);
+            ExitCode::from(status_of(outcome.end))
+        }
         Err(BundleFault::Session(SessionFault::Refused(_))) => ExitCode::from(1),
         Err(fault) => {
             let Reported = console.report(fault);

@@ -56,7 +56,11 @@ impl FileFault {
             FileFault::Unread(fault) => console.report_unread(path, fault, failure),
             FileFault::Module(fault) => match fault.cause {
                 Cause::Memory => console.report_memory(),
-                _ => console.report_file(path, fault),
+                _ => {
+                    let reported = console.report_file(path, fault);
+                    console.explain_object_file(path);
+                    reported
+                }
             },
             FileFault::Library(LibraryFault::Memory) => console.report_memory(),
             FileFault::Library(fault) => console.report_file(path, fault),

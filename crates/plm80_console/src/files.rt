@@ -5,8 +5,8 @@ ghost use Rattle.std.specs.Io.{ReadsAtMost};
 use crate::console::{Console, Reported};
 use loader80_streams::{Failed, ReadAllFault, Reading, TEXT_LIMIT, Writing, read_all, write_all};
 use std::fs::File;
-use std::io;
 use std::io::{ErrorKind, Read, Write};
+use std::{fs, io};
 
 /// A file that is opened when it is first read, so that a missing file is reported when its turn comes.
 #[derive(Drop)]
@@ -109,14 +109,22 @@ impl<'a> Console<'a> {
         }
     }
 
-    /// The text of a file whose fault was reported, to say what is wrong in it; `None` if that isn't asked for, or if it can't be
-    /// read again.
+    /// The bytes of a file that was read, to say more of it; `None` if that isn't asked for, or if it can't be read again, as a pipe
+    /// can't.
     pub fn text_to_explain(self, path: &str) -> Option<Vec<u8>> {
-        if !self.explains() {
+        if !self.explains() || !self.is_regular(path) {
             return None;
         }
         let mut source = Reading::new(LateFile::new(self.runtime(), path));
         read_all(self.alloc(), &mut source, TEXT_LIMIT).ok()
+    }
+
+    /// Whether the path is that of a regular file.
+    fn is_regular(self, path: &str) -> bool {
+        match fs::metadata(self.runtime(), path) {
+            Ok(metadata) => metadata.is_file(),
+            Err(_) => false,
+        }
     }
 
     /// Reports why not all bytes of the file of this path were read.

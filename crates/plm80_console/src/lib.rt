@@ -14,6 +14,7 @@
 
 mod console;
 mod file_fault;
+mod file_kinds;
 mod files;
 mod keeping;
 mod line_words;
@@ -24,10 +25,12 @@ mod options;
 mod path_parts;
 mod pieces;
 mod program_files;
+mod regions_words;
 mod replacing;
 mod same_file;
 mod shared_paths;
 mod syntax;
+mod unread_bytes;
 
 pub use console::{Console, Reported};
 pub use file_fault::FileFault;
@@ -38,8 +41,8 @@ pub use object_files::{append_modules, read_modules};
 pub use options::OptionText;
 pub use pieces::{TakePieces, read_in_pieces};
 pub use program_files::{
-    IMAGE, PROGRAM_FILES, ProgramFiles, REGIONS, explain_regions, image_of, regions_of,
-    report_regions,
+    IMAGE, PROGRAM_FILES, ProgramFiles, REGIONS, image_of, regions_of, report_regions,
 };
+pub use regions_words::explain_regions;
 pub use replacing::NewFile;
 pub use syntax::{Argument, Kind, Syntax, WHY, path_of};

@@ -7,8 +7,8 @@ const CONTROL_Z: u8 = 0x1A;
 
 /// A line without its line feed, and whether it has one.
 #[derive(Clone, Copy)]
-struct Line<'a> {
-    bytes: &'a [u8],
+pub(crate) struct Line<'a> {
+    pub(crate) bytes: &'a [u8],
     is_ended: bool,
 }
 
@@ -18,6 +18,7 @@ impl<'a> Console<'a> {
     pub fn explain_line(self, text: &[u8], number: usize) {
         if let Some(line) = line_of(text, number) {
             self.explain_end(line);
+            self.explain_comment(line);
             self.explain_digits(line);
         }
     }
@@ -26,6 +27,7 @@ impl<'a> Console<'a> {
     pub fn explain_upper_line(self, text: &[u8], number: usize) {
         if let Some(line) = line_of(text, number) {
             self.explain_end(line);
+            self.explain_comment(line);
             self.explain_digits(line);
             self.explain_case(line);
         }
@@ -35,6 +37,7 @@ impl<'a> Console<'a> {
     pub fn explain_version(self, text: &[u8]) {
         if let Some(line) = line_of(text, 1) {
             self.explain_end(line);
+            self.explain_comment(line);
             self.explain_case(line);
         }
     }
@@ -56,21 +59,33 @@ impl<'a> Console<'a> {
         }
     }
 
+    fn explain_comment(self, line: Line<'_>) {
+        if line.has_comment() {
+            self.explain("the line has a ; but these texts have no comments");
+        }
+    }
+
     fn explain_digits(self, line: Line<'_>) {
-        if has_odd_digits(without_return(line.bytes)) {
+        if !line.has_comment() && has_odd_digits(without_return(line.bytes)) {
             self.explain("the line has an odd number of digits");
         }
     }
 
     fn explain_case(self, line: Line<'_>) {
-        if line.bytes.iter().any(|byte| byte.is_ascii_lowercase()) {
+        if !line.has_comment() && line.bytes.iter().any(|byte| byte.is_ascii_lowercase()) {
             self.explain("the line has lower case: digits and words are of upper case");
         }
     }
 }
 
+impl<'a> Line<'a> {
+    fn has_comment(self) -> bool {
+        self.bytes.contains(&b';')
+    }
+}
+
 /// The line of this number, counted from 1; `None` if the text has no such line.
-fn line_of(text: &[u8], number: usize) -> Option<Line<'_>> {
+pub(crate) fn line_of(text: &[u8], number: usize) -> Option<Line<'_>> {
     let line = text
         .split_inclusive(|byte| *byte == b'\n')
         .nth(number.checked_sub(1)?)?;

@@ -11,7 +11,10 @@ pub fn read_modules(console: Console<'_>, path: &str) -> Result<Vec<Module>, Rep
     let mut file = LateFile::new(console.runtime(), path);
     let mut source = Reading::new(&mut file);
     match read_object_file(console.alloc(), &mut source) {
-        Ok(modules) => Ok(modules),
+        Ok(modules) => {
+            console.explain_unread(path);
+            Ok(modules)
+        }
         Err(fault) => Err(fault.report(console, path, file.failure())),
     }
 }

@@ -33,6 +33,11 @@ impl<'a> OptionText<'a> {
         OptionText::new(name, matches.get_str(name).unwrap_or(default))
     }
 
+    /// Its name, without the two hyphens.
+    pub fn name(self) -> &'a str {
+        self.name
+    }
+
     /// The text of its value.
     pub fn text(self) -> &'a str {
         self.text

@@ -1,6 +1,7 @@
 //! The image and its regions, which several commands read.
 
 use crate::console::{Console, Reported};
+use crate::regions_words::explain_regions;
 use crate::syntax::{Argument, Kind, path_of};
 use clap::ArgMatches;
 use image80::{Image, Regions, RegionsFault, read_regions};
@@ -62,7 +63,11 @@ impl<'a> ProgramFiles<'a> {
 pub fn regions_of(console: Console<'_>, path: &str, text: &[u8]) -> Result<Regions, Reported> {
     match read_regions(console.alloc(), text) {
         Ok(regions) => Ok(regions),
-        Err(fault) => Err(report_regions(console, path, text, fault)),
+        Err(fault) => {
+            let reported = report_regions(console, path, text, fault);
+            console.explain_regions_place(text);
+            Err(reported)
+        }
     }
 }
 
@@ -81,15 +86,6 @@ pub fn report_regions(
     reported
 }
 
-/// Says what is wrong with the line of the regions that the fault names.
-pub fn explain_regions(console: Console<'_>, text: &[u8], fault: RegionsFault) {
-    match fault {
-        RegionsFault::BadVersion => console.explain_version(text),
-        RegionsFault::BadLine(number) => console.explain_upper_line(text, number),
-        _ => {}
-    }
-}
-
 /// The image that the file's bytes spell, with these regions.
 pub fn image_of(
     console: Console<'_>,
@@ -98,8 +94,15 @@ pub fn image_of(
     regions: Regions,
 ) -> Result<Image, Reported> {
     match read_image(console.alloc(), bytes, regions) {
-        Ok(image) => Ok(image),
+        Ok(image) => {
+            console.explain_unread_bytes(path, bytes);
+            Ok(image)
+        }
         Err((_, ImageFault::Memory)) => Err(console.report_memory()),
-        Err((_, fault)) => Err(console.report_file(path, fault)),
+        Err((_, fault)) => {
+            let reported = console.report_file(path, fault);
+            console.explain_image(bytes);
+            Err(reported)
+        }
     }
 }

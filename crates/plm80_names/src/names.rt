@@ -6,17 +6,18 @@ ghost use Rattle.plm80_names.specs.Printed.{named_end, AreNamesOf};
 
 use image80::Range;
 use image80_text::laws::texts_without_names_are_as_before;
-use image80_text::{append_label, append_name, label_lines, name_line, name_lines};
+use image80_text::{PublicTable, append_label, append_name, label_lines, name_line, name_lines};
 use omf_module::{Cause, Public};
 use place80_text::read_publics;
 use plm80_console::{Console, Reported};
 use std::alloc::{AllocError, Global};
 use std::marker::Model;
 
-/// The publics of an image, by which its addresses are named; none if names aren't printed. A contract sees their list.
+/// The publics of an image, by which its addresses are named; none if names aren't printed. They are looked up by address, in
+/// tables that are made once. A contract sees their list.
 #[derive(Drop)]
 pub struct Names {
-    publics: Vec<Public>,
+    publics: PublicTable,
 }
 
 impl Model for Names {
@@ -25,7 +26,7 @@ impl Model for Names {
 
     ghost Value = { List Public };
 
-    ghost view = { λ n. n.publics.items };
+    ghost view = { λ n. n.publics };
 }
 
 impl Names {
@@ -40,11 +41,11 @@ impl Names {
     {
         if !asked {
             return Ok(Names {
-                publics: Vec::new(console.alloc()),
+                publics: PublicTable::none(console.alloc()),
             });
         }
         match read_publics(console.alloc(), bytes) {
-            Ok(publics) => Ok(Names { publics }),
+            Ok(publics) => names_of(console, path, publics),
             Err(fault) => match fault.cause {
                 Cause::Memory => Err(console.report_memory()),
                 _ => Err(console.report_file(path, fault)),
@@ -53,7 +54,7 @@ impl Names {
     }
 
     /// The publics by which addresses are named.
-    pub fn publics(&self) -> &[Public]
+    pub fn publics(&self) -> &PublicTable
         ensures { result.now ≡ self.now }
     {
         &self.publics
@@ -148,5 +149,18 @@ impl Names {
         ensures { OnOk result (text.new.items ≡ text.old.items ++ label_text self.now address) }
     {
         append_label(&self.publics, address, text)
+    }
+}
+
+/// These publics as names; says that there are none, if that is so.
+fn names_of(console: Console<'_>, path: &str, publics: Vec<Public>) -> Result<Names, Reported>
+    ensures { IfOk result (λ names. names ≡ publics.items) }
+{
+    if publics.is_empty() && console.explains() {
+        let _ = eprintln!(console.runtime(); "  {path} has no names: locate --publics keeps them");
+    }
+    match PublicTable::new(console.alloc(), publics) {
+        Ok(publics) => Ok(Names { publics }),
+        Err(_) => Err(console.report_memory()),
     }
 }

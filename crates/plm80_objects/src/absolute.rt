@@ -1,7 +1,7 @@
 //! `plm80 absolute`: the image of bytes as they are.
 
 use clap::ArgMatches;
-use image80::Image;
+use image80::{Chunk, Image};
 use image80_file::write_image;
 use plm80_console::{
     Argument, Console, Kind, OptionText, Reported, Syntax, path_of, word_of_digits,
@@ -27,8 +27,8 @@ const AFTER_HELP: &str = "\
 BIN has the bytes of the addresses from FIRST on, up to FFFF at most, and nothing
 else. Each --rom names another PROM by its address, an equals sign and its file,
 as --rom 1000=high.bin; no two may share an address. Addresses are one to four
-hexadecimal digits in either case, without h or 0x. You write the regions of the
-image by hand, as docs/FIRMWARE.md shows in 'Absolute firmware'.
+hexadecimal digits in either case, without h or 0x. suggest prints regions of the
+image to begin with, as docs/FIRMWARE.md shows in 'Absolute firmware'.
 
 Example: plm80 absolute rom.bin rom.img --first 0 --start 0 --name ROM
 
@@ -109,11 +109,25 @@ pub fn write_absolute(
     let files = files_of(console, arguments)?;
     let name = console.name(arguments.name)?;
     let dumps = read_dumps(console, &files)?;
-    write_file(
-        console,
-        arguments.image,
-        &dumps.into_image(console.alloc(), name, start),
-    )
+    let image = dumps.into_image(console.alloc(), name, start);
+    explain_start(console, &image);
+    write_file(console, arguments.image, &image)
+}
+
+/// Says that no byte is at the start of an image, if that is so.
+fn explain_start(console: Console<'_>, image: &Image) {
+    let start = image.start;
+    if console.explains() && !image.chunks.iter().any(|chunk| has_byte(chunk, start)) {
+        let _ = eprintln!(console.runtime(); "  no byte is at the start, {start:04X}");
+    }
+}
+
+/// Whether a chunk has a byte at an address.
+fn has_byte(chunk: &Chunk, address: u16) -> bool {
+    match address.checked_sub(chunk.address) {
+        Some(offset) => usize::from(offset) < chunk.bytes.len(),
+        None => false,
+    }
 }
 
 /// The files of the arguments with their addresses, in order.

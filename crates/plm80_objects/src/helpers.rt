@@ -1,5 +1,6 @@
 //! What the commands of object files share, and the longer parts of one of them.
 
 pub(crate) mod causes;
+pub(crate) mod empty_segments;
 pub(crate) mod link_lines;
 pub(crate) mod locate_options;

@@ -172,6 +172,9 @@ fn read_files<'a>(console: Console<'_>, paths: &[&'a str]) -> Result<LinkFiles<'
     for path in paths {
         files.add(console, path)?;
     }
+    if files.roots.is_empty() {
+        console.explain("there is no object file, so nothing is taken from libraries");
+    }
     Ok(files)
 }
 
@@ -228,7 +231,10 @@ pub(crate) fn read_file(console: Console<'_>, path: &str) -> Result<LinkFile, Re
     let mut late = LateFile::new(console.runtime(), path);
     let mut source = Reading::new(&mut late);
     match read_link_file(console.alloc(), &mut source) {
-        Ok(file) => Ok(file),
+        Ok(file) => {
+            console.explain_unread(path);
+            Ok(file)
+        }
         Err(fault) => Err(fault.report(console, path, late.failure())),
     }
 }

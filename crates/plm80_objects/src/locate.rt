@@ -1,6 +1,7 @@
 //! `plm80 locate`: an object file's one module at its places, as an image and its regions.
 
 use crate::helpers::causes::report_place_fault;
+use crate::helpers::empty_segments::explain_empty_segments;
 use crate::helpers::locate_options::{
     CODE_BASE, COMMON_BASE, DATA_BASE, LocateTexts, MEMORY_BASE, MEMORY_SIZE, STACK_BASE,
     STACK_SIZE,
@@ -134,7 +135,10 @@ fn located_files(
     let modules = read_modules(console, arguments.object)?;
     let program = one_module(console, arguments.object, &modules)?;
     match files_of(console.alloc(), program, options, arguments) {
-        Ok(files) => Ok(files),
+        Ok(files) => {
+            explain_empty_segments(console, program, options, arguments.options);
+            Ok(files)
+        }
         Err(fault) => Err(report_place_fault(console, program, options, fault)),
     }
 }

@@ -78,7 +78,24 @@ fn inputs_of(console: Console<'_>, words: &[&str]) -> Result<WordInputs, Reporte
 /// Reports the word that names no inputs.
 fn report_bad_input(console: Console<'_>, word: &str) -> Reported {
     let _ = eprintln!(console.runtime(); "plm80: {} {word}", WordFault::BadInput);
+    if is_cut(word) {
+        console.explain("a word has no blanks, as in 02=3*2A,00");
+    }
     Reported
+}
+
+/// Whether a word has a blank, or seems to be a part of one that had.
+fn is_cut(word: &str) -> bool {
+    let bytes = word.as_bytes();
+    bytes.contains(&b' ')
+        || !bytes.contains(&b'=')
+        || is_mark(bytes.first())
+        || is_mark(bytes.last())
+}
+
+/// Whether a byte stands between parts of a word.
+fn is_mark(byte: Option<&u8>) -> bool {
+    matches!(byte, Some(b'*' | b'=' | b','))
 }
 
 /// Writes the text of these inputs to the file of this path.

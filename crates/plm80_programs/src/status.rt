@@ -1,6 +1,7 @@
-//! The exit status of a run.
+//! The exit status of a run, and words on how it ended.
 
 use machine80::End;
+use plm80_console::Console;
 
 /// The exit status of a run that ended so; `None` if its steps were used up.
 pub fn status_of(end: Option<End>) -> u8 {
@@ -8,5 +9,26 @@ pub fn status_of(end: Option<End>) -> u8 {
         Some(End::Halt) => 0,
         Some(_) => 3,
         None => 4,
+    }
+}
+
+/// Says where the instruction stands at whose port a run ended, which its last line doesn't say. The program counter is that before
+/// the step that ended it.
+pub fn explain_end(console: Console<'_>, end: Option<End>, at: u16) {
+    if !console.explains() {
+        return;
+    }
+    match end {
+        Some(End::InputEnd(port)) => {
+            let _ = eprintln!(console.runtime();
+                "  the IN at {at:04X} finds no byte at port {port:02X}: INPUTS has none left for it"
+            );
+        }
+        Some(End::OutputRefused(port)) => {
+            let _ = eprintln!(console.runtime();
+                "  the OUT at {at:04X} to port {port:02X} is one more than --outputs allows"
+            );
+        }
+        _ => {}
     }
 }

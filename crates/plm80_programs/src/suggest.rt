@@ -1,14 +1,19 @@
 //! `plm80 suggest`: the regions that an image's bytes suggest.
 
+ghost use Rattle.std.specs.Prelude.{◌≡◌};
+
 use crate::cases::report_notes;
 use clap::ArgMatches;
 use image80::{Image, Range, write_regions};
+use loader80::TEXT_LIMIT;
 use plm80_console::{
     Argument, Console, IMAGE, Kind, OptionText, Reported, Syntax, image_of, path_of, regions_of,
     word_of_digits,
 };
 use std::alloc::{AllocError, Global};
-use verify80_suggest::{Advice, suggest_regions};
+use verify80::ImageCode;
+use verify80_cases::Search;
+use verify80_suggest::{Advice, base_regions, suggest_regions};
 
 /// The arguments of `suggest`.
 #[derive(Drop)]
@@ -29,8 +34,11 @@ by the jump tables that cases sees; within the --rom-range options, if there are
 any. STACK is 16 bytes below the address of LXI SP, or what the program needs, as
 far as they are free. DATA is what STA, LDA, SHLD and LHLD name outside CODE, STACK
 and the image's bytes; or the --ram-range options but for CODE and STACK, since no
-instruction says how long an array is. A range is its first address, a colon and
-its length, each of one to four hexadecimal digits, as --ram-range 2000:0100.
+instruction says how long an array is. FIRST:LENGTH is a first address and a
+number of bytes, as extract takes them by --first and --length: one to four
+hexadecimal digits each, in either case, without h or 0x. The range ends at FFFF
+at the latest.
+
 Then check the image. The status is 1 if a PCHL has no table.
 
 Example: plm80 suggest gauge.obj --ram-range 2000:0100
@@ -78,12 +86,30 @@ pub fn advise_file(console: Console<'_>, arguments: &SuggestArguments<'_>) -> Re
     let rom = ranges_of(console, ROM, &arguments.rom)?;
     let ram = ranges_of(console, RAM, &arguments.ram)?;
     let mut image = bare_image(console, arguments.image)?;
-    let Ok((advice, text)) = advised(console.alloc(), &mut image, &rom, &ram) else {
-        return Err(console.report_memory());
-    };
-    console.print(&text)?;
-    report_stack(console, &advice);
-    Ok(report_notes(console, &advice.notes))
+    match advised(console.alloc(), &mut image, &rom, &ram) {
+        Ok((advice, text)) => {
+            console.print(&text)?;
+            report_stack(console, &advice);
+            Ok(report_notes(console, &advice.notes))
+        }
+        Err(AdviceFault::TooLong) => Err(console.report("TooLong")),
+        Err(AdviceFault::Memory) => Err(console.report_memory()),
+    }
+}
+
+/// Why there are no regions for an image.
+#[derive(Clone, Copy)]
+enum AdviceFault {
+    /// Their text has more bytes than a text of regions may have.
+    TooLong,
+    /// Out of memory.
+    Memory,
+}
+
+impl From<AllocError> for AdviceFault {
+    fn from(_: AllocError) -> AdviceFault {
+        AdviceFault::Memory
+    }
 }
 
 /// The image of a file, without regions.
@@ -99,11 +125,59 @@ fn advised(
     image: &mut Image,
     rom: &[Range],
     ram: &[Range],
-) -> Result<(Advice, Vec<u8>), AllocError> {
+) -> Result<(Advice, Vec<u8>), AdviceFault> {
+    image.regions = base_regions(alloc, image, rom)?;
+    // Together its cases may have thousands of times as many targets as it has bytes, so they aren't kept before they are counted.
+    if are_cases_too_long(alloc, image)? {
+        return Err(AdviceFault::TooLong);
+    }
     let advice = suggest_regions(alloc, image, rom, ram)?;
     let mut text = Vec::new(alloc);
     write_regions(alloc, &image.regions, &mut text)?;
+    if text.len() > TEXT_LIMIT {
+        return Err(AdviceFault::TooLong);
+    }
     Ok((advice, text))
+}
+
+/// Whether the lines of the cases that an image suggests have more bytes than a text of regions may have.
+fn are_cases_too_long(alloc: Global, image: &Image) -> Result<bool, AllocError> {
+    let code = ImageCode::new(alloc, image)?;
+    let search = Search::of(alloc, &code)?;
+    let mut length = 0usize;
+    for address in 0..65_536_u32 {
+        length = length.saturating_add(line_length(alloc, image, &code, &search, address as u16)?);
+        if length > TEXT_LIMIT {
+            return Ok(true);
+        }
+    }
+    Ok(false)
+}
+
+/// How many bytes the line of the case has that is suggested for the PCHL at an address; none if no case is.
+fn line_length(
+    alloc: Global,
+    image: &Image,
+    code: &ImageCode<'_>,
+    search: &Search,
+    at: u16,
+) -> Result<usize, AllocError>
+    requires { code.now ≡ image.now }
+{
+    if !search.is_open(image, code, at) {
+        return Ok(0);
+    }
+    match search.suggest(alloc, image, code, at)? {
+        Some(found) => Ok(
+            found
+                .case
+                .targets
+                .len()
+                .saturating_mul(5)
+                .saturating_add(10),
+        ),
+        None => Ok(0),
+    }
 }
 
 /// The ranges that the values of an option write.

@@ -30,8 +30,7 @@ lines begin after --from steps, and are printed as they come. If the run ends
 before they are as many as --count says, run's last line follows, and the exit
 status is run's; else it is 0.
 
---names prints names as run does; the lines are then printed when there are no
-more.
+--names prints names as run does.
 
 Example: plm80 trace readings.img readings.regions readings.inputs --count 20
 

@@ -1,7 +1,7 @@
 //! Names of addresses, by hand: 0119 is 22 (hexadecimal) above 00F7.
 
 use image80::Range;
-use image80_text::{nearest_public, public_at};
+use image80_text::PublicTable;
 use omf_core::Name;
 use omf_parts::Public;
 use std::alloc::Global;
@@ -21,26 +21,26 @@ fn public(alloc: Global, name: &[u8], segment: u8, offset: u16) -> Result<Public
 }
 
 /// Two publics at 00F7, one below them in another range, and an offset in CODE that is no address.
-fn publics(alloc: Global) -> Result<Vec<Public>, Fail> {
+fn publics(alloc: Global) -> Result<PublicTable, Fail> {
     let mut made = Vec::new(alloc);
     made.push(public(alloc, b"BEGIN", 0, 0x10)?)?;
     made.push(public(alloc, b"MOVED", 1, 0x118)?)?;
     made.push(public(alloc, b"SCALE", 0, 0xF7)?)?;
     made.push(public(alloc, b"AGAIN", 0, 0xF7)?)?;
-    Ok(made)
+    Ok(PublicTable::new(alloc, made)?)
 }
 
 /// Whether the nearest name to an address is this one, so far below it.
-fn is_nearest(publics: &[Public], address: u16, name: &[u8], below: u16) -> bool {
-    match nearest_public(publics, &CODE, address) {
+fn is_nearest(publics: &PublicTable, address: u16, name: &[u8], below: u16) -> bool {
+    match publics.nearest(&CODE, address) {
         Some((found, distance)) => found.name.bytes() == name && distance == below,
         None => false,
     }
 }
 
 /// Whether this is the name at an address.
-fn is_name_at(publics: &[Public], address: u16, name: &[u8]) -> bool {
-    match public_at(publics, address) {
+fn is_name_at(publics: &PublicTable, address: u16, name: &[u8]) -> bool {
+    match publics.at(address) {
         Some(found) => found.name.bytes() == name,
         None => false,
     }
@@ -50,10 +50,19 @@ fn is_name_at(publics: &[Public], address: u16, name: &[u8]) -> bool {
 fn names_of_addresses(rt: HostRuntime) -> Result<(), Fail> {
     let known = publics(rt.alloc())?;
     assert!(rt; is_name_at(&known, 0xF7, b"SCALE"));
-    assert!(rt; public_at(&known, 0x118).is_none());
+    assert!(rt; known.at(0x118).is_none());
     assert!(rt; is_nearest(&known, 0x119, b"SCALE", 0x22));
     assert!(rt; is_nearest(&known, 0xEF, b"BEGIN", 0xDF));
-    assert!(rt; nearest_public(&known, &CODE, 0xF6).is_none());
-    assert!(rt; nearest_public(&known, &CODE, 0x1F0).is_none());
+    assert!(rt; known.nearest(&CODE, 0xF6).is_none());
+    assert!(rt; known.nearest(&CODE, 0x1F0).is_none());
+    Ok(())
+}
+
+#[test]
+fn no_names(rt: HostRuntime) -> Result<(), Fail> {
+    let none = PublicTable::none(rt.alloc());
+    assert!(rt; none.is_empty());
+    assert!(rt; none.at(0xFFFF).is_none());
+    assert!(rt; none.nearest(&CODE, 0xEF).is_none());
     Ok(())
 }

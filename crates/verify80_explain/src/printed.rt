@@ -11,7 +11,7 @@ use crate::fault::Unexplained;
 use crate::text_chain::chain_text;
 use crate::text_explanation::explanation_text;
 use image80::Image;
-use omf_parts::Public;
+use image80_text::PublicTable;
 use std::alloc::{AllocError, Global};
 use verify80_flow::Refusal;
 
@@ -24,7 +24,7 @@ pub fn append_explanation(
     alloc: Global,
     text: &mut Vec<u8>,
     image: &Image,
-    publics: &[Public],
+    publics: &PublicTable,
     refusal: Refusal,
     limit: usize,
 ) -> Result<(), AllocError>
@@ -48,7 +48,7 @@ pub fn append_chain(
     alloc: Global,
     text: &mut Vec<u8>,
     image: &Image,
-    publics: &[Public],
+    publics: &PublicTable,
     bytes: u64,
     limit: usize,
 ) -> Result<(), AllocError>
@@ -67,7 +67,7 @@ fn append_ways(
     alloc: Global,
     text: &mut Vec<u8>,
     image: &Image,
-    publics: &[Public],
+    publics: &PublicTable,
     refusal: Refusal,
     explanation: &Explanation,
 ) -> Result<(), AllocError>
@@ -83,7 +83,7 @@ fn append_calls(
     alloc: Global,
     text: &mut Vec<u8>,
     image: &Image,
-    publics: &[Public],
+    publics: &PublicTable,
     chain: &Chain,
 ) -> Result<(), AllocError>
     ensures { OnOk result (text.new.items ≡ text.old.items ++ chain_text image.now publics.now chain.now) }

@@ -6,8 +6,7 @@ ghost use Rattle.verify80_explain.specs.Explained.{call_line, call_text, end_tex
 
 use crate::route::Call;
 use image80::Image;
-use image80_text::append_name;
-use omf_parts::Public;
+use image80_text::{PublicTable, append_name};
 use std::alloc::{AllocError, Global};
 use text80::word_digits;
 use verify80_flow::Procedure;
@@ -17,7 +16,7 @@ pub(crate) fn append_calls(
     alloc: Global,
     text: &mut Vec<u8>,
     image: &Image,
-    publics: &[Public],
+    publics: &PublicTable,
     calls: &[Call],
 ) -> Result<(), AllocError>
     ensures { OnOk result (text.new.items ≡ text.old.items ++ flat_map (call_line image.now publics.now) calls.now) }
@@ -33,7 +32,7 @@ fn append_call(
     alloc: Global,
     text: &mut Vec<u8>,
     image: &Image,
-    publics: &[Public],
+    publics: &PublicTable,
     call: Call,
 ) -> Result<(), AllocError>
     ensures { OnOk result (text.new.items ≡ text.old.items ++ call_line image.now publics.now call) }
@@ -82,7 +81,7 @@ pub(crate) fn append_end(
     alloc: Global,
     text: &mut Vec<u8>,
     image: &Image,
-    publics: &[Public],
+    publics: &PublicTable,
     address: u16,
 ) -> Result<(), AllocError>
     ensures { OnOk result (text.new.items ≡ text.old.items ++ end_text image.now publics.now address) }

@@ -7,7 +7,7 @@ ghost use Rattle.verify80_explain.specs.Explained.{callee_text, chain_text, dept
 use crate::chain::{Chain, Standing};
 use crate::text_calls::{append_address, append_end, append_procedure};
 use image80::Image;
-use omf_parts::Public;
+use image80_text::PublicTable;
 use std::alloc::{AllocError, Global};
 use verify80_bounds::CallSite;
 use verify80_flow::Procedure;
@@ -20,7 +20,7 @@ use verify80_flow::Procedure;
 pub fn chain_text(
     alloc: Global,
     image: &Image,
-    publics: &[Public],
+    publics: &PublicTable,
     chain: &Chain,
 ) -> Result<Vec<u8>, AllocError>
     ensures { IfOk result (λ text. text.items ≡ chain_text image.now publics.now chain.now) }
@@ -36,7 +36,7 @@ fn append_sites(
     alloc: Global,
     text: &mut Vec<u8>,
     image: &Image,
-    publics: &[Public],
+    publics: &PublicTable,
     calls: &[CallSite],
 ) -> Result<(), AllocError>
     ensures { OnOk result (text.new.items ≡ text.old.items ++ flat_map (site_line image.now publics.now) calls.now) }
@@ -52,7 +52,7 @@ fn append_site(
     alloc: Global,
     text: &mut Vec<u8>,
     image: &Image,
-    publics: &[Public],
+    publics: &PublicTable,
     call: CallSite,
 ) -> Result<(), AllocError>
     ensures { OnOk result (text.new.items ≡ text.old.items ++ site_line image.now publics.now call) }
@@ -66,7 +66,7 @@ fn append_callee(
     alloc: Global,
     text: &mut Vec<u8>,
     image: &Image,
-    publics: &[Public],
+    publics: &PublicTable,
     target: u16,
 ) -> Result<(), AllocError>
     ensures { OnOk result (text.new.items ≡ text.old.items ++ callee_text image.now publics.now target) }
@@ -81,7 +81,7 @@ fn append_standing(
     alloc: Global,
     text: &mut Vec<u8>,
     image: &Image,
-    publics: &[Public],
+    publics: &PublicTable,
     last: Standing,
 ) -> Result<(), AllocError>
     ensures { OnOk result (text.new.items ≡ text.old.items ++ standing_line image.now publics.now last) }

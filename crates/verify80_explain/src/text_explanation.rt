@@ -8,7 +8,7 @@ use crate::route::Route;
 use crate::text_calls::append_calls;
 use crate::text_way::append_way;
 use image80::Image;
-use omf_parts::Public;
+use image80_text::PublicTable;
 use std::alloc::{AllocError, Global};
 use verify80::ImageCode;
 use verify80_flow::Refusal;
@@ -26,7 +26,7 @@ use verify80_flow::Refusal;
 pub fn explanation_text(
     alloc: Global,
     image: &Image,
-    publics: &[Public],
+    publics: &PublicTable,
     refusal: Refusal,
     explanation: &Explanation,
 ) -> Result<Vec<u8>, AllocError>
@@ -79,7 +79,7 @@ fn append_route(
     text: &mut Vec<u8>,
     image: &Image,
     code: &ImageCode<'_>,
-    publics: &[Public],
+    publics: &PublicTable,
     route: &Route,
 ) -> Result<(), AllocError>
     requires { code.now ≡ image.now }

@@ -8,8 +8,7 @@ use crate::point::Point;
 use crate::text_frame::append_frame;
 use crate::text_instruction::append_instruction;
 use frames80::Frame;
-use image80_text::append_label;
-use omf_parts::Public;
+use image80_text::{PublicTable, append_label};
 use std::alloc::{AllocError, Global};
 use verify80::ImageCode;
 
@@ -25,7 +24,7 @@ pub(crate) fn append_way(
     alloc: Global,
     text: &mut Vec<u8>,
     code: &ImageCode<'_>,
-    publics: &[Public],
+    publics: &PublicTable,
     way: &[Point],
 ) -> Result<(), AllocError>
     ensures { OnOk result (text.new.items ≡ text.old.items ++ way_text code.now publics.now way.now) }
@@ -79,7 +78,7 @@ fn append_run(
     alloc: Global,
     text: &mut Vec<u8>,
     code: &ImageCode<'_>,
-    publics: &[Public],
+    publics: &PublicTable,
     run: &[Point],
 ) -> Result<(), AllocError>
     ensures { OnOk result (text.new.items ≡ text.old.items ++ run_text code.now publics.now run.now) }
@@ -105,7 +104,7 @@ fn append_points(
     alloc: Global,
     text: &mut Vec<u8>,
     code: &ImageCode<'_>,
-    publics: &[Public],
+    publics: &PublicTable,
     points: &[Point],
 ) -> Result<(), AllocError>
     ensures { OnOk result (text.new.items ≡ text.old.items ++ flat_map (point_line code.now publics.now) points.now) }
@@ -121,7 +120,7 @@ fn append_point(
     alloc: Global,
     text: &mut Vec<u8>,
     code: &ImageCode<'_>,
-    publics: &[Public],
+    publics: &PublicTable,
     point: &Point,
 ) -> Result<(), AllocError>
     ensures { OnOk result (text.new.items ≡ text.old.items ++ point_line code.now publics.now point.now) }

@@ -4,7 +4,7 @@
 //!
 //! | Item | What it is |
 //! |---|---|
-//! | [`suggest_regions`] | gives an image the regions that its bytes suggest |
+//! | [`suggest_regions`], [`base_regions`] | gives an image the regions that its bytes suggest; all its bytes as code |
 //! | [`Advice`], [`Setter`] | what there is to say of them |
 //! | [`laws`] | what holds of the definitions alone |
 #![tactic(auto)]
@@ -21,4 +21,4 @@ mod survey;
 mod with_cases;
 
 pub use setters::Setter;
-pub use suggesting::{Advice, suggest_regions};
+pub use suggesting::{Advice, base_regions, suggest_regions};

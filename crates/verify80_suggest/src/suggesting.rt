@@ -67,8 +67,12 @@ pub fn suggest_regions(
     })
 }
 
-/// The regions that have as code all bytes of an image that may be code, and no stack.
-fn base_regions(alloc: Global, image: &Image, rom: &[Range]) -> Result<Regions, AllocError>
+/// The regions that have as code all bytes of an image that may be code, those in the ranges of `rom` or all if there are no such ranges,
+/// and no stack.
+///
+/// # Errors
+/// `AllocError` only if memory runs out.
+pub fn base_regions(alloc: Global, image: &Image, rom: &[Range]) -> Result<Regions, AllocError>
     ensures code { IfOk result (λ regions. Covers (may_be_code image.now.chunks rom.now) regions.code) }
     ensures cases { IfOk result (λ regions. regions.cases ≡ []) }
 {

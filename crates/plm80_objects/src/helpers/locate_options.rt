@@ -1,6 +1,7 @@
 //! The options of LOCATE, which `locate` and `map` take.
 
 use clap::ArgMatches;
+use omf_core::segment_id::{CODE, DATA, MEMORY, STACK, UNNAMED_COMMON};
 use place80::Options;
 use plm80_console::{Argument, Console, Kind, OptionText, Reported};
 
@@ -77,6 +78,17 @@ impl<'a> LocateTexts<'a> {
             stack_size: OptionText::given(matches, STACK_SIZE.name),
             memory_size: OptionText::given(matches, MEMORY_SIZE.name),
         }
+    }
+
+    /// The bases that are given, each with the id of its segment.
+    pub fn bases(self) -> [(u8, Option<OptionText<'a>>); 5] {
+        [
+            (CODE, self.code),
+            (STACK, self.stack),
+            (UNNAMED_COMMON, self.common),
+            (DATA, self.data_base),
+            (MEMORY, self.memory),
+        ]
     }
 
     /// The numbers of the options.

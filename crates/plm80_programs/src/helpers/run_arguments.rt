@@ -1,11 +1,11 @@
 //! The image, its regions and the inputs of its run, and how far it runs: what several commands that run it take.
 
-use crate::status_of;
+use crate::{explain_end, status_of};
 use clap::ArgMatches;
 use image80::Image;
 use loader80::{Ended, InputsFault, SessionFault, Vouched, ending_text, read_inputs};
 use loader80_streams::Writing;
-use loader80_trace::{Limits, Span, TraceFault, write_lines};
+use loader80_trace::{Limits, LineForm, Span, TraceFault, write_lines};
 use machine80::Inputs;
 use plm80_console::{
     Argument, Console, IMAGE, Kind, NotedWriter, OptionText, REGIONS, Reported, image_of, path_of,
@@ -100,7 +100,7 @@ impl<'a> RunFiles<'a> {
             Ok(inputs) => Ok(inputs),
             Err(InputsFault::BadLine(number)) => {
                 let reported = console.report_file(self.inputs, SessionFault::Inputs(number));
-                console.explain_line(text, number);
+                console.explain_inputs(text, number);
                 Err(reported)
             }
             Err(InputsFault::Memory) => Err(console.report_memory()),
@@ -143,16 +143,16 @@ pub struct Traced<'a> {
     pub numbered: bool,
 }
 
-/// Prints the lines of instructions, as they come or, with their names, when there are no more; and gives how the run ended, if it
-/// did among them or before.
+/// Prints the lines of instructions, with their names, as they come; and gives how the run ended, if it did among them or before.
 pub fn print_lines(
     console: Console<'_>,
     traced: Traced<'_>,
     inputs: Inputs,
 ) -> Result<Option<Ended>, Reported> {
-    if !traced.names.is_empty() {
-        return print_named(console, traced, inputs);
-    }
+    let form = LineForm {
+        numbered: traced.numbered,
+        publics: traced.names.publics(),
+    };
     let mut output = NotedWriter::new(console.runtime().stdout());
     let mut out = Writing::new(&mut output);
     match write_lines(
@@ -161,46 +161,11 @@ pub fn print_lines(
         inputs,
         traced.limits,
         traced.span,
-        traced.numbered,
+        form,
         &mut out,
     ) {
         Ok(ended) => Ok(ended),
         Err(fault) => Err(report_lines(console, fault, output.failure())),
-    }
-}
-
-/// Prints the lines with their names.
-fn print_named(
-    console: Console<'_>,
-    traced: Traced<'_>,
-    inputs: Inputs,
-) -> Result<Option<Ended>, Reported> {
-    let Ok((lines, ended)) = named_lines(console.alloc(), traced, inputs) else {
-        return Err(console.report_memory());
-    };
-    console.print(&lines)?;
-    Ok(ended)
-}
-
-/// The lines with their names. They are written to memory, which fails only if it runs out.
-fn named_lines(
-    alloc: Global,
-    traced: Traced<'_>,
-    inputs: Inputs,
-) -> Result<(Vec<u8>, Option<Ended>), AllocError> {
-    let mut lines = Vec::new(alloc);
-    let mut out = Writing::new(&mut lines);
-    match write_lines(
-        alloc,
-        traced.vouched,
-        inputs,
-        traced.limits,
-        traced.span,
-        traced.numbered,
-        &mut out,
-    ) {
-        Ok(ended) => Ok((traced.names.label(alloc, traced.numbered, lines)?, ended)),
-        Err(_) => Err(AllocError),
     }
 }
 
@@ -215,6 +180,7 @@ pub fn print_ending(
         return Err(console.report_memory());
     };
     console.print(&text)?;
+    explain_end(console, ended.end, ended.cpu.pc());
     Ok(status_of(ended.end))
 }
 

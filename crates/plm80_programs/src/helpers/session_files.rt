@@ -1,7 +1,7 @@
 //! A session on files, with its transcript on standard output.
 
 use crate::helpers::run_arguments::RunFiles;
-use crate::status_of;
+use crate::{explain_end, status_of};
 use loader80::{Outcome, SessionFault, session};
 use loader80_streams::{Reading, Writing};
 use loader80_trace::Limits;
@@ -25,7 +25,11 @@ pub fn run_session(
 ) -> Result<u8, Reported> {
     let (answer, failures) = session_of(console, files, limits);
     match answer {
-        Ok(outcome) => Ok(status_of(outcome.end)),
+        Ok(outcome) => {
+            console.explain_unread(files.image_path());
+            explain_end(console, outcome.end, outcome.at);
+            Ok(status_of(outcome.end))
+        }
         Err(SessionFault::Refused(_)) => Ok(1),
         Err(fault) => Err(report_session(console, files, fault, failures)),
     }
@@ -82,7 +86,11 @@ fn report_session(
             console.report_file(path_of_text(files, number), "TooLong")
         }
         SessionFault::Write => console.report_output(failures.output),
-        SessionFault::Image(_) => console.report_file(files.image_path(), fault),
+        SessionFault::Image(_) => {
+            let reported = console.report_file(files.image_path(), fault);
+            console.explain_image_file(files.image_path());
+            reported
+        }
         SessionFault::Regions(_) | SessionFault::Inputs(_) => { report_text(console, files, fault) }
         SessionFault::Memory | SessionFault::Refused(_) => console.report(fault),
     }
@@ -107,8 +115,11 @@ fn report_text(console: Console<'_>, files: RunFiles<'_>, fault: SessionFault) -
     // The session has read the text and keeps none of it.
     if let Some(text) = console.text_to_explain(path) {
         match fault {
-            SessionFault::Regions(fault) => explain_regions(console, &text, fault),
-            SessionFault::Inputs(number) => console.explain_line(&text, number),
+            SessionFault::Regions(fault) => {
+                explain_regions(console, &text, fault);
+                console.explain_regions_place(&text);
+            }
+            SessionFault::Inputs(number) => console.explain_inputs(&text, number),
             _ => {}
         }
     }

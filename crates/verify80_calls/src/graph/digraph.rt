@@ -9,8 +9,7 @@ use crate::graph::chain::{Link, chain_of, is_in};
 use crate::graph::words::{append_address, append_bound, node_word};
 use crate::{Call, Procedure};
 use image80::Image;
-use image80_text::append_name;
-use omf_parts::Public;
+use image80_text::{PublicTable, append_name};
 use std::alloc::{AllocError, Global};
 
 /// The procedures of a program as a graph for Graphviz: a box for each, with its address, its name and its bound, and an edge for
@@ -22,7 +21,7 @@ use std::alloc::{AllocError, Global};
 pub fn graph_text(
     alloc: Global,
     image: &Image,
-    publics: &[Public],
+    publics: &PublicTable,
     graph: &CallGraph,
 ) -> Result<Vec<u8>, AllocError>
     ensures { IfOk result (λ text. text.items ≡ graph_text image.now publics.now graph.now) }
@@ -42,7 +41,7 @@ fn append_boxes(
     alloc: Global,
     text: &mut Vec<u8>,
     image: &Image,
-    publics: &[Public],
+    publics: &PublicTable,
     nodes: &[Node],
 ) -> Result<(), AllocError>
     ensures { OnOk result (text.new.items ≡ text.old.items ++ flat_map (box_line image.now publics.now) nodes.now) }
@@ -58,7 +57,7 @@ fn append_box(
     alloc: Global,
     text: &mut Vec<u8>,
     image: &Image,
-    publics: &[Public],
+    publics: &PublicTable,
     node: &Node,
 ) -> Result<(), AllocError>
     ensures { OnOk result (text.new.items ≡ text.old.items ++ box_line image.now publics.now node.now) }
@@ -106,7 +105,7 @@ fn append_escaped_name(
     alloc: Global,
     text: &mut Vec<u8>,
     image: &Image,
-    publics: &[Public],
+    publics: &PublicTable,
     address: u16,
 ) -> Result<(), AllocError>
     ensures { OnOk result (text.new.items ≡ text.old.items ++ escaped_name image.now publics.now address) }

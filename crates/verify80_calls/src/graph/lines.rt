@@ -9,7 +9,7 @@ use crate::graph::call_graph::{CallGraph, Node};
 use crate::graph::needs::needs;
 use crate::graph::words::{append_address, append_bound, append_end, node_word};
 use image80::Image;
-use omf_parts::Public;
+use image80_text::PublicTable;
 use std::alloc::{AllocError, Global};
 
 /// The procedures of a program, line by line, as `PROC 3004 BOUND 2`, and below each its calls, as
@@ -21,7 +21,7 @@ use std::alloc::{AllocError, Global};
 pub fn list_text(
     alloc: Global,
     image: &Image,
-    publics: &[Public],
+    publics: &PublicTable,
     graph: &CallGraph,
 ) -> Result<Vec<u8>, AllocError>
     ensures { IfOk result (λ text. text.items ≡ list_text image.now publics.now graph.now) }
@@ -36,7 +36,7 @@ fn append_nodes(
     alloc: Global,
     text: &mut Vec<u8>,
     image: &Image,
-    publics: &[Public],
+    publics: &PublicTable,
     nodes: &[Node],
 ) -> Result<(), AllocError>
     ensures { OnOk result (text.new.items ≡ text.old.items ++ list_text image.now publics.now nodes.now) }
@@ -53,7 +53,7 @@ fn append_node_line(
     alloc: Global,
     text: &mut Vec<u8>,
     image: &Image,
-    publics: &[Public],
+    publics: &PublicTable,
     node: &Node,
 ) -> Result<(), AllocError>
     ensures { OnOk result (text.new.items ≡ text.old.items ++ node_line image.now publics.now node.now) }
@@ -72,7 +72,7 @@ fn append_calls(
     alloc: Global,
     text: &mut Vec<u8>,
     image: &Image,
-    publics: &[Public],
+    publics: &PublicTable,
     nodes: &[Node],
     calls: &[Call],
 ) -> Result<(), AllocError>
@@ -89,7 +89,7 @@ fn append_call(
     alloc: Global,
     text: &mut Vec<u8>,
     image: &Image,
-    publics: &[Public],
+    publics: &PublicTable,
     nodes: &[Node],
     call: Call,
 ) -> Result<(), AllocError>

@@ -5,8 +5,7 @@ ghost use Rattle.verify80_calls.specs.ListText.{bound_text, end_text, node_word,
 
 use crate::Procedure;
 use image80::Image;
-use image80_text::append_name;
-use omf_parts::Public;
+use image80_text::{PublicTable, append_name};
 use std::alloc::{AllocError, Global};
 use text80::word_digits;
 
@@ -27,7 +26,7 @@ pub(crate) fn append_end(
     alloc: Global,
     text: &mut Vec<u8>,
     image: &Image,
-    publics: &[Public],
+    publics: &PublicTable,
     address: u16,
 ) -> Result<(), AllocError>
     ensures { OnOk result (text.new.items ≡ text.old.items ++ end_text image.now publics.now address) }

@@ -7,11 +7,11 @@ pub returns-in-Some : goal.returns-in-Some
 returns-in-Some c =
     subst (λ (t : List ℕ). OnOk c.append_above.result (c.append_above.new.text.items ≡ c.args.text.now.items ++ t))
     (named_above c.args.code.now c.args.publics.now c.args.address c.in-Some.public.now c.in-Some.distance
-    c.in-Some.ensures.which c.in-Some.ensures.distance)
+    (sym c.in-Some.ensures.which) c.in-Some.ensures.distance)
     c.append_above.ensures
 
 pub returns-in-None : goal.returns-in-None
 returns-in-None c =
     sym (ap (λ (t : List ℕ). c.args.text.now.items ++ t)
-    (not_named c.args.code.now c.args.publics.now c.args.address c.in-None.ensures.which)
+    (not_named c.args.code.now c.args.publics.now c.args.address (sym c.in-None.ensures.which))
     ∙ append-nil c.args.text.now.items)

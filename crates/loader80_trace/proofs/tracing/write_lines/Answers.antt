@@ -20,8 +20,8 @@ returns-then-is_some-clause-lines g c =
     elim c.then-is_some.branch [
       | then-is_some-via-then-is_some w ↦
           let some : is_some c.in_ok-at.at.ended.end ≡ true = sym c.is_some.ensures ∙ w.if-is_some.true in
-          appends_none _ _ (no_line_after c.args.vouched.now.image.regions c.args.limits.outputs start c.args.numbered c.min.result c.args.limits.steps c.args.span.from c.args.span.count c.in_ok-at.at.ended.steps _ c.in_ok-at.at.ended.end c.in_ok-at.ensures.run c.min.ensures some)
-      | then-is_some-via-else-is_some+then-limits-span w ↦ appends_none _ _ (no_line_within c.args.vouched.now.image.regions c.args.limits.outputs start c.args.numbered c.args.limits.steps c.args.span.from c.args.span.count w.if-limits-span.true)
+          appends_none _ _ (no_line_after c.args.vouched.now.image.regions c.args.limits.outputs start c.args.form.publics.now c.args.form.numbered c.min.result c.args.limits.steps c.args.span.from c.args.span.count c.in_ok-at.at.ended.steps _ c.in_ok-at.at.ended.end c.in_ok-at.ensures.run c.min.ensures some)
+      | then-is_some-via-else-is_some+then-limits-span w ↦ appends_none _ _ (no_line_within c.args.vouched.now.image.regions c.args.limits.outputs start c.args.form.publics.now c.args.form.numbered c.args.limits.steps c.args.span.from c.args.span.count w.if-limits-span.true)
     ]
 
 pub returns-then-is_some-clause-traced : goal.returns-then-is_some-clause-traced
@@ -47,7 +47,7 @@ returns-clause-lines g c =
     let first : c.min.result ≡ c.args.span.from = omega (arith, c.min.ensures, c.if-limits-span.false) in
     let reached : HasReached c.args.vouched.now.image.regions c.args.limits.outputs start c.args.span.from m = subst (λ (n : ℕ). HasReached c.args.vouched.now.image.regions c.args.limits.outputs start n m) first (c.in_ok-at.ensures.goes_on none).1 in
     ok_then c.write_each.result _ _ (λ f. f start stays reached)
-    (subst (λ (r : Areas). OnOk c.write_each.result ((start : World) → StaysRight r start → HasReached r c.args.limits.outputs start c.args.span.from m → Appends (g.K.Sink.written c.args.out.now) (g.K.Sink.written c.write_each.new.out) (whole_of r c.args.limits.outputs start c.args.numbered c.args.limits.steps c.args.span.from c.args.span.count))) regions c.write_each.ensures.lines)
+    (subst (λ (r : Areas). OnOk c.write_each.result ((start : World) → StaysRight r start → HasReached r c.args.limits.outputs start c.args.span.from m → Appends (g.K.Sink.written c.args.out.now) (g.K.Sink.written c.write_each.new.out) (whole_of r c.args.limits.outputs start c.args.form.publics.now c.args.form.numbered c.args.limits.steps c.args.span.from c.args.span.count))) regions c.write_each.ensures.lines)
 
 pub returns-clause-traced : goal.returns-clause-traced
 returns-clause-traced g c =
@@ -71,4 +71,4 @@ returns-clause-front g c =
     let first : c.min.result ≡ c.args.span.from = omega (arith, c.min.ensures, c.if-limits-span.false) in
     let reached : HasReached c.args.vouched.now.image.regions c.args.limits.outputs start c.args.span.from m = subst (λ (n : ℕ). HasReached c.args.vouched.now.image.regions c.args.limits.outputs start n m) first (c.in_ok-at.ensures.goes_on none).1 in
     err_then c.write_each.result _ _ (λ f. f start stays reached)
-    (subst (λ (r : Areas). OnErr c.write_each.result ((start : World) → StaysRight r start → HasReached r c.args.limits.outputs start c.args.span.from m → AppendsFront (g.K.Sink.written c.args.out.now) (g.K.Sink.written c.write_each.new.out) (whole_of r c.args.limits.outputs start c.args.numbered c.args.limits.steps c.args.span.from c.args.span.count))) regions c.write_each.ensures.front)
+    (subst (λ (r : Areas). OnErr c.write_each.result ((start : World) → StaysRight r start → HasReached r c.args.limits.outputs start c.args.span.from m → AppendsFront (g.K.Sink.written c.args.out.now) (g.K.Sink.written c.write_each.new.out) (whole_of r c.args.limits.outputs start c.args.form.publics.now c.args.form.numbered c.args.limits.steps c.args.span.from c.args.span.count))) regions c.write_each.ensures.front)

@@ -1,5 +1,5 @@
-use Rattle.std.specs.Prelude.{◌≡◌, List, length, vec_len}
-use Rattle.std.proofs.Common.{ap, sym, ◌∙◌, arith}
+use Rattle.std.specs.Prelude.{◌≡◌, List, length, refl}
+use Rattle.std.proofs.Common.{ap, sym, ◌∙◌}
 use Rattle.omf_parts.specs.declared.symbols.Public.{Public}
 use Rattle.image80_text.specs.NameText.{named_text}
 use Rattle.plm80_names.proofs.PrintedLemmas.{none_if}
@@ -7,7 +7,5 @@ use Rattle.plm80_names.proofs.names.Names.name.Goals as goal
 
 pub returns-then-is_empty-clause-named : goal.returns-then-is_empty-clause-named
 returns-then-is_empty-clause-named c =
-    let publics = c.self.inside.publics in
-    let counted : length publics.items ≡ vec_len publics = omega (arith, publics.ok.0) in
-    let none = none_if publics.items (vec_len publics) counted (sym c.is_empty.ensures ∙ c.if-is_empty.true) in
+    let none = none_if c.self.inside.publics (length c.self.inside.publics) refl (sym c.is_empty.ensures ∙ c.if-is_empty.true) in
     sym (ap (λ (ps : List Public). named_text c.args.code.now ps c.args.word.now c.args.text.items) (sym c.self.view_is ∙ none) ∙ (c.texts_without_names_are_as_before.ensures c.args.text.items).1 c.args.code.now c.args.word.now)

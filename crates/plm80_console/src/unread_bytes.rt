@@ -1,0 +1,58 @@
+//! Bytes of an object file that aren't read, in words.
+
+use crate::console::Console;
+use omf_core::RecordKind;
+
+/// The type of the record with which an object file ends.
+const END_OF_FILE: u8 = RecordKind::EndOfFile as u8;
+
+/// What CP/M fills the last part of a file with.
+const CONTROL_Z: u8 = 0x1A;
+
+impl<'a> Console<'a> {
+    /// As [`Console::explain_unread_bytes`], of the file of this path, which was read.
+    pub fn explain_unread(self, path: &str) {
+        if let Some(bytes) = self.text_to_explain(path) {
+            self.explain_unread_bytes(path, &bytes);
+        }
+    }
+
+    /// Says that an object file has bytes behind its end record, which aren't read, unless these only fill it up.
+    pub(crate) fn explain_unread_bytes(self, path: &str, bytes: &[u8]) {
+        let unread = behind_end(bytes);
+        if self.explains() && !is_filling(unread) {
+            let _ = eprintln!(self.runtime();
+                "  {} bytes behind the end record of {path} aren't read",
+                unread.len()
+            );
+        }
+    }
+}
+
+/// Whether bytes only fill up a file.
+fn is_filling(bytes: &[u8]) -> bool {
+    bytes.iter().all(|byte| *byte == 0 || *byte == CONTROL_Z)
+}
+
+/// The bytes behind the end record; none if there is no such record.
+fn behind_end(bytes: &[u8]) -> &[u8] {
+    let mut rest = bytes;
+    // A record has four bytes at least.
+    for _ in 0..bytes.len() {
+        match after_record(rest) {
+            Some((END_OF_FILE, after)) => return after,
+            Some((_, after)) => rest = after,
+            None => break,
+        }
+    }
+    b""
+}
+
+/// The type of the record with which these bytes begin, and the bytes behind it.
+fn after_record(bytes: &[u8]) -> Option<(u8, &[u8])> {
+    let [kind, low, high, body @ ..] = bytes else {
+        return None;
+    };
+    let length = usize::from(u16::from_le_bytes([*low, *high]));
+    Some((*kind, body.get(length..)?))
+}

@@ -1,0 +1,72 @@
+//! Words on bases of segments that are empty.
+
+use crate::helpers::locate_options::LocateTexts;
+use omf_core::segment_id::word_of;
+use omf_module::Module;
+use place80::{Options, Placed, layout};
+use plm80_console::{Console, OptionText};
+use std::str;
+
+/// Says which bases are those of empty segments, and where the segments are that aren't empty: there is what was to be at these bases. If
+/// memory runs out for it, it says nothing.
+pub(crate) fn explain_empty_segments(
+    console: Console<'_>,
+    program: &Module,
+    options: &Options,
+    texts: LocateTexts<'_>,
+) {
+    if !console.explains() {
+        return;
+    }
+    let Ok(layout) = layout(console.alloc(), program, options) else {
+        return;
+    };
+    let mut has_empty = false;
+    for (id, option) in texts.bases() {
+        if let Some(option) = option {
+            if is_empty(&layout.segments, id) {
+                explain_base(console, option, id);
+                has_empty = true;
+            }
+        }
+    }
+    if has_empty {
+        explain_segments(console, &layout.segments);
+    }
+}
+
+/// Whether the segment of this id has no bytes.
+fn is_empty(segments: &[Placed], id: u8) -> bool {
+    segments
+        .iter()
+        .all(|placed| placed.id != id || placed.length == 0)
+}
+
+/// Says that the segment of this id, whose base is given, is empty.
+fn explain_base(console: Console<'_>, option: OptionText<'_>, id: u8) {
+    let _ = eprintln!(console.runtime();
+        "  --{} {}: {} is empty",
+        option.name(),
+        option.text(),
+        shown(id)
+    );
+}
+
+/// Says where the segments are that have bytes.
+fn explain_segments(console: Console<'_>, segments: &[Placed]) {
+    for placed in segments {
+        if placed.length > 0 {
+            let _ = eprintln!(console.runtime();
+                "  {} {:04X} {:04X}",
+                shown(placed.id),
+                placed.base,
+                placed.length
+            );
+        }
+    }
+}
+
+/// The word for the segment of this id.
+fn shown(id: u8) -> &'static str {
+    str::from_utf8(word_of(id)).unwrap_or("")
+}
