@@ -1,7 +1,6 @@
 pub mod Linked
 pub mod LinkFault
 pub mod DuplicateLaws
-pub mod Linking
 pub mod LinkLaws
 pub mod Selection
 pub use Rattle.link80_select.specs.Selected
@@ -12,3 +11,4 @@ pub mod Joined
 pub mod Starts
 pub mod SymbolTables
 pub mod Movable
+pub mod Linking

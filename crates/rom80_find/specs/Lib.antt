@@ -1,16 +1,10 @@
 pub mod Dump
-pub mod Candidates
 pub mod Places
-pub mod Lone
-pub mod Marks
 pub mod Words
-pub mod Runs
-pub mod Search
 pub mod CodeBytes
 pub mod Modules
 pub mod Chunks
 pub mod Lies
-pub mod Laws
 pub mod LinkLaws
 pub mod Lines
 pub mod Found
@@ -18,3 +12,9 @@ pub mod Found
 pub mod Names
 pub mod Patterns
 pub mod Prints
+pub mod Candidates
+pub mod Lone
+pub mod Marks
+pub mod Runs
+pub mod Search
+pub mod Laws

@@ -2,7 +2,6 @@ pub mod Pointers
 pub mod Stores
 pub mod Boards
 pub mod StoresText
-pub mod DataReach
 pub mod Bytes
 pub mod Span
 pub mod Pairs
@@ -15,3 +14,4 @@ pub mod Runs
 pub mod Kinds
 pub mod StackPointer
 pub mod Listing
+pub mod DataReach
