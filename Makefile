@@ -74,6 +74,7 @@ package-files:
 # tools/gate runs rt ci, which builds the program that it proves, and prints what that took.
 test: need-rt need-python3
 	@tests/layers/run
+	@tests/layers/believed
 	@tests/examples/run
 	@tools/lemma_files --check
 	@tools/crates --check

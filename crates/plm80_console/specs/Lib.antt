@@ -1,3 +1,2 @@
 pub mod Pieces
--- what the crate's own functions promise one another: no public contract cites these
 pub mod NumberText

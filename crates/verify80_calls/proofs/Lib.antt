@@ -2,6 +2,7 @@ pub mod PointLemmas
 pub mod CallLemmas
 pub mod ReachedLemmas
 pub mod BoundLemmas
+pub mod EndLemmas
 pub mod ChainLemmas
 pub mod NodeLemmas
 pub mod TextLemmas

@@ -1,4 +1,9 @@
 mod MarkLemmas
+mod StandingLemmas
+mod RestLemmas
 mod ReachLemmas
 mod TableLemmas
 mod SuggestedLemmas
+mod NoteLemmas
+mod TrailLemmas
+mod LeavesLemmas

@@ -16,7 +16,10 @@ use Rattle.verify80_cases.specs.Reach.{AreFollowed, AreReachedFrom, Enters, IsDo
 use Rattle.verify80_cases.specs.Reach.MayReach.{begins, goes_on}
 use Rattle.verify80_cases.specs.Covered.{is_covered}
 use Rattle.verify80_cases.specs.Marks.{AreMarks}
-use Rattle.verify80_cases.specs.Suggested.{IsExplored, IsSearched, is_target}
+use Rattle.verify80_cases.specs.declared.table.Run.{Run}
+use Rattle.verify80_cases.specs.Reading.{AreRests}
+use Rattle.verify80_cases.specs.Suggested.{IsExplored, IsRoot, IsSearched, IsTableTarget}
+use Rattle.verify80_cases.proofs.StandingLemmas.{rests_kept, roots_kept, target_kept}
 
 -- none is entered
 pub enters_none : (marks : List Bool) (order : List ℕ) → length marks ≡ 65536 → Enters marks order [] marks order
@@ -245,23 +248,36 @@ done_exact image roots m o done = record {
     marked _ (begins x has) = subst (IsMarked m) (at_index roots x has) (done.begun has.0 0 has.1)
     marked _ (goes_on x to reached leads) = closed x to (marked x reached) leads
 
--- a walk from the start, and from other instructions too
+-- what is marked stays so with a root more
+pub marks_kept : (image : Located) (m : List Bool) (o : List ℕ) (at : ℕ) (m' : List Bool) (o' : List ℕ) (roots : List ℕ) → IsDone image roots m o → IsDone image (roots ++ at ∷ []) m' o' →
+    (x : ℕ) → IsMarked m x → IsMarked m' x
+marks_kept image m o at m' o' roots done more x is =
+    ((done_exact image (roots ++ at ∷ []) m' o' more).exact x).1 (more_roots image roots at x (((done_exact image roots m o done).exact x).0 is))
+
+-- a walk from the start, and from the targets of tables too
 pub explored_start : (image : Located) (m : List Bool) (o : List ℕ) (at : ℕ) → at ≡ image.start → IsDone image (at ∷ []) m o → IsExplored image m o
 explored_start image m o at is done = record {
   roots = at ∷ [];
-  each = all_one (λ root. (root ≡ image.start) ⊎ (is_target image root ≡ true)) at (inl is);
+  each = all_one (IsRoot image m) at (inl is);
   start = (0, omega arith, is);
   done = done;
 }
 
-pub explored_more : (image : Located) (m : List Bool) (o : List ℕ) (at : ℕ) (m' : List Bool) (o' : List ℕ) → IsExplored image m o → is_target image at ≡ true →
-    ((roots : List ℕ) → IsDone image roots m o → IsDone image (roots ++ at ∷ []) m' o') → IsExplored image m' o'
-explored_more image m o at m' o' before is more = record {
-  roots = before.roots ++ at ∷ [];
-  each = All-push (λ root. (root ≡ image.start) ⊎ (is_target image root ≡ true)) before.roots at before.each (inr is);
-  start = Contains-append_left before.roots (at ∷ []) image.start before.start;
-  done = more before.roots before.done;
-}
+module _ (image : Located) (m : List Bool) (o : List ℕ) (at : ℕ) (m' : List Bool) (o' : List ℕ) (before : IsExplored image m o)
+    (more : (roots : List ℕ) → IsDone image roots m o → IsDone image (roots ++ at ∷ []) m' o') where
+  still : (x : ℕ) → IsMarked m x → IsMarked m' x
+  still = marks_kept image m o at m' o' before.roots before.done (more before.roots before.done)
+
+  pub explored_more : IsTableTarget image m at → IsExplored image m' o'
+  explored_more is = record {
+    roots = before.roots ++ at ∷ [];
+    each = All-push (IsRoot image m') before.roots at (roots_kept image m m' still before.roots before.each) (inr (target_kept image m m' still at is));
+    start = Contains-append_left before.roots (at ∷ []) image.start before.start;
+    done = more before.roots before.done;
+  }
+
+  pub rests_more : (rests : List Run) → AreRests image m rests → AreRests image m' rests
+  rests_more rests all = rests_kept image m m' still rests all
 
 -- what is found by such a walk
 pub searched : (image : Located) (m taken : List Bool) (o : List ℕ) → IsExplored image m o → AreMarks (is_covered image m) 65536 taken → IsSearched image m taken

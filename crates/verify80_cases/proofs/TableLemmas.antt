@@ -136,7 +136,7 @@ open_undeclared image reached at is = (both (marked reached at) (is_undeclared i
 
 -- the case of the goals
 module _ (image : Located) (reached taken : List Bool) (kind : TableKind) (at table limit : ℕ) (goals sorted : List ℕ) (below : at < 65536) (is_here : is_open image reached at ≡ true)
-    (begun : IsBegun image table limit) (are : AreEntries image reached taken kind table limit goals) (small : All (λ target. target < 65536) goals) (some : 0 < length goals)
+    (begun : IsBegun image reached at table limit) (are : AreEntries image reached taken kind table limit goals) (small : All (λ target. target < 65536) goals) (some : 0 < length goals)
     (moved : IsPermutation goals sorted) (up : IsSorted nat_cmp sorted) where
   there : (w : ℕ) → Contains goals w → Contains (dedup eqb sorted) w
   there w inside = Contains-dedup_nat sorted w (Contains-permutation goals sorted w moved inside)

@@ -1,7 +1,7 @@
 -- The CASE line that a table suggests for a PCHL. (PL/M-80 compiles DO CASE to a jump through a table of words, low byte first; 8080
 -- Assembly Language Programming Manual, PCHL and JMP. Where a table ends is this project's own.)
-use Rattle.std.specs.Prelude.{◌≡◌, ◌⊎◌, ℕ, ◌+◌, ◌*◌, ◌<◌, ◌==◌, ◌↔◌, ◌&&◌, ◌||◌, Bool, true, false, not, nat_le, nat_lt, List, All, AllPairs, Contains, Option, None, Some, Result, Ok, Err, length, map, slice_index, is_none, if◌then◌else◌}
-use Rattle.std.specs.List.{range_with_len}
+use Rattle.std.specs.Prelude.{◌≡◌, ◌⊎◌, ℕ, ◌+◌, ◌*◌, ◌<◌, ◌==◌, ◌≤◌, ◌↔◌, ◌&&◌, ◌||◌, Bool, true, false, not, nat_le, nat_lt, List, All, AllPairs, Contains, IfSome, Option, None, Some, Result, Ok, Err, length, map, slice_index, is_none, if◌then◌else◌}
+use Rattle.std.specs.List.{filter_map, range_with_len}
 use Rattle.std.specs.Result.{is_ok}
 use Rattle.decode80.specs.declared.fetching.Fetched.{Fetched}
 use Rattle.decode80.specs.declared.fetching.FetchFault.{FetchFault}
@@ -12,10 +12,12 @@ use Rattle.decode80.specs.declared.operation.Operation.TheVariants.{Compare}
 use Rattle.image80.specs.Case.{DeclaredCase, IsCase, AreByAddress}
 use Rattle.image80.specs.Image.{Located, memory_of}
 use Rattle.image80.specs.Regions.{in_code, targets_at}
+use Rattle.verify80.specs.Looking.{declared_targets, is_pchl}
 use Rattle.verify80.specs.LookLaws.{fetch_at}
 use Rattle.verify80_cases.specs.Covered.{is_covered}
 use Rattle.verify80_cases.specs.Marks.{AreMarks, marked}
 use Rattle.verify80_cases.specs.Reach.{AreReachedFrom, IsDone}
+use Rattle.verify80_cases.specs.Standing.{StandsBefore}
 use Rattle.verify80_cases.specs.declared.search.Note.{Note}
 use Rattle.verify80_cases.specs.declared.search.Note.TheVariants.{MayEnd, Tableless, Returns}
 use Rattle.verify80_cases.specs.declared.search.SuggestedCase.{SuggestedCase}
@@ -95,19 +97,21 @@ pub record AreEntries (image : Located) (reached taken : List Bool) (kind : Tabl
   pub each : (k : ℕ) → k < length goals → is_entry kind image reached taken (table + stride kind * k) ≡ true
   pub ends : (is_entry kind image reached taken (table + stride kind * length goals) ≡ false) ⊎ (length goals ≡ limit)
 
--- a limit is the byte of a CPI, or more than there are entries
-pub data IsLimit (image : Located) (limit : ℕ) : Type 0 where
-  none : limit ≡ 65536 → IsLimit image limit
-  compared : (at : ℕ) → compared_byte (fetch_at image.regions (memory_of image.chunks) at) ≡ Some limit → IsLimit image limit
+-- a limit is the byte of a CPI that stands before a PCHL, or more than there are entries
+pub data IsLimit (image : Located) (reached : List Bool) (at limit : ℕ) : Type 0 where
+  none : limit ≡ 65536 → IsLimit image reached at limit
+  compared : (cpi : ℕ) → StandsBefore image reached cpi at → compared_byte (fetch_at image.regions (memory_of image.chunks) cpi) ≡ Some limit →
+      IsLimit image reached at limit
 
--- a table is begun: its address is that of an LXI
-pub record IsBegun (image : Located) (table limit : ℕ) : Type 0 where
+-- a table is begun before a PCHL: its address is that of an LXI that stands before it
+pub record IsBegun (image : Located) (reached : List Bool) (at table limit : ℕ) : Type 0 where
   pub lxi : ℕ
+  pub before : StandsBefore image reached lxi at
   pub loaded : loaded_word (fetch_at image.regions (memory_of image.chunks) lxi) ≡ Some table
-  pub is_limit : IsLimit image limit
+  pub is_limit : IsLimit image reached at limit
 
--- a case that is suggested: it is of a PCHL that isn't declared; its targets are where PCHL goes by a table at the address of an LXI, as
--- a set of addresses; and the table ends where it has to
+-- a case that is suggested: it is of a PCHL that isn't declared; its targets are where PCHL goes by a table at the address of an LXI that
+-- stands before it, as a set of addresses; and the table ends where it has to
 pub record IsSuggested (image : Located) (reached taken : List Bool) (case : DeclaredCase) : Type 0 where
   pub undeclared : is_undeclared image case.at ≡ true
   pub rules : IsCase case
@@ -115,7 +119,7 @@ pub record IsSuggested (image : Located) (reached taken : List Bool) (case : Dec
   pub table : ℕ
   pub kind : TableKind
   pub limit : ℕ
-  pub begun : IsBegun image table limit
+  pub begun : IsBegun image reached case.at table limit
   pub goals : List ℕ
   pub entries : AreEntries image reached taken kind table limit goals
   pub targets : (target : ℕ) → Contains case.targets target ↔ Contains goals target
@@ -138,10 +142,45 @@ abbrev pub IsNote : (at : ℕ) → Option SuggestedCase → Option Note → Type
 IsNote at (Some found) note = note ≡ (if found.may_go_on then Some (MayEnd found.table found.«end») else None)
 IsNote at None note = (note ≡ Some (Tableless at)) ⊎ (note ≡ Some (Returns at))
 
--- a walk that has reached its end, from the start and from some other instructions in the code
+-- whether an address may have an entry of a table if no byte is taken
+abbrev pub could_be_entry : TableKind → Located → ℕ → Bool
+could_be_entry Words image address =
+    nat_le (address + 2) 65536
+    && (in_code image.regions address && (in_code image.regions (address + 1) && is_target image (word_in (memory_of image.chunks) address)))
+could_be_entry Jumps image address =
+    nat_le (address + 3) 65536 && (slice_index (memory_of image.chunks) address == 195 && is_target image address)
+
+-- whether what was fetched is a PCHL
+abbrev pub holds_pchl : Result Fetched FetchFault → Bool
+holds_pchl (Err _) = false
+holds_pchl (Ok found) = is_pchl found.instr
+
+-- a PCHL for which no targets are declared goes by a table
+pub record GoesByTable (image : Located) (reached : List Bool) (at table limit : ℕ) : Type 0 where
+  pub is_pchl : holds_pchl (fetch_at image.regions (memory_of image.chunks) at) ≡ true
+  pub undeclared : length (declared_targets image.regions at) ≡ 0
+  pub begun : IsBegun image reached at table limit
+
+-- an address to which an entry of such a table leads: it and those before it could be entries, and are within the limit
+pub record IsTableTarget (image : Located) (reached : List Bool) (target : ℕ) : Type 0 where
+  pub at : ℕ
+  pub table : ℕ
+  pub limit : ℕ
+  pub by : GoesByTable image reached at table limit
+  pub kind : TableKind
+  pub number : ℕ
+  pub inside : number < limit
+  pub entries : (k : ℕ) → k ≤ number → could_be_entry kind image (table + stride kind * k) ≡ true
+  pub goal : target ≡ goal_of kind (memory_of image.chunks) (table + stride kind * number)
+
+-- where an image is gone through from: its start, and the targets of its tables
+abbrev pub IsRoot : Located → (reached : List Bool) → ℕ → Type 0
+IsRoot image reached root = (root ≡ image.start) ⊎ IsTableTarget image reached root
+
+-- a walk that has reached its end, from the start and from the targets of tables
 pub record IsExplored (image : Located) (marks : List Bool) (order : List ℕ) : Type 0 where
   pub roots : List ℕ
-  pub each : All (λ root. (root ≡ image.start) ⊎ (is_target image root ≡ true)) roots
+  pub each : All (IsRoot image marks) roots
   pub start : Contains roots image.start
   pub done : IsDone image roots marks order
 
@@ -150,11 +189,11 @@ pub record Searched : Type 0 where
   pub reached : List Bool
   pub taken : List Bool
 
--- what is found of an image that is gone through from its start and from some other instructions in the code: the addresses that are
--- reached, and the bytes of the instructions there
+-- what is found of an image that is gone through from its start and from the targets of its tables: the addresses that are reached,
+-- and the bytes of the instructions there
 pub record IsSearched (image : Located) (reached taken : List Bool) : Type 0 where
   pub roots : List ℕ
-  pub each : All (λ root. (root ≡ image.start) ⊎ (is_target image root ≡ true)) roots
+  pub each : All (IsRoot image reached) roots
   pub start : Contains roots image.start
   pub exact : AreReachedFrom image roots reached
   pub covered : AreMarks (is_covered image reached) 65536 taken
@@ -175,9 +214,40 @@ pub record AreSuggestedBelow (image : Located) (reached taken : List Bool) (limi
   pub others_below : All (λ at. at < limit) tableless
   pub all : (at : ℕ) → at < limit → is_open image reached at ≡ true → Contains (map (λ case. case.at) cases) at ⊎ Contains tableless at
 
+-- what is found of a PCHL: its case, if a table is seen for it, and what there is to say of it
+pub record Finding : Type 0 where
+  pub at : ℕ
+  pub found : Option SuggestedCase
+  pub note : Option Note
+
+pub record IsFinding (image : Located) (reached taken : List Bool) (finding : Finding) : Type 0 where
+  pub found : IfSome finding.found (IsSuggestedCase image reached taken)
+  pub at : IfSome finding.found (λ found. found.case.at ≡ finding.at)
+  pub note : IsNote finding.at finding.found finding.note
+
+-- the case, and the PCHL if there is none
+abbrev pub case_of : Option SuggestedCase → Option DeclaredCase
+case_of None = None
+case_of (Some found) = Some found.case
+
+abbrev pub tableless_of : (at : ℕ) → Option SuggestedCase → Option ℕ
+tableless_of at None = Some at
+tableless_of at (Some _) = None
+
+-- notes are those of the PCHLs that have the cases, and of those without a table, by address: each has its own, or none
+pub record AreNotesBelow (image : Located) (reached taken : List Bool) (limit : ℕ) (cases : List DeclaredCase) (tableless : List ℕ) (notes : List Note) : Type 0 where
+  pub findings : List Finding
+  pub each : All (IsFinding image reached taken) findings
+  pub by_address : AllPairs (λ (a b : Finding). a.at < b.at) findings
+  pub below : All (λ (finding : Finding). finding.at < limit) findings
+  pub cases_are : cases ≡ filter_map (λ (finding : Finding). case_of finding.found) findings
+  pub tableless_are : tableless ≡ filter_map (λ (finding : Finding). tableless_of finding.at finding.found) findings
+  pub notes_are : notes ≡ filter_map (λ (finding : Finding). finding.note) findings
+
 -- what is suggested of an image
-pub record AreSuggested (image : Located) (cases : List DeclaredCase) (tableless : List ℕ) : Type 0 where
+pub record AreSuggested (image : Located) (cases : List DeclaredCase) (tableless : List ℕ) (notes : List Note) : Type 0 where
   pub reached : List Bool
   pub taken : List Bool
   pub searched : IsSearched image reached taken
   pub suggested : AreSuggestedBelow image reached taken 65536 cases tableless
+  pub are_notes : AreNotesBelow image reached taken 65536 cases tableless notes

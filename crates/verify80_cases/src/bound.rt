@@ -11,6 +11,9 @@
 //!
 //! Others may stand between, if they leave the flags, A but for doubling it, and then the pair.
 
+ghost use Rattle.std.specs.Prelude.{◌≡◌, Contains, IfSome, List, Some, ℕ};
+ghost use Rattle.verify80_cases.specs.Trails.{IsPassed, cpi_of};
+
 use crate::changes::{may_change, may_change_a, may_change_carry};
 use crate::leads::is_call;
 use decode80::{Condition, Instr, Operand, Operation, Pair, Register};
@@ -32,7 +35,9 @@ pub(crate) enum Bound {
 
 impl Bound {
     /// The CPI that bounds the index which is in HL.
-    pub(crate) fn comparison(self) -> Option<u16> {
+    pub(crate) fn comparison(self) -> Option<u16>
+        ensures { IfSome result (λ cpi. cpi_of self ≡ Some cpi) }
+    {
         match self {
             Bound::Added(cpi) => Some(cpi),
             _ => None,
@@ -40,7 +45,9 @@ impl Bound {
     }
 
     /// What is left after an instruction at an address.
-    pub(crate) fn after(self, at: u16, instr: Instr) -> Bound {
+    pub(crate) fn after(self, at: u16, instr: Instr) -> Bound
+        ensures { (passed : List ℕ) → Contains passed at → IsPassed passed (cpi_of self) → IsPassed passed (cpi_of result) }
+    {
         match instr {
             Instr::Operate(Operation::Compare, Operand::Immediate(_)) => Bound::Compared(at),
             _ if is_call(instr) => Bound::Unknown,
@@ -49,7 +56,9 @@ impl Bound {
     }
 
     /// What is left after an instruction that is neither a CPI nor a call.
-    fn after_other(self, instr: Instr) -> Bound {
+    fn after_other(self, instr: Instr) -> Bound
+        ensures { (passed : List ℕ) → IsPassed passed (cpi_of self) → IsPassed passed (cpi_of result) }
+    {
         match self {
             Bound::Unknown => Bound::Unknown,
             Bound::Compared(cpi) => compared_after(cpi, instr),
@@ -61,7 +70,9 @@ impl Bound {
 }
 
 /// After an instruction behind the comparison.
-fn compared_after(cpi: u16, instr: Instr) -> Bound {
+fn compared_after(cpi: u16, instr: Instr) -> Bound
+    ensures { (passed : List ℕ) → Contains passed cpi → IsPassed passed (cpi_of result) }
+{
     match instr {
         Instr::JumpIf(Condition::NoCarry, _) | Instr::ReturnIf(Condition::NoCarry) => Bound::Below(
             cpi,
@@ -72,7 +83,9 @@ fn compared_after(cpi: u16, instr: Instr) -> Bound {
 }
 
 /// After an instruction where A is below the operand.
-fn below_after(cpi: u16, instr: Instr) -> Bound {
+fn below_after(cpi: u16, instr: Instr) -> Bound
+    ensures { (passed : List ℕ) → Contains passed cpi → IsPassed passed (cpi_of result) }
+{
     match instr {
         Instr::Mov(Register::C, Register::A) => Bound::Index(cpi, Pair::Bc),
         Instr::Mov(Register::E, Register::A) => Bound::Index(cpi, Pair::De),
@@ -83,7 +96,9 @@ fn below_after(cpi: u16, instr: Instr) -> Bound {
 }
 
 /// After an instruction where a pair has the index.
-fn index_after(cpi: u16, pair: Pair, instr: Instr) -> Bound {
+fn index_after(cpi: u16, pair: Pair, instr: Instr) -> Bound
+    ensures { (passed : List ℕ) → Contains passed cpi → IsPassed passed (cpi_of result) }
+{
     match (instr, pair) {
         (Instr::Mvi(Register::B, 0), Pair::Bc)
         | (Instr::Mvi(Register::D, 0), Pair::De)
@@ -97,7 +112,9 @@ fn index_after(cpi: u16, pair: Pair, instr: Instr) -> Bound {
 }
 
 /// After an instruction where the index was added.
-fn added_after(cpi: u16, instr: Instr) -> Bound {
+fn added_after(cpi: u16, instr: Instr) -> Bound
+    ensures { (passed : List ℕ) → Contains passed cpi → IsPassed passed (cpi_of result) }
+{
     match instr {
         Instr::Lxi(Pair::Hl, _) => Bound::Unknown,
         _ => Bound::Added(cpi),

@@ -1,9 +1,37 @@
 //! The instructions that stand before an address, one after another.
 
+ghost use Rattle.std.specs.Prelude.{IfSome};
+ghost use Rattle.verify80_cases.specs.Standing.{GoesOn};
+
 use crate::leads::falls_to;
 use crate::marks::is_marked;
-use decode80::{behind, fetch};
+use decode80::{Instr, behind, fetch};
 use verify80::ImageCode;
+
+/// An instruction that was reached and goes on to the one behind it.
+#[derive(Clone, Copy)]
+pub(crate) struct Passed {
+    pub(crate) instr: Instr,
+    /// The address behind it.
+    pub(crate) next: u16,
+}
+
+/// The instruction at an address, if it was reached and goes on to the one behind it.
+pub(crate) fn passed_at(code: &ImageCode<'_>, reached: &[bool], at: u16) -> Option<Passed>
+    ensures { IfSome result (λ passed. GoesOn code.now reached.now at passed.next) }
+{
+    if !is_marked(reached, at) {
+        return None;
+    }
+    let Ok(found) = fetch(at, code) else {
+        return None;
+    };
+    let next = falls_to(found)?;
+    Some(Passed {
+        instr: found.instr,
+        next,
+    })
+}
 
 /// The first of the instructions that stand before an address, one after another: each was reached, and goes on to the next one; no
 /// other one that was reached does so. It is the address itself if there is none.
@@ -36,11 +64,8 @@ fn the_one_before(code: &ImageCode<'_>, reached: &[bool], at: u16) -> Option<u16
 
 /// Whether the instruction at an address was reached and may go on to another one that stands behind it.
 fn goes_on_to(code: &ImageCode<'_>, reached: &[bool], before: u16, at: u16) -> bool {
-    if !is_marked(reached, before) {
-        return false;
-    }
-    match fetch(before, code) {
-        Ok(found) => falls_to(found) == Some(at),
-        Err(_) => false,
+    match passed_at(code, reached, before) {
+        Some(passed) => passed.next == at,
+        None => false,
     }
 }

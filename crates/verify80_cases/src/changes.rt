@@ -1,21 +1,36 @@
 //! What instructions change. What stands before a PCHL is read as if a call may change anything.
 
+ghost use Rattle.std.specs.Prelude.{◌≡◌};
+ghost use Rattle.verify80_cases.specs.Changes.{leaves_or_doubles, may_change, may_change_a, may_change_carry, writes_a};
+
 use crate::leads::is_call;
 use decode80::{Instr, Operand, Operation, Pair, Register, Rotation, Writes};
 
 /// Whether an instruction may change a pair.
-pub(crate) fn may_change(instr: Instr, pair: Pair) -> bool {
+pub(crate) fn may_change(instr: Instr, pair: Pair) -> bool
+    ensures { result ≡ may_change instr pair }
+{
     is_call(instr) || instr.writes().includes(pair)
 }
 
 /// Whether an instruction may change A otherwise than by doubling it.
-pub(crate) fn may_change_a(instr: Instr) -> bool {
-    let writes_a = matches!(instr.writes(), Writes::One(Register::A));
-    is_call(instr) || writes_a && !leaves_or_doubles(instr)
+pub(crate) fn may_change_a(instr: Instr) -> bool
+    ensures { result ≡ may_change_a instr }
+{
+    is_call(instr) || writes_a(instr.writes()) && !leaves_or_doubles(instr)
+}
+
+/// Whether A is written.
+fn writes_a(writes: Writes) -> bool
+    ensures { result ≡ writes_a writes }
+{
+    matches!(writes, Writes::One(Register::A))
 }
 
 /// Whether an instruction on A leaves or doubles it.
-fn leaves_or_doubles(instr: Instr) -> bool {
+fn leaves_or_doubles(instr: Instr) -> bool
+    ensures { result ≡ leaves_or_doubles instr }
+{
     matches!(
         instr,
         Instr::Operate(
@@ -26,6 +41,8 @@ fn leaves_or_doubles(instr: Instr) -> bool {
 }
 
 /// Whether an instruction may change the carry flag.
-pub(crate) fn may_change_carry(instr: Instr) -> bool {
+pub(crate) fn may_change_carry(instr: Instr) -> bool
+    ensures { result ≡ may_change_carry instr }
+{
     is_call(instr) || instr.facts().flags.include_carry()
 }

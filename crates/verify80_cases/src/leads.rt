@@ -1,6 +1,7 @@
 //! Where an instruction leads.
 
 ghost use Rattle.std.specs.Prelude.{◌≡◌};
+ghost use Rattle.verify80_cases.specs.Changes.{is_call};
 ghost use Rattle.verify80_cases.specs.Reach.{falls_to, target_of};
 
 use decode80::{Fetched, Flow, Instr};
@@ -30,6 +31,8 @@ pub(crate) fn target_of(instr: Instr) -> Option<u16>
 }
 
 /// Whether an instruction is a call.
-pub(crate) fn is_call(instr: Instr) -> bool {
+pub(crate) fn is_call(instr: Instr) -> bool
+    ensures { result ≡ is_call instr }
+{
     matches!(instr.flow(), Flow::Calls(_) | Flow::CallsIf(_, _))
 }

@@ -1,6 +1,6 @@
 //! Advice on the CASE lines of an image: for each PCHL that no line names yet, the targets that its table gives.
 //!
-//! Proved: targets are entries of a table at an LXI's address, which ends no earlier than it has to.
+//! Proved: targets are entries of a table at an LXI's address, which ends no earlier than it has to; each PCHL has its note.
 //!
 //! | Item | What it is |
 //! |---|---|
@@ -12,13 +12,16 @@
 //! | [`regions_with_cases`] | the text of regions to which cases are added |
 //! | [`find_reachable`] | the addresses that a program may reach, along the cases of its regions |
 //! | [`find_covered`] | the bytes of the instructions there |
+//! | [`laws`] | what holds of the definitions alone |
 #![tactic(auto)]
 
 mod adding;
+mod before;
 mod bound;
 mod chain;
 mod changes;
 mod covered;
+pub mod laws;
 mod leads;
 mod marks;
 mod reach;

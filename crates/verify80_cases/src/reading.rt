@@ -1,14 +1,14 @@
 //! The tables that are found on the way, and the targets that they have.
 
-ghost use Rattle.std.specs.Prelude.{◌≡◌, IfOk, IfSome, true};
-ghost use Rattle.verify80_cases.specs.Suggested.{is_target};
+ghost use Rattle.std.specs.Prelude.{◌≡◌, [], IfOk, IfSome, OnOk};
+ghost use Rattle.verify80_cases.specs.Reading.{AreRests, IsBehindFirst, IsFirstGoal, IsRest};
+ghost use Rattle.verify80_cases.specs.Suggested.{IsTableTarget};
 
-use crate::chain::first_before;
+use crate::before::run_before;
 use crate::marks::{is_marked, mark};
 use crate::reach::Visited;
-use crate::table::{Run, Table, goal_at, run_of, stride};
-use crate::trail::Trail;
-use decode80::{Instr, ahead, fetch};
+use crate::table::{Run, goal_at, holds_pchl, stride};
+use decode80::{ahead, fetch};
 use frames80::{Code, table};
 use std::alloc::{AllocError, Global};
 use verify80::ImageCode;
@@ -19,8 +19,6 @@ const ADDRESSES: usize = 65_536;
 /// The tables that were found so far.
 #[derive(Drop)]
 pub(crate) struct Reader {
-    /// For each PCHL that isn't declared its table.
-    pub(crate) tables: Vec<Option<Table>>,
     /// For each address whether it belongs to an instruction that was reached.
     taken: Vec<bool>,
     /// For each address whether a table there was begun.
@@ -28,14 +26,15 @@ pub(crate) struct Reader {
     /// How many of the addresses that were entered are known.
     known: usize,
     /// The rest of each table that isn't read to its end.
-    unfinished: Vec<Run>,
+    pub(crate) unfinished: Vec<Run>,
 }
 
 impl Reader {
     /// No table is found.
-    pub(crate) fn new(alloc: Global) -> Result<Reader, AllocError> {
+    pub(crate) fn new(alloc: Global) -> Result<Reader, AllocError>
+        ensures { IfOk result (λ reader. reader.unfinished.items ≡ []) }
+    {
         Ok(Reader {
-            tables: vec![in alloc; None; 65536]?,
             taken: table(alloc, false, ADDRESSES)?,
             begun: table(alloc, false, ADDRESSES)?,
             known: 0,
@@ -50,7 +49,9 @@ impl Reader {
         code: &ImageCode<'_>,
         visited: &Visited,
     ) -> Result<Option<u16>, AllocError>
-        ensures { IfOk result (λ target. IfSome target (λ at. is_target code.now at ≡ true)) }
+        requires { AreRests code.now visited.now.marks.items self.old.unfinished.items }
+        ensures target { IfOk result (λ target. IfSome target (IsTableTarget code.now visited.now.marks.items)) }
+        ensures rests { OnOk result (AreRests code.now visited.now.marks.items self.new.unfinished.items) }
     {
         self.notice(code, visited)?;
         // Each table is taken out for good in the end.
@@ -69,7 +70,10 @@ impl Reader {
     }
 
     /// Takes note of the addresses that were entered since.
-    fn notice(&mut self, code: &ImageCode<'_>, visited: &Visited) -> Result<(), AllocError> {
+    fn notice(&mut self, code: &ImageCode<'_>, visited: &Visited) -> Result<(), AllocError>
+        requires { AreRests code.now visited.now.marks.items self.old.unfinished.items }
+        ensures { OnOk result (AreRests code.now visited.now.marks.items self.new.unfinished.items) }
+    {
         let from = self.known;
         let to = visited.order.len();
         for number in from..to {
@@ -83,7 +87,9 @@ impl Reader {
     }
 
     /// Marks the bytes of the instruction at an address.
-    fn take(&mut self, code: &ImageCode<'_>, at: u16) {
+    fn take(&mut self, code: &ImageCode<'_>, at: u16)
+        ensures { self.new.unfinished.items ≡ self.old.unfinished.items }
+    {
         let Ok(found) = fetch(at, code) else {
             return;
         };
@@ -96,21 +102,13 @@ impl Reader {
         }
     }
 
-    /// Notes the table of the PCHL at an address, if there is one that isn't declared and its table is seen, and begins to read it,
-    /// unless that was done before.
-    fn begin(
-        &mut self,
-        code: &ImageCode<'_>,
-        visited: &Visited,
-        at: u16,
-    ) -> Result<(), AllocError> {
-        let Some(table) = table_at(code, visited, at) else {
-            return Ok(());
-        };
-        if let Some(noted) = self.tables.get_mut(usize::from(at)) {
-            *noted = Some(table);
-        }
-        let Some(run) = run_of(code, table) else {
+    /// Begins to read the table of the PCHL at an address, if there is one that isn't declared and its table is seen, unless that was
+    /// done before.
+    fn begin(&mut self, code: &ImageCode<'_>, visited: &Visited, at: u16) -> Result<(), AllocError>
+        requires { AreRests code.now visited.now.marks.items self.old.unfinished.items }
+        ensures { OnOk result (AreRests code.now visited.now.marks.items self.new.unfinished.items) }
+    {
+        let Some(run) = undeclared_run(code, visited, at) else {
             return Ok(());
         };
         if !is_marked(&self.begun, run.first) {
@@ -121,9 +119,19 @@ impl Reader {
     }
 }
 
+/// The entries of the table of the PCHL at an address, if there is one that isn't declared, and its table is seen.
+fn undeclared_run(code: &ImageCode<'_>, visited: &Visited, at: u16) -> Option<Run>
+    ensures { IfSome result (IsRest code.now visited.now.marks.items) }
+{
+    if !holds_pchl(code, at) || !code.targets(at).is_empty() {
+        return None;
+    }
+    run_before(code, &visited.marks, at)
+}
+
 /// Where PCHL goes by the first entry of what is left of a table.
 fn first_goal(code: &ImageCode<'_>, visited: &Visited, taken: &[bool], rest: Run) -> Option<u16>
-    ensures { IfSome result (λ at. is_target code.now at ≡ true) }
+    ensures { IfSome result (IsFirstGoal code.now rest) }
 {
     if rest.limit == 0 {
         return None;
@@ -138,7 +146,9 @@ fn first_goal(code: &ImageCode<'_>, visited: &Visited, taken: &[bool], rest: Run
 }
 
 /// What is left of a table behind its first entry: nothing past the end of memory.
-fn behind_first(rest: Run) -> Option<Run> {
+fn behind_first(rest: Run) -> Option<Run>
+    ensures { IfSome result (IsBehindFirst rest) }
+{
     let limit = rest.limit.checked_sub(1)?;
     let first = usize::from(rest.first) + stride(rest.kind);
     if first >= ADDRESSES {
@@ -149,31 +159,4 @@ fn behind_first(rest: Run) -> Option<Run> {
         first: first as u16,
         limit,
     })
-}
-
-/// The table of the PCHL at an address, if there is one that isn't declared, and its table is seen.
-fn table_at(code: &ImageCode<'_>, visited: &Visited, at: u16) -> Option<Table> {
-    match fetch(at, code) {
-        Ok(found) if found.instr == Instr::Pchl && code.targets(at).is_empty() => {
-            trail_to(code, &visited.marks, at).table()
-        }
-        _ => None,
-    }
-}
-
-/// What the instructions before an address have left.
-fn trail_to(code: &ImageCode<'_>, reached: &[bool], at: u16) -> Trail {
-    let mut trail = Trail::unknown();
-    let mut place = first_before(code, reached, at);
-    for _ in 0..65_536_u32 {
-        let Ok(found) = fetch(place, code) else {
-            break;
-        };
-        if place == at {
-            break;
-        }
-        trail = trail.after(place, found.instr);
-        place = found.next;
-    }
-    trail
 }

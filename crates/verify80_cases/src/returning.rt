@@ -1,6 +1,6 @@
 //! PCHLs by which a procedure returns: HL has its return address.
 
-use crate::chain::first_before;
+use crate::chain::{first_before, passed_at};
 use crate::changes::may_change;
 use crate::leads::{falls_to, is_call, target_of};
 use decode80::{Flow, Instr, Pair, StackPair, fetch};
@@ -131,14 +131,14 @@ pub(crate) fn has_return_address(
         hl: false,
     };
     for _ in 0..65_536_u32 {
-        let Ok(found) = fetch(place, code) else {
+        if place == at {
+            return holders.hl;
+        }
+        let Some(passed) = passed_at(code, reached, place) else {
             break;
         };
-        if place == at {
-            break;
-        }
-        holders = holders.after(found.instr);
-        place = found.next;
+        holders = holders.after(passed.instr);
+        place = passed.next;
     }
-    holders.hl
+    false
 }

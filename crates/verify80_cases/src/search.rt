@@ -1,14 +1,15 @@
 //! An image that is gone through, and what it suggests for a PCHL.
 
-ghost use Rattle.std.specs.Prelude.{◌≡◌, IfOk, IfSome, true};
-ghost use Rattle.verify80_cases.specs.Suggested.{IsExplored, IsNote, IsSearched, IsSuggestedCase, goes_on_behind, is_open};
+ghost use Rattle.std.specs.Prelude.{◌≡◌, ◌≤◌, IfOk, IfSome, true};
+ghost use Rattle.verify80_cases.specs.Suggested.{IsBegun, IsExplored, IsNote, IsSearched, IsSuggestedCase, goes_on_behind, is_open};
 
+use crate::before::run_before;
 use crate::covered::find_covered;
 use crate::marks::is_marked;
 use crate::reach::Visited;
 use crate::reading::Reader;
 use crate::returning::{find_heights, has_return_address};
-use crate::table::{Table, address_of, goals_of, is_free, is_undeclared, run_of};
+use crate::table::{Run, address_of, goals_of, is_free, is_undeclared};
 use frames80::Code;
 use image80::{Case, Image};
 use std::alloc::{AllocError, Global};
@@ -39,15 +40,13 @@ pub enum Note {
 }
 
 /// An image that was gone through, along each branch, behind each call whether it returns or not, from a PCHL to its declared targets,
-/// and to those that its table has.
+/// and to those that its table has. Which instructions show a table is advice: no contract says when one is seen.
 #[derive(Drop)]
 pub struct Search {
     /// For each address whether it was reached.
     reached: Vec<bool>,
     /// For each address whether it is in an instruction that was reached.
     taken: Vec<bool>,
-    /// For each PCHL that isn't declared its table.
-    tables: Vec<Option<Table>>,
     /// For each address how many words a procedure has on the stack there.
     heights: Vec<Option<i32>>,
 }
@@ -68,13 +67,12 @@ impl Search {
     pub fn of(alloc: Global, code: &ImageCode<'_>) -> Result<Search, AllocError>
         ensures { IfOk result (λ search. IsSearched code.now search.reached search.taken) }
     {
-        let (visited, reader) = explore_with_tables(alloc, code)?;
+        let visited = explore_with_tables(alloc, code)?;
         let taken = find_covered(alloc, code, &visited.marks)?;
         let heights = find_heights(alloc, code, &visited.order)?;
         Ok(Search {
             reached: visited.marks,
             taken,
-            tables: reader.tables,
             heights,
         })
     }
@@ -87,7 +85,7 @@ impl Search {
         is_marked(&self.reached, at) && is_undeclared(image, code, at)
     }
 
-    /// The case of such a PCHL, if a table is seen for it.
+    /// The case of such a PCHL, if a table is seen for it now that all is reached; `None` says only that none is.
     ///
     /// # Errors
     /// `AllocError` only if memory runs out.
@@ -103,15 +101,10 @@ impl Search {
         ensures { IfOk result (λ found. IfSome found (λ found.
             IsSuggestedCase image.now self.now.reached self.now.taken found × (found.case.at ≡ at))) }
     {
-        let Some(table) = self.table(at) else {
+        let Some(run) = run_before(code, &self.reached, at) else {
             return Ok(None);
         };
-        case_of_table(alloc, image, code, &self.reached, &self.taken, at, table)
-    }
-
-    /// The table of the undeclared PCHL at an address, if one was seen.
-    fn table(&self, at: u16) -> Option<Table> {
-        *self.tables.get(usize::from(at))?
+        case_of_run(alloc, image, code, &self.reached, &self.taken, at, run)
     }
 
     /// What there is to say of such a PCHL beside the case that is suggested for it.
@@ -133,8 +126,8 @@ impl Search {
 }
 
 /// A walk over an image, and the tables that are found on it and followed.
-fn explore_with_tables(alloc: Global, code: &ImageCode<'_>) -> Result<(Visited, Reader), AllocError>
-    ensures { IfOk result (λ found. IsExplored code.now found.0.marks.items found.0.order.items) }
+fn explore_with_tables(alloc: Global, code: &ImageCode<'_>) -> Result<Visited, AllocError>
+    ensures { IfOk result (λ visited. IsExplored code.now visited.marks.items visited.order.items) }
 {
     let mut reader = Reader::new(alloc)?;
     let mut visited = Visited::new(alloc)?;
@@ -146,27 +139,26 @@ fn explore_with_tables(alloc: Global, code: &ImageCode<'_>) -> Result<(Visited, 
         };
         visited.explore(code, target)?;
     }
-    Ok((visited, reader))
+    Ok(visited)
 }
 
 /// The case of a PCHL that goes by a table; `None` if the table has no entry.
-fn case_of_table(
+fn case_of_run(
     alloc: Global,
     image: &Image,
     code: &ImageCode<'_>,
     reached: &[bool],
     taken: &[bool],
     at: u16,
-    table: Table,
+    run: Run,
 ) -> Result<Option<SuggestedCase>, AllocError>
     requires seen { code.now ≡ image.now }
     requires reached { is_open image.now reached.now at ≡ true }
+    requires begun { IsBegun image.now reached.now at run.first run.limit }
+    requires small { run.limit ≤ 65536 }
     ensures { IfOk result (λ found. IfSome found (λ found.
         IsSuggestedCase image.now reached.now taken.now found × (found.case.at ≡ at))) }
 {
-    let Some(run) = run_of(code, table) else {
-        return Ok(None);
-    };
     let mut targets = goals_of(alloc, code, reached, taken, run)?;
     let count = targets.len();
     if count == 0 {

@@ -1,6 +1,7 @@
 //! The cases that an image suggests.
 
-ghost use Rattle.std.specs.Prelude.{◌≡◌, IfOk};
+ghost use Rattle.std.specs.Prelude.{◌≡◌, ◌++◌, [], IfOk, OnOk};
+ghost use Rattle.std.specs.List.{cons_option};
 ghost use Rattle.verify80_cases.specs.Suggested.{AreSuggested};
 
 use crate::search::{Note, Search};
@@ -29,7 +30,7 @@ pub struct Suggestions {
 /// # Errors
 /// `AllocError` only if memory runs out.
 pub fn suggest_cases(alloc: Global, image: &Image) -> Result<Suggestions, AllocError>
-    ensures { IfOk result (λ found. AreSuggested image.now found.cases.items found.tableless.items) }
+    ensures { IfOk result (λ found. AreSuggested image.now found.cases.items found.tableless.items found.notes.items) }
 {
     let code = ImageCode::new(alloc, image)?;
     let search = Search::of(alloc, &code)?;
@@ -45,8 +46,8 @@ pub fn suggest_cases(alloc: Global, image: &Image) -> Result<Suggestions, AllocE
 }
 
 impl Suggestions {
-    ghost use Rattle.std.specs.Prelude.{◌+◌, OnOk};
-    ghost use Rattle.verify80_cases.specs.Suggested.{AreSuggestedBelow};
+    ghost use Rattle.std.specs.Prelude.{◌+◌};
+    ghost use Rattle.verify80_cases.specs.Suggested.{AreNotesBelow, AreSuggestedBelow};
 
     /// Appends what a PCHL suggests whose address is above those of the others, if there is one at an address.
     fn add(
@@ -59,7 +60,10 @@ impl Suggestions {
     ) -> Result<(), AllocError>
         requires seen { code.now ≡ image.now }
         requires before { AreSuggestedBelow image.now search.now.reached search.now.taken at self.old.cases.items self.old.tableless.items }
-        ensures { OnOk result (AreSuggestedBelow image.now search.now.reached search.now.taken (at + 1) self.new.cases.items self.new.tableless.items) }
+        requires notes { AreNotesBelow image.now search.now.reached search.now.taken at self.old.cases.items self.old.tableless.items self.old.notes.items }
+        ensures cases { OnOk result (AreSuggestedBelow image.now search.now.reached search.now.taken (at + 1) self.new.cases.items self.new.tableless.items) }
+        ensures notes { OnOk result (AreNotesBelow image.now search.now.reached search.now.taken (at + 1)
+            self.new.cases.items self.new.tableless.items self.new.notes.items) }
     {
         if !search.is_open(image, code, at) {
             return Ok(());
@@ -75,7 +79,9 @@ impl Suggestions {
 }
 
 /// Appends a note, if there is one.
-fn push_given(notes: &mut Vec<Note>, note: Option<Note>) -> Result<(), AllocError> {
+fn push_given(notes: &mut Vec<Note>, note: Option<Note>) -> Result<(), AllocError>
+    ensures { OnOk result (notes.new.items ≡ notes.old.items ++ cons_option note []) }
+{
     if let Some(note) = note {
         notes.push(note)?;
     }

@@ -1,7 +1,8 @@
 //! The entries of a table.
 
 ghost use Rattle.std.specs.Prelude.{◌≡◌, ◌+◌, ◌*◌, ◌<◌, ◌≤◌, ◌&&◌, Some, None, All, IfOk, IfSome, length, if◌then◌else◌};
-ghost use Rattle.verify80_cases.specs.Suggested.{AreEntries, IsBegun, IsLimit, compared_byte, goal_of, is_entry, is_free, is_jump, is_target, is_undeclared, is_word, loaded_word, stride, word_in};
+ghost use Rattle.verify80_cases.specs.Reading.{IsLimitOf, IsRunOf};
+ghost use Rattle.verify80_cases.specs.Suggested.{AreEntries, compared_byte, goal_of, holds_pchl, is_entry, is_free, is_jump, is_target, is_undeclared, is_word, loaded_word, stride, word_in};
 ghost use Rattle.verify80.specs.LookLaws.{fetch_at};
 ghost use Rattle.image80.specs.Image.{memory_of};
 
@@ -53,6 +54,16 @@ pub(crate) fn is_undeclared(image: &Image, code: &ImageCode<'_>, at: u16) -> boo
     code.is_code(at) && code.byte(at) == PCHL && image.regions.targets(at).is_none()
 }
 
+/// Whether a PCHL stands at an address, in the code.
+pub(crate) fn holds_pchl(code: &ImageCode<'_>, at: u16) -> bool
+    ensures { result ≡ holds_pchl (fetch_at code.now.regions (memory_of code.now.chunks) at) }
+{
+    match fetch(at, code) {
+        Ok(found) => matches!(found.instr, Instr::Pchl),
+        Err(_) => false,
+    }
+}
+
 /// The word that the LXI at an address loads.
 fn loaded_word(code: &ImageCode<'_>, at: u16) -> Option<u16>
     ensures { result ≡ loaded_word (fetch_at code.now.regions (memory_of code.now.chunks) at) }
@@ -81,7 +92,7 @@ fn compared_byte(code: &ImageCode<'_>, at: u16) -> Option<u8>
 
 /// How many entries a table has at most: as many as the byte of a CPI.
 fn limit_of(code: &ImageCode<'_>, comparison: Option<u16>) -> usize
-    ensures is { IsLimit code.now result }
+    ensures is { IsLimitOf code.now comparison result }
     ensures small { result ≤ 65536 }
 {
     let Some(at) = comparison else {
@@ -95,7 +106,7 @@ fn limit_of(code: &ImageCode<'_>, comparison: Option<u16>) -> usize
 
 /// The entries of a table, if its address is that of an LXI.
 pub(crate) fn run_of(code: &ImageCode<'_>, table: Table) -> Option<Run>
-    ensures begun { IfSome result (λ run. IsBegun code.now run.first run.limit) }
+    ensures is { IfSome result (IsRunOf code.now table) }
     ensures small { IfSome result (λ run. run.limit ≤ 65536) }
 {
     let first = loaded_word(code, table.lxi)?;

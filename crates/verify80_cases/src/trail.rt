@@ -22,6 +22,9 @@
 //! in place of the four before the PCHL. Others may stand before each of the first three, if they leave the pair, or then HL, as it
 //! is. A PCHL behind the first two alone goes into a table of JMPs.
 
+ghost use Rattle.std.specs.Prelude.{◌≡◌, Contains, IfSome, List, Some, ℕ};
+ghost use Rattle.verify80_cases.specs.Trails.{ArePassed, IsPassed, cpi_of, lxi_of};
+
 use crate::bound::Bound;
 use crate::changes::may_change;
 use crate::table::{Table, TableKind};
@@ -69,7 +72,9 @@ enum Load {
 
 impl Trail {
     /// Where nothing is known of the instructions before.
-    pub(crate) fn unknown() -> Trail {
+    pub(crate) fn unknown() -> Trail
+        ensures { (passed : List ℕ) → ArePassed passed result }
+    {
         Trail {
             bc: None,
             de: None,
@@ -79,7 +84,10 @@ impl Trail {
     }
 
     /// The table by which a PCHL goes: its word is in HL, or HL points into it.
-    pub(crate) fn table(self) -> Option<Table> {
+    pub(crate) fn table(self) -> Option<Table>
+        ensures lxi { IfSome result (λ table. lxi_of self.load ≡ Some table.lxi) }
+        ensures comparison { IfSome result (λ table. IfSome table.comparison (λ cpi. cpi_of self.bound ≡ Some cpi)) }
+    {
         let (lxi, kind) = match self.load {
             Load::Exchanged(lxi) => (lxi, TableKind::Words),
             Load::Indexed(lxi) | Load::Points(lxi) => (lxi, TableKind::Jumps),
@@ -93,7 +101,9 @@ impl Trail {
     }
 
     /// What is known after an instruction at an address, which goes on behind itself.
-    pub(crate) fn after(self, at: u16, instr: Instr) -> Trail {
+    pub(crate) fn after(self, at: u16, instr: Instr) -> Trail
+        ensures { (passed : List ℕ) → Contains passed at → ArePassed passed self → ArePassed passed result }
+    {
         Trail {
             bc: loaded_after(self.bc, Pair::Bc, at, instr),
             de: loaded_after(self.de, Pair::De, at, instr),
@@ -103,7 +113,9 @@ impl Trail {
     }
 
     /// How much of a word is loaded after an instruction.
-    fn load_after(self, at: u16, instr: Instr) -> Load {
+    fn load_after(self, at: u16, instr: Instr) -> Load
+        ensures { (passed : List ℕ) → Contains passed at → ArePassed passed self → IsPassed passed (lxi_of result) }
+    {
         match (self.load, instr) {
             (_, Instr::Lxi(Pair::Hl, _)) => Load::Base(at),
             (load, Instr::Dad(Pair::Bc)) => load.added(self.bc),
@@ -124,7 +136,9 @@ impl Trail {
 
 impl Load {
     /// The table to a word of which HL points.
-    fn table(self) -> Option<u16> {
+    fn table(self) -> Option<u16>
+        ensures { IfSome result (λ lxi. lxi_of self ≡ Some lxi) }
+    {
         match self {
             Load::Indexed(table) | Load::Points(table) | Load::LowInA(table) => Some(table),
             _ => None,
@@ -132,7 +146,9 @@ impl Load {
     }
 
     /// After a pair was added to HL whose word is that of an LXI, or isn't known.
-    fn added(self, lxi: Option<u16>) -> Load {
+    fn added(self, lxi: Option<u16>) -> Load
+        ensures { (passed : List ℕ) → IsPassed passed lxi → IsPassed passed (lxi_of self) → IsPassed passed (lxi_of result) }
+    {
         match (lxi, self) {
             (Some(table), _) => Load::Points(table),
             (None, Load::Base(table) | Load::Indexed(table)) => Load::Indexed(table),
@@ -141,7 +157,9 @@ impl Load {
     }
 
     /// After the byte to which HL points was loaded into A.
-    fn low_in_a(self) -> Load {
+    fn low_in_a(self) -> Load
+        ensures { (passed : List ℕ) → IsPassed passed (lxi_of self) → IsPassed passed (lxi_of result) }
+    {
         match self.table() {
             Some(table) => Load::LowInA(table),
             None => self.kept(),
@@ -149,7 +167,9 @@ impl Load {
     }
 
     /// After the byte to which HL points was loaded into E.
-    fn low_in_e(self) -> Load {
+    fn low_in_e(self) -> Load
+        ensures { (passed : List ℕ) → IsPassed passed (lxi_of self) → IsPassed passed (lxi_of result) }
+    {
         match self.table() {
             Some(table) => Load::Low(table),
             None => self.kept(),
@@ -157,7 +177,9 @@ impl Load {
     }
 
     /// After an instruction that leaves HL as it is.
-    fn kept(self) -> Load {
+    fn kept(self) -> Load
+        ensures { (passed : List ℕ) → IsPassed passed (lxi_of self) → IsPassed passed (lxi_of result) }
+    {
         match self {
             Load::Base(word) => Load::Base(word),
             Load::Indexed(table) => Load::Indexed(table),
@@ -168,7 +190,9 @@ impl Load {
 }
 
 /// The LXI whose word is in a pair, after an instruction at an address.
-fn loaded_after(lxi: Option<u16>, pair: Pair, at: u16, instr: Instr) -> Option<u16> {
+fn loaded_after(lxi: Option<u16>, pair: Pair, at: u16, instr: Instr) -> Option<u16>
+    ensures { (passed : List ℕ) → Contains passed at → IsPassed passed lxi → IsPassed passed result }
+{
     match instr {
         Instr::Lxi(loaded, _) if loaded == pair => Some(at),
         _ if may_change(instr, pair) => None,

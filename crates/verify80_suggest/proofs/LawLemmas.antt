@@ -8,6 +8,7 @@ use Rattle.image80.specs.Range.{in_ranges}
 use Rattle.image80.specs.Regions.{in_code}
 use Rattle.verify80_suggest.specs.declared.setters.Setter.{Setter}
 use Rattle.verify80_suggest.specs.Bytes.{may_be_code}
+use Rattle.verify80_cases.specs.declared.search.Note.{Note}
 use Rattle.verify80_cases.specs.Marks.{marked}
 use Rattle.verify80_suggest.specs.Suggestion.{IsSuggestion, with_regions}
 use Rattle.verify80_suggest.proofs.CodeLemmas.{covered_code}
@@ -16,9 +17,9 @@ both : (a b : Bool) → (a && b) ≡ true → (a ≡ true) × (b ≡ true)
 both true b e = (refl, e)
 both false b e = absurd (true≢false (sym e))
 
-pub code_inside : (image : Located) (rom ram : List Range) (first second : Option Setter) (tableless : List ℕ) (new : Located) →
-    IsSuggestion image rom ram first second tableless new → (address : ℕ) → in_code new.regions address ≡ true → may_be_code image.chunks rom address ≡ true
-code_inside image rom ram first second tableless new is address here =
+pub code_inside : (image : Located) (rom ram : List Range) (first second : Option Setter) (tableless : List ℕ) (notes : List Note) (new : Located) →
+    IsSuggestion image rom ram first second tableless notes new → (address : ℕ) → in_code new.regions address ≡ true → may_be_code image.chunks rom address ≡ true
+code_inside image rom ram first second tableless notes new is address here =
     let parts = both (nat_lt address 65536) (marked is.found.covered address) (sym (is.arranged.code.exact address) ∙ here) in
     let low : address < 65536 = below parts.0 in
     let known = with_regions image (record is.base { cases = is.cases }) in

@@ -33,6 +33,7 @@ use Rattle.image80.specs.Image.{Located, memory_of}
 use Rattle.image80.specs.Regions.{Areas, in_code}
 use Rattle.verify80.specs.Looking.{code_of, declared_targets, is_pchl, look_at}
 use Rattle.verify80.specs.LookLaws.{LooksAnswerFaultsThatHold, LooksFindWhatIsAdmitted}
+use Rattle.verify80_cases.specs.declared.search.Note.{Note}
 use Rattle.verify80_cases.specs.Reach.{MayReach, falls_to, given, leads_from, leads_to, target_of, targets_of}
 use Rattle.verify80_cases.specs.Reach.MayReach.{begins as reach_begins, goes_on as reach_goes_on}
 use Rattle.verify80_cases.specs.Marks.{marked}
@@ -207,7 +208,7 @@ module _ (image : Located) (known areas : Areas) (same : areas.cases ≡ known.c
       (calls (role_of (code_of narrow) p) found.instr f call.moves (declared_targets areas at) found.next (effect_of found.instr) (led found.instr) call.moving.moved target call.call).1))
 
 -- the walks over what is suggested come only to what is reached
-module _ (image : Located) (rom ram : List Range) (first second : Option Setter) (tableless : List ℕ) (new : Located) (is : IsSuggestion image rom ram first second tableless new)
+module _ (image : Located) (rom ram : List Range) (first second : Option Setter) (tableless : List ℕ) (notes : List Note) (new : Located) (is : IsSuggestion image rom ram first second tableless notes new)
     (finds : LooksFindWhatIsAdmitted) (faults : LooksAnswerFaultsThatHold) where
   abbrev known : Areas
   known = record is.base { cases = is.cases }

@@ -13,6 +13,7 @@ use Rattle.verify80_flow.specs.Faults.{HoldsAnyway}
 use Rattle.verify80.specs.Looking.{code_of}
 use Rattle.verify80_cases.specs.Reach.{AreReached}
 use Rattle.verify80_cases.specs.Suggested.{AreSuggested}
+use Rattle.verify80_cases.specs.declared.search.Note.{Note}
 use Rattle.verify80_suggest.specs.declared.setters.Setter.{Setter}
 use Rattle.verify80_suggest.specs.Bytes.{has_byte, may_be_code}
 use Rattle.verify80_cases.specs.Covered.{is_covered}
@@ -75,11 +76,11 @@ with_regions image areas = record image { regions = areas }
 
 -- the regions that are suggested: those of what is found of the image with all bytes as code that may be code, and with the cases
 -- that its tables suggest
-pub record IsSuggestion (image : Located) (rom ram : List Range) (first second : Option Setter) (tableless : List ℕ) (new : Located) : Type 0 where
+pub record IsSuggestion (image : Located) (rom ram : List Range) (first second : Option Setter) (tableless : List ℕ) (notes : List Note) (new : Located) : Type 0 where
   pub base : Areas
   pub is_base : Covers (may_be_code image.chunks rom) base.code
   pub cases : List DeclaredCase
-  pub suggested : AreSuggested (with_regions image base) cases tableless
+  pub suggested : AreSuggested (with_regions image base) cases tableless notes
   pub found : Found
   pub is_found : IsFound (with_regions image (record base { cases = cases })) found
   pub is_first : first ≡ found.first

@@ -6,6 +6,7 @@ ghost use Rattle.image80.specs.Regions.{in_code};
 ghost use Rattle.image80.specs.declared.range.Range.{Range};
 ghost use Rattle.frames80.specs.declared.procedure.Procedure.{Procedure};
 ghost use Rattle.verify80_cases.specs.Marks.{marked};
+ghost use Rattle.verify80_cases.specs.declared.search.Note.{Note};
 ghost use Rattle.verify80_flow.specs.Faults.{Holds};
 ghost use Rattle.verify80_flow.specs.Walks.{Walk};
 ghost use Rattle.verify80_flow.specs.declared.refusal.Refusal.TheVariants.{FetchOutside};
@@ -21,8 +22,8 @@ use verify80::looks_are_exact;
 
 /// The code that is suggested lies where the image has bytes, and in the ranges of the ROM, if there are such.
 pub fn suggested_code_lies_in_the_image()
-    ensures { (image : Located) (rom ram : List Range) (first second : Option Setter) (tableless : List ℕ) (new : Located) →
-        IsSuggestion image rom ram first second tableless new →
+    ensures { (image : Located) (rom ram : List Range) (first second : Option Setter) (tableless : List ℕ) (notes : List Note) (new : Located) →
+        IsSuggestion image rom ram first second tableless notes new →
         (address : ℕ) → in_code new.regions address ≡ true → may_be_code image.chunks rom address ≡ true }
 {}
 
@@ -30,11 +31,11 @@ pub fn suggested_code_lies_in_the_image()
 /// answer `FetchOutside` of them only at an address whose instruction lacks a byte: the image has none there, or it lies outside the
 /// ranges of the ROM, if there are such (`outside`).
 pub fn fetches_outside_lack_bytes()
-    ensures walks { (image : Located) (rom ram : List Range) (first second : Option Setter) (tableless : List ℕ) (new : Located) →
-        (is : IsSuggestion image rom ram first second tableless new) →
+    ensures walks { (image : Located) (rom ram : List Range) (first second : Option Setter) (tableless : List ℕ) (notes : List Note) (new : Located) →
+        (is : IsSuggestion image rom ram first second tableless notes new) →
         (p : Procedure) (at : ℕ) (f : StackFrame) → Walk (code_of new) p at f → marked is.found.reached at ≡ true }
-    ensures outside { (image : Located) (rom ram : List Range) (first second : Option Setter) (tableless : List ℕ) (new : Located) →
-        IsSuggestion image rom ram first second tableless new →
+    ensures outside { (image : Located) (rom ram : List Range) (first second : Option Setter) (tableless : List ℕ) (notes : List Note) (new : Located) →
+        IsSuggestion image rom ram first second tableless notes new →
         (at : ℕ) → Holds (code_of new) (FetchOutside at) → LacksByte image rom at }
 {
     spelling_laws();

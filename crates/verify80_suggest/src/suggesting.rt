@@ -50,7 +50,7 @@ pub fn suggest_regions(
     ram: &[Range],
 ) -> Result<Advice, AllocError>
     ensures { IfOk result (λ advice.
-        IsSuggestion image.old rom.now ram.now advice.first advice.second advice.tableless.items image.new) }
+        IsSuggestion image.old rom.now ram.now advice.first advice.second advice.tableless.items advice.notes.items image.new) }
 {
     image.regions = base_regions(alloc, image, rom)?;
     let found = suggest_cases(alloc, image)?;

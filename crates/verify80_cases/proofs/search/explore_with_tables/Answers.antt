@@ -1,7 +1,9 @@
-use Rattle.std.proofs.Common.{◌≡◌, [], true, subst}
+use Rattle.std.proofs.Common.{[], subst, sym}
 use Rattle.std.specs.Prelude.{IfSome}
-use Rattle.verify80_cases.specs.Suggested.{is_target}
-use Rattle.verify80_cases.proofs.ReachLemmas.{explored_more, explored_start}
+use Rattle.std.proofs.lemmas.List.Elements.{All-nil}
+use Rattle.verify80_cases.specs.Reading.{AreRests, IsRest}
+use Rattle.verify80_cases.specs.Suggested.{IsTableTarget}
+use Rattle.verify80_cases.proofs.ReachLemmas.{explored_more, explored_start, rests_more}
 use Rattle.verify80_cases.proofs.search.explore_with_tables.Goals as goal
 
 pub explore-requires : goal.explore-requires
@@ -11,11 +13,19 @@ pub loop-init : goal.loop-init
 loop-init c = record {
   explored = explored_start c.args.code.now c.explore.new.self.marks.items c.explore.new.self.order.items c.start.result c.start.ensures
       (c.in_ok-explore.ensures [] (c.in_ok-visited.ensures c.args.code.now));
+  rests = subst (AreRests c.args.code.now c.explore.new.self.marks.items) (sym c.in_ok-reader.ensures) (All-nil (IsRest c.args.code.now c.explore.new.self.marks.items));
 }
 
 pub loop-preserved : goal.loop-preserved
-loop-preserved c = record {
-  explored = explored_more c.args.code.now c.loop.visited.marks.items c.loop.visited.order.items c.in-Some.target c.explore-in-loop.new.self.marks.items c.explore-in-loop.new.self.order.items
-      c.loop.invariant.explored
-      (subst (λ t. IfSome t (λ at. is_target c.args.code.now at ≡ true)) c.in-Some.is c.in_ok-target.ensures) c.in_ok-explore-2.ensures;
-}
+loop-preserved c =
+    let code = c.args.code.now in
+    let m = c.loop.visited.marks.items in
+    let o = c.loop.visited.order.items in
+    let m' = c.explore-in-loop.new.self.marks.items in
+    let o' = c.explore-in-loop.new.self.order.items in
+    let at = c.in-Some.target in
+    record {
+      explored = explored_more code m o at m' o' c.loop.invariant.explored c.in_ok-explore-2.ensures
+          (subst (λ t. IfSome t (IsTableTarget code m)) c.in-Some.is c.in_ok-target.ensures.target);
+      rests = rests_more code m o at m' o' c.loop.invariant.explored c.in_ok-explore-2.ensures c.next_target.new.self.unfinished.items c.in_ok-target.ensures.rests;
+    }

@@ -1,9 +1,5 @@
-use Rattle.std.proofs.Common.{sym, ◌∙◌}
+use Rattle.std.proofs.Common.{refl, sym, ◌∙◌}
 use Rattle.verify80_cases.proofs.table.run_of.Goals as goal
 
-pub returns-clause-begun : goal.returns-clause-begun
-returns-clause-begun c = record {
-  lxi = c.args.table.lxi;
-  loaded = sym c.loaded_word.ensures ∙ c.in_ok-first.was;
-  is_limit = c.limit_of.ensures.is;
-}
+pub returns-clause-is : goal.returns-clause-is
+returns-clause-is c = record { kind = refl; loaded = sym c.loaded_word.ensures ∙ c.in_ok-first.was; is_limit = c.limit_of.ensures.is }

@@ -22,8 +22,8 @@ returns c =
     let least = c.in_ok-image-inside-3.field-0 in
     let wanted = c.in_ok-wanted.wanted in
     let survey = c.in_ok-survey.survey in
-    let suggested : (i : Located) → i ≡ c.args.image.now → AreSuggested (with_regions i base) cases c.in_ok-found.found.tableless.items =
-    λ i is. subst (λ (v : Located). AreSuggested (with_regions v base) cases c.in_ok-found.found.tableless.items) (c.image.view_is ∙ sym is) c.in_ok-found.ensures in
+    let suggested : (i : Located) → i ≡ c.args.image.now → AreSuggested (with_regions i base) cases c.in_ok-found.found.tableless.items c.in_ok-found.found.notes.items =
+    λ i is. subst (λ (v : Located). AreSuggested (with_regions v base) cases c.in_ok-found.found.tableless.items c.in_ok-found.found.notes.items) (c.image.view_is ∙ sym is) c.in_ok-found.ensures in
     let is_found : IsFound (with_regions c.args.image.now (record base { cases = cases })) survey =
     subst (λ (v : Located). IsFound (with_regions v (record base { cases = cases })) survey) c.image.view_is
     (subst (λ (r : Areas). IsFound (record { name = c.image.inside.name; chunks = c.image.inside.chunks.items; regions = r; start = c.image.inside.start }) survey) made c.in_ok-survey.ensures) in
@@ -31,7 +31,7 @@ returns c =
     let is_wanted : IsWanted (with_regions c.args.image.now least) wanted =
     subst (λ (v : Located). IsWanted (with_regions v least) wanted) c.image.view_is c.in_ok-wanted.ensures in
     let arranged : IsArranged survey cases c.args.ram.now wanted final = subst (λ ks. IsArranged survey ks c.args.ram.now wanted final) c.deref-3.ensures.value c.in_ok-image-inside-4.ensures in
-    subst (λ (v : Located). IsSuggestion c.args.image.now c.args.rom.now c.args.ram.now c.survey.inside.first c.survey.inside.second c.in_ok-found.found.tableless.items (with_regions v final)) (sym c.image.view_is)
+    subst (λ (v : Located). IsSuggestion c.args.image.now c.args.rom.now c.args.ram.now c.survey.inside.first c.survey.inside.second c.in_ok-found.found.tableless.items c.in_ok-found.found.notes.items (with_regions v final)) (sym c.image.view_is)
     (record {
       base = base;
       is_base = c.in_ok-image-inside.ensures.code;

@@ -1,0 +1,68 @@
+-- What stands before an address stays so as more is reached, and so do the targets of tables.
+use Rattle.std.proofs.Common.{inl, inr, ℕ, Bool, List, All, get_or}
+use Rattle.image80.specs.Image.{Located}
+use Rattle.verify80_cases.specs.declared.table.Run.{Run}
+use Rattle.verify80_cases.specs.Reach.{IsMarked}
+use Rattle.verify80_cases.specs.Reading.{AreRests, IsRest}
+use Rattle.verify80_cases.specs.Standing.{GoesOn, StandsBefore}
+use Rattle.verify80_cases.specs.Standing.StandsBefore.{last, earlier}
+use Rattle.verify80_cases.specs.Suggested.{GoesByTable, IsBegun, IsLimit, IsRoot, IsTableTarget}
+use Rattle.verify80_cases.specs.Suggested.IsLimit.{none, compared}
+
+module _ (image : Located) (m m' : List Bool) (kept : (at : ℕ) → IsMarked m at → IsMarked m' at) where
+  goes_on_kept : (at next : ℕ) → GoesOn image m at next → GoesOn image m' at next
+  goes_on_kept at next goes = record { is_reached = kept at goes.is_reached; behind = goes.behind }
+
+  stands_kept : (place at : ℕ) → StandsBefore image m place at → StandsBefore image m' place at
+  stands_kept place _ (last at goes) = last at (goes_on_kept place at goes)
+  stands_kept place _ (earlier before at stands goes) = earlier before at (stands_kept place before stands) (goes_on_kept before at goes)
+
+  limit_kept : (at limit : ℕ) → IsLimit image m at limit → IsLimit image m' at limit
+  limit_kept at limit (none is) = none is
+  limit_kept at limit (compared cpi stands is) = compared cpi (stands_kept cpi at stands) is
+
+  begun_kept : (at table limit : ℕ) → IsBegun image m at table limit → IsBegun image m' at table limit
+  begun_kept at table limit begun = record {
+    lxi = begun.lxi;
+    before = stands_kept begun.lxi at begun.before;
+    loaded = begun.loaded;
+    is_limit = limit_kept at limit begun.is_limit;
+  }
+
+  by_kept : (at table limit : ℕ) → GoesByTable image m at table limit → GoesByTable image m' at table limit
+  by_kept at table limit by = record { is_pchl = by.is_pchl; undeclared = by.undeclared; begun = begun_kept at table limit by.begun }
+
+  pub target_kept : (target : ℕ) → IsTableTarget image m target → IsTableTarget image m' target
+  target_kept target is = record {
+    at = is.at;
+    table = is.table;
+    limit = is.limit;
+    by = by_kept is.at is.table is.limit is.by;
+    kind = is.kind;
+    number = is.number;
+    inside = is.inside;
+    entries = is.entries;
+    goal = is.goal;
+  }
+
+  root_kept : (root : ℕ) → IsRoot image m root → IsRoot image m' root
+  root_kept root (inl is) = inl is
+  root_kept root (inr is) = inr (target_kept root is)
+
+  pub roots_kept : (roots : List ℕ) → All (IsRoot image m) roots → All (IsRoot image m') roots
+  roots_kept roots all = λ k d inside. root_kept (get_or roots k d) (all k d inside)
+
+  rest_kept : (rest : Run) → IsRest image m rest → IsRest image m' rest
+  rest_kept rest is = record {
+    at = is.at;
+    table = is.table;
+    limit = is.limit;
+    by = by_kept is.at is.table is.limit is.by;
+    number = is.number;
+    first = is.first;
+    left = is.left;
+    passed = is.passed;
+  }
+
+  pub rests_kept : (rests : List Run) → AreRests image m rests → AreRests image m' rests
+  rests_kept rests all = λ k d inside. rest_kept (get_or rests k d) (all k d inside)
