@@ -3,3 +3,4 @@
 pub(crate) mod causes;
 pub(crate) mod link_lines;
 pub(crate) mod locate_options;
+pub(crate) mod rom_faults;
