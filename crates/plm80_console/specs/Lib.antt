@@ -1,2 +1,4 @@
+pub mod Answer
+pub mod Arguments
 pub mod Pieces
 pub mod NumberText

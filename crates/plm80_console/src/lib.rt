@@ -1,6 +1,6 @@
 //! What the commands of `plm80` share: their arguments, their files, and their faults, each a line on standard error.
 //!
-//! Proved: files are read whole, or to their first fault; numbers of options.
+//! Proved: files are read whole, or to their first fault; numbers of options; what an answer writes, prints and gives.
 //!
 //! | Item | What it is |
 //! |---|---|
@@ -9,9 +9,13 @@
 //! | [`OptionText`] | an option with its value; a [`Console`] reads it as a number or a name |
 //! | [`ProgramFiles`] | the image and the regions that several commands read |
 //! | [`read_link_file`], [`read_object_file`], [`LinkFile`] | object files and libraries, read in pieces |
+//! | [`Answer`], [`WrittenFile`] | what a command answers: files, lines and a status; a [`Console`] does it |
+//! | [`ReadFile`], [`FaultOf`] | a file with its path; a fault with the path of its file |
 //! | [`LateFile`], [`NotedWriter`] | a file that is opened when it is read; a writer that keeps why it failed |
 #![tactic(auto)]
 
+mod answer;
+mod argument_texts;
 mod console;
 mod file_fault;
 mod file_kinds;
@@ -25,6 +29,7 @@ mod options;
 mod path_parts;
 mod pieces;
 mod program_files;
+mod read_file;
 mod regions_words;
 mod replacing;
 mod same_file;
@@ -32,6 +37,8 @@ mod shared_paths;
 mod syntax;
 mod unread_bytes;
 
+pub use answer::{Answer, WrittenFile, WrittenFiles};
+pub use argument_texts::argument_text;
 pub use console::{Console, Reported};
 pub use file_fault::FileFault;
 pub use files::{LateFile, NotedWriter};
@@ -43,6 +50,7 @@ pub use pieces::{TakePieces, read_in_pieces};
 pub use program_files::{
     IMAGE, PROGRAM_FILES, ProgramFiles, REGIONS, image_of, regions_of, report_regions,
 };
+pub use read_file::{FaultOf, ReadFile};
 pub use regions_words::explain_regions;
 pub use replacing::NewFile;
 pub use syntax::{Argument, Kind, Syntax, WHY, path_of};

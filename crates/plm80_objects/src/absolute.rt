@@ -1,10 +1,17 @@
 //! `plm80 absolute`: the image of bytes as they are.
 
+ghost use Rattle.std.specs.Prelude.{◌≡◌, ◌++◌, IfOk, IfErr, OnOk};
+ghost use Rattle.rom80.specs.Rom.{chunks_of};
+ghost use Rattle.plm80_objects.specs.Absolute.{IsRomFile, WritesImage};
+ghost use Rattle.plm80_objects.specs.RomFaults.{IsRefusedWith};
+
+use crate::helpers::rom_faults::report_rom_fault;
 use clap::ArgMatches;
-use image80::{Chunk, Image};
 use image80_file::write_image;
+use omf_core::Name;
 use plm80_console::{
-    Argument, Console, Kind, OptionText, Reported, Syntax, path_of, word_of_digits,
+    Answer, Argument, Console, FaultOf, Kind, OptionText, ReadFile, Reported, Syntax, path_of,
+    word_of_digits,
 };
 use rom80::{Dumps, RomFault};
 use std::alloc::{AllocError, Global};
@@ -108,25 +115,17 @@ pub fn write_absolute(
     let start = console.word(arguments.start)?;
     let files = files_of(console, arguments)?;
     let name = console.name(arguments.name)?;
-    let dumps = read_dumps(console, &files)?;
-    let image = dumps.into_image(console.alloc(), name, start);
-    explain_start(console, &image);
-    write_file(console, arguments.image, &image)
-}
-
-/// Says that no byte is at the start of an image, if that is so.
-fn explain_start(console: Console<'_>, image: &Image) {
-    let start = image.start;
-    if console.explains() && !image.chunks.iter().any(|chunk| has_byte(chunk, start)) {
-        let _ = eprintln!(console.runtime(); "  no byte is at the start, {start:04X}");
+    let (dumps, has_start) = read_dumps(console, &files, start)?;
+    if !has_start {
+        explain_start(console, start);
     }
+    console.give_if_made(answer(console.alloc(), arguments.image, dumps, name, start))
 }
 
-/// Whether a chunk has a byte at an address.
-fn has_byte(chunk: &Chunk, address: u16) -> bool {
-    match address.checked_sub(chunk.address) {
-        Some(offset) => usize::from(offset) < chunk.bytes.len(),
-        None => false,
+/// Says that no byte is at the start of an image.
+fn explain_start(console: Console<'_>, start: u16) {
+    if console.explains() {
+        let _ = eprintln!(console.runtime(); "  no byte is at the start, {start:04X}");
     }
 }
 
@@ -159,7 +158,9 @@ fn add_file<'a>(
 }
 
 /// The file that an address, an equals sign and a path name.
-fn file_of<'a>(console: Console<'_>, text: &'a str) -> Result<RomFile<'a>, Reported> {
+fn file_of<'a>(console: Console<'_>, text: &'a str) -> Result<RomFile<'a>, Reported>
+    ensures { IfOk result (IsRomFile text.now) }
+{
     let option = OptionText::new(FURTHER, text);
     let Some((first, path)) = text.split_once('=') else {
         return Err(console.report_number(option, "an address, an equals sign and a file"));
@@ -170,31 +171,61 @@ fn file_of<'a>(console: Console<'_>, text: &'a str) -> Result<RomFile<'a>, Repor
     }
 }
 
-/// The dumps that the files hold. Each file is checked before the next one is opened.
-fn read_dumps(console: Console<'_>, files: &[RomFile<'_>]) -> Result<Dumps, Reported> {
+/// The dumps that the files hold, and whether one of them has a byte at the start. Each file is checked before the next one is opened.
+fn read_dumps(
+    console: Console<'_>,
+    files: &[RomFile<'_>],
+    start: u16,
+) -> Result<(Dumps, bool), Reported> {
     let mut dumps = Dumps::new(console.alloc());
-    for file in files {
-        add_dump(console, &mut dumps, *file)?;
+    let mut has_start = false;
+    for rom in files {
+        let file = console.read_file(rom.path)?;
+        has_start |= has_byte(rom.first, file.bytes.len(), start);
+        match add_dump(console.alloc(), &mut dumps, rom.first, &file) {
+            Ok(()) => {}
+            Err(fault) => return Err(report_rom_fault(console, fault)),
+        }
     }
-    Ok(dumps)
+    Ok((dumps, has_start))
+}
+
+/// Whether bytes from a first address on have one at another.
+fn has_byte(first: u16, count: usize, address: u16) -> bool {
+    match address.checked_sub(first) {
+        Some(offset) => usize::from(offset) < count,
+        None => false,
+    }
 }
 
 /// Adds the dump that a file holds.
-fn add_dump(console: Console<'_>, dumps: &mut Dumps, file: RomFile<'_>) -> Result<(), Reported> {
-    let bytes = console.read_whole(file.path)?;
-    match dumps.add(console.alloc(), file.first, &bytes) {
+fn add_dump<'a>(
+    alloc: Global,
+    dumps: &mut Dumps,
+    first: u16,
+    file: &ReadFile<'a>,
+) -> Result<(), FaultOf<'a, RomFault>>
+    ensures added { OnOk result (dumps.new ≡ dumps.old ++ chunks_of first file.now.bytes.items) }
+    ensures fault { IfErr result (λ f. (f.path.now ≡ file.now.path.now) × IsRefusedWith dumps.old first file.now.bytes.items f.fault) }
+{
+    match dumps.add(alloc, first, &file.bytes) {
         Ok(()) => Ok(()),
-        Err(RomFault::Memory) => Err(console.report_memory()),
-        Err(fault) => Err(console.report_file(file.path, fault)),
+        Err(fault) => Err(file.fault(fault)),
     }
 }
 
-/// Writes the image to the file of this path.
-fn write_file(console: Console<'_>, path: &str, image: &Image) -> Result<u8, Reported> {
-    let mut file = Vec::new(console.alloc());
-    if write_image(console.alloc(), image, &mut file).is_err() {
-        return Err(console.report_memory());
-    }
-    console.replace(path, &file)?;
-    Ok(0)
+/// The image of dumps, which goes to the file of this path.
+fn answer<'a>(
+    alloc: Global,
+    path: &'a str,
+    dumps: Dumps,
+    name: Name,
+    start: u16,
+) -> Result<Answer<'a>, AllocError>
+    ensures { IfOk result (WritesImage path.now name dumps start) }
+{
+    let image = dumps.into_image(alloc, name, start);
+    let mut file = Vec::new(alloc);
+    write_image(alloc, &image, &mut file)?;
+    Ok(Answer::writes(path, file, Vec::new(alloc)))
 }

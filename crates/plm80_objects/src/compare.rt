@@ -1,13 +1,22 @@
 //! `plm80 compare`: where an image and a dump differ.
 
+ghost use Rattle.std.specs.Prelude.{◌≡◌, length, IfOk, IfErr};
+ghost use Rattle.rom80.specs.Rom.{bytes_over};
+ghost use Rattle.plm80_objects.specs.Arguments.{AreCompareArguments};
+ghost use Rattle.plm80_objects.specs.Compare.{PrintsDifferences};
+ghost use Rattle.plm80_objects.specs.RomFaults.{IsRefused};
+
 use crate::extract::{FILL, fill_of};
+use crate::helpers::rom_faults::report_rom_fault;
 use clap::ArgMatches;
-use image80::Range;
+use image80::{Image, Range};
 use plm80_console::{
-    Argument, Console, IMAGE, Kind, OptionText, Reported, Syntax, image_of, path_of,
+    Answer, Argument, Console, FaultOf, IMAGE, Kind, OptionText, ReadFile, Reported, Syntax,
+    argument_text, image_of,
 };
 use plm80_names::{NAMES, Names};
-use rom80::{Comparison, RomFault, compare, no_regions};
+use rom80::{RomFault, compare, no_regions};
+use std::alloc::Global;
 
 /// The arguments of `compare`.
 #[derive(Clone, Copy)]
@@ -61,10 +70,12 @@ pub const COMPARE: Syntax<'static> = Syntax {
 
 impl<'a> CompareArguments<'a> {
     /// The arguments as clap has read them.
-    pub fn of(matches: &ArgMatches<'a>) -> CompareArguments<'a> {
+    pub fn of(matches: &ArgMatches<'a>) -> CompareArguments<'a>
+        ensures { AreCompareArguments matches.now result }
+    {
         CompareArguments {
-            image: path_of(matches, IMAGE.name),
-            dump: path_of(matches, "DUMP"),
+            image: argument_text(matches, "IMAGE"),
+            dump: argument_text(matches, "DUMP"),
             first: OptionText::of(matches, "first"),
             fill: fill_of(matches),
             names: matches.get_flag(NAMES.name),
@@ -72,16 +83,21 @@ impl<'a> CompareArguments<'a> {
     }
 }
 
-/// Prints where the image and the dump differ; the status is 1 if they do.
+/// Prints where the image and the dump differ; the status is 1 if they do. Both files are read before either is checked.
 pub fn compare_files(
     console: Console<'_>,
     arguments: CompareArguments<'_>,
 ) -> Result<u8, Reported> {
     let first = console.word(arguments.first)?;
     let fill = console.byte(arguments.fill)?;
-    let (text, status) = compared(console, arguments, first, fill)?;
-    console.print(&text)?;
-    Ok(status)
+    let file = console.read_file(arguments.image)?;
+    let dump = console.read_file(arguments.dump)?;
+    let image = image_of(console, file.path, &file.bytes, no_regions(console.alloc()))?;
+    let names = Names::of(console, arguments.names, file.path, &file.bytes)?;
+    match compared(console.alloc(), &image, &names, first, &dump, fill) {
+        Ok(answer) => console.give(answer),
+        Err(fault) => Err(report_rom_fault(console, fault)),
+    }
 }
 
 /// All addresses, but FFFF, and FFFF: where names are sought for the bytes of a memory.
@@ -96,33 +112,26 @@ static MEMORY: [Range; 2] = [
     },
 ];
 
-/// The lines of the comparison of the files, and the exit status. Both are read before either is checked.
-fn compared(
-    console: Console<'_>,
-    arguments: CompareArguments<'_>,
-    first: u16,
-    fill: u8,
-) -> Result<(Vec<u8>, u8), Reported> {
-    let file = console.read_whole(arguments.image)?;
-    let dump = console.read_whole(arguments.dump)?;
-    let image = image_of(console, arguments.image, &file, no_regions(console.alloc()))?;
-    let names = Names::of(console, arguments.names, arguments.image, &file)?;
-    match compare(console.alloc(), &image, first, &dump, fill) {
-        Ok(comparison) => named(console, comparison, &names),
-        Err(RomFault::Memory) => Err(console.report_memory()),
-        Err(fault) => Err(console.report_file(arguments.dump, fault)),
-    }
-}
-
-/// The lines of a comparison with names, and the exit status.
-fn named(
-    console: Console<'_>,
-    comparison: Comparison,
+/// Where an image and a dump from an address on differ.
+fn compared<'a>(
+    alloc: Global,
+    image: &Image,
     names: &Names,
-) -> Result<(Vec<u8>, u8), Reported> {
+    first: u16,
+    dump: &ReadFile<'a>,
+    fill: u8,
+) -> Result<Answer<'static>, FaultOf<'a, RomFault>>
+    ensures answer { let bytes = dump.now.bytes.items in IfOk result
+        (PrintsDifferences (bytes_over fill image.now.chunks first (length bytes)) bytes first names.now) }
+    ensures fault { IfErr result (λ f. (f.path.now ≡ dump.now.path.now) × IsRefused first dump.now.bytes.items f.fault) }
+{
+    let comparison = match compare(alloc, image, first, &dump.bytes, fill) {
+        Ok(comparison) => comparison,
+        Err(fault) => return Err(dump.fault(fault)),
+    };
     let status = if comparison.ranges.is_empty() { 0 } else { 1 };
-    match names.name(console.alloc(), &MEMORY, b"DIFFERS ", comparison.text) {
-        Ok(text) => Ok((text, status)),
-        Err(_) => Err(console.report_memory()),
+    match names.name(alloc, &MEMORY, b"DIFFERS ", comparison.text) {
+        Ok(text) => Ok(Answer::prints(text, status)),
+        Err(_) => Err(dump.fault(RomFault::Memory)),
     }
 }

@@ -1,10 +1,17 @@
 //! `plm80 extract`: the bytes of an image's memory over a range, as they are.
 
+ghost use Rattle.std.specs.Prelude.{◌≡◌, ◌+◌, ◌<◌, ◌↔◌, [], if◌then◌else◌, IfOk, IsErrOf};
+ghost use Rattle.rom80.specs.Rom.{bytes_over, sum_line};
+ghost use Rattle.plm80_console.specs.Answer.{writes};
+ghost use Rattle.plm80_objects.specs.Arguments.{AreExtractArguments};
+
 use clap::ArgMatches;
+use image80::Image;
 use plm80_console::{
-    Argument, Console, IMAGE, Kind, OptionText, Reported, Syntax, image_of, path_of,
+    Answer, Argument, Console, IMAGE, Kind, OptionText, Reported, Syntax, argument_text, image_of,
 };
-use rom80::{bytes_over, no_regions, sum_text};
+use rom80::{RomFault, bytes_over, no_regions, sum_text};
+use std::alloc::{AllocError, Global};
 
 /// The arguments of `extract`.
 #[derive(Clone, Copy)]
@@ -71,10 +78,12 @@ pub const FILL: Argument<'static> = Argument {
 
 impl<'a> ExtractArguments<'a> {
     /// The arguments as clap has read them.
-    pub fn of(matches: &ArgMatches<'a>) -> ExtractArguments<'a> {
+    pub fn of(matches: &ArgMatches<'a>) -> ExtractArguments<'a>
+        ensures { AreExtractArguments matches.now result }
+    {
         ExtractArguments {
-            image: path_of(matches, IMAGE.name),
-            out: path_of(matches, "OUT"),
+            image: argument_text(matches, "IMAGE"),
+            out: argument_text(matches, "OUT"),
             first: OptionText::of(matches, "first"),
             length: OptionText::of(matches, "length"),
             fill: fill_of(matches),
@@ -100,12 +109,12 @@ struct Extent {
 /// fault is excluded.
 pub fn extract_file(console: Console<'_>, arguments: ExtractArguments<'_>) -> Result<u8, Reported> {
     let extent = extent_of(console, arguments)?;
-    let bytes = extracted(console, arguments.image, extent)?;
-    console.replace(arguments.out, &bytes)?;
-    if arguments.sum {
-        print_sum(console, &bytes)?;
+    let file = console.read_file(arguments.image)?;
+    let image = image_of(console, file.path, &file.bytes, no_regions(console.alloc()))?;
+    match extracted(console.alloc(), arguments, extent, &image) {
+        Ok(answer) => console.give(answer),
+        Err(fault) => Err(console.report(fault)),
     }
-    Ok(0)
 }
 
 /// The numbers of the arguments.
@@ -117,26 +126,29 @@ fn extent_of(console: Console<'_>, arguments: ExtractArguments<'_>) -> Result<Ex
     })
 }
 
-/// The bytes over the range of the image that the file of this path holds.
-fn extracted(console: Console<'_>, path: &str, extent: Extent) -> Result<Vec<u8>, Reported> {
-    let file = console.read_whole(path)?;
-    let image = image_of(console, path, &file, no_regions(console.alloc()))?;
-    match bytes_over(
-        console.alloc(),
-        &image,
-        extent.first,
-        extent.length,
-        extent.fill,
-    ) {
-        Ok(bytes) => Ok(bytes),
-        Err(fault) => Err(console.report(fault)),
-    }
+/// The bytes of an image over a range, which go to the file, and the line of their sum if it is asked for.
+fn extracted<'a>(
+    alloc: Global,
+    arguments: ExtractArguments<'a>,
+    extent: Extent,
+    image: &Image,
+) -> Result<Answer<'a>, RomFault>
+    ensures answer { let bytes = bytes_over extent.fill image.now.chunks extent.first extent.length in
+        IfOk result (λ answer. answer ≡ writes arguments.entry.out.now bytes (if arguments.entry.sum then sum_line bytes else [])) }
+    ensures past { IsErrOf result RomFault.PastMemory ↔ (65536 < extent.first + extent.length) }
+{
+    let bytes = bytes_over(alloc, image, extent.first, extent.length, extent.fill)?;
+    let lines = sum_of(alloc, arguments.sum, &bytes)?;
+    Ok(Answer::writes(arguments.out, bytes, lines))
 }
 
-/// Prints the sum of the bytes.
-fn print_sum(console: Console<'_>, bytes: &[u8]) -> Result<(), Reported> {
-    match sum_text(console.alloc(), bytes) {
-        Ok(text) => console.print(&text),
-        Err(_) => Err(console.report_memory()),
+/// The line of the sum of bytes, if it is asked for.
+fn sum_of(alloc: Global, asked: bool, bytes: &[u8]) -> Result<Vec<u8>, AllocError>
+    ensures { IfOk result (λ lines. lines.items ≡ (if asked then sum_line bytes.now else [])) }
+{
+    if asked {
+        sum_text(alloc, bytes)
+    } else {
+        Ok(Vec::new(alloc))
     }
 }

@@ -1,8 +1,18 @@
 //! `plm80 find`: where modules of object files and libraries lie in a dump.
 
+ghost use Rattle.std.specs.Prelude.{◌≡◌, ◌+◌, ◌≤◌, length, IfOk, IfErr};
+ghost use Rattle.rom80_find.specs.Dump.{dump_of};
+ghost use Rattle.plm80_objects.specs.Find.{PrintsFile, PrintsFound};
+ghost use Rattle.plm80_objects.specs.RomFaults.{IsRefused};
+
+use crate::helpers::rom_faults::report_rom_fault;
 use crate::link::read_file;
 use clap::ArgMatches;
-use plm80_console::{Argument, Console, Kind, LinkFile, OptionText, Reported, Syntax, path_of};
+use plm80_console::{
+    Answer, Argument, Console, FaultOf, Kind, LinkFile, OptionText, ReadFile, Reported, Syntax,
+    path_of,
+};
+use rom80::RomFault;
 use rom80_find::{Dump, append_members, append_modules};
 use std::alloc::{AllocError, Global};
 
@@ -66,58 +76,70 @@ impl<'a> FindArguments<'a> {
     }
 }
 
-/// Prints where the modules of the files lie in the dump, and gives the exit status.
+/// Prints where the modules of the files lie in the dump, and gives the exit status. The dump is checked before another file is
+/// opened, and each of these before the next one.
 pub fn find_modules(console: Console<'_>, arguments: &FindArguments<'_>) -> Result<u8, Reported> {
     let first = console.word(arguments.first)?;
-    let bytes = read_dump(console, arguments.dump, first)?;
-    let dump = Dump {
-        first,
-        bytes: &bytes,
-    };
-    let mut text = Vec::new(console.alloc());
-    let mut status = 0;
-    for path in &arguments.files {
-        if !look_in_file(console, dump, path, &mut text)? {
-            status = 1;
-        }
+    let file = console.read_file(arguments.dump)?;
+    match dump_of(first, &file) {
+        Ok(dump) => find_in(console, dump, &arguments.files),
+        Err(fault) => Err(report_rom_fault(console, fault)),
     }
-    console.print(&text)?;
-    Ok(status)
 }
 
-/// The dump that the file of this path has, from an address on.
-fn read_dump(console: Console<'_>, path: &str, first: u16) -> Result<Vec<u8>, Reported> {
-    let bytes = console.read_whole(path)?;
-    if bytes.is_empty() {
-        return Err(console.report_file(path, "EmptyFile"));
+/// Prints where the modules of these files lie in the dump.
+fn find_in(console: Console<'_>, dump: Dump<'_>, paths: &[&str]) -> Result<u8, Reported> {
+    let mut files = Vec::new(console.alloc());
+    for path in paths {
+        let file = read_file(console, path)?;
+        if files.push(file).is_err() {
+            return Err(console.report_memory());
+        }
     }
-    if bytes.len() > 65536 - usize::from(first) {
-        return Err(console.report_file(path, "PastMemory"));
+    console.give_if_made(found(console.alloc(), dump, &files))
+}
+
+/// The dump of the bytes of a file, from an address on.
+fn dump_of<'a, 'b>(first: u16, file: &'b ReadFile<'a>) -> Result<Dump<'b>, FaultOf<'a, RomFault>>
+    ensures dump { IfOk result (λ dump. (dump.first ≡ first) × (dump.bytes.now ≡ file.now.bytes.items)) }
+    ensures within { IfOk result (λ dump. first + length file.now.bytes.items ≤ 65536) }
+    ensures fault { IfErr result (λ f. (f.path.now ≡ file.now.path.now) × IsRefused first file.now.bytes.items f.fault) }
+{
+    if file.bytes.is_empty() {
+        return Err(file.fault(RomFault::EmptyFile));
     }
-    Ok(bytes)
+    if file.bytes.len() > 65536 - usize::from(first) {
+        return Err(file.fault(RomFault::PastMemory));
+    }
+    Ok(Dump {
+        first,
+        bytes: &file.bytes,
+    })
+}
+
+/// What is found of the modules of files, one after another. The status is 1 if a module of an object file is missing.
+fn found(alloc: Global, dump: Dump<'_>, files: &[LinkFile]) -> Result<Answer<'static>, AllocError>
+    ensures { IfOk result (PrintsFound (dump_of dump.entry) files.now) }
+{
+    let mut text = Vec::new(alloc);
+    let mut are_there = true;
+    for file in files {
+        let is_there = look_for(alloc, dump, file, &mut text)?;
+        are_there = are_there && is_there;
+    }
+    let status = if are_there { 0 } else { 1 };
+    Ok(Answer::prints(text, status))
 }
 
 /// Appends what is found of the modules of a file; whether none of an object file is missing.
-fn look_in_file(
-    console: Console<'_>,
-    dump: Dump<'_>,
-    path: &str,
-    text: &mut Vec<u8>,
-) -> Result<bool, Reported> {
-    let file = read_file(console, path)?;
-    match look_for(console.alloc(), dump, &file, text) {
-        Ok(are_there) => Ok(are_there),
-        Err(AllocError) => Err(console.report_memory()),
-    }
-}
-
-/// Appends what is found of the modules; a library's may be missing.
 fn look_for(
     alloc: Global,
     dump: Dump<'_>,
     file: &LinkFile,
     text: &mut Vec<u8>,
-) -> Result<bool, AllocError> {
+) -> Result<bool, AllocError>
+    ensures { IfOk result (λ are_there. PrintsFile (dump_of dump.entry) file.now are_there text.old.items text.new.items) }
+{
     match file {
         LinkFile::Modules(modules) => append_modules(alloc, dump, modules, text),
         LinkFile::Library(library) => {

@@ -4,3 +4,4 @@ pub(crate) mod causes;
 pub(crate) mod empty_segments;
 pub(crate) mod link_lines;
 pub(crate) mod locate_options;
+pub(crate) mod rom_faults;

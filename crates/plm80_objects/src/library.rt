@@ -65,13 +65,12 @@ pub fn write_library_file(
     arguments: &LibraryArguments<'_>,
 ) -> Result<u8, Reported> {
     let modules = modules_of(console, &arguments.files)?;
-    write_modules(console, arguments.library, &modules)
-}
-
-/// Writes the library of these modules to the file of this path.
-fn write_modules(console: Console<'_>, path: &str, modules: &[Module]) -> Result<u8, Reported> {
-    let library = library_of(console, modules)?;
-    console.replace_keeping_objects(path, &library)?;
+    let mut library = Vec::new(console.alloc());
+    match write_library(console.alloc(), &modules, &mut library) {
+        Ok(()) => console.replace_keeping_objects(arguments.library, &library)?,
+        Err(LibraryPutFault::Memory) => return Err(console.report_memory()),
+        Err(fault) => return Err(console.report(fault)),
+    }
     Ok(0)
 }
 
@@ -82,14 +81,4 @@ fn modules_of(console: Console<'_>, paths: &[&str]) -> Result<Vec<Module>, Repor
         append_modules(console, &mut modules, &mut read_modules(console, path)?)?;
     }
     Ok(modules)
-}
-
-/// The bytes of the library of these modules.
-fn library_of(console: Console<'_>, modules: &[Module]) -> Result<Vec<u8>, Reported> {
-    let mut library = Vec::new(console.alloc());
-    match write_library(console.alloc(), modules, &mut library) {
-        Ok(()) => Ok(library),
-        Err(LibraryPutFault::Memory) => Err(console.report_memory()),
-        Err(fault) => Err(console.report(fault)),
-    }
 }

@@ -1,5 +1,11 @@
 //! `plm80 locate`: an object file's one module at its places, as an image and its regions.
 
+ghost use Rattle.std.specs.Prelude.{◌≡◌, ◌⊎◌, None, Some, length, IfOk, IfErr, OnOk};
+ghost use Rattle.image80.specs.RegionsText.{regions_text};
+ghost use Rattle.place80.specs.declared.place_fault.PlaceFault.TheVariants.{Memory};
+ghost use Rattle.plm80_objects.specs.Arguments.{AreLocateArguments};
+ghost use Rattle.plm80_objects.specs.Locate.{IsImageOf, WritesProgram, fault_of, image_file};
+
 use crate::helpers::causes::report_place_fault;
 use crate::helpers::empty_segments::explain_empty_segments;
 use crate::helpers::locate_options::{
@@ -12,8 +18,10 @@ use image80_file::write_image;
 use omf_module::Module;
 use place80::{Options, PlaceFault, layout, locate, locate_with_restart};
 use place80_text::write_image_with_publics;
-use plm80_console::{Argument, Console, Kind, NewFile, Reported, Syntax, path_of, read_modules};
-use std::alloc::Global;
+use plm80_console::{
+    Answer, Argument, Console, Kind, Reported, Syntax, WrittenFile, argument_text, read_modules,
+};
+use std::alloc::{AllocError, Global};
 
 /// The arguments of `locate`.
 #[derive(Clone, Copy)]
@@ -90,11 +98,13 @@ pub const LOCATE: Syntax<'static> = Syntax {
 
 impl<'a> LocateArguments<'a> {
     /// The arguments as clap has read them.
-    pub fn of(matches: &ArgMatches<'a>) -> LocateArguments<'a> {
+    pub fn of(matches: &ArgMatches<'a>) -> LocateArguments<'a>
+        ensures { AreLocateArguments matches.now result }
+    {
         LocateArguments {
-            object: path_of(matches, "IN"),
-            image: path_of(matches, "IMAGE"),
-            regions: path_of(matches, "REGIONS"),
+            object: argument_text(matches, "IN"),
+            image: argument_text(matches, "IMAGE"),
+            regions: argument_text(matches, "REGIONS"),
             options: LocateTexts::of(matches),
             restart: matches.get_flag("restart"),
             publics: matches.get_flag("publics"),
@@ -106,73 +116,54 @@ impl<'a> LocateArguments<'a> {
 /// other fault is excluded.
 pub fn locate_file(console: Console<'_>, arguments: LocateArguments<'_>) -> Result<u8, Reported> {
     let options = arguments.options.numbers(console)?;
-    let files = located_files(console, arguments, &options)?;
-    let image = NewFile {
-        path: arguments.image,
-        bytes: &files.image,
-    };
-    let regions = NewFile {
-        path: arguments.regions,
-        bytes: &files.regions,
-    };
-    console.replace_both(image, regions)?;
-    Ok(0)
-}
-
-/// The bytes of the two files that `locate` writes.
-#[derive(Drop)]
-struct LocatedFiles {
-    image: Vec<u8>,
-    regions: Vec<u8>,
-}
-
-/// The files of the one module of the object file at its places.
-fn located_files(
-    console: Console<'_>,
-    arguments: LocateArguments<'_>,
-    options: &Options,
-) -> Result<LocatedFiles, Reported> {
-    let modules = read_modules(console, arguments.object)?;
-    let program = one_module(console, arguments.object, &modules)?;
-    match files_of(console.alloc(), program, options, arguments) {
-        Ok(files) => {
-            explain_empty_segments(console, program, options, arguments.options);
-            Ok(files)
+    let modules = read_program(console, arguments.object)?;
+    let program = &modules[0];
+    match located(console.alloc(), arguments, program, &options) {
+        Ok(answer) => {
+            explain_empty_segments(console, program, &options, arguments.options);
+            console.give(answer)
         }
-        Err(fault) => Err(report_place_fault(console, program, options, fault)),
+        Err(fault) => Err(report_place_fault(console, program, &options, fault)),
     }
 }
 
-/// The files of a module at its places, with a restart and with its publics if they are asked for.
-fn files_of(
+/// The files of a program at its places, with a restart and with its publics if they are asked for.
+fn located<'a>(
     alloc: Global,
+    arguments: LocateArguments<'a>,
     program: &Module,
     options: &Options,
-    arguments: LocateArguments<'_>,
-) -> Result<LocatedFiles, PlaceFault> {
-    let image = located_module(alloc, program, options, arguments.restart)?;
-    let mut image_bytes = Vec::new(alloc);
-    if arguments.publics {
-        let layout = layout(alloc, program, options)?;
-        let publics = program.publics();
-        write_image_with_publics(alloc, &image, publics, &layout.segments, &mut image_bytes)?;
-    } else {
-        write_image(alloc, &image, &mut image_bytes)?;
-    }
-    let mut regions_text = Vec::new(alloc);
-    write_regions(alloc, &image.regions, &mut regions_text)?;
-    Ok(LocatedFiles {
-        image: image_bytes,
-        regions: regions_text,
-    })
+) -> Result<Answer<'a>, PlaceFault>
+    ensures files { let asked = arguments.entry in IfOk result
+        (WritesProgram asked.image.now asked.regions.now asked.restart asked.publics options.now program.now) }
+    ensures none { OnOk result (fault_of arguments.entry.restart options.now program.now ≡ None) }
+    ensures fault { IfErr result (λ fault. (fault ≡ Memory) ⊎ (fault_of arguments.entry.restart options.now program.now ≡ Some fault)) }
+{
+    let image = image_of(alloc, arguments.restart, program, options)?;
+    let bytes = file_of(alloc, arguments.publics, &image, program, options)?;
+    let text = text_of(alloc, &image)?;
+    let file = WrittenFile {
+        path: arguments.image,
+        bytes,
+    };
+    let regions = WrittenFile {
+        path: arguments.regions,
+        bytes: text,
+    };
+    Ok(Answer::writes_both(alloc, file, regions))
 }
 
-fn located_module(
+/// The image of a program, with a restart if it is asked for.
+fn image_of(
     alloc: Global,
-    program: &Module,
-    options: &Options,
     restart: bool,
-) -> Result<Image, PlaceFault> {
+    program: &Module,
+    options: &Options,
+) -> Result<Image, PlaceFault>
+    ensures image { IfOk result (IsImageOf restart options.now program.now) }
+    ensures none { OnOk result (fault_of restart options.now program.now ≡ None) }
+    ensures fault { IfErr result (λ fault. (fault ≡ Memory) ⊎ (fault_of restart options.now program.now ≡ Some fault)) }
+{
     if restart {
         locate_with_restart(alloc, program, options)
     } else {
@@ -180,14 +171,52 @@ fn located_module(
     }
 }
 
-/// The one module of an object file.
-pub fn one_module<'a>(
-    console: Console<'_>,
-    path: &str,
-    modules: &'a [Module],
-) -> Result<&'a Module, Reported> {
-    match modules {
-        [module] => Ok(module),
-        _ => Err(console.report_file(path, "NotOneModule")),
+/// The object file of the program's image, with its publics if they are asked for.
+fn file_of(
+    alloc: Global,
+    publics: bool,
+    image: &Image,
+    program: &Module,
+    options: &Options,
+) -> Result<Vec<u8>, AllocError>
+    ensures { IfOk result (λ bytes. bytes.items ≡ image_file publics options.now program.now image.now) }
+{
+    let mut bytes = Vec::new(alloc);
+    if publics {
+        // It has no fault, since the program was located.
+        let Ok(layout) = layout(alloc, program, options) else {
+            return Err(AllocError);
+        };
+        write_image_with_publics(
+            alloc,
+            image,
+            program.publics(),
+            &layout.segments,
+            &mut bytes,
+        )?;
+    } else {
+        write_image(alloc, image, &mut bytes)?;
+    }
+    Ok(bytes)
+}
+
+/// The text of the image's regions.
+fn text_of(alloc: Global, image: &Image) -> Result<Vec<u8>, AllocError>
+    ensures { IfOk result (λ text. text.items ≡ regions_text image.now.regions) }
+{
+    let mut text = Vec::new(alloc);
+    write_regions(alloc, &image.regions, &mut text)?;
+    Ok(text)
+}
+
+/// The object file of this path, which has one module.
+pub fn read_program(console: Console<'_>, path: &str) -> Result<Vec<Module>, Reported>
+    ensures { IfOk result (λ modules. length modules.items ≡ 1) }
+{
+    let modules = read_modules(console, path)?;
+    if modules.len() == 1 {
+        Ok(modules)
+    } else {
+        Err(console.report_file(path, "NotOneModule"))
     }
 }

@@ -1,15 +1,24 @@
 //! `plm80 map`: where LOCATE would put a module's segments and public names.
 
+ghost use Rattle.std.specs.Prelude.{◌≡◌, ◌⊎◌, None, Some, [], IfOk, IfErr, OnOk};
+ghost use Rattle.place80.specs.Layout.{layout_of};
+ghost use Rattle.place80.specs.PlaceFault.{locate_fault};
+ghost use Rattle.place80.specs.declared.place_fault.PlaceFault.TheVariants.{Memory};
+ghost use Rattle.place80_text.specs.Map.{IsMap};
+ghost use Rattle.plm80_console.specs.Answer.{prints};
+
 use crate::helpers::causes::report_place_fault;
 use crate::helpers::locate_options::{
     CODE_BASE, COMMON_BASE, DATA_BASE, LocateTexts, MEMORY_BASE, MEMORY_SIZE, STACK_BASE,
     STACK_SIZE,
 };
-use crate::locate::one_module;
+use crate::locate::read_program;
 use clap::ArgMatches;
-use place80::Options;
+use omf_module::Module;
+use place80::{Options, PlaceFault};
 use place80_text::map_text;
-use plm80_console::{Argument, Console, Kind, Reported, Syntax, path_of, read_modules};
+use plm80_console::{Answer, Argument, Console, Kind, Reported, Syntax, path_of};
+use std::alloc::Global;
 
 /// The arguments of `map`.
 #[derive(Clone, Copy)]
@@ -65,17 +74,21 @@ impl<'a> MapArguments<'a> {
 /// Prints the map of the module of the object file.
 pub fn map_file(console: Console<'_>, arguments: MapArguments<'_>) -> Result<u8, Reported> {
     let options = arguments.options.numbers(console)?;
-    let text = map_of(console, arguments.object, &options)?;
-    console.print(&text)?;
-    Ok(0)
+    let modules = read_program(console, arguments.object)?;
+    let program = &modules[0];
+    match mapped(console.alloc(), program, &options) {
+        Ok(answer) => console.give(answer),
+        Err(fault) => Err(report_place_fault(console, program, &options, fault)),
+    }
 }
 
-/// The map of the one module of the object file of this path.
-fn map_of(console: Console<'_>, path: &str, options: &Options) -> Result<Vec<u8>, Reported> {
-    let modules = read_modules(console, path)?;
-    let program = one_module(console, path, &modules)?;
-    match map_text(console.alloc(), program, options) {
-        Ok(text) => Ok(text),
-        Err(fault) => Err(report_place_fault(console, program, options, fault)),
-    }
+/// The map of a program.
+fn mapped(alloc: Global, program: &Module, options: &Options) -> Result<Answer<'static>, PlaceFault>
+    ensures map { IfOk result (λ answer. IsMap (layout_of options.now program.now) program.now answer.lines) }
+    ensures printed { IfOk result (λ answer. answer ≡ prints answer.lines 0) }
+    ensures none { OnOk result (locate_fault options.now program.now ≡ None) }
+    ensures fault { IfErr result (λ fault. (fault ≡ Memory) ⊎ (locate_fault options.now program.now ≡ Some fault)) }
+{
+    let text = map_text(alloc, program, options)?;
+    Ok(Answer::prints(text, 0))
 }

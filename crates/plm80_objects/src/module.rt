@@ -1,9 +1,14 @@
 //! `plm80 module`: what an object file holds, module by module.
 
+ghost use Rattle.std.specs.Prelude.{◌≡◌, IfOk};
+ghost use Rattle.std.specs.List.{flat_map};
+ghost use Rattle.omf_text.specs.ModuleText.{module_text};
+ghost use Rattle.plm80_console.specs.Answer.{prints};
+
 use clap::ArgMatches;
 use omf_module::Module;
 use omf_text::append_module_text;
-use plm80_console::{Argument, Console, Kind, Reported, Syntax, path_of, read_modules};
+use plm80_console::{Answer, Argument, Console, Kind, Reported, Syntax, path_of, read_modules};
 use std::alloc::{AllocError, Global};
 
 /// The arguments of `module`.
@@ -50,18 +55,16 @@ impl<'a> ModuleArguments<'a> {
 /// Prints what the object file holds.
 pub fn describe_file(console: Console<'_>, arguments: ModuleArguments<'_>) -> Result<u8, Reported> {
     let modules = read_modules(console, arguments.object)?;
-    let Ok(text) = text_of(console.alloc(), &modules) else {
-        return Err(console.report_memory());
-    };
-    console.print(&text)?;
-    Ok(0)
+    console.give_if_made(described(console.alloc(), &modules))
 }
 
 /// The lines of all modules, in order.
-fn text_of(alloc: Global, modules: &[Module]) -> Result<Vec<u8>, AllocError> {
+fn described(alloc: Global, modules: &[Module]) -> Result<Answer<'static>, AllocError>
+    ensures { IfOk result (λ answer. answer ≡ prints (flat_map module_text modules.now) 0) }
+{
     let mut text = Vec::new(alloc);
-    for module in modules {
-        append_module_text(&mut text, module)?;
+    for described in modules {
+        append_module_text(&mut text, described)?;
     }
-    Ok(text)
+    Ok(Answer::prints(text, 0))
 }

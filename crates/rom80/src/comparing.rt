@@ -50,6 +50,7 @@ pub fn compare(
         ≡ comparison_text (bytes_over fill image.now.chunks first (length dump.now)) dump.now first c.ranges.items) }
     ensures empty { IsErrOf result RomFault.EmptyFile ↔ (length dump.now ≡ 0) }
     ensures past { IsErrOf result RomFault.PastMemory ↔ (65536 < first + length dump.now) }
+    ensures alone { IsErrOf result RomFault.DumpsOverlap → ⊥ }
 {
     if dump.is_empty() {
         return Err(RomFault::EmptyFile);

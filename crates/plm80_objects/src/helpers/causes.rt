@@ -1,5 +1,9 @@
 //! Words below a fault of `link`, `locate` and `map`: where its cause is. If memory runs out for them, the fault stands alone.
 
+ghost use Rattle.std.specs.Prelude.{◌≡◌, [], map, IfOk};
+ghost use Rattle.link80_text.specs.Causes.{PrintsCause};
+ghost use Rattle.place80.specs.Causes.{cause_text};
+
 use crate::link::LinkFiles;
 use link80::LinkFault;
 use link80_text::LinkSources;
@@ -30,7 +34,10 @@ fn link_lines(
     alloc: Global,
     files: &LinkFiles<'_>,
     fault: &LinkFault,
-) -> Result<Vec<u8>, AllocError> {
+) -> Result<Vec<u8>, AllocError>
+    ensures { IfOk result (λ lines. PrintsCause files.now.roots.items (map (λ p. p.now) files.now.root_paths.items)
+        files.now.libraries.items (map (λ p. p.now) files.now.paths.items) fault.now [] lines.items) }
+{
     let sources = LinkSources {
         roots: &files.roots,
         root_files: &files.root_paths,
@@ -65,7 +72,9 @@ fn place_lines(
     program: &Module,
     options: &Options,
     fault: &PlaceFault,
-) -> Result<Vec<u8>, AllocError> {
+) -> Result<Vec<u8>, AllocError>
+    ensures { IfOk result (λ lines. lines.items ≡ cause_text options.now program.now fault.now) }
+{
     let mut lines = Vec::new(alloc);
     place80::append_cause(alloc, &mut lines, program, options, fault)?;
     Ok(lines)

@@ -1,0 +1,118 @@
+//! What a command answers, and what becomes of an answer: its files are written, its lines are printed, and its status is given.
+
+ghost use Rattle.std.specs.Prelude.{◌≡◌, IfOk};
+ghost use Rattle.plm80_console.specs.Answer.{file_of, prints, writes, writes_both};
+
+use crate::console::{Console, Reported};
+use crate::replacing::NewFile;
+use std::alloc::{AllocError, Global};
+use std::marker::Model;
+
+/// A file to write: its path, and all bytes that it gets.
+#[derive(Drop)]
+pub struct WrittenFile<'a> {
+    pub path: &'a str,
+    pub bytes: Vec<u8>,
+}
+
+/// The files that a command writes.
+#[derive(Drop)]
+pub enum WrittenFiles<'a> {
+    Nothing,
+    One(WrittenFile<'a>),
+    /// Neither is changed before both can be written.
+    Both(WrittenFile<'a>, WrittenFile<'a>),
+}
+
+/// What a command answers, before any of it is done: the files that it writes, the lines that it prints when these are written, and its
+/// exit status. A contract sees all three.
+#[derive(Drop)]
+pub struct Answer<'a> {
+    files: WrittenFiles<'a>,
+    lines: Vec<u8>,
+    status: u8,
+}
+
+impl<'a> Model for Answer<'a> {
+    ghost use Rattle.plm80_console.specs.Answer.{AnswerValue, files_of};
+
+    ghost Value = { AnswerValue };
+
+    ghost view = { λ a. record { files = files_of a.files; lines = a.lines.items; status = a.status } };
+}
+
+impl<'a> Answer<'a> {
+    /// Lines are printed, and no file is written.
+    pub fn prints(lines: Vec<u8>, status: u8) -> Answer<'a>
+        ensures { result ≡ prints lines.items status }
+    {
+        Answer {
+            files: WrittenFiles::Nothing,
+            lines,
+            status,
+        }
+    }
+
+    /// A file is written, and then lines are printed. The status is 0.
+    pub fn writes(path: &'a str, bytes: Vec<u8>, lines: Vec<u8>) -> Answer<'a>
+        ensures { result ≡ writes path.now bytes.items lines.items }
+    {
+        Answer {
+            files: WrittenFiles::One(WrittenFile { path, bytes }),
+            lines,
+            status: 0,
+        }
+    }
+
+    /// Two files are written. The status is 0.
+    pub fn writes_both(alloc: Global, first: WrittenFile<'a>, second: WrittenFile<'a>) -> Answer<'a>
+        ensures { result ≡ writes_both (file_of first.entry) (file_of second.entry) }
+    {
+        Answer {
+            files: WrittenFiles::Both(first, second),
+            lines: Vec::new(alloc),
+            status: 0,
+        }
+    }
+}
+
+impl<'a> WrittenFile<'a> {
+    fn lent(&self) -> NewFile<'_> {
+        NewFile {
+            path: self.path,
+            bytes: &self.bytes,
+        }
+    }
+}
+
+impl<'a> Console<'a> {
+    /// Writes the files of an answer, then prints its lines, and gives its status.
+    pub fn give(self, answer: Answer<'_>) -> Result<u8, Reported>
+        ensures { IfOk result (λ status. status ≡ answer.entry.status) }
+    {
+        let Answer {
+            files,
+            lines,
+            status,
+        } = answer;
+        self.write_files(&files)?;
+        self.print(&lines)?;
+        Ok(status)
+    }
+
+    /// Does an answer, unless memory ran out for it.
+    pub fn give_if_made(self, answer: Result<Answer<'_>, AllocError>) -> Result<u8, Reported> {
+        match answer {
+            Ok(answer) => self.give(answer),
+            Err(AllocError) => Err(self.report_memory()),
+        }
+    }
+
+    fn write_files(self, files: &WrittenFiles<'_>) -> Result<(), Reported> {
+        match files {
+            WrittenFiles::Nothing => Ok(()),
+            WrittenFiles::One(file) => self.replace(file.path, &file.bytes),
+            WrittenFiles::Both(first, second) => self.replace_both(first.lent(), second.lent()),
+        }
+    }
+}

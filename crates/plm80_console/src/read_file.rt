@@ -1,0 +1,42 @@
+//! Files with their paths, so that a fault of their bytes is reported with the path of the file that has it.
+
+ghost use Rattle.std.specs.Prelude.{◌≡◌, IfOk};
+
+use crate::console::{Console, Reported};
+
+/// A file that was read whole: its path and its bytes.
+#[derive(Drop)]
+pub struct ReadFile<'a> {
+    pub path: &'a str,
+    pub bytes: Vec<u8>,
+}
+
+/// A fault of the file of this path.
+#[derive(Clone, Copy)]
+pub struct FaultOf<'a, F> {
+    pub path: &'a str,
+    pub fault: F,
+}
+
+impl<'a> ReadFile<'a> {
+    /// A fault of this file.
+    pub fn fault<F>(&self, fault: F) -> FaultOf<'a, F>
+        ensures path { result.path.now ≡ self.now.path.now }
+        ensures fault { result.fault ≡ fault }
+    {
+        FaultOf {
+            path: self.path,
+            fault,
+        }
+    }
+}
+
+impl<'c> Console<'c> {
+    /// The file of this path, read whole.
+    pub fn read_file<'a>(self, path: &'a str) -> Result<ReadFile<'a>, Reported>
+        ensures { IfOk result (λ file. file.path.now ≡ path.now) }
+    {
+        let bytes = self.read_whole(path)?;
+        Ok(ReadFile { path, bytes })
+    }
+}

@@ -1,0 +1,31 @@
+-- What `find` prints of the files in which it looks for modules.
+-- (The form of the lines and the status are this project's own.)
+use Rattle.std.specs.Prelude.{◌≡◌, ℕ, Bool, true, false, ◌&&◌, List, [], ◌∷◌, ◌++◌}
+use Rattle.rom80_find.specs.Dump.{DumpValue}
+use Rattle.rom80_find.specs.Found.{PrintsMembers, PrintsModules}
+use Rattle.plm80_console.specs.declared.link_feed.LinkFile.{LinkFile}
+use Rattle.plm80_console.specs.declared.link_feed.LinkFile.TheVariants.{Modules, Library}
+use Rattle.plm80_console.specs.Answer.{AnswerValue, prints}
+
+-- what is found of a file's modules behind a text, and whether all of an object file's are there; of a library's some may be missing
+abbrev pub PrintsFile : DumpValue → LinkFile → (are_there : Bool) → (before after : List ℕ) → Type 0
+PrintsFile dump (Modules ms) are_there before after = PrintsModules dump ms.items are_there before after
+PrintsFile dump (Library library) are_there before after = PrintsMembers dump library before after × (are_there ≡ true)
+
+-- the texts of files one after another, and whether in none of them a module is missing
+pub data PrintsFiles (dump : DumpValue) : List LinkFile → (are_there : Bool) → (text : List ℕ) → Type 0 where
+  none : PrintsFiles dump [] true []
+  more : (files : List LinkFile) (file : LinkFile) (were_there are_there : Bool) (before after : List ℕ)
+      → PrintsFiles dump files were_there before → PrintsFile dump file are_there before after
+      → PrintsFiles dump (files ++ file ∷ []) (were_there && are_there) after
+
+-- the status is 0 if none is missing
+abbrev pub status_of : (are_there : Bool) → ℕ
+status_of true = 0
+status_of false = 1
+
+pub record PrintsFound (dump : DumpValue) (files : List LinkFile) (answer : AnswerValue) : Type 0 where
+  pub are_there : Bool
+  pub text : List ℕ
+  pub found : PrintsFiles dump files are_there text
+  pub answer_is : answer ≡ prints text (status_of are_there)
