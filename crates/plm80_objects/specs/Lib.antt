@@ -1,5 +1,5 @@
--- no public contract of this crate cites these: they are what its commands answer
 pub mod Arguments
+-- what the crate's own functions promise one another: no public contract cites these
 pub mod Locate
 pub mod RomFaults
 pub mod Compare
