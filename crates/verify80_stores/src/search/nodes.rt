@@ -69,6 +69,8 @@ pub(crate) struct Nodes {
     landmarks: Landmarks,
     /// Whether a state has taken in another.
     has_grown: bool,
+    /// Whether each address is to have one state from now on.
+    is_late: bool,
 }
 
 impl Nodes {
@@ -95,6 +97,7 @@ impl Nodes {
             needs,
             landmarks,
             has_grown: false,
+            is_late: false,
         })
     }
 
@@ -106,6 +109,11 @@ impl Nodes {
     /// Whether a state has taken in another.
     pub fn has_grown(&self) -> bool {
         self.has_grown
+    }
+
+    /// From now on each address has one state, and spans grow at once to any word.
+    pub fn hurry(&mut self) {
+        self.is_late = true;
     }
 
     /// A state, if there is one at a place.
@@ -165,7 +173,8 @@ impl Nodes {
         if let Some(place) = self.find_around(at, state) {
             return Ok(place);
         }
-        if self.group(at).count >= self.most(at) {
+        let group = self.group(at);
+        if group.count >= self.most(at) && group.joined != Units::ALL {
             self.join_some(alloc, at)?;
         }
         let joined = self.group(at).joined;
@@ -180,7 +189,9 @@ impl Nodes {
 
     /// How many states an address has now, at most.
     fn most(&self, at: u16) -> u32 {
-        if self.nodes.len() < MANY {
+        if self.is_late {
+            1
+        } else if self.nodes.len() < MANY {
             if self.group(at).joined == Units::NONE {
                 STATES
             } else {
@@ -312,7 +323,8 @@ impl Nodes {
         let Some(node) = self.nodes.get_mut(place as usize) else {
             return Ok(());
         };
-        node.state = self.landmarks.grown(node.state, state, node.growths);
+        let growths = if self.is_late { u32::MAX } else { node.growths };
+        node.state = self.landmarks.grown(node.state, state, growths);
         node.growths = node.growths.saturating_add(1);
         let was_waiting = node.is_waiting;
         node.is_waiting = true;
@@ -324,6 +336,9 @@ impl Nodes {
 
     /// No longer tells apart the states at an address by the part that tells the most of them apart, until there are few enough.
     fn join_some(&mut self, alloc: Global, at: u16) -> Result<(), AllocError> {
+        if self.most(at) == 1 {
+            return self.join_by(at, Units::ALL);
+        }
         for _ in 0..PARTS {
             if self.group(at).joined != Units::NONE && self.group(at).count < self.most(at) {
                 break;

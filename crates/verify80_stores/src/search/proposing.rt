@@ -9,8 +9,10 @@ use crate::search::program::ReachedProgram;
 use crate::states::State;
 use std::alloc::{AllocError, Global};
 
-/// How many states are followed, at most, each as often as it grows.
-const STEPS: u32 = 4_000_000;
+/// How many states are followed, each as often as it grows, before the search hurries.
+const STEPS: u32 = 500_000;
+/// How many are followed then, at most.
+const LATE_STEPS: u32 = 4_000_000;
 /// How often the table is narrowed, if states were joined.
 const NARROWINGS: u32 = 3;
 
@@ -37,12 +39,9 @@ pub(crate) fn propose(alloc: Global, program: ReachedProgram<'_>) -> Result<Prop
     let mut hints = Vec::new(alloc);
     let start = nodes.enter(alloc, program.start, State::ANY)?;
     let behind = enter_behind(alloc, &mut nodes, program)?;
-    for _ in 0..STEPS {
-        let Some(place) = nodes.next_waiting() else {
-            break;
-        };
-        follow_from(alloc, &mut nodes, &mut hints, program, place)?;
-    }
+    follow_all(alloc, &mut nodes, &mut hints, program, STEPS)?;
+    nodes.hurry();
+    follow_all(alloc, &mut nodes, &mut hints, program, LATE_STEPS)?;
     if nodes.has_grown() {
         for _ in 0..NARROWINGS {
             narrow(alloc, &mut nodes, &hints, &behind, program, start)?;
@@ -68,6 +67,23 @@ fn enter_behind(
         }
     }
     Ok(behind)
+}
+
+/// Follows states until none waits, but no more than these.
+fn follow_all(
+    alloc: Global,
+    nodes: &mut Nodes,
+    hints: &mut Vec<u32>,
+    program: ReachedProgram<'_>,
+    most: u32,
+) -> Result<(), AllocError> {
+    for _ in 0..most {
+        let Some(place) = nodes.next_waiting() else {
+            break;
+        };
+        follow_from(alloc, nodes, hints, program, place)?;
+    }
+    Ok(())
 }
 
 /// Follows the state at a place through the instruction there, unless another has taken it in.
