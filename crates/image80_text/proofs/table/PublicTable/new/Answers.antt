@@ -11,7 +11,8 @@ invariant_of-result c =
     let first : AreFirst publics c.in_ok-first.first.items =
     subst (λ (ps : List Public). AreFirst ps c.in_ok-first.first.items) c.deref.ensures.value c.in_ok-first.ensures.first in
     let filled : c.in_ok-nearest.nearest.items ≡ filled_from None c.in_ok-first.first.items =
-    c.in_ok-nearest.ensures ∙ ap (filled_from None) c.deref-2.ensures.value in
-    (first,
-    subst (λ (t : List (Option ℕ)). AreNearest publics t) (sym filled)
-    (nearest_filled publics c.in_ok-first.first.items first c.in_ok-first.ensures.whole))
+    c.in_ok-nearest.ensures ∙ ap (filled_from None) c.deref-2.ensures.value in (
+      first,
+      subst (λ (t : List (Option ℕ)). AreNearest publics t) (sym filled)
+          (nearest_filled publics c.in_ok-first.first.items first c.in_ok-first.ensures.whole),
+    )

@@ -8,9 +8,10 @@ use Rattle.image80_text.proofs.table.PublicTable.none.Goals as goal
 both : (publics : List Public) (first nearest : List (Option ℕ)) → publics ≡ [] → first ≡ [] → nearest ≡ []
     → AreFirst publics first × AreNearest publics nearest
 both publics first nearest none no_first no_nearest =
-    subst (λ (ps : List Public). AreFirst ps first × AreNearest ps nearest) (sym none)
-    (subst (λ (t : List (Option ℕ)). AreFirst [] t) (sym no_first) first_of_none,
-    subst (λ (t : List (Option ℕ)). AreNearest [] t) (sym no_nearest) nearest_of_none)
+    subst (λ (ps : List Public). AreFirst ps first × AreNearest ps nearest) (sym none) (
+      subst (λ (t : List (Option ℕ)). AreFirst [] t) (sym no_first) first_of_none,
+      subst (λ (t : List (Option ℕ)). AreNearest [] t) (sym no_nearest) nearest_of_none,
+    )
 
 pub invariant_of-result : goal.invariant_of-result
 invariant_of-result c =
