@@ -1,6 +1,6 @@
 //! The commands of object files, libraries and raw bytes.
 //!
-//! Proved: what each writes and prints of its files and options, where it goes, and the status; a dump's fault has its path.
+//! Proved: of all but `link` and `lib` what they write and print, where it goes, and the status; a dump's fault has its path.
 //!
 //! | Item | What it is |
 //! |---|---|
