@@ -10,6 +10,6 @@ pub mod Moves
 pub mod Calls
 pub mod Places
 pub mod Code
-pub mod Lists
--- what its own functions promise, and verify80_flow's points
 pub mod PointNumbers
+-- what the crate's own functions promise one another: no public contract cites these
+pub mod Lists

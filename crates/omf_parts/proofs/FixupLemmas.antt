@@ -163,7 +163,7 @@ pub content_apart : (segments : List (ℕ × Segment)) (commons : List Common) (
 content_apart segments commons externals c word good =
     fixups_apart commons externals c.offset (length c.bytes) word [] c.fixups (fits_of segments commons externals c good)
 
--- each begins where the content does or later, and what it is to is there
+-- each begins where the content does or later, and its target is there
 pub content_above : (segments : List (ℕ × Segment)) (commons : List Common) (externals : ℕ) (c : ContentValue) → IsTrue (is_content segments commons externals c) →
     IsTrue (list_all (λ f. nat_le c.offset f.offset) c.fixups)
 content_above segments commons externals c good =

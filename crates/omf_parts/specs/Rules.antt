@@ -35,7 +35,7 @@ abbrev pub has_target : List Common → ℕ → Target → Bool
 has_target commons externals (target.Segment id) = has_segment commons id
 has_target commons externals (target.External index) = nat_lt index externals
 
--- the reference lies inside the record's bytes, shares none with those before it, and what it is to is there
+-- the reference lies inside the record's bytes, shares none with those before it, and its target is there
 abbrev pub is_fitting : List Common → ℕ → ℕ → ℕ → List Fixup → Fixup → Bool
 is_fitting commons externals first size before f =
     is_inside first size f && not (shares_a_byte before f) && has_target commons externals f.target

@@ -92,7 +92,7 @@ pub fn no_marks(alloc: Global, size: usize) -> Result<Vec<bool>, AllocError>
 }
 
 /// Whether each reference lies inside the `size` bytes from `first` on, shares none of them with those before it,
-/// and what it is to is there.
+/// and its target is there.
 pub(crate) fn are_fitting(
     alloc: Global,
     commons: &[Common],

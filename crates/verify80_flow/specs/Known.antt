@@ -149,7 +149,7 @@ Carries (Case _) f = Unit {0}
 Carries (Return _) f = Unit {0}
 Carries (MaybeReturn _ _) f = Unit {0}
 
--- an instruction is there that moves so: with these targets, this address after it, and in this role
+-- an instruction is there with these moves: with these targets, this address after it, and in this role
 pub record IsMoving (p : Procedure) (at : ℕ) (targets : List ℕ) (next : ℕ) (role : Role) (moves : Moves) (exact : Bool) (code : Code) : Type 0 where
   pub frame : StackFrame
   pub found : Fetched

@@ -20,7 +20,7 @@ use Rattle.verify80_bounds.specs.Chains.{bytes_of}
 use Rattle.frames80.specs.Procedures.{slot_of}
 use Rattle.verify80_flow.specs.Known.{Known, KnownFrames, exit_of}
 
--- the instruction of the point at i moves so, and stands there
+-- the instruction of the point at i has these moves, and stands there
 pub record IsMoveAt (code : Code) (known : Known) (i : ℕ) (site : Site) (moves : Moves) : Type 0 where
   pub point : Point
   pub there : slice_get known.points i ≡ Some point

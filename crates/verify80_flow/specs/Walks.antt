@@ -12,7 +12,7 @@ use Rattle.frames80.specs.declared.procedure.Procedure.{Procedure}
 use Rattle.frames80.specs.declared.procedure.Procedure.TheVariants.{Main, Entry}
 use Rattle.frames80.specs.Code.{Code, role_of}
 
--- with this frame at this address, the instruction there is admissible, and moves so
+-- with this frame at this address, the instruction there is admissible, and has these moves
 pub record Moving (code : Code) (p : Procedure) (at : ℕ) (f : StackFrame) (found : Fetched) (moves : Moves) : Type 0 where
   pub looked : code.look at ≡ Ok found
   pub moved : moves_of (role_of code p) (effect_of found.instr) f ≡ Ok moves

@@ -2,7 +2,7 @@
 //!
 //! States are followed from the start, several at an address: a loop with constant bounds is walked through. A state keeps only what a
 //! later store, jump by HL or condition may depend on. Where an address has too many, those registers that tell the most of them apart
-//! are no longer told apart there: their states are joined, and joined spans grow to ends of data, of pages and to words that the
+//! are no longer distinguished there: their states are joined, and joined spans grow to ends of data, of pages and to words that the
 //! program names, before they grow to any word.
 //!
 //! | Item | What it is |

@@ -8,7 +8,7 @@ use crate::step::Step;
 use frames80::{Code, Effect};
 use std::alloc::AllocError;
 
-/// More blocks than a frame has places for: a choice has its bits in the sets of places so many blocks apart.
+/// More blocks than a frame has places for: a choice has its bits in the sets of places that many blocks apart.
 const BLOCKS: u32 = 2048;
 
 /// How a word goes on: by which way, to which address, and to which place there.
@@ -54,7 +54,7 @@ impl<'a, C: Code> Search<'a, C> {
         Ok(())
     }
 
-    /// Takes the steps by which the word of a place comes to a return, and gives the last one and its point.
+    /// Takes the steps by which the word of a place reaches a return, and gives the last one and its point.
     pub(super) fn follow(
         &mut self,
         step: u32,

@@ -10,7 +10,7 @@ use std::alloc::{AllocError, Global};
 pub(crate) const NOWHERE: u32 = u32::MAX;
 /// How many states an address has, at most: a loop of 4,096 turns is walked through.
 const STATES: u32 = 4352;
-/// How many it has, at most, once some of them are no longer told apart.
+/// How many it has, at most, once some of them are no longer distinguished.
 const JOINED: u32 = 256;
 /// How many lists the states are in, by what they say.
 const LISTS: usize = 524_288;
@@ -53,7 +53,7 @@ struct Group {
     count: u32,
     /// The state that says nothing, if there is one.
     nothing: u32,
-    /// The parts by which they are no longer told apart.
+    /// The parts by which they are no longer distinguished.
     joined: Units,
 }
 
@@ -258,7 +258,7 @@ impl Nodes {
         None
     }
 
-    /// A state at an address that is told apart from this one by none but these parts.
+    /// A state at an address that differs from this one in none but these parts.
     fn find_alike(&self, at: u16, state: State, joined: Units) -> Option<u32> {
         let parts = Units::ALL.without(joined);
         let key = reduced(state, parts);
@@ -349,7 +349,7 @@ impl Nodes {
         Ok(())
     }
 
-    /// The part of which the states at an address have the most values, of those by which they still are told apart.
+    /// The part of which the states at an address have the most values, of those by which they are still distinguished.
     fn part_that_tells_most(&self, alloc: Global, at: u16) -> Result<Units, AllocError> {
         let joined = self.group(at).joined;
         let mut most = 0;

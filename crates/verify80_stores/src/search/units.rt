@@ -1,4 +1,4 @@
-//! The parts of a state, by which it is cut down, and told apart from others.
+//! The parts of a state, by which it is cut down, and distinguished from others.
 
 use crate::spans::{ByteSpan, Span};
 use crate::states::{PairSpan, State, Words};
@@ -189,7 +189,7 @@ fn reduced_word(word: Option<Span>, is_kept: bool) -> Option<Span> {
 /// How many parts there are.
 pub(crate) const PARTS: usize = 15;
 
-/// A part of a state as a number, by which states are told apart; parts are numbered as their bits are.
+/// A part of a state as a number, by which states are distinguished; parts are numbered as their bits are.
 pub(crate) fn value_of(state: State, part: usize) -> u32 {
     match part {
         0 => byte_value(state.a),
