@@ -2,16 +2,18 @@
 #
 #   make run       proves every crate, shows its progress, builds plm80 and runs it on the stored examples
 #   make try       shows the transcript of a stored example within a minute or two: plm80 is built without any proof, and kept as out/plm80 until a source changes. ARGS=".." does a command, as in make try ARGS="check a.img a.regions", and fails if the command does
-#   make install   builds plm80 as `make run` does, and installs it with its manual page, its documents, its examples and its completion for bash: make install PREFIX=/usr/local
+#   make install   builds plm80 as `make run` does, and installs it with its manual page, the pages for users, its examples and its completion for bash: make install PREFIX=/usr/local
 #   make uninstall takes away what make install installed, with the same PREFIX
 #   make package   builds plm80 as `make run` does, and makes a Debian package of what make install installs, in out/; a tarball, if there is no dpkg-deb
 #   make test      proves every crate from nothing and runs every test
 #   make commands  builds plm80 and runs the tests of its commands alone
 #   make faults    runs the tests, and plm80 on the examples, refusing one allocation, read or write at a time
 #   make bench     builds plm80 and prints million steps per second and host instructions per step of five programs, its start-up, and what it takes to verify programs, to link modules and to read libraries
+#   make clauses   prints the public functions of every crate with their contracts
+#   make lemmas    prints the files of lemmas of every crate, with what each is about
 #   make help      prints this
 
-.PHONY: help run try install install-files uninstall package package-files test commands faults bench build need-rt need-python3 need-cc need-prefix
+.PHONY: help run try install install-files uninstall package package-files test commands faults bench clauses lemmas build need-rt need-python3 need-cc need-prefix
 
 PREFIX = /usr/local
 PROGRAM = crates/plm80/out/plm80
@@ -19,14 +21,14 @@ PROGRAM = crates/plm80/out/plm80
 help:
 	@sed -n 's/^#  //p' Makefile
 	@command -v rt > /dev/null || echo "Missing here: rt, of the Rattle kit. Everything needs it: put the kit's bin folder on PATH."
-	@command -v python3 > /dev/null || echo "Missing here: python3. make test, make commands and make bench need it."
+	@command -v python3 > /dev/null || echo "Missing here: python3. make test, make commands, make bench and make clauses need it."
 	@command -v cc > /dev/null || echo "Missing here: cc, a C compiler. make faults needs it, and make test passes over a few cases without it."
 
 need-rt:
 	@command -v rt > /dev/null || { echo "rt is missing: put the Rattle kit's bin folder on PATH." && exit 1; }
 
 need-python3:
-	@command -v python3 > /dev/null || { echo "python3 is missing: the tests of the commands are run by it." && exit 1; }
+	@command -v python3 > /dev/null || { echo "python3 is missing: the tests of the commands and the lists of clauses are run by it." && exit 1; }
 
 need-cc:
 	@command -v cc > /dev/null || { echo "cc is missing: a C compiler makes what refuses the calls." && exit 1; }
@@ -54,8 +56,7 @@ install: need-prefix build install-files
 install-files:
 	install -D -m 755 $(PROGRAM) "$(DESTDIR)$(PREFIX)/bin/plm80"
 	install -D -m 644 share/plm80.1 "$(DESTDIR)$(PREFIX)/share/man/man1/plm80.1"
-	install -d "$(DESTDIR)$(PREFIX)/share/doc/plm80"
-	install -m 644 README.md LICENSE CHANGELOG.md docs/*.md "$(DESTDIR)$(PREFIX)/share/doc/plm80"
+	@tools/pages "$(DESTDIR)$(PREFIX)/share/doc/plm80"
 	install -d "$(DESTDIR)$(PREFIX)/share/doc/plm80/examples"
 	install -m 644 examples/*.* "$(DESTDIR)$(PREFIX)/share/doc/plm80/examples"
 	@tools/proved > "$(DESTDIR)$(PREFIX)/share/doc/plm80/PROVED"
@@ -76,8 +77,8 @@ test: need-rt need-python3
 	@tests/layers/run
 	@tests/layers/believed
 	@tests/examples/run
-	@tools/lemma_files --check
 	@tools/crates --check
+	@tools/clauses --check
 	@tools/gate
 	@tests/commands/run $(PROGRAM)
 	@tests/commands/migrated $(PROGRAM)
@@ -111,6 +112,12 @@ commands: need-python3 build
 # FAULTS=".." tries that alone, as FAULTS="program", FAULTS="tests_runs" or FAULTS="tests_links=1..20".
 faults: need-cc build
 	@tests/refused/run $(PROGRAM) $(FAULTS)
+
+clauses: need-python3
+	@tools/clauses
+
+lemmas:
+	@tools/lemma_files
 
 bench: need-python3 build
 	@bench/make_programs $(PROGRAM)
