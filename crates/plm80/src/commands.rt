@@ -48,7 +48,7 @@ fn perform(console: Console<'_>, request: Request<'_>) -> Result<u8, Reported> {
         Request::Map(arguments) => map_file(console, arguments),
         Request::Extract(arguments) => extract_file(console, arguments),
         Request::Absolute(arguments) => write_absolute(console, &arguments),
-        Request::Stores(files) => list_stores(console, files),
+        Request::Stores(arguments) => list_stores(console, &arguments),
         Request::Compare(arguments) => compare_files(console, arguments),
         Request::Inputs(arguments) => write_inputs_file(console, &arguments),
         Request::Calls(arguments) => show_calls(console, arguments),

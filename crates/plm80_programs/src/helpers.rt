@@ -1,5 +1,6 @@
-//! What the commands that run a program share.
+//! What several commands share.
 
+pub(crate) mod ranges;
 pub(crate) mod run_arguments;
 pub(crate) mod session_files;
 pub(crate) mod watching;

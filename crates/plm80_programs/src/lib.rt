@@ -44,6 +44,6 @@ pub use list::{LIST, ListArguments, list_files};
 pub use regions::{REGIONS, RegionsArguments, migrate_file};
 pub use run::{RUN, RunArguments, run_files};
 pub use status::{explain_end, status_of};
-pub use stores::{STORES, list_stores};
+pub use stores::{STORES, StoresArguments, list_stores};
 pub use suggest::{SUGGEST, SuggestArguments, advise_file};
 pub use trace::{TRACE, TraceArguments, trace_files};

@@ -1,9 +1,11 @@
 //! `plm80 stores`: the stores of a program that may leave its data, and its jumps by PCHL.
 
-use image80::Image;
+use crate::helpers::ranges::ranges_of;
+use clap::ArgMatches;
+use image80::{Image, Range};
 use loader80::{Vouched, vouch};
-use plm80_console::{Console, Reported, Syntax};
-use plm80_names::{NAMED_FILES, NamedFiles, Names, named_refusal};
+use plm80_console::{Argument, Console, IMAGE, Kind, REGIONS, Reported, Syntax};
+use plm80_names::{NAMES, NamedFiles, Names, named_refusal};
 use std::alloc::{AllocError, Global};
 use verify80_stores::{Stores, find_stores, stores_text};
 
@@ -20,6 +22,11 @@ target, and a line JUMP is for each other one. What no procedure reaches is left
 out. A line SP NOT SET says that SP must be at the stack's top before the program
 begins, since it may use SP before an LXI SP of its own sets it.
 
+Devices may write to data at any time, so what a program keeps there isn't
+believed. --quiet-ram names addresses of data to which only the program writes,
+as 2000:0100, FIRST and LENGTH in hexadecimal digits; it may be given again. A
+byte that is stored there and read again is then remembered up to the next call.
+
 The exit status is 0 if there is no line STORE, JUMP or SP NOT SET, 1 if there is
 one, or if the image is refused: then the refusal is printed alone, as by check.
 --names prints behind a line the name of its first address, as check does.
@@ -33,13 +40,44 @@ pub const STORES: Syntax<'static> = Syntax {
     name: "stores",
     about: ABOUT,
     after_help: AFTER_HELP,
-    arguments: NAMED_FILES,
+    arguments: &[
+        IMAGE,
+        REGIONS,
+        NAMES,
+        Argument {
+            name: QUIET,
+            kind: Kind::PathsAt("FIRST:LENGTH"),
+            help: "Addresses of data to which only the program writes",
+        },
+    ],
 };
 
+/// The name of the option for RAM to which only the program writes.
+const QUIET: &str = "quiet-ram";
+
+/// The arguments of `stores`.
+#[derive(Drop)]
+pub struct StoresArguments<'a> {
+    files: NamedFiles<'a>,
+    /// Ranges to which only the program writes, each as `ffff:llll`.
+    quiet: Vec<&'a str>,
+}
+
+impl<'a> StoresArguments<'a> {
+    /// The arguments as clap has read them.
+    pub fn of(alloc: Global, matches: &ArgMatches<'a>) -> Result<StoresArguments<'a>, AllocError> {
+        Ok(StoresArguments {
+            files: NamedFiles::of(matches),
+            quiet: Vec::from_slice(alloc, matches.get_strs(QUIET).unwrap_or(&[]))?,
+        })
+    }
+}
+
 /// Prints what is known of the image's stores, or its refusal, and gives the exit status.
-pub fn list_stores(console: Console<'_>, files: NamedFiles<'_>) -> Result<u8, Reported> {
-    let (image, names) = files.read(console)?;
-    let Ok((text, status)) = judged(console.alloc(), image, &names) else {
+pub fn list_stores(console: Console<'_>, arguments: &StoresArguments<'_>) -> Result<u8, Reported> {
+    let quiet = ranges_of(console, QUIET, &arguments.quiet)?;
+    let (image, names) = arguments.files.read(console)?;
+    let Ok((text, status)) = judged(console.alloc(), image, &names, &quiet) else {
         return Err(console.report_memory());
     };
     console.print(text.as_slice())?;
@@ -47,17 +85,27 @@ pub fn list_stores(console: Console<'_>, files: NamedFiles<'_>) -> Result<u8, Re
 }
 
 /// What is printed of an image, and the exit status.
-fn judged(alloc: Global, image: Image, names: &Names) -> Result<(Vec<u8>, u8), AllocError> {
+fn judged(
+    alloc: Global,
+    image: Image,
+    names: &Names,
+    quiet: &[Range],
+) -> Result<(Vec<u8>, u8), AllocError> {
     match vouch(alloc, image) {
-        Ok(vouched) => stores_of(alloc, &vouched, names),
+        Ok(vouched) => stores_of(alloc, &vouched, names, quiet),
         Err((image, refusal)) => Ok((named_refusal(alloc, &image, refusal, names)?, 1)),
     }
 }
 
 /// The lines of an image's stores with their names, and the exit status.
-fn stores_of(alloc: Global, vouched: &Vouched, names: &Names) -> Result<(Vec<u8>, u8), AllocError> {
+fn stores_of(
+    alloc: Global,
+    vouched: &Vouched,
+    names: &Names,
+    quiet: &[Range],
+) -> Result<(Vec<u8>, u8), AllocError> {
     let code = vouched.image().regions.code();
-    let stores = find_stores(alloc, vouched)?;
+    let stores = find_stores(alloc, vouched, quiet)?;
     let text = stores_text(alloc, &stores)?;
     let text = names.name(alloc, code, b"STORE ", text)?;
     let text = names.name(alloc, code, b"JUMP ", text)?;

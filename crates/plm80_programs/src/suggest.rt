@@ -3,12 +3,12 @@
 ghost use Rattle.std.specs.Prelude.{◌≡◌};
 
 use crate::cases::report_notes;
+use crate::helpers::ranges::ranges_of;
 use clap::ArgMatches;
 use image80::{Image, Range, write_regions};
 use loader80::TEXT_LIMIT;
 use plm80_console::{
-    Argument, Console, IMAGE, Kind, OptionText, Reported, Syntax, image_of, path_of, regions_of,
-    word_of_digits,
+    Argument, Console, IMAGE, Kind, Reported, Syntax, image_of, path_of, regions_of,
 };
 use std::alloc::{AllocError, Global};
 use verify80::ImageCode;
@@ -178,33 +178,6 @@ fn line_length(
         ),
         None => Ok(0),
     }
-}
-
-/// The ranges that the values of an option write.
-fn ranges_of(console: Console<'_>, name: &str, values: &[&str]) -> Result<Vec<Range>, Reported> {
-    let mut ranges = Vec::new(console.alloc());
-    for value in values {
-        let Some(range) = range_of(value) else {
-            let wanted =
-                "a first address, a colon and a length, of one to four hexadecimal digits each, up to FFFF";
-            return Err(console.report_number(OptionText::new(name, value), wanted));
-        };
-        if ranges.push(range).is_err() {
-            return Err(console.report_memory());
-        }
-    }
-    Ok(ranges)
-}
-
-/// The range of a first address, a colon and a length, if it ends in memory.
-fn range_of(text: &str) -> Option<Range> {
-    let (first, length) = text.split_once(':')?;
-    let first = word_of_digits(first)?;
-    let length = word_of_digits(length)?;
-    if u32::from(first) + u32::from(length) > 65_536 {
-        return None;
-    }
-    Some(Range { first, length })
 }
 
 /// Reports that there is no LXI SP, or several.

@@ -47,7 +47,7 @@ fn what_a_vouched_image_reaches(rt: HostRuntime) -> Result<(), Fail> {
     let reached = find_reached(rt.alloc(), &vouched)?;
     assert!(rt; reached.at(0x300B).is_some());
     assert!(rt; reached.at(0x3012).is_none());
-    let stores = find_stores(rt.alloc(), &vouched)?;
+    let stores = find_stores(rt.alloc(), &vouched, &[])?;
     assert!(rt; stores.addresses.is_empty());
     assert!(rt; stores.open.is_empty());
     let calls = find_calls(rt.alloc(), &vouched, Procedure::Main)?;

@@ -1,12 +1,13 @@
 -- On a board each world keeps to the table of pairs, so its stores go as they are listed.
-use Rattle.std.specs.Prelude.{◌≡◌, ◌≢◌, ◌⊎◌, ℕ, Bool, true, false, not, List, [], All, Any, Contains, Option, None, Some, length, refl}
+use Rattle.std.specs.Prelude.{◌≡◌, ◌≢◌, ◌⊎◌, ◌&&◌, ℕ, Bool, true, false, not, List, [], All, Any, Contains, Option, None, Some, length, refl}
 use Rattle.std.specs.Option.{option_map_or}
-use Rattle.std.proofs.Common.{◌∙◌, subst, sym, ap, inl, inr, get_or}
+use Rattle.std.proofs.Common.{◌∙◌, subst, sym, ap, inl, inr, get_or, true≢false}
 use Rattle.std.proofs.lemmas.List.Elements.{Contains-get_or}
 use Rattle.decode80.specs.declared.instr.Instr.{Instr}
 use Rattle.decode80.specs.declared.instr.Instr.TheVariants.{Pchl}
 use Rattle.decode80.specs.declared.fetching.Fetched.{Fetched}
-use Rattle.image80.specs.Regions.{in_data, targets_at}
+use Rattle.image80.specs.declared.range.Range.{Range}
+use Rattle.image80.specs.Regions.{Areas, in_data, targets_at}
 use Rattle.image80.specs.Image.{Located}
 use Rattle.machine80.specs.Effects.{pointed_bytes}
 use Rattle.machine80.specs.Cpu.{hl_of}
@@ -27,8 +28,12 @@ use Rattle.verify80_stores.specs.Pointers.{stores_by_pair}
 use Rattle.verify80_stores.specs.Stores.{GoesAsListed}
 use Rattle.verify80_stores.specs.Steps.{HasCode}
 use Rattle.verify80_stores.specs.Listing.{AreKnown, AreAllBelow, AreOpenBelow, AreOpenMarks, AreSpans, is_at, is_marked_at}
-use Rattle.verify80_stores.specs.Boards.{IsListedAt, KeepsWholePromise, PromiseHoldsOnBoards}
+use Rattle.verify80_stores.specs.Fitting.{KnowsQuiet}
+use Rattle.verify80_stores.specs.Boards.{IsListedAt, KeepsWholePromise, PromiseHoldsOnBoards, PromiseHoldsOnQuietBoards, StaysQuiet, OnQuietBoard, is_quiet}
+use Rattle.verify80_stores.specs.Boards.{begins as begins_quiet, disturbed as disturbed_quiet, executed as executed_quiet}
 use Rattle.verify80_stores.proofs.MemoryLemmas.{Ground, words_stay}
+use Rattle.verify80_stores.proofs.CellLemmas.{cells_beside}
+use Rattle.verify80_stores.proofs.KeepLemmas.{known_there}
 use Rattle.verify80_stores.proofs.StoreLemmas.{any_by, goes_if, jump_there, listed_or_not}
 
 -- what the ports hold counts for nothing
@@ -43,7 +48,7 @@ keeps_so image table m places inputs outputs k = record {
   placed = k.placed;
   there = k.there;
   at = k.at;
-  holds = record { registers = k.holds.registers; words = k.holds.words };
+  holds = record { registers = k.holds.registers; words = k.holds.words; cells = k.holds.cells };
   code = k.code;
   whole = k.whole;
 }
@@ -56,10 +61,10 @@ starts_with : (image : Located) (start : Machine) → MayStart image start → H
 starts_with image start (inl is) = (is.code, is.whole)
 starts_with image start (inr sets) = (sets.code, sets.whole)
 
--- what devices write leaves the words on the stack, and the code
-disturbed_keeps : (image : Located) (ground : Ground image.regions) (table : List Placed) (w : World) (memory : List ℕ) → LeavesProgram image.regions w.machine.memory memory → KeepsTo image table w →
-    KeepsTo image table (with_memory w memory)
-disturbed_keeps image ground table w memory leaves k = record {
+-- what devices write leaves the words on the stack, the code and what is known of quiet addresses
+disturbed_keeps : (image : Located) (ground : Ground image.regions) (quiet : ℕ → Bool) (table : List Placed) (w : World) (memory : List ℕ) → KnowsQuiet quiet table → LeavesProgram image.regions w.machine.memory memory →
+    StaysQuiet quiet w.machine.memory memory → KeepsTo image table w → KeepsTo image table (with_memory w memory)
+disturbed_keeps image ground quiet table w memory knows leaves stays k = record {
   place = k.place;
   placed = k.placed;
   there = k.there;
@@ -67,6 +72,7 @@ disturbed_keeps image ground table w memory leaves k = record {
   holds = record {
     registers = k.holds.registers;
     words = words_stay image.regions ground k.placed.state.words w.machine.memory memory w.machine.cpu.sp leaves.stack k.holds.words;
+    cells = cells_beside quiet w.machine.memory memory k.placed.state.cells stays leaves.bytes (known_there quiet table k.place k.placed knows k.there) k.holds.cells;
   };
   code = λ address here. leaves.code address here ∙ k.code address here;
   whole = leaves.size ∙ k.whole;
@@ -83,7 +89,7 @@ module _ (image : Located) (bytes : ℕ) (reached : List (Option Fetched)) (tabl
     (sound : NeverGoesWrongFromPowerOn image bytes) (walks : StaysOnWalks image) (are : AreReached (code_of image) reached) (whole : length reached ≡ 65536) (keeps : RunsKeepTo image table)
     (are_marks : AreOpenMarks image.regions reached table marks) (are_spans : AreSpans reached table spans) (each_store : AreAllBelow (is_at stores_by_pair reached) 65536 addresses)
     (open_below : AreOpenBelow reached marks spans 65536 stores) (each_jump : AreAllBelow (is_at is_pchl reached) 65536 jumps) (each_open_jump : AreAllBelow (is_marked_at is_pchl reached marks) 65536 open_jumps)
-    (ground : Ground image.regions) (known : AreKnown image bytes) (kept : IsKept image table) (stay : BytesStayBytes)
+    (ground : Ground image.regions) (known : AreKnown image bytes) (quiet : ℕ → Bool) (kept : IsKept image quiet table) (stay : BytesStayBytes)
     (start : Machine) (is_start : MayStart image start) (start_bytes : HoldsBytes start) where
   -- a world of the board, at which each step so far has stayed inside
   record Stands (w : World) : Type 0 where
@@ -155,7 +161,7 @@ module _ (image : Located) (bytes : ℕ) (reached : List (Option Fetched)) (tabl
           placed = k.placed;
           there = k.there;
           at = k.at;
-          holds = record { registers = k.holds.registers; words = k.holds.words };
+          holds = record { registers = k.holds.registers; words = k.holds.words; cells = k.holds.cells };
           code = k.code;
           whole = k.whole;
         } in
@@ -167,28 +173,47 @@ module _ (image : Located) (bytes : ℕ) (reached : List (Option Fetched)) (tabl
           held = subst (λ (x : World). HoldsBytes x.machine) (sym v_is) (record { registers = held_there.registers; memory = held_there.memory; inputs = s.held.inputs });
         }
 
-  always : (w : World) → OnBoard image.regions (IsListedAt stores open_jumps) start w → Stands w
-  always w (begins _ is) =
+  always : (w : World) → OnQuietBoard image.regions quiet (IsListedAt stores open_jumps) start w → Stands w
+  always w (begins_quiet _ is) =
       let on : OnBoard image.regions Anywhere start (world_of start) = begins (world_of start) refl in
       subst Stands (sym is) (record { on = on; keeps_to = kept.starts start (starts_at image start is_start) (starts_with image start is_start).0 (starts_with image start is_start).1 start_bytes (known.boards start is_start (world_of start) on).stands; held = start_bytes })
-  always w (disturbed v _ on by) =
+  always w (disturbed_quiet v _ on by stays) =
       let s = always v on in
       let moved : OnBoard image.regions Anywhere start w = disturbed v w s.on by in
       record {
         on = moved;
-        keeps_to = subst (KeepsTo image table) (sym by.is) (disturbed_keeps image ground table v by.memory by.leaves s.keeps_to);
+        keeps_to = subst (KeepsTo image table) (sym by.is) (disturbed_keeps image ground quiet table v by.memory kept.quiet by.leaves stays s.keeps_to);
         held = subst (λ (x : World). HoldsBytes x.machine) (sym by.is) (record { registers = s.held.registers; memory = by.leaves.bytes; inputs = s.held.inputs });
       }
-  always w (executed v _ on by) = goes_on v w (always v on) by
+  always w (executed_quiet v _ on by) = goes_on v w (always v on) by
 
-  keeps_whole : (w : World) → OnBoard image.regions (IsListedAt stores open_jumps) start w → KeepsWholePromise image bytes stores w
+  keeps_whole : (w : World) → OnQuietBoard image.regions quiet (IsListedAt stores open_jumps) start w → KeepsWholePromise image bytes stores w
   keeps_whole w on = let s = always w on in record { promise = promise_of w s; stores = goes_listed w s }
 
--- so the promise holds on boards
-pub holds_on_boards : (image : Located) (bytes : ℕ) (reached : List (Option Fetched)) (table : List Placed) (marks : List Bool) (spans : List (Option Span)) (addresses : List ℕ) (stores : List OpenStore) (jumps open_jumps : List ℕ)
+-- so the promise holds on quiet boards
+pub holds_on_quiet_boards : (image : Located) (bytes : ℕ) (reached : List (Option Fetched)) (table : List Placed) (marks : List Bool) (spans : List (Option Span)) (addresses : List ℕ) (stores : List OpenStore) (jumps open_jumps : List ℕ)
     (sound : NeverGoesWrongFromPowerOn image bytes) (walks : StaysOnWalks image) (are : AreReached (code_of image) reached) (whole : length reached ≡ 65536) (keeps : RunsKeepTo image table)
     (are_marks : AreOpenMarks image.regions reached table marks) (are_spans : AreSpans reached table spans) (each_store : AreAllBelow (is_at stores_by_pair reached) 65536 addresses)
     (open_below : AreOpenBelow reached marks spans 65536 stores) (each_jump : AreAllBelow (is_at is_pchl reached) 65536 jumps) (each_open_jump : AreAllBelow (is_marked_at is_pchl reached marks) 65536 open_jumps)
-    (ground : Ground image.regions) (known : AreKnown image bytes) (kept : IsKept image table) (stay : BytesStayBytes) → PromiseHoldsOnBoards image bytes stores open_jumps
-holds_on_boards image bytes reached table marks spans addresses stores jumps open_jumps sound walks are whole keeps are_marks are_spans each_store open_below each_jump each_open_jump ground known kept stay start is_start start_bytes w on =
-    keeps_whole image bytes reached table marks spans addresses stores jumps open_jumps sound walks are whole keeps are_marks are_spans each_store open_below each_jump each_open_jump ground known kept stay start is_start start_bytes w on
+    (ground : Ground image.regions) (known : AreKnown image bytes) (quiet : ℕ → Bool) (kept : IsKept image quiet table) (stay : BytesStayBytes) → PromiseHoldsOnQuietBoards image quiet bytes stores open_jumps
+holds_on_quiet_boards image bytes reached table marks spans addresses stores jumps open_jumps sound walks are whole keeps are_marks are_spans each_store open_below each_jump each_open_jump ground known quiet kept stay start is_start start_bytes w on =
+    keeps_whole image bytes reached table marks spans addresses stores jumps open_jumps sound walks are whole keeps are_marks are_spans each_store open_below each_jump each_open_jump ground known quiet kept stay start is_start start_bytes w on
+
+-- where nothing is quiet, each board is a quiet one
+all_quiet : (regions : Areas) (quiet : ℕ → Bool) (listed : ℕ → Type 0) (start : Machine) → ((at : ℕ) → quiet at ≡ false) → (w : World) → OnBoard regions listed start w → OnQuietBoard regions quiet listed start w
+all_quiet regions quiet listed start none w (begins _ is) = begins_quiet w is
+all_quiet regions quiet listed start none w (disturbed v _ on by) =
+    disturbed_quiet v w (all_quiet regions quiet listed start none v on) by (λ at here. absurd (true≢false (sym here ∙ none at)))
+all_quiet regions quiet listed start none w (executed v _ on by) = executed_quiet v w (all_quiet regions quiet listed start none v on) by
+
+nothing_is_quiet : (regions : Areas) (at : ℕ) → is_quiet regions [] at ≡ false
+nothing_is_quiet regions at = go (in_data regions at) where
+  go : (b : Bool) → (b && false) ≡ false
+  go true = refl
+  go false = refl
+
+pub holds_on_boards : (image : Located) (ranges : List Range) (bytes : ℕ) (stores : List OpenStore) (open_jumps : List ℕ) → PromiseHoldsOnQuietBoards image (is_quiet image.regions ranges) bytes stores open_jumps → ranges ≡ [] →
+    PromiseHoldsOnBoards image bytes stores open_jumps
+holds_on_boards image ranges bytes stores open_jumps holds none start is_start start_bytes w on =
+    holds start is_start start_bytes w
+    (all_quiet image.regions (is_quiet image.regions ranges) (IsListedAt stores open_jumps) start (λ at. ap (λ (r : List Range). is_quiet image.regions r at) none ∙ nothing_is_quiet image.regions at) w on)

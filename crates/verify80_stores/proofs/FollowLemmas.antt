@@ -35,13 +35,16 @@ use Rattle.verify80_stores.specs.declared.spans.byte_span.Outcome.{Outcome}
 use Rattle.verify80_stores.specs.declared.states.state.State.{State}
 use Rattle.verify80_stores.specs.Bytes.{IsByte, HasBytes, AreBytes}
 use Rattle.verify80_stores.specs.Span.{Within, ByteWithin, IsKnown, any_word, any_byte, word_alone, byte_alone, is_alone, is_byte_alone, next_span, previous_span, next_byte, previous_byte, sum_span, sum_carries, high_of, operated, doubled, rotated, complemented, uncarried}
-use Rattle.verify80_stores.specs.State.{HoldsRegisters, HoldsWord, HoldsWords, HoldsPair, Compares, compared_with, byte_of, words_of, with_byte, with_words, pair_of_words}
+use Rattle.verify80_stores.specs.State.{HoldsRegisters, HoldsWord, HoldsWords, HoldsPair, Compares, compared_with, byte_of, words_of, with_byte, with_words, with_outcome, pair_of_words}
 use Rattle.verify80_stores.specs.Steps.{ReadsCode}
-use Rattle.verify80_stores.specs.Following.{byte_at, known_byte, known_word, loaded, word_by, loaded_word, moved, counted, resulted, tested, is_accumulator, operand_bytes, after_operation, added_carry, turned, exchanged, index_words, popped_to, registers_after}
+use Rattle.verify80_stores.specs.declared.states.cells.Cells.{Cells}
+use Rattle.verify80_stores.specs.Cells.{HoldsCells}
+use Rattle.verify80_stores.proofs.CellReads.{read_within}
+use Rattle.verify80_stores.specs.Following.{known_word, loaded_at, loaded, loaded_word, moved, counted, resulted, tested, is_accumulator, operand_bytes, after_operation, added_carry, turned, exchanged, index_words, popped_to, registers_after}
 use Rattle.verify80_stores.proofs.ByteLemmas.{byte_at as memory_byte}
 use Rattle.verify80_stores.proofs.ArithmeticBounds.{operation_is_byte, rotation_is_byte, decimal_is_byte}
 use Rattle.verify80_stores.proofs.RegisterBytes.{register_is_byte, register_written}
-use Rattle.verify80_stores.proofs.SpanLemmas.{any_word_within, any_byte_within, alone_within, high_within, next_within, previous_within, next_byte_within, previous_byte_within, sum_within, sum_any, carries}
+use Rattle.verify80_stores.proofs.SpanLemmas.{any_word_within, any_byte_within, alone_within, high_within, joined_within, next_within, previous_within, next_byte_within, previous_byte_within, sum_within, sum_any, carries}
 use Rattle.verify80_stores.proofs.OutcomeLemmas.{Makes, result_of, carry_of, operated_makes, is_first, by_span}
 use Rattle.verify80_stores.proofs.StateLemmas.{words_hold, split_holds, byte_holds, with_byte_holds, bc_written_holds, de_written_holds, hl_written_holds, with_words_holds, outcome_holds, carry_holds, any_flags_hold, compared_holds, copy_holds}
 
@@ -52,27 +55,15 @@ word_small h l high low = omega arith
 word_first : (s : Span) (n : ℕ) → is_alone s ≡ true → Within s n → s.first ≡ n
 word_first s n alone inside = grind (arith, nat_tests)
 
-known_within : (code : List (Option ℕ)) (memory : List ℕ) (at : ℕ) (o : Option ℕ) → byte_at code at ≡ o → ReadsCode code memory → HasBytes memory → ByteWithin (known_byte o) (byte_in memory at)
-known_within code memory at None e reads bytes = any_byte_within (byte_in memory at) (memory_byte memory at bytes)
-known_within code memory at (Some byte) e reads bytes = subst (λ n. ByteWithin (byte_alone byte) n) (sym (reads at byte e)) (alone_within byte)
+loaded_go : (code : List (Option ℕ)) (cells : Cells) (memory : List ℕ) (s : Span) (n : ℕ) (b : Bool) → is_alone s ≡ b → ReadsCode code memory → HoldsCells cells memory → HasBytes memory → Within s n → ByteWithin (loaded code cells s) (byte_in memory n)
+loaded_go code cells memory s n true alone reads holds bytes inside =
+    by_span (loaded code cells s) (loaded_at code cells s.first) (byte_in memory n) (rw alone refl)
+    (rw (word_first s n alone inside) (read_within code cells memory n reads holds bytes))
+loaded_go code cells memory s n false alone reads holds bytes inside =
+    by_span (loaded code cells s) any_byte (byte_in memory n) (rw alone refl) (any_byte_within (byte_in memory n) (memory_byte memory n bytes))
 
-loaded_go : (code : List (Option ℕ)) (memory : List ℕ) (s : Span) (n : ℕ) (b : Bool) → is_alone s ≡ b → ReadsCode code memory → HasBytes memory → Within s n → ByteWithin (loaded code s) (byte_in memory n)
-loaded_go code memory s n true alone reads bytes inside =
-    by_span (loaded code s) (known_byte (byte_at code s.first)) (byte_in memory n) (rw alone refl)
-    (rw (word_first s n alone inside) (known_within code memory n (byte_at code n) refl reads bytes))
-loaded_go code memory s n false alone reads bytes inside =
-    by_span (loaded code s) any_byte (byte_in memory n) (rw alone refl) (any_byte_within (byte_in memory n) (memory_byte memory n bytes))
-
-loaded_within : (code : List (Option ℕ)) (memory : List ℕ) (s : Span) (n : ℕ) → ReadsCode code memory → HasBytes memory → Within s n → ByteWithin (loaded code s) (byte_in memory n)
-loaded_within code memory s n reads bytes inside = loaded_go code memory s n (is_alone s) refl reads bytes inside
-
-word_known : (high low : Option ℕ) (h l : ℕ) → ((byte : ℕ) → high ≡ Some byte → h ≡ byte) → ((byte : ℕ) → low ≡ Some byte → l ≡ byte) → h < 256 → l < 256 → Within (word_by high low) (word h l)
-word_known (Some x) (Some y) h l high low small other =
-    let one : h ≡ x = high x refl in
-    let two : l ≡ y = low y refl in
-    record { above = omega arith; below = omega arith }
-word_known None low h l first second small other = any_word_within (word h l) (word_small h l small other)
-word_known (Some x) None h l first second small other = any_word_within (word h l) (word_small h l small other)
+pub loaded_within : (code : List (Option ℕ)) (cells : Cells) (memory : List ℕ) (s : Span) (n : ℕ) → ReadsCode code memory → HoldsCells cells memory → HasBytes memory → Within s n → ByteWithin (loaded code cells s) (byte_in memory n)
+loaded_within code cells memory s n reads holds bytes inside = loaded_go code cells memory s n (is_alone s) refl reads holds bytes inside
 
 popped_within : (regions : Areas) (o : Option Span) (memory : List ℕ) (sp : ℕ) → HoldsWord regions o memory sp → HasBytes memory → Within (known_word o) (word_in memory sp)
 popped_within regions None memory sp holds bytes =
@@ -134,15 +125,17 @@ unfolding decrement_answer byte_answer
 counts_down s r to bytes holds = counted_holds s r to (previous_byte (byte_of s to)) ((register_of r to + 255) % 256) _ bytes holds
     (previous_byte_within (byte_of s to) (register_of r to) (register_is_byte r to bytes) (byte_holds s r to bytes holds))
 
-memory_up : (s : State) (r : Registers) (byte : ℕ) → HoldsRegisters s r → HoldsRegisters (registers_after [] InrMemory s) (record r { flags = (increment_answer byte r.flags).flags })
+memory_up : (s : State) (r : Registers) (span : ByteSpan) (byte : ℕ) → HoldsRegisters s r → byte < 256 → ByteWithin span byte →
+    HoldsRegisters (with_outcome s (record { value = next_byte span; carry = s.carry })) (record r { flags = (increment_answer byte r.flags).flags })
 unfolding increment_answer byte_answer
-memory_up s r byte holds = outcome_holds s r (record { value = any_byte; carry = s.carry }) ((byte + 1) % 256) _ r.flags.carry holds
-    (record { value = any_byte_within ((byte + 1) % 256) (omega arith); carry = holds.carry })
+memory_up s r span byte holds small inside = outcome_holds s r (record { value = next_byte span; carry = s.carry }) ((byte + 1) % 256) _ r.flags.carry holds
+    (record { value = next_byte_within span byte small inside; carry = holds.carry })
 
-memory_down : (s : State) (r : Registers) (byte : ℕ) → HoldsRegisters s r → HoldsRegisters (registers_after [] DcrMemory s) (record r { flags = (decrement_answer byte r.flags).flags })
+memory_down : (s : State) (r : Registers) (span : ByteSpan) (byte : ℕ) → HoldsRegisters s r → byte < 256 → ByteWithin span byte →
+    HoldsRegisters (with_outcome s (record { value = previous_byte span; carry = s.carry })) (record r { flags = (decrement_answer byte r.flags).flags })
 unfolding decrement_answer byte_answer
-memory_down s r byte holds = outcome_holds s r (record { value = any_byte; carry = s.carry }) ((byte + 255) % 256) _ r.flags.carry holds
-    (record { value = any_byte_within ((byte + 255) % 256) (omega arith); carry = holds.carry })
+memory_down s r span byte holds small inside = outcome_holds s r (record { value = previous_byte span; carry = s.carry }) ((byte + 255) % 256) _ r.flags.carry holds
+    (record { value = previous_byte_within span byte small inside; carry = holds.carry })
 
 -- operations on A
 resulted_holds : (s : State) (r : Registers) (out : Outcome) (byte : ℕ) (half full : Bool) → AreBytes r → HoldsRegisters s r → Makes out byte full →
@@ -368,7 +361,7 @@ exchanges_copy H r same = same
 exchanges_copy L r same = same
 
 -- pairs are counted and added
-index_within : (s : State) (r : Registers) (pair : IndexPair) → HoldsRegisters s r → Within (index_words s pair) (index_pair_of r pair)
+pub index_within : (s : State) (r : Registers) (pair : IndexPair) → HoldsRegisters s r → Within (index_words s pair) (index_pair_of r pair)
 index_within s r IndexBc holds = holds.bc.words
 index_within s r IndexDe holds = holds.de.words
 
@@ -391,72 +384,75 @@ adds s cpu span n known bytes holds inside carry =
     (with_words_holds s cpu Hl (sum_span s.hl.words span) sum holds inside) carry
 
 module _ (code : List (Option ℕ)) (memory : List ℕ) (reads : ReadsCode code memory) (held : HasBytes memory) where
-  loads : (s : State) (r : Registers) (to : Register) (span : Span) (at : ℕ) → AreBytes r → HoldsRegisters s r → Within span at → HoldsRegisters (with_byte s to (loaded code span)) (with_register r to (byte_in memory at))
-  loads s r to span at bytes holds inside = with_byte_holds s r to (loaded code span) (byte_in memory at) bytes holds (loaded_within code memory span at reads held inside)
+  loads : (s : State) (r : Registers) (to : Register) (span : Span) (at : ℕ) → AreBytes r → HoldsRegisters s r → HoldsCells s.cells memory → Within span at → HoldsRegisters (with_byte s to (loaded code s.cells span)) (with_register r to (byte_in memory at))
+  loads s r to span at bytes holds cells inside = with_byte_holds s r to (loaded code s.cells span) (byte_in memory at) bytes holds (loaded_within code s.cells memory span at reads cells held inside)
 
-  operand_within : (operand : Operand) (s : State) (r : Registers) → AreBytes r → HoldsRegisters s r → ByteWithin (operand_bytes code operand s) (operand_of operand memory r)
-  operand_within (InRegister register) s r bytes holds = byte_holds s r register bytes holds
-  operand_within Memory s r bytes holds = loaded_within code memory s.hl.words (hl_of r) reads held holds.hl.words
-  operand_within (Immediate byte) s r bytes holds = alone_within byte
+  operand_within : (operand : Operand) (s : State) (r : Registers) → AreBytes r → HoldsRegisters s r → HoldsCells s.cells memory → ByteWithin (operand_bytes code operand s) (operand_of operand memory r)
+  operand_within (InRegister register) s r bytes holds cells = byte_holds s r register bytes holds
+  operand_within Memory s r bytes holds cells = loaded_within code s.cells memory s.hl.words (hl_of r) reads cells held holds.hl.words
+  operand_within (Immediate byte) s r bytes holds cells = alone_within byte
 
   operand_small : (o : Operation) (operand : Operand) (r : Registers) → HasOperandInRange (Operate o operand) → AreBytes r → operand_of operand memory r < 256
   operand_small o (InRegister register) r small bytes = register_is_byte r register bytes
   operand_small o Memory r small bytes = memory_byte memory (hl_of r) held
   operand_small o (Immediate byte) r small bytes = small
 
-  pub changed_registers : (regions : Areas) (i : Instr) (cpu : Cpu) (s : State) → HasOperandInRange i → AreBytes cpu.registers → HoldsRegisters s cpu.registers → HoldsWords regions s.words memory cpu.sp →
+  pub changed_registers : (regions : Areas) (i : Instr) (cpu : Cpu) (s : State) → HasOperandInRange i → AreBytes cpu.registers → HoldsRegisters s cpu.registers → HoldsWords regions s.words memory cpu.sp → HoldsCells s.cells memory →
       HoldsRegisters (registers_after code i s) (changed i memory cpu).registers
-  changed_registers regions (Mov to from) cpu s small bytes holds words = moved_holds s cpu.registers to from bytes holds
-  changed_registers regions (Load to) cpu s small bytes holds words = loads s cpu.registers to s.hl.words (hl_of cpu.registers) bytes holds holds.hl.words
-  changed_registers regions (Mvi to byte) cpu s small bytes holds words = with_byte_holds s cpu.registers to (byte_alone byte) byte bytes holds (alone_within byte)
-  changed_registers regions (Inr to) cpu s small bytes holds words = counts_up s cpu.registers to bytes holds
-  changed_registers regions (Dcr to) cpu s small bytes holds words = counts_down s cpu.registers to bytes holds
-  changed_registers regions InrMemory cpu s small bytes holds words = memory_up s cpu.registers (byte_in memory (hl_of cpu.registers)) holds
-  changed_registers regions DcrMemory cpu s small bytes holds words = memory_down s cpu.registers (byte_in memory (hl_of cpu.registers)) holds
-  changed_registers regions (Lxi pair n) cpu s small bytes holds words = with_words_holds s cpu pair (word_alone n) n holds (record { above = omega arith; below = omega arith })
-  changed_registers regions (Inx Bc) cpu s small bytes holds words =
+  changed_registers regions (Mov to from) cpu s small bytes holds words cells = moved_holds s cpu.registers to from bytes holds
+  changed_registers regions (Load to) cpu s small bytes holds words cells = loads s cpu.registers to s.hl.words (hl_of cpu.registers) bytes holds cells holds.hl.words
+  changed_registers regions (Mvi to byte) cpu s small bytes holds words cells = with_byte_holds s cpu.registers to (byte_alone byte) byte bytes holds (alone_within byte)
+  changed_registers regions (Inr to) cpu s small bytes holds words cells = counts_up s cpu.registers to bytes holds
+  changed_registers regions (Dcr to) cpu s small bytes holds words cells = counts_down s cpu.registers to bytes holds
+  changed_registers regions InrMemory cpu s small bytes holds words cells =
+      memory_up s cpu.registers (loaded code s.cells s.hl.words) (byte_in memory (hl_of cpu.registers)) holds (memory_byte memory (hl_of cpu.registers) held)
+      (loaded_within code s.cells memory s.hl.words (hl_of cpu.registers) reads cells held holds.hl.words)
+  changed_registers regions DcrMemory cpu s small bytes holds words cells =
+      memory_down s cpu.registers (loaded code s.cells s.hl.words) (byte_in memory (hl_of cpu.registers)) holds (memory_byte memory (hl_of cpu.registers) held)
+      (loaded_within code s.cells memory s.hl.words (hl_of cpu.registers) reads cells held holds.hl.words)
+  changed_registers regions (Lxi pair n) cpu s small bytes holds words cells = with_words_holds s cpu pair (word_alone n) n holds (record { above = omega arith; below = omega arith })
+  changed_registers regions (Inx Bc) cpu s small bytes holds words cells =
       with_words_holds s cpu Bc (next_span s.bc.words) _ holds (up_within s.bc.words _ (word_small cpu.registers.b cpu.registers.c bytes.b bytes.c) holds.bc.words)
-  changed_registers regions (Inx De) cpu s small bytes holds words =
+  changed_registers regions (Inx De) cpu s small bytes holds words cells =
       with_words_holds s cpu De (next_span s.de.words) _ holds (up_within s.de.words _ (word_small cpu.registers.d cpu.registers.e bytes.d bytes.e) holds.de.words)
-  changed_registers regions (Inx Hl) cpu s small bytes holds words =
+  changed_registers regions (Inx Hl) cpu s small bytes holds words cells =
       with_words_holds s cpu Hl (next_span s.hl.words) _ holds (up_within s.hl.words _ (word_small cpu.registers.h cpu.registers.l bytes.h bytes.l) holds.hl.words)
-  changed_registers regions (Inx Sp) cpu s small bytes holds words = holds
-  changed_registers regions (Dcx Bc) cpu s small bytes holds words =
+  changed_registers regions (Inx Sp) cpu s small bytes holds words cells = holds
+  changed_registers regions (Dcx Bc) cpu s small bytes holds words cells =
       with_words_holds s cpu Bc (previous_span s.bc.words) _ holds (down_within s.bc.words _ (word_small cpu.registers.b cpu.registers.c bytes.b bytes.c) holds.bc.words)
-  changed_registers regions (Dcx De) cpu s small bytes holds words =
+  changed_registers regions (Dcx De) cpu s small bytes holds words cells =
       with_words_holds s cpu De (previous_span s.de.words) _ holds (down_within s.de.words _ (word_small cpu.registers.d cpu.registers.e bytes.d bytes.e) holds.de.words)
-  changed_registers regions (Dcx Hl) cpu s small bytes holds words =
+  changed_registers regions (Dcx Hl) cpu s small bytes holds words cells =
       with_words_holds s cpu Hl (previous_span s.hl.words) _ holds (down_within s.hl.words _ (word_small cpu.registers.h cpu.registers.l bytes.h bytes.l) holds.hl.words)
-  changed_registers regions (Dcx Sp) cpu s small bytes holds words = holds
-  changed_registers regions (Dad Bc) cpu s small bytes holds words = adds s cpu s.bc.words _ (added_carry s Bc) bytes holds
+  changed_registers regions (Dcx Sp) cpu s small bytes holds words cells = holds
+  changed_registers regions (Dad Bc) cpu s small bytes holds words cells = adds s cpu s.bc.words _ (added_carry s Bc) bytes holds
       (sum_within s.hl.words s.bc.words _ _ (word_small cpu.registers.h cpu.registers.l bytes.h bytes.l) (word_small cpu.registers.b cpu.registers.c bytes.b bytes.c) holds.hl.words holds.bc.words)
       (carries s.hl.words s.bc.words _ _ holds.hl.words holds.bc.words)
-  changed_registers regions (Dad De) cpu s small bytes holds words = adds s cpu s.de.words _ (added_carry s De) bytes holds
+  changed_registers regions (Dad De) cpu s small bytes holds words cells = adds s cpu s.de.words _ (added_carry s De) bytes holds
       (sum_within s.hl.words s.de.words _ _ (word_small cpu.registers.h cpu.registers.l bytes.h bytes.l) (word_small cpu.registers.d cpu.registers.e bytes.d bytes.e) holds.hl.words holds.de.words)
       (carries s.hl.words s.de.words _ _ holds.hl.words holds.de.words)
-  changed_registers regions (Dad Hl) cpu s small bytes holds words = adds s cpu s.hl.words _ (added_carry s Hl) bytes holds
+  changed_registers regions (Dad Hl) cpu s small bytes holds words cells = adds s cpu s.hl.words _ (added_carry s Hl) bytes holds
       (sum_within s.hl.words s.hl.words _ _ (word_small cpu.registers.h cpu.registers.l bytes.h bytes.l) (word_small cpu.registers.h cpu.registers.l bytes.h bytes.l) holds.hl.words holds.hl.words)
       (carries s.hl.words s.hl.words _ _ holds.hl.words holds.hl.words)
-  changed_registers regions (Dad Sp) cpu s small bytes holds words = adds s cpu any_word cpu.sp None bytes holds
+  changed_registers regions (Dad Sp) cpu s small bytes holds words cells = adds s cpu any_word cpu.sp None bytes holds
       (sum_any s.hl.words (hl_of cpu.registers) _ (word_small cpu.registers.h cpu.registers.l bytes.h bytes.l) (omega arith) holds.hl.words) tt
-  changed_registers regions (Operate o operand) cpu s small bytes holds words =
+  changed_registers regions (Operate o operand) cpu s small bytes holds words cells =
       operates o (is_accumulator operand) s cpu.registers (operand_bytes code operand s) (operand_of operand memory cpu.registers) bytes (operand_small o operand cpu.registers small bytes) holds
-      (operand_within operand s cpu.registers bytes holds) (is_itself operand memory cpu.registers)
-  changed_registers regions (Rotate rotation) cpu s small bytes holds words = rotates rotation s cpu.registers bytes holds
-  changed_registers regions Daa cpu s small bytes holds words = adjusts s cpu.registers bytes holds
-  changed_registers regions Cma cpu s small bytes holds words = complements s cpu.registers bytes holds
-  changed_registers regions Stc cpu s small bytes holds words = sets_carry s cpu.registers holds
-  changed_registers regions Cmc cpu s small bytes holds words = turns_carry s cpu.registers holds
-  changed_registers regions (Ldax pair) cpu s small bytes holds words = loads s cpu.registers A (index_words s pair) (index_pair_of cpu.registers pair) bytes holds (index_within s cpu.registers pair holds)
-  changed_registers regions (Lda address) cpu s small bytes holds words =
-      with_byte_holds s cpu.registers A (known_byte (byte_at code address)) (byte_in memory address) bytes holds (known_within code memory address (byte_at code address) refl reads held)
-  changed_registers regions (Lhld address) cpu s small bytes holds words =
-      let high = memory_byte memory (ahead address 1) held in
-      let low = memory_byte memory address held in
-      hl_written_holds s cpu.registers (loaded_word code address) (byte_in memory (ahead address 1)) (byte_in memory address) holds
-      (words_hold (loaded_word code address) (byte_in memory (ahead address 1)) (byte_in memory address) low
-      (word_known (byte_at code (ahead address 1)) (byte_at code address) _ _ (λ byte e. reads (ahead address 1) byte e) (λ byte e. reads address byte e) high low))
-  changed_registers regions Xchg cpu s small bytes holds words = record {
+      (operand_within operand s cpu.registers bytes holds cells) (is_itself operand memory cpu.registers)
+  changed_registers regions (Rotate rotation) cpu s small bytes holds words cells = rotates rotation s cpu.registers bytes holds
+  changed_registers regions Daa cpu s small bytes holds words cells = adjusts s cpu.registers bytes holds
+  changed_registers regions Cma cpu s small bytes holds words cells = complements s cpu.registers bytes holds
+  changed_registers regions Stc cpu s small bytes holds words cells = sets_carry s cpu.registers holds
+  changed_registers regions Cmc cpu s small bytes holds words cells = turns_carry s cpu.registers holds
+  changed_registers regions (Ldax pair) cpu s small bytes holds words cells = loads s cpu.registers A (index_words s pair) (index_pair_of cpu.registers pair) bytes holds cells (index_within s cpu.registers pair holds)
+  changed_registers regions (Lda address) cpu s small bytes holds words cells =
+      with_byte_holds s cpu.registers A (loaded_at code s.cells address) (byte_in memory address) bytes holds (read_within code s.cells memory address reads cells held)
+  changed_registers regions (Lhld address) cpu s small bytes holds words cells =
+      hl_written_holds s cpu.registers (loaded_word code s.cells address) (byte_in memory (ahead address 1)) (byte_in memory address) holds
+      (words_hold (loaded_word code s.cells address) (byte_in memory (ahead address 1)) (byte_in memory address) (memory_byte memory address held)
+      (joined_within (loaded_at code s.cells (ahead address 1)) (loaded_at code s.cells address) (byte_in memory (ahead address 1)) (byte_in memory address)
+      (read_within code s.cells memory (ahead address 1) reads cells held) (read_within code s.cells memory address reads cells held)))
+  changed_registers regions Xchg cpu s small bytes holds words cells = record {
     a = holds.a;
     bc = holds.bc;
     de = holds.hl;
@@ -467,17 +463,17 @@ module _ (code : List (Option ℕ)) (memory : List ℕ) (reads : ReadsCode code 
     sign = holds.sign;
     compared = holds.compared;
   }
-  changed_registers regions (Pop StackBc) cpu s small bytes holds words = bc_written_holds s cpu.registers (known_word s.words.first) _ _ holds
+  changed_registers regions (Pop StackBc) cpu s small bytes holds words cells = bc_written_holds s cpu.registers (known_word s.words.first) _ _ holds
       (words_hold (known_word s.words.first) _ _ (memory_byte memory cpu.sp held) (popped_within regions s.words.first memory cpu.sp words.first held))
-  changed_registers regions (Pop StackDe) cpu s small bytes holds words = de_written_holds s cpu.registers (known_word s.words.first) _ _ holds
+  changed_registers regions (Pop StackDe) cpu s small bytes holds words cells = de_written_holds s cpu.registers (known_word s.words.first) _ _ holds
       (words_hold (known_word s.words.first) _ _ (memory_byte memory cpu.sp held) (popped_within regions s.words.first memory cpu.sp words.first held))
-  changed_registers regions (Pop StackHl) cpu s small bytes holds words = hl_written_holds s cpu.registers (known_word s.words.first) _ _ holds
+  changed_registers regions (Pop StackHl) cpu s small bytes holds words cells = hl_written_holds s cpu.registers (known_word s.words.first) _ _ holds
       (words_hold (known_word s.words.first) _ _ (memory_byte memory cpu.sp held) (popped_within regions s.words.first memory cpu.sp words.first held))
-  changed_registers regions (Pop Psw) cpu s small bytes holds words =
+  changed_registers regions (Pop Psw) cpu s small bytes holds words cells =
       any_flags_hold (with_byte s A (high_of (known_word s.words.first))) (record cpu.registers { a = byte_in memory (ahead cpu.sp 1) }) (flags_from (byte_in memory cpu.sp))
       (with_byte_holds s cpu.registers A (high_of (known_word s.words.first)) (byte_in memory (ahead cpu.sp 1)) bytes holds
       (high_within (known_word s.words.first) _ (byte_in memory cpu.sp) (memory_byte memory cpu.sp held) (popped_within regions s.words.first memory cpu.sp words.first held)))
-  changed_registers regions Xthl cpu s small bytes holds words = hl_written_holds s cpu.registers (known_word s.words.first) _ _ holds
+  changed_registers regions Xthl cpu s small bytes holds words cells = hl_written_holds s cpu.registers (known_word s.words.first) _ _ holds
       (words_hold (known_word s.words.first) _ _ (memory_byte memory cpu.sp held) (popped_within regions s.words.first memory cpu.sp words.first held))
-  changed_registers regions (In port) cpu s small bytes holds words = with_byte_holds s cpu.registers A any_byte cpu.registers.a bytes holds (any_byte_within cpu.registers.a bytes.a)
-  changed_registers regions i cpu s small bytes holds words = holds
+  changed_registers regions (In port) cpu s small bytes holds words cells = with_byte_holds s cpu.registers A any_byte cpu.registers.a bytes holds (any_byte_within cpu.registers.a bytes.a)
+  changed_registers regions i cpu s small bytes holds words cells = holds

@@ -16,12 +16,13 @@ use Rattle.verify80_stores.specs.State.{HoldsRegisters, Compares, cut, cut_copy}
 use Rattle.verify80_stores.specs.Given.{if_same, zero_bytes, carry_bytes, cut_to, given_zero, given_carry, given_sign, given}
 use Rattle.verify80_stores.proofs.StateLemmas.{cut_holds}
 
--- a state is left, it holds, and it has the words that it had
+-- a state is left, it holds, and it has the words and the cells that it had
 pub record Leaves (o : Option State) (s : State) (r : Registers) : Type 0 where
   pub left : State
   pub is : o ≡ Some left
   pub holds : HoldsRegisters left r
   pub words : left.words ≡ s.words
+  pub cells : left.cells ≡ s.cells
 
 -- some bytes are left, and one is among them
 record LeavesByte (o : Option ByteSpan) (n : ℕ) : Type 0 where
@@ -110,8 +111,8 @@ sign_is s r wanted holds is = record {
 }
 
 same_left : (known wanted truth : Bool) (s : State) (r : Registers) → HoldsRegisters s r → truth ≡ known → truth ≡ wanted → Leaves (if_same known wanted s) s r
-same_left true true truth s r holds one two = record { left = s; is = refl; holds = holds; words = refl }
-same_left false false truth s r holds one two = record { left = s; is = refl; holds = holds; words = refl }
+same_left true true truth s r holds one two = record { left = s; is = refl; holds = holds; words = refl; cells = refl }
+same_left false false truth s r holds one two = record { left = s; is = refl; holds = holds; words = refl; cells = refl }
 same_left true false truth s r holds one two = cc
 same_left false true truth s r holds one two = cc
 
@@ -126,27 +127,39 @@ cut_words s span = go s.copy where
   go H = refl
   go L = refl
 
-cut_left : (o : Option ByteSpan) (s t : State) (r : Registers) → AreBytes r → HoldsRegisters t r → t.words ≡ s.words → LeavesByte o r.a → Leaves (cut_to o t) s r
-cut_left o s t r bytes holds words byte = record {
+cut_cells : (s : State) (span : ByteSpan) → (cut s span).cells ≡ s.cells
+cut_cells s span = go s.copy where
+  go : (copy : Register) → (cut_copy s copy span).cells ≡ s.cells
+  go A = refl
+  go B = refl
+  go C = refl
+  go D = refl
+  go E = refl
+  go H = refl
+  go L = refl
+
+cut_left : (o : Option ByteSpan) (s t : State) (r : Registers) → AreBytes r → HoldsRegisters t r → t.words ≡ s.words → t.cells ≡ s.cells → LeavesByte o r.a → Leaves (cut_to o t) s r
+cut_left o s t r bytes holds words cells byte = record {
   left = cut t byte.span;
   is = ap (λ (x : Option ByteSpan). cut_to x t) byte.is;
   holds = cut_holds t r byte.span bytes holds byte.inside;
   words = cut_words t byte.span ∙ words;
+  cells = cut_cells t byte.span ∙ cells;
 }
 
 zero_given : (known : Option Bool) (wanted : Bool) (s : State) (r : Registers) → AreBytes r → HoldsRegisters s r → IsKnown known r.flags.zero → r.flags.zero ≡ wanted → Leaves (given_zero known wanted s) s r
 zero_given (Some known) wanted s r bytes holds knows is = same_left known wanted r.flags.zero s r holds knows is
 zero_given None wanted s r bytes holds knows is =
-    cut_left (zero_bytes s.compared wanted s.a) s (record s { zero = Some wanted }) r bytes (zero_is s r wanted holds is) refl (zero_leaves s.compared wanted s r holds holds.compared is)
+    cut_left (zero_bytes s.compared wanted s.a) s (record s { zero = Some wanted }) r bytes (zero_is s r wanted holds is) refl refl (zero_leaves s.compared wanted s r holds holds.compared is)
 
 carry_given : (known : Option Bool) (wanted : Bool) (s : State) (r : Registers) → AreBytes r → HoldsRegisters s r → IsKnown known r.flags.carry → r.flags.carry ≡ wanted → Leaves (given_carry known wanted s) s r
 carry_given (Some known) wanted s r bytes holds knows is = same_left known wanted r.flags.carry s r holds knows is
 carry_given None wanted s r bytes holds knows is =
-    cut_left (carry_bytes s.compared wanted s.a) s (record s { carry = Some wanted }) r bytes (carry_is s r wanted holds is) refl (carry_leaves s.compared wanted s r holds holds.compared is)
+    cut_left (carry_bytes s.compared wanted s.a) s (record s { carry = Some wanted }) r bytes (carry_is s r wanted holds is) refl refl (carry_leaves s.compared wanted s r holds holds.compared is)
 
 sign_given : (known : Option Bool) (wanted : Bool) (s : State) (r : Registers) → HoldsRegisters s r → IsKnown known r.flags.sign → r.flags.sign ≡ wanted → Leaves (given_sign known wanted s) s r
 sign_given (Some known) wanted s r holds knows is = same_left known wanted r.flags.sign s r holds knows is
-sign_given None wanted s r holds knows is = record { left = record s { sign = Some wanted }; is = refl; holds = sign_is s r wanted holds is; words = refl }
+sign_given None wanted s r holds knows is = record { left = record s { sign = Some wanted }; is = refl; holds = sign_is s r wanted holds is; words = refl; cells = refl }
 
 turned : (b c : Bool) → not b ≡ c → b ≡ not c
 turned true true h = cc
@@ -162,5 +175,5 @@ given_holds Carry wanted s r bytes holds is = carry_given s.carry wanted s r byt
 given_holds NoCarry wanted s r bytes holds is = carry_given s.carry (not wanted) s r bytes holds holds.carry (turned r.flags.carry wanted is)
 given_holds Minus wanted s r bytes holds is = sign_given s.sign wanted s r holds holds.sign is
 given_holds Plus wanted s r bytes holds is = sign_given s.sign (not wanted) s r holds holds.sign (turned r.flags.sign wanted is)
-given_holds ParityOdd wanted s r bytes holds is = record { left = s; is = refl; holds = holds; words = refl }
-given_holds ParityEven wanted s r bytes holds is = record { left = s; is = refl; holds = holds; words = refl }
+given_holds ParityOdd wanted s r bytes holds is = record { left = s; is = refl; holds = holds; words = refl; cells = refl }
+given_holds ParityEven wanted s r bytes holds is = record { left = s; is = refl; holds = holds; words = refl; cells = refl }

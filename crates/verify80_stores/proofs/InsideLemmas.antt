@@ -12,9 +12,11 @@ use Rattle.verify80_stores.specs.declared.spans.span.Span.{Span}
 use Rattle.verify80_stores.specs.declared.states.state.PairSpan.{PairSpan}
 use Rattle.verify80_stores.specs.declared.states.state.Words.{Words}
 use Rattle.verify80_stores.specs.declared.states.state.State.{State}
+use Rattle.verify80_stores.specs.Bytes.{HasBytes}
 use Rattle.verify80_stores.specs.Span.{IsKnown}
 use Rattle.verify80_stores.specs.State.{Holds, HoldsPair, HoldsRegisters, HoldsWord, HoldsWords, Compares, IsPairInside, IsFlagInside, IsComparisonInside, IsCopyInside, IsWordInside, AreWordsInside, IsStateInside}
 use Rattle.verify80_stores.proofs.SpanLemmas.{inside_within, byte_inside_within}
+use Rattle.verify80_stores.proofs.CellLemmas.{cells_around}
 
 pair_around : (p q : PairSpan) (h l : ℕ) → IsPairInside p q → HoldsPair p h l → HoldsPair q h l
 pair_around p q h l inside holds = record { words = inside_within p.words q.words (word h l) inside.words holds.words; low = byte_inside_within p.low q.low l inside.low holds.low }
@@ -49,8 +51,8 @@ words_around regions w v memory sp inside holds = record {
   fourth = word_around regions w.fourth v.fourth memory (ahead sp 6) inside.fourth holds.fourth;
 }
 
-pub state_around : (regions : Areas) (s t : State) (m : Machine) → IsStateInside s t → Holds regions s m → Holds regions t m
-state_around regions s t m inside holds =
+pub state_around : (regions : Areas) (s t : State) (m : Machine) → HasBytes m.memory → IsStateInside s t → Holds regions s m → Holds regions t m
+state_around regions s t m bytes inside holds =
     let r = m.cpu.registers in
     let h = holds.registers in
     record {
@@ -66,4 +68,5 @@ state_around regions s t m inside holds =
         compared = comparison_around s.compared t.compared r inside.compared h.compared;
       };
       words = words_around regions s.words t.words m.memory m.cpu.sp inside.words holds.words;
+      cells = cells_around s.cells t.cells m.memory bytes inside.cells holds.cells;
     }

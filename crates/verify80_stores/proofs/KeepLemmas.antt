@@ -1,13 +1,14 @@
 -- Runs keep to a table that fits.
 use Rattle.std.specs.Prelude.{◌≡◌, ◌⊎◌, ◌<◌, ℕ, zero, suc, Bool, true, false, List, [], Option, None, Some, Ok, IsSome, Contains, length, slice_get, slice_index, refl}
 use Rattle.std.proofs.Common.{subst, sym, ap, ◌∙◌, inl, inr}
+use Rattle.std.proofs.lemmas.Option.{get_or_from_slice_get, slice_get_within}
 use Rattle.decode80.specs.declared.condition.Condition.{Condition}
 use Rattle.decode80.specs.declared.instr.Instr.TheVariants.{Pchl}
 use Rattle.decode80.specs.declared.fetching.Fetched.{Fetched}
 use Rattle.decode80.specs.declared.flow.Flow.{Flow}
 use Rattle.decode80.specs.declared.flow.Flow.TheVariants.{Continues, Jumps, JumpsIf, JumpsToHl, Calls, CallsIf, Returns, ReturnsIf, Pushes, Pops, Exchanges, Halts}
 use Rattle.decode80.specs.Facts.{flow}
-use Rattle.image80.specs.Regions.{Areas, AreRegions, in_code, targets_at}
+use Rattle.image80.specs.Regions.{Areas, AreRegions, in_code, in_data, targets_at}
 use Rattle.image80.specs.Image.{Located, memory_of}
 use Rattle.machine80.specs.Flags.{holds as holds_of}
 use Rattle.machine80.specs.Cpu.{hl_of}
@@ -23,14 +24,16 @@ use Rattle.verify80_stores.specs.declared.states.state.State.{State}
 use Rattle.verify80_stores.specs.declared.fitting.fitting.Placed.{Placed}
 use Rattle.verify80_stores.specs.Bytes.{AreBytes, HoldsBytes, BytesStayBytes, FetchedOperandsAreBounded, MemoryKeepsItsLength}
 use Rattle.verify80_stores.specs.Span.{Within}
+use Rattle.verify80_stores.specs.Cells.{AreQuietCells}
 use Rattle.verify80_stores.specs.State.{Holds, HoldsRegisters, HoldsWords, anything}
 use Rattle.verify80_stores.specs.Following.{byte_at, state_after}
 use Rattle.verify80_stores.specs.Given.{given}
 use Rattle.verify80_stores.specs.Steps.{is_taken, ReadsCode, AreCodeBytes, HasCode}
-use Rattle.verify80_stores.specs.Fitting.{Has, HasAfter, FitsBy, Fits}
+use Rattle.verify80_stores.specs.Fitting.{Has, HasAfter, FitsBy, Fits, KnowsQuiet}
 use Rattle.verify80_stores.specs.Runs.{KeepsTo, IsKnown, IsKept}
 use Rattle.verify80_stores.proofs.StateLemmas.{anything_holds}
 use Rattle.verify80_stores.proofs.MemoryLemmas.{Ground, none_hold}
+use Rattle.verify80_stores.proofs.CellLemmas.{cells_quieter, none_hold as no_cells_hold}
 use Rattle.verify80_stores.proofs.GivenLemmas.{given_holds}
 use Rattle.verify80_stores.proofs.InsideLemmas.{state_around}
 use Rattle.verify80_stores.proofs.StepLemmas.{passed, step_state, step_code}
@@ -73,7 +76,7 @@ pub record Meets (regions : Areas) (table : List Placed) (to : ℕ) (m : Machine
 -- what a state owes where its flow leads, it has there
 module _ (regions : Areas) (targets : List ℕ) (table : List Placed) (after : Bool → State → State) (m there : Machine) (bytes : AreBytes m.cpu.registers) where
   abbrev pub Follows : Flow → Type 0
-  Follows w = (t : State) → Holds regions t m → Holds regions (after (is_taken w m.cpu.registers.flags) t) there
+  Follows w = (t : State) → Holds regions t m → AreQuietCells (in_data regions) t.cells → Holds regions (after (is_taken w m.cpu.registers.flags) t) there
 
   at_once : (next to : ℕ) (s : State) → to ≡ next → Has table next s → Holds regions s there → Meets regions table to there
   at_once next to s same has holds = record { state = s; has = subst (λ n. Has table n s) (sym same) has; holds = holds }
@@ -82,55 +85,64 @@ module _ (regions : Areas) (targets : List ℕ) (table : List Placed) (after : B
   by_condition taken left t to address is has same holds =
       at_once address to (after taken t) same (subst (λ (o : Option State). HasAfter table address (after taken) o) is has) holds
 
-  if_given : (condition : Condition) (taken : Bool) (s : State) (to address : ℕ) → Holds regions s m → holds_of condition m.cpu.registers.flags ≡ taken → HasAfter table address (after taken) (given condition taken s) → to ≡ address →
-      ((t : State) → Holds regions t m → Holds regions (after taken t) there) → Meets regions table to there
-  if_given condition taken s to address holds is has same follow =
+  if_given : (condition : Condition) (taken : Bool) (s : State) (to address : ℕ) → AreQuietCells (in_data regions) s.cells → Holds regions s m → holds_of condition m.cpu.registers.flags ≡ taken → HasAfter table address (after taken) (given condition taken s) → to ≡ address →
+      ((t : State) → Holds regions t m → AreQuietCells (in_data regions) t.cells → Holds regions (after taken t) there) → Meets regions table to there
+  if_given condition taken s to address are holds is has same follow =
       let left = given_holds condition taken s m.cpu.registers bytes holds.registers is in
       by_condition taken (given condition taken s) left.left to address left.is has same
-      (follow left.left (record { registers = left.holds; words = rw left.words holds.words }))
+      (follow left.left (record { registers = left.holds; words = rw left.words holds.words; cells = rw left.cells holds.cells }) (rw left.cells are))
 
-  with_taken : (w : Flow) (taken : Bool) → is_taken w m.cpu.registers.flags ≡ taken → Follows w → (t : State) → Holds regions t m → Holds regions (after taken t) there
-  with_taken w taken is follow t holds = subst (λ b. Holds regions (after b t) there) is (follow t holds)
+  with_taken : (w : Flow) (taken : Bool) → is_taken w m.cpu.registers.flags ≡ taken → Follows w → (t : State) → Holds regions t m → AreQuietCells (in_data regions) t.cells → Holds regions (after taken t) there
+  with_taken w taken is follow t holds are = subst (λ b. Holds regions (after b t) there) is (follow t holds are)
 
-  pub arrives : (w : Flow) (s : State) (next to : ℕ) → FitsBy targets table after s next w → Leads w m.cpu.registers.flags targets next (hl_of m.cpu.registers) to → Follows w → Holds regions s m →
+  pub arrives : (w : Flow) (s : State) (next to : ℕ) → FitsBy targets table after s next w → Leads w m.cpu.registers.flags targets next (hl_of m.cpu.registers) to → Follows w → AreQuietCells (in_data regions) s.cells → Holds regions s m →
       Meets regions table to there
-  arrives Continues s next to fits leads follow holds = at_once next to (after false s) leads fits (follow s holds)
-  arrives Pushes s next to fits leads follow holds = at_once next to (after false s) leads fits (follow s holds)
-  arrives Pops s next to fits leads follow holds = at_once next to (after false s) leads fits (follow s holds)
-  arrives Exchanges s next to fits leads follow holds = at_once next to (after false s) leads fits (follow s holds)
-  arrives (Jumps address) s next to fits leads follow holds = at_once address to (after false s) leads fits (follow s holds)
-  arrives (JumpsIf condition address) s next to fits (inl way) follow holds = if_given condition true s to address holds way.0 fits.0 way.1 (with_taken (JumpsIf condition address) true way.0 follow)
-  arrives (JumpsIf condition address) s next to fits (inr way) follow holds = if_given condition false s to next holds way.0 fits.1 way.1 (with_taken (JumpsIf condition address) false way.0 follow)
-  arrives JumpsToHl s next to fits leads follow holds =
-      at_once to to (after false s) refl (fits to leads.0 (subst (λ n. Within s.hl.words n) (sym leads.1) holds.registers.hl.words)) (follow s holds)
-  arrives (Calls address) s next to fits leads follow holds = at_once address to (after true s) leads fits (follow s holds)
-  arrives (CallsIf condition address) s next to fits (inl way) follow holds = if_given condition true s to address holds way.0 fits.0 way.1 (with_taken (CallsIf condition address) true way.0 follow)
-  arrives (CallsIf condition address) s next to fits (inr way) follow holds = if_given condition false s to next holds way.0 fits.1 way.1 (with_taken (CallsIf condition address) false way.0 follow)
-  arrives Returns s next to fits leads follow holds = absurd leads
-  arrives (ReturnsIf condition) s next to fits leads follow holds = if_given condition false s to next holds leads.0 fits leads.1 (with_taken (ReturnsIf condition) false leads.0 follow)
-  arrives Halts s next to fits leads follow holds = absurd leads
+  arrives Continues s next to fits leads follow are holds = at_once next to (after false s) leads fits (follow s holds are)
+  arrives Pushes s next to fits leads follow are holds = at_once next to (after false s) leads fits (follow s holds are)
+  arrives Pops s next to fits leads follow are holds = at_once next to (after false s) leads fits (follow s holds are)
+  arrives Exchanges s next to fits leads follow are holds = at_once next to (after false s) leads fits (follow s holds are)
+  arrives (Jumps address) s next to fits leads follow are holds = at_once address to (after false s) leads fits (follow s holds are)
+  arrives (JumpsIf condition address) s next to fits (inl way) follow are holds = if_given condition true s to address are holds way.0 fits.0 way.1 (with_taken (JumpsIf condition address) true way.0 follow)
+  arrives (JumpsIf condition address) s next to fits (inr way) follow are holds = if_given condition false s to next are holds way.0 fits.1 way.1 (with_taken (JumpsIf condition address) false way.0 follow)
+  arrives JumpsToHl s next to fits leads follow are holds =
+      at_once to to (after false s) refl (fits to leads.0 (subst (λ n. Within s.hl.words n) (sym leads.1) holds.registers.hl.words)) (follow s holds are)
+  arrives (Calls address) s next to fits leads follow are holds = at_once address to (after true s) leads fits (follow s holds are)
+  arrives (CallsIf condition address) s next to fits (inl way) follow are holds = if_given condition true s to address are holds way.0 fits.0 way.1 (with_taken (CallsIf condition address) true way.0 follow)
+  arrives (CallsIf condition address) s next to fits (inr way) follow are holds = if_given condition false s to next are holds way.0 fits.1 way.1 (with_taken (CallsIf condition address) false way.0 follow)
+  arrives Returns s next to fits leads follow are holds = absurd leads
+  arrives (ReturnsIf condition) s next to fits leads follow are holds = if_given condition false s to next are holds leads.0 fits leads.1 (with_taken (ReturnsIf condition) false leads.0 follow)
+  arrives Halts s next to fits leads follow are holds = absurd leads
 
 -- a state that says nothing holds of any machine
 pub nothing_holds : (regions : Areas) (ground : Ground regions) (m : Machine) → HoldsBytes m → Holds regions anything m
-nothing_holds regions ground m bytes = record { registers = anything_holds m.cpu.registers bytes.registers; words = none_hold regions ground m.memory m.cpu.sp }
+nothing_holds regions ground m bytes = record { registers = anything_holds m.cpu.registers bytes.registers; words = none_hold regions ground m.memory m.cpu.sp; cells = no_cells_hold m.memory bytes.memory }
+
+-- what a table knows of quiet addresses, each of its states does
+pub known_there : (quiet : ℕ → Bool) (table : List Placed) (place : ℕ) (placed : Placed) → KnowsQuiet quiet table → slice_get table place ≡ Some placed → AreQuietCells quiet placed.state.cells
+known_there quiet table place placed knows there =
+    subst (λ (p : Placed). AreQuietCells quiet p.state.cells) (get_or_from_slice_get table place placed placed there) (knows place placed (slice_get_within table place placed there))
 
 -- a step leaves the image's code as it is
 pub code_stays : (image : Located) (ground : Ground image.regions) (refused : Bool) (m after : Machine) (found : Fetched) → fetch image.regions m.memory m.cpu.pc ≡ Some found → step_of image.regions refused m ≡ Next after →
     HasCode image m.memory → HasCode image after.memory
 code_stays image ground refused m after found fetched step code a here = step_code image.regions ground [] refused m after found a fetched step here ∙ code a here
 
-module _ (image : Located) (bytes : List (Option ℕ)) (table : List Placed) (ground : Ground image.regions) (are_code : AreCodeBytes image bytes) (fits : Fits (code_of image) bytes table)
+module _ (image : Located) (quiet : ℕ → Bool) (bytes : List (Option ℕ)) (table : List Placed) (ground : Ground image.regions) (are_code : AreCodeBytes image bytes) (quiet_data : (at : ℕ) → quiet at ≡ true → in_data image.regions at ≡ true) (fits : Fits quiet (code_of image) bytes table)
     (bounded : FetchedOperandsAreBounded) (length_stays : MemoryKeepsItsLength) where
-  keeps_by : (w : World) (s : State) → Has table w.machine.cpu.pc s → Holds image.regions s w.machine → HasCode image w.machine.memory → length w.machine.memory ≡ 65536 → KeepsTo image table w
-  keeps_by w s has holds code whole = record {
+  keeps_by : (w : World) (s : State) → Has table w.machine.cpu.pc s → HoldsBytes w.machine → Holds image.regions s w.machine → HasCode image w.machine.memory → length w.machine.memory ≡ 65536 → KeepsTo image table w
+  keeps_by w s has held holds code whole = record {
     place = has.place;
     placed = has.placed;
     there = has.there;
     at = has.at;
-    holds = state_around image.regions s has.placed.state w.machine has.inside holds;
+    holds = state_around image.regions s has.placed.state w.machine held.memory has.inside holds;
     code = code;
     whole = whole;
   }
+
+  -- what the table knows of memory is known of data
+  quiet_in_data : (place : ℕ) (placed : Placed) → slice_get table place ≡ Some placed → AreQuietCells (in_data image.regions) placed.state.cells
+  quiet_in_data place placed there = cells_quieter quiet (in_data image.regions) placed.state.cells quiet_data (known_there quiet table place placed fits.quiet there)
 
   -- behind a call whose callee returns nothing is known
   behind_has : (at : ℕ) → IsBehindCall (code_of image) at → Has table at anything
@@ -160,7 +172,7 @@ module _ (image : Located) (bytes : List (Option ℕ)) (table : List Placed) (gr
   gone refused w after known found fetched reached looked keeps before now step (inl taken) =
       keeps_by after anything
       (subst (λ n. Has table n anything) (sym taken.1) (behind_has (target found.instr found.next w.machine.memory w.machine.cpu) (known.returning found fetched taken.0)))
-      (nothing_holds image.regions ground after.machine now)
+      now (nothing_holds image.regions ground after.machine now)
       (code_stays image ground refused w.machine after.machine found fetched step keeps.code) (length_stays image.regions refused w.machine after.machine step ∙ keeps.whole)
   gone refused w after known found fetched reached looked keeps before now step (inr way) =
       let at : keeps.placed.at ≡ w.machine.cpu.pc = keeps.at in
@@ -169,16 +181,17 @@ module _ (image : Located) (bytes : List (Option ℕ)) (table : List Placed) (gr
       let bound = bounded image.regions w.machine.memory w.machine.cpu.pc found before.memory fetched in
       let meets = arrives image.regions (declared_targets image.regions w.machine.cpu.pc) table (λ taken t. state_after bytes found.instr taken found.next t) w.machine after.machine before.registers
       (flow found.instr) keeps.placed.state found.next after.machine.cpu.pc fit_here way
-      (λ t holds. step_state image.regions ground bytes refused w.machine after.machine found t bound.operand before now.registers keeps.whole (reads_code w.machine.memory keeps.code) fetched step holds)
-      keeps.holds in
-      keeps_by after meets.state meets.has meets.holds
+      (λ t holds are. step_state image.regions ground bytes refused w.machine after.machine found t bound.operand before now keeps.whole (reads_code w.machine.memory keeps.code) are fetched step holds)
+      (quiet_in_data keeps.place keeps.placed keeps.there) keeps.holds in
+      keeps_by after meets.state meets.has now meets.holds
       (code_stays image ground refused w.machine after.machine found fetched step keeps.code) (length_stays image.regions refused w.machine after.machine step ∙ keeps.whole)
 
   -- a step keeps to the table, and so does a start
-  pub is_kept : IsKept image table
+  pub is_kept : IsKept image quiet table
   is_kept = record {
+    quiet = fits.quiet;
     starts = λ start pc code whole held stands.
-        keeps_by (world_of start) anything (subst (λ n. Has table n anything) (sym pc) fits.start) (nothing_holds image.regions ground start held) code whole;
+        keeps_by (world_of start) anything (subst (λ n. Has table n anything) (sym pc) fits.start) held (nothing_holds image.regions ground start held) code whole;
     steps = λ refused w after known on before now keeps step.
         let stands : StandsOnWalk image w = known.stands in
         let pass = passed image.regions refused w.machine after.machine stands.found stands.fetched step in
@@ -187,7 +200,7 @@ module _ (image : Located) (bytes : List (Option ℕ)) (table : List Placed) (gr
   }
 
 -- runs keep to a table that is kept
-module _ (image : Located) (bytes : ℕ) (table : List Placed) (sound : NeverGoesWrongFromPowerOn image bytes) (walks : StaysOnWalks image) (kept : IsKept image table) (stay : BytesStayBytes)
+module _ (image : Located) (bytes : ℕ) (quiet : ℕ → Bool) (table : List Placed) (sound : NeverGoesWrongFromPowerOn image bytes) (walks : StaysOnWalks image) (kept : IsKept image quiet table) (stay : BytesStayBytes)
     (start : Machine) (begins : IsStart image start) (start_bytes : HoldsBytes start) (most : Option ℕ) where
   known_at : (w : World) → IsWorldFrom image start most w → IsKnown image w
   known_at w from = record {

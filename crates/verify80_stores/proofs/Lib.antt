@@ -15,8 +15,10 @@ pub mod RunBytes
 pub mod SpanLemmas
 pub mod OutcomeLemmas
 pub mod StateLemmas
+mod CellReads
 pub mod FollowLemmas
 pub mod MemoryLemmas
+pub mod CellLemmas
 pub mod GivenLemmas
 pub mod InsideLemmas
 pub mod StepLemmas

@@ -58,7 +58,7 @@ small_on_stack : (regions : Areas) (a : ℕ) → Ground regions → in_range reg
 small_on_stack regions a ground stack = let ends = ground.stack_ends in grind (arith, nat_tests, ends, stack)
 
 -- what is stored to data isn't on the stack
-stack_apart : (regions : Areas) (a b : ℕ) → Ground regions → in_range regions.stack a ≡ true → in_data regions b ≡ true → a ≢ b
+pub stack_apart : (regions : Areas) (a b : ℕ) → Ground regions → in_range regions.stack a ≡ true → in_data regions b ≡ true → a ≢ b
 stack_apart regions a b ground stack data_there = λ e. true≢false (sym stack ∙ ap (in_range regions.stack) e ∙ ground.data_or_stack b data_there)
 
 -- an address that the guard lets pass is inside
@@ -73,16 +73,16 @@ passed_rest false b others at rest h = cc
 passed : (within : ℕ → Bool) (b : ℕ) (at : ℕ → End) (rest : Option End) → ends_at (first_outside within (b ∷ [])) at rest ≡ None → within b ≡ true
 passed within b at rest h = passed_test (within b) b None at rest h
 
-passed_two : (within : ℕ → Bool) (b c : ℕ) (at : ℕ → End) (rest : Option End) → ends_at (first_outside within (b ∷ c ∷ [])) at rest ≡ None → (within b ≡ true) × (within c ≡ true)
+pub passed_two : (within : ℕ → Bool) (b c : ℕ) (at : ℕ → End) (rest : Option End) → ends_at (first_outside within (b ∷ c ∷ [])) at rest ≡ None → (within b ≡ true) × (within c ≡ true)
 passed_two within b c at rest h =
     let others : Option ℕ = first_outside within (c ∷ []) in
     (passed_test (within b) b others at rest h, passed within c at rest (passed_rest (within b) b others at rest h))
 
 -- stores, one and two
-one_stored : (m : List ℕ) (a b x : ℕ) → a ≢ b → slice_index (stored m ((b, x) ∷ [])) a ≡ slice_index m a
+pub one_stored : (m : List ℕ) (a b x : ℕ) → a ≢ b → slice_index (stored m ((b, x) ∷ [])) a ≡ slice_index m a
 one_stored m a b x h = get_or-set_other m b a x 0 h
 
-two_stored : (m : List ℕ) (a b c x y : ℕ) → a ≢ b → a ≢ c → slice_index (stored m ((b, x) ∷ (c, y) ∷ [])) a ≡ slice_index m a
+pub two_stored : (m : List ℕ) (a b c x y : ℕ) → a ≢ b → a ≢ c → slice_index (stored m ((b, x) ∷ (c, y) ∷ [])) a ≡ slice_index m a
 two_stored m a b c x y h k = get_or-set_other (slice_set m b x) c a y 0 k ∙ get_or-set_other m b a x 0 h
 
 -- the bytes outside data and outside the stack stay, and those of the stack unless a word is pushed or exchanged there

@@ -90,7 +90,7 @@ target_is_word i next memory cpu small after held bytes = after
 no_store : StoresBytes []
 no_store = All-nil (λ (b : ℕ × ℕ). IsByte b.1)
 
-one_store : (at byte : ℕ) → IsByte byte → StoresBytes ((at, byte) ∷ [])
+pub one_store : (at byte : ℕ) → IsByte byte → StoresBytes ((at, byte) ∷ [])
 one_store at byte small = All-cons (λ (b : ℕ × ℕ). IsByte b.1) (at, byte) [] small no_store
 
 two_stores : (at byte at' byte' : ℕ) → IsByte byte → IsByte byte' → StoresBytes ((at, byte) ∷ (at', byte') ∷ [])

@@ -7,23 +7,26 @@ use Rattle.decode80.specs.declared.instr.Instr.TheVariants.{In, Out, Pchl, Hlt}
 use Rattle.decode80.specs.declared.fetching.Fetched.{Fetched}
 use Rattle.decode80.specs.Facts.{flow}
 use Rattle.decode80.specs.Spelling.{HasOperandInRange}
-use Rattle.image80.specs.Regions.{Areas, in_code, targets_at}
+use Rattle.image80.specs.Regions.{Areas, in_code, in_data, targets_at}
 use Rattle.machine80.specs.declared.end.End.{End}
 use Rattle.machine80.specs.declared.registers.Registers.{Registers}
 use Rattle.machine80.specs.Cpu.{hl_of}
 use Rattle.machine80.specs.Ports.{next_input}
 use Rattle.machine80.specs.Step.{Machine, Turn, Next, Stop, fetch, guard, guarded, execute, turn_of, jump_end, proceeded, with_input, step_on, step_of}
+use Rattle.verify80_stores.specs.declared.states.cells.Cells.{Cells}
 use Rattle.verify80_stores.specs.declared.states.state.Words.{Words}
 use Rattle.verify80_stores.specs.declared.states.state.State.{State}
-use Rattle.verify80_stores.specs.Bytes.{AreBytes, HoldsBytes}
+use Rattle.verify80_stores.specs.Bytes.{AreBytes, HasBytes, HoldsBytes}
 use Rattle.verify80_stores.specs.Span.{any_byte}
+use Rattle.verify80_stores.specs.Cells.{AreQuietCells}
 use Rattle.verify80_stores.specs.State.{Holds, HoldsRegisters, HoldsWords, with_byte}
-use Rattle.verify80_stores.specs.Following.{registers_after, words_after, state_after}
+use Rattle.verify80_stores.specs.Following.{registers_after, words_after, cells_after, state_after}
 use Rattle.verify80_stores.specs.Steps.{ReadsCode, is_taken}
 use Rattle.verify80_stores.proofs.SpanLemmas.{any_byte_within}
 use Rattle.verify80_stores.proofs.StateLemmas.{with_byte_holds}
 use Rattle.verify80_stores.proofs.FollowLemmas.{changed_registers}
 use Rattle.verify80_stores.proofs.MemoryLemmas.{Ground, code_kept, words_changed}
+use Rattle.verify80_stores.proofs.CellLemmas.{cells_changed}
 
 machine_of : Machine → Turn → Machine
 machine_of otherwise (Next m) = m
@@ -46,9 +49,9 @@ pub passed : (regions : Areas) (refused : Bool) (m after : Machine) (found : Fet
 passed regions refused m after found fetched h =
     passed_by regions refused (guard regions found.instr m.cpu) found m after refl (sym (ap (λ (o : Option Fetched). step_on regions refused o m) fetched) ∙ h)
 
--- the registers of a state whose words are others
-pub other_words : (s : State) (w : Words) (r : Registers) → HoldsRegisters s r → HoldsRegisters (record s { words = w }) r
-other_words s w r holds = record {
+-- the registers of a state whose words and cells are others
+pub other_words : (s : State) (w : Words) (cells : Cells) (r : Registers) → HoldsRegisters s r → HoldsRegisters (record s { words = w; cells = cells }) r
+other_words s w cells r holds = record {
   a = holds.a;
   bc = holds.bc;
   de = holds.de;
@@ -62,11 +65,12 @@ other_words s w r holds = record {
 
 module _ (regions : Areas) (ground : Ground regions) (code : List (Option ℕ)) where
   -- what an instruction makes of a state holds of what it makes of a machine
-  proceeds : (i : Instr) (next : ℕ) (m : Machine) (s : State) → HasOperandInRange i → HoldsBytes m → length m.memory ≡ 65536 → ReadsCode code m.memory → guard regions i m.cpu ≡ None → Holds regions s m →
-      Holds regions (state_after code i (is_taken (flow i) m.cpu.registers.flags) next s) (proceeded i next m)
-  proceeds i next m s small bytes whole reads pass holds = record {
-    registers = other_words (registers_after code i s) _ _ (changed_registers code m.memory reads bytes.memory regions i m.cpu s small bytes.registers holds.registers holds.words);
+  proceeds : (i : Instr) (next : ℕ) (m : Machine) (s : State) → HasOperandInRange i → HoldsBytes m → length m.memory ≡ 65536 → ReadsCode code m.memory → AreQuietCells (in_data regions) s.cells → HasBytes (proceeded i next m).memory → guard regions i m.cpu ≡ None →
+      Holds regions s m → Holds regions (state_after code i (is_taken (flow i) m.cpu.registers.flags) next s) (proceeded i next m)
+  proceeds i next m s small bytes whole reads are after pass holds = record {
+    registers = other_words (registers_after code i s) _ _ _ (changed_registers code m.memory reads bytes.memory regions i m.cpu s small bytes.registers holds.registers holds.words holds.cells);
     words = words_changed regions ground m.memory whole i next m.cpu s pass holds.registers holds.words;
+    cells = cells_changed regions ground code m.memory reads bytes.memory whole i next m.cpu s pass small bytes.registers after are holds.registers holds.cells;
   }
 
   reads_on : (next port : ℕ) (m after : Machine) (s : State) (byte : Option ℕ) → HoldsBytes m → AreBytes after.cpu.registers → Holds regions s m → with_input m next port byte ≡ Next after →
@@ -77,36 +81,38 @@ module _ (regions : Areas) (ground : Ground regions) (code : List (Option ℕ)) 
       let small : byte < 256 = (subst (λ (n : Machine). AreBytes n.cpu.registers) (sym same) stay).a in
       subst (λ (n : Machine). Holds regions (state_after code (In port) false next s) n) same
       (record {
-        registers = other_words (with_byte s A any_byte) s.words _ (with_byte_holds s m.cpu.registers A any_byte byte bytes.registers holds.registers (any_byte_within byte small));
+        registers = other_words (with_byte s A any_byte) s.words s.cells _ (with_byte_holds s m.cpu.registers A any_byte byte bytes.registers holds.registers (any_byte_within byte small));
         words = holds.words;
+        cells = holds.cells;
       })
 
   writes_on : (refused : Bool) (next port : ℕ) (m after : Machine) (s : State) → Holds regions s m → execute regions refused (Out port) next m ≡ Next after → Holds regions (state_after code (Out port) false next s) after
   writes_on true next port m after s holds h = cc
   writes_on false next port m after s holds h =
       subst (λ (n : Machine). Holds regions (state_after code (Out port) false next s) n) (next_in h)
-      (record { registers = other_words s s.words m.cpu.registers holds.registers; words = holds.words })
+      (record { registers = other_words s s.words s.cells m.cpu.registers holds.registers; words = holds.words; cells = holds.cells })
 
   jumps_on : (e : Option End) (next : ℕ) (m after : Machine) (t : State) → Holds regions t (proceeded Pchl next m) → turn_of e (proceeded Pchl next m) ≡ Next after → Holds regions t after
   jumps_on None next m after t holds h = subst (λ (n : Machine). Holds regions t n) (next_in h) holds
   jumps_on (Some e) next m after t holds h = cc
 
-  executes : (refused : Bool) (i : Instr) (next : ℕ) (m after : Machine) (s : State) → HasOperandInRange i → HoldsBytes m → AreBytes after.cpu.registers → length m.memory ≡ 65536 → ReadsCode code m.memory →
+  executes : (refused : Bool) (i : Instr) (next : ℕ) (m after : Machine) (s : State) → HasOperandInRange i → HoldsBytes m → HoldsBytes after → length m.memory ≡ 65536 → ReadsCode code m.memory → AreQuietCells (in_data regions) s.cells →
       guard regions i m.cpu ≡ None → Holds regions s m → execute regions refused i next m ≡ Next after → Holds regions (state_after code i (is_taken (flow i) m.cpu.registers.flags) next s) after
-  executes refused Hlt next m after s small bytes stay whole reads pass holds h = cc
-  executes refused (In port) next m after s small bytes stay whole reads pass holds h = reads_on next port m after s (next_input m.inputs port) bytes stay holds h
-  executes refused (Out port) next m after s small bytes stay whole reads pass holds h = writes_on refused next port m after s holds h
-  executes refused Pchl next m after s small bytes stay whole reads pass holds h =
-      jumps_on (jump_end (targets_at regions m.cpu.pc) (hl_of m.cpu.registers)) next m after (state_after code Pchl false next s) (proceeds Pchl next m s small bytes whole reads pass holds) h
-  executes refused i next m after s small bytes stay whole reads pass holds h =
-      subst (λ (n : Machine). Holds regions (state_after code i (is_taken (flow i) m.cpu.registers.flags) next s) n) (next_in h) (proceeds i next m s small bytes whole reads pass holds)
+  executes refused Hlt next m after s small bytes stay whole reads are pass holds h = cc
+  executes refused (In port) next m after s small bytes stay whole reads are pass holds h = reads_on next port m after s (next_input m.inputs port) bytes stay.registers holds h
+  executes refused (Out port) next m after s small bytes stay whole reads are pass holds h = writes_on refused next port m after s holds h
+  executes refused Pchl next m after s small bytes stay whole reads are pass holds h =
+      jumps_on (jump_end (targets_at regions m.cpu.pc) (hl_of m.cpu.registers)) next m after (state_after code Pchl false next s) (proceeds Pchl next m s small bytes whole reads are bytes.memory pass holds) h
+  executes refused i next m after s small bytes stay whole reads are pass holds h =
+      subst (λ (n : Machine). Holds regions (state_after code i (is_taken (flow i) m.cpu.registers.flags) next s) n) (next_in h)
+      (proceeds i next m s small bytes whole reads are (subst (λ (n : Machine). HasBytes n.memory) (sym (next_in h)) stay.memory) pass holds)
 
-  pub step_state : (refused : Bool) (m after : Machine) (found : Fetched) (s : State) → HasOperandInRange found.instr → HoldsBytes m → AreBytes after.cpu.registers → length m.memory ≡ 65536 → ReadsCode code m.memory →
+  pub step_state : (refused : Bool) (m after : Machine) (found : Fetched) (s : State) → HasOperandInRange found.instr → HoldsBytes m → HoldsBytes after → length m.memory ≡ 65536 → ReadsCode code m.memory → AreQuietCells (in_data regions) s.cells →
       fetch regions m.memory m.cpu.pc ≡ Some found → step_of regions refused m ≡ Next after → Holds regions s m →
       Holds regions (state_after code found.instr (is_taken (flow found.instr) m.cpu.registers.flags) found.next s) after
-  step_state refused m after found s small bytes stay whole reads fetched h holds =
+  step_state refused m after found s small bytes stay whole reads are fetched h holds =
       let pass = passed regions refused m after found fetched h in
-      executes refused found.instr found.next m after s small bytes stay whole reads pass.guarded_so holds pass.executed
+      executes refused found.instr found.next m after s small bytes stay whole reads are pass.guarded_so holds pass.executed
 
   -- code stays along a step
   reads_keeps : (next port : ℕ) (m after : Machine) (byte : Option ℕ) → with_input m next port byte ≡ Next after → after.memory ≡ m.memory

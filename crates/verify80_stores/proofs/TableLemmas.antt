@@ -15,14 +15,17 @@ use Rattle.verify80.specs.Reached.{IsReached, StandsOnWalk}
 use Rattle.verify80_calls.specs.Reached.{AreReached, found_at}
 use Rattle.verify80_stores.specs.declared.fitting.fitting.Placed.{Placed}
 use Rattle.verify80_stores.specs.Bytes.{HoldsBytes, MemoryKeepsItsLength}
+use Rattle.verify80_stores.specs.declared.states.state.State.{State}
+use Rattle.verify80_stores.specs.Cells.{AreQuietCells}
 use Rattle.verify80_stores.specs.State.{Holds, anything}
 use Rattle.verify80_stores.specs.Following.{entry_in}
 use Rattle.verify80_stores.specs.Steps.{HasCode}
 use Rattle.verify80_stores.specs.Returning.{is_marked}
-use Rattle.verify80_stores.specs.Fitting.{Has, FitsAt, LeadsBehind, ReturnsSomewhere, Fits}
+use Rattle.verify80_stores.specs.Fitting.{Has, FitsAt, LeadsBehind, ReturnsSomewhere, Fits, KnowsQuiet}
 use Rattle.verify80_stores.specs.Runs.{KeepsTo, IsKept}
 use Rattle.verify80_stores.specs.Listing.{reached_at, SaysNothingAt}
 use Rattle.verify80_stores.proofs.MemoryLemmas.{Ground}
+use Rattle.verify80_stores.proofs.CellLemmas.{none_quiet}
 use Rattle.verify80_stores.proofs.KeepLemmas.{nothing_holds, code_stays}
 
 -- two ways to read a table of entries
@@ -73,13 +76,14 @@ marked_if_returning code rows marks are marked entry returns =
     let same : here ≡ row.1 = row.3 in
     row_or_never code here entry marks here.returns refl (are.each place row.1 row.2) (ap (λ (r : ProcRow). r.entry) same ∙ row.4) (marked place row.1 row.2) returns
 
-pub fits_program : (image : Located) (rows : List ProcRow) (marks : List Bool) (reached : List (Option Fetched)) (bytes : List (Option ℕ)) (table : List Placed) → AreReached (code_of image) reached → length reached ≡ 65536 →
+pub fits_program : (image : Located) (quiet : ℕ → Bool) (rows : List ProcRow) (marks : List Bool) (reached : List (Option Fetched)) (bytes : List (Option ℕ)) (table : List Placed) → AreReached (code_of image) reached → length reached ≡ 65536 →
     AreRows (code_of image) rows → All (λ row. row.returns ≡ true → is_marked marks row.entry ≡ true) rows → Has table image.start anything →
     ((place : ℕ) (placed : Placed) (found : Fetched) → slice_get table place ≡ Some placed → reached_at reached placed.at ≡ Some found → FitsAt bytes (declared_targets image.regions placed.at) table placed.state found) →
     ((at : ℕ) (found : Fetched) → at < 65536 → reached_at reached at ≡ Some found → LeadsBehind (λ entry. is_marked marks entry ≡ true) table found) →
-    Fits (code_of image) bytes table
-fits_program image rows marks reached bytes table are whole rows_are marked start entries behind = record {
+    KnowsQuiet quiet table → Fits quiet (code_of image) bytes table
+fits_program image quiet rows marks reached bytes table are whole rows_are marked start entries behind knows = record {
   start = start;
+  quiet = knows;
   entries = λ place placed found there walk looked. entries place placed found there (here placed.at found looked (there_if_reached (code_of image) reached are placed.at walk));
   behind = λ at found walk looked entry calls returns.
       let there = there_if_reached (code_of image) reached are at walk in
@@ -91,9 +95,10 @@ fits_program image rows marks reached bytes table are whole rows_are marked star
       there.there ∙ ap (λ (f : Fetched). Some f) same
 
 -- a table that says nothing anywhere is kept
-pub nothing_is_kept : (image : Located) (reached : List (Option Fetched)) (table : List Placed) → AreReached (code_of image) reached → length reached ≡ 65536 → Ground image.regions → MemoryKeepsItsLength →
-    ((at : ℕ) → at < 65536 → SaysNothingAt table at) → IsKept image table
-nothing_is_kept image reached table are whole ground length_stays everywhere = record {
+pub nothing_is_kept : (image : Located) (quiet : ℕ → Bool) (reached : List (Option Fetched)) (table : List Placed) → AreReached (code_of image) reached → length reached ≡ 65536 → Ground image.regions → MemoryKeepsItsLength →
+    ((at : ℕ) → at < 65536 → SaysNothingAt table at) → All (λ placed. placed.state ≡ anything) table → IsKept image quiet table
+nothing_is_kept image quiet reached table are whole ground length_stays everywhere nothing = record {
+  quiet = λ k d inside. subst (λ (s : State). AreQuietCells quiet s.cells) (sym (nothing k d inside)) (none_quiet quiet);
   starts = λ start pc code size held stands. here (world_of start) stands held code size;
   steps = λ refused w after known stands before now keeps step.
       here after stands now (code_stays image ground refused w.machine after.machine known.stands.found known.stands.fetched step keeps.code)
@@ -114,9 +119,9 @@ nothing_is_kept image reached table are whole ground length_stays everywhere = r
       }
 
 -- what holds of an answer, if there is one
-pub ok_more : {A E : Type 0} (P Q : A → Type 0) (r : Result A E) → ((x : A) → P x → Q x) → IfOk r P → IfOk r Q
-ok_more P Q (Ok x) more holds = more x holds
-ok_more P Q (Err e) more holds = holds
+pub ok_both : {A E : Type 0} (P Q R : A → Type 0) (r : Result A E) → ((x : A) → P x → Q x → R x) → IfOk r P → IfOk r Q → IfOk r R
+ok_both P Q R (Ok x) more one other = more x one other
+ok_both P Q R (Err e) more one other = one
 
 -- what fits, under other names
 abbrev pub AllFit : List Bool → Areas → List (Option ℕ) → List (Option Fetched) → List Placed → Type 0

@@ -1,7 +1,7 @@
 -- What is noted by address of the states of a table, place by place.
 use Rattle.std.specs.Prelude.{◌≡◌, ◌≢◌, ◌⊎◌, ℕ, ◌<◌, ◌+◌, Bool, true, false, List, Option, None, Some, [], ◌∷◌, ◌++◌, zero, suc, ◌≤◌, length, slice_get, slice_index, slice_set, refl, if◌then◌else◌}
-use Rattle.std.proofs.Common.{subst, sym, ap, ◌∙◌, inl, inr, arith}
-use Rattle.std.proofs.lemmas.List.{length-set}
+use Rattle.std.proofs.Common.{subst, sym, ap, ◌∙◌, inl, inr, arith, get_or-set_other}
+use Rattle.std.proofs.lemmas.List.{get_or-set_same, length-set}
 use Rattle.std.proofs.lemmas.Option.{slice_get_within}
 use Rattle.frames80.specs.Lists.{slice_get-last}
 use Rattle.decode80.specs.declared.fetching.Fetched.{Fetched}
@@ -175,6 +175,16 @@ module _ (reached : List (Option Fetched)) (table : List Placed) where
   pub spans_all : (n : ℕ) (spans : List (Option Span)) → length table ≤ n → Spans reached table n spans → AreSpans reached table spans
   spans_all n spans enough below place placed found span got_it instr is =
       below.each place placed found span (let inside = slice_get_within table place placed got_it in omega (arith, inside, enough)) got_it instr is
+
+-- marks, one of which is set or cleared: what holds of the addresses that are marked
+pub marks_set : (P : ℕ → Type 0) (marks : List Bool) (at : ℕ) (b : Bool) → length marks ≡ 65536 → at < 65536 → ((k : ℕ) → is_marked marks k ≡ true → P k) → (b ≡ true → P at) → (k : ℕ) → is_marked (slice_set marks at b) k ≡ true → P k
+marks_set P marks at b whole small before here k is = go (nat_same k at) where
+  go : (k ≡ at) ⊎ (k ≢ at) → P k
+  go (inl same) =
+      let it : is_marked (slice_set marks at b) at ≡ b = get_or-set_same marks at b false (omega (arith, whole, small)) in
+      let so : is_marked (slice_set marks at b) at ≡ true = subst (λ n. is_marked (slice_set marks at b) n ≡ true) same is in
+      subst P (sym same) (here (sym it ∙ so))
+  go (inr apart) = before k (sym (get_or-set_other marks at k b false apart) ∙ is)
 
 -- states that say nothing, one more
 pub nothing_more : (table : List Placed) (e : Placed) (n : ℕ) → ((at : ℕ) → at < n → SaysNothingAt table at) → e.at ≡ n → e.state ≡ anything → (at : ℕ) → at < n + 1 → SaysNothingAt (table ++ e ∷ []) at

@@ -1,10 +1,14 @@
 -- What is known of a program on every board. (This project's own; what a board is and does stands in verify80, specs/Boards.)
-use Rattle.std.specs.Prelude.{◌≡◌, ◌⊎◌, ℕ, List, All, Any, Contains}
+use Rattle.std.specs.Prelude.{◌≡◌, ◌⊎◌, ◌&&◌, ℕ, Bool, true, List, All, Any, Contains, slice_index}
+use Rattle.image80.specs.declared.range.Range.{Range}
+use Rattle.image80.specs.Range.{in_ranges}
+use Rattle.image80.specs.Regions.{Areas, in_data}
 use Rattle.image80.specs.Image.{Located}
 use Rattle.machine80.specs.Effects.{pointed_bytes}
 use Rattle.machine80.specs.Step.{Machine}
 use Rattle.machine80.specs.World.{World}
-use Rattle.verify80.specs.Boards.{MayStart, OnBoard, KeepsPromise}
+use Rattle.machine80.specs.Run.{world_of}
+use Rattle.verify80.specs.Boards.{Disturbs, Executes, MayStart, OnBoard, KeepsPromise}
 use Rattle.verify80_stores.specs.Bytes.{HoldsBytes}
 use Rattle.verify80_stores.specs.declared.stores.OpenStore.{OpenStore}
 use Rattle.verify80_stores.specs.Stores.{GoesAsListed}
@@ -26,3 +30,24 @@ abbrev pub PromiseHoldsOnBoards : Located → (bytes : ℕ) → List OpenStore �
 PromiseHoldsOnBoards image bytes open_stores jumps =
     (start : Machine) → MayStart image start → HoldsBytes start → (w : World) →
     OnBoard image.regions (IsListedAt open_stores jumps) start w → KeepsWholePromise image bytes open_stores w
+
+-- Quiet addresses: those of data in some ranges. Nobody but the program writes there.
+abbrev pub is_quiet : Areas → List Range → (address : ℕ) → Bool
+is_quiet regions ranges address = in_data regions address && in_ranges ranges address
+
+abbrev pub StaysQuiet : (quiet : ℕ → Bool) → (old new : List ℕ) → Type 0
+StaysQuiet quiet old new = (address : ℕ) → quiet address ≡ true → slice_index new address ≡ slice_index old address
+
+-- the worlds of a board whose devices leave quiet addresses as they are
+pub data OnQuietBoard (regions : Areas) (quiet : ℕ → Bool) (listed : ℕ → Type 0) (start : Machine) : World → Type 0 where
+  begins : (v : World) → v ≡ world_of start → OnQuietBoard regions quiet listed start v
+  disturbed : (w v : World) → OnQuietBoard regions quiet listed start w → (by : Disturbs regions w v) →
+      StaysQuiet quiet w.machine.memory by.memory → OnQuietBoard regions quiet listed start v
+  executed : (w v : World) → OnQuietBoard regions quiet listed start w → Executes regions listed w v →
+      OnQuietBoard regions quiet listed start v
+
+-- the same promise on every board whose devices leave quiet addresses as they are
+abbrev pub PromiseHoldsOnQuietBoards : Located → (quiet : ℕ → Bool) → (bytes : ℕ) → List OpenStore → (jumps : List ℕ) → Type 0
+PromiseHoldsOnQuietBoards image quiet bytes open_stores jumps =
+    (start : Machine) → MayStart image start → HoldsBytes start → (w : World) →
+    OnQuietBoard image.regions quiet (IsListedAt open_stores jumps) start w → KeepsWholePromise image bytes open_stores w

@@ -10,7 +10,7 @@ use Rattle.decode80.specs.declared.pair.StackPair.TheVariants.{Bc as StackBc, De
 use Rattle.decode80.specs.declared.pair.IndexPair.{IndexPair}
 use Rattle.decode80.specs.declared.pair.IndexPair.TheVariants.{Bc as IndexBc, De as IndexDe}
 use Rattle.decode80.specs.declared.instr.Instr.{Instr}
-use Rattle.decode80.specs.declared.instr.Instr.TheVariants.{Mov, Load, Mvi, Lxi, Dad, Inx, Dcx, Inr, InrMemory, Dcr, DcrMemory, Operate, Call, CallIf, Ret, ReturnIf, Rst, Push, Pop, Ldax, Lhld, Lda, Rotate, Daa, Cma, Stc, Cmc, Xthl, Xchg, Sphl, In}
+use Rattle.decode80.specs.declared.instr.Instr.TheVariants.{Mov, Load, Mvi, Lxi, Dad, Inx, Dcx, Inr, InrMemory, Dcr, DcrMemory, Operate, Store, MviMemory, Call, CallIf, Ret, ReturnIf, Rst, Push, Pop, Stax, Ldax, Shld, Lhld, Sta, Lda, Rotate, Daa, Cma, Stc, Cmc, Xthl, Xchg, Sphl, In}
 use Rattle.decode80.specs.declared.operation.Operation.{Operation}
 use Rattle.decode80.specs.declared.operation.Operation.TheVariants.{Add, AddCarry, Subtract, SubtractBorrow, And, ExclusiveOr, Or, Compare}
 use Rattle.decode80.specs.declared.operation.Operand.{Operand}
@@ -19,9 +19,11 @@ use Rattle.decode80.specs.Fetch.{ahead}
 use Rattle.verify80_stores.specs.declared.spans.span.Span.{Span}
 use Rattle.verify80_stores.specs.declared.spans.byte_span.ByteSpan.{ByteSpan}
 use Rattle.verify80_stores.specs.declared.spans.byte_span.Outcome.{Outcome}
+use Rattle.verify80_stores.specs.declared.states.cells.Cells.{Cells}
 use Rattle.verify80_stores.specs.declared.states.state.Words.{Words}
 use Rattle.verify80_stores.specs.declared.states.state.State.{State}
-use Rattle.verify80_stores.specs.Span.{any_word, any_byte, word_alone, byte_alone, is_alone, next_span, previous_span, next_byte, previous_byte, sum_span, sum_carries, high_of, operated, rotated, complemented, uncarried}
+use Rattle.verify80_stores.specs.Span.{any_word, any_byte, word_alone, byte_alone, is_alone, next_span, previous_span, next_byte, previous_byte, sum_span, sum_carries, high_of, joined, operated, rotated, complemented, uncarried}
+use Rattle.verify80_stores.specs.Cells.{bytes_at, stored_cells}
 use Rattle.verify80_stores.specs.State.{byte_of, words_of, with_byte, with_words, with_outcome, with_carry, with_any_flags, compared_with, no_words, pushed, popped}
 
 -- what stands in a table at an address, if anything does
@@ -33,26 +35,24 @@ entry_in (Some entry) = entry
 abbrev pub byte_at : List (Option ℕ) → ℕ → Option ℕ
 byte_at code at = entry_in (slice_get code at)
 
--- what is known of a byte and of a word
-abbrev pub known_byte : Option ℕ → ByteSpan
-known_byte None = any_byte
-known_byte (Some byte) = byte_alone byte
+-- a byte of code, if code is there, or what is known otherwise; and what is known of a word
+abbrev pub code_or : Option ℕ → (otherwise : ByteSpan) → ByteSpan
+code_or None otherwise = otherwise
+code_or (Some byte) otherwise = byte_alone byte
 
 abbrev pub known_word : Option Span → Span
 known_word None = any_word
 known_word (Some span) = span
 
--- a byte that is read where a pair points to, and a word at an address: only code is known
-abbrev pub loaded : List (Option ℕ) → Span → ByteSpan
-loaded code at = if is_alone at then known_byte (byte_at code at.first) else any_byte
+-- a byte that is read at an address: only code and cells are known; one where a pair points to, and a word at an address
+abbrev pub loaded_at : List (Option ℕ) → Cells → ℕ → ByteSpan
+loaded_at code cells at = code_or (byte_at code at) (bytes_at cells at)
 
-abbrev pub word_by : (high low : Option ℕ) → Span
-word_by (Some high) (Some low) = word_alone (256 * high + low)
-word_by None low = any_word
-word_by (Some high) None = any_word
+abbrev pub loaded : List (Option ℕ) → Cells → Span → ByteSpan
+loaded code cells at = if is_alone at then loaded_at code cells at.first else any_byte
 
-abbrev pub loaded_word : List (Option ℕ) → ℕ → Span
-loaded_word code address = word_by (byte_at code (ahead address 1)) (byte_at code address)
+abbrev pub loaded_word : List (Option ℕ) → Cells → ℕ → Span
+loaded_word code cells address = joined (loaded_at code cells (ahead address 1)) (loaded_at code cells address)
 
 -- a register is copied; one of them may be A
 abbrev pub moved : (to from : Register) → State → State
@@ -79,7 +79,7 @@ is_accumulator (Immediate byte) = false
 
 abbrev pub operand_bytes : List (Option ℕ) → Operand → State → ByteSpan
 operand_bytes code (InRegister register) s = byte_of s register
-operand_bytes code Memory s = loaded code s.hl.words
+operand_bytes code Memory s = loaded code s.cells s.hl.words
 operand_bytes code (Immediate byte) s = byte_alone byte
 
 -- an operation on A and a byte; `itself` if that is A
@@ -133,12 +133,12 @@ popped_to Psw span s = with_any_flags (with_byte s A (high_of span))
 -- registers and flags after an instruction
 abbrev pub registers_after : (code : List (Option ℕ)) → Instr → State → State
 registers_after code (Mov to from) s = moved to from s
-registers_after code (Load to) s = with_byte s to (loaded code s.hl.words)
+registers_after code (Load to) s = with_byte s to (loaded code s.cells s.hl.words)
 registers_after code (Mvi to byte) s = with_byte s to (byte_alone byte)
 registers_after code (Inr register) s = counted register (next_byte (byte_of s register)) s
 registers_after code (Dcr register) s = counted register (previous_byte (byte_of s register)) s
-registers_after code InrMemory s = with_outcome s (record { value = any_byte; carry = s.carry })
-registers_after code DcrMemory s = with_outcome s (record { value = any_byte; carry = s.carry })
+registers_after code InrMemory s = with_outcome s (record { value = next_byte (loaded code s.cells s.hl.words); carry = s.carry })
+registers_after code DcrMemory s = with_outcome s (record { value = previous_byte (loaded code s.cells s.hl.words); carry = s.carry })
 registers_after code (Lxi pair n) s = with_words s pair (word_alone n)
 registers_after code (Inx pair) s = with_words s pair (next_span (words_of s pair))
 registers_after code (Dcx pair) s = with_words s pair (previous_span (words_of s pair))
@@ -149,10 +149,10 @@ registers_after code Daa s = with_any_flags (with_byte s A any_byte)
 registers_after code Cma s = with_byte s A (complemented s.a)
 registers_after code Stc s = with_carry s (Some true)
 registers_after code Cmc s = with_carry s (turned s.carry)
-registers_after code (Ldax pair) s = with_byte s A (loaded code (index_words s pair))
-registers_after code (Lda address) s = with_byte s A (known_byte (byte_at code address))
+registers_after code (Ldax pair) s = with_byte s A (loaded code s.cells (index_words s pair))
+registers_after code (Lda address) s = with_byte s A (loaded_at code s.cells address)
 registers_after code (In port) s = with_byte s A any_byte
-registers_after code (Lhld address) s = with_words s Hl (loaded_word code address)
+registers_after code (Lhld address) s = with_words s Hl (loaded_word code s.cells address)
 registers_after code Xchg s = exchanged_pairs s
 registers_after code (Pop pair) s = popped_to pair (known_word s.words.first) s
 registers_after code Xthl s = with_words s Hl (known_word s.words.first)
@@ -190,6 +190,18 @@ words_after (Dcx Sp) taken next s = no_words
 words_after Sphl taken next s = no_words
 words_after instr taken next s = s.words
 
+-- the bytes of memory that are known after an instruction: what is pushed isn't stored to them
+abbrev pub cells_after : (code : List (Option ℕ)) → Instr → State → Cells
+cells_after code (Store register) s = stored_cells s.hl.words (byte_of s register) s.cells
+cells_after code (MviMemory byte) s = stored_cells s.hl.words (byte_alone byte) s.cells
+cells_after code InrMemory s = stored_cells s.hl.words (next_byte (loaded code s.cells s.hl.words)) s.cells
+cells_after code DcrMemory s = stored_cells s.hl.words (previous_byte (loaded code s.cells s.hl.words)) s.cells
+cells_after code (Stax pair) s = stored_cells (index_words s pair) s.a s.cells
+cells_after code (Sta address) s = stored_cells (word_alone address) s.a s.cells
+cells_after code (Shld address) s =
+    stored_cells (word_alone (ahead address 1)) (high_of s.hl.words) (stored_cells (word_alone address) s.hl.low s.cells)
+cells_after code instr s = s.cells
+
 -- all of it
 abbrev pub state_after : (code : List (Option ℕ)) → Instr → (taken : Bool) → (next : ℕ) → State → State
-state_after code instr taken next s = record (registers_after code instr s) { words = words_after instr taken next s }
+state_after code instr taken next s = record (registers_after code instr s) { words = words_after instr taken next s; cells = cells_after code instr s }

@@ -5,6 +5,7 @@ pub mod StoresText
 pub mod Bytes
 pub mod Span
 -- what the crate's own functions promise one another: no public contract cites these
+pub mod Cells
 pub mod State
 pub mod Following
 pub mod Given

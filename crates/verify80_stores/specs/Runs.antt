@@ -2,7 +2,7 @@
 use Rattle.std.specs.Prelude.{◌≡◌, ℕ, Bool, true, List, Option, Some, length, slice_get}
 use Rattle.decode80.specs.declared.fetching.Fetched.{Fetched}
 use Rattle.image80.specs.Image.{Located}
-use Rattle.image80.specs.Regions.{AreRegions}
+use Rattle.image80.specs.Regions.{AreRegions, in_data}
 use Rattle.machine80.specs.Effects.{target}
 use Rattle.machine80.specs.Step.{Machine, Next, step_of}
 use Rattle.machine80.specs.World.{World, FetchesInside, fetched_by, returns}
@@ -14,7 +14,7 @@ use Rattle.verify80_stores.specs.declared.fitting.fitting.Placed.{Placed}
 use Rattle.verify80_stores.specs.Bytes.{HoldsBytes}
 use Rattle.verify80_stores.specs.State.{Holds}
 use Rattle.verify80_stores.specs.Steps.{AreCodeBytes, HasCode}
-use Rattle.verify80_stores.specs.Fitting.{Fits}
+use Rattle.verify80_stores.specs.Fitting.{Fits, KnowsQuiet}
 
 -- one of the states that the table has at a world's address holds, and the world's memory has the image's code
 pub record KeepsTo (image : Located) (table : List Placed) (w : World) : Type 0 where
@@ -42,7 +42,8 @@ pub record IsKnown (image : Located) (w : World) : Type 0 where
   pub inside : FetchesInside image.regions w
 
 -- each start keeps to a table, and each step of a known world that keeps to it
-pub record IsKept (image : Located) (table : List Placed) : Type 0 where
+pub record IsKept (image : Located) (quiet : ℕ → Bool) (table : List Placed) : Type 0 where
+  pub quiet : KnowsQuiet quiet table
   pub starts : (start : Machine) → start.cpu.pc ≡ image.start → HasCode image start.memory → length start.memory ≡ 65536 → HoldsBytes start → StandsOnWalk image (world_of start) →
       KeepsTo image table (world_of start)
   pub steps : (refused : Bool) (w after : World) → IsKnown image w → StandsOnWalk image after → HoldsBytes w.machine →
@@ -50,12 +51,12 @@ pub record IsKept (image : Located) (table : List Placed) : Type 0 where
 
 -- a table that fits is kept, and runs that stay on walks keep to a table that is
 abbrev pub FittingTablesAreKept : Type 0
-FittingTablesAreKept = (image : Located) (code : List (Option ℕ)) (table : List Placed) → AreRegions image.regions → AreCodeBytes image code →
-    Fits (code_of image) code table → IsKept image table
+FittingTablesAreKept = (image : Located) (quiet : ℕ → Bool) (code : List (Option ℕ)) (table : List Placed) → AreRegions image.regions →
+    AreCodeBytes image code → ((at : ℕ) → quiet at ≡ true → in_data image.regions at ≡ true) → Fits quiet (code_of image) code table → IsKept image quiet table
 
 abbrev pub RunsKeepToKeptTables : Type 0
-RunsKeepToKeptTables = (image : Located) (bytes : ℕ) (table : List Placed) → NeverGoesWrongFromPowerOn image bytes →
-    StaysOnWalks image → IsKept image table → RunsKeepTo image table
+RunsKeepToKeptTables = (image : Located) (bytes : ℕ) (quiet : ℕ → Bool) (table : List Placed) → NeverGoesWrongFromPowerOn image bytes →
+    StaysOnWalks image → IsKept image quiet table → RunsKeepTo image table
 
 -- and each of their machines holds bytes
 abbrev pub RunsHoldBytesFromPowerOn : Type 0

@@ -1,5 +1,5 @@
--- What is known of a machine at an instruction: what its registers may hold, some of its flags, what was compared last, and the words on
--- top of its stack; and what becomes of that when registers, flags and words are written. (The registers and flags are those of the
+-- What is known of a machine at an instruction: what its registers may hold, some of its flags, what was compared last, the words on top
+-- of its stack, and bytes of memory; and what becomes of that when registers, flags and words are written. (The registers and flags are those of the
 -- Intel 8080 Microcomputer Systems User's Manual, chapter 4; that they are followed by spans is this project's own.)
 use Rattle.std.specs.Prelude.{◌≡◌, ◌+◌, ◌*◌, ◌<◌, ◌==◌, ℕ, Bool, true, false, List, Option, None, Some, nat_lt, if◌then◌else◌}
 use Rattle.decode80.specs.declared.register.Register.{Register}
@@ -17,10 +17,12 @@ use Rattle.machine80.specs.Step.{Machine}
 use Rattle.verify80_stores.specs.declared.spans.span.Span.{Span}
 use Rattle.verify80_stores.specs.declared.spans.byte_span.ByteSpan.{ByteSpan}
 use Rattle.verify80_stores.specs.declared.spans.byte_span.Outcome.{Outcome}
+use Rattle.verify80_stores.specs.declared.states.cells.Cells.{Cells}
 use Rattle.verify80_stores.specs.declared.states.state.PairSpan.{PairSpan}
 use Rattle.verify80_stores.specs.declared.states.state.Words.{Words}
 use Rattle.verify80_stores.specs.declared.states.state.State.{State}
 use Rattle.verify80_stores.specs.Span.{Within, ByteWithin, IsInside, IsByteInside, IsKnown, any_word, any_byte, is_byte_alone, meet, meet_bytes, high_of, low_of, joined, zero_of, sign_of}
+use Rattle.verify80_stores.specs.Cells.{HoldsCells, AreCellsInside, no_cells}
 
 -- the word of a pair is one of its words, and its low byte one of its low bytes
 pub record HoldsPair (p : PairSpan) (h l : ℕ) : Type 0 where
@@ -65,6 +67,7 @@ pub record HoldsWords (regions : Areas) (w : Words) (memory : List ℕ) (sp : �
 pub record Holds (regions : Areas) (s : State) (m : Machine) : Type 0 where
   pub registers : HoldsRegisters s m.cpu.registers
   pub words : HoldsWords regions s.words m.memory m.cpu.sp
+  pub cells : HoldsCells s.cells m.memory
 
 -- a state says nothing that another doesn't
 pub record IsPairInside (inner outer : PairSpan) : Type 0 where
@@ -108,6 +111,7 @@ pub record IsStateInside (inner outer : State) : Type 0 where
   pub sign : IsFlagInside inner.sign outer.sign
   pub compared : IsComparisonInside inner.compared outer.compared
   pub words : AreWordsInside inner.words outer.words
+  pub cells : AreCellsInside inner.cells outer.cells
 
 -- nothing is known
 abbrev pub any_pair : PairSpan
@@ -128,6 +132,7 @@ anything = record {
   sign = None;
   compared = None;
   words = no_words;
+  cells = no_cells;
 }
 
 -- a pair of these words, and one of these halves

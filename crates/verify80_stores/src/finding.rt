@@ -1,6 +1,6 @@
 //! The stores of a program.
 
-ghost use Rattle.std.specs.Prelude.{◌≡◌, ◌<◌, ℕ, Some, IfOk, length, slice_get, true};
+ghost use Rattle.std.specs.Prelude.{◌≡◌, ◌<◌, ℕ, [], All, Some, IfOk, length, slice_get, true};
 ghost use Rattle.verify80_flow.specs.Rows.{AreRows};
 ghost use Rattle.image80.specs.Image.{memory_of};
 ghost use Rattle.image80.specs.Regions.{AreRegions};
@@ -8,7 +8,8 @@ ghost use Rattle.verify80.specs.Looking.{code_of};
 ghost use Rattle.verify80.specs.Boards.{SetsStack};
 ghost use Rattle.verify80_calls.specs.Reached.{AreReached};
 ghost use Rattle.verify80_stores.specs.Bytes.{HasBytes};
-ghost use Rattle.verify80_stores.specs.Boards.{PromiseHoldsOnBoards};
+ghost use Rattle.verify80_stores.specs.Boards.{PromiseHoldsOnBoards, PromiseHoldsOnQuietBoards, is_quiet};
+ghost use Rattle.verify80_stores.specs.State.{anything};
 ghost use Rattle.verify80_stores.specs.Runs.{IsKept};
 ghost use Rattle.verify80_stores.specs.Stores.{AreStoresOf, WatchedRunsGoAsListed};
 ghost use Rattle.verify80_stores.specs.Listing.{AreKnown, SaysNothingAt};
@@ -17,14 +18,15 @@ use crate::code_bytes::code_bytes;
 use crate::fitting::{Placed, fits, fitting_states_hold, mark_returning};
 use crate::laws::watched_runs_go_as_listed;
 use crate::listing::{Kind, addresses_of, open_jumps, open_marks, open_stores, spans_of};
+use crate::quiet::mark_quiet;
 use crate::search::{Proposal, ReachedProgram, propose};
 use crate::spans::bytes_stay_bytes;
 use crate::stack_pointer::sets_stack;
 use crate::states::State;
 use crate::stores::Stores;
 use decode80::Fetched;
-use image80::Image;
 use image80::laws::code_data_and_stack_are_apart;
+use image80::{Image, Range};
 use loader80::Vouched;
 use std::alloc::{AllocError, Global};
 use verify80::{
@@ -33,14 +35,15 @@ use verify80::{
 };
 use verify80_calls::find_reached;
 
-/// Goes over a vouched image, and answers where its register-indirect stores may go.
+/// Goes over a vouched image, and answers where its register-indirect stores may go. In the quiet ranges of data nobody but the program
+/// writes: what it has stored there is remembered.
 ///
 /// On a board, if nothing stops a store outside data, this is what the promise of [`loader80::vouch`] still needs: whatever bytes are in
 /// the registers, in memory outside the code and at the ports, if only SP is at the stack's top before the first step, each store of an
 /// address that isn't listed as open goes to data, and each that is goes to an address of its span. So a run ends at a store only if that
 /// is listed, and at a PCHL outside its targets only at one of the listed ones. A board goes on there, and then nothing is promised, of the
 /// other stores either. Up to there the whole promise holds on every board, whatever devices write to any byte that is neither code nor
-/// stack (`boards`). That a listed store can leave data isn't said. (The stores are MOV M,r, MVI M, INR M, DCR M and STAX: Intel 8080
+/// stack, if there are no quiet ranges (`boards`), and to no quiet address, if there are (`quiet_boards`). That a listed store can leave data isn't said. (The stores are MOV M,r, MVI M, INR M, DCR M and STAX: Intel 8080
 /// Microcomputer Systems User's Manual, chapter 4.)
 ///
 /// Loops with constant bounds are walked through, up to some thousand states at an address; how many states there are, and how often
@@ -48,18 +51,21 @@ use verify80_calls::find_reached;
 ///
 /// # Example
 /// ```
-/// let stores = find_stores(rt.alloc(), &vouched)?;
+/// let stores = find_stores(rt.alloc(), &vouched, &[])?;
 /// assert!(rt; stores.addresses.is_empty());
 /// assert!(rt; stores.open.is_empty());
 /// ```
 ///
 /// # Errors
 /// `AllocError` only if memory runs out.
-pub fn find_stores(alloc: Global, vouched: &Vouched) -> Result<Stores, AllocError>
+pub fn find_stores(alloc: Global, vouched: &Vouched, quiet: &[Range]) -> Result<Stores, AllocError>
     ensures listed { IfOk result (λ stores.
         AreStoresOf vouched.now.image stores.addresses.items stores.open.items stores.jumps.items stores.open_jumps.items) }
-    ensures boards { IfOk result (λ stores.
+    ensures boards { IfOk result (λ stores. quiet.now ≡ [] →
         PromiseHoldsOnBoards vouched.now.image vouched.now.stack_bytes stores.open.items stores.open_jumps.items) }
+    ensures quiet_boards { IfOk result (λ stores.
+        PromiseHoldsOnQuietBoards vouched.now.image (is_quiet vouched.now.image.regions quiet.now) vouched.now.stack_bytes stores.open.items
+        stores.open_jumps.items) }
     ensures stack { IfOk result (λ stores. stores.sets_stack ≡ true → SetsStack vouched.now.image) }
     ensures watched { IfOk result (λ stores. WatchedRunsGoAsListed vouched.now.image stores.open.items stores.open_jumps.items) }
 {
@@ -72,7 +78,7 @@ pub fn find_stores(alloc: Global, vouched: &Vouched) -> Result<Stores, AllocErro
     holds_bytes(alloc, image)?;
     let found = find_reached(alloc, vouched)?;
     let reached = found.instructions();
-    let table = states_of(alloc, image, vouched.rows(), reached)?;
+    let table = states_of(alloc, image, vouched.rows(), reached, quiet)?;
     let marks = open_marks(alloc, &image.regions, reached, &table)?;
     let spans = spans_of(alloc, reached, &table)?;
     let addresses = addresses_of(alloc, Kind::Store, reached)?;
@@ -127,24 +133,27 @@ fn states_of(
     image: &Image,
     rows: &[ProcRow],
     reached: &[Option<Fetched>],
+    quiet: &[Range],
 ) -> Result<Vec<Placed>, AllocError>
     requires rows { AreRows (code_of image.now) rows.now }
     requires reached { AreReached (code_of image.now) reached.now }
     requires whole { length reached.now ≡ 65536 }
     requires rules { AreRegions image.now.regions }
-    ensures { IfOk result (λ table. IsKept image.now table.items) }
+    ensures { IfOk result (λ table. IsKept image.now (is_quiet image.now.regions quiet.now) table.items) }
 {
     fitting_states_hold();
     bytes_stay_bytes();
     code_data_and_stack_are_apart();
     let returning = mark_returning(alloc, rows)?;
     let code = code_bytes(alloc, image)?;
+    let marks = mark_quiet(alloc, &image.regions, quiet)?;
     let program = ReachedProgram {
         code: &code,
         instructions: reached,
         returning: &returning,
         start: image.start,
         regions: &image.regions,
+        quiet: &marks,
     };
     let Proposal {
         table,
@@ -160,6 +169,7 @@ fn states_of(
         image.start,
         &image.regions,
         reached,
+        &marks,
     ) {
         return Ok(table);
     }
@@ -171,7 +181,8 @@ fn states_of(
 /// # Errors
 /// `AllocError` if memory runs out.
 fn anything(alloc: Global) -> Result<Vec<Placed>, AllocError>
-    ensures { IfOk result (λ table. (at : ℕ) → at < 65536 → SaysNothingAt table.items at) }
+    ensures everywhere { IfOk result (λ table. (at : ℕ) → at < 65536 → SaysNothingAt table.items at) }
+    ensures nothing { IfOk result (λ table. All (λ placed. placed.state ≡ anything) table.items) }
 {
     let mut table = Vec::with_capacity(alloc, 65_536)?;
     for at in 0..65_536_usize {

@@ -20,6 +20,7 @@ mod laws;
 mod lines;
 mod listing;
 mod pointer;
+mod quiet;
 mod search;
 mod spans;
 mod stack_pointer;

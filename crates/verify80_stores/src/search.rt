@@ -16,6 +16,7 @@ mod needs;
 mod nodes;
 mod program;
 mod proposing;
+mod slots;
 mod units;
 
 pub(crate) use program::ReachedProgram;

@@ -12,7 +12,7 @@ use plm80_objects::{
 use plm80_programs::{
     CALLS, CASES, CHECK, COVER, CallsArguments, CasesArguments, CoverArguments, EXPLAIN, INPUTS,
     InputsArguments, LIST, ListArguments, REGIONS, RUN, RegionsArguments, RunArguments, STORES,
-    SUGGEST, SuggestArguments, TRACE, TraceArguments,
+    SUGGEST, StoresArguments, SuggestArguments, TRACE, TraceArguments,
 };
 use std::alloc::{AllocError, Global};
 
@@ -31,7 +31,7 @@ pub enum Request<'a> {
     Map(MapArguments<'a>),
     Extract(ExtractArguments<'a>),
     Absolute(AbsoluteArguments<'a>),
-    Stores(NamedFiles<'a>),
+    Stores(StoresArguments<'a>),
     Compare(CompareArguments<'a>),
     Inputs(InputsArguments<'a>),
     Calls(CallsArguments<'a>),
@@ -221,7 +221,7 @@ fn asked_for<'a>(
         "map" => Request::Map(MapArguments::of(arguments)),
         "extract" => Request::Extract(ExtractArguments::of(arguments)),
         "absolute" => Request::Absolute(AbsoluteArguments::of(alloc, arguments)?),
-        "stores" => Request::Stores(NamedFiles::of(arguments)),
+        "stores" => Request::Stores(StoresArguments::of(alloc, arguments)?),
         "compare" => Request::Compare(CompareArguments::of(arguments)),
         "inputs" => Request::Inputs(InputsArguments::of(alloc, arguments)?),
         "calls" => Request::Calls(CallsArguments::of(arguments)),

@@ -9,7 +9,7 @@ ghost use Rattle.verify80_stores.specs.State.{anything};
 ghost use Rattle.verify80_stores.specs.Following.{state_after};
 ghost use Rattle.verify80_stores.specs.Listing.{reached_at};
 ghost use Rattle.verify80_stores.specs.Returning.{is_marked};
-ghost use Rattle.verify80_stores.specs.Fitting.{Has, HasAfter, LeadsBehind, FitsAt};
+ghost use Rattle.verify80_stores.specs.Fitting.{Has, HasAfter, LeadsBehind, FitsAt, KnowsQuiet};
 
 use crate::fitting::returning::is_marked;
 use crate::spans::Span;
@@ -176,7 +176,7 @@ fn state_fits(
 }
 
 /// Whether a table of states fits a program that begins at `start`, of which these instructions are reached, by address, and whose
-/// procedures return at these marks, by entry. The first of the hints is that of the start; `behind` has by address the place of the
+/// procedures return at these marks, by entry; something is known of the bytes at quiet addresses alone. The first of the hints is that of the start; `behind` has by address the place of the
 /// state behind the call there.
 pub(crate) fn fits(
     table: &[Placed],
@@ -187,7 +187,9 @@ pub(crate) fn fits(
     start: u16,
     regions: &Regions,
     reached: &[Option<Fetched>],
+    quiet: &[bool],
 ) -> bool
+    ensures quiet { result ≡ true → KnowsQuiet (is_marked quiet.now) table.now }
     ensures start { result ≡ true → Has table.now start anything }
     ensures entries { result ≡ true → (place : ℕ) (placed : Placed) (found : Fetched) → slice_get table.now place ≡ Some placed →
         reached_at reached.now placed.at ≡ Some found → FitsAt code.now (declared_targets regions.now placed.at) table.now placed.state found }
@@ -197,6 +199,19 @@ pub(crate) fn fits(
     has(table, hints, 0, start, State::ANY)
         && all_lead_behind(table, behind, returning, reached)
         && all_fit(table, hints, code, regions, reached)
+        && all_know_quiet(table, quiet)
+}
+
+/// Whether a table knows bytes of quiet addresses alone.
+fn all_know_quiet(table: &[Placed], quiet: &[bool]) -> bool
+    ensures { result ≡ true → KnowsQuiet (is_marked quiet.now) table.now }
+{
+    for placed in table {
+        if !placed.state.cells.are_quiet(quiet) {
+            return false;
+        }
+    }
+    true
 }
 
 /// Whether behind each call whose callee returns the table has a state that says nothing.

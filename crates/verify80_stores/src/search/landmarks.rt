@@ -2,7 +2,7 @@
 
 use crate::search::program::ReachedProgram;
 use crate::spans::{ByteSpan, Span};
-use crate::states::{PairSpan, State, Words};
+use crate::states::{Cell, Cells, PairSpan, State, Words};
 use decode80::Instr;
 use image80::RegionMap;
 use std::alloc::{AllocError, Global};
@@ -88,6 +88,16 @@ impl Landmarks {
                 third: joined_word(old.words.third, new.words.third),
                 fourth: joined_word(old.words.fourth, new.words.fourth),
             },
+            cells: Cells {
+                first: joined_cell(old.cells.first, new.cells.first),
+                second: joined_cell(old.cells.second, new.cells.second),
+                third: joined_cell(old.cells.third, new.cells.third),
+                fourth: joined_cell(old.cells.fourth, new.cells.fourth),
+                fifth: joined_cell(old.cells.fifth, new.cells.fifth),
+                sixth: joined_cell(old.cells.sixth, new.cells.sixth),
+                seventh: joined_cell(old.cells.seventh, new.cells.seventh),
+                eighth: joined_cell(old.cells.eighth, new.cells.eighth),
+            },
             ..with_same_flags(old, new)
         }
     }
@@ -105,6 +115,16 @@ impl Landmarks {
                 third: self.grown_word(old.words.third, new.words.third, growths),
                 fourth: self.grown_word(old.words.fourth, new.words.fourth, growths),
             },
+            cells: Cells {
+                first: self.grown_cell(old.cells.first, new.cells.first, growths),
+                second: self.grown_cell(old.cells.second, new.cells.second, growths),
+                third: self.grown_cell(old.cells.third, new.cells.third, growths),
+                fourth: self.grown_cell(old.cells.fourth, new.cells.fourth, growths),
+                fifth: self.grown_cell(old.cells.fifth, new.cells.fifth, growths),
+                sixth: self.grown_cell(old.cells.sixth, new.cells.sixth, growths),
+                seventh: self.grown_cell(old.cells.seventh, new.cells.seventh, growths),
+                eighth: self.grown_cell(old.cells.eighth, new.cells.eighth, growths),
+            },
             ..with_same_flags(old, new)
         }
     }
@@ -118,6 +138,17 @@ impl Landmarks {
         ByteSpan {
             first: if first == old.first { first } else { 0 },
             last: if last == old.last { last } else { u8::MAX },
+        }
+    }
+
+    fn grown_cell(&self, old: Cell, new: Cell, growths: u32) -> Cell {
+        if old.at == new.at {
+            Cell {
+                at: old.at,
+                bytes: self.grown_bytes(old.bytes, new.bytes, growths),
+            }
+        } else {
+            Cell::ANY
         }
     }
 
@@ -163,6 +194,17 @@ fn joined_bytes(old: ByteSpan, new: ByteSpan) -> ByteSpan {
     ByteSpan {
         first: old.first.min(new.first),
         last: old.last.max(new.last),
+    }
+}
+
+fn joined_cell(old: Cell, new: Cell) -> Cell {
+    if old.at == new.at {
+        Cell {
+            at: old.at,
+            bytes: joined_bytes(old.bytes, new.bytes),
+        }
+    } else {
+        Cell::ANY
     }
 }
 

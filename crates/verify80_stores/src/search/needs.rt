@@ -1,37 +1,118 @@
 //! What a later store, jump by HL or condition may depend on, at each address.
 
 use crate::search::program::ReachedProgram;
-use crate::search::units::Units;
+use crate::search::slots::{
+    Slots, cell_parts, find_pointers, placed_cells, pointer_at, slots_before, stored_parts,
+};
+use crate::search::units::{Units, reduced};
+use crate::states::State;
 use decode80::{Fetched, Flow, Instr, Operand, Operation, Pair, Rotation, Storing};
 use std::alloc::{AllocError, Global};
 
 /// How often the program is gone through, at most: then the rest is left as it is.
 const SWEEPS: usize = 32;
 
-/// By address the parts of a state that are needed before the instruction there.
-///
-/// # Errors
-/// `AllocError` if memory runs out.
-pub(crate) fn find_needs(
-    alloc: Global,
-    program: ReachedProgram<'_>,
-) -> Result<Vec<Units>, AllocError> {
-    let mut needs = vec![in alloc; Units::NONE; 65_536]?;
-    for _ in 0..SWEEPS {
-        if !sweep(program, &mut needs) {
-            break;
+/// What is needed of a state at an address: these parts of it, and these bytes of memory.
+#[derive(Clone, Copy, Debug, PartialEq, Eq)]
+struct Need {
+    parts: Units,
+    slots: Slots,
+}
+
+impl Need {
+    const NONE: Need = Need {
+        parts: Units::NONE,
+        slots: Slots::NONE,
+    };
+
+    /// What either needs.
+    fn and(self, other: Need) -> Need {
+        Need {
+            parts: self.parts.and(other.parts),
+            slots: self.slots.and(other.slots),
         }
     }
-    Ok(needs)
+
+    /// The same, and these parts.
+    fn with(self, parts: Units) -> Need {
+        Need {
+            parts: self.parts.and(parts),
+            slots: self.slots,
+        }
+    }
+}
+
+/// What is needed at each address, by address.
+#[derive(Drop)]
+pub(crate) struct Needs {
+    needs: Vec<Need>,
+    /// The bytes of memory that a state there names.
+    named: Vec<Slots>,
+}
+
+impl Needs {
+    /// What a program needs.
+    ///
+    /// # Errors
+    /// `AllocError` if memory runs out.
+    pub fn of(alloc: Global, program: ReachedProgram<'_>) -> Result<Needs, AllocError> {
+        let pointers = find_pointers(alloc, program)?;
+        let mut needs = vec![in alloc; Need::NONE; 65_536]?;
+        for _ in 0..SWEEPS {
+            if !sweep(program, &pointers, &mut needs) {
+                break;
+            }
+        }
+        let named = named_by(alloc, program, &needs)?;
+        Ok(Needs { needs, named })
+    }
+
+    /// A state at an address with what is needed of it alone.
+    pub fn needed(&self, at: u16, state: State) -> State {
+        let need = need_at(&self.needs, at);
+        let named = match self.named.get(usize::from(at)) {
+            Some(slots) => *slots,
+            None => Slots::NONE,
+        };
+        let placed = State {
+            cells: placed_cells(state.cells, named),
+            ..state
+        };
+        reduced(placed, need.parts.and(cell_parts(need.slots)))
+    }
+}
+
+/// By address the bytes that a state names: those that are needed before the instruction, and at free places those that are needed after
+/// it, since it may store them.
+fn named_by(
+    alloc: Global,
+    program: ReachedProgram<'_>,
+    needs: &[Need],
+) -> Result<Vec<Slots>, AllocError> {
+    let mut named = vec![in alloc; Slots::NONE; 65_536]?;
+    for number in 0..65_536_u32 {
+        if let Some(found) = program.at(number as u16) {
+            let after = match found.instr.flow() {
+                Flow::Continues | Flow::Pushes | Flow::Pops | Flow::Exchanges => {
+                    need_at(needs, found.next).slots
+                }
+                _ => Slots::NONE,
+            };
+            if let Some(place) = named.get_mut(number as usize) {
+                *place = need_at(needs, number as u16).slots.or(after);
+            }
+        }
+    }
+    Ok(named)
 }
 
 /// Goes through the program once, from its end, and says whether something changed.
-fn sweep(program: ReachedProgram<'_>, needs: &mut [Units]) -> bool {
+fn sweep(program: ReachedProgram<'_>, pointers: &[Option<u16>], needs: &mut [Need]) -> bool {
     let mut is_changed = false;
     for below in 0..65_536_u32 {
         let at = (65_535 - below) as u16;
         if let Some(found) = program.at(at) {
-            let need = need_before(program, needs, at, found);
+            let need = need_before(program, pointers, needs, at, found);
             if let Some(place) = needs.get_mut(usize::from(at)) {
                 if *place != need {
                     *place = need;
@@ -44,32 +125,43 @@ fn sweep(program: ReachedProgram<'_>, needs: &mut [Units]) -> bool {
 }
 
 /// What is needed at an address so far.
-pub(crate) fn need_at(needs: &[Units], at: u16) -> Units {
+fn need_at(needs: &[Need], at: u16) -> Need {
     match needs.get(usize::from(at)) {
         Some(need) => *need,
-        None => Units::NONE,
+        None => Need::NONE,
     }
 }
 
 /// What is needed before an instruction.
-fn need_before(program: ReachedProgram<'_>, needs: &[Units], at: u16, found: Fetched) -> Units {
+fn need_before(
+    program: ReachedProgram<'_>,
+    pointers: &[Option<u16>],
+    needs: &[Need],
+    at: u16,
+    found: Fetched,
+) -> Need {
     let Fetched { instr, next } = found;
     match instr.flow() {
-        Flow::Returns | Flow::Halts => Units::NONE,
+        Flow::Returns | Flow::Halts => Need::NONE,
         Flow::Continues | Flow::Pushes | Flow::Pops | Flow::Exchanges => {
-            through(instr, need_at(needs, next))
+            through(
+                program,
+                instr,
+                pointer_at(pointers, at),
+                need_at(needs, next),
+            )
         }
         Flow::Jumps(to) => need_at(needs, to),
         Flow::JumpsIf(condition, to) => need_at(needs, next)
             .and(need_at(needs, to))
-            .and(Units::of_condition(condition)),
-        Flow::ReturnsIf(condition) => need_at(needs, next).and(Units::of_condition(condition)),
+            .with(Units::of_condition(condition)),
+        Flow::ReturnsIf(condition) => need_at(needs, next).with(Units::of_condition(condition)),
         Flow::Calls(to) => called(need_at(needs, to)),
         Flow::CallsIf(condition, to) => called(need_at(needs, to))
             .and(need_at(needs, next))
-            .and(Units::of_condition(condition)),
+            .with(Units::of_condition(condition)),
         Flow::JumpsToHl => {
-            let mut need = Units::HL;
+            let mut need = Need::NONE.with(Units::HL);
             for to in program.targets(at) {
                 need = need.and(need_at(needs, *to));
             }
@@ -79,22 +171,29 @@ fn need_before(program: ReachedProgram<'_>, needs: &[Units], at: u16, found: Fet
 }
 
 /// What is needed before a call, given what its callee needs.
-fn called(need: Units) -> Units {
-    need.without(Units::WORDS).and(need.shallower())
+fn called(need: Need) -> Need {
+    let parts = need.parts;
+    Need {
+        parts: parts.without(Units::WORDS).and(parts.shallower()),
+        slots: need.slots,
+    }
 }
 
 /// What is needed before an instruction that goes on, given what is needed after it.
-fn through(instr: Instr, need: Units) -> Units {
+fn through(program: ReachedProgram<'_>, instr: Instr, pointer: Option<u16>, need: Need) -> Need {
     let pointed = match instr.storing() {
         Storing::ThroughHl => Units::HL,
         Storing::Through(pair) => Units::of_index_pair(pair),
         Storing::Nowhere | Storing::Byte(_) | Storing::Word(_) => Units::NONE,
     };
-    moved_through(instr, need).and(pointed)
+    Need {
+        parts: moved_through(instr, need.parts)
+            .and(pointed)
+            .and(stored_parts(instr, pointer, need.slots)),
+        slots: slots_before(program, instr, pointer, need.parts, need.slots),
+    }
 }
 
-/// The flags that an operation writes.
-const FLAGS: Units = Units(1920);
 /// Those that INR and DCR write.
 const COUNTED: Units = Units(1664);
 /// Those that DAD, the rotations, STC and CMC write.
@@ -115,7 +214,14 @@ fn moved_through(instr: Instr, need: Units) -> Units {
                 rest
             }
         }
-        Instr::InrMemory | Instr::DcrMemory => need.without(COUNTED),
+        Instr::InrMemory | Instr::DcrMemory => {
+            let rest = need.without(COUNTED);
+            if need.has(Units::ZERO.and(Units::SIGN)) {
+                rest.and(Units::HL)
+            } else {
+                rest
+            }
+        }
         Instr::Lxi(Pair::Sp, _) | Instr::Sphl => need.without(Units::WORDS),
         Instr::Lxi(pair, _) => need.without(Units::of_pair(pair)),
         Instr::Inx(Pair::Sp) | Instr::Dcx(Pair::Sp) => need.without(Units::WORDS),
@@ -134,7 +240,7 @@ fn moved_through(instr: Instr, need: Units) -> Units {
         }
         Instr::Operate(operation, operand) => operated(operation, operand, need),
         Instr::Rotate(rotation) => rotated(rotation, need),
-        Instr::Daa => need.without(FLAGS.and(Units::A)),
+        Instr::Daa => need.without(Units::FLAGS.and(Units::A)),
         Instr::Cma => need.without(Units::TEST),
         Instr::Stc => need.without(CARRIED),
         Instr::Cmc => need.without(Units::TEST),
@@ -205,11 +311,11 @@ fn operated(operation: Operation, operand: Operand, need: Units) -> Units {
         Operand::Memory => Units::HL,
         Operand::Immediate(_) => Units::NONE,
     };
-    let asks = need.has(FLAGS);
+    let asks = need.has(Units::FLAGS);
     let (rest, asks) = match operation {
-        Operation::Compare => (need.without(FLAGS), asks),
+        Operation::Compare => (need.without(Units::FLAGS), asks),
         _ => (
-            need.without(FLAGS.and(Units::A)),
+            need.without(Units::FLAGS.and(Units::A)),
             asks || need.has(Units::A),
         ),
     };

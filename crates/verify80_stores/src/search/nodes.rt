@@ -1,7 +1,7 @@
 //! The states that are known so far, by address.
 
 use crate::search::landmarks::Landmarks;
-use crate::search::needs::need_at;
+use crate::search::needs::Needs;
 use crate::search::units::{PARTS, Units, reduced, value_of};
 use crate::states::State;
 use std::alloc::{AllocError, Global};
@@ -65,7 +65,7 @@ pub(crate) struct Nodes {
     /// The first state of each list.
     lists: Vec<u32>,
     waiting: Vec<u32>,
-    needs: Vec<Units>,
+    needs: Needs,
     landmarks: Landmarks,
     /// Whether a state has taken in another.
     has_grown: bool,
@@ -78,11 +78,7 @@ impl Nodes {
     ///
     /// # Errors
     /// `AllocError` if memory runs out.
-    pub fn new(
-        alloc: Global,
-        needs: Vec<Units>,
-        landmarks: Landmarks,
-    ) -> Result<Nodes, AllocError> {
+    pub fn new(alloc: Global, needs: Needs, landmarks: Landmarks) -> Result<Nodes, AllocError> {
         let none = Group {
             first: NOWHERE,
             count: 0,
@@ -126,7 +122,7 @@ impl Nodes {
 
     /// What is needed of a state at an address.
     pub fn needed(&self, at: u16, state: State) -> State {
-        reduced(state, need_at(&self.needs, at))
+        self.needs.needed(at, state)
     }
 
     /// Notes where the hints of a state begin.
@@ -349,7 +345,8 @@ impl Nodes {
         Ok(())
     }
 
-    /// The part of which the states at an address have the most values, of those by which they are still distinguished.
+    /// The part of which the states at an address have the most values, of those by which they are still distinguished; of two, the one
+    /// whose pair has lost its other half: the rest of a count tells no more than the count did.
     fn part_that_tells_most(&self, alloc: Global, at: u16) -> Result<Units, AllocError> {
         let joined = self.group(at).joined;
         let mut most = 0;
@@ -358,7 +355,7 @@ impl Nodes {
             let unit = Units::numbered(part);
             if !joined.has(unit) {
                 let count = self.count_values(alloc, at, part)?;
-                if count > most {
+                if count > most || count == most && joined.partners().has(unit) {
                     most = count;
                     best = unit;
                 }

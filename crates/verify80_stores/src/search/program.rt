@@ -1,5 +1,6 @@
 //! The program that states are proposed for, and its ways.
 
+use crate::search::slots::Slots;
 use crate::states::{State, given, state_after};
 use decode80::{Fetched, Flow, Instr};
 use image80::Regions;
@@ -17,6 +18,8 @@ pub(crate) struct ReachedProgram<'a> {
     pub start: u16,
     /// Where data is, and the targets of each PCHL.
     pub regions: &'a Regions,
+    /// Whether nobody but the program writes to an address: by address, 65,536 places.
+    pub quiet: &'a [bool],
 }
 
 impl<'a> ReachedProgram<'a> {
@@ -25,6 +28,14 @@ impl<'a> ReachedProgram<'a> {
         match self.instructions.get(usize::from(address)) {
             Some(found) => *found,
             None => None,
+        }
+    }
+
+    /// These bytes of memory, and another, if it is quiet.
+    pub fn with_quiet(self, slots: Slots, address: u16) -> Slots {
+        match self.quiet.get(usize::from(address)) {
+            Some(true) => slots.with(address),
+            _ => slots,
         }
     }
 

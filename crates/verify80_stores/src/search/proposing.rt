@@ -3,7 +3,7 @@
 use crate::fitting::Placed;
 use crate::search::compacting::{compact, narrow};
 use crate::search::landmarks::Landmarks;
-use crate::search::needs::find_needs;
+use crate::search::needs::Needs;
 use crate::search::nodes::{NOWHERE, Node, Nodes, place_of};
 use crate::search::program::ReachedProgram;
 use crate::states::State;
@@ -33,7 +33,7 @@ pub(crate) struct Proposal {
 /// # Errors
 /// `AllocError` only if memory runs out.
 pub(crate) fn propose(alloc: Global, program: ReachedProgram<'_>) -> Result<Proposal, AllocError> {
-    let needs = find_needs(alloc, program)?;
+    let needs = Needs::of(alloc, program)?;
     let landmarks = Landmarks::new(alloc, program)?;
     let mut nodes = Nodes::new(alloc, needs, landmarks)?;
     let mut hints = Vec::new(alloc);

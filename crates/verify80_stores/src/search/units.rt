@@ -1,12 +1,12 @@
 //! The parts of a state, by which it is cut down, and distinguished from others.
 
 use crate::spans::{ByteSpan, Span};
-use crate::states::{PairSpan, State, Words};
+use crate::states::{Cell, Cells, PairSpan, State, Words};
 use decode80::{Condition, IndexPair, Pair, Register, StackPair};
 
 /// A set of parts of a state: a bit for each.
 #[derive(Clone, Copy, Debug, PartialEq, Eq)]
-pub(crate) struct Units(pub u16);
+pub(crate) struct Units(pub u32);
 
 impl Units {
     pub const NONE: Units = Units(0);
@@ -35,6 +35,9 @@ impl Units {
     /// What A was compared with last, and A with it.
     pub const TEST: Units = Units(1024);
 
+    /// The flags that an operation on A writes, and the comparison.
+    pub const FLAGS: Units = Units(1920);
+
     pub const FIRST: Units = Units(2048);
 
     pub const SECOND: Units = Units(4096);
@@ -45,15 +48,23 @@ impl Units {
     /// The words on the stack.
     pub const WORDS: Units = Units(30720);
 
-    pub const ALL: Units = Units(32767);
+    /// Bytes of memory: a bit for each place that a cell may have.
+    pub const CELLS: Units = Units(8_355_840);
 
-    /// The part of a number below 15.
+    pub const ALL: Units = Units(8_388_607);
+
+    /// The part of a number below 23.
     pub fn numbered(part: usize) -> Units {
-        let mut bit = 1_u16;
-        for _ in 0..part.min(14) {
+        let mut bit = 1_u32;
+        for _ in 0..part.min(22) {
             bit = bit.wrapping_mul(2);
         }
         Units(bit)
+    }
+
+    /// The byte of memory whose cell has a place below 8.
+    pub fn cell(place: usize) -> Units {
+        Units::numbered(place.min(7) + 15)
     }
 
     /// The parts of both.
@@ -63,7 +74,7 @@ impl Units {
 
     /// These parts without others.
     pub fn without(self, other: Units) -> Units {
-        Units(self.0 & (other.0 ^ 32767))
+        Units(self.0 & (other.0 ^ Units::ALL.0))
     }
 
     /// Whether one of these parts is among the others.
@@ -110,6 +121,11 @@ impl Units {
             IndexPair::Bc => Units(6),
             IndexPair::De => Units(24),
         }
+    }
+
+    /// The other halves of the pairs of which these parts have one.
+    pub fn partners(self) -> Units {
+        Units((self.0 & 42) * 2 | (self.0 & 84) / 2)
     }
 
     /// What a condition asks.
@@ -168,6 +184,29 @@ pub(crate) fn reduced(state: State, parts: Units) -> State {
             third: reduced_word(state.words.third, parts.has(Units::THIRD)),
             fourth: reduced_word(state.words.fourth, parts.has(Units::FOURTH)),
         },
+        cells: reduced_cells(state.cells, parts),
+    }
+}
+
+/// Cells of which only these parts are known: each keeps its address.
+fn reduced_cells(cells: Cells, parts: Units) -> Cells {
+    Cells {
+        first: reduced_cell(cells.first, parts.has(Units::cell(0))),
+        second: reduced_cell(cells.second, parts.has(Units::cell(1))),
+        third: reduced_cell(cells.third, parts.has(Units::cell(2))),
+        fourth: reduced_cell(cells.fourth, parts.has(Units::cell(3))),
+        fifth: reduced_cell(cells.fifth, parts.has(Units::cell(4))),
+        sixth: reduced_cell(cells.sixth, parts.has(Units::cell(5))),
+        seventh: reduced_cell(cells.seventh, parts.has(Units::cell(6))),
+        eighth: reduced_cell(cells.eighth, parts.has(Units::cell(7))),
+    }
+}
+
+/// A cell of which its bytes are to be known or not.
+fn reduced_cell(cell: Cell, is_kept: bool) -> Cell {
+    Cell {
+        at: cell.at,
+        bytes: if is_kept { cell.bytes } else { ByteSpan::ANY },
     }
 }
 
@@ -187,7 +226,7 @@ fn reduced_word(word: Option<Span>, is_kept: bool) -> Option<Span> {
 }
 
 /// How many parts there are.
-pub(crate) const PARTS: usize = 15;
+pub(crate) const PARTS: usize = 23;
 
 /// A part of a state as a number, by which states are distinguished; parts are numbered as their bits are.
 pub(crate) fn value_of(state: State, part: usize) -> u32 {
@@ -209,7 +248,15 @@ pub(crate) fn value_of(state: State, part: usize) -> u32 {
         11 => word_value(state.words.first),
         12 => word_value(state.words.second),
         13 => word_value(state.words.third),
-        _ => word_value(state.words.fourth),
+        14 => word_value(state.words.fourth),
+        15 => byte_value(state.cells.first.bytes),
+        16 => byte_value(state.cells.second.bytes),
+        17 => byte_value(state.cells.third.bytes),
+        18 => byte_value(state.cells.fourth.bytes),
+        19 => byte_value(state.cells.fifth.bytes),
+        20 => byte_value(state.cells.sixth.bytes),
+        21 => byte_value(state.cells.seventh.bytes),
+        _ => byte_value(state.cells.eighth.bytes),
     }
 }
 

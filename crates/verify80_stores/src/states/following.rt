@@ -1,12 +1,13 @@
 //! What becomes of a state at an instruction.
 
 ghost use Rattle.std.specs.Prelude.{◌≡◌};
-ghost use Rattle.verify80_stores.specs.Following.{byte_at, known_byte, known_word, loaded, loaded_word, moved, counted, resulted, tested, is_accumulator, operand_bytes, after_operation, added_carry, turned, exchanged_pairs, index_words, popped_to, registers_after, pushed_words, called, words_after, state_after};
+ghost use Rattle.verify80_stores.specs.Following.{byte_at, code_or, known_word, loaded_at, loaded, loaded_word, moved, counted, resulted, tested, is_accumulator, operand_bytes, after_operation, added_carry, turned, exchanged_pairs, index_words, popped_to, registers_after, pushed_words, called, words_after, cells_after, state_after};
 ghost use Rattle.verify80_stores.specs.State.{compared_with};
 
 use crate::spans::{ByteSpan, Outcome, Span, operated, rotated};
+use crate::states::cells::Cells;
 use crate::states::state::{State, Words};
-use decode80::{IndexPair, Instr, Operand, Operation, Pair, Register, StackPair};
+use decode80::{IndexPair, Instr, Operand, Operation, Pair, Register, StackPair, ahead};
 
 /// The byte of code at an address, if code is there.
 fn byte_at(code: &[Option<u8>], at: u16) -> Option<u8>
@@ -18,13 +19,13 @@ fn byte_at(code: &[Option<u8>], at: u16) -> Option<u8>
     }
 }
 
-/// What is known of a byte.
-fn known_byte(byte: Option<u8>) -> ByteSpan
-    ensures { result ≡ known_byte byte }
+/// A byte of code, if code is there, or what is known otherwise.
+fn code_or(byte: Option<u8>, otherwise: ByteSpan) -> ByteSpan
+    ensures { result ≡ code_or byte otherwise }
 {
     match byte {
         Some(byte) => ByteSpan::alone(byte),
-        None => ByteSpan::ANY,
+        None => otherwise,
     }
 }
 
@@ -38,29 +39,32 @@ fn known_word(word: Option<Span>) -> Span
     }
 }
 
-/// A byte that is read at one of these addresses: only code is known.
-fn loaded(code: &[Option<u8>], at: Span) -> ByteSpan
-    ensures { result ≡ loaded code.now at }
+/// A byte that is read at an address: only code and cells are known.
+fn loaded_at(code: &[Option<u8>], cells: Cells, at: u16) -> ByteSpan
+    ensures { result ≡ loaded_at code.now cells at }
+{
+    code_or(byte_at(code, at), cells.bytes_at(at))
+}
+
+/// A byte that is read at one of these addresses.
+fn loaded(code: &[Option<u8>], cells: Cells, at: Span) -> ByteSpan
+    ensures { result ≡ loaded code.now cells at }
 {
     if at.is_alone() {
-        known_byte(byte_at(code, at.first))
+        loaded_at(code, cells, at.first)
     } else {
         ByteSpan::ANY
     }
 }
 
 /// The word that is read at an address.
-#[tactic(auto, unfolding(decode80::specs::Fetch::ahead))]
-fn loaded_word(code: &[Option<u8>], address: u16) -> Span
-    ensures { result ≡ loaded_word code.now address }
+fn loaded_word(code: &[Option<u8>], cells: Cells, address: u16) -> Span
+    ensures { result ≡ loaded_word code.now cells address }
 {
-    match (
-        byte_at(code, address.wrapping_add(1)),
-        byte_at(code, address),
-    ) {
-        (Some(high), Some(low)) => Span::alone(256 * u16::from(high) + u16::from(low)),
-        _ => Span::ANY,
-    }
+    Span::of_halves(
+        loaded_at(code, cells, ahead(address, 1)),
+        loaded_at(code, cells, address),
+    )
 }
 
 /// A register is copied.
@@ -124,7 +128,7 @@ fn operand_bytes(code: &[Option<u8>], operand: Operand, state: State) -> ByteSpa
 {
     match operand {
         Operand::Register(register) => state.byte(register),
-        Operand::Memory => loaded(code, state.hl.words),
+        Operand::Memory => loaded(code, state.cells, state.hl.words),
         Operand::Immediate(byte) => ByteSpan::alone(byte),
     }
 }
@@ -250,12 +254,16 @@ fn registers_after(code: &[Option<u8>], instr: Instr, state: State) -> State
 {
     match instr {
         Instr::Mov(to, from) => moved(to, from, state),
-        Instr::Load(to) => state.with_byte(to, loaded(code, state.hl.words)),
+        Instr::Load(to) => state.with_byte(to, loaded(code, state.cells, state.hl.words)),
         Instr::Mvi(to, byte) => state.with_byte(to, ByteSpan::alone(byte)),
         Instr::Inr(register) => counted(register, state.byte(register).next(), state),
         Instr::Dcr(register) => counted(register, state.byte(register).previous(), state),
-        Instr::InrMemory | Instr::DcrMemory => state.with_outcome(Outcome {
-            value: ByteSpan::ANY,
+        Instr::InrMemory => state.with_outcome(Outcome {
+            value: loaded(code, state.cells, state.hl.words).next(),
+            carry: state.carry,
+        }),
+        Instr::DcrMemory => state.with_outcome(Outcome {
+            value: loaded(code, state.cells, state.hl.words).previous(),
             carry: state.carry,
         }),
         Instr::Lxi(pair, word) => state.with_words(pair, Span::alone(word)),
@@ -278,11 +286,16 @@ fn registers_after(code: &[Option<u8>], instr: Instr, state: State) -> State
         Instr::Stc => state.with_carry(Some(true)),
         Instr::Cmc => state.with_carry(turned(state.carry)),
         Instr::Ldax(pair) => {
-            state.with_byte(Register::A, loaded(code, index_words(state, pair)))
+            state.with_byte(
+                Register::A,
+                loaded(code, state.cells, index_words(state, pair)),
+            )
         }
-        Instr::Lda(address) => { state.with_byte(Register::A, known_byte(byte_at(code, address))) }
+        Instr::Lda(address) => {
+            state.with_byte(Register::A, loaded_at(code, state.cells, address))
+        }
         Instr::In(_) => state.with_byte(Register::A, ByteSpan::ANY),
-        Instr::Lhld(address) => state.with_words(Pair::Hl, loaded_word(code, address)),
+        Instr::Lhld(address) => state.with_words(Pair::Hl, loaded_word(code, state.cells, address)),
         Instr::Xchg => exchanged_pairs(state),
         Instr::Pop(pair) => popped_to(pair, known_word(state.words.first), state),
         Instr::Xthl => state.with_words(Pair::Hl, known_word(state.words.first)),
@@ -342,10 +355,30 @@ fn words_after(instr: Instr, taken: bool, next: u16, state: State) -> Words
     }
 }
 
+/// The bytes of memory that are known after an instruction.
+fn cells_after(code: &[Option<u8>], instr: Instr, state: State) -> Cells
+    ensures { result ≡ cells_after code.now instr state }
+{
+    let cells = state.cells;
+    let pointed = state.hl.words;
+    match instr {
+        Instr::Store(register) => cells.stored(pointed, state.byte(register)),
+        Instr::MviMemory(byte) => cells.stored(pointed, ByteSpan::alone(byte)),
+        Instr::InrMemory => cells.stored(pointed, loaded(code, cells, pointed).next()),
+        Instr::DcrMemory => cells.stored(pointed, loaded(code, cells, pointed).previous()),
+        Instr::Stax(pair) => cells.stored(index_words(state, pair), state.a),
+        Instr::Sta(address) => cells.stored(Span::alone(address), state.a),
+        Instr::Shld(address) => cells
+            .stored(Span::alone(address), state.hl.low)
+            .stored(Span::alone(ahead(address, 1)), state.hl.high()),
+        _ => cells,
+    }
+}
+
 /// What is known after an instruction, given what is known before it, the bytes of code by address, and whether its call or return is
 /// taken; `next` is the address after it.
 ///
-/// What comes from memory outside the code may be anything. Sums and counts are followed until some of them wrap and others don't.
+/// What comes from memory is known of code and of the state's cells. Sums and counts are followed until some of them wrap and others don't.
 pub(crate) fn state_after(
     code: &[Option<u8>],
     instr: Instr,
@@ -357,6 +390,7 @@ pub(crate) fn state_after(
 {
     State {
         words: words_after(instr, taken, next, state),
+        cells: cells_after(code, instr, state),
         ..registers_after(code, instr, state)
     }
 }

@@ -1,6 +1,7 @@
 //! What is known of a machine at an instruction.
 
 use crate::spans::{ByteSpan, Outcome, Span};
+use crate::states::cells::Cells;
 use decode80::{Pair, Register};
 
 /// What a pair may be: its words, and its low bytes, which may be fewer than those of the words.
@@ -144,7 +145,7 @@ fn is_word_inside(inner: Option<Span>, outer: Option<Span>) -> bool
     }
 }
 
-/// What registers, flags and the words on top of the stack may be, before an instruction.
+/// What registers, flags, the words on top of the stack and some bytes of memory may be, before an instruction.
 #[derive(Clone, Copy, Debug, PartialEq, Eq)]
 pub(crate) struct State {
     pub a: ByteSpan,
@@ -162,6 +163,7 @@ pub(crate) struct State {
     /// The number of which Z says whether A is it, and CY whether A is below it.
     pub compared: Option<u8>,
     pub words: Words,
+    pub cells: Cells,
 }
 
 ghost use Rattle.std.specs.Prelude.{◌≡◌, true};
@@ -248,6 +250,7 @@ impl State {
         sign: None,
         compared: None,
         words: Words::NONE,
+        cells: Cells::ANY,
     };
 
     /// Whether this state says all that another does.
@@ -261,6 +264,7 @@ impl State {
             && is_flag_inside(self.sign, other.sign)
             && is_comparison_inside(self.compared, other.compared)
             && self.words.are_inside(other.words)
+            && self.cells.are_inside(other.cells)
     }
 
     /// Whether the registers say all that those of another state do.

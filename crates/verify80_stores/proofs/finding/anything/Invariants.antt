@@ -1,6 +1,11 @@
-use Rattle.std.proofs.Common.{◌≡◌, ℕ, ◌<◌, length}
+use Rattle.std.proofs.Common.{◌≡◌, ℕ, ◌<◌}
+use Rattle.std.specs.Prelude.{All}
+use Rattle.verify80_stores.specs.State.{anything}
 use Rattle.verify80_stores.specs.Listing.{SaysNothingAt}
 use Rattle.verify80_stores.proofs.finding.anything.Given as goal
 
 abbrev pub invariant-loop-at : goal.invariant-loop-at
-invariant-loop-at l = (at : ℕ) → at < l.at → SaysNothingAt l.table.items at
+invariant-loop-at l = record {
+  everywhere : (at : ℕ) → at < l.at → SaysNothingAt l.table.items at;
+  nothing : All (λ placed. placed.state ≡ anything) l.table.items;
+}

@@ -11,15 +11,17 @@ use Rattle.verify80_stores.specs.Runs.{IsKept, RunsKeepTo}
 use Rattle.verify80_stores.specs.Stores.{AreStoresOf}
 use Rattle.verify80_stores.proofs.MemoryLemmas.{ground_of}
 use Rattle.verify80_stores.proofs.StoreLemmas.{are_stores}
-use Rattle.verify80_stores.proofs.BoardLemmas.{holds_on_boards}
+use Rattle.verify80_stores.specs.Boards.{is_quiet}
+use Rattle.verify80_stores.proofs.BoardLemmas.{holds_on_boards, holds_on_quiet_boards}
 use Rattle.verify80_stores.proofs.finding.find_stores.Goals as goal
 
 pub returns-clause-listed : goal.returns-clause-listed
 returns-clause-listed c =
     let vouched = c.args.vouched.now in
     let known = c.runs_of.ensures.runs in
-    let kept : IsKept vouched.image c.in_ok-table.table.items = subst (λ (i : Located). IsKept i c.in_ok-table.table.items) c.image-image.ensures.image c.in_ok-table.ensures in
-    let keeps : RunsKeepTo vouched.image c.in_ok-table.table.items = c.fitting_states_hold.ensures.keep vouched.image vouched.stack_bytes c.in_ok-table.table.items known.sound known.walks kept in
+    let kept : IsKept vouched.image (is_quiet vouched.image.regions c.args.quiet.now) c.in_ok-table.table.items =
+    subst (λ (i : Located). IsKept i (is_quiet i.regions c.args.quiet.now) c.in_ok-table.table.items) c.image-image.ensures.image c.in_ok-table.ensures in
+    let keeps : RunsKeepTo vouched.image c.in_ok-table.table.items = c.fitting_states_hold.ensures.keep vouched.image vouched.stack_bytes (is_quiet vouched.image.regions c.args.quiet.now) c.in_ok-table.table.items known.sound known.walks kept in
     let reached = c.instructions-reached.result.now in
     let are_marks : AreOpenMarks vouched.image.regions reached c.in_ok-table.table.items c.in_ok-marks.marks.items =
     subst (λ (r : Areas). AreOpenMarks r reached c.in_ok-table.table.items c.in_ok-marks.marks.items) (ap (λ (i : Located). i.regions) (c.image.view_is ∙ c.image-image.ensures.image))
@@ -33,12 +35,13 @@ returns-clause-listed c =
     are_stores vouched.image vouched.stack_bytes c.instructions-reached.result.now c.in_ok-table.table.items c.in_ok-marks.marks.items c.in_ok-spans.spans.items c.in_ok-addresses.addresses.items c.in_ok-open.open.items
     c.in_ok-jumps.jumps.items c.in_ok-open_jumps.open_jumps.items known.sound known.walks (search rules) (search rules) keeps are_marks are_spans (search rules) open_below (search rules) open_jumps
 
-pub returns-clause-boards : goal.returns-clause-boards
-returns-clause-boards c =
+pub returns-clause-quiet_boards : goal.returns-clause-quiet_boards
+returns-clause-quiet_boards c =
     let vouched = c.args.vouched.now in
     let known = c.runs_of.ensures.runs in
-    let kept : IsKept vouched.image c.in_ok-table.table.items = subst (λ (i : Located). IsKept i c.in_ok-table.table.items) c.image-image.ensures.image c.in_ok-table.ensures in
-    let keeps : RunsKeepTo vouched.image c.in_ok-table.table.items = c.fitting_states_hold.ensures.keep vouched.image vouched.stack_bytes c.in_ok-table.table.items known.sound known.walks kept in
+    let kept : IsKept vouched.image (is_quiet vouched.image.regions c.args.quiet.now) c.in_ok-table.table.items =
+    subst (λ (i : Located). IsKept i (is_quiet i.regions c.args.quiet.now) c.in_ok-table.table.items) c.image-image.ensures.image c.in_ok-table.ensures in
+    let keeps : RunsKeepTo vouched.image c.in_ok-table.table.items = c.fitting_states_hold.ensures.keep vouched.image vouched.stack_bytes (is_quiet vouched.image.regions c.args.quiet.now) c.in_ok-table.table.items known.sound known.walks kept in
     let reached = c.instructions-reached.result.now in
     let are_marks : AreOpenMarks vouched.image.regions reached c.in_ok-table.table.items c.in_ok-marks.marks.items =
     subst (λ (r : Areas). AreOpenMarks r reached c.in_ok-table.table.items c.in_ok-marks.marks.items) (ap (λ (i : Located). i.regions) (c.image.view_is ∙ c.image-image.ensures.image))
@@ -50,16 +53,17 @@ returns-clause-boards c =
     let open_jumps : AreAllBelow (is_marked_at is_pchl reached c.in_ok-marks.marks.items) 65536 c.in_ok-open_jumps.open_jumps.items =
     subst (λ (m : List Bool). AreAllBelow (is_marked_at is_pchl reached m) 65536 c.in_ok-open_jumps.open_jumps.items) c.deref-5.ensures.value c.in_ok-open_jumps.ensures in
     let apart = c.code_data_and_stack_are_apart.ensures in
-    holds_on_boards vouched.image vouched.stack_bytes c.instructions-reached.result.now c.in_ok-table.table.items c.in_ok-marks.marks.items c.in_ok-spans.spans.items c.in_ok-addresses.addresses.items c.in_ok-open.open.items
+    holds_on_quiet_boards vouched.image vouched.stack_bytes c.instructions-reached.result.now c.in_ok-table.table.items c.in_ok-marks.marks.items c.in_ok-spans.spans.items c.in_ok-addresses.addresses.items c.in_ok-open.open.items
     c.in_ok-jumps.jumps.items c.in_ok-open_jumps.open_jumps.items known.sound known.walks (search rules) (search rules) keeps are_marks are_spans (search rules) open_below (search rules) open_jumps
-    (ground_of apart.code_or_data apart.code_or_stack apart.data_or_stack vouched.image.regions known.rules) known kept c.bytes_stay_bytes.ensures.bytes
+    (ground_of apart.code_or_data apart.code_or_stack apart.data_or_stack vouched.image.regions known.rules) known (is_quiet vouched.image.regions c.args.quiet.now) kept c.bytes_stay_bytes.ensures.bytes
 
 pub returns-clause-watched : goal.returns-clause-watched
 returns-clause-watched c =
     let vouched = c.args.vouched.now in
     let known = c.runs_of.ensures.runs in
-    let kept : IsKept vouched.image c.in_ok-table.table.items = subst (λ (i : Located). IsKept i c.in_ok-table.table.items) c.image-image.ensures.image c.in_ok-table.ensures in
-    let keeps : RunsKeepTo vouched.image c.in_ok-table.table.items = c.fitting_states_hold.ensures.keep vouched.image vouched.stack_bytes c.in_ok-table.table.items known.sound known.walks kept in
+    let kept : IsKept vouched.image (is_quiet vouched.image.regions c.args.quiet.now) c.in_ok-table.table.items =
+    subst (λ (i : Located). IsKept i (is_quiet i.regions c.args.quiet.now) c.in_ok-table.table.items) c.image-image.ensures.image c.in_ok-table.ensures in
+    let keeps : RunsKeepTo vouched.image c.in_ok-table.table.items = c.fitting_states_hold.ensures.keep vouched.image vouched.stack_bytes (is_quiet vouched.image.regions c.args.quiet.now) c.in_ok-table.table.items known.sound known.walks kept in
     let reached = c.instructions-reached.result.now in
     let are_marks : AreOpenMarks vouched.image.regions reached c.in_ok-table.table.items c.in_ok-marks.marks.items =
     subst (λ (r : Areas). AreOpenMarks r reached c.in_ok-table.table.items c.in_ok-marks.marks.items) (ap (λ (i : Located). i.regions) (c.image.view_is ∙ c.image-image.ensures.image))
@@ -75,3 +79,7 @@ returns-clause-watched c =
     c.in_ok-jumps.jumps.items c.in_ok-open_jumps.open_jumps.items known.sound known.walks (search rules) (search rules) keeps are_marks are_spans (search rules) open_below (search rules) open_jumps in
     c.watched_runs_go_as_listed.ensures vouched.image c.in_ok-addresses.addresses.items c.in_ok-open.open.items c.in_ok-jumps.jumps.items c.in_ok-open_jumps.open_jumps.items
     (subst (λ (i : Located). HasBytes (memory_of i.chunks)) c.image-image.ensures.image c.in_ok-holds_bytes.ensures) listed
+
+pub returns-clause-boards : goal.returns-clause-boards
+returns-clause-boards c none =
+    holds_on_boards c.args.vouched.now.image c.args.quiet.now c.args.vouched.now.stack_bytes c.in_ok-open.open.items c.in_ok-open_jumps.open_jumps.items (returns-clause-quiet_boards (search rules)) none

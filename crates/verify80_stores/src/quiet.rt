@@ -1,0 +1,34 @@
+//! Which addresses are quiet.
+
+ghost use Rattle.std.specs.Prelude.{◌≡◌, ℕ, IfOk, true};
+ghost use Rattle.verify80_stores.specs.Boards.{is_quiet};
+ghost use Rattle.verify80_stores.specs.Returning.{is_marked};
+
+use crate::fitting::unmarked;
+use image80::{Range, Regions};
+use std::alloc::{AllocError, Global};
+
+/// A mark for each address of data that is in one of the ranges.
+///
+/// # Errors
+/// `AllocError` if memory runs out.
+pub(crate) fn mark_quiet(
+    alloc: Global,
+    regions: &Regions,
+    ranges: &[Range],
+) -> Result<Vec<bool>, AllocError>
+    ensures { IfOk result (λ marks. (at : ℕ) → is_marked marks.items at ≡ true → is_quiet regions.now ranges.now at ≡ true) }
+{
+    let mut marks = unmarked(alloc, 65_536)?;
+    for at in 0..65_536_usize {
+        marks[at] = is_quiet(regions, ranges, at as u16);
+    }
+    Ok(marks)
+}
+
+/// Whether an address is one of data and of one of the ranges.
+fn is_quiet(regions: &Regions, ranges: &[Range], at: u16) -> bool
+    ensures { result ≡ is_quiet regions.now ranges.now at }
+{
+    regions.in_data(at) && ranges.iter().any(|range| range.contains(at))
+}
