@@ -23,15 +23,15 @@ out. A line SP NOT SET says that SP must be at the stack's top before the progra
 begins, since it may use SP before an LXI SP of its own sets it.
 
 Devices may write to data at any time, so what a program keeps there isn't
-believed. --quiet-ram names addresses of data to which only the program writes,
-as 2000:0100, FIRST and LENGTH in hexadecimal digits; it may be given again. A
-byte that is stored there and read again is then remembered up to the next call.
+believed. --quiet-ram names addresses of data to which only the program writes: a
+byte that it stores there is remembered up to the next call. FIRST:LENGTH is as
+suggest takes it, and the option may be given more than once.
 
 The exit status is 0 if there is no line STORE, JUMP or SP NOT SET, 1 if there is
 one, or if the image is refused: then the refusal is printed alone, as by check.
 --names prints behind a line the name of its first address, as check does.
 
-Example: plm80 stores readings.img readings.regions
+Example: plm80 stores readings.img readings.regions --quiet-ram 2000:0100
 
 Faults and what to do: docs/FAULTS.md (installed: share/doc/plm80), man plm80.";
 
