@@ -182,7 +182,7 @@ module _ (image : Located) (bytes : ℕ) (reached : List (Option Fetched)) (tabl
       let moved : OnBoard image.regions Anywhere start w = disturbed v w s.on by in
       record {
         on = moved;
-        keeps_to = subst (KeepsTo image table) (sym by.is) (disturbed_keeps image ground quiet table v by.memory kept.quiet by.leaves stays s.keeps_to);
+        keeps_to = subst (KeepsTo image table) (sym by.is) (disturbed_keeps image ground quiet table v by.memory kept.knows by.leaves stays s.keeps_to);
         held = subst (λ (x : World). HoldsBytes x.machine) (sym by.is) (record { registers = s.held.registers; memory = by.leaves.bytes; inputs = s.held.inputs });
       }
   always w (executed_quiet v _ on by) = goes_on v w (always v on) by

@@ -142,7 +142,7 @@ module _ (image : Located) (quiet : ℕ → Bool) (bytes : List (Option ℕ)) (t
 
   -- what the table knows of memory is known of data
   quiet_in_data : (place : ℕ) (placed : Placed) → slice_get table place ≡ Some placed → AreQuietCells (in_data image.regions) placed.state.cells
-  quiet_in_data place placed there = cells_quieter quiet (in_data image.regions) placed.state.cells quiet_data (known_there quiet table place placed fits.quiet there)
+  quiet_in_data place placed there = cells_quieter quiet (in_data image.regions) placed.state.cells quiet_data (known_there quiet table place placed fits.knows there)
 
   -- behind a call whose callee returns nothing is known
   behind_has : (at : ℕ) → IsBehindCall (code_of image) at → Has table at anything
@@ -189,7 +189,7 @@ module _ (image : Located) (quiet : ℕ → Bool) (bytes : List (Option ℕ)) (t
   -- a step keeps to the table, and so does a start
   pub is_kept : IsKept image quiet table
   is_kept = record {
-    quiet = fits.quiet;
+    knows = fits.knows;
     starts = λ start pc code whole held stands.
         keeps_by (world_of start) anything (subst (λ n. Has table n anything) (sym pc) fits.start) held (nothing_holds image.regions ground start held) code whole;
     steps = λ refused w after known on before now keeps step.

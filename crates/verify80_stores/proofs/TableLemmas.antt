@@ -83,7 +83,7 @@ pub fits_program : (image : Located) (quiet : ℕ → Bool) (rows : List ProcRow
     KnowsQuiet quiet table → Fits quiet (code_of image) bytes table
 fits_program image quiet rows marks reached bytes table are whole rows_are marked start entries behind knows = record {
   start = start;
-  quiet = knows;
+  knows = knows;
   entries = λ place placed found there walk looked. entries place placed found there (here placed.at found looked (there_if_reached (code_of image) reached are placed.at walk));
   behind = λ at found walk looked entry calls returns.
       let there = there_if_reached (code_of image) reached are at walk in
@@ -98,7 +98,7 @@ fits_program image quiet rows marks reached bytes table are whole rows_are marke
 pub nothing_is_kept : (image : Located) (quiet : ℕ → Bool) (reached : List (Option Fetched)) (table : List Placed) → AreReached (code_of image) reached → length reached ≡ 65536 → Ground image.regions → MemoryKeepsItsLength →
     ((at : ℕ) → at < 65536 → SaysNothingAt table at) → All (λ placed. placed.state ≡ anything) table → IsKept image quiet table
 nothing_is_kept image quiet reached table are whole ground length_stays everywhere nothing = record {
-  quiet = λ k d inside. subst (λ (s : State). AreQuietCells quiet s.cells) (sym (nothing k d inside)) (none_quiet quiet);
+  knows = λ k d inside. subst (λ (s : State). AreQuietCells quiet s.cells) (sym (nothing k d inside)) (none_quiet quiet);
   starts = λ start pc code size held stands. here (world_of start) stands held code size;
   steps = λ refused w after known stands before now keeps step.
       here after stands now (code_stays image ground refused w.machine after.machine known.stands.found known.stands.fetched step keeps.code)

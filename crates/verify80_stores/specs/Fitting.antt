@@ -85,5 +85,5 @@ pub record Fits (quiet : ℕ → Bool) (code : Code) (bytes : List (Option ℕ))
   pub start : Has table code.start anything
   pub entries : (place : ℕ) (placed : Placed) (found : Fetched) → slice_get table place ≡ Some placed → IsReached code placed.at →
       code.look placed.at ≡ Ok found → FitsAt bytes (code.targets placed.at) table placed.state found
-  pub quiet : KnowsQuiet quiet table
+  pub knows : KnowsQuiet quiet table
   pub behind : (at : ℕ) (found : Fetched) → IsReached code at → code.look at ≡ Ok found → LeadsBehind (ReturnsSomewhere code) table found

@@ -43,7 +43,7 @@ pub record IsKnown (image : Located) (w : World) : Type 0 where
 
 -- each start keeps to a table, and each step of a known world that keeps to it
 pub record IsKept (image : Located) (quiet : ℕ → Bool) (table : List Placed) : Type 0 where
-  pub quiet : KnowsQuiet quiet table
+  pub knows : KnowsQuiet quiet table
   pub starts : (start : Machine) → start.cpu.pc ≡ image.start → HasCode image start.memory → length start.memory ≡ 65536 → HoldsBytes start → StandsOnWalk image (world_of start) →
       KeepsTo image table (world_of start)
   pub steps : (refused : Bool) (w after : World) → IsKnown image w → StandsOnWalk image after → HoldsBytes w.machine →

@@ -1,6 +1,7 @@
 //! Which addresses are quiet.
 
 ghost use Rattle.std.specs.Prelude.{◌≡◌, ℕ, IfOk, true};
+ghost use Rattle.image80.specs.Range.{in_ranges};
 ghost use Rattle.verify80_stores.specs.Boards.{is_quiet};
 ghost use Rattle.verify80_stores.specs.Returning.{is_marked};
 
@@ -30,5 +31,12 @@ pub(crate) fn mark_quiet(
 fn is_quiet(regions: &Regions, ranges: &[Range], at: u16) -> bool
     ensures { result ≡ is_quiet regions.now ranges.now at }
 {
-    regions.in_data(at) && ranges.iter().any(|range| range.contains(at))
+    regions.in_data(at) && are_around(ranges, at)
+}
+
+/// Whether an address is in one of the ranges.
+fn are_around(ranges: &[Range], at: u16) -> bool
+    ensures { result ≡ in_ranges ranges.now at }
+{
+    ranges.iter().any(|range| range.contains(at))
 }

@@ -2,7 +2,8 @@
 
 ghost use Rattle.std.specs.Prelude.{◌≡◌};
 ghost use Rattle.verify80_stores.specs.Following.{byte_at, code_or, known_word, loaded_at, loaded, loaded_word, moved, counted, resulted, tested, is_accumulator, operand_bytes, after_operation, added_carry, turned, exchanged_pairs, index_words, popped_to, registers_after, pushed_words, called, words_after, cells_after, state_after};
-ghost use Rattle.verify80_stores.specs.State.{compared_with};
+ghost use Rattle.verify80_stores.specs.Span.{uncarried};
+ghost use Rattle.verify80_stores.specs.State.{compared_with, with_outcome};
 
 use crate::spans::{ByteSpan, Outcome, Span, operated, rotated};
 use crate::states::cells::Cells;
@@ -112,6 +113,13 @@ fn tested(state: State) -> State
     }
 }
 
+/// A stays as it is, and Z, S and CY are those of its byte.
+fn unchanged(state: State) -> State
+    ensures { result ≡ tested (with_outcome state (uncarried state.a)) }
+{
+    tested(state.with_outcome(Outcome::uncarried(state.a)))
+}
+
 /// Whether an operand is A itself.
 fn is_accumulator(operand: Operand) -> bool
     ensures { result ≡ is_accumulator operand }
@@ -154,9 +162,7 @@ fn after_operation(operation: Operation, itself: bool, byte: ByteSpan, state: St
             compared: compared_with(byte),
             ..state.with_outcome(outcome)
         },
-        (Operation::And | Operation::Or, true) => {
-            tested(state.with_outcome(Outcome::uncarried(state.a)))
-        }
+        (Operation::And | Operation::Or, true) => unchanged(state),
         (Operation::ExclusiveOr | Operation::Subtract, true) => {
             tested(resulted(Outcome::uncarried(ByteSpan::alone(0)), state))
         }
