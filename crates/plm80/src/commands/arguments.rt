@@ -111,7 +111,7 @@ fn command_of(name: &str) -> Option<Syntax<'static>> {
 }
 
 /// What `--version` prints.
-const VERSION: &str = "1.1";
+const VERSION: &str = "1.2";
 
 /// The command of a command line, whose first argument is the program's own name, and whether its faults are explained.
 pub fn read_arguments<'a>(
