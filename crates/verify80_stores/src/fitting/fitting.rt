@@ -176,8 +176,8 @@ fn state_fits(
 }
 
 /// Whether a table of states fits a program that begins at `start`, of which these instructions are reached, by address, and whose
-/// procedures return at these marks, by entry; something is known of the bytes at quiet addresses alone. The first of the hints is that of the start; `behind` has by address the place of the
-/// state behind the call there.
+/// procedures return at these marks, by entry; something is known of the bytes at quiet addresses alone. The first of the hints is that
+/// of the start; `behind` has by address the place of the state behind the call there.
 pub(crate) fn fits(
     table: &[Placed],
     hints: &[u32],
@@ -196,10 +196,47 @@ pub(crate) fn fits(
     ensures behind { result ≡ true → (at : ℕ) (found : Fetched) → at < 65536 → reached_at reached.now at ≡ Some found →
         LeadsBehind (λ entry. is_marked returning.now entry ≡ true) table.now found }
 {
-    has(table, hints, 0, start, State::ANY)
-        && all_lead_behind(table, behind, returning, reached)
-        && all_fit(table, hints, code, regions, reached)
-        && all_know_quiet(table, quiet)
+    all_know_quiet(table, quiet)
+        && leads_on(
+            table, hints, behind, code, returning, start, regions, reached,
+        )
+}
+
+/// Whether the table has a state wherever the program begins, goes on and returns to.
+fn leads_on(
+    table: &[Placed],
+    hints: &[u32],
+    behind: &[u32],
+    code: &[Option<u8>],
+    returning: &[bool],
+    start: u16,
+    regions: &Regions,
+    reached: &[Option<Fetched>],
+) -> bool
+    ensures start { result ≡ true → Has table.now start anything }
+    ensures entries { result ≡ true → (place : ℕ) (placed : Placed) (found : Fetched) → slice_get table.now place ≡ Some placed →
+        reached_at reached.now placed.at ≡ Some found → FitsAt code.now (declared_targets regions.now placed.at) table.now placed.state found }
+    ensures behind { result ≡ true → (at : ℕ) (found : Fetched) → at < 65536 → reached_at reached.now at ≡ Some found →
+        LeadsBehind (λ entry. is_marked returning.now entry ≡ true) table.now found }
+{
+    all_lead_behind(table, behind, returning, reached)
+        && starts_and_goes_on(table, hints, code, start, regions, reached)
+}
+
+/// Whether the table has a state wherever the program begins and goes on to.
+fn starts_and_goes_on(
+    table: &[Placed],
+    hints: &[u32],
+    code: &[Option<u8>],
+    start: u16,
+    regions: &Regions,
+    reached: &[Option<Fetched>],
+) -> bool
+    ensures start { result ≡ true → Has table.now start anything }
+    ensures entries { result ≡ true → (place : ℕ) (placed : Placed) (found : Fetched) → slice_get table.now place ≡ Some placed →
+        reached_at reached.now placed.at ≡ Some found → FitsAt code.now (declared_targets regions.now placed.at) table.now placed.state found }
+{
+    has(table, hints, 0, start, State::ANY) && all_fit(table, hints, code, regions, reached)
 }
 
 /// Whether a table knows bytes of quiet addresses alone.
