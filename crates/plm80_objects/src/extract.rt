@@ -73,7 +73,7 @@ pub const EXTRACT: Syntax<'static> = Syntax {
 pub const FILL: Argument<'static> = Argument {
     name: "fill",
     kind: Kind::Number("FILL"),
-    help: "The byte where the image has none [default: 00]",
+    help: "The byte to take where the image has none [default: 00]",
 };
 
 impl<'a> ExtractArguments<'a> {

@@ -66,7 +66,7 @@ pub const LINK: Syntax<'static> = Syntax {
         Argument {
             name: "map",
             kind: Kind::Flag,
-            help: "Print where parts lie, and what needs unresolved names",
+            help: "Print where parts lie, and which modules need unresolved names",
         },
         Argument {
             name: "reasons",
