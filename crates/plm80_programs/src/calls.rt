@@ -15,7 +15,7 @@ pub struct CallsArguments<'a> {
     dot: bool,
 }
 
-const ABOUT: &str = "Verifies an image, and prints which procedure calls which, and how deep";
+const ABOUT: &str = "Verifies an image, and prints which procedure calls which, at what depth";
 
 const AFTER_HELP: &str = "\
 A line for main and for each procedure has the bytes of stack that it needs below

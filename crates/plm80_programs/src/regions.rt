@@ -11,7 +11,7 @@ pub struct RegionsArguments<'a> {
     new: &'a str,
 }
 
-const ABOUT: &str = "Writes a regions text as version 2, to which CASE lines can be added";
+const ABOUT: &str = "Converts a regions text to version 2, which may have CASE lines";
 
 const AFTER_HELP: &str = "\
 NEW has the regions of OLD, a text of version 1 or 2. To NEW lines CASE aaaa tttt ..

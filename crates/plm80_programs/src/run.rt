@@ -51,7 +51,7 @@ pub const RUN: Syntax<'static> = Syntax {
         Argument {
             name: "last",
             kind: Kind::Count("0"),
-            help: "Instructions to print before the last line, at most",
+            help: "Print the last N instructions before the last line",
         },
         Argument {
             name: "dump",
