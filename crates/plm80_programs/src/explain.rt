@@ -13,7 +13,8 @@ use verify80_explain::{append_chain, append_explanation, measure};
 /// much again for each declared target. So as many points as `check` follows, 262,144, each with its return address.
 const LIMIT: usize = 2_359_296;
 
-const ABOUT: &str = "Verifies an image as check does, and shows why it is refused, or what its bound is made of";
+const ABOUT: &str =
+    "Verifies an image as check does, and shows why it is refused, or what its bound is made of";
 
 const AFTER_HELP: &str = "\
 The first line is check's, and the exit status too. Then come the calls that
