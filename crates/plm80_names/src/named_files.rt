@@ -11,7 +11,7 @@ use plm80_console::{
 pub const NAMES: Argument<'static> = Argument {
     name: "names",
     kind: Kind::Flag,
-    help: "Print the names that the image has for addresses",
+    help: "Print the image's names for addresses",
 };
 
 /// The arguments of a command that reads an image and its regions, and may print names.

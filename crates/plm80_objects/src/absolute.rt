@@ -31,11 +31,11 @@ pub struct AbsoluteArguments<'a> {
 const ABOUT: &str = "Writes an image of raw bytes, such as a PROM's";
 
 const AFTER_HELP: &str = "\
-BIN has the bytes of the addresses from FIRST on, up to FFFF at most, and nothing
-else. Each --rom names another PROM by its address, an equals sign and its file,
-as --rom 1000=high.bin; no two may share an address. Addresses are one to four
-hexadecimal digits in either case, without h or 0x. suggest prints regions of the
-image to begin with, as docs/FIRMWARE.md shows in 'Absolute firmware'.
+BIN has the bytes from address FIRST on, up to FFFF at most, and nothing else.
+Each --rom names another PROM by its address, an equals sign and its file, as
+--rom 1000=high.bin; no two may share an address. Addresses are one to four
+hexadecimal digits in either case, without h or 0x. suggest prints regions of
+the image to begin with, as docs/FIRMWARE.md shows in 'Absolute firmware'.
 
 Example: plm80 absolute rom.bin rom.img --first 0 --start 0 --name ROM
 

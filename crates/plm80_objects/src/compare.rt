@@ -31,14 +31,14 @@ pub struct CompareArguments<'a> {
 const ABOUT: &str = "Prints where an image and a dump of a PROM differ";
 
 const AFTER_HELP: &str = "\
-DUMP has the bytes of the addresses from FIRST on. Each range of addresses at
-which the image has other bytes is a line: its first address, its length, and up
-to eight bytes of the image and of the dump, as in DIFFERS 0123 0002 3E05 3E07,
-all in hexadecimal. The last line counts the bytes that are the same, as in SAME
-2046 OF 2048. FILL, two hexadecimal digits, stands where the image has no byte.
+DUMP has the bytes from address FIRST on. Each range of addresses at which the
+image has other bytes is a line: its first address, its length, and up to eight
+bytes of the image and of the dump, as in DIFFERS 0123 0002 3E05 3E07, all in
+hexadecimal. The last line counts the bytes that are the same, as in SAME 2046
+OF 2048. Where the image has no byte, FILL is compared: two hexadecimal digits.
 
---names prints behind a range the name of its first address, as check does, but
-whatever the regions: that of the greatest public of the image at or below it.
+--names prints a name behind a range: the nearest public at or below its first
+address, as check does, whatever the regions.
 
 The exit status is 0 if all bytes are the same, 1 if some differ.
 

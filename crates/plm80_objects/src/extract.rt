@@ -27,12 +27,12 @@ pub struct ExtractArguments<'a> {
 const ABOUT: &str = "Writes the raw bytes of an image over a range";
 
 const AFTER_HELP: &str = "\
-OUT gets the bytes of the addresses from FIRST on, as many as LENGTH says, and
-nothing else, as a PROM programmer takes them; FILL where the image has none, as
-FF in an erased PROM. FIRST is one to four hexadecimal digits, LENGTH one to five,
-so that 10000 is all of memory, and FILL two, in either case, without h or 0x. The
-range ends at FFFF at the latest. --sum prints SUM and the sum of the bytes modulo
-65536, as SUM 1A2B.
+OUT gets LENGTH bytes from address FIRST on, and nothing else, as a PROM
+programmer takes them. Where the image has none it gets FILL, such as FF for an
+erased PROM. FIRST is one to four hexadecimal digits, LENGTH one to five, so
+that 10000 is all of memory, and FILL two, in either case, without h or 0x. The
+range ends at FFFF at the latest. --sum prints SUM and the sum of the bytes
+modulo 65536, as SUM 1A2B.
 
 Example: plm80 extract readings.img readings.bin --first 3000 --length 0800
 
@@ -73,7 +73,7 @@ pub const EXTRACT: Syntax<'static> = Syntax {
 pub const FILL: Argument<'static> = Argument {
     name: "fill",
     kind: Kind::Number("FILL"),
-    help: "The byte where the image has none [default: 00]",
+    help: "The byte to take where the image has none [default: 00]",
 };
 
 impl<'a> ExtractArguments<'a> {

@@ -27,13 +27,13 @@ pub struct FindArguments<'a> {
 const ABOUT: &str = "Prints where modules lie in a dump of a PROM";
 
 const AFTER_HELP: &str = "\
-DUMP has the bytes of the addresses from FIRST on. For each place at which it has
-all bytes of a module's code there is a line: address, length of CODE, name, and
-the bases of its segments, of STACK the address after it (TOP), as far as only one
-is possible; and below it the addresses of the names that it needs. MORE counts
-further places than 16, MISSING is for a module that has none, SHORT for one with
-fewer than four bytes outside fixups. Of a library only the modules that are found
-are printed, and how many are not.
+DUMP has the bytes from address FIRST on. For each place at which it has all
+bytes of a module's code there is a line: address, length of CODE, name, and the
+base of each segment if only one is possible (for STACK the address after it,
+TOP); below it are the addresses of the names that it needs. MORE counts the
+places after the first 16, MISSING names a module that has none, SHORT one with
+fewer than four bytes outside fixups. Of a library only the modules that are
+found are printed, and the number of the others.
 
 The exit status is 0 if no module of an object file is missing, else 1.
 

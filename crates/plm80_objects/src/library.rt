@@ -18,12 +18,12 @@ pub struct LibraryArguments<'a> {
 const ABOUT: &str = "Writes a library of all modules of object files, in order";
 
 const AFTER_HELP: &str = "\
-OUT comes first, and is replaced. With OUT forgotten that is the first object
-file: it is kept beside the library as OUT~ (OUT~1, OUT~2 .. if that exists).
+OUT comes first, and is replaced. If you forget it, the first object file is: a
+copy is kept beside it as OUT~ (OUT~1, OUT~2 .. if that exists).
 
 The library has the modules of the first file, then those of the second, and so
-on, with an index of their names, places and public names. It is written only if
-every file could be read.
+on, with an index of their names, places and public names. If a file can't be
+read, nothing is written.
 
 Example: plm80 lib routines.lib routines.obj
 

@@ -32,16 +32,15 @@ const ABOUT: &str = "Links modules of object files and libraries into one";
 
 const AFTER_HELP: &str = "\
 A file whose first byte is 2C is a library, any other an object file. All
-modules of the object files are linked, in order, and after them the library
-modules that declare a name which is needed: of several, the first one.
+modules of the object files are linked, in order, and then the library modules
+that declare a needed name; if several do, the first one.
 
 It prints TAKEN and a name for each module that is taken from a library, and
 UNRESOLVED and a name for each name that no module declares. With --reasons,
-TAKEN also has the name it is taken FOR, the nearest module BY which that is
-needed, and the library's file. With --map, UNRESOLVED has a line for each
-module that needs the name, and PART lines follow: offset in the linked
-segment, length, segment, and module. The object file is written only if there
-is no fault.
+TAKEN also gives the name it is taken FOR, the nearest module that needs it
+(BY), and the library's file (FROM). With --map, UNRESOLVED has a line for each
+module that needs the name, and PART lines follow: offset in the linked segment,
+length, segment, and module. If there is a fault, no file is written.
 
 Example: plm80 link --name CONTROL --out linked.obj main.obj routines.lib
 
@@ -66,7 +65,7 @@ pub const LINK: Syntax<'static> = Syntax {
         Argument {
             name: "map",
             kind: Kind::Flag,
-            help: "Print where parts lie, and what needs unresolved names",
+            help: "Print where parts lie, and which modules need unresolved names",
         },
         Argument {
             name: "reasons",

@@ -43,10 +43,10 @@ in either case, without h or 0x. The three paths must differ.
 Segments are placed in the order CODE, STACK, named commons, unnamed common,
 DATA, MEMORY. One with a base is placed there; any other begins where the one
 before it ends, rounded up to a multiple of 100h if it is paged. Relocations add
-the base of their segment, those to STACK the address after its last byte.
+the base of their segment; those to STACK add the address after its last byte.
 
 --restart puts a JMP to the program's start at address 0, where the processor
-begins; nothing else may have the addresses 0000 to 0002.
+begins; nothing else may occupy 0000 to 0002.
 
 --publics keeps the module's public names in the image, each at its address, for
 the commands that take --names.

@@ -30,11 +30,10 @@ pub struct MapArguments<'a> {
 const ABOUT: &str = "Prints where a module's segments and public names would be placed";
 
 const AFTER_HELP: &str = "\
-Give the same options as to locate, but for --restart; the faults are the same,
-and no file is written. Each segment has a line: its name, its first address and
-its length, and behind them the name of a named common, as in COMMON 3100 0010
-TABLE. Then come the public names by address, as in 3040 LIMIT. All numbers are
-hexadecimal.
+It takes locate's options except --restart and --publics, and reports the same
+faults; it writes no file. Each segment has a line with its first address, its
+length and the name of a named common, as in COMMON 3100 0010 TABLE. Then come
+the public names by address, as in 3040 LIMIT. All numbers are hexadecimal.
 
 Example: plm80 map control.obj --data 4000
 

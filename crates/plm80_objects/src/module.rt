@@ -24,8 +24,8 @@ Each module has a line MODULE with its name. Then come its segments with their
 lengths, PAGED if a segment begins at a multiple of 256; the names that it
 declares, each with its segment and offset; the names that it NEEDS; its
 contents, each with segment, offset and number of bytes; and its START, if it is
-a main program. Numbers are hexadecimal. A named common has its name behind its
-numbers, as in COMMON 0010 TABLE.
+a main program. Numbers are hexadecimal. The name of a named common comes after
+its numbers, as in COMMON 0010 TABLE.
 
 Example: plm80 module readings.obj
 

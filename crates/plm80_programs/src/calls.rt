@@ -15,17 +15,17 @@ pub struct CallsArguments<'a> {
     dot: bool,
 }
 
-const ABOUT: &str = "Verifies an image, and prints which procedure calls which, and how deep";
+const ABOUT: &str = "Verifies an image, and prints which procedure calls which, at what depth";
 
 const AFTER_HELP: &str = "\
-A line for main and for each procedure has the bytes of stack that it needs below
-its return address (BOUND). Below it is a line for each of its calls: where it
-stands (AT), the bytes that the procedure has on the stack there (DEPTH), what it
-calls, and the bytes that the call needs, its return address included (NEEDS). The
-bound is the greatest depth plus needs. With --dot it is a graph for Graphviz: in
-bold the calls of which the main program's bound is made. --names prints behind
-a procedure its name, as check does, and behind a call that of its target; in a
-graph they stand in the labels.
+Main and each procedure have a line with the bytes of stack that they need below
+the return address (BOUND). Below it is a line for each of its calls: where it
+stands (AT), the bytes that the procedure has on the stack there (DEPTH), what
+it calls, and the bytes that the call needs, its return address included
+(NEEDS). The bound is the greatest depth plus needs. --dot prints a graph for
+Graphviz; the chain that gives the main program's bound is bold. --names prints
+behind a procedure its name, as check does, and behind a call that of its
+target; in a graph names are in the labels.
 
 Example: plm80 calls readings.img readings.regions
 

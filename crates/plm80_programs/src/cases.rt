@@ -20,13 +20,14 @@ pub struct CasesArguments<'a> {
 const ABOUT: &str = "Prints the CASE lines that an image's jump tables suggest";
 
 const AFTER_HELP: &str = "\
-For each PCHL that the program may reach and no CASE line names there is a line
-CASE aaaa tttt ..: its address, and the addresses in the table that its target
-is loaded from, as PL/M compiles DO CASE, or of the JMPs in the table to which it
-goes. The lines are advice: with --out NEW the regions are also written to NEW with
-the lines added, as a text of version 2; NEW may be REGIONS itself. Then check the
-image. A PCHL for which no table is seen, or that returns, has a line on standard
-error, and the status is 1; so has, with status 0, a table whose end is a guess.
+Each PCHL that the program may reach and that no CASE line names has a line CASE
+aaaa tttt ..: its address, and its targets. They are the addresses in the table
+from which its target is loaded, as PL/M compiles DO CASE, or those of the JMPs
+in the table to which it goes. The lines are advice: with --out NEW the regions
+are also written to NEW with the lines added, as a text of version 2; NEW may be
+REGIONS itself. Then check the image. If no table is seen for a PCHL, or it
+returns, a line on standard error says so, and the status is 1. A table whose
+end is guessed also gets a line; the status stays 0.
 
 Example: plm80 cases adder.img adder.regions --out adder.regions
 

@@ -13,10 +13,9 @@ from beneath its return address when it returns (TAKES), and at most on any path
 (WANTS); the bytes of stack that it needs below its return address (BOUND); and
 whether it returns (RETURNS or NEVER).
 
---names prints behind a procedure, and behind a refusal, the name of the address:
-that of the greatest public of the image at or below it in the same range of
-code, and how far it is above it, as in SCALE+22, in hexadecimal. The image has
-names if it was located with --publics.
+--names prints a name behind a procedure or a refusal: the nearest public at or
+below the address, in the same range of code, and the distance in hexadecimal,
+as in SCALE+22. An image has names if it was located with --publics.
 
 Example: plm80 check readings.img readings.regions
 

@@ -20,11 +20,11 @@ pub struct CoverArguments<'a> {
 const ABOUT: &str = "Verifies an image and runs it: prints how often it began each instruction";
 
 const AFTER_HELP: &str = "\
-Each instruction that the program may reach has a line, as list prints it,
-with the number of times that the run began it, or - if it never did. Its other
-code is data, eight bytes a line. The last line has the number of instructions
-that were begun, and that of all. How the run ends doesn't count: the exit
-status is 0, or 1 if the image is refused. --names prints names as list does.
+Each instruction that the program may reach has a line, as list prints it, with
+the number of times that the run began it, or - if it never did. Its other code
+is data, eight bytes a line. The last line counts the instructions that the run
+began, of all. The exit status is 0 however the run ends, or 1 if the image is
+refused. --names prints names as list does.
 
 Example: plm80 cover readings.img readings.regions readings.inputs
 

@@ -13,24 +13,24 @@ use verify80_explain::{append_chain, append_explanation, measure};
 /// much again for each declared target. So as many points as `check` follows, 262,144, each with its return address.
 const LIMIT: usize = 2_359_296;
 
-const ABOUT: &str = "Verifies an image as check does, and shows why it is refused";
+const ABOUT: &str =
+    "Verifies an image as check does, and shows why it is refused, or what its bound is made of";
 
 const AFTER_HELP: &str = "\
-The first line is check's, and the exit status too. Then come the calls that
+The first line and the exit status are those of check. Then come the calls that
 lead to the procedure of the fault, and the way through it: a line for each
 instruction, as list prints it, with the words that the procedure has on the
 stack before it, bottom to top. RET is its own return address, .. any word;
 BC=RET, DE=RET or HL=RET is a pair that holds its return address; TAKEN n counts
-words that it has taken from beneath its return address. Where two ways
-disagree, both are shown, under ONE WAY and ANOTHER, and those of a procedure
-that takes more words than its caller pushed under CALLER and CALLEE. Of a
-program that is accepted, or whose stack is too small, it shows the chain of
-calls that needs most: the bytes that each procedure HAS on the stack, and two
-more for each call. Where the stack is too small, check's line for each procedure
-comes first.
+words that it has taken from beneath its return address. If two ways disagree,
+both are shown, under ONE WAY and ANOTHER; if a procedure takes more words than
+its caller pushed, under CALLER and CALLEE. Of a program that is accepted, or
+whose stack is too small, it shows the chain of calls that needs most: the bytes
+that each procedure HAS on the stack, and two more for each call. Where the
+stack is too small, check's line for each procedure comes first.
 
---names prints names as check and list do: behind a call that of its target,
-behind the last line of a chain that of the address.
+--names prints names as check and list do: behind a call its target's, behind
+the last line of a chain the address's.
 
 Example: plm80 explain readings.img readings.regions
 

@@ -15,10 +15,10 @@ pub struct InputsArguments<'a> {
 const ABOUT: &str = "Writes an inputs text from words, with repetitions";
 
 const AFTER_HELP: &str = "\
-A WORD is a port, an equals sign and items with commas between them: 02=3*2A,00. A
-port and a byte are two hexadecimal digits; an item is a byte, or how many times
-it waits, in decimal, a star and the byte. Words of one port follow one another.
-OUT is replaced, and written only if each word could be read.
+A WORD is a port, an equals sign and items separated by commas: 02=3*2A,00.
+Ports and bytes are two hexadecimal digits. An item is a byte, or a decimal
+count, a star and the byte. The bytes of several words for one port follow one
+another. OUT is replaced only if every word can be read.
 
 Example: plm80 inputs polled.inputs 02=3*2A,00 10=5000*00
 

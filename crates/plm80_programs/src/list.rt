@@ -23,13 +23,13 @@ Each range of code is listed from its first byte on: the address, the bytes and
 the text of each instruction, in hexadecimal. A byte that begins no instruction,
 or whose instruction leaves the range, has a line of its own with the text ??.
 
-With --reached the image is verified first, as by check. Then each instruction to
-which the program may come has a line, and its other code is data, eight bytes a
-line: so a table takes no instruction with it. A refusal is printed alone, and the
-exit status is 1.
+With --reached the image is verified first, as by check. Then each instruction
+that the program may reach has a line, and the rest of CODE is data, eight bytes
+a line, so a table doesn't garble the code after it. A refusal is printed alone,
+with exit status 1.
 
---names prints before an instruction, on a line of its own, the name of the first
-public of the image that is at its address.
+--names prints before an instruction, on a line of its own, the first public at
+its address.
 
 Example: plm80 list readings.img readings.regions
 

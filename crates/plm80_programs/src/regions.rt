@@ -11,12 +11,12 @@ pub struct RegionsArguments<'a> {
     new: &'a str,
 }
 
-const ABOUT: &str = "Writes a regions text as version 2, to which CASE lines can be added";
+const ABOUT: &str = "Converts a regions text to version 2, which may have CASE lines";
 
 const AFTER_HELP: &str = "\
-NEW has the regions of OLD, a text of version 1 or 2. To NEW lines CASE aaaa tttt ..
-can be added: the addresses tttt that the PCHL at aaaa, the jump of a PL/M DO
-CASE, may go to. NEW is written only if OLD could be read, and may be OLD itself.
+NEW gets the regions of OLD, a text of version 1 or 2, as version 2. Lines CASE
+aaaa tttt .. can be added to it: the targets of the PCHL at aaaa, the jump of a
+PL/M DO CASE. If OLD can't be read, nothing is written. NEW may be OLD itself.
 
 Example: plm80 regions readings.regions readings.regions2
 

@@ -22,16 +22,15 @@ const ABOUT: &str = "Verifies an image and runs it: prints the transcript, or th
 const AFTER_HELP: &str = "\
 N is a decimal number, at most 18446744073709551615. A line of INPUTS is a port,
 a blank and the bytes that the program reads there, all of two hexadecimal
-digits, as in 02 41FF; an empty file is no input.
+digits, as in 02 41FF; an empty file means no input.
 
-The transcript is printed when the run has ended: a line for the bytes of stack
-that the program needs, a line for each byte that it writes to a port, and a
-line for how it ended and after how many steps. --last prints the last N
-instructions before that line, as trace does but for the number: the last one is
-the one that ended the run, or the next one if the steps were used up. --dump
-writes the memory that the run leaves, 65536 bytes. --names prints names as
-check and list do: before an instruction the one at its address, behind the last
-line that of its address.
+When the run has ended, its transcript is printed: the bytes of stack that the
+program needs, each byte that it writes to a port, and how it ended, after how
+many steps. Before the last line, --last prints the last N instructions as trace
+does, without numbers: the last one ended the run, or comes next if the steps
+were used up. --dump writes the memory that the run leaves, 65536 bytes. --names
+prints names as check and list do: before an instruction the one at its address,
+behind the last line that of its address.
 
 Example: plm80 run readings.img readings.regions readings.inputs --steps 5000
 
@@ -51,7 +50,7 @@ pub const RUN: Syntax<'static> = Syntax {
         Argument {
             name: "last",
             kind: Kind::Count("0"),
-            help: "Instructions to print before the last line, at most",
+            help: "Print the last N instructions before the last line",
         },
         Argument {
             name: "dump",

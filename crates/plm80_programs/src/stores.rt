@@ -12,15 +12,15 @@ use verify80_stores::{Stores, find_stores, stores_text};
 const ABOUT: &str = "Verifies an image, and prints its stores that may leave data";
 
 const AFTER_HELP: &str = "\
-On a board nothing stops a store through BC, DE or HL that leaves data. The first
-line says how many of these stores (MOV M,r, MVI M, INR M, DCR M, STAX) are shown
-to stay in data, whatever the program reads and finds in memory, as long as none
-has left it. Then comes a line for each other one: its address, the instruction,
-and the first and the last address that it may have; it may be harmless. If there
-is a PCHL, a second line says how many of them are shown to go to a declared
-target, and a line JUMP is for each other one. What no procedure reaches is left
-out. A line SP NOT SET says that SP must be at the stack's top before the program
-begins, since it may use SP before an LXI SP of its own sets it.
+On a board nothing stops a store through BC, DE or HL that leaves data. The
+first line counts the stores (MOV M,r, MVI M, INR M, DCR M, STAX) that are shown
+to stay in data, whatever the program reads and finds in memory, until a store
+leaves it. Each other store has a line: its address, the instruction, and the
+first and the last address that it may have. It may be harmless. If there is a
+PCHL, a second line counts those that are shown to go to a declared target; each
+other one has a line JUMP. What no procedure reaches is left out. A line SP NOT
+SET says that SP must be at the stack's top before the program begins, since it
+may use SP before an LXI SP of its own sets it.
 
 Devices may write to data at any time, so what a program keeps there isn't
 believed. --quiet-ram names addresses of data to which only the program writes: a

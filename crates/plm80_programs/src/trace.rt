@@ -25,10 +25,10 @@ const ABOUT: &str = "Verifies an image and runs it: prints its instructions, wit
 const AFTER_HELP: &str = "\
 Each instruction has a line: the number of the steps before it, the instruction
 as list prints it, and the registers before it, F being the flags byte. IN and
-OUT show the byte, as in IN 02=41; an IN for which no byte waits shows none. The
-lines begin after --from steps, and are printed as they come. If the run ends
-before they are as many as --count says, run's last line follows, and the exit
-status is run's; else it is 0.
+OUT show the byte, as in IN 02=41; an IN shows no byte if none waits. Lines
+begin after --from steps and are printed as they come. If the run ends within
+--count lines, run's last line follows, and the exit status is run's; otherwise
+it is 0.
 
 --names prints names as run does.
 

@@ -47,9 +47,9 @@ const ABOUT: &str = "Links, locates, verifies and runs 8080 programs from OMF-80
 const AFTER_HELP: &str = "\
 Without arguments it reads a bundle from standard input (an image in
 hexadecimal, its regions, a line INPUTS, its inputs) and prints the transcript
-of its run. With --why, alone or of a command, it says below a fault what is
-wrong; so it does without it if PLM80_WHY=1 is in the environment. Files have at
-most 1048576 bytes, a bundle 4194312.
+of its run. --why, alone or after a command, explains a fault below its line;
+PLM80_WHY=1 in the environment does the same. Files have at most 1048576 bytes,
+a bundle 4194312.
 
 The exit status is 0 if the command is done or the program halted, 1 if the
 verifier refuses the program, or as the help of stores, cases and compare says,
