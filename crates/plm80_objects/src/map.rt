@@ -31,9 +31,10 @@ const ABOUT: &str = "Prints where a module's segments and public names would be 
 
 const AFTER_HELP: &str = "\
 It takes locate's options except --restart and --publics, and reports the same
-faults; it writes no file. Each segment has a line with its first address, its
-length and the name of a named common, as in COMMON 3100 0010 TABLE. Then come
-the public names by address, as in 3040 LIMIT. All numbers are hexadecimal.
+faults; it writes no file. Each segment has a line with its name, its first
+address, its length and the name of a named common, as in COMMON 3100 0010
+TABLE. Then come the public names by address, as in 3040 LIMIT. All numbers are
+hexadecimal.
 
 Example: plm80 map control.obj --data 4000
 

@@ -13,8 +13,7 @@ use verify80_explain::{append_chain, append_explanation, measure};
 /// much again for each declared target. So as many points as `check` follows, 262,144, each with its return address.
 const LIMIT: usize = 2_359_296;
 
-const ABOUT: &str =
-    "Verifies an image as check does, and shows why it is refused, or what its bound is made of";
+const ABOUT: &str = "Verifies an image as check does, and shows why it is refused";
 
 const AFTER_HELP: &str = "\
 The first line and the exit status are those of check. Then come the calls that
