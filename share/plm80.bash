@@ -13,7 +13,7 @@ _plm80() {
     fi
     case $before in
         --name | --code | --stack | --common | --data | --memory | --stack-size | --memory-size | --steps | --outputs | --first | \
-            --length | --start | --fill | --last | --from | --count | --rom-range | --ram-range)
+            --length | --start | --fill | --last | --from | --count | --rom-range | --ram-range | --quiet-ram)
             return
             ;;
     esac
@@ -34,7 +34,8 @@ _plm80() {
         suggest) options='--rom-range --ram-range --why -h --help' ;;
         find) options='--first --why -h --help' ;;
         lib | regions | inputs | module) options='--why -h --help' ;;
-        check | explain | stores) options='--names --why -h --help' ;;
+        check | explain) options='--names --why -h --help' ;;
+        stores) options='--names --quiet-ram --why -h --help' ;;
         list) options='--reached --names --why -h --help' ;;
         cases) options='--out --why -h --help' ;;
         calls) options='--dot --names --why -h --help' ;;
