@@ -1,4 +1,4 @@
--- On a board each world keeps to the table of pairs, so its stores go as they are listed.
+-- On a board each world keeps to the table of states, so its stores go as they are listed.
 use Rattle.std.specs.Prelude.{◌≡◌, ◌≢◌, ◌⊎◌, ◌&&◌, ℕ, Bool, true, false, not, List, [], All, Any, Contains, Option, None, Some, length, refl}
 use Rattle.std.specs.Option.{option_map_or}
 use Rattle.std.proofs.Common.{◌∙◌, subst, sym, ap, inl, inr, get_or, true≢false}
@@ -9,10 +9,10 @@ use Rattle.decode80.specs.declared.fetching.Fetched.{Fetched}
 use Rattle.image80.specs.declared.range.Range.{Range}
 use Rattle.image80.specs.Regions.{Areas, in_data, targets_at}
 use Rattle.image80.specs.Image.{Located}
-use Rattle.machine80.specs.Effects.{pointed_bytes}
+use Rattle.machine80.specs.Effects.{pointed_bytes, target}
 use Rattle.machine80.specs.Cpu.{hl_of}
 use Rattle.machine80.specs.Step.{Machine, leads_outside}
-use Rattle.machine80.specs.World.{World, places_after}
+use Rattle.machine80.specs.World.{World, IsNewest, fetched_by, places_after, places_then, returns}
 use Rattle.machine80.specs.Run.{world_of}
 use Rattle.verify80.specs.Looking.{code_of, declared_targets, is_pchl}
 use Rattle.verify80.specs.Starts.{NeverGoesWrongFromPowerOn}
@@ -22,17 +22,19 @@ use Rattle.verify80_calls.specs.Reached.{AreReached}
 use Rattle.verify80_stores.specs.declared.spans.span.Span.{Span}
 use Rattle.verify80_stores.specs.declared.fitting.fitting.Placed.{Placed}
 use Rattle.verify80_stores.specs.Bytes.{HoldsBytes, BytesStayBytes}
-use Rattle.verify80_stores.specs.Runs.{KeepsTo, RunsKeepTo, IsKnown, IsKept}
+use Rattle.verify80_stores.specs.Runs.{KeepsTo, KeepsToCalls, RunsKeepTo, IsKnown, IsKept}
 use Rattle.verify80_stores.specs.declared.stores.OpenStore.{OpenStore}
 use Rattle.verify80_stores.specs.Pointers.{stores_by_pair}
 use Rattle.verify80_stores.specs.Stores.{GoesAsListed}
 use Rattle.verify80_stores.specs.Steps.{HasCode}
 use Rattle.verify80_stores.specs.Listing.{AreKnown, AreAllBelow, AreOpenBelow, AreOpenMarks, AreSpans, is_at, is_marked_at}
 use Rattle.verify80_stores.specs.Fitting.{KnowsQuiet}
+use Rattle.verify80_stores.specs.Calls.{Effects, Owes}
 use Rattle.verify80_stores.specs.Boards.{IsListedAt, KeepsWholePromise, PromiseHoldsOnBoards, PromiseHoldsOnQuietBoards, StaysQuiet, OnQuietBoard, is_quiet}
 use Rattle.verify80_stores.specs.Boards.{begins as begins_quiet, disturbed as disturbed_quiet, executed as executed_quiet}
 use Rattle.verify80_stores.proofs.MemoryLemmas.{Ground, words_stay}
 use Rattle.verify80_stores.proofs.CellLemmas.{cells_beside}
+use Rattle.verify80_stores.proofs.CallLemmas.{owes_still}
 use Rattle.verify80_stores.proofs.KeepLemmas.{known_there}
 use Rattle.verify80_stores.proofs.StoreLemmas.{any_by, goes_if, jump_there, listed_or_not}
 
@@ -61,7 +63,13 @@ starts_with : (image : Located) (start : Machine) → MayStart image start → H
 starts_with image start (inl is) = (is.code, is.whole)
 starts_with image start (inr sets) = (sets.code, sets.whole)
 
--- what devices write leaves the words on the stack, the code and what is known of quiet addresses
+-- what devices write leaves what is owed to open calls
+disturbed_owes : (image : Located) (quiet : ℕ → Bool) (effects : Effects) (table : List Placed) (w : World) (memory : List ℕ) → LeavesProgram image.regions w.machine.memory memory → StaysQuiet quiet w.machine.memory memory →
+    Owes effects quiet table w.machine.memory (effects.stored w.machine.cpu.pc) (effects.returning w.machine.cpu.pc) w.places → Owes effects quiet table memory (effects.stored w.machine.cpu.pc) (effects.returning w.machine.cpu.pc) w.places
+disturbed_owes image quiet effects table w memory leaves stays owes =
+    owes_still effects quiet table w.machine.memory memory (effects.stored w.machine.cpu.pc) (effects.returning w.machine.cpu.pc) w.places leaves.bytes (λ a here none. stays a here) owes
+
+-- and the words on the stack, the code and what is known of quiet addresses
 disturbed_keeps : (image : Located) (ground : Ground image.regions) (quiet : ℕ → Bool) (table : List Placed) (w : World) (memory : List ℕ) → KnowsQuiet quiet table → LeavesProgram image.regions w.machine.memory memory →
     StaysQuiet quiet w.machine.memory memory → KeepsTo image table w → KeepsTo image table (with_memory w memory)
 disturbed_keeps image ground quiet table w memory knows leaves stays k = record {
@@ -94,7 +102,7 @@ module _ (image : Located) (bytes : ℕ) (reached : List (Option Fetched)) (tabl
   -- a world of the board, at which each step so far has stayed inside
   record Stands (w : World) : Type 0 where
     on : OnBoard image.regions Anywhere start w
-    keeps_to : KeepsTo image table w
+    keeps_calls : KeepsToCalls image quiet kept.effects table w
     held : HoldsBytes w.machine
 
   promise_of : (w : World) → Stands w → KeepsPromise image bytes w
@@ -106,7 +114,7 @@ module _ (image : Located) (bytes : ℕ) (reached : List (Option Fetched)) (tabl
   goes_listed : (w : World) (s : Stands w) → All (GoesAsListed image.regions stores w.machine.cpu.pc) (pointed_bytes (promise_of w s).found.instr w.machine.cpu.registers)
   goes_listed w s k d inside =
       let p = promise_of w s in
-      goes_if image bytes reached table marks spans addresses stores jumps open_jumps sound walks are whole keeps are_marks are_spans each_store open_below each_jump each_open_jump w p.found (stands_of w s) s.keeps_to p.inside
+      goes_if image bytes reached table marks spans addresses stores jumps open_jumps sound walks are whole keeps are_marks are_spans each_store open_below each_jump each_open_jump w p.found (stands_of w s) s.keeps_calls.keeps p.inside
       (get_or (pointed_bytes p.found.instr w.machine.cpu.registers) k d) (Contains-get_or (pointed_bytes p.found.instr w.machine.cpu.registers) k d inside)
 
   -- a step that isn't listed stays inside, and one that is does so by the premise
@@ -131,11 +139,17 @@ module _ (image : Located) (bytes : ℕ) (reached : List (Option Fetched)) (tabl
       jumps = λ is.
           let p = promise_of w s in
           let jump : is_pchl p.found.instr ≡ true = is_jump p.found.instr (ap (λ (x : Fetched). x.instr) same ∙ is) in
-          jumps_inside is (jump_there image bytes reached table marks spans addresses stores jumps open_jumps sound walks are whole keeps are_marks are_spans each_store open_below each_jump each_open_jump w p.found (stands_of w s) s.keeps_to p.inside jump);
+          jumps_inside is (jump_there image bytes reached table marks spans addresses stores jumps open_jumps sound walks are whole keeps are_marks are_spans each_store open_below each_jump each_open_jump w p.found (stands_of w s) s.keeps_calls.keeps p.inside jump);
     }
 
     abbrev anywhere : Executes image.regions Anywhere w v
     anywhere = record { found = e.found; byte = e.byte; after = e.after; fetched = e.fetched; small = e.small; inside = λ listed. stays; goes = e.goes; is = e.is }
+
+    newest : (found : Fetched) → fetched_by image.regions w ≡ Some found → returns found.instr w.machine.cpu.registers.flags ≡ true → IsNewest (target found.instr found.next w.machine.memory w.machine.cpu) w.places
+    newest found fetched taken =
+        let p = promise_of w s in
+        let one : p.found ≡ found = (let f : fetched_by image.regions w ≡ Some p.found = p.inside in cc) in
+        subst (λ (x : Fetched). returns x.instr w.machine.cpu.registers.flags ≡ true → IsNewest (target x.instr x.next w.machine.memory w.machine.cpu) w.places) one p.returning taken
 
     goes_on : Stands v
     goes_on =
@@ -152,37 +166,48 @@ module _ (image : Located) (bytes : ℕ) (reached : List (Option Fetched)) (tabl
         let p = promise_of w s in
         let known_here : IsKnown image u = record {
           stands = record { reached = walk.stands.reached; found = walk.stands.found; looked = walk.stands.looked; fetched = walk.stands.fetched };
-          returning = λ found fetched taken. walk.returning found fetched taken;
+          returning = λ found fetched taken. newest found fetched taken;
           inside = record { found = p.found; fetched = p.inside; direct = p.direct; declared = p.declared };
         } in
-        let k = s.keeps_to in
-        let keeps_here : KeepsTo image table u = record {
-          place = k.place;
-          placed = k.placed;
-          there = k.there;
-          at = k.at;
-          holds = record { registers = k.holds.registers; words = k.holds.words; cells = k.holds.cells };
-          code = k.code;
-          whole = k.whole;
+        let k = s.keeps_calls.keeps in
+        let keeps_here : KeepsToCalls image quiet kept.effects table u = record {
+          keeps = record {
+            place = k.place;
+            placed = k.placed;
+            there = k.there;
+            at = k.at;
+            holds = record { registers = k.holds.registers; words = k.holds.words; cells = k.holds.cells };
+            code = k.code;
+            whole = k.whole;
+          };
+          owes = s.keeps_calls.owes;
         } in
         let stands_there : StandsOnWalk image there = stands_so image g.there places w.machine.inputs w.machine.outputs (subst (StandsOnWalk image) v_is (known.boards start is_start v on).stands) in
-        let keeps_there : KeepsTo image table there = kept.steps false u there known_here stands_there held held_there keeps_here g.step in
+        let newer : places ≡ places_then (fetched_by image.regions w) w.machine.cpu.registers.flags w.places =
+        ap (λ (f : Fetched). places_then (Some f) w.machine.cpu.registers.flags w.places) (sym same) ∙ sym (ap (λ (o : Option Fetched). places_then o w.machine.cpu.registers.flags w.places) p.inside) in
+        let keeps_there : KeepsToCalls image quiet kept.effects table there = kept.steps false u there known_here stands_there held held_there keeps_here g.step newer in
         record {
           on = on;
-          keeps_to = subst (KeepsTo image table) (sym v_is) (keeps_so image table g.there places w.machine.inputs w.machine.outputs keeps_there);
+          keeps_calls = subst (KeepsToCalls image quiet kept.effects table) (sym v_is) (record {
+            keeps = keeps_so image table g.there places w.machine.inputs w.machine.outputs keeps_there.keeps;
+            owes = keeps_there.owes;
+          });
           held = subst (λ (x : World). HoldsBytes x.machine) (sym v_is) (record { registers = held_there.registers; memory = held_there.memory; inputs = s.held.inputs });
         }
 
   always : (w : World) → OnQuietBoard image.regions quiet (IsListedAt stores open_jumps) start w → Stands w
   always w (begins_quiet _ is) =
       let on : OnBoard image.regions Anywhere start (world_of start) = begins (world_of start) refl in
-      subst Stands (sym is) (record { on = on; keeps_to = kept.starts start (starts_at image start is_start) (starts_with image start is_start).0 (starts_with image start is_start).1 start_bytes (known.boards start is_start (world_of start) on).stands; held = start_bytes })
+      subst Stands (sym is) (record { on = on; keeps_calls = kept.starts start (starts_at image start is_start) (starts_with image start is_start).0 (starts_with image start is_start).1 start_bytes (known.boards start is_start (world_of start) on).stands; held = start_bytes })
   always w (disturbed_quiet v _ on by stays) =
       let s = always v on in
       let moved : OnBoard image.regions Anywhere start w = disturbed v w s.on by in
       record {
         on = moved;
-        keeps_to = subst (KeepsTo image table) (sym by.is) (disturbed_keeps image ground quiet table v by.memory kept.knows by.leaves stays s.keeps_to);
+        keeps_calls = subst (KeepsToCalls image quiet kept.effects table) (sym by.is) (record {
+          keeps = disturbed_keeps image ground quiet table v by.memory kept.knows by.leaves stays s.keeps_calls.keeps;
+          owes = disturbed_owes image quiet kept.effects table v by.memory by.leaves stays s.keeps_calls.owes;
+        });
         held = subst (λ (x : World). HoldsBytes x.machine) (sym by.is) (record { registers = s.held.registers; memory = by.leaves.bytes; inputs = s.held.inputs });
       }
   always w (executed_quiet v _ on by) = goes_on v w (always v on) by

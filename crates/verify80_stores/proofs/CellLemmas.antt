@@ -29,7 +29,7 @@ use Rattle.verify80_stores.specs.declared.states.state.State.{State}
 use Rattle.verify80_stores.specs.Bytes.{IsByte, HasBytes, AreBytes}
 use Rattle.verify80_stores.specs.Span.{Within, ByteWithin, any_byte, byte_alone, word_alone, is_alone, next_byte, previous_byte}
 use Rattle.verify80_stores.specs.Span.{high_of as high_bytes}
-use Rattle.verify80_stores.specs.Cells.{HoldsCell, HoldsCells, IsCellInside, AreCellsInside, IsQuietCell, AreQuietCells, no_cells, cell_or, bytes_at, stored_cell, stored_cells}
+use Rattle.verify80_stores.specs.Cells.{HoldsCell, HoldsCells, IsCellInside, AreCellsInside, IsQuietCell, AreQuietCells, any_cell, no_cells, cell_or, bytes_at, stored_cell, stored_cells}
 use Rattle.verify80_stores.specs.State.{HoldsRegisters, byte_of}
 use Rattle.verify80_stores.specs.declared.fitting.fitting.Placed.{Placed}
 use Rattle.verify80_stores.specs.Boards.{is_quiet}
@@ -63,9 +63,12 @@ cells_around cells others memory bytes inside holds = record {
   eighth = around cells.eighth others.eighth memory bytes inside.eighth holds.eighth;
 }
 
+pub any_cell_holds : (memory : List ℕ) → HasBytes memory → HoldsCell any_cell memory
+any_cell_holds memory bytes = any_byte_within (byte_in memory 0) (memory_byte memory 0 bytes)
+
 pub none_hold : (memory : List ℕ) → HasBytes memory → HoldsCells no_cells memory
 none_hold memory bytes =
-    let any = any_byte_within (byte_in memory 0) (memory_byte memory 0 bytes) in
+    let any = any_cell_holds memory bytes in
     record { first = any; second = any; third = any; fourth = any; fifth = any; sixth = any; seventh = any; eighth = any }
 
 -- cells of quiet addresses stay where the bytes of these do

@@ -1,43 +1,47 @@
 -- Runs keep to a table that fits.
-use Rattle.std.specs.Prelude.{◌≡◌, ◌⊎◌, ◌<◌, ℕ, zero, suc, Bool, true, false, List, [], Option, None, Some, Ok, IsSome, Contains, length, slice_get, slice_index, refl}
-use Rattle.std.proofs.Common.{subst, sym, ap, ◌∙◌, inl, inr}
+use Rattle.std.specs.Prelude.{◌≡◌, ◌⊎◌, ◌<◌, ℕ, zero, suc, Bool, true, false, List, [], Option, None, Some, Ok, IsSome, Contains, drop, length, slice_get, slice_index, refl}
+use Rattle.std.proofs.Common.{subst, sym, ap, ◌∙◌, inl, inr, true≢false}
 use Rattle.std.proofs.lemmas.Option.{get_or_from_slice_get, slice_get_within}
 use Rattle.decode80.specs.declared.condition.Condition.{Condition}
 use Rattle.decode80.specs.declared.instr.Instr.TheVariants.{Pchl}
 use Rattle.decode80.specs.declared.fetching.Fetched.{Fetched}
 use Rattle.decode80.specs.declared.flow.Flow.{Flow}
 use Rattle.decode80.specs.declared.flow.Flow.TheVariants.{Continues, Jumps, JumpsIf, JumpsToHl, Calls, CallsIf, Returns, ReturnsIf, Pushes, Pops, Exchanges, Halts}
-use Rattle.decode80.specs.Facts.{flow}
+use Rattle.decode80.specs.Facts.{flow, storing}
 use Rattle.image80.specs.Regions.{Areas, AreRegions, in_code, in_data, targets_at}
 use Rattle.image80.specs.Image.{Located, memory_of}
 use Rattle.machine80.specs.Flags.{holds as holds_of}
 use Rattle.machine80.specs.Cpu.{hl_of}
 use Rattle.machine80.specs.Effects.{target}
 use Rattle.machine80.specs.Step.{Machine, Turn, Next, Stop, fetch, step_of}
-use Rattle.machine80.specs.World.{World, world_at, turn_at, next_world, following, world_after, places_then, refuses, returns, fetched_by, FetchesInside}
+use Rattle.machine80.specs.World.{World, world_at, turn_at, next_world, following, world_after, places_by, places_then, refuses, returns, is_return_taken, fetched_by, FetchesInside, IsNewest}
 use Rattle.machine80.specs.Run.{world_of}
-use Rattle.frames80.specs.Code.{role_of}
 use Rattle.verify80.specs.Looking.{code_of, declared_targets}
 use Rattle.verify80.specs.Starts.{IsStart, IsWorldFrom, NeverGoesWrongFromPowerOn}
-use Rattle.verify80.specs.Reached.{IsReached, StandsOnWalk, IsBehindCall, StaysOnWalks}
+use Rattle.verify80.specs.Reached.{IsReached, StandsOnWalk, StaysOnWalks}
+use Rattle.verify80_stores.specs.declared.states.cells.Cells.{Cells}
 use Rattle.verify80_stores.specs.declared.states.state.State.{State}
 use Rattle.verify80_stores.specs.declared.fitting.fitting.Placed.{Placed}
 use Rattle.verify80_stores.specs.Bytes.{AreBytes, HoldsBytes, BytesStayBytes, FetchedOperandsAreBounded, MemoryKeepsItsLength}
 use Rattle.verify80_stores.specs.Span.{Within}
-use Rattle.verify80_stores.specs.Cells.{AreQuietCells}
-use Rattle.verify80_stores.specs.State.{Holds, HoldsRegisters, HoldsWords, anything}
+use Rattle.verify80_stores.specs.Cells.{AreQuietCells, HoldsCells}
+use Rattle.verify80_stores.specs.State.{Holds, HoldsRegisters, HoldsWords, anything, no_words}
 use Rattle.verify80_stores.specs.Following.{byte_at, state_after}
 use Rattle.verify80_stores.specs.Given.{given}
 use Rattle.verify80_stores.specs.Steps.{is_taken, ReadsCode, AreCodeBytes, HasCode}
-use Rattle.verify80_stores.specs.Fitting.{Has, HasAfter, FitsBy, Fits, KnowsQuiet}
-use Rattle.verify80_stores.specs.Runs.{KeepsTo, IsKnown, IsKept}
+use Rattle.verify80_stores.specs.Fitting.{CallsEntry, Has, HasAfter, FitsBy, KnowsQuiet}
+use Rattle.verify80_stores.specs.Calls.{AccountsFor, Effects, KeepsCalls, MayStore, Owes, none, with_cells}
+use Rattle.verify80_stores.specs.FittingTable.{Fits}
+use Rattle.verify80_stores.specs.Runs.{KeepsTo, KeepsToCalls, IsKnown, IsKept}
 use Rattle.verify80_stores.proofs.StateLemmas.{anything_holds}
 use Rattle.verify80_stores.proofs.MemoryLemmas.{Ground, none_hold}
-use Rattle.verify80_stores.proofs.CellLemmas.{cells_quieter, none_hold as no_cells_hold}
+use Rattle.verify80_stores.proofs.CellLemmas.{cells_beside, cells_quieter, none_hold as no_cells_hold}
+use Rattle.verify80_stores.proofs.CallLemmas.{owed_on, owed_return, owes_still, returned_places, returns_here}
+use Rattle.verify80_stores.proofs.DataLemmas.{calls_store_nowhere, data_kept}
 use Rattle.verify80_stores.proofs.GivenLemmas.{given_holds}
 use Rattle.verify80_stores.proofs.InsideLemmas.{state_around}
-use Rattle.verify80_stores.proofs.StepLemmas.{passed, step_state, step_code}
-use Rattle.verify80_stores.proofs.WayLemmas.{Leads, calls_so, executes}
+use Rattle.verify80_stores.proofs.StepLemmas.{other_words, passed, step_byte, step_state, step_code}
+use Rattle.verify80_stores.proofs.WayLemmas.{GoesOn, Leads, executes}
 
 world_or : World → Option World → World
 world_or otherwise None = otherwise
@@ -113,7 +117,10 @@ module _ (regions : Areas) (targets : List ℕ) (table : List Placed) (after : B
   arrives (ReturnsIf condition) s next to fits leads follow are holds = if_given condition false s to next are holds leads.0 fits leads.1 (with_taken (ReturnsIf condition) false leads.0 follow)
   arrives Halts s next to fits leads follow are holds = absurd leads
 
--- a state that says nothing holds of any machine
+-- a state that says nothing holds of any machine, and one that says nothing of its registers of any of these
+no_registers_hold : (m : Machine) (cells : Cells) → HoldsBytes m → HoldsRegisters (with_cells cells) m.cpu.registers
+no_registers_hold m cells bytes = other_words anything no_words cells m.cpu.registers (anything_holds m.cpu.registers bytes.registers)
+
 pub nothing_holds : (regions : Areas) (ground : Ground regions) (m : Machine) → HoldsBytes m → Holds regions anything m
 nothing_holds regions ground m bytes = record { registers = anything_holds m.cpu.registers bytes.registers; words = none_hold regions ground m.memory m.cpu.sp; cells = no_cells_hold m.memory bytes.memory }
 
@@ -127,7 +134,7 @@ pub code_stays : (image : Located) (ground : Ground image.regions) (refused : Bo
     HasCode image m.memory → HasCode image after.memory
 code_stays image ground refused m after found fetched step code a here = step_code image.regions ground [] refused m after found a fetched step here ∙ code a here
 
-module _ (image : Located) (quiet : ℕ → Bool) (bytes : List (Option ℕ)) (table : List Placed) (ground : Ground image.regions) (are_code : AreCodeBytes image bytes) (quiet_data : (at : ℕ) → quiet at ≡ true → in_data image.regions at ≡ true) (fits : Fits quiet (code_of image) bytes table)
+module _ (image : Located) (quiet : ℕ → Bool) (bytes : List (Option ℕ)) (effects : Effects) (table : List Placed) (ground : Ground image.regions) (are_code : AreCodeBytes image bytes) (quiet_data : (at : ℕ) → quiet at ≡ true → in_data image.regions at ≡ true) (fits : Fits quiet (code_of image) bytes effects table)
     (bounded : FetchedOperandsAreBounded) (length_stays : MemoryKeepsItsLength) where
   keeps_by : (w : World) (s : State) → Has table w.machine.cpu.pc s → HoldsBytes w.machine → Holds image.regions s w.machine → HasCode image w.machine.memory → length w.machine.memory ≡ 65536 → KeepsTo image table w
   keeps_by w s has held holds code whole = record {
@@ -144,15 +151,6 @@ module _ (image : Located) (quiet : ℕ → Bool) (bytes : List (Option ℕ)) (t
   quiet_in_data : (place : ℕ) (placed : Placed) → slice_get table place ≡ Some placed → AreQuietCells (in_data image.regions) placed.state.cells
   quiet_in_data place placed there = cells_quieter quiet (in_data image.regions) placed.state.cells quiet_data (known_there quiet table place placed fits.knows there)
 
-  -- behind a call whose callee returns nothing is known
-  behind_has : (at : ℕ) → IsBehindCall (code_of image) at → Has table at anything
-  behind_has at behind =
-      let call = behind.call in
-      let calls = calls_so (role_of (code_of image) behind.caller) call.found.instr behind.frame call.moves behind.target call.moving.moved call.call in
-      let has : Has table call.found.next anything =
-      fits.behind behind.place call.found (record { procedure = behind.caller; frame = behind.frame; walk = behind.walk }) call.moving.looked behind.target calls (behind.taken, behind.returns) in
-      subst (λ n. Has table n anything) (sym call.after) has
-
   -- what a walk finds where a world stands is what its next step fetches, and a PCHL there has declared targets
   declared_at : (w : World) (known : IsKnown image w) (found : Fetched) → fetched_by image.regions w ≡ Some found → found.instr ≡ Pchl → IsSome (targets_at image.regions w.machine.cpu.pc)
   declared_at w known found fetched is =
@@ -164,39 +162,107 @@ module _ (image : Located) (quiet : ℕ → Bool) (bytes : List (Option ℕ)) (t
   reads_code : (memory : List ℕ) → HasCode image memory → ReadsCode bytes memory
   reads_code memory code at byte is = let known = are_code at byte is in code at known.0 ∙ known.1
 
-  gone : (refused : Bool) (w after : World) (known : IsKnown image w) (found : Fetched) → fetched_by image.regions w ≡ Some found → IsReached (code_of image) w.machine.cpu.pc → (code_of image).look w.machine.cpu.pc ≡ Ok found →
-      (keeps : KeepsTo image table w) → HoldsBytes w.machine → HoldsBytes after.machine → step_of image.regions refused w.machine ≡ Next after.machine →
-      ((returns found.instr w.machine.cpu.registers.flags ≡ true) × (after.machine.cpu.pc ≡ target found.instr found.next w.machine.memory w.machine.cpu))
-      ⊎ Leads (flow found.instr) w.machine.cpu.registers.flags (declared_targets image.regions w.machine.cpu.pc) found.next (hl_of w.machine.cpu.registers) after.machine.cpu.pc →
-      KeepsTo image table after
-  gone refused w after known found fetched reached looked keeps before now step (inl taken) =
-      keeps_by after anything
-      (subst (λ n. Has table n anything) (sym taken.1) (behind_has (target found.instr found.next w.machine.memory w.machine.cpu) (known.returning found fetched taken.0)))
-      now (nothing_holds image.regions ground after.machine now)
-      (code_stays image ground refused w.machine after.machine found fetched step keeps.code) (length_stays image.regions refused w.machine after.machine step ∙ keeps.whole)
-  gone refused w after known found fetched reached looked keeps before now step (inr way) =
-      let at : keeps.placed.at ≡ w.machine.cpu.pc = keeps.at in
-      let fit = fits.entries keeps.place keeps.placed found keeps.there (subst (λ n. IsReached (code_of image) n) (sym at) reached) (subst (λ n. (code_of image).look n ≡ Ok found) (sym at) looked) in
-      let fit_here = subst (λ n. FitsBy (declared_targets image.regions n) table (λ taken t. state_after bytes found.instr taken found.next t) keeps.placed.state found.next (flow found.instr)) at fit in
-      let bound = bounded image.regions w.machine.memory w.machine.cpu.pc found before.memory fetched in
-      let meets = arrives image.regions (declared_targets image.regions w.machine.cpu.pc) table (λ taken t. state_after bytes found.instr taken found.next t) w.machine after.machine before.registers
-      (flow found.instr) keeps.placed.state found.next after.machine.cpu.pc fit_here way
-      (λ t holds are. step_state image.regions ground bytes refused w.machine after.machine found t bound.operand before now keeps.whole (reads_code w.machine.memory keeps.code) are fetched step holds)
-      (quiet_in_data keeps.place keeps.placed keeps.there) keeps.holds in
-      keeps_by after meets.state meets.has now meets.holds
-      (code_stays image ground refused w.machine after.machine found fetched step keeps.code) (length_stays image.regions refused w.machine after.machine step ∙ keeps.whole)
+  module _ (refused : Bool) (w after : World) (found : Fetched) (fetched : fetched_by image.regions w ≡ Some found) (reached : IsReached (code_of image) w.machine.cpu.pc) (looked : (code_of image).look w.machine.cpu.pc ≡ Ok found)
+      (keeps : KeepsToCalls image quiet effects table w) (before : HoldsBytes w.machine) (now : HoldsBytes after.machine) (step : step_of image.regions refused w.machine ≡ Next after.machine)
+      (newer : after.places ≡ places_then (fetched_by image.regions w) w.machine.cpu.registers.flags w.places) where
+    -- the state that holds
+    abbrev holding : State
+    holding = keeps.keeps.placed.state
+
+    reached_here : IsReached (code_of image) keeps.keeps.placed.at
+    reached_here = subst (λ n. IsReached (code_of image) n) (sym keeps.keeps.at) reached
+
+    looked_here : (code_of image).look keeps.keeps.placed.at ≡ Ok found
+    looked_here = subst (λ n. (code_of image).look n ≡ Ok found) (sym keeps.keeps.at) looked
+
+    calls : KeepsCalls effects table w.machine.cpu.pc holding found
+    calls = subst (λ n. KeepsCalls effects table n holding found) keeps.keeps.at (fits.calls keeps.keeps.place keeps.keeps.placed found keeps.keeps.there reached_here looked_here)
+
+    accounts : AccountsFor effects (declared_targets image.regions w.machine.cpu.pc) w.machine.cpu.pc found.next (flow found.instr)
+    accounts = fits.accounts w.machine.cpu.pc found reached looked
+
+    are_quiet : AreQuietCells quiet holding.cells
+    are_quiet = known_there quiet table keeps.keeps.place keeps.keeps.placed fits.knows keeps.keeps.there
+
+    places_now : after.places ≡ places_by (flow found.instr) found.next w.machine.cpu.registers.flags w.places
+    places_now = newer ∙ ap (λ (o : Option Fetched). places_then o w.machine.cpu.registers.flags w.places) fetched
+
+    code_now : HasCode image after.machine.memory
+    code_now = code_stays image ground refused w.machine after.machine found fetched step keeps.keeps.code
+
+    whole_now : length after.machine.memory ≡ 65536
+    whole_now = length_stays image.regions refused w.machine after.machine step ∙ keeps.keeps.whole
+
+    -- a quiet byte stays if the instruction doesn't store there
+    same_byte : (a : ℕ) → quiet a ≡ true → (MayStore (storing found.instr) holding a → ⊥) → slice_index after.machine.memory a ≡ slice_index w.machine.memory a
+    same_byte a here none =
+        step_byte image.regions ground [] refused w.machine after.machine found a fetched step
+        (λ pass. data_kept image.regions ground w.machine.memory a (quiet_data a here) found.instr found.next w.machine.cpu holding pass keeps.keeps.holds.registers none)
+
+    not_stored : (a : ℕ) → effects.stored w.machine.cpu.pc a ≡ false → MayStore (storing found.instr) holding a → ⊥
+    not_stored a none there = true≢false (sym (calls.stores a there) ∙ none)
+
+    -- what was owed before is owed still
+    owed : Owes effects quiet table after.machine.memory (effects.stored w.machine.cpu.pc) (effects.returning w.machine.cpu.pc) w.places
+    owed = owes_still effects quiet table w.machine.memory after.machine.memory (effects.stored w.machine.cpu.pc) (effects.returning w.machine.cpu.pc) w.places now.memory
+        (λ a here none. same_byte a here (not_stored a none)) keeps.owes
+
+    -- a return brings what was kept behind its call
+    returned : (to : ℕ) → after.machine.cpu.pc ≡ to → IsNewest to w.places → is_return_taken (flow found.instr) w.machine.cpu.registers.flags ≡ true → KeepsToCalls image quiet effects table after
+    returned to at newest taken =
+        let may = returns_here effects (declared_targets image.regions w.machine.cpu.pc) w.machine.cpu.pc found.next (flow found.instr) w.machine.cpu.registers.flags accounts taken in
+        let r = owed_return effects quiet table after.machine.memory (effects.stored w.machine.cpu.pc) (effects.returning w.machine.cpu.pc) w.places to newest.0 may newest.1 owed in
+        let older : after.places ≡ newest.0 = places_now ∙ returned_places (flow found.instr) found.next w.machine.cpu.registers.flags w.places taken ∙ ap (λ (l : List ℕ). drop 1 l) newest.1 in
+        record {
+          keeps = keeps_by after (with_cells r.cells) (subst (λ n. Has table n (with_cells r.cells)) (sym at) r.has) now
+              (record { registers = no_registers_hold after.machine r.cells now; words = none_hold image.regions ground after.machine.memory after.machine.cpu.sp; cells = r.held }) code_now whole_now;
+          owes = subst (λ n. Owes effects quiet table after.machine.memory (effects.stored n) (effects.returning n) after.places) (sym at)
+              (subst (λ (l : List ℕ). Owes effects quiet table after.machine.memory (effects.stored to) (effects.returning to) l) (sym older) r.rest);
+        }
+
+    -- any other step brings what the state after it says
+    gone : Leads (flow found.instr) w.machine.cpu.registers.flags (declared_targets image.regions w.machine.cpu.pc) found.next (hl_of w.machine.cpu.registers) after.machine.cpu.pc → KeepsToCalls image quiet effects table after
+    gone way =
+        let fit = fits.entries keeps.keeps.place keeps.keeps.placed found keeps.keeps.there reached_here looked_here in
+        let fit_here = subst (λ n. FitsBy (declared_targets image.regions n) table (λ taken t. state_after bytes found.instr taken found.next t) holding found.next (flow found.instr)) keeps.keeps.at fit in
+        let bound = bounded image.regions w.machine.memory w.machine.cpu.pc found before.memory fetched in
+        let meets = arrives image.regions (declared_targets image.regions w.machine.cpu.pc) table (λ taken t. state_after bytes found.instr taken found.next t) w.machine after.machine before.registers
+        (flow found.instr) holding found.next after.machine.cpu.pc fit_here way
+        (λ t holds are. step_state image.regions ground bytes refused w.machine after.machine found t bound.operand before now keeps.keeps.whole (reads_code w.machine.memory keeps.keeps.code) are fetched step holds)
+        (quiet_in_data keeps.keeps.place keeps.keeps.placed keeps.keeps.there) keeps.keeps.holds in
+        let owes = owed_on effects quiet table after.machine.memory now.memory (declared_targets image.regions w.machine.cpu.pc) w.machine.cpu.pc found.next (hl_of w.machine.cpu.registers) after.machine.cpu.pc
+        w.machine.cpu.registers.flags holding w.places are_quiet owed (flow found.instr) accounts calls.behind held_behind way in
+        record {
+          keeps = keeps_by after meets.state meets.has now meets.holds code_now whole_now;
+          owes = subst (λ (l : List ℕ). Owes effects quiet table after.machine.memory (effects.stored after.machine.cpu.pc) (effects.returning after.machine.cpu.pc) l) (sym places_now) owes;
+        }
+    where
+      held_behind : (entry : ℕ) → CallsEntry (flow found.instr) entry → HoldsCells holding.cells after.machine.memory
+      held_behind entry calls_it =
+          cells_beside quiet w.machine.memory after.machine.memory holding.cells (λ a here. same_byte a here (calls_store_nowhere found.instr entry calls_it holding a)) now.memory are_quiet keeps.keeps.holds.cells
+
+    either_way : IsKnown image w → GoesOn image.regions found.instr found.next w.machine after.machine → KeepsToCalls image quiet effects table after
+    either_way known goes = by goes.way where
+      by : ((returns found.instr w.machine.cpu.registers.flags ≡ true) × (after.machine.cpu.pc ≡ target found.instr found.next w.machine.memory w.machine.cpu))
+          ⊎ Leads (flow found.instr) w.machine.cpu.registers.flags (declared_targets image.regions w.machine.cpu.pc) found.next (hl_of w.machine.cpu.registers) after.machine.cpu.pc →
+          KeepsToCalls image quiet effects table after
+      by (inl taken) = returned (target found.instr found.next w.machine.memory w.machine.cpu) taken.1 (known.returning found fetched taken.0) taken.0
+      by (inr way) = gone way
 
   -- a step keeps to the table, and so does a start
   pub is_kept : IsKept image quiet table
   is_kept = record {
     knows = fits.knows;
-    starts = λ start pc code whole held stands.
-        keeps_by (world_of start) anything (subst (λ n. Has table n anything) (sym pc) fits.start) held (nothing_holds image.regions ground start held) code whole;
-    steps = λ refused w after known on before now keeps step.
+    effects = effects;
+    starts = λ start pc code whole held stands. record {
+      keeps = keeps_by (world_of start) anything (subst (λ n. Has table n anything) (sym pc) fits.start) held (nothing_holds image.regions ground start held) code whole;
+      owes = none (effects.stored start.cpu.pc) (effects.returning start.cpu.pc) [] refl;
+    };
+    steps = λ refused w after known on before now keeps step newer.
         let stands : StandsOnWalk image w = known.stands in
         let pass = passed image.regions refused w.machine after.machine stands.found stands.fetched step in
-        let way = executes image.regions refused stands.found.instr stands.found.next w.machine after.machine (declared_at w known stands.found stands.fetched) pass.executed in
-        gone refused w after known stands.found stands.fetched stands.reached stands.looked keeps before now step way.way;
+        either_way refused w after stands.found stands.fetched stands.reached stands.looked keeps before now step newer known
+        (executes image.regions refused stands.found.instr stands.found.next w.machine after.machine (declared_at w known stands.found stands.fetched) pass.executed);
   }
 
 -- runs keep to a table that is kept
@@ -205,33 +271,38 @@ module _ (image : Located) (bytes : ℕ) (quiet : ℕ → Bool) (table : List Pl
   known_at : (w : World) → IsWorldFrom image start most w → IsKnown image w
   known_at w from = record {
     stands = walks.stands start begins most w from;
-    returning = λ found fetched taken. walks.returning start begins most w found from fetched taken;
+    returning = λ found fetched taken. sound.returning start begins most w found from fetched taken;
     inside = sound.fetches_and_stores start begins most w from;
   }
 
-  stepped : (w after : World) (t : Turn) (places : List ℕ) → IsWorldFrom image start most w → IsWorldFrom image start most after → KeepsTo image table w → HoldsBytes w.machine → HoldsBytes after.machine → turn_at image.regions most w ≡ t → world_after t places ≡ Some after → KeepsTo image table after
-  stepped w after (Stop e) places from next keeps before now h is = cc
-  stepped w after (Next m) places from next keeps before now h is =
-      let same : m ≡ after.machine = ap (λ (x : World). x.machine) (world_in is) in
-      kept.steps (refuses most w.machine.outputs) w after (known_at w from) (known_at after next).stands before now keeps (h ∙ ap (λ (x : Machine). Next x) same)
+  abbrev Keeps : World → Type 0
+  Keeps w = KeepsToCalls image quiet kept.effects table w
 
-  next_keeps : (w after : World) → IsWorldFrom image start most w → IsWorldFrom image start most after → KeepsTo image table w → HoldsBytes w.machine → next_world image.regions most w ≡ Some after → KeepsTo image table after
+  stepped : (w after : World) (t : Turn) (places : List ℕ) → IsWorldFrom image start most w → IsWorldFrom image start most after → Keeps w → HoldsBytes w.machine → HoldsBytes after.machine → turn_at image.regions most w ≡ t →
+      places ≡ places_then (fetched_by image.regions w) w.machine.cpu.registers.flags w.places → world_after t places ≡ Some after → Keeps after
+  stepped w after (Stop e) places from next keeps before now h newer is = cc
+  stepped w after (Next m) places from next keeps before now h newer is =
+      let same : m ≡ after.machine = ap (λ (x : World). x.machine) (world_in is) in
+      let there : places ≡ after.places = ap (λ (x : World). x.places) (world_in is) in
+      kept.steps (refuses most w.machine.outputs) w after (known_at w from) (known_at after next).stands before now keeps (h ∙ ap (λ (x : Machine). Next x) same) (sym there ∙ newer)
+
+  next_keeps : (w after : World) → IsWorldFrom image start most w → IsWorldFrom image start most after → Keeps w → HoldsBytes w.machine → next_world image.regions most w ≡ Some after → Keeps after
   next_keeps w after from next keeps held h =
       stepped w after (turn_at image.regions most w)
       (places_then (fetch image.regions w.machine.memory w.machine.cpu.pc) w.machine.cpu.registers.flags w.places)
-      from next keeps held (next_bytes stay image.regions most w after held h) refl h
+      from next keeps held (next_bytes stay image.regions most w after held h) refl refl h
 
-  followed_keeps : (n : ℕ) (w : World) (o : Option World) → world_at image.regions most (world_of start) n ≡ o → ((v : World) → o ≡ Some v → KeepsTo image table v) → following image.regions most o ≡ Some w → KeepsTo image table w
+  followed_keeps : (n : ℕ) (w : World) (o : Option World) → world_at image.regions most (world_of start) n ≡ o → ((v : World) → o ≡ Some v → Keeps v) → following image.regions most o ≡ Some w → Keeps w
   followed_keeps n w None at before h = cc
   followed_keeps n w (Some v) at before h =
       next_keeps v w (record { steps = n; is = at }) (record { steps = suc n; is = ap (λ (o : Option World). following image.regions most o) at ∙ h })
       (before v refl) (run_bytes stay image.regions start most n v start_bytes at) h
 
-  keeps_at : (n : ℕ) (w : World) → world_at image.regions most (world_of start) n ≡ Some w → KeepsTo image table w
+  keeps_at : (n : ℕ) (w : World) → world_at image.regions most (world_of start) n ≡ Some w → Keeps w
   keeps_at zero w h =
-      subst (λ (x : World). KeepsTo image table x) (world_in h)
+      subst Keeps (world_in h)
       (kept.starts start begins.pc begins.code begins.whole start_bytes (known_at (world_of start) (record { steps = 0; is = refl })).stands)
   keeps_at (suc n) w h = followed_keeps n w (world_at image.regions most (world_of start) n) refl (λ v e. keeps_at n v e) h
 
   pub run_keeps : (w : World) → IsWorldFrom image start most w → KeepsTo image table w
-  run_keeps w from = keeps_at from.steps w from.is
+  run_keeps w from = (keeps_at from.steps w from.is).keeps

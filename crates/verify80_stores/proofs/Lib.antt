@@ -23,5 +23,8 @@ pub mod GivenLemmas
 pub mod InsideLemmas
 pub mod StepLemmas
 pub mod WayLemmas
+pub mod AroundLemmas
+pub mod CallLemmas
+pub mod DataLemmas
 pub mod KeepLemmas
 pub mod StackLemmas

@@ -11,6 +11,7 @@ use Rattle.image80.specs.Regions.{Areas, in_code, in_data, targets_at}
 use Rattle.machine80.specs.declared.end.End.{End}
 use Rattle.machine80.specs.declared.registers.Registers.{Registers}
 use Rattle.machine80.specs.Cpu.{hl_of}
+use Rattle.machine80.specs.Effects.{stored, stores}
 use Rattle.machine80.specs.Ports.{next_input}
 use Rattle.machine80.specs.Step.{Machine, Turn, Next, Stop, fetch, guard, guarded, execute, turn_of, jump_end, proceeded, with_input, step_on, step_of}
 use Rattle.verify80_stores.specs.declared.states.cells.Cells.{Cells}
@@ -114,7 +115,7 @@ module _ (regions : Areas) (ground : Ground regions) (code : List (Option ℕ)) 
       let pass = passed regions refused m after found fetched h in
       executes refused found.instr found.next m after s small bytes stay whole reads are pass.guarded_so holds pass.executed
 
-  -- code stays along a step
+  -- memory along a step
   reads_keeps : (next port : ℕ) (m after : Machine) (byte : Option ℕ) → with_input m next port byte ≡ Next after → after.memory ≡ m.memory
   reads_keeps next port m after None h = cc
   reads_keeps next port m after (Some byte) h = sym (ap (λ (n : Machine). n.memory) (next_in h))
@@ -130,17 +131,24 @@ module _ (regions : Areas) (ground : Ground regions) (code : List (Option ℕ)) 
   abbrev SameAt : ℕ → Machine → Machine → Type 0
   SameAt a m after = slice_index after.memory a ≡ slice_index m.memory a
 
-  executed_keeps : (refused : Bool) (i : Instr) (next : ℕ) (m after : Machine) (a : ℕ) → guard regions i m.cpu ≡ None → execute regions refused i next m ≡ Next after → in_code regions a ≡ true → SameAt a m after
-  executed_keeps refused Hlt next m after a pass h here = cc
-  executed_keeps refused (In port) next m after a pass h here = ap (λ (x : List ℕ). slice_index x a) (reads_keeps next port m after (next_input m.inputs port) h)
-  executed_keeps refused (Out port) next m after a pass h here = ap (λ (x : List ℕ). slice_index x a) (writes_keeps refused next port m after h)
-  executed_keeps refused Pchl next m after a pass h here =
+  executed_keeps : (refused : Bool) (i : Instr) (next : ℕ) (m after : Machine) (a : ℕ) → execute regions refused i next m ≡ Next after → slice_index (stored m.memory (stores i next m.memory m.cpu)) a ≡ slice_index m.memory a → SameAt a m after
+  executed_keeps refused Hlt next m after a h kept = cc
+  executed_keeps refused (In port) next m after a h kept = ap (λ (x : List ℕ). slice_index x a) (reads_keeps next port m after (next_input m.inputs port) h)
+  executed_keeps refused (Out port) next m after a h kept = ap (λ (x : List ℕ). slice_index x a) (writes_keeps refused next port m after h)
+  executed_keeps refused Pchl next m after a h kept =
       ap (λ (x : List ℕ). slice_index x a) (jumps_keeps (jump_end (targets_at regions m.cpu.pc) (hl_of m.cpu.registers)) next m after h)
-  executed_keeps refused i next m after a pass h here =
-      subst (λ (n : Machine). slice_index n.memory a ≡ slice_index m.memory a) (next_in h) (code_kept regions ground i next m.memory m.cpu a pass here)
+  executed_keeps refused i next m after a h kept =
+      subst (λ (n : Machine). slice_index n.memory a ≡ slice_index m.memory a) (next_in h) kept
 
+  -- a byte stays along a step if its instruction doesn't store there
+  pub step_byte : (refused : Bool) (m after : Machine) (found : Fetched) (a : ℕ) → fetch regions m.memory m.cpu.pc ≡ Some found → step_of regions refused m ≡ Next after →
+      (guard regions found.instr m.cpu ≡ None → slice_index (stored m.memory (stores found.instr found.next m.memory m.cpu)) a ≡ slice_index m.memory a) → slice_index after.memory a ≡ slice_index m.memory a
+  step_byte refused m after found a fetched h kept =
+      let pass = passed regions refused m after found fetched h in
+      executed_keeps refused found.instr found.next m after a pass.executed (kept pass.guarded_so)
+
+  -- code stays
   pub step_code : (refused : Bool) (m after : Machine) (found : Fetched) (a : ℕ) → fetch regions m.memory m.cpu.pc ≡ Some found → step_of regions refused m ≡ Next after → in_code regions a ≡ true →
       slice_index after.memory a ≡ slice_index m.memory a
   step_code refused m after found a fetched h here =
-      let pass = passed regions refused m after found fetched h in
-      executed_keeps refused found.instr found.next m after a pass.guarded_so pass.executed here
+      step_byte refused m after found a fetched h (λ pass. code_kept regions ground found.instr found.next m.memory m.cpu a pass here)

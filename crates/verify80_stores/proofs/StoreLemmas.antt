@@ -32,7 +32,7 @@ use Rattle.verify80_stores.specs.Bytes.{HoldsBytes}
 use Rattle.verify80_stores.specs.Span.{Within}
 use Rattle.verify80_stores.specs.State.{Holds, HoldsRegisters}
 use Rattle.verify80_stores.specs.Following.{entry_in}
-use Rattle.verify80_stores.specs.Returning.{is_marked}
+use Rattle.verify80_stores.specs.Marks.{is_marked}
 use Rattle.verify80_stores.specs.Runs.{KeepsTo, RunsKeepTo}
 use Rattle.verify80_stores.specs.declared.stores.OpenStore.{OpenStore}
 use Rattle.verify80_stores.specs.Pointers.{stores_by_pair}

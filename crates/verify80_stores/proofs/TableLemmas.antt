@@ -6,11 +6,8 @@ use Rattle.image80.specs.Image.{Located}
 use Rattle.image80.specs.Regions.{Areas}
 use Rattle.machine80.specs.World.{World}
 use Rattle.machine80.specs.Run.{world_of}
-use Rattle.frames80.specs.declared.procedure.Procedure.TheVariants.{Entry}
-use Rattle.verify80_flow.specs.declared.report.ProcRow.{ProcRow}
 use Rattle.frames80.specs.Code.{Code}
-use Rattle.verify80_flow.specs.Rows.{AreRows, IsRow, ReturnsWith}
-use Rattle.verify80.specs.Looking.{code_of, declared_targets}
+use Rattle.verify80.specs.Looking.{code_of}
 use Rattle.verify80.specs.Reached.{IsReached, StandsOnWalk}
 use Rattle.verify80_calls.specs.Reached.{AreReached, found_at}
 use Rattle.verify80_stores.specs.declared.fitting.fitting.Placed.{Placed}
@@ -20,9 +17,10 @@ use Rattle.verify80_stores.specs.Cells.{AreQuietCells}
 use Rattle.verify80_stores.specs.State.{Holds, anything}
 use Rattle.verify80_stores.specs.Following.{entry_in}
 use Rattle.verify80_stores.specs.Steps.{HasCode}
-use Rattle.verify80_stores.specs.Returning.{is_marked}
-use Rattle.verify80_stores.specs.Fitting.{Has, FitsAt, LeadsBehind, ReturnsSomewhere, Fits, KnowsQuiet}
-use Rattle.verify80_stores.specs.Runs.{KeepsTo, IsKept}
+use Rattle.verify80_stores.specs.Fitting.{Has, KnowsQuiet}
+use Rattle.verify80_stores.specs.Calls.{Effects, never, no_effects}
+use Rattle.verify80_stores.specs.FittingTable.{AllFit, Fits}
+use Rattle.verify80_stores.specs.Runs.{KeepsToCalls, IsKept}
 use Rattle.verify80_stores.specs.Listing.{reached_at, SaysNothingAt}
 use Rattle.verify80_stores.proofs.MemoryLemmas.{Ground}
 use Rattle.verify80_stores.proofs.CellLemmas.{none_quiet}
@@ -60,34 +58,16 @@ module _ (code : Code) (reached : List (Option Fetched)) (are : AreReached code 
   pub reached_if_there : (at : ℕ) (found : Fetched) → reached_at reached at ≡ Some found → IsReached code at × (code.look at ≡ Ok found)
   reached_if_there at found there = are.found at found (sym (same_entry reached at) ∙ there)
 
--- the rows of procedures that return are marked
-row_or_never : (code : Code) (row : ProcRow) (entry : ℕ) (marks : List Bool) (b : Bool) → row.returns ≡ b → IsRow code row → row.entry ≡ entry → (row.returns ≡ true → is_marked marks row.entry ≡ true) →
-    ReturnsSomewhere code entry → is_marked marks entry ≡ true
-row_or_never code row entry marks true e is same marked returns = subst (λ n. is_marked marks n ≡ true) same (marked e)
-row_or_never code row entry marks false e is same marked returns =
-    absurd ((is.never e).1 returns.0 (subst (λ n. ReturnsWith code (Entry n) returns.0) (sym same) returns.1))
-
-pub marked_if_returning : (code : Code) (rows : List ProcRow) (marks : List Bool) → AreRows code rows → All (λ row. row.returns ≡ true → is_marked marks row.entry ≡ true) rows →
-    (entry : ℕ) → ReturnsSomewhere code entry → is_marked marks entry ≡ true
-marked_if_returning code rows marks are marked entry returns =
-    let row = are.all entry (record { at = returns.1.at; frame = returns.1.frame; walk = returns.1.walk }) in
-    let place = row.0 in
-    let here = get_or rows place row.1 in
-    let same : here ≡ row.1 = row.3 in
-    row_or_never code here entry marks here.returns refl (are.each place row.1 row.2) (ap (λ (r : ProcRow). r.entry) same ∙ row.4) (marked place row.1 row.2) returns
-
-pub fits_program : (image : Located) (quiet : ℕ → Bool) (rows : List ProcRow) (marks : List Bool) (reached : List (Option Fetched)) (bytes : List (Option ℕ)) (table : List Placed) → AreReached (code_of image) reached → length reached ≡ 65536 →
-    AreRows (code_of image) rows → All (λ row. row.returns ≡ true → is_marked marks row.entry ≡ true) rows → Has table image.start anything →
-    ((place : ℕ) (placed : Placed) (found : Fetched) → slice_get table place ≡ Some placed → reached_at reached placed.at ≡ Some found → FitsAt bytes (declared_targets image.regions placed.at) table placed.state found) →
-    ((at : ℕ) (found : Fetched) → at < 65536 → reached_at reached at ≡ Some found → LeadsBehind (λ entry. is_marked marks entry ≡ true) table found) →
-    KnowsQuiet quiet table → Fits quiet (code_of image) bytes table
-fits_program image quiet rows marks reached bytes table are whole rows_are marked start entries behind knows = record {
+pub fits_program : (image : Located) (quiet : ℕ → Bool) (reached : List (Option Fetched)) (bytes : List (Option ℕ)) (effects : Effects) (table : List Placed) → AreReached (code_of image) reached → length reached ≡ 65536 →
+    Has table image.start anything → AllFit image.regions bytes effects reached table → KnowsQuiet quiet table → Fits quiet (code_of image) bytes effects table
+fits_program image quiet reached bytes effects table are whole start fit knows = record {
   start = start;
   knows = knows;
-  entries = λ place placed found there walk looked. entries place placed found there (here placed.at found looked (there_if_reached (code_of image) reached are placed.at walk));
-  behind = λ at found walk looked entry calls returns.
+  entries = λ place placed found there walk looked. fit.entries place placed found there (here placed.at found looked (there_if_reached (code_of image) reached are placed.at walk));
+  accounts = λ at found walk looked.
       let there = there_if_reached (code_of image) reached are at walk in
-      behind at found (omega (arith, there.within, whole)) (here at found looked there) entry calls (marked_if_returning (code_of image) rows marks rows_are marked entry returns);
+      fit.accounts at found (omega (arith, there.within, whole)) (here at found looked there);
+  calls = λ place placed found there walk looked. fit.calls place placed found there (here placed.at found looked (there_if_reached (code_of image) reached are placed.at walk));
 } where
   here : (at : ℕ) (found : Fetched) → (code_of image).look at ≡ Ok found → IsThere (code_of image) reached are at → reached_at reached at ≡ Some found
   here at found looked there =
@@ -99,23 +79,27 @@ pub nothing_is_kept : (image : Located) (quiet : ℕ → Bool) (reached : List (
     ((at : ℕ) → at < 65536 → SaysNothingAt table at) → All (λ placed. placed.state ≡ anything) table → IsKept image quiet table
 nothing_is_kept image quiet reached table are whole ground length_stays everywhere nothing = record {
   knows = λ k d inside. subst (λ (s : State). AreQuietCells quiet s.cells) (sym (nothing k d inside)) (none_quiet quiet);
+  effects = no_effects;
   starts = λ start pc code size held stands. here (world_of start) stands held code size;
-  steps = λ refused w after known stands before now keeps step.
-      here after stands now (code_stays image ground refused w.machine after.machine known.stands.found known.stands.fetched step keeps.code)
-      (length_stays image.regions refused w.machine after.machine step ∙ keeps.whole);
+  steps = λ refused w after known stands before now keeps step newer.
+      here after stands now (code_stays image ground refused w.machine after.machine known.stands.found known.stands.fetched step keeps.keeps.code)
+      (length_stays image.regions refused w.machine after.machine step ∙ keeps.keeps.whole);
 } where
-  here : (w : World) → StandsOnWalk image w → HoldsBytes w.machine → HasCode image w.machine.memory → length w.machine.memory ≡ 65536 → KeepsTo image table w
+  here : (w : World) → StandsOnWalk image w → HoldsBytes w.machine → HasCode image w.machine.memory → length w.machine.memory ≡ 65536 → KeepsToCalls image quiet no_effects table w
   here w stands held code size =
       let there = there_if_reached (code_of image) reached are w.machine.cpu.pc stands.reached in
       let says = everywhere w.machine.cpu.pc (omega (arith, there.within, whole)) in
       record {
-        place = says.place;
-        placed = says.placed;
-        there = says.there;
-        at = says.here;
-        holds = rw says.nothing (nothing_holds image.regions ground w.machine held);
-        code = code;
-        whole = size;
+        keeps = record {
+          place = says.place;
+          placed = says.placed;
+          there = says.there;
+          at = says.here;
+          holds = rw says.nothing (nothing_holds image.regions ground w.machine held);
+          code = code;
+          whole = size;
+        };
+        owes = never (no_effects.stored w.machine.cpu.pc) false w.places refl;
       }
 
 -- what holds of an answer, if there is one
@@ -123,16 +107,9 @@ pub ok_both : {A E : Type 0} (P Q R : A → Type 0) (r : Result A E) → ((x : A
 ok_both P Q R (Ok x) more one other = more x one other
 ok_both P Q R (Err e) more one other = one
 
--- what fits, under other names
-abbrev pub AllFit : List Bool → Areas → List (Option ℕ) → List (Option Fetched) → List Placed → Type 0
-AllFit marks regions bytes reached table =
-    ((place : ℕ) (placed : Placed) (found : Fetched) → slice_get table place ≡ Some placed → reached_at reached placed.at ≡ Some found → FitsAt bytes (declared_targets regions placed.at) table placed.state found) ×
-    ((at : ℕ) (found : Fetched) → at < 65536 → reached_at reached at ≡ Some found → LeadsBehind (λ entry. is_marked marks entry ≡ true) table found)
-
-pub moved : (marks marks' : List Bool) (regions regions' : Areas) (bytes bytes' : List (Option ℕ)) (reached : List (Option Fetched)) (table table' : List Placed) → marks ≡ marks' → regions ≡ regions' → bytes ≡ bytes' → table ≡ table' →
-    AllFit marks regions bytes reached table → AllFit marks' regions' bytes' reached table'
-moved marks marks' regions regions' bytes bytes' reached table table' one two three four fit =
-    subst (λ (m : List Bool). AllFit m regions' bytes' reached table') one
-    (subst (λ (r : Areas). AllFit marks r bytes' reached table') two
-    (subst (λ (b : List (Option ℕ)). AllFit marks regions b reached table') three
-    (subst (λ (t : List Placed). AllFit marks regions bytes reached t) four fit)))
+pub moved : (regions regions' : Areas) (bytes bytes' : List (Option ℕ)) (effects : Effects) (reached : List (Option Fetched)) (table table' : List Placed) → regions ≡ regions' → bytes ≡ bytes' → table ≡ table' →
+    AllFit regions bytes effects reached table → AllFit regions' bytes' effects reached table'
+moved regions regions' bytes bytes' effects reached table table' one two three fit =
+    subst (λ (r : Areas). AllFit r bytes' effects reached table') one
+    (subst (λ (b : List (Option ℕ)). AllFit regions b effects reached table') two
+    (subst (λ (t : List Placed). AllFit regions bytes effects reached t) three fit))

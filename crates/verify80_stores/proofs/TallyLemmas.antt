@@ -14,7 +14,7 @@ use Rattle.verify80_stores.specs.Span.{IsInside, hull}
 use Rattle.verify80_stores.specs.State.{anything}
 use Rattle.verify80_stores.specs.Following.{entry_in, byte_at}
 use Rattle.verify80_stores.specs.Steps.{AreCodeBytes, code_in}
-use Rattle.verify80_stores.specs.Returning.{is_marked}
+use Rattle.verify80_stores.specs.Marks.{is_marked}
 use Rattle.verify80_stores.specs.Opening.{pointer_span, span_in, joined_span, StaysIn, IsLeftOpen}
 use Rattle.verify80_stores.specs.Listing.{AreOpenMarks, AreSpans, IsLeftAt, IsSpanned, SaysNothingAt, reached_at}
 use Rattle.verify80_stores.proofs.SpanLemmas.{hull_left, hull_right, inside_again, inside_itself}

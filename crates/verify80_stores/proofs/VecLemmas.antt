@@ -3,7 +3,7 @@ use Rattle.std.specs.Prelude.{◌≡◌, ◌≢◌, ◌⊎◌, ℕ, zero, suc, �
 use Rattle.std.proofs.Common.{subst, sym, ap, ◌∙◌, inl, inr, arith, get_or, get_or-set_other}
 use Rattle.std.proofs.lemmas.List.{get_or-set_same}
 use Rattle.verify80_stores.specs.Following.{entry_in}
-use Rattle.verify80_stores.specs.Returning.{is_marked}
+use Rattle.verify80_stores.specs.Marks.{is_marked}
 use Rattle.verify80_stores.proofs.TableLemmas.{same_entry}
 
 -- an element that is got

@@ -1,25 +1,15 @@
--- Where the machine goes at each instruction, and what the verifier says of it.
+-- Where the machine goes at each instruction.
 use Rattle.std.specs.Prelude.{◌≡◌, ◌⊎◌, ℕ, suc, ◌==◌, Bool, true, false, not, List, [], ◌∷◌, Contains, Option, None, Some, Ok, IsSome, refl, if◌then◌else◌}
 use Rattle.std.specs.List.{list_any}
 use Rattle.std.specs.Option.{option_map_or}
 use Rattle.std.proofs.Common.{subst, sym, ap, ◌∙◌, inl, inr, arith}
 use Rattle.std.proofs.lemmas.Bool.Decides.{nat_tests}
 use Rattle.decode80.specs.declared.instr.Instr.{Instr}
-use Rattle.decode80.specs.declared.instr.Instr.TheVariants.{Lxi, Inx, Dcx, In, Out, Pchl, Hlt, Pop, Call, CallIf, Rst}
-use Rattle.decode80.specs.declared.pair.Pair.TheVariants.{Bc, De, Hl, Sp}
+use Rattle.decode80.specs.declared.instr.Instr.TheVariants.{In, Out, Pchl, Hlt, Pop}
 use Rattle.decode80.specs.declared.fetching.Fetched.{Fetched}
 use Rattle.decode80.specs.declared.flow.Flow.{Flow}
-use Rattle.decode80.specs.declared.flow.Flow.TheVariants.{Continues, Jumps, JumpsIf as JumpsIfSo, JumpsToHl, Calls as CallsTo, CallsIf as CallsIfSo, Returns as ReturnsAlways, ReturnsIf as ReturnsIfSo, Pushes, Pops, Exchanges, Halts}
+use Rattle.decode80.specs.declared.flow.Flow.TheVariants.{Continues, Jumps, JumpsIf, JumpsToHl, Calls, CallsIf, Returns, ReturnsIf, Pushes, Pops, Exchanges, Halts}
 use Rattle.decode80.specs.Facts.{flow}
-use Rattle.frames80.specs.declared.role.Role.{Role}
-use Rattle.frames80.specs.declared.fault.FrameFault.{FrameFault}
-use Rattle.frames80.specs.declared.effect.Effect.{Effect}
-use Rattle.frames80.specs.declared.effect.Effect.TheVariants.{Change as Changes, Halt, Jump, JumpIf as JumpsIf, Case, Call as Calls, CallIf as CallsIf, Return, ReturnIf as ReturnsIf, Refuse}
-use Rattle.frames80.specs.declared.moves.Moves.{Moves}
-use Rattle.frames80.specs.declared.moves.Moves.TheVariants.{On, Return as Returns, MaybeReturn}
-use Rattle.frames80.specs.StackFrame.{StackFrame}
-use Rattle.frames80.specs.Effects.{effect_of}
-use Rattle.frames80.specs.Moves.{moves_of, unless, changed, change_fault, return_fault}
 use Rattle.image80.specs.Regions.{Areas, targets_at}
 use Rattle.machine80.specs.declared.end.End.{End}
 use Rattle.machine80.specs.declared.end.End.TheVariants.{JumpOutside}
@@ -31,83 +21,8 @@ use Rattle.machine80.specs.Ports.{next_input}
 use Rattle.machine80.specs.Effects.{goes_to, target}
 use Rattle.machine80.specs.Step.{Machine, Turn, Next, Stop, execute, turn_of, jump_end, proceeded, with_input}
 use Rattle.machine80.specs.World.{is_return_taken, returns}
-use Rattle.verify80_flow.specs.Walks.{called}
 use Rattle.verify80.specs.Looking.{declared_targets}
 use Rattle.verify80_stores.proofs.StepLemmas.{next_in}
-
--- the procedure that an effect may call, by its entry
-abbrev callee_of : Effect → Option ℕ
-callee_of (Calls entry) = Some entry
-callee_of (CallsIf entry) = Some entry
-callee_of (Changes _) = None
-callee_of Halt = None
-callee_of (Jump _) = None
-callee_of (JumpsIf _) = None
-callee_of Case = None
-callee_of Return = None
-callee_of ReturnsIf = None
-callee_of (Refuse _) = None
-
--- the same of a flow
-abbrev pub flow_calls : Flow → ℕ → Type 0
-flow_calls (CallsTo to) entry = to ≡ entry
-flow_calls (CallsIfSo condition to) entry = to ≡ entry
-flow_calls Continues entry = ⊥
-flow_calls (Jumps to) entry = ⊥
-flow_calls (JumpsIfSo condition to) entry = ⊥
-flow_calls JumpsToHl entry = ⊥
-flow_calls ReturnsAlways entry = ⊥
-flow_calls (ReturnsIfSo condition) entry = ⊥
-flow_calls Pushes entry = ⊥
-flow_calls Pops entry = ⊥
-flow_calls Exchanges entry = ⊥
-flow_calls Halts entry = ⊥
-
--- the call of a move is that of its effect
-no_call : (o : Option FrameFault) (move moves : Moves) (entry : ℕ) → called move ≡ None → unless o move ≡ Ok moves → called moves ≡ Some entry → ⊥
-no_call None move moves entry none h call = let e : move ≡ moves = cc in let f : called move ≡ called moves = ap called e in cc
-no_call (Some fault) move moves entry none h call = cc
-
-called_is : (role : Role) (e : Effect) (f : StackFrame) (moves : Moves) (entry : ℕ) → moves_of role e f ≡ Ok moves → called moves ≡ Some entry → callee_of e ≡ Some entry
-called_is role (Changes change) f moves entry h call = absurd (no_call (change_fault role change f.words) (On (changed change f)) moves entry refl h call)
-called_is role Halt f moves entry h call = cc
-called_is role (Jump to) f moves entry h call = cc
-called_is role (JumpsIf to) f moves entry h call = cc
-called_is role Case f moves entry h call = cc
-called_is role (Calls to) f moves entry h call = cc
-called_is role (CallsIf to) f moves entry h call = cc
-called_is role Return f moves entry h call = absurd (no_call (return_fault role f.words) (Returns f.taken) moves entry refl h call)
-called_is role ReturnsIf f moves entry h call = absurd (no_call (return_fault role f.words) (MaybeReturn f f.taken) moves entry refl h call)
-called_is role (Refuse fault) f moves entry h call = cc
-
-some_of : ℕ → Option ℕ → ℕ
-some_of otherwise None = otherwise
-some_of otherwise (Some n) = n
-
-same_some : (a b : ℕ) → Some a ≡ Some b → a ≡ b
-unfolding some_of
-same_some a b h = ap (some_of a) h
-
--- and that of its flow
-pub calls_so : (role : Role) (i : Instr) (f : StackFrame) (moves : Moves) (entry : ℕ) → moves_of role (effect_of i) f ≡ Ok moves → called moves ≡ Some entry → flow_calls (flow i) entry
-calls_so role i f moves entry h call = by_instr i (called_is role (effect_of i) f moves entry h call) where
-  by_instr : (i : Instr) → callee_of (effect_of i) ≡ Some entry → flow_calls (flow i) entry
-  by_instr (Call to) is = same_some to entry is
-  by_instr (CallIf condition to) is = same_some to entry is
-  by_instr (Rst number) is = same_some _ entry is
-  by_instr (Lxi Bc word) is = cc
-  by_instr (Lxi De word) is = cc
-  by_instr (Lxi Hl word) is = cc
-  by_instr (Lxi Sp word) is = cc
-  by_instr (Inx Bc) is = cc
-  by_instr (Inx De) is = cc
-  by_instr (Inx Hl) is = cc
-  by_instr (Inx Sp) is = cc
-  by_instr (Dcx Bc) is = cc
-  by_instr (Dcx De) is = cc
-  by_instr (Dcx Hl) is = cc
-  by_instr (Dcx Sp) is = cc
-  by_instr i is = cc
 
 -- where a flow leads, returns that are taken aside, by the flags and HL
 abbrev pub Leads : Flow → Flags → (targets : List ℕ) → (next hl to : ℕ) → Type 0
@@ -116,12 +31,12 @@ Leads Pushes flags targets next hl to = to ≡ next
 Leads Pops flags targets next hl to = to ≡ next
 Leads Exchanges flags targets next hl to = to ≡ next
 Leads (Jumps address) flags targets next hl to = to ≡ address
-Leads (JumpsIfSo condition address) flags targets next hl to = ((holds condition flags ≡ true) × (to ≡ address)) ⊎ ((holds condition flags ≡ false) × (to ≡ next))
+Leads (JumpsIf condition address) flags targets next hl to = ((holds condition flags ≡ true) × (to ≡ address)) ⊎ ((holds condition flags ≡ false) × (to ≡ next))
 Leads JumpsToHl flags targets next hl to = Contains targets to × (to ≡ hl)
-Leads (CallsTo address) flags targets next hl to = to ≡ address
-Leads (CallsIfSo condition address) flags targets next hl to = ((holds condition flags ≡ true) × (to ≡ address)) ⊎ ((holds condition flags ≡ false) × (to ≡ next))
-Leads ReturnsAlways flags targets next hl to = ⊥
-Leads (ReturnsIfSo condition) flags targets next hl to = (holds condition flags ≡ false) × (to ≡ next)
+Leads (Calls address) flags targets next hl to = to ≡ address
+Leads (CallsIf condition address) flags targets next hl to = ((holds condition flags ≡ true) × (to ≡ address)) ⊎ ((holds condition flags ≡ false) × (to ≡ next))
+Leads Returns flags targets next hl to = ⊥
+Leads (ReturnsIf condition) flags targets next hl to = (holds condition flags ≡ false) × (to ≡ next)
 Leads Halts flags targets next hl to = ⊥
 
 -- either way of a test
@@ -141,12 +56,12 @@ goes Pushes targets next hl memory cpu no_jump no_halt = inr refl
 goes Pops targets next hl memory cpu no_jump no_halt = inr refl
 goes Exchanges targets next hl memory cpu no_jump no_halt = inr refl
 goes (Jumps to) targets next hl memory cpu no_jump no_halt = inr refl
-goes (JumpsIfSo condition to) targets next hl memory cpu no_jump no_halt = inr (either (holds condition cpu.registers.flags) to next)
+goes (JumpsIf condition to) targets next hl memory cpu no_jump no_halt = inr (either (holds condition cpu.registers.flags) to next)
 goes JumpsToHl targets next hl memory cpu no_jump no_halt = absurd (no_jump refl)
-goes (CallsTo to) targets next hl memory cpu no_jump no_halt = inr refl
-goes (CallsIfSo condition to) targets next hl memory cpu no_jump no_halt = inr (either (holds condition cpu.registers.flags) to next)
-goes ReturnsAlways targets next hl memory cpu no_jump no_halt = inl refl
-goes (ReturnsIfSo condition) targets next hl memory cpu no_jump no_halt = return_or_not (holds condition cpu.registers.flags) _ next
+goes (Calls to) targets next hl memory cpu no_jump no_halt = inr refl
+goes (CallsIf condition to) targets next hl memory cpu no_jump no_halt = inr (either (holds condition cpu.registers.flags) to next)
+goes Returns targets next hl memory cpu no_jump no_halt = inl refl
+goes (ReturnsIf condition) targets next hl memory cpu no_jump no_halt = return_or_not (holds condition cpu.registers.flags) _ next
 goes Halts targets next hl memory cpu no_jump no_halt = absurd (no_halt refl)
 
 -- what a test of a list finds is in it

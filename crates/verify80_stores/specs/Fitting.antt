@@ -1,21 +1,16 @@
--- A table of states that fits a program: states, each at an address, such that what the instruction there makes of one is inside one
--- wherever it leads; and if nothing is known, behind a call whose callee returns and at the start, one that says nothing. The runs of the
--- program are followed along such a table. (This project's own.)
+-- What a state in a table owes: states, each at an address, such that what the instruction there makes of one is inside one wherever it
+-- leads. (This project's own.)
 use Rattle.std.specs.Prelude.{◌≡◌, ℕ, Bool, true, false, List, All, Contains, Option, None, Some, Ok, slice_get}
 use Rattle.decode80.specs.declared.fetching.Fetched.{Fetched}
 use Rattle.decode80.specs.declared.instr.Instr.{Instr}
 use Rattle.decode80.specs.declared.flow.Flow.{Flow}
 use Rattle.decode80.specs.declared.flow.Flow.TheVariants.{Continues, Jumps, JumpsIf, JumpsToHl, Calls, CallsIf, Returns, ReturnsIf, Pushes, Pops, Exchanges, Halts}
 use Rattle.decode80.specs.Facts.{flow}
-use Rattle.frames80.specs.declared.procedure.Procedure.TheVariants.{Entry}
-use Rattle.frames80.specs.Code.{Code}
-use Rattle.verify80_flow.specs.Rows.{ReturnsWith}
-use Rattle.verify80.specs.Reached.{IsReached}
 use Rattle.verify80_stores.specs.declared.states.state.State.{State}
 use Rattle.verify80_stores.specs.declared.fitting.fitting.Placed.{Placed}
 use Rattle.verify80_stores.specs.Span.{Within}
 use Rattle.verify80_stores.specs.Cells.{AreQuietCells}
-use Rattle.verify80_stores.specs.State.{IsStateInside, anything}
+use Rattle.verify80_stores.specs.State.{IsStateInside}
 use Rattle.verify80_stores.specs.Following.{state_after}
 use Rattle.verify80_stores.specs.Given.{given}
 
@@ -68,22 +63,6 @@ CallsEntry Pops entry = ⊥
 CallsEntry Exchanges entry = ⊥
 CallsEntry Halts entry = ⊥
 
--- if the callee of an instruction is one of these, which return, the table has a state behind it that says nothing
-abbrev pub LeadsBehind : (returning : ℕ → Type 0) → List Placed → Fetched → Type 0
-LeadsBehind returning table found = (entry : ℕ) → CallsEntry (flow found.instr) entry → returning entry → Has table found.next anything
-
--- a walk of the procedure that begins at an address returns
-abbrev pub ReturnsSomewhere : Code → ℕ → Type 0
-ReturnsSomewhere code entry = (taken : ℕ) × ReturnsWith code (Entry entry) taken
-
 -- a table knows bytes of quiet addresses alone
 abbrev pub KnowsQuiet : (quiet : ℕ → Bool) → List Placed → Type 0
 KnowsQuiet quiet table = All (λ placed. AreQuietCells quiet placed.state.cells) table
-
--- the table fits
-pub record Fits (quiet : ℕ → Bool) (code : Code) (bytes : List (Option ℕ)) (table : List Placed) : Type 0 where
-  pub start : Has table code.start anything
-  pub entries : (place : ℕ) (placed : Placed) (found : Fetched) → slice_get table place ≡ Some placed → IsReached code placed.at →
-      code.look placed.at ≡ Ok found → FitsAt bytes (code.targets placed.at) table placed.state found
-  pub knows : KnowsQuiet quiet table
-  pub behind : (at : ℕ) (found : Fetched) → IsReached code at → code.look at ≡ Ok found → LeadsBehind (ReturnsSomewhere code) table found

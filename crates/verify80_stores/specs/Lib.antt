@@ -10,8 +10,10 @@ pub mod State
 pub mod Following
 pub mod Given
 pub mod Steps
-pub mod Returning
+pub mod Marks
 pub mod Fitting
+pub mod Calls
+pub mod FittingTable
 pub mod Runs
 pub mod DataReach
 pub mod Kinds

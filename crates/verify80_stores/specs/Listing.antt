@@ -15,7 +15,7 @@ use Rattle.verify80_stores.specs.declared.fitting.fitting.Placed.{Placed}
 use Rattle.verify80_stores.specs.declared.stores.OpenStore.{OpenStore}
 use Rattle.verify80_stores.specs.Span.{IsInside}
 use Rattle.verify80_stores.specs.Following.{entry_in}
-use Rattle.verify80_stores.specs.Returning.{is_marked}
+use Rattle.verify80_stores.specs.Marks.{is_marked}
 use Rattle.verify80_stores.specs.State.{anything}
 use Rattle.verify80_stores.specs.Pointers.{stores_by_pair}
 use Rattle.verify80_stores.specs.Opening.{pointer_span, StaysIn, IsLeftOpen}

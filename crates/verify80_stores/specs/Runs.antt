@@ -5,16 +5,18 @@ use Rattle.image80.specs.Image.{Located}
 use Rattle.image80.specs.Regions.{AreRegions, in_data}
 use Rattle.machine80.specs.Effects.{target}
 use Rattle.machine80.specs.Step.{Machine, Next, step_of}
-use Rattle.machine80.specs.World.{World, FetchesInside, fetched_by, returns}
+use Rattle.machine80.specs.World.{World, FetchesInside, IsNewest, fetched_by, places_then, returns}
 use Rattle.machine80.specs.Run.{world_of}
 use Rattle.verify80.specs.Looking.{code_of}
 use Rattle.verify80.specs.Starts.{IsStart, IsWorldFrom, NeverGoesWrongFromPowerOn}
-use Rattle.verify80.specs.Reached.{IsBehindCall, StandsOnWalk, StaysOnWalks}
+use Rattle.verify80.specs.Reached.{StandsOnWalk, StaysOnWalks}
 use Rattle.verify80_stores.specs.declared.fitting.fitting.Placed.{Placed}
 use Rattle.verify80_stores.specs.Bytes.{HoldsBytes}
 use Rattle.verify80_stores.specs.State.{Holds}
 use Rattle.verify80_stores.specs.Steps.{AreCodeBytes, HasCode}
-use Rattle.verify80_stores.specs.Fitting.{Fits, KnowsQuiet}
+use Rattle.verify80_stores.specs.Fitting.{KnowsQuiet}
+use Rattle.verify80_stores.specs.Calls.{Effects, Owes}
+use Rattle.verify80_stores.specs.FittingTable.{Fits}
 
 -- one of the states that the table has at a world's address holds, and the world's memory has the image's code
 pub record KeepsTo (image : Located) (table : List Placed) (w : World) : Type 0 where
@@ -26,6 +28,11 @@ pub record KeepsTo (image : Located) (table : List Placed) (w : World) : Type 0 
   pub code : HasCode image w.machine.memory
   pub whole : length w.machine.memory ≡ 65536
 
+-- the same, and what is owed to its open calls
+pub record KeepsToCalls (image : Located) (quiet : ℕ → Bool) (effects : Effects) (table : List Placed) (w : World) : Type 0 where
+  pub keeps : KeepsTo image table w
+  pub owes : Owes effects quiet table w.machine.memory (effects.stored w.machine.cpu.pc) (effects.returning w.machine.cpu.pc) w.places
+
 -- so it is for each world of each run from power-on, whatever bytes are in the registers, in memory outside the code and at the
 -- ports
 abbrev pub RunsKeepTo : Located → List Placed → Type 0
@@ -33,26 +40,29 @@ RunsKeepTo image table =
     (start : Machine) → IsStart image start → HoldsBytes start → (most : Option ℕ) (w : World) → IsWorldFrom image start most w →
     KeepsTo image table w
 
--- what the verifier knows of a world: it stands on a walk, a return that it takes goes behind a call whose callee returns, and its next
--- step fetches inside code
+-- what the verifier knows of a world: it stands on a walk, a return that it takes goes to the place after the newest open call, and its
+-- next step fetches inside code
 pub record IsKnown (image : Located) (w : World) : Type 0 where
   pub stands : StandsOnWalk image w
   pub returning : (found : Fetched) → fetched_by image.regions w ≡ Some found → returns found.instr w.machine.cpu.registers.flags ≡ true →
-      IsBehindCall (code_of image) (target found.instr found.next w.machine.memory w.machine.cpu)
+      IsNewest (target found.instr found.next w.machine.memory w.machine.cpu) w.places
   pub inside : FetchesInside image.regions w
 
 -- each start keeps to a table, and each step of a known world that keeps to it
 pub record IsKept (image : Located) (quiet : ℕ → Bool) (table : List Placed) : Type 0 where
   pub knows : KnowsQuiet quiet table
+  pub effects : Effects
   pub starts : (start : Machine) → start.cpu.pc ≡ image.start → HasCode image start.memory → length start.memory ≡ 65536 → HoldsBytes start → StandsOnWalk image (world_of start) →
-      KeepsTo image table (world_of start)
+      KeepsToCalls image quiet effects table (world_of start)
   pub steps : (refused : Bool) (w after : World) → IsKnown image w → StandsOnWalk image after → HoldsBytes w.machine →
-      HoldsBytes after.machine → KeepsTo image table w → step_of image.regions refused w.machine ≡ Next after.machine → KeepsTo image table after
+      HoldsBytes after.machine → KeepsToCalls image quiet effects table w → step_of image.regions refused w.machine ≡ Next after.machine →
+      after.places ≡ places_then (fetched_by image.regions w) w.machine.cpu.registers.flags w.places →
+      KeepsToCalls image quiet effects table after
 
 -- a table that fits is kept, and runs that stay on walks keep to a table that is
 abbrev pub FittingTablesAreKept : Type 0
-FittingTablesAreKept = (image : Located) (quiet : ℕ → Bool) (code : List (Option ℕ)) (table : List Placed) → AreRegions image.regions →
-    AreCodeBytes image code → ((at : ℕ) → quiet at ≡ true → in_data image.regions at ≡ true) → Fits quiet (code_of image) code table → IsKept image quiet table
+FittingTablesAreKept = (image : Located) (quiet : ℕ → Bool) (code : List (Option ℕ)) (effects : Effects) (table : List Placed) → AreRegions image.regions →
+    AreCodeBytes image code → ((at : ℕ) → quiet at ≡ true → in_data image.regions at ≡ true) → Fits quiet (code_of image) code effects table → IsKept image quiet table
 
 abbrev pub RunsKeepToKeptTables : Type 0
 RunsKeepToKeptTables = (image : Located) (bytes : ℕ) (quiet : ℕ → Bool) (table : List Placed) → NeverGoesWrongFromPowerOn image bytes →

@@ -1,7 +1,6 @@
 //! The stores of a program.
 
-ghost use Rattle.std.specs.Prelude.{◌≡◌, ◌<◌, ℕ, [], All, Some, IfOk, length, slice_get, true};
-ghost use Rattle.verify80_flow.specs.Rows.{AreRows};
+ghost use Rattle.std.specs.Prelude.{◌≡◌, ◌<◌, ℕ, [], All, IfOk, IfSome, length, true};
 ghost use Rattle.image80.specs.Image.{memory_of};
 ghost use Rattle.image80.specs.Regions.{AreRegions};
 ghost use Rattle.verify80.specs.Looking.{code_of};
@@ -10,16 +9,18 @@ ghost use Rattle.verify80_calls.specs.Reached.{AreReached};
 ghost use Rattle.verify80_stores.specs.Bytes.{HasBytes};
 ghost use Rattle.verify80_stores.specs.Boards.{PromiseHoldsOnBoards, PromiseHoldsOnQuietBoards, is_quiet};
 ghost use Rattle.verify80_stores.specs.State.{anything};
+ghost use Rattle.verify80_stores.specs.Marks.{is_marked};
+ghost use Rattle.verify80_stores.specs.Steps.{AreCodeBytes};
 ghost use Rattle.verify80_stores.specs.Runs.{IsKept};
 ghost use Rattle.verify80_stores.specs.Stores.{AreStoresOf, WatchedRunsGoAsListed};
 ghost use Rattle.verify80_stores.specs.Listing.{AreKnown, SaysNothingAt};
 
 use crate::code_bytes::code_bytes;
-use crate::fitting::{Placed, fits, fitting_states_hold, mark_returning};
+use crate::fitting::{CallEffects, Placed, fits, fitting_states_hold};
 use crate::laws::watched_runs_go_as_listed;
 use crate::listing::{Kind, addresses_of, open_jumps, open_marks, open_stores, spans_of};
 use crate::quiet::mark_quiet;
-use crate::search::{Proposal, ReachedProgram, propose};
+use crate::search::{Groups, Proposal, ReachedProgram, propose};
 use crate::spans::bytes_stay_bytes;
 use crate::stack_pointer::sets_stack;
 use crate::states::State;
@@ -43,7 +44,8 @@ use verify80_calls::find_reached;
 /// address that isn't listed as open goes to data, and each that is goes to an address of its span. So a run ends at a store only if that
 /// is listed, and at a PCHL outside its targets only at one of the listed ones. A board goes on there, and then nothing is promised, of the
 /// other stores either. Up to there the whole promise holds on every board, whatever devices write to any byte that is neither code nor
-/// stack, if there are no quiet ranges (`boards`), and to no quiet address, if there are (`quiet_boards`). That a listed store can leave data isn't said. (The stores are MOV M,r, MVI M, INR M, DCR M and STAX: Intel 8080
+/// stack, if there are no quiet ranges (`boards`), and to no quiet address, if there are (`quiet_boards`). That a listed store can leave
+/// data isn't said. (The stores are MOV M,r, MVI M, INR M, DCR M and STAX: Intel 8080
 /// Microcomputer Systems User's Manual, chapter 4.)
 ///
 /// Loops with constant bounds are walked through, up to some thousand states at an address; how many states there are, and how often
@@ -114,14 +116,12 @@ fn are_bytes(memory: &[u8])
 /// What is known of a vouched image's runs. (It carries laws, and does nothing.)
 fn runs_of(vouched: &Vouched)
     ensures runs { AreKnown vouched.now.image vouched.now.stack_bytes }
-    ensures rows { AreRows (code_of vouched.now.image) vouched.now.rows }
 {
     accepted_images_stay_on_walks();
     images_never_go_wrong_from_power_on();
     promise_is_kept_on_boards();
     walks_are_kept_on_boards();
     vouched.image().regions.stack();
-    vouched.rows();
 }
 
 /// States, to which all runs keep.
@@ -135,45 +135,89 @@ fn states_of(
     reached: &[Option<Fetched>],
     quiet: &[Range],
 ) -> Result<Vec<Placed>, AllocError>
-    requires rows { AreRows (code_of image.now) rows.now }
     requires reached { AreReached (code_of image.now) reached.now }
     requires whole { length reached.now ≡ 65536 }
     requires rules { AreRegions image.now.regions }
     ensures { IfOk result (λ table. IsKept image.now (is_quiet image.now.regions quiet.now) table.items) }
 {
-    fitting_states_hold();
     bytes_stay_bytes();
     code_data_and_stack_are_apart();
-    let returning = mark_returning(alloc, rows)?;
     let code = code_bytes(alloc, image)?;
     let marks = mark_quiet(alloc, &image.regions, quiet)?;
+    let none = CallEffects::none(alloc);
     let program = ReachedProgram {
         code: &code,
         instructions: reached,
-        returning: &returning,
+        effects: &none,
         start: image.start,
         regions: &image.regions,
         quiet: &marks,
     };
-    let Proposal {
-        table,
-        hints,
-        behind,
-    } = propose(alloc, program)?;
+    let groups = Groups::new(alloc, program, rows)?;
+    let any = groups.any_effects(alloc)?;
+    let first = propose(
+        alloc,
+        ReachedProgram {
+            effects: &any,
+            ..program
+        },
+    )?;
+    if !quiet.is_empty() {
+        // What procedures store to is read off the first states. Then bytes that they leave are known behind their calls.
+        let effects = groups.effects(alloc, program, &first.table)?;
+        let Proposal { table, hints } = propose(
+            alloc,
+            ReachedProgram {
+                effects: &effects,
+                ..program
+            },
+        )?;
+        if let Some(table) =
+            fitting_table(image, reached, quiet, &code, &marks, &effects, table, &hints)
+        {
+            return Ok(table);
+        }
+    }
+    let Proposal { table, hints } = first;
+    match fitting_table(image, reached, quiet, &code, &marks, &any, table, &hints) {
+        Some(table) => Ok(table),
+        None => anything(alloc),
+    }
+}
+
+/// A table, if it fits the image.
+fn fitting_table(
+    image: &Image,
+    reached: &[Option<Fetched>],
+    quiet: &[Range],
+    code: &[Option<u8>],
+    marks: &[bool],
+    effects: &CallEffects,
+    table: Vec<Placed>,
+    hints: &[u32],
+) -> Option<Vec<Placed>>
+    requires reached { AreReached (code_of image.now) reached.now }
+    requires whole { length reached.now ≡ 65536 }
+    requires rules { AreRegions image.now.regions }
+    requires code { AreCodeBytes image.now code.now }
+    requires marks { (at : ℕ) → is_marked marks.now at ≡ true → is_quiet image.now.regions quiet.now at ≡ true }
+    ensures { IfSome result (λ table. IsKept image.now (is_quiet image.now.regions quiet.now) table.items) }
+{
+    fitting_states_hold();
     if fits(
         &table,
-        &hints,
-        &behind,
-        &code,
-        &returning,
+        hints,
+        effects,
+        code,
         image.start,
         &image.regions,
         reached,
-        &marks,
+        marks,
     ) {
-        return Ok(table);
+        Some(table)
+    } else {
+        None
     }
-    anything(alloc)
 }
 
 /// A table of which the state at each address says nothing.

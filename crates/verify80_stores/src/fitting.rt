@@ -4,13 +4,15 @@
 //! |---|---|
 //! | [`Placed`] | a state at an address |
 //! | [`fits`] | whether a table fits |
-//! | [`mark_returning`] | marks the procedures that return |
+//! | [`CallEffects`] | what the procedure at each address may still do before it returns |
 //! | [`fitting_states_hold`] | runs keep to a table that fits, as a contract |
 
+mod calls;
 mod fitting;
 mod laws;
-mod returning;
+mod marks;
 
+pub(crate) use calls::{CallEffect, CallEffects};
 pub(crate) use fitting::{Placed, fits, reached_at, targets_at};
 pub(crate) use laws::fitting_states_hold;
-pub(crate) use returning::{is_marked, mark_returning, unmarked};
+pub(crate) use marks::{is_marked, unmarked};

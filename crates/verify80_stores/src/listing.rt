@@ -7,7 +7,7 @@ ghost use Rattle.verify80_stores.specs.declared.spans.span.Span.{Span};
 ghost use Rattle.verify80_stores.specs.Span.{Within};
 ghost use Rattle.verify80_stores.specs.Following.{entry_in};
 ghost use Rattle.verify80_stores.specs.DataReach.{AreDataEnds};
-ghost use Rattle.verify80_stores.specs.Returning.{is_marked};
+ghost use Rattle.verify80_stores.specs.Marks.{is_marked};
 ghost use Rattle.verify80_stores.specs.Pointers.{stores_by_pair};
 ghost use Rattle.verify80_stores.specs.Opening.{joined_span, span_in, StaysIn, IsLeftOpen};
 ghost use Rattle.verify80_stores.specs.Listing.{AreAllBelow, AreOpenBelow, AreOpenMarks, AreSpans, IsListed, is_at, is_marked_at, reached_at};

@@ -3,7 +3,7 @@
 ghost use Rattle.std.specs.Prelude.{◌≡◌, ℕ, IfOk, true};
 ghost use Rattle.image80.specs.Range.{in_ranges};
 ghost use Rattle.verify80_stores.specs.Boards.{is_quiet};
-ghost use Rattle.verify80_stores.specs.Returning.{is_marked};
+ghost use Rattle.verify80_stores.specs.Marks.{is_marked};
 
 use crate::fitting::unmarked;
 use image80::{Range, Regions};

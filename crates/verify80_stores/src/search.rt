@@ -9,8 +9,10 @@
 //! |---|---|
 //! | [`propose`] | a table of states, and its hints |
 //! | [`ReachedProgram`] | the program that they are proposed for |
+//! | [`Groups`] | what its procedures may do before they return |
 
 mod compacting;
+mod groups;
 mod landmarks;
 mod needs;
 mod nodes;
@@ -19,5 +21,6 @@ mod proposing;
 mod slots;
 mod units;
 
+pub(crate) use groups::Groups;
 pub(crate) use program::ReachedProgram;
 pub(crate) use proposing::{Proposal, propose};

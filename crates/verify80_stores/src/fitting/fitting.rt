@@ -2,19 +2,22 @@
 
 ghost use Rattle.std.specs.Prelude.{◌≡◌, ◌<◌, ℕ, true, Contains, Some, length, slice_get};
 ghost use Rattle.decode80.specs.declared.fetching.Fetched.{Fetched};
+ghost use Rattle.decode80.specs.Facts.{flow, storing};
 ghost use Rattle.verify80.specs.Looking.{declared_targets};
 ghost use Rattle.verify80_stores.specs.declared.fitting.fitting.Placed.{Placed};
 ghost use Rattle.verify80_stores.specs.Span.{Within};
 ghost use Rattle.verify80_stores.specs.State.{anything};
 ghost use Rattle.verify80_stores.specs.Following.{state_after};
 ghost use Rattle.verify80_stores.specs.Listing.{reached_at};
-ghost use Rattle.verify80_stores.specs.Returning.{is_marked};
-ghost use Rattle.verify80_stores.specs.Fitting.{Has, HasAfter, LeadsBehind, FitsAt, KnowsQuiet};
+ghost use Rattle.verify80_stores.specs.Marks.{is_marked};
+ghost use Rattle.verify80_stores.specs.Fitting.{CallsEntry, Has, HasAfter, FitsAt, KnowsQuiet};
+ghost use Rattle.verify80_stores.specs.Calls.{AccountsFor, KeepsCalls, MayStore, behind_call, effects_of};
+ghost use Rattle.verify80_stores.specs.FittingTable.{AllFit};
 
-use crate::fitting::returning::is_marked;
+use crate::fitting::calls::CallEffects;
 use crate::spans::Span;
-use crate::states::{State, given, state_after};
-use decode80::{Fetched, Flow};
+use crate::states::{State, given, index_words, state_after};
+use decode80::{Fetched, Flow, Instr, Storing, ahead};
 use image80::Regions;
 
 /// A state at an address.
@@ -176,14 +179,12 @@ fn state_fits(
 }
 
 /// Whether a table of states fits a program that begins at `start`, of which these instructions are reached, by address, and whose
-/// procedures return at these marks, by entry; something is known of the bytes at quiet addresses alone. The first of the hints is that
-/// of the start; `behind` has by address the place of the state behind the call there.
+/// procedures have these effects; something is known of the bytes at quiet addresses alone. The first of the hints is that of the start.
 pub(crate) fn fits(
     table: &[Placed],
     hints: &[u32],
-    behind: &[u32],
+    effects: &CallEffects,
     code: &[Option<u8>],
-    returning: &[bool],
     start: u16,
     regions: &Regions,
     reached: &[Option<Fetched>],
@@ -191,52 +192,12 @@ pub(crate) fn fits(
 ) -> bool
     ensures quiet { result ≡ true → KnowsQuiet (is_marked quiet.now) table.now }
     ensures start { result ≡ true → Has table.now start anything }
-    ensures entries { result ≡ true → (place : ℕ) (placed : Placed) (found : Fetched) → slice_get table.now place ≡ Some placed →
-        reached_at reached.now placed.at ≡ Some found → FitsAt code.now (declared_targets regions.now placed.at) table.now placed.state found }
-    ensures behind { result ≡ true → (at : ℕ) (found : Fetched) → at < 65536 → reached_at reached.now at ≡ Some found →
-        LeadsBehind (λ entry. is_marked returning.now entry ≡ true) table.now found }
+    ensures fit { result ≡ true → AllFit regions.now code.now (effects_of effects.now) reached.now table.now }
 {
     all_know_quiet(table, quiet)
-        && leads_on(
-            table, hints, behind, code, returning, start, regions, reached,
-        )
-}
-
-/// Whether the table has a state wherever the program begins, goes on and returns to.
-fn leads_on(
-    table: &[Placed],
-    hints: &[u32],
-    behind: &[u32],
-    code: &[Option<u8>],
-    returning: &[bool],
-    start: u16,
-    regions: &Regions,
-    reached: &[Option<Fetched>],
-) -> bool
-    ensures start { result ≡ true → Has table.now start anything }
-    ensures entries { result ≡ true → (place : ℕ) (placed : Placed) (found : Fetched) → slice_get table.now place ≡ Some placed →
-        reached_at reached.now placed.at ≡ Some found → FitsAt code.now (declared_targets regions.now placed.at) table.now placed.state found }
-    ensures behind { result ≡ true → (at : ℕ) (found : Fetched) → at < 65536 → reached_at reached.now at ≡ Some found →
-        LeadsBehind (λ entry. is_marked returning.now entry ≡ true) table.now found }
-{
-    all_lead_behind(table, behind, returning, reached)
-        && starts_and_goes_on(table, hints, code, start, regions, reached)
-}
-
-/// Whether the table has a state wherever the program begins and goes on to.
-fn starts_and_goes_on(
-    table: &[Placed],
-    hints: &[u32],
-    code: &[Option<u8>],
-    start: u16,
-    regions: &Regions,
-    reached: &[Option<Fetched>],
-) -> bool
-    ensures start { result ≡ true → Has table.now start anything }
-    ensures entries { result ≡ true → (place : ℕ) (placed : Placed) (found : Fetched) → slice_get table.now place ≡ Some placed →
-        reached_at reached.now placed.at ≡ Some found → FitsAt code.now (declared_targets regions.now placed.at) table.now placed.state found }
-{
-    has(table, hints, 0, start, State::ANY) && all_fit(table, hints, code, regions, reached)
+        && has(table, hints, 0, start, State::ANY)
+        && all_account(effects, regions, reached)
+        && all_fit(table, hints, effects, code, regions, reached)
 }
 
 /// Whether a table knows bytes of quiet addresses alone.
@@ -251,59 +212,51 @@ fn all_know_quiet(table: &[Placed], quiet: &[bool]) -> bool
     true
 }
 
-/// Whether behind each call whose callee returns the table has a state that says nothing.
-fn all_lead_behind(
-    table: &[Placed],
-    behind: &[u32],
-    returning: &[bool],
-    reached: &[Option<Fetched>],
-) -> bool
+/// Whether each address accounts for what may come where its instruction leads.
+fn all_account(effects: &CallEffects, regions: &Regions, reached: &[Option<Fetched>]) -> bool
     ensures { result ≡ true → (at : ℕ) (found : Fetched) → at < 65536 → reached_at reached.now at ≡ Some found →
-        LeadsBehind (λ entry. is_marked returning.now entry ≡ true) table.now found }
+        AccountsFor (effects_of effects.now) (declared_targets regions.now at) at found.next (flow found.instr) }
 {
     for at in 0..65_536_usize {
-        if !leads_behind(table, behind, returning, reached, at as u16) {
+        if !accounts_at(effects, regions, reached, at as u16) {
             return false;
         }
     }
     true
 }
 
-/// Whether behind a call it has.
-fn leads_behind(
-    table: &[Placed],
-    behind: &[u32],
-    returning: &[bool],
+/// Whether one does, if an instruction is reached there.
+fn accounts_at(
+    effects: &CallEffects,
+    regions: &Regions,
     reached: &[Option<Fetched>],
     at: u16,
 ) -> bool
     ensures { result ≡ true → (found : Fetched) → reached_at reached.now at ≡ Some found →
-        LeadsBehind (λ entry. is_marked returning.now entry ≡ true) table.now found }
+        AccountsFor (effects_of effects.now) (declared_targets regions.now at) at found.next (flow found.instr) }
 {
-    let Some(Fetched { instr, next }) = reached_at(reached, at) else {
-        return true;
-    };
-    match instr.flow() {
-        Flow::Calls(entry) | Flow::CallsIf(_, entry) => {
-            !is_marked(returning, entry) || has(table, behind, u32::from(at), next, State::ANY)
-        }
-        _ => true,
+    match reached_at(reached, at) {
+        Some(found) => effects.accounts_for(targets_at(regions, at), at, found),
+        None => true,
     }
 }
 
-/// Whether each state fits.
+/// Whether each state fits, and keeps to what its address accounts for.
 fn all_fit(
     table: &[Placed],
     hints: &[u32],
+    effects: &CallEffects,
     code: &[Option<u8>],
     regions: &Regions,
     reached: &[Option<Fetched>],
 ) -> bool
-    ensures { result ≡ true → (place : ℕ) (placed : Placed) (found : Fetched) → slice_get table.now place ≡ Some placed →
+    ensures entries { result ≡ true → (place : ℕ) (placed : Placed) (found : Fetched) → slice_get table.now place ≡ Some placed →
         reached_at reached.now placed.at ≡ Some found → FitsAt code.now (declared_targets regions.now placed.at) table.now placed.state found }
+    ensures calls { result ≡ true → (place : ℕ) (placed : Placed) (found : Fetched) → slice_get table.now place ≡ Some placed →
+        reached_at reached.now placed.at ≡ Some found → KeepsCalls (effects_of effects.now) table.now placed.at placed.state found }
 {
     for placed in table {
-        if !placed_fits(table, hints, code, regions, reached, *placed) {
+        if !placed_fits(table, hints, effects, code, regions, reached, *placed) {
             return false;
         }
     }
@@ -314,25 +267,100 @@ fn all_fit(
 fn placed_fits(
     table: &[Placed],
     hints: &[u32],
+    effects: &CallEffects,
     code: &[Option<u8>],
     regions: &Regions,
     reached: &[Option<Fetched>],
     placed: Placed,
 ) -> bool
-    ensures { result ≡ true → (found : Fetched) → reached_at reached.now placed.at ≡ Some found →
+    ensures entries { result ≡ true → (found : Fetched) → reached_at reached.now placed.at ≡ Some found →
         FitsAt code.now (declared_targets regions.now placed.at) table.now placed.state found }
+    ensures calls { result ≡ true → (found : Fetched) → reached_at reached.now placed.at ≡ Some found →
+        KeepsCalls (effects_of effects.now) table.now placed.at placed.state found }
 {
     match reached_at(reached, placed.at) {
-        Some(found) => state_fits(
-            table,
-            hints,
-            code,
-            targets_at(regions, placed.at),
-            placed,
-            found,
-        ),
+        Some(found) => {
+            state_fits(
+                table,
+                hints,
+                code,
+                targets_at(regions, placed.at),
+                placed,
+                found,
+            ) && keeps_calls(table, hints, effects, placed, found)
+        }
         None => true,
     }
+}
+
+/// Whether a state accounts for what its instruction stores, and the table has what is left of it behind a call.
+fn keeps_calls(
+    table: &[Placed],
+    hints: &[u32],
+    effects: &CallEffects,
+    placed: Placed,
+    found: Fetched,
+) -> bool
+    ensures { result ≡ true → KeepsCalls (effects_of effects.now) table.now placed.at placed.state found }
+{
+    accounts_for_stores(effects, placed.at, found.instr, placed.state)
+        && keeps_behind(table, hints, effects, placed, found)
+}
+
+/// Whether an address accounts for all that its instruction may store to in a state.
+fn accounts_for_stores(effects: &CallEffects, at: u16, instr: Instr, state: State) -> bool
+    ensures { result ≡ true → (address : ℕ) → MayStore (storing instr) state address → (effects_of effects.now).stored at address ≡ true }
+{
+    match instr.storing() {
+        Storing::Nowhere => true,
+        Storing::Byte(address) => effects.stores_to(at, address),
+        Storing::Word(address) => {
+            effects.stores_to(at, address) && effects.stores_to(at, ahead(address, 1))
+        }
+        Storing::ThroughHl => effects.stores_to_all(at, state.hl.words),
+        Storing::Through(pair) => effects.stores_to_all(at, index_words(state, pair)),
+    }
+}
+
+/// Whether behind a call whose callee may return the table has what is left of a state.
+fn keeps_behind(
+    table: &[Placed],
+    hints: &[u32],
+    effects: &CallEffects,
+    placed: Placed,
+    found: Fetched,
+) -> bool
+    ensures { result ≡ true → (entry : ℕ) → CallsEntry (flow found.instr) entry → (effects_of effects.now).returning entry ≡ true →
+        Has table.now found.next (behind_call ((effects_of effects.now).stored entry) placed.state) }
+{
+    let Fetched { instr, next } = found;
+    match instr.flow() {
+        Flow::Calls(entry) => {
+            let hint = placed.hint.saturating_add(1);
+            has_behind(table, hints, hint, effects, entry, next, placed.state)
+        }
+        Flow::CallsIf(_, entry) => {
+            let hint = placed.hint.saturating_add(2);
+            has_behind(table, hints, hint, effects, entry, next, placed.state)
+        }
+        _ => true,
+    }
+}
+
+/// Whether behind a call of the procedure at `entry` it has.
+fn has_behind(
+    table: &[Placed],
+    hints: &[u32],
+    hint: u32,
+    effects: &CallEffects,
+    entry: u16,
+    next: u16,
+    state: State,
+) -> bool
+    ensures { result ≡ true → (effects_of effects.now).returning entry ≡ true →
+        Has table.now next (behind_call ((effects_of effects.now).stored entry) state) }
+{
+    !effects.returns(entry) || has(table, hints, hint, next, state.behind(effects, entry))
 }
 
 /// The instruction that is reached at an address.

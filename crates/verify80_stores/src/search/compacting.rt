@@ -19,15 +19,11 @@ pub(crate) fn narrow(
     alloc: Global,
     nodes: &mut Nodes,
     hints: &[u32],
-    behind: &[u32],
     program: ReachedProgram<'_>,
     start: u32,
 ) -> Result<(), AllocError> {
     let mut led = vec![in alloc; None; nodes.len()]?;
     join_at(&mut led, nodes.holder(start), State::ANY, nodes);
-    for place in behind {
-        join_at(&mut led, nodes.holder(*place), State::ANY, nodes);
-    }
     for number in 0..nodes.len() {
         let place = place_of(number);
         if let Some((node, found)) = followed(nodes, program, place) {
@@ -98,7 +94,6 @@ pub(crate) fn compact(
     alloc: Global,
     nodes: &Nodes,
     hints: &[u32],
-    behind: &[u32],
     program: ReachedProgram<'_>,
     start: u32,
 ) -> Result<Proposal, AllocError> {
@@ -106,12 +101,7 @@ pub(crate) fn compact(
     let mut proposal = Proposal {
         table: Vec::new(alloc),
         hints: Vec::new(alloc),
-        behind: Vec::with_capacity(alloc, behind.len())?,
     };
-    for place in behind {
-        let held = new_place(&places, nodes.holder(*place));
-        proposal.behind.push(held)?;
-    }
     proposal
         .hints
         .push(new_place(&places, nodes.holder(start)))?;

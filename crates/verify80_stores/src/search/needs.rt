@@ -156,8 +156,9 @@ fn need_before(
             .and(need_at(needs, to))
             .with(Units::of_condition(condition)),
         Flow::ReturnsIf(condition) => need_at(needs, next).with(Units::of_condition(condition)),
-        Flow::Calls(to) => called(need_at(needs, to)),
+        Flow::Calls(to) => called(need_at(needs, to)).and(kept(program, to, need_at(needs, next))),
         Flow::CallsIf(condition, to) => called(need_at(needs, to))
+            .and(kept(program, to, need_at(needs, next)))
             .and(need_at(needs, next))
             .with(Units::of_condition(condition)),
         Flow::JumpsToHl => {
@@ -176,6 +177,14 @@ fn called(need: Need) -> Need {
     Need {
         parts: parts.without(Units::WORDS).and(parts.shallower()),
         slots: need.slots,
+    }
+}
+
+/// What is needed before a call of the procedure at `entry` of that which is needed behind it: bytes of memory that stay.
+fn kept(program: ReachedProgram<'_>, entry: u16, need: Need) -> Need {
+    Need {
+        parts: Units::NONE,
+        slots: program.kept(entry, need.slots),
     }
 }
 

@@ -1,19 +1,21 @@
 //! The program that states are proposed for, and its ways.
 
-use crate::search::slots::Slots;
+use crate::fitting::CallEffects;
+use crate::search::slots::{SLOTS, Slots};
+use crate::spans::Span;
 use crate::states::{State, given, state_after};
 use decode80::{Fetched, Flow, Instr};
 use image80::Regions;
 
-/// A program: its code, its instructions that may be reached, and which of its procedures return.
+/// A program: its code, its instructions that may be reached, and what its procedures may do.
 #[derive(Clone, Copy)]
 pub(crate) struct ReachedProgram<'a> {
     /// The byte of code at each address: by address, 65,536 places.
     pub code: &'a [Option<u8>],
     /// The instruction at each address that the program may reach, and the address after it: by address, 65,536 places.
     pub instructions: &'a [Option<Fetched>],
-    /// Whether the procedure that begins at an address returns: by address, 65,536 places.
-    pub returning: &'a [bool],
+    /// What the procedure that runs at an address may do before it returns.
+    pub effects: &'a CallEffects,
     /// The address of the first instruction.
     pub start: u16,
     /// Where data is, and the targets of each PCHL.
@@ -39,14 +41,6 @@ impl<'a> ReachedProgram<'a> {
         }
     }
 
-    /// Whether the procedure that begins at an address returns.
-    fn returns(self, entry: u16) -> bool {
-        match self.returning.get(usize::from(entry)) {
-            Some(returns) => *returns,
-            None => false,
-        }
-    }
-
     /// The targets that are declared for the PCHL at an address.
     pub fn targets(self, address: u16) -> &'a [u16] {
         let regions = self.regions;
@@ -56,13 +50,34 @@ impl<'a> ReachedProgram<'a> {
         }
     }
 
-    /// The address behind the call at an address, if its callee returns.
+    /// The address behind the call at an address, if its callee may return and store anywhere: then nothing is known there.
     pub fn behind(self, at: u16) -> Option<u16> {
         let Fetched { instr, next } = self.at(at)?;
         match instr.flow() {
-            Flow::Calls(entry) | Flow::CallsIf(_, entry) if self.returns(entry) => Some(next),
+            Flow::Calls(entry) | Flow::CallsIf(_, entry)
+                if self.effects.returns(entry)
+                    && self.effects.stores_to_all(entry, Span::ANY) =>
+            {
+                Some(next)
+            }
             _ => None,
         }
+    }
+
+    /// The bytes of memory that stay behind a call of the procedure at `entry`.
+    pub fn kept(self, entry: u16, slots: Slots) -> Slots {
+        let mut kept = Slots::NONE;
+        if self.effects.returns(entry) {
+            for place in 0..SLOTS {
+                match slots.at(place) {
+                    Some(address) if !self.effects.stores_to(entry, address) => {
+                        kept = kept.with(address);
+                    }
+                    _ => {}
+                }
+            }
+        }
+        kept
     }
 
     /// How many ways an instruction has, each with a hint of its own.
@@ -74,9 +89,9 @@ impl<'a> ReachedProgram<'a> {
             | Flow::Pops
             | Flow::Exchanges
             | Flow::Jumps(_)
-            | Flow::Calls(_)
             | Flow::ReturnsIf(_) => 1,
-            Flow::JumpsIf(_, _) | Flow::CallsIf(_, _) => 2,
+            Flow::JumpsIf(_, _) | Flow::Calls(_) => 2,
+            Flow::CallsIf(_, _) => 3,
             Flow::JumpsToHl => self.targets(at).len(),
         }
     }
@@ -90,14 +105,22 @@ impl<'a> ReachedProgram<'a> {
                 Some((next, self.after(found, false, state)))
             }
             Flow::Jumps(to) => Some((to, self.after(found, false, state))),
-            Flow::JumpsIf(condition, to) | Flow::CallsIf(condition, to) => match number {
+            Flow::JumpsIf(condition, to) => match number {
                 0 => self.left(found, true, to, given(condition, true, state)),
                 _ => self.left(found, false, next, given(condition, false, state)),
+            },
+            Flow::CallsIf(condition, to) => match number {
+                0 => self.left(found, true, to, given(condition, true, state)),
+                1 => self.left(found, false, next, given(condition, false, state)),
+                _ => self.returned(to, next, state),
             },
             Flow::ReturnsIf(condition) => {
                 self.left(found, false, next, given(condition, false, state))
             }
-            Flow::Calls(to) => Some((to, self.after(found, true, state))),
+            Flow::Calls(to) => match number {
+                0 => Some((to, self.after(found, true, state))),
+                _ => self.returned(to, next, state),
+            },
             Flow::JumpsToHl => {
                 let to = *self.targets(at).get(number)?;
                 if state.hl.words.first <= to && to <= state.hl.words.last {
@@ -106,6 +129,15 @@ impl<'a> ReachedProgram<'a> {
                     None
                 }
             }
+        }
+    }
+
+    /// Where a callee returns to, and with what, if it may return.
+    fn returned(self, entry: u16, next: u16, state: State) -> Option<(u16, State)> {
+        if self.effects.returns(entry) {
+            Some((next, state.behind(self.effects, entry)))
+        } else {
+            None
         }
     }
 

@@ -16,19 +16,17 @@ const LATE_STEPS: u32 = 4_000_000;
 /// How often the table is narrowed, if states were joined.
 const NARROWINGS: u32 = 3;
 
-/// A table of states, and for each of their ways a place of the table. The first hint is that of the start; `behind` has by address the
-/// place of the state behind the call there.
+/// A table of states, and for each of their ways a place of the table. The first hint is that of the start.
 #[derive(Drop)]
 pub(crate) struct Proposal {
     pub table: Vec<Placed>,
     pub hints: Vec<u32>,
-    pub behind: Vec<u32>,
 }
 
 /// What is known at each address that the program may reach.
 ///
-/// At the start, and behind each call that returns, nothing is. Nothing is promised of the table: whoever uses it has to see that it
-/// fits.
+/// At the start nothing is, and behind a call only what the callee leaves. Nothing is promised of the table: whoever uses it has to see
+/// that it fits.
 ///
 /// # Errors
 /// `AllocError` only if memory runs out.
@@ -38,35 +36,30 @@ pub(crate) fn propose(alloc: Global, program: ReachedProgram<'_>) -> Result<Prop
     let mut nodes = Nodes::new(alloc, needs, landmarks)?;
     let mut hints = Vec::new(alloc);
     let start = nodes.enter(alloc, program.start, State::ANY)?;
-    let behind = enter_behind(alloc, &mut nodes, program)?;
+    enter_behind(alloc, &mut nodes, program)?;
     follow_all(alloc, &mut nodes, &mut hints, program, STEPS)?;
     nodes.hurry();
     follow_all(alloc, &mut nodes, &mut hints, program, LATE_STEPS)?;
     if nodes.has_grown() {
         for _ in 0..NARROWINGS {
-            narrow(alloc, &mut nodes, &hints, &behind, program, start)?;
+            narrow(alloc, &mut nodes, &hints, program, start)?;
         }
     }
-    compact(alloc, &nodes, &hints, &behind, program, start)
+    compact(alloc, &nodes, &hints, program, start)
 }
 
-/// Behind each call whose callee returns nothing is known: by address of the call the place of a state that says so.
+/// Enters the states of which it is clear that nothing is known: those behind calls that may store anywhere.
 fn enter_behind(
     alloc: Global,
     nodes: &mut Nodes,
     program: ReachedProgram<'_>,
-) -> Result<Vec<u32>, AllocError> {
-    let mut behind = vec![in alloc; NOWHERE; 65_536]?;
+) -> Result<(), AllocError> {
     for number in 0..65_536_u32 {
-        let at = number as u16;
-        if let Some(next) = program.behind(at) {
-            let place = nodes.enter(alloc, next, State::ANY)?;
-            if let Some(slot) = behind.get_mut(usize::from(at)) {
-                *slot = place;
-            }
+        if let Some(next) = program.behind(number as u16) {
+            nodes.enter(alloc, next, State::ANY)?;
         }
     }
-    Ok(behind)
+    Ok(())
 }
 
 /// Follows states until none waits, but no more than these.

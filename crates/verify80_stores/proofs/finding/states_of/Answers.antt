@@ -5,7 +5,7 @@ use Rattle.image80.specs.Regions.{Areas}
 use Rattle.verify80_stores.specs.declared.fitting.fitting.Placed.{Placed}
 use Rattle.verify80_stores.specs.State.{anything}
 use Rattle.verify80_stores.specs.Boards.{is_quiet}
-use Rattle.verify80_stores.specs.Returning.{is_marked}
+use Rattle.verify80_stores.specs.Marks.{is_marked}
 use Rattle.verify80_stores.specs.Fitting.{Has, KnowsQuiet}
 use Rattle.verify80_stores.proofs.MemoryLemmas.{ground_of}
 use Rattle.verify80_stores.proofs.CellLemmas.{quiet_is_data, knows_quieter}

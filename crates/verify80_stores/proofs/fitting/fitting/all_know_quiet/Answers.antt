@@ -1,7 +1,7 @@
 use Rattle.std.proofs.Common.{◌≡◌, Some, refl, arith, below_more, get_or}
 use Rattle.std.specs.Prelude.{slice_get}
 use Rattle.verify80_stores.specs.declared.fitting.fitting.Placed.{Placed}
-use Rattle.verify80_stores.specs.Returning.{is_marked}
+use Rattle.verify80_stores.specs.Marks.{is_marked}
 use Rattle.verify80_stores.specs.Cells.{AreQuietCells}
 use Rattle.verify80_stores.proofs.VecLemmas.{for_this, got_some}
 use Rattle.verify80_stores.proofs.fitting.fitting.all_know_quiet.Goals as goal
