@@ -2,7 +2,7 @@
 
 use crate::search::landmarks::Landmarks;
 use crate::search::needs::Needs;
-use crate::search::units::{PARTS, Units, reduced, value_of};
+use crate::search::units::{PARTS, Units, are_alike, value_of};
 use crate::states::State;
 use std::alloc::{AllocError, Global};
 
@@ -257,11 +257,10 @@ impl Nodes {
     /// A state at an address that differs from this one in none but these parts.
     fn find_alike(&self, at: u16, state: State, joined: Units) -> Option<u32> {
         let parts = Units::ALL.without(joined);
-        let key = reduced(state, parts);
         let mut place = self.group(at).first;
         for _ in 0..self.nodes.len() {
             let node = self.get(place)?;
-            if reduced(node.state, parts) == key {
+            if are_alike(node.state, state, parts) {
                 return Some(place);
             }
             place = node.next;

@@ -149,6 +149,34 @@ impl Units {
     }
 }
 
+/// Whether two states agree in these parts.
+pub(crate) fn are_alike(one: State, other: State, parts: Units) -> bool {
+    let keeps_a = parts.has(Units::A.and(Units::TEST));
+    (!keeps_a || one.a == other.a && one.copy == other.copy)
+        && are_pairs_alike(one.bc, other.bc, parts.has(Units::B), parts.has(Units::C))
+        && are_pairs_alike(one.de, other.de, parts.has(Units::D), parts.has(Units::E))
+        && are_pairs_alike(one.hl, other.hl, parts.has(Units::H), parts.has(Units::L))
+        && (!parts.has(Units::ZERO) || one.zero == other.zero)
+        && (!parts.has(Units::CARRY) || one.carry == other.carry)
+        && (!parts.has(Units::SIGN) || one.sign == other.sign)
+        && (!parts.has(Units::TEST) || one.compared == other.compared)
+        && (!parts.has(Units::FIRST) || one.words.first == other.words.first)
+        && (!parts.has(Units::SECOND) || one.words.second == other.words.second)
+        && (!parts.has(Units::THIRD) || one.words.third == other.words.third)
+        && (!parts.has(Units::FOURTH) || one.words.fourth == other.words.fourth)
+        && reduced_cells(one.cells, parts) == reduced_cells(other.cells, parts)
+}
+
+/// Whether two pairs agree in these halves.
+fn are_pairs_alike(one: PairSpan, other: PairSpan, high: bool, low: bool) -> bool {
+    match (high, low) {
+        (true, true) => one == other,
+        (true, false) => one.high() == other.high(),
+        (false, true) => one.low == other.low,
+        (false, false) => true,
+    }
+}
+
 /// A state of which only these parts are known.
 pub(crate) fn reduced(state: State, parts: Units) -> State {
     let keeps_a = parts.has(Units::A.and(Units::TEST));
