@@ -65,9 +65,10 @@ starts_with image start (inr sets) = (sets.code, sets.whole)
 
 -- what devices write leaves what is owed to open calls
 disturbed_owes : (image : Located) (quiet : ℕ → Bool) (effects : Effects) (table : List Placed) (w : World) (memory : List ℕ) → LeavesProgram image.regions w.machine.memory memory → StaysQuiet quiet w.machine.memory memory →
-    Owes effects quiet table w.machine.memory (effects.stored w.machine.cpu.pc) (effects.returning w.machine.cpu.pc) w.places → Owes effects quiet table memory (effects.stored w.machine.cpu.pc) (effects.returning w.machine.cpu.pc) w.places
+    Owes effects quiet table w.machine.memory (effects.stored w.machine.cpu.pc) (effects.returning w.machine.cpu.pc) (effects.known w.machine.cpu.pc) w.places →
+    Owes effects quiet table memory (effects.stored w.machine.cpu.pc) (effects.returning w.machine.cpu.pc) (effects.known w.machine.cpu.pc) w.places
 disturbed_owes image quiet effects table w memory leaves stays owes =
-    owes_still effects quiet table w.machine.memory memory (effects.stored w.machine.cpu.pc) (effects.returning w.machine.cpu.pc) w.places leaves.bytes (λ a here none. stays a here) owes
+    owes_still effects quiet table w.machine.memory memory (effects.stored w.machine.cpu.pc) (effects.returning w.machine.cpu.pc) (effects.known w.machine.cpu.pc) w.places leaves.bytes (λ a here none. stays a here) owes
 
 -- and the words on the stack, the code and what is known of quiet addresses
 disturbed_keeps : (image : Located) (ground : Ground image.regions) (quiet : ℕ → Bool) (table : List Placed) (w : World) (memory : List ℕ) → KnowsQuiet quiet table → LeavesProgram image.regions w.machine.memory memory →

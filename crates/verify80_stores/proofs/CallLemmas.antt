@@ -14,7 +14,7 @@ use Rattle.verify80_stores.specs.Bytes.{HasBytes}
 use Rattle.verify80_stores.specs.Span.{any_byte}
 use Rattle.verify80_stores.specs.Cells.{AreQuietCells, HoldsCell, HoldsCells, IsQuietCell, any_cell}
 use Rattle.verify80_stores.specs.Fitting.{CallsEntry, Has}
-use Rattle.verify80_stores.specs.Calls.{AccountsFor, AccountsForCall, Effects, IsWithin, Owes, behind_call, either_stores, kept_cell, kept_cells, never, none, open, stays_quiet, with_cells}
+use Rattle.verify80_stores.specs.Calls.{AccountsFor, AccountsForCall, Effects, IsWithin, Owes, behind_call, either_stores, follows, kept_cell, kept_cells, never, none, open, stays_quiet, with_cells}
 use Rattle.verify80_stores.proofs.CellLemmas.{any_cell_holds, cells_beside, cells_quieter}
 use Rattle.verify80_stores.proofs.WayLemmas.{Leads}
 
@@ -70,32 +70,41 @@ either_less stored less others more a h = by (one_of (less a) (others a) h) wher
 
 module _ (effects : Effects) (quiet : ℕ → Bool) (table : List Placed) where
   -- where less may come, no more is owed
-  pub owes_less : (memory : List ℕ) (stored less : ℕ → Bool) (returns may : Bool) (places : List ℕ) → ((a : ℕ) → less a ≡ true → stored a ≡ true) → (may ≡ true → returns ≡ true) →
-      Owes effects quiet table memory stored returns places → Owes effects quiet table memory less may places
-  owes_less memory stored less returns may places more fewer (never _ _ _ no) = never less may places (still_false returns may fewer no)
-  owes_less memory stored less returns may places more fewer (none _ _ _ is) = none less may places is
-  owes_less memory stored less returns may places more fewer (open _ _ _ place older cells is has held are rest) =
-      open less may places place older cells is has held (cells_quieter (stays_quiet quiet stored) (stays_quiet quiet less) cells (quiet_still quiet stored less more) are)
-      (owes_less memory (either_stores stored (effects.stored place)) (either_stores less (effects.stored place)) (effects.returning place) (effects.returning place) older
-      (either_less stored less (effects.stored place) more) (λ h. h) rest)
+  pub owes_less : (memory : List ℕ) (stored less : ℕ → Bool) (returns may known knows : Bool) (places : List ℕ) → ((a : ℕ) → less a ≡ true → stored a ≡ true) → (may ≡ true → returns ≡ true) → (known ≡ true → knows ≡ true) →
+      Owes effects quiet table memory stored returns known places → Owes effects quiet table memory less may knows places
+  owes_less memory stored less returns may known knows places more fewer still (never _ _ _ _ no) = never less may knows places (still_false returns may fewer no)
+  owes_less memory stored less returns may known knows places more fewer still (none _ _ _ _ is) = none less may knows places is
+  owes_less memory stored less returns may known knows places more fewer still (open _ _ _ _ place older cells is has held are rest) =
+      open less may knows places place older cells is has held (cells_quieter (stays_quiet quiet stored) (stays_quiet quiet less) cells (quiet_still quiet stored less more) are)
+      (owes_less memory (either_stores stored (effects.stored place)) (either_stores less (effects.stored place)) (effects.returning place) (effects.returning place) (effects.known place) (effects.known place) older
+      (either_less stored less (effects.stored place) more) (λ h. h) (λ h. h) rest)
+  owes_less memory stored less returns may known knows places more fewer still (follows _ _ _ _ place older is so rest) =
+      follows less may knows places place older is (still so)
+      (owes_less memory (either_stores stored (effects.stored place)) (either_stores less (effects.stored place)) (effects.returning place) (effects.returning place) (effects.known place) (effects.known place) older
+      (either_less stored less (effects.stored place) more) (λ h. h) (λ h. h) rest)
 
   -- what is owed stays where quiet bytes do that may not be stored to
-  pub owes_still : (memory after : List ℕ) (stored : ℕ → Bool) (returns : Bool) (places : List ℕ) → HasBytes after → ((a : ℕ) → quiet a ≡ true → stored a ≡ false → slice_index after a ≡ slice_index memory a) →
-      Owes effects quiet table memory stored returns places → Owes effects quiet table after stored returns places
-  owes_still memory after stored returns places bytes same (never _ _ _ no) = never stored returns places no
-  owes_still memory after stored returns places bytes same (none _ _ _ is) = none stored returns places is
-  owes_still memory after stored returns places bytes same (open _ _ _ place older cells is has held are rest) =
-      open stored returns places place older cells is has
+  pub owes_still : (memory after : List ℕ) (stored : ℕ → Bool) (returns known : Bool) (places : List ℕ) → HasBytes after → ((a : ℕ) → quiet a ≡ true → stored a ≡ false → slice_index after a ≡ slice_index memory a) →
+      Owes effects quiet table memory stored returns known places → Owes effects quiet table after stored returns known places
+  owes_still memory after stored returns known places bytes same (never _ _ _ _ no) = never stored returns known places no
+  owes_still memory after stored returns known places bytes same (none _ _ _ _ is) = none stored returns known places is
+  owes_still memory after stored returns known places bytes same (follows _ _ _ _ place older is so rest) =
+      follows stored returns known places place older is so
+      (owes_still memory after (either_stores stored (effects.stored place)) (effects.returning place) (effects.known place) older bytes
+      (λ a here none_there. same a here (none_left (stored a) (effects.stored place a) none_there)) rest)
+  owes_still memory after stored returns known places bytes same (open _ _ _ _ place older cells is has held are rest) =
+      open stored returns known places place older cells is has
       (cells_beside (stays_quiet quiet stored) memory after cells
       (λ a here. same a (first_of (quiet a) (not (stored a)) here) (is_not (stored a) (second_of (quiet a) (not (stored a)) here))) bytes are held)
       are
-      (owes_still memory after (either_stores stored (effects.stored place)) (effects.returning place) older bytes
+      (owes_still memory after (either_stores stored (effects.stored place)) (effects.returning place) (effects.known place) older bytes
       (λ a here none_there. same a here (none_left (stored a) (effects.stored place a) none_there)) rest)
 
   -- a step goes to an address that accounts for less
-  pub owes_within : (memory : List ℕ) (at to : ℕ) (places : List ℕ) → IsWithin effects at to → Owes effects quiet table memory (effects.stored at) (effects.returning at) places →
-      Owes effects quiet table memory (effects.stored to) (effects.returning to) places
-  owes_within memory at to places within owes = owes_less memory (effects.stored at) (effects.stored to) (effects.returning at) (effects.returning to) places within.stores within.returns owes
+  pub owes_within : (memory : List ℕ) (at to : ℕ) (places : List ℕ) → IsWithin effects at to → Owes effects quiet table memory (effects.stored at) (effects.returning at) (effects.known at) places →
+      Owes effects quiet table memory (effects.stored to) (effects.returning to) (effects.known to) places
+  owes_within memory at to places within owes =
+      owes_less memory (effects.stored at) (effects.stored to) (effects.returning at) (effects.returning to) (effects.known at) (effects.known to) places within.stores within.returns within.known owes
 
   -- cells that the callee doesn't store to
   kept_by : (stored : ℕ → Bool) (c : Cell) (b : Bool) → stored c.at ≡ b → IsQuietCell quiet c → IsQuietCell (stays_quiet quiet stored) (kept_cell stored c)
@@ -148,35 +157,39 @@ kept_hold stored cells memory bytes held = record {
   eighth = kept_holds stored memory cells.eighth bytes held.eighth;
 }
 
--- a return that is taken goes where the table has what was kept
-pub record Returned (effects : Effects) (quiet : ℕ → Bool) (table : List Placed) (memory : List ℕ) (place : ℕ) (older : List ℕ) : Type 0 where
-  pub cells : Cells
-  pub has : Has table place (with_cells cells)
-  pub held : HoldsCells cells memory
-  pub rest : Owes effects quiet table memory (effects.stored place) (effects.returning place) older
+-- a return that is taken goes where the table has what was kept, unless the state knows where that is; and what is owed to older calls is
+-- owed there
+pub record Returned (effects : Effects) (quiet : ℕ → Bool) (table : List Placed) (memory : List ℕ) (known : Bool) (place : ℕ) (older : List ℕ) : Type 0 where
+  pub kept : (known ≡ true) ⊎ ((cells : Cells) × Has table place (with_cells cells) × HoldsCells cells memory)
+  pub rest : Owes effects quiet table memory (effects.stored place) (effects.returning place) (effects.known place) older
 
 first_or : ℕ → List ℕ → ℕ
 first_or otherwise [] = otherwise
 first_or otherwise (place ∷ places) = place
 
-pub owed_return : (effects : Effects) (quiet : ℕ → Bool) (table : List Placed) (memory : List ℕ) (stored : ℕ → Bool) (returns : Bool) (places : List ℕ) (place : ℕ) (older : List ℕ) → returns ≡ true → places ≡ place ∷ older →
-    Owes effects quiet table memory stored returns places → Returned effects quiet table memory place older
-unfolding first_or
-owed_return effects quiet table memory stored returns places place older may is (never _ _ _ no) = absurd (true≢false (sym may ∙ no))
-owed_return effects quiet table memory stored returns places place older may is (none _ _ _ empty) = cc
-owed_return effects quiet table memory stored returns places place older may is (open _ _ _ there others cells at has held are rest) =
-    let same : there ∷ others ≡ place ∷ older = sym at ∙ is in
-    let here : there ≡ place = ap (first_or 0) same in
-    let behind : others ≡ older = ap (λ (l : List ℕ). drop 1 l) same in
-    record {
-      cells = cells;
-      has = subst (λ n. Has table n (with_cells cells)) here has;
-      held = held;
-      rest = subst (λ (l : List ℕ). Owes effects quiet table memory (effects.stored place) (effects.returning place) l) behind
-          (subst (λ n. Owes effects quiet table memory (effects.stored n) (effects.returning n) others) here
-          (owes_less effects quiet table memory (either_stores stored (effects.stored there)) (effects.stored there) (effects.returning there) (effects.returning there) others
-          (λ a h. right_one (stored a) (effects.stored there a) h) (λ h. h) rest));
-    }
+module _ (effects : Effects) (quiet : ℕ → Bool) (table : List Placed) (memory : List ℕ) where
+  older_owed : (stored : ℕ → Bool) (there : ℕ) (others : List ℕ) (place : ℕ) (older : List ℕ) → there ≡ place → others ≡ older →
+      Owes effects quiet table memory (either_stores stored (effects.stored there)) (effects.returning there) (effects.known there) others →
+      Owes effects quiet table memory (effects.stored place) (effects.returning place) (effects.known place) older
+  older_owed stored there others place older here behind rest =
+      subst (λ (l : List ℕ). Owes effects quiet table memory (effects.stored place) (effects.returning place) (effects.known place) l) behind
+      (subst (λ n. Owes effects quiet table memory (effects.stored n) (effects.returning n) (effects.known n) others) here
+      (owes_less effects quiet table memory (either_stores stored (effects.stored there)) (effects.stored there) (effects.returning there) (effects.returning there) (effects.known there) (effects.known there) others
+      (λ a h. right_one (stored a) (effects.stored there a) h) (λ h. h) (λ h. h) rest))
+
+  pub owed_return : (stored : ℕ → Bool) (returns known : Bool) (places : List ℕ) (place : ℕ) (older : List ℕ) → returns ≡ true → places ≡ place ∷ older →
+      Owes effects quiet table memory stored returns known places → Returned effects quiet table memory known place older
+  unfolding first_or
+  owed_return stored returns known places place older may is (never _ _ _ _ no) = absurd (true≢false (sym may ∙ no))
+  owed_return stored returns known places place older may is (none _ _ _ _ empty) = cc
+  owed_return stored returns known places place older may is (open _ _ _ _ there others cells at has held are rest) =
+      let same : there ∷ others ≡ place ∷ older = sym at ∙ is in
+      let here : there ≡ place = ap (first_or 0) same in
+      record { kept = inr (cells, subst (λ n. Has table n (with_cells cells)) here has, held); rest = older_owed stored there others place older here (ap (λ (l : List ℕ). drop 1 l) same) rest }
+  owed_return stored returns known places place older may is (follows _ _ _ _ there others at so rest) =
+      let same : there ∷ others ≡ place ∷ older = sym at ∙ is in
+      let here : there ≡ place = ap (first_or 0) same in
+      record { kept = inl so; rest = older_owed stored there others place older here (ap (λ (l : List ℕ). drop 1 l) same) rest }
 
 -- an address whose instruction returns accounts for that
 pub returns_here : (effects : Effects) (targets : List ℕ) (at next : ℕ) (f : Flow) (flags : Flags) → AccountsFor effects targets at next f → is_return_taken f flags ≡ true → effects.returning at ≡ true
@@ -216,21 +229,30 @@ returned_places Halts next flags places taken = absurd (true≢false (sym taken)
 module _ (effects : Effects) (quiet : ℕ → Bool) (table : List Placed) (memory : List ℕ) (bytes : HasBytes memory) where
   -- what is owed where a step has gone
   abbrev OwesAt : (at : ℕ) → List ℕ → Type 0
-  OwesAt at places = Owes effects quiet table memory (effects.stored at) (effects.returning at) places
+  OwesAt at places = Owes effects quiet table memory (effects.stored at) (effects.returning at) (effects.known at) places
 
-  called_by : (at entry next : ℕ) (s : State) (places : List ℕ) (b : Bool) → effects.returning entry ≡ b → AccountsForCall effects at entry next →
-      (effects.returning entry ≡ true → Has table next (behind_call (effects.stored entry) s)) → AreQuietCells quiet s.cells → HoldsCells s.cells memory → OwesAt at places → OwesAt entry (next ∷ places)
-  called_by at entry next s places false no call behind are held owes = never (effects.stored entry) (effects.returning entry) (next ∷ places) no
-  called_by at entry next s places true may call behind are held owes =
-      let within : IsWithin effects at next = call.behind may in
-      open (effects.stored entry) (effects.returning entry) (next ∷ places) next places (kept_cells (effects.stored entry) s.cells) refl (behind may)
-      (kept_hold (effects.stored entry) s.cells memory bytes held) (kept_are_quiet effects quiet table (effects.stored entry) s.cells are)
-      (owes_less effects quiet table memory (effects.stored at) (either_stores (effects.stored entry) (effects.stored next)) (effects.returning at) (effects.returning next) places (both within) within.returns owes) where
-    both : IsWithin effects at next → (a : ℕ) → either_stores (effects.stored entry) (effects.stored next) a ≡ true → effects.stored at a ≡ true
-    both within a h = by (one_of (effects.stored entry a) (effects.stored next a) h) where
+  called_by : (at entry next : ℕ) (s : State) (places : List ℕ) (returns known : Bool) → effects.returning entry ≡ returns → effects.known entry ≡ known → AccountsForCall effects at entry next →
+      (effects.returning entry ≡ true → effects.known entry ≡ false → Has table next (behind_call (effects.stored entry) s)) → AreQuietCells quiet s.cells → HoldsCells s.cells memory → OwesAt at places → OwesAt entry (next ∷ places)
+  called_by at entry next s places false known no is call behind are held owes = never (effects.stored entry) (effects.returning entry) (effects.known entry) (next ∷ places) no
+  called_by at entry next s places true known may is call behind are held owes = by known is where
+    within : IsWithin effects at next
+    within = call.behind may
+
+    both : (a : ℕ) → either_stores (effects.stored entry) (effects.stored next) a ≡ true → effects.stored at a ≡ true
+    both a h = by (one_of (effects.stored entry a) (effects.stored next a) h) where
       by : (effects.stored entry a ≡ true) ⊎ (effects.stored next a ≡ true) → effects.stored at a ≡ true
       by (inl here) = call.stores a here
       by (inr there) = within.stores a there
+
+    rest : Owes effects quiet table memory (either_stores (effects.stored entry) (effects.stored next)) (effects.returning next) (effects.known next) places
+    rest = owes_less effects quiet table memory (effects.stored at) (either_stores (effects.stored entry) (effects.stored next)) (effects.returning at) (effects.returning next) (effects.known at) (effects.known next) places
+        both within.returns within.known owes
+
+    by : (known : Bool) → effects.known entry ≡ known → OwesAt entry (next ∷ places)
+    by true is = follows (effects.stored entry) (effects.returning entry) (effects.known entry) (next ∷ places) next places refl is rest
+    by false is =
+        open (effects.stored entry) (effects.returning entry) (effects.known entry) (next ∷ places) next places (kept_cells (effects.stored entry) s.cells) refl (behind may is)
+        (kept_hold (effects.stored entry) s.cells memory bytes held) (kept_are_quiet effects quiet table (effects.stored entry) s.cells are) rest
 
   taken_call : (b : Bool) (entry next : ℕ) (places : List ℕ) → b ≡ true → OwesAt entry (next ∷ places) → OwesAt entry (if b then next ∷ places else places)
   taken_call true entry next places is owes = owes
@@ -248,11 +270,11 @@ module _ (effects : Effects) (quiet : ℕ → Bool) (table : List Placed) (memor
     goes_to : (address : ℕ) → to ≡ address → IsWithin effects at address → OwesAt to places
     goes_to address same within = subst (λ n. OwesAt n places) (sym same) (owes_within effects quiet table memory at address places within owes)
 
-    calls_to : (entry : ℕ) → to ≡ entry → AccountsForCall effects at entry next → (effects.returning entry ≡ true → Has table next (behind_call (effects.stored entry) s)) → HoldsCells s.cells memory → OwesAt to (next ∷ places)
+    calls_to : (entry : ℕ) → to ≡ entry → AccountsForCall effects at entry next → (effects.returning entry ≡ true → effects.known entry ≡ false → Has table next (behind_call (effects.stored entry) s)) → HoldsCells s.cells memory → OwesAt to (next ∷ places)
     calls_to entry same call behind held =
-        subst (λ n. OwesAt n (next ∷ places)) (sym same) (called_by at entry next s places (effects.returning entry) refl call behind are held owes)
+        subst (λ n. OwesAt n (next ∷ places)) (sym same) (called_by at entry next s places (effects.returning entry) (effects.known entry) refl refl call behind are held owes)
 
-    pub owed_on : (f : Flow) → AccountsFor effects targets at next f → ((entry : ℕ) → CallsEntry f entry → effects.returning entry ≡ true → Has table next (behind_call (effects.stored entry) s)) →
+    pub owed_on : (f : Flow) → AccountsFor effects targets at next f → ((entry : ℕ) → CallsEntry f entry → effects.returning entry ≡ true → effects.known entry ≡ false → Has table next (behind_call (effects.stored entry) s)) →
         ((entry : ℕ) → CallsEntry f entry → HoldsCells s.cells memory) → Leads f flags targets next hl to → OwesAt to (places_by f next flags places)
     owed_on Continues accounts behind held way = goes_to next way accounts
     owed_on Pushes accounts behind held way = goes_to next way accounts

@@ -1,6 +1,7 @@
 -- Runs keep to a table that fits.
-use Rattle.std.specs.Prelude.{◌≡◌, ◌⊎◌, ◌<◌, ℕ, zero, suc, Bool, true, false, List, [], Option, None, Some, Ok, IsSome, Contains, drop, length, slice_get, slice_index, refl}
-use Rattle.std.proofs.Common.{subst, sym, ap, ◌∙◌, inl, inr, true≢false}
+use Rattle.std.specs.Prelude.{◌≡◌, ◌⊎◌, ◌<◌, ℕ, zero, suc, Bool, true, false, List, [], Option, None, Some, Ok, IsSome, Contains, drop, length, slice_get, slice_index, refl, if◌then◌else◌}
+use Rattle.std.proofs.Common.{subst, sym, ap, ◌∙◌, inl, inr, arith, true≢false}
+use Rattle.std.proofs.lemmas.Bool.Decides.{nat_tests}
 use Rattle.std.proofs.lemmas.Option.{get_or_from_slice_get, slice_get_within}
 use Rattle.decode80.specs.declared.condition.Condition.{Condition}
 use Rattle.decode80.specs.declared.instr.Instr.TheVariants.{Pchl}
@@ -10,27 +11,29 @@ use Rattle.decode80.specs.declared.flow.Flow.TheVariants.{Continues, Jumps, Jump
 use Rattle.decode80.specs.Facts.{flow, storing}
 use Rattle.image80.specs.Regions.{Areas, AreRegions, in_code, in_data, targets_at}
 use Rattle.image80.specs.Image.{Located, memory_of}
+use Rattle.machine80.specs.declared.cpu.Cpu.{Cpu}
 use Rattle.machine80.specs.Flags.{holds as holds_of}
 use Rattle.machine80.specs.Cpu.{hl_of}
-use Rattle.machine80.specs.Effects.{target}
+use Rattle.machine80.specs.Effects.{goes_to, target, word_in}
 use Rattle.machine80.specs.Step.{Machine, Turn, Next, Stop, fetch, step_of}
 use Rattle.machine80.specs.World.{World, world_at, turn_at, next_world, following, world_after, places_by, places_then, refuses, returns, is_return_taken, fetched_by, FetchesInside, IsNewest}
 use Rattle.machine80.specs.Run.{world_of}
 use Rattle.verify80.specs.Looking.{code_of, declared_targets}
 use Rattle.verify80.specs.Starts.{IsStart, IsWorldFrom, NeverGoesWrongFromPowerOn}
 use Rattle.verify80.specs.Reached.{IsReached, StandsOnWalk, StaysOnWalks}
+use Rattle.verify80_stores.specs.declared.spans.span.Span.{Span}
 use Rattle.verify80_stores.specs.declared.states.cells.Cells.{Cells}
 use Rattle.verify80_stores.specs.declared.states.state.State.{State}
 use Rattle.verify80_stores.specs.declared.fitting.fitting.Placed.{Placed}
 use Rattle.verify80_stores.specs.Bytes.{AreBytes, HoldsBytes, BytesStayBytes, FetchedOperandsAreBounded, MemoryKeepsItsLength}
 use Rattle.verify80_stores.specs.Span.{Within}
 use Rattle.verify80_stores.specs.Cells.{AreQuietCells, HoldsCells}
-use Rattle.verify80_stores.specs.State.{Holds, HoldsRegisters, HoldsWords, anything, no_words}
+use Rattle.verify80_stores.specs.State.{Holds, HoldsRegisters, HoldsWord, HoldsWords, anything, no_words}
 use Rattle.verify80_stores.specs.Following.{byte_at, state_after}
 use Rattle.verify80_stores.specs.Given.{given}
 use Rattle.verify80_stores.specs.Steps.{is_taken, ReadsCode, AreCodeBytes, HasCode}
 use Rattle.verify80_stores.specs.Fitting.{CallsEntry, Has, HasAfter, FitsBy, KnowsQuiet}
-use Rattle.verify80_stores.specs.Calls.{AccountsFor, Effects, KeepsCalls, MayStore, Owes, none, with_cells}
+use Rattle.verify80_stores.specs.Calls.{AccountsFor, Effects, KeepsCalls, KnowsReturn, KnowsReturnIf, KnowsReturnsOf, MayStore, Owes, none, with_cells}
 use Rattle.verify80_stores.specs.FittingTable.{Fits}
 use Rattle.verify80_stores.specs.Runs.{KeepsTo, KeepsToCalls, IsKnown, IsKept}
 use Rattle.verify80_stores.proofs.StateLemmas.{anything_holds}
@@ -117,6 +120,52 @@ module _ (regions : Areas) (targets : List ℕ) (table : List Placed) (after : B
   arrives (ReturnsIf condition) s next to fits leads follow are holds = if_given condition false s to next are holds leads.0 fits leads.1 (with_taken (ReturnsIf condition) false leads.0 follow)
   arrives Halts s next to fits leads follow are holds = absurd leads
 
+  -- a return that is taken goes where the state says, if it knows that
+  back_to : (t : State) → KnowsReturn table (after true) t → Holds regions t m → Holds regions (after true t) there → Meets regions table (word_in m.memory m.cpu.sp) there
+  back_to t knows before now = record { state = after true t; has = subst (λ n. Has table n (after true t)) place knows.has; holds = now } where
+    pushed_there : HoldsWord regions (Some knows.span) m.memory m.cpu.sp
+    pushed_there = subst (λ (o : Option Span). HoldsWord regions o m.memory m.cpu.sp) knows.first before.words.first
+
+    place : knows.span.first ≡ word_in m.memory m.cpu.sp
+    place = let above = pushed_there.within.above in let below = pushed_there.within.below in let alone = knows.alone in grind (arith, nat_tests)
+
+  pub arrives_back : (w : Flow) (s : State) → is_return_taken w m.cpu.registers.flags ≡ true → KnowsReturnsOf table (after true) s w → Follows w → AreQuietCells (in_data regions) s.cells → Holds regions s m →
+      Meets regions table (word_in m.memory m.cpu.sp) there
+  arrives_back Returns s taken knows follow are holds = back_to s knows holds (follow s holds are)
+  arrives_back (ReturnsIf condition) s taken knows follow are holds =
+      let left = given_holds condition true s m.cpu.registers bytes holds.registers taken in
+      let here : Holds regions left.left m = record { registers = left.holds; words = rw left.words holds.words; cells = rw left.cells holds.cells } in
+      back_to left.left (subst (λ (o : Option State). KnowsReturnIf table (after true) o) left.is knows) here (with_taken (ReturnsIf condition) true taken follow left.left here (rw left.cells are))
+  arrives_back Continues s taken knows follow are holds = absurd (true≢false (sym taken))
+  arrives_back Pushes s taken knows follow are holds = absurd (true≢false (sym taken))
+  arrives_back Pops s taken knows follow are holds = absurd (true≢false (sym taken))
+  arrives_back Exchanges s taken knows follow are holds = absurd (true≢false (sym taken))
+  arrives_back (Jumps to) s taken knows follow are holds = absurd (true≢false (sym taken))
+  arrives_back (JumpsIf condition to) s taken knows follow are holds = absurd (true≢false (sym taken))
+  arrives_back JumpsToHl s taken knows follow are holds = absurd (true≢false (sym taken))
+  arrives_back (Calls to) s taken knows follow are holds = absurd (true≢false (sym taken))
+  arrives_back (CallsIf condition to) s taken knows follow are holds = absurd (true≢false (sym taken))
+  arrives_back Halts s taken knows follow are holds = absurd (true≢false (sym taken))
+
+-- a return that is taken goes to the word on top of the stack
+back_if : (b : Bool) (word next : ℕ) → b ≡ true → (if b then word else next) ≡ word
+back_if true word next taken = refl
+back_if false word next taken = absurd (true≢false (sym taken))
+
+return_target : (w : Flow) (next : ℕ) (memory : List ℕ) (cpu : Cpu) → is_return_taken w cpu.registers.flags ≡ true → goes_to w next memory cpu ≡ word_in memory cpu.sp
+return_target Returns next memory cpu taken = refl
+return_target (ReturnsIf condition) next memory cpu taken = back_if (holds_of condition cpu.registers.flags) (word_in memory cpu.sp) next taken
+return_target Continues next memory cpu taken = absurd (true≢false (sym taken))
+return_target Pushes next memory cpu taken = absurd (true≢false (sym taken))
+return_target Pops next memory cpu taken = absurd (true≢false (sym taken))
+return_target Exchanges next memory cpu taken = absurd (true≢false (sym taken))
+return_target (Jumps to) next memory cpu taken = absurd (true≢false (sym taken))
+return_target (JumpsIf condition to) next memory cpu taken = absurd (true≢false (sym taken))
+return_target JumpsToHl next memory cpu taken = absurd (true≢false (sym taken))
+return_target (Calls to) next memory cpu taken = absurd (true≢false (sym taken))
+return_target (CallsIf condition to) next memory cpu taken = absurd (true≢false (sym taken))
+return_target Halts next memory cpu taken = absurd (true≢false (sym taken))
+
 -- a state that says nothing holds of any machine, and one that says nothing of its registers of any of these
 no_registers_hold : (m : Machine) (cells : Cells) → HoldsBytes m → HoldsRegisters (with_cells cells) m.cpu.registers
 no_registers_hold m cells bytes = other_words anything no_words cells m.cpu.registers (anything_holds m.cpu.registers bytes.registers)
@@ -175,8 +224,8 @@ module _ (image : Located) (quiet : ℕ → Bool) (bytes : List (Option ℕ)) (e
     looked_here : (code_of image).look keeps.keeps.placed.at ≡ Ok found
     looked_here = subst (λ n. (code_of image).look n ≡ Ok found) (sym keeps.keeps.at) looked
 
-    calls : KeepsCalls effects table w.machine.cpu.pc holding found
-    calls = subst (λ n. KeepsCalls effects table n holding found) keeps.keeps.at (fits.calls keeps.keeps.place keeps.keeps.placed found keeps.keeps.there reached_here looked_here)
+    calls : KeepsCalls effects bytes table w.machine.cpu.pc holding found
+    calls = subst (λ n. KeepsCalls effects bytes table n holding found) keeps.keeps.at (fits.calls keeps.keeps.place keeps.keeps.placed found keeps.keeps.there reached_here looked_here)
 
     accounts : AccountsFor effects (declared_targets image.regions w.machine.cpu.pc) w.machine.cpu.pc found.next (flow found.instr)
     accounts = fits.accounts w.machine.cpu.pc found reached looked
@@ -203,21 +252,36 @@ module _ (image : Located) (quiet : ℕ → Bool) (bytes : List (Option ℕ)) (e
     not_stored a none there = true≢false (sym (calls.stores a there) ∙ none)
 
     -- what was owed before is owed still
-    owed : Owes effects quiet table after.machine.memory (effects.stored w.machine.cpu.pc) (effects.returning w.machine.cpu.pc) w.places
-    owed = owes_still effects quiet table w.machine.memory after.machine.memory (effects.stored w.machine.cpu.pc) (effects.returning w.machine.cpu.pc) w.places now.memory
+    owed : Owes effects quiet table after.machine.memory (effects.stored w.machine.cpu.pc) (effects.returning w.machine.cpu.pc) (effects.known w.machine.cpu.pc) w.places
+    owed = owes_still effects quiet table w.machine.memory after.machine.memory (effects.stored w.machine.cpu.pc) (effects.returning w.machine.cpu.pc) (effects.known w.machine.cpu.pc) w.places now.memory
         (λ a here none. same_byte a here (not_stored a none)) keeps.owes
 
-    -- a return brings what was kept behind its call
-    returned : (to : ℕ) → after.machine.cpu.pc ≡ to → IsNewest to w.places → is_return_taken (flow found.instr) w.machine.cpu.registers.flags ≡ true → KeepsToCalls image quiet effects table after
-    returned to at newest taken =
+    -- what the instruction makes of a state holds after the step
+    abbrev follows : Follows image.regions (declared_targets image.regions w.machine.cpu.pc) table (λ taken t. state_after bytes found.instr taken found.next t) w.machine after.machine before.registers (flow found.instr)
+    follows = λ t holds are.
+        let bound = bounded image.regions w.machine.memory w.machine.cpu.pc found before.memory fetched in
+        step_state image.regions ground bytes refused w.machine after.machine found t bound.operand before now keeps.keeps.whole (reads_code w.machine.memory keeps.keeps.code) are fetched step holds
+
+    -- a return brings what was kept behind its call, or what its state says
+    brings : (to : ℕ) → after.machine.cpu.pc ≡ to → to ≡ word_in w.machine.memory w.machine.cpu.sp → is_return_taken (flow found.instr) w.machine.cpu.registers.flags ≡ true →
+        (effects.known w.machine.cpu.pc ≡ true) ⊎ ((cells : Cells) × Has table to (with_cells cells) × HoldsCells cells after.machine.memory) → KeepsTo image table after
+    brings to at word taken (inl so) =
+        let meets = arrives_back image.regions (declared_targets image.regions w.machine.cpu.pc) table (λ taken t. state_after bytes found.instr taken found.next t) w.machine after.machine before.registers
+        (flow found.instr) holding taken (calls.returns so) follows (quiet_in_data keeps.keeps.place keeps.keeps.placed keeps.keeps.there) keeps.keeps.holds in
+        keeps_by after meets.state (subst (λ n. Has table n meets.state) (sym (at ∙ word)) meets.has) now meets.holds code_now whole_now
+    brings to at word taken (inr kept) =
+        keeps_by after (with_cells kept.0) (subst (λ n. Has table n (with_cells kept.0)) (sym at) kept.1.0) now
+        (record { registers = no_registers_hold after.machine kept.0 now; words = none_hold image.regions ground after.machine.memory after.machine.cpu.sp; cells = kept.1.1 }) code_now whole_now
+
+    returned : (to : ℕ) → after.machine.cpu.pc ≡ to → to ≡ word_in w.machine.memory w.machine.cpu.sp → IsNewest to w.places → is_return_taken (flow found.instr) w.machine.cpu.registers.flags ≡ true → KeepsToCalls image quiet effects table after
+    returned to at word newest taken =
         let may = returns_here effects (declared_targets image.regions w.machine.cpu.pc) w.machine.cpu.pc found.next (flow found.instr) w.machine.cpu.registers.flags accounts taken in
-        let r = owed_return effects quiet table after.machine.memory (effects.stored w.machine.cpu.pc) (effects.returning w.machine.cpu.pc) w.places to newest.0 may newest.1 owed in
+        let r = owed_return effects quiet table after.machine.memory (effects.stored w.machine.cpu.pc) (effects.returning w.machine.cpu.pc) (effects.known w.machine.cpu.pc) w.places to newest.0 may newest.1 owed in
         let older : after.places ≡ newest.0 = places_now ∙ returned_places (flow found.instr) found.next w.machine.cpu.registers.flags w.places taken ∙ ap (λ (l : List ℕ). drop 1 l) newest.1 in
         record {
-          keeps = keeps_by after (with_cells r.cells) (subst (λ n. Has table n (with_cells r.cells)) (sym at) r.has) now
-              (record { registers = no_registers_hold after.machine r.cells now; words = none_hold image.regions ground after.machine.memory after.machine.cpu.sp; cells = r.held }) code_now whole_now;
-          owes = subst (λ n. Owes effects quiet table after.machine.memory (effects.stored n) (effects.returning n) after.places) (sym at)
-              (subst (λ (l : List ℕ). Owes effects quiet table after.machine.memory (effects.stored to) (effects.returning to) l) (sym older) r.rest);
+          keeps = brings to at word taken r.kept;
+          owes = subst (λ n. Owes effects quiet table after.machine.memory (effects.stored n) (effects.returning n) (effects.known n) after.places) (sym at)
+              (subst (λ (l : List ℕ). Owes effects quiet table after.machine.memory (effects.stored to) (effects.returning to) (effects.known to) l) (sym older) r.rest);
         }
 
     -- any other step brings what the state after it says
@@ -225,16 +289,14 @@ module _ (image : Located) (quiet : ℕ → Bool) (bytes : List (Option ℕ)) (e
     gone way =
         let fit = fits.entries keeps.keeps.place keeps.keeps.placed found keeps.keeps.there reached_here looked_here in
         let fit_here = subst (λ n. FitsBy (declared_targets image.regions n) table (λ taken t. state_after bytes found.instr taken found.next t) holding found.next (flow found.instr)) keeps.keeps.at fit in
-        let bound = bounded image.regions w.machine.memory w.machine.cpu.pc found before.memory fetched in
         let meets = arrives image.regions (declared_targets image.regions w.machine.cpu.pc) table (λ taken t. state_after bytes found.instr taken found.next t) w.machine after.machine before.registers
         (flow found.instr) holding found.next after.machine.cpu.pc fit_here way
-        (λ t holds are. step_state image.regions ground bytes refused w.machine after.machine found t bound.operand before now keeps.keeps.whole (reads_code w.machine.memory keeps.keeps.code) are fetched step holds)
-        (quiet_in_data keeps.keeps.place keeps.keeps.placed keeps.keeps.there) keeps.keeps.holds in
+        follows (quiet_in_data keeps.keeps.place keeps.keeps.placed keeps.keeps.there) keeps.keeps.holds in
         let owes = owed_on effects quiet table after.machine.memory now.memory (declared_targets image.regions w.machine.cpu.pc) w.machine.cpu.pc found.next (hl_of w.machine.cpu.registers) after.machine.cpu.pc
         w.machine.cpu.registers.flags holding w.places are_quiet owed (flow found.instr) accounts calls.behind held_behind way in
         record {
           keeps = keeps_by after meets.state meets.has now meets.holds code_now whole_now;
-          owes = subst (λ (l : List ℕ). Owes effects quiet table after.machine.memory (effects.stored after.machine.cpu.pc) (effects.returning after.machine.cpu.pc) l) (sym places_now) owes;
+          owes = subst (λ (l : List ℕ). Owes effects quiet table after.machine.memory (effects.stored after.machine.cpu.pc) (effects.returning after.machine.cpu.pc) (effects.known after.machine.cpu.pc) l) (sym places_now) owes;
         }
     where
       held_behind : (entry : ℕ) → CallsEntry (flow found.instr) entry → HoldsCells holding.cells after.machine.memory
@@ -246,7 +308,8 @@ module _ (image : Located) (quiet : ℕ → Bool) (bytes : List (Option ℕ)) (e
       by : ((returns found.instr w.machine.cpu.registers.flags ≡ true) × (after.machine.cpu.pc ≡ target found.instr found.next w.machine.memory w.machine.cpu))
           ⊎ Leads (flow found.instr) w.machine.cpu.registers.flags (declared_targets image.regions w.machine.cpu.pc) found.next (hl_of w.machine.cpu.registers) after.machine.cpu.pc →
           KeepsToCalls image quiet effects table after
-      by (inl taken) = returned (target found.instr found.next w.machine.memory w.machine.cpu) taken.1 (known.returning found fetched taken.0) taken.0
+      by (inl taken) =
+          returned (target found.instr found.next w.machine.memory w.machine.cpu) taken.1 (return_target (flow found.instr) found.next w.machine.memory w.machine.cpu taken.0) (known.returning found fetched taken.0) taken.0
       by (inr way) = gone way
 
   -- a step keeps to the table, and so does a start
@@ -256,7 +319,7 @@ module _ (image : Located) (quiet : ℕ → Bool) (bytes : List (Option ℕ)) (e
     effects = effects;
     starts = λ start pc code whole held stands. record {
       keeps = keeps_by (world_of start) anything (subst (λ n. Has table n anything) (sym pc) fits.start) held (nothing_holds image.regions ground start held) code whole;
-      owes = none (effects.stored start.cpu.pc) (effects.returning start.cpu.pc) [] refl;
+      owes = none (effects.stored start.cpu.pc) (effects.returning start.cpu.pc) (effects.known start.cpu.pc) [] refl;
     };
     steps = λ refused w after known on before now keeps step newer.
         let stands : StandsOnWalk image w = known.stands in

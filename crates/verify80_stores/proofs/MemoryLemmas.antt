@@ -29,7 +29,7 @@ use Rattle.verify80_stores.specs.declared.states.state.State.{State}
 use Rattle.verify80_stores.specs.Bytes.{AreBytes}
 use Rattle.verify80_stores.specs.Span.{Within, word_alone}
 use Rattle.verify80_stores.specs.State.{HoldsRegisters, HoldsWord, HoldsWords, IsOnStack, no_words, pushed, popped}
-use Rattle.verify80_stores.specs.Following.{pushed_words, called, unless_returned, words_after}
+use Rattle.verify80_stores.specs.Following.{pushed_words, called, returned, words_after}
 use Rattle.verify80_stores.specs.Steps.{is_taken}
 use Rattle.verify80_stores.proofs.ArithmeticBounds.{flags_are_byte}
 
@@ -316,8 +316,8 @@ module _ (regions : Areas) (ground : Ground regions) where
     maybe_push true false next sp w same pass holds = cc
     maybe_push false true next sp w same pass holds = cc
 
-    maybe_return : (t : Bool) (w : Words) (sp : ℕ) → HoldsWords regions w m sp → HoldsWords regions (unless_returned t w) m (if t then ahead sp 2 else sp)
-    maybe_return true w sp holds = none_hold m (ahead sp 2)
+    maybe_return : (t : Bool) (w : Words) (sp : ℕ) → HoldsWords regions w m sp → HoldsWords regions (returned t w) m (if t then ahead sp 2 else sp)
+    maybe_return true w sp holds = words_popped w m sp holds
     maybe_return false w sp holds = holds
 
     pub words_changed : (i : Instr) (next : ℕ) (cpu : Cpu) (s : State) → guard regions i cpu ≡ None → HoldsRegisters s cpu.registers → HoldsWords regions s.words m cpu.sp →
@@ -342,7 +342,7 @@ module _ (regions : Areas) (ground : Ground regions) where
     words_changed (Rst n) next cpu s pass holds words =
         words_pushed m cpu.sp (next / 256) (next % 256) whole s.words (word_alone next) (passed_two (in_range regions.stack) (behind cpu.sp 1) (behind cpu.sp 2) Stack _ pass) (next_within next) words
     words_changed (CallIf c w) next cpu s pass holds words = maybe_push (holds_of c cpu.registers.flags) (holds_of c cpu.registers.flags) next cpu.sp s.words refl pass words
-    words_changed Ret next cpu s pass holds words = none_hold m _
+    words_changed Ret next cpu s pass holds words = words_popped s.words m cpu.sp words
     words_changed (ReturnIf c) next cpu s pass holds words = maybe_return (holds_of c cpu.registers.flags) s.words cpu.sp words
     words_changed (Lxi Bc n) next cpu s pass holds words = words
     words_changed (Lxi De n) next cpu s pass holds words = words

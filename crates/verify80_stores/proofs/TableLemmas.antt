@@ -99,7 +99,7 @@ nothing_is_kept image quiet reached table are whole ground length_stays everywhe
           code = code;
           whole = size;
         };
-        owes = never (no_effects.stored w.machine.cpu.pc) false w.places refl;
+        owes = never (no_effects.stored w.machine.cpu.pc) false false w.places refl;
       }
 
 -- what holds of an answer, if there is one

@@ -22,7 +22,7 @@ pub record Fits (quiet : ℕ → Bool) (code : Code) (bytes : List (Option ℕ))
   pub accounts : (at : ℕ) (found : Fetched) → IsReached code at → code.look at ≡ Ok found →
       AccountsFor effects (code.targets at) at found.next (flow found.instr)
   pub calls : (place : ℕ) (placed : Placed) (found : Fetched) → slice_get table place ≡ Some placed → IsReached code placed.at →
-      code.look placed.at ≡ Ok found → KeepsCalls effects table placed.at placed.state found
+      code.look placed.at ≡ Ok found → KeepsCalls effects bytes table placed.at placed.state found
 
 -- the same of the instructions that are reached, by address
 pub record AllFit (regions : Areas) (bytes : List (Option ℕ)) (effects : Effects) (reached : List (Option Fetched)) (table : List Placed) : Type 0 where
@@ -31,4 +31,4 @@ pub record AllFit (regions : Areas) (bytes : List (Option ℕ)) (effects : Effec
   pub accounts : (at : ℕ) (found : Fetched) → at < 65536 → reached_at reached at ≡ Some found →
       AccountsFor effects (declared_targets regions at) at found.next (flow found.instr)
   pub calls : (place : ℕ) (placed : Placed) (found : Fetched) → slice_get table place ≡ Some placed → reached_at reached placed.at ≡ Some found →
-      KeepsCalls effects table placed.at placed.state found
+      KeepsCalls effects bytes table placed.at placed.state found

@@ -170,9 +170,10 @@ abbrev pub called : (taken : Bool) → (next : ℕ) → Words → Words
 called true next w = pushed w (Some (word_alone next))
 called false next w = w
 
-abbrev pub unless_returned : (taken : Bool) → Words → Words
-unless_returned true w = no_words
-unless_returned false w = w
+-- a return that is taken pops it
+abbrev pub returned : (taken : Bool) → Words → Words
+returned true w = popped w
+returned false w = w
 
 -- the words on the stack after an instruction at which the processor goes the other way or not
 abbrev pub words_after : Instr → (taken : Bool) → (next : ℕ) → State → Words
@@ -182,8 +183,8 @@ words_after Xthl taken next s = record s.words { first = Some s.hl.words }
 words_after (Call to) taken next s = called taken next s.words
 words_after (CallIf condition to) taken next s = called taken next s.words
 words_after (Rst number) taken next s = called taken next s.words
-words_after Ret taken next s = no_words
-words_after (ReturnIf condition) taken next s = unless_returned taken s.words
+words_after Ret taken next s = popped s.words
+words_after (ReturnIf condition) taken next s = returned taken s.words
 words_after (Lxi Sp n) taken next s = no_words
 words_after (Inx Sp) taken next s = no_words
 words_after (Dcx Sp) taken next s = no_words

@@ -31,7 +31,8 @@ pub record KeepsTo (image : Located) (table : List Placed) (w : World) : Type 0 
 -- the same, and what is owed to its open calls
 pub record KeepsToCalls (image : Located) (quiet : ℕ → Bool) (effects : Effects) (table : List Placed) (w : World) : Type 0 where
   pub keeps : KeepsTo image table w
-  pub owes : Owes effects quiet table w.machine.memory (effects.stored w.machine.cpu.pc) (effects.returning w.machine.cpu.pc) w.places
+  pub owes : Owes effects quiet table w.machine.memory (effects.stored w.machine.cpu.pc) (effects.returning w.machine.cpu.pc)
+      (effects.known w.machine.cpu.pc) w.places
 
 -- so it is for each world of each run from power-on, whatever bytes are in the registers, in memory outside the code and at the
 -- ports

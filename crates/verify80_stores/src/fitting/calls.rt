@@ -16,6 +16,8 @@ pub(crate) struct CallEffect {
     pub stores: Vec<Span>,
     /// Whether it may return.
     pub returns: bool,
+    /// Whether each state at its returns knows where they go.
+    pub knows_returns: bool,
 }
 
 impl CallEffect {
@@ -115,6 +117,19 @@ impl CallEffects {
         }
     }
 
+    /// Whether each state at a return from an address on knows where it goes.
+    pub fn knows_returns(&self, at: u16) -> bool
+        ensures { result ≡ (effects_of self.now).known at }
+    {
+        match self.numbers.get(usize::from(at)) {
+            Some(number) => match self.effects.get(usize::from(*number)) {
+                Some(effect) => effect.knows_returns,
+                None => false,
+            },
+            None => false,
+        }
+    }
+
     /// Whether from an address on at least as much may be stored to as from another on.
     fn stores_all_of(&self, at: u16, to: u16) -> bool
         ensures { result ≡ true → (address : ℕ) → (effects_of self.now).stored to address ≡ true → (effects_of self.now).stored at address ≡ true }
@@ -145,7 +160,9 @@ impl CallEffects {
     fn has_within(&self, at: u16, to: u16) -> bool
         ensures { result ≡ true → IsWithin (effects_of self.now) at to }
     {
-        self.stores_all_of(at, to) && (!self.returns(to) || self.returns(at))
+        self.stores_all_of(at, to)
+            && (!self.returns(to) || self.returns(at))
+            && (!self.knows_returns(at) || self.knows_returns(to))
     }
 
     /// Whether an address accounts for a call.

@@ -11,7 +11,7 @@ ghost use Rattle.verify80_stores.specs.Following.{state_after};
 ghost use Rattle.verify80_stores.specs.Listing.{reached_at};
 ghost use Rattle.verify80_stores.specs.Marks.{is_marked};
 ghost use Rattle.verify80_stores.specs.Fitting.{CallsEntry, Has, HasAfter, FitsAt, KnowsQuiet};
-ghost use Rattle.verify80_stores.specs.Calls.{AccountsFor, KeepsCalls, MayStore, behind_call, effects_of};
+ghost use Rattle.verify80_stores.specs.Calls.{AccountsFor, KeepsCalls, KnowsReturn, KnowsReturnsOf, MayStore, behind_call, effects_of};
 ghost use Rattle.verify80_stores.specs.FittingTable.{AllFit};
 
 use crate::fitting::calls::CallEffects;
@@ -253,7 +253,7 @@ fn all_fit(
     ensures entries { result ≡ true → (place : ℕ) (placed : Placed) (found : Fetched) → slice_get table.now place ≡ Some placed →
         reached_at reached.now placed.at ≡ Some found → FitsAt code.now (declared_targets regions.now placed.at) table.now placed.state found }
     ensures calls { result ≡ true → (place : ℕ) (placed : Placed) (found : Fetched) → slice_get table.now place ≡ Some placed →
-        reached_at reached.now placed.at ≡ Some found → KeepsCalls (effects_of effects.now) table.now placed.at placed.state found }
+        reached_at reached.now placed.at ≡ Some found → KeepsCalls (effects_of effects.now) code.now table.now placed.at placed.state found }
 {
     for placed in table {
         if !placed_fits(table, hints, effects, code, regions, reached, *placed) {
@@ -276,7 +276,7 @@ fn placed_fits(
     ensures entries { result ≡ true → (found : Fetched) → reached_at reached.now placed.at ≡ Some found →
         FitsAt code.now (declared_targets regions.now placed.at) table.now placed.state found }
     ensures calls { result ≡ true → (found : Fetched) → reached_at reached.now placed.at ≡ Some found →
-        KeepsCalls (effects_of effects.now) table.now placed.at placed.state found }
+        KeepsCalls (effects_of effects.now) code.now table.now placed.at placed.state found }
 {
     match reached_at(reached, placed.at) {
         Some(found) => {
@@ -287,24 +287,75 @@ fn placed_fits(
                 targets_at(regions, placed.at),
                 placed,
                 found,
-            ) && keeps_calls(table, hints, effects, placed, found)
+            ) && keeps_calls(table, hints, effects, code, placed, found)
         }
         None => true,
     }
 }
 
-/// Whether a state accounts for what its instruction stores, and the table has what is left of it behind a call.
+/// Whether a state accounts for what its instruction stores, and the table has what is left of it behind a call or a return.
 fn keeps_calls(
     table: &[Placed],
     hints: &[u32],
     effects: &CallEffects,
+    code: &[Option<u8>],
     placed: Placed,
     found: Fetched,
 ) -> bool
-    ensures { result ≡ true → KeepsCalls (effects_of effects.now) table.now placed.at placed.state found }
+    ensures { result ≡ true → KeepsCalls (effects_of effects.now) code.now table.now placed.at placed.state found }
 {
     accounts_for_stores(effects, placed.at, found.instr, placed.state)
         && keeps_behind(table, hints, effects, placed, found)
+        && (!effects.knows_returns(placed.at) || knows_returns(table, hints, code, placed, found))
+}
+
+/// Whether a state knows where a return goes, and the table has there what the return makes of it.
+fn knows_returns(
+    table: &[Placed],
+    hints: &[u32],
+    code: &[Option<u8>],
+    placed: Placed,
+    found: Fetched,
+) -> bool
+    ensures { result ≡ true → KnowsReturnsOf table.now (λ t. state_after code.now found.instr true found.next t) placed.state (flow found.instr) }
+{
+    match found.instr.flow() {
+        Flow::Returns => knows_return(table, hints, placed.hint, code, found, placed.state),
+        Flow::ReturnsIf(condition) => {
+            let hint = placed.hint.saturating_add(1);
+            match given(condition, true, placed.state) {
+                Some(left) => knows_return(table, hints, hint, code, found, left),
+                None => true,
+            }
+        }
+        _ => true,
+    }
+}
+
+/// Whether a state does at a return that is taken.
+fn knows_return(
+    table: &[Placed],
+    hints: &[u32],
+    hint: u32,
+    code: &[Option<u8>],
+    found: Fetched,
+    state: State,
+) -> bool
+    ensures { result ≡ true → KnowsReturn table.now (λ t. state_after code.now found.instr true found.next t) state }
+{
+    match state.words.first {
+        Some(span) => {
+            span.is_alone()
+                && has(
+                    table,
+                    hints,
+                    hint,
+                    span.first,
+                    state_after(code, found.instr, true, found.next, state),
+                )
+        }
+        None => false,
+    }
 }
 
 /// Whether an address accounts for all that its instruction may store to in a state.
@@ -322,7 +373,7 @@ fn accounts_for_stores(effects: &CallEffects, at: u16, instr: Instr, state: Stat
     }
 }
 
-/// Whether behind a call whose callee may return the table has what is left of a state.
+/// Whether behind a call whose callee may return, to where its states don't know, the table has what is left of a state.
 fn keeps_behind(
     table: &[Placed],
     hints: &[u32],
@@ -331,7 +382,7 @@ fn keeps_behind(
     found: Fetched,
 ) -> bool
     ensures { result ≡ true → (entry : ℕ) → CallsEntry (flow found.instr) entry → (effects_of effects.now).returning entry ≡ true →
-        Has table.now found.next (behind_call ((effects_of effects.now).stored entry) placed.state) }
+        (effects_of effects.now).known entry ≡ false → Has table.now found.next (behind_call ((effects_of effects.now).stored entry) placed.state) }
 {
     let Fetched { instr, next } = found;
     match instr.flow() {
@@ -357,10 +408,12 @@ fn has_behind(
     next: u16,
     state: State,
 ) -> bool
-    ensures { result ≡ true → (effects_of effects.now).returning entry ≡ true →
+    ensures { result ≡ true → (effects_of effects.now).returning entry ≡ true → (effects_of effects.now).known entry ≡ false →
         Has table.now next (behind_call ((effects_of effects.now).stored entry) state) }
 {
-    !effects.returns(entry) || has(table, hints, hint, next, state.behind(effects, entry))
+    !effects.returns(entry)
+        || effects.knows_returns(entry)
+        || has(table, hints, hint, next, state.behind(effects, entry))
 }
 
 /// The instruction that is reached at an address.

@@ -1,7 +1,7 @@
 //! What becomes of a state at an instruction.
 
 ghost use Rattle.std.specs.Prelude.{◌≡◌};
-ghost use Rattle.verify80_stores.specs.Following.{byte_at, code_or, known_word, loaded_at, loaded, loaded_word, moved, counted, resulted, tested, is_accumulator, operand_bytes, after_operation, added_carry, turned, exchanged_pairs, index_words, popped_to, registers_after, pushed_words, called, words_after, cells_after, state_after};
+ghost use Rattle.verify80_stores.specs.Following.{byte_at, code_or, known_word, loaded_at, loaded, loaded_word, moved, counted, resulted, tested, is_accumulator, operand_bytes, after_operation, added_carry, turned, exchanged_pairs, index_words, popped_to, registers_after, pushed_words, called, returned, words_after, cells_after, state_after};
 ghost use Rattle.verify80_stores.specs.Span.{uncarried};
 ghost use Rattle.verify80_stores.specs.State.{compared_with, with_outcome};
 
@@ -339,21 +339,27 @@ fn called(taken: bool, next: u16, words: Words) -> Words
     }
 }
 
+/// The words on the stack after a return, if it is taken.
+fn returned(taken: bool, words: Words) -> Words
+    ensures { result ≡ returned taken words }
+{
+    if taken { words.popped() } else { words }
+}
+
 /// The words on the stack after an instruction at which a call or a return is taken or not; `next` is the address after it.
 fn words_after(instr: Instr, taken: bool, next: u16, state: State) -> Words
     ensures { result ≡ words_after instr taken next state }
 {
     match instr {
         Instr::Push(pair) => state.words.pushed(Some(pushed_words(state, pair))),
-        Instr::Pop(_) => state.words.popped(),
+        Instr::Pop(_) | Instr::Ret => state.words.popped(),
+        Instr::ReturnIf(_) => returned(taken, state.words),
         Instr::Xthl => Words {
             first: Some(state.hl.words),
             ..state.words
         },
         Instr::Call(_) | Instr::CallIf(_, _) | Instr::Rst(_) => called(taken, next, state.words),
-        Instr::ReturnIf(_) => { if taken { Words::NONE } else { state.words } }
-        Instr::Ret
-        | Instr::Sphl
+        Instr::Sphl
         | Instr::Lxi(Pair::Sp, _)
         | Instr::Inx(Pair::Sp)
         | Instr::Dcx(Pair::Sp) => Words::NONE,

@@ -13,5 +13,5 @@ invariant-loop-placed l = record {
   entries : (place : ℕ) → place < l.placed-index → (placed : Placed) (found : Fetched) → slice_get l.table place ≡ Some placed → reached_at l.reached placed.at ≡ Some found →
       FitsAt l.code (declared_targets l.regions placed.at) l.table placed.state found;
   calls : (place : ℕ) → place < l.placed-index → (placed : Placed) (found : Fetched) → slice_get l.table place ≡ Some placed → reached_at l.reached placed.at ≡ Some found →
-      KeepsCalls (effects_of l.effects) l.table placed.at placed.state found;
+      KeepsCalls (effects_of l.effects) l.code l.table placed.at placed.state found;
 }
