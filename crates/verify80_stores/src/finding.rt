@@ -20,14 +20,14 @@ use crate::fitting::{CallEffects, Placed, fits, fitting_states_hold};
 use crate::laws::watched_runs_go_as_listed;
 use crate::listing::{Kind, addresses_of, open_jumps, open_marks, open_stores, spans_of};
 use crate::quiet::mark_quiet;
-use crate::search::{Groups, Proposal, ReachedProgram, propose};
+use crate::search::{Groups, KeptProposal, Proposal, ReachedProgram, propose, propose_kept};
 use crate::spans::bytes_stay_bytes;
 use crate::stack_pointer::sets_stack;
 use crate::states::State;
 use crate::stores::Stores;
 use decode80::Fetched;
 use image80::laws::code_data_and_stack_are_apart;
-use image80::{Image, Range};
+use image80::{Image, Range, Regions};
 use loader80::Vouched;
 use std::alloc::{AllocError, Global};
 use verify80::{
@@ -162,20 +162,16 @@ fn states_of(
             ..program
         },
     )?;
-    if !quiet.is_empty() {
-        // What procedures store to is read off the first states. Then bytes that they leave are known behind their calls.
-        let effects = groups.effects(alloc, program, &first.table)?;
-        let Proposal { table, hints } = propose(
-            alloc,
-            ReachedProgram {
-                effects: &effects,
-                ..program
-            },
-        )?;
-        if let Some(table) =
-            fitting_table(image, reached, quiet, &code, &marks, &effects, table, &hints)
-        {
-            return Ok(table);
+    let kept = propose_kept(alloc, program, &groups, &first.table, !quiet.is_empty())?;
+    if let Some(KeptProposal { effects, proposal }) = kept {
+        let Proposal { table, hints } = proposal;
+        let fewer = count_open(alloc, &image.regions, reached, &first.table)?;
+        if count_open(alloc, &image.regions, reached, &table)? <= fewer {
+            if let Some(table) =
+                fitting_table(image, reached, quiet, &code, &marks, &effects, table, &hints)
+            {
+                return Ok(table);
+            }
         }
     }
     let Proposal { table, hints } = first;
@@ -183,6 +179,25 @@ fn states_of(
         Some(table) => Ok(table),
         None => anything(alloc),
     }
+}
+
+/// How many instructions the states of a table leave open.
+///
+/// # Errors
+/// `AllocError` if memory runs out.
+fn count_open(
+    alloc: Global,
+    regions: &Regions,
+    reached: &[Option<Fetched>],
+    table: &[Placed],
+) -> Result<usize, AllocError> {
+    let mut count = 0_usize;
+    for is_open in &open_marks(alloc, regions, reached, table)? {
+        if *is_open {
+            count = count.saturating_add(1);
+        }
+    }
+    Ok(count)
 }
 
 /// A table, if it fits the image.

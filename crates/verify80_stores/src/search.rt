@@ -8,11 +8,13 @@
 //! | Item | What it is |
 //! |---|---|
 //! | [`propose`] | a table of states, and its hints |
+//! | [`propose_kept`] | a second one, in which calls keep what they can |
 //! | [`ReachedProgram`] | the program that they are proposed for |
 //! | [`Groups`] | what its procedures may do before they return |
 
 mod compacting;
 mod groups;
+mod keeping;
 mod landmarks;
 mod needs;
 mod nodes;
@@ -22,5 +24,6 @@ mod slots;
 mod units;
 
 pub(crate) use groups::Groups;
+pub(crate) use keeping::{KeptProposal, propose_kept};
 pub(crate) use program::ReachedProgram;
 pub(crate) use proposing::{Proposal, propose};

@@ -78,6 +78,14 @@ impl CallEffects {
         }
     }
 
+    /// The number of the effect at an address.
+    pub fn number(&self, at: u16) -> u16 {
+        match self.numbers.get(usize::from(at)) {
+            Some(number) => *number,
+            None => 0,
+        }
+    }
+
     /// Whether an address may be stored to, from another on.
     pub fn stores_to(&self, at: u16, address: u16) -> bool
         ensures { result ≡ (effects_of self.now).stored at address }

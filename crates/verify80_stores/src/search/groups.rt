@@ -88,16 +88,52 @@ impl Groups {
         count
     }
 
+    /// Marks for the groups that are called and may return.
+    ///
+    /// # Errors
+    /// `AllocError` if memory runs out.
+    pub fn called(&self, alloc: Global) -> Result<Vec<bool>, AllocError> {
+        let mut marks = vec![in alloc; false; self.count()]?;
+        for (_, callee) in &self.calls {
+            if is_set(&self.returns, *callee) {
+                set(&mut marks, *callee);
+            }
+        }
+        Ok(marks)
+    }
+
+    /// Takes the mark of each group of which a state at a return doesn't know where it goes, and says whether one had it.
+    pub fn take_marks(
+        &self,
+        program: ReachedProgram<'_>,
+        table: &[Placed],
+        marks: &mut [bool],
+    ) -> bool {
+        let mut is_changed = false;
+        for placed in table {
+            if let Some(found) = program.at(placed.at) {
+                let group = self.number(placed.at);
+                if is_set(marks, group) && !program.knows_return(found.instr, placed.state) {
+                    if let Some(mark) = marks.get_mut(usize::from(group)) {
+                        *mark = false;
+                    }
+                    is_changed = true;
+                }
+            }
+        }
+        is_changed
+    }
+
     /// The effects of the groups if each may store anywhere.
     ///
     /// # Errors
     /// `AllocError` if memory runs out.
     pub fn any_effects(&self, alloc: Global) -> Result<CallEffects, AllocError> {
         let anywhere = vec![in alloc; SpanSet::ANY; self.count()]?;
-        self.with_stores(alloc, &anywhere)
+        self.with_stores(alloc, &anywhere, &[])
     }
 
-    /// The effects of the groups if each stores as the states of a table say.
+    /// The effects of the groups if each stores as the states of a table say, and the marked ones know where they return to.
     ///
     /// # Errors
     /// `AllocError` if memory runs out.
@@ -106,13 +142,14 @@ impl Groups {
         alloc: Global,
         program: ReachedProgram<'_>,
         table: &[Placed],
+        knows: &[bool],
     ) -> Result<CallEffects, AllocError> {
         let mut stores = vec![in alloc; SpanSet::NONE; self.count()]?;
         for placed in table {
             self.add_stores(&mut stores, program, *placed);
         }
         self.add_callees(&mut stores);
-        self.with_stores(alloc, &stores)
+        self.with_stores(alloc, &stores, knows)
     }
 
     /// Adds what the instruction at an address stores to in a state.
@@ -161,7 +198,12 @@ impl Groups {
     }
 
     /// The effects of the groups, given what they store to.
-    fn with_stores(&self, alloc: Global, stores: &[SpanSet]) -> Result<CallEffects, AllocError> {
+    fn with_stores(
+        &self,
+        alloc: Global,
+        stores: &[SpanSet],
+        knows: &[bool],
+    ) -> Result<CallEffects, AllocError> {
         let mut effects = Vec::new(alloc);
         for number in 0..stores.len() {
             effects.push(CallEffect {
@@ -169,10 +211,8 @@ impl Groups {
                     Some(set) if number > 0 => set.spans(alloc)?,
                     _ => Vec::new(alloc),
                 },
-                returns: match self.returns.get(number) {
-                    Some(returns) => *returns,
-                    None => false,
-                },
+                returns: is_set(&self.returns, number as u16),
+                knows_returns: is_set(knows, number as u16),
             })?;
         }
         Ok(CallEffects {

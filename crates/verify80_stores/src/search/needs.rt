@@ -58,8 +58,9 @@ impl Needs {
     pub fn of(alloc: Global, program: ReachedProgram<'_>) -> Result<Needs, AllocError> {
         let pointers = find_pointers(alloc, program)?;
         let mut needs = vec![in alloc; Need::NONE; 65_536]?;
+        let mut behind = vec![in alloc; Need::NONE; 65_536]?;
         for _ in 0..SWEEPS {
-            if !sweep(program, &pointers, &mut needs) {
+            if !sweep(program, &pointers, &mut needs, &mut behind) {
                 break;
             }
         }
@@ -106,13 +107,22 @@ fn named_by(
     Ok(named)
 }
 
-/// Goes through the program once, from its end, and says whether something changed.
-fn sweep(program: ReachedProgram<'_>, pointers: &[Option<u16>], needs: &mut [Need]) -> bool {
+/// Goes through the program once, from its end, and says whether something changed. `behind` has for each effect what is needed behind the
+/// calls of its procedures, if these know where they return to.
+fn sweep(
+    program: ReachedProgram<'_>,
+    pointers: &[Option<u16>],
+    needs: &mut [Need],
+    behind: &mut [Need],
+) -> bool {
     let mut is_changed = false;
     for below in 0..65_536_u32 {
         let at = (65_535 - below) as u16;
         if let Some(found) = program.at(at) {
-            let need = need_before(program, pointers, needs, at, found);
+            if let Flow::Calls(entry) | Flow::CallsIf(_, entry) = found.instr.flow() {
+                is_changed |= note_behind(program, behind, entry, need_at(needs, found.next));
+            }
+            let need = need_before(program, pointers, needs, behind, at, found);
             if let Some(place) = needs.get_mut(usize::from(at)) {
                 if *place != need {
                     *place = need;
@@ -122,6 +132,34 @@ fn sweep(program: ReachedProgram<'_>, pointers: &[Option<u16>], needs: &mut [Nee
         }
     }
     is_changed
+}
+
+/// Notes what is needed behind a call of the procedure at `entry`, and says whether that is more.
+fn note_behind(program: ReachedProgram<'_>, behind: &mut [Need], entry: u16, need: Need) -> bool {
+    match behind.get_mut(usize::from(program.effects.number(entry))) {
+        Some(place) if program.effects.knows_returns(entry) => {
+            let before = *place;
+            *place = before.and(need);
+            *place != before
+        }
+        _ => false,
+    }
+}
+
+/// What is needed before a return that is taken.
+fn returned(program: ReachedProgram<'_>, behind: &[Need], at: u16) -> Need {
+    if !program.effects.knows_returns(at) {
+        return Need::NONE;
+    }
+    let need = need_at(behind, program.effects.number(at));
+    let parts = need.parts;
+    Need {
+        parts: parts
+            .without(Units::WORDS)
+            .and(parts.deeper())
+            .and(Units::FIRST),
+        slots: need.slots,
+    }
 }
 
 /// What is needed at an address so far.
@@ -137,12 +175,14 @@ fn need_before(
     program: ReachedProgram<'_>,
     pointers: &[Option<u16>],
     needs: &[Need],
+    behind: &[Need],
     at: u16,
     found: Fetched,
 ) -> Need {
     let Fetched { instr, next } = found;
     match instr.flow() {
-        Flow::Returns | Flow::Halts => Need::NONE,
+        Flow::Halts => Need::NONE,
+        Flow::Returns => returned(program, behind, at),
         Flow::Continues | Flow::Pushes | Flow::Pops | Flow::Exchanges => {
             through(
                 program,
@@ -155,7 +195,9 @@ fn need_before(
         Flow::JumpsIf(condition, to) => need_at(needs, next)
             .and(need_at(needs, to))
             .with(Units::of_condition(condition)),
-        Flow::ReturnsIf(condition) => need_at(needs, next).with(Units::of_condition(condition)),
+        Flow::ReturnsIf(condition) => need_at(needs, next)
+            .and(returned(program, behind, at))
+            .with(Units::of_condition(condition)),
         Flow::Calls(to) => called(need_at(needs, to)).and(kept(program, to, need_at(needs, next))),
         Flow::CallsIf(condition, to) => called(need_at(needs, to))
             .and(kept(program, to, need_at(needs, next)))

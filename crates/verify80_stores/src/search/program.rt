@@ -50,12 +50,14 @@ impl<'a> ReachedProgram<'a> {
         }
     }
 
-    /// The address behind the call at an address, if its callee may return and store anywhere: then nothing is known there.
+    /// The address behind the call at an address, if its callee may return, its states don't know where to, and it may store anywhere: then
+    /// nothing is known there.
     pub fn behind(self, at: u16) -> Option<u16> {
         let Fetched { instr, next } = self.at(at)?;
         match instr.flow() {
             Flow::Calls(entry) | Flow::CallsIf(_, entry)
                 if self.effects.returns(entry)
+                    && !self.effects.knows_returns(entry)
                     && self.effects.stores_to_all(entry, Span::ANY) =>
             {
                 Some(next)
@@ -67,7 +69,7 @@ impl<'a> ReachedProgram<'a> {
     /// The bytes of memory that stay behind a call of the procedure at `entry`.
     pub fn kept(self, entry: u16, slots: Slots) -> Slots {
         let mut kept = Slots::NONE;
-        if self.effects.returns(entry) {
+        if self.effects.returns(entry) && !self.effects.knows_returns(entry) {
             for place in 0..SLOTS {
                 match slots.at(place) {
                     Some(address) if !self.effects.stores_to(entry, address) => {
@@ -83,14 +85,14 @@ impl<'a> ReachedProgram<'a> {
     /// How many ways an instruction has, each with a hint of its own.
     pub fn count_ways(self, at: u16, instr: Instr) -> usize {
         match instr.flow() {
-            Flow::Returns | Flow::Halts => 0,
-            Flow::Continues
+            Flow::Halts => 0,
+            Flow::Returns
+            | Flow::Continues
             | Flow::Pushes
             | Flow::Pops
             | Flow::Exchanges
-            | Flow::Jumps(_)
-            | Flow::ReturnsIf(_) => 1,
-            Flow::JumpsIf(_, _) | Flow::Calls(_) => 2,
+            | Flow::Jumps(_) => 1,
+            Flow::JumpsIf(_, _) | Flow::Calls(_) | Flow::ReturnsIf(_) => 2,
             Flow::CallsIf(_, _) => 3,
             Flow::JumpsToHl => self.targets(at).len(),
         }
@@ -100,7 +102,8 @@ impl<'a> ReachedProgram<'a> {
     pub fn way(self, at: u16, found: Fetched, state: State, number: usize) -> Option<(u16, State)> {
         let Fetched { instr, next } = found;
         match instr.flow() {
-            Flow::Returns | Flow::Halts => None,
+            Flow::Halts => None,
+            Flow::Returns => self.back(at, found, state),
             Flow::Continues | Flow::Pushes | Flow::Pops | Flow::Exchanges => {
                 Some((next, self.after(found, false, state)))
             }
@@ -114,9 +117,10 @@ impl<'a> ReachedProgram<'a> {
                 1 => self.left(found, false, next, given(condition, false, state)),
                 _ => self.returned(to, next, state),
             },
-            Flow::ReturnsIf(condition) => {
-                self.left(found, false, next, given(condition, false, state))
-            }
+            Flow::ReturnsIf(condition) => match number {
+                0 => self.left(found, false, next, given(condition, false, state)),
+                _ => self.back(at, found, given(condition, true, state)?),
+            },
             Flow::Calls(to) => match number {
                 0 => Some((to, self.after(found, true, state))),
                 _ => self.returned(to, next, state),
@@ -134,10 +138,36 @@ impl<'a> ReachedProgram<'a> {
 
     /// Where a callee returns to, and with what, if it may return.
     fn returned(self, entry: u16, next: u16, state: State) -> Option<(u16, State)> {
-        if self.effects.returns(entry) {
+        if self.effects.returns(entry) && !self.effects.knows_returns(entry) {
             Some((next, state.behind(self.effects, entry)))
         } else {
             None
+        }
+    }
+
+    /// Where a return goes, and with what, if the states there are to know it, and this one does.
+    fn back(self, at: u16, found: Fetched, state: State) -> Option<(u16, State)> {
+        let span = state.words.first?;
+        if self.effects.knows_returns(at) && span.is_alone() {
+            Some((span.first, self.after(found, true, state)))
+        } else {
+            None
+        }
+    }
+
+    /// Whether each way of the return at an address is known to a state.
+    pub fn knows_return(self, instr: Instr, state: State) -> bool {
+        let left = match instr.flow() {
+            Flow::Returns => Some(state),
+            Flow::ReturnsIf(condition) => given(condition, true, state),
+            _ => None,
+        };
+        match left {
+            None => true,
+            Some(left) => match left.words.first {
+                Some(span) => span.is_alone(),
+                None => false,
+            },
         }
     }
 

@@ -11,6 +11,8 @@ use std::alloc::{AllocError, Global};
 
 /// How many states are followed, each as often as it grows, before the search hurries.
 const STEPS: u32 = 500_000;
+/// How many are followed on trial, at most.
+const TRIAL_STEPS: u32 = 100_000;
 /// How many are followed then, at most.
 const LATE_STEPS: u32 = 4_000_000;
 /// How often the table is narrowed, if states were joined.
@@ -31,15 +33,53 @@ pub(crate) struct Proposal {
 /// # Errors
 /// `AllocError` only if memory runs out.
 pub(crate) fn propose(alloc: Global, program: ReachedProgram<'_>) -> Result<Proposal, AllocError> {
-    let needs = Needs::of(alloc, program)?;
-    let landmarks = Landmarks::new(alloc, program)?;
-    let mut nodes = Nodes::new(alloc, needs, landmarks)?;
+    let mut nodes = Nodes::new(alloc, Needs::of(alloc, program)?, Landmarks::new(alloc, program)?)?;
     let mut hints = Vec::new(alloc);
+    let start = enter_first(alloc, &mut nodes, program)?;
+    if !follow_all(alloc, &mut nodes, &mut hints, program, STEPS)? {
+        nodes.hurry();
+        follow_all(alloc, &mut nodes, &mut hints, program, LATE_STEPS)?;
+    }
+    finish(alloc, nodes, hints, program, start)
+}
+
+/// The same, or `None` if too many states would have to be followed.
+///
+/// # Errors
+/// `AllocError` only if memory runs out.
+pub(crate) fn try_propose(
+    alloc: Global,
+    program: ReachedProgram<'_>,
+) -> Result<Option<Proposal>, AllocError> {
+    let mut nodes = Nodes::new(alloc, Needs::of(alloc, program)?, Landmarks::new(alloc, program)?)?;
+    let mut hints = Vec::new(alloc);
+    let start = enter_first(alloc, &mut nodes, program)?;
+    if !follow_all(alloc, &mut nodes, &mut hints, program, TRIAL_STEPS)? {
+        return Ok(None);
+    }
+    Ok(Some(finish(alloc, nodes, hints, program, start)?))
+}
+
+/// Enters the states of which it is clear that nothing is known, and gives the place of that at the start.
+fn enter_first(
+    alloc: Global,
+    nodes: &mut Nodes,
+    program: ReachedProgram<'_>,
+) -> Result<u32, AllocError> {
     let start = nodes.enter(alloc, program.start, State::ANY)?;
-    enter_behind(alloc, &mut nodes, program)?;
-    follow_all(alloc, &mut nodes, &mut hints, program, STEPS)?;
-    nodes.hurry();
-    follow_all(alloc, &mut nodes, &mut hints, program, LATE_STEPS)?;
+    enter_behind(alloc, nodes, program)?;
+    Ok(start)
+}
+
+/// Puts together what was followed.
+fn finish(
+    alloc: Global,
+    nodes: Nodes,
+    hints: Vec<u32>,
+    program: ReachedProgram<'_>,
+    start: u32,
+) -> Result<Proposal, AllocError> {
+    let mut nodes = nodes;
     if nodes.has_grown() {
         for _ in 0..NARROWINGS {
             narrow(alloc, &mut nodes, &hints, program, start)?;
@@ -48,7 +88,7 @@ pub(crate) fn propose(alloc: Global, program: ReachedProgram<'_>) -> Result<Prop
     compact(alloc, &nodes, &hints, program, start)
 }
 
-/// Enters the states of which it is clear that nothing is known: those behind calls that may store anywhere.
+/// Enters those behind calls that may store anywhere.
 fn enter_behind(
     alloc: Global,
     nodes: &mut Nodes,
@@ -62,21 +102,21 @@ fn enter_behind(
     Ok(())
 }
 
-/// Follows states until none waits, but no more than these.
+/// Follows states until none waits, but no more than these, and says whether none waits.
 fn follow_all(
     alloc: Global,
     nodes: &mut Nodes,
     hints: &mut Vec<u32>,
     program: ReachedProgram<'_>,
     most: u32,
-) -> Result<(), AllocError> {
+) -> Result<bool, AllocError> {
     for _ in 0..most {
         let Some(place) = nodes.next_waiting() else {
-            break;
+            return Ok(true);
         };
         follow_from(alloc, nodes, hints, program, place)?;
     }
-    Ok(())
+    Ok(false)
 }
 
 /// Follows the state at a place through the instruction there, unless another has taken it in.
