@@ -172,7 +172,7 @@ either_stores one other address = one address || other address
 pub data Owes (effects : Effects) (quiet : ℕ → Bool) (table : List Placed) (memory : List ℕ) : (stored : ℕ → Bool) → (returns known : Bool) → (places : List ℕ) → Type 0 where
   never : (stored : ℕ → Bool) (returns known : Bool) (places : List ℕ) → returns ≡ false → Owes effects quiet table memory stored returns known places
   none : (stored : ℕ → Bool) (returns known : Bool) (places : List ℕ) → places ≡ [] → Owes effects quiet table memory stored returns known places
-  open : (stored : ℕ → Bool) (returns known : Bool) (places : List ℕ) (place : ℕ) (older : List ℕ) (cells : Cells) → places ≡ place ∷ older →
+  waits : (stored : ℕ → Bool) (returns known : Bool) (places : List ℕ) (place : ℕ) (older : List ℕ) (cells : Cells) → places ≡ place ∷ older →
       Has table place (with_cells cells) → HoldsCells cells memory → AreQuietCells (stays_quiet quiet stored) cells →
       Owes effects quiet table memory (either_stores stored (effects.stored place)) (effects.returning place) (effects.known place) older →
       Owes effects quiet table memory stored returns known places

@@ -65,7 +65,8 @@ impl Groups {
                 Ok(())
             }
             Flow::Calls(entry) | Flow::CallsIf(_, entry) => {
-                self.calls.push((self.number(at), self.number(entry)))
+                self.calls.push((self.number(at), self.number(entry)))?;
+                Ok(())
             }
             _ => Ok(()),
         }
@@ -284,16 +285,16 @@ impl SpanSet {
             } else {
                 if !is_added && added.last < other.first {
                     put(&mut rest, count, added);
-                    count += 1;
+                    count = count.saturating_add(1);
                     is_added = true;
                 }
                 put(&mut rest, count, other);
-                count += 1;
+                count = count.saturating_add(1);
             }
         }
         if !is_added {
             put(&mut rest, count, added);
-            count += 1;
+            count = count.saturating_add(1);
         }
         if count > SPANS {
             join_closest(&mut rest, count);
