@@ -14,13 +14,14 @@ use Rattle.verify80_stores.specs.Bytes.{HasBytes}
 use Rattle.verify80_stores.specs.Span.{any_byte}
 use Rattle.verify80_stores.specs.Cells.{AreQuietCells, HoldsCell, HoldsCells, IsQuietCell, any_cell}
 use Rattle.verify80_stores.specs.Fitting.{CallsEntry, Has}
-use Rattle.verify80_stores.specs.Calls.{AccountsFor, AccountsForCall, Effects, IsWithin, Owes, behind_call, either_stores, follows, kept_cell, kept_cells, never, none, open, stays_quiet, with_cells}
+use Rattle.verify80_stores.specs.Calls.{AccountsFor, AccountsForCall, Effects, IsWithin, Owes, behind_call, either_stores, follows, kept_cell, kept_cells, never, none, stays_quiet, waits, with_cells}
 use Rattle.verify80_stores.proofs.CellLemmas.{any_cell_holds, cells_beside, cells_quieter}
 use Rattle.verify80_stores.proofs.WayLemmas.{Leads}
 
 -- truths
 both_true : (a b : Bool) → a ≡ true → b ≡ true → (a && b) ≡ true
-both_true true true one two = refl
+both_true true b one two = two
+both_true false b one two = one
 
 first_of : (a b : Bool) → (a && b) ≡ true → a ≡ true
 first_of true b h = refl
@@ -38,8 +39,8 @@ not_of : (b : Bool) → b ≡ false → not b ≡ true
 not_of b h = ap (λ x. not x) h
 
 still_false : (a b : Bool) → (b ≡ true → a ≡ true) → a ≡ false → b ≡ false
-still_false a true more none = absurd (true≢false (sym (more refl) ∙ none))
-still_false a false more none = refl
+still_false a true more is = absurd (true≢false (sym (more refl) ∙ is))
+still_false a false more is = refl
 
 one_of : (a b : Bool) → (a || b) ≡ true → (a ≡ true) ⊎ (b ≡ true)
 one_of true b h = inl refl
@@ -47,6 +48,7 @@ one_of false b h = inr h
 
 left_one : (a b : Bool) → a ≡ true → (a || b) ≡ true
 left_one true b h = refl
+left_one false b h = absurd (true≢false (sym h))
 
 right_one : (a b : Bool) → b ≡ true → (a || b) ≡ true
 right_one true b h = refl
@@ -72,10 +74,10 @@ module _ (effects : Effects) (quiet : ℕ → Bool) (table : List Placed) where
   -- where less may come, no more is owed
   pub owes_less : (memory : List ℕ) (stored less : ℕ → Bool) (returns may known knows : Bool) (places : List ℕ) → ((a : ℕ) → less a ≡ true → stored a ≡ true) → (may ≡ true → returns ≡ true) → (known ≡ true → knows ≡ true) →
       Owes effects quiet table memory stored returns known places → Owes effects quiet table memory less may knows places
-  owes_less memory stored less returns may known knows places more fewer still (never _ _ _ _ no) = never less may knows places (still_false returns may fewer no)
+  owes_less memory stored less returns may known knows places more fewer still (never _ _ _ _ not_so) = never less may knows places (still_false returns may fewer not_so)
   owes_less memory stored less returns may known knows places more fewer still (none _ _ _ _ is) = none less may knows places is
-  owes_less memory stored less returns may known knows places more fewer still (open _ _ _ _ place older cells is has held are rest) =
-      open less may knows places place older cells is has held (cells_quieter (stays_quiet quiet stored) (stays_quiet quiet less) cells (quiet_still quiet stored less more) are)
+  owes_less memory stored less returns may known knows places more fewer still (waits _ _ _ _ place older cells is has held are rest) =
+      waits less may knows places place older cells is has held (cells_quieter (stays_quiet quiet stored) (stays_quiet quiet less) cells (quiet_still quiet stored less more) are)
       (owes_less memory (either_stores stored (effects.stored place)) (either_stores less (effects.stored place)) (effects.returning place) (effects.returning place) (effects.known place) (effects.known place) older
       (either_less stored less (effects.stored place) more) (λ h. h) (λ h. h) rest)
   owes_less memory stored less returns may known knows places more fewer still (follows _ _ _ _ place older is so rest) =
@@ -86,14 +88,14 @@ module _ (effects : Effects) (quiet : ℕ → Bool) (table : List Placed) where
   -- what is owed stays where quiet bytes do that may not be stored to
   pub owes_still : (memory after : List ℕ) (stored : ℕ → Bool) (returns known : Bool) (places : List ℕ) → HasBytes after → ((a : ℕ) → quiet a ≡ true → stored a ≡ false → slice_index after a ≡ slice_index memory a) →
       Owes effects quiet table memory stored returns known places → Owes effects quiet table after stored returns known places
-  owes_still memory after stored returns known places bytes same (never _ _ _ _ no) = never stored returns known places no
+  owes_still memory after stored returns known places bytes same (never _ _ _ _ not_so) = never stored returns known places not_so
   owes_still memory after stored returns known places bytes same (none _ _ _ _ is) = none stored returns known places is
   owes_still memory after stored returns known places bytes same (follows _ _ _ _ place older is so rest) =
       follows stored returns known places place older is so
       (owes_still memory after (either_stores stored (effects.stored place)) (effects.returning place) (effects.known place) older bytes
       (λ a here none_there. same a here (none_left (stored a) (effects.stored place a) none_there)) rest)
-  owes_still memory after stored returns known places bytes same (open _ _ _ _ place older cells is has held are rest) =
-      open stored returns known places place older cells is has
+  owes_still memory after stored returns known places bytes same (waits _ _ _ _ place older cells is has held are rest) =
+      waits stored returns known places place older cells is has
       (cells_beside (stays_quiet quiet stored) memory after cells
       (λ a here. same a (first_of (quiet a) (not (stored a)) here) (is_not (stored a) (second_of (quiet a) (not (stored a)) here))) bytes are held)
       are
@@ -180,9 +182,9 @@ module _ (effects : Effects) (quiet : ℕ → Bool) (table : List Placed) (memor
   pub owed_return : (stored : ℕ → Bool) (returns known : Bool) (places : List ℕ) (place : ℕ) (older : List ℕ) → returns ≡ true → places ≡ place ∷ older →
       Owes effects quiet table memory stored returns known places → Returned effects quiet table memory known place older
   unfolding first_or
-  owed_return stored returns known places place older may is (never _ _ _ _ no) = absurd (true≢false (sym may ∙ no))
+  owed_return stored returns known places place older may is (never _ _ _ _ not_so) = absurd (true≢false (sym may ∙ not_so))
   owed_return stored returns known places place older may is (none _ _ _ _ empty) = cc
-  owed_return stored returns known places place older may is (open _ _ _ _ there others cells at has held are rest) =
+  owed_return stored returns known places place older may is (waits _ _ _ _ there others cells at has held are rest) =
       let same : there ∷ others ≡ place ∷ older = sym at ∙ is in
       let here : there ≡ place = ap (first_or 0) same in
       record { kept = inr (cells, subst (λ n. Has table n (with_cells cells)) here has, held); rest = older_owed stored there others place older here (ap (λ (l : List ℕ). drop 1 l) same) rest }
@@ -233,7 +235,7 @@ module _ (effects : Effects) (quiet : ℕ → Bool) (table : List Placed) (memor
 
   called_by : (at entry next : ℕ) (s : State) (places : List ℕ) (returns known : Bool) → effects.returning entry ≡ returns → effects.known entry ≡ known → AccountsForCall effects at entry next →
       (effects.returning entry ≡ true → effects.known entry ≡ false → Has table next (behind_call (effects.stored entry) s)) → AreQuietCells quiet s.cells → HoldsCells s.cells memory → OwesAt at places → OwesAt entry (next ∷ places)
-  called_by at entry next s places false known no is call behind are held owes = never (effects.stored entry) (effects.returning entry) (effects.known entry) (next ∷ places) no
+  called_by at entry next s places false known not_so is call behind are held owes = never (effects.stored entry) (effects.returning entry) (effects.known entry) (next ∷ places) not_so
   called_by at entry next s places true known may is call behind are held owes = by known is where
     within : IsWithin effects at next
     within = call.behind may
@@ -251,7 +253,7 @@ module _ (effects : Effects) (quiet : ℕ → Bool) (table : List Placed) (memor
     by : (known : Bool) → effects.known entry ≡ known → OwesAt entry (next ∷ places)
     by true is = follows (effects.stored entry) (effects.returning entry) (effects.known entry) (next ∷ places) next places refl is rest
     by false is =
-        open (effects.stored entry) (effects.returning entry) (effects.known entry) (next ∷ places) next places (kept_cells (effects.stored entry) s.cells) refl (behind may is)
+        waits (effects.stored entry) (effects.returning entry) (effects.known entry) (next ∷ places) next places (kept_cells (effects.stored entry) s.cells) refl (behind may is)
         (kept_hold (effects.stored entry) s.cells memory bytes held) (kept_are_quiet effects quiet table (effects.stored entry) s.cells are) rest
 
   taken_call : (b : Bool) (entry next : ℕ) (places : List ℕ) → b ≡ true → OwesAt entry (next ∷ places) → OwesAt entry (if b then next ∷ places else places)

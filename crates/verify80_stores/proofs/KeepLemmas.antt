@@ -244,17 +244,17 @@ module _ (image : Located) (quiet : ℕ → Bool) (bytes : List (Option ℕ)) (e
 
     -- a quiet byte stays if the instruction doesn't store there
     same_byte : (a : ℕ) → quiet a ≡ true → (MayStore (storing found.instr) holding a → ⊥) → slice_index after.machine.memory a ≡ slice_index w.machine.memory a
-    same_byte a here none =
+    same_byte a here apart =
         step_byte image.regions ground [] refused w.machine after.machine found a fetched step
-        (λ pass. data_kept image.regions ground w.machine.memory a (quiet_data a here) found.instr found.next w.machine.cpu holding pass keeps.keeps.holds.registers none)
+        (λ pass. data_kept image.regions ground w.machine.memory a (quiet_data a here) found.instr found.next w.machine.cpu holding pass keeps.keeps.holds.registers apart)
 
     not_stored : (a : ℕ) → effects.stored w.machine.cpu.pc a ≡ false → MayStore (storing found.instr) holding a → ⊥
-    not_stored a none there = true≢false (sym (calls.stores a there) ∙ none)
+    not_stored a free there = true≢false (sym (calls.stores a there) ∙ free)
 
     -- what was owed before is owed still
     owed : Owes effects quiet table after.machine.memory (effects.stored w.machine.cpu.pc) (effects.returning w.machine.cpu.pc) (effects.known w.machine.cpu.pc) w.places
     owed = owes_still effects quiet table w.machine.memory after.machine.memory (effects.stored w.machine.cpu.pc) (effects.returning w.machine.cpu.pc) (effects.known w.machine.cpu.pc) w.places now.memory
-        (λ a here none. same_byte a here (not_stored a none)) keeps.owes
+        (λ a here free. same_byte a here (not_stored a free)) keeps.owes
 
     -- what the instruction makes of a state holds after the step
     abbrev follows : Follows image.regions (declared_targets image.regions w.machine.cpu.pc) table (λ taken t. state_after bytes found.instr taken found.next t) w.machine after.machine before.registers (flow found.instr)
@@ -270,8 +270,8 @@ module _ (image : Located) (quiet : ℕ → Bool) (bytes : List (Option ℕ)) (e
         (flow found.instr) holding taken (calls.returns so) follows (quiet_in_data keeps.keeps.place keeps.keeps.placed keeps.keeps.there) keeps.keeps.holds in
         keeps_by after meets.state (subst (λ n. Has table n meets.state) (sym (at ∙ word)) meets.has) now meets.holds code_now whole_now
     brings to at word taken (inr kept) =
-        keeps_by after (with_cells kept.0) (subst (λ n. Has table n (with_cells kept.0)) (sym at) kept.1.0) now
-        (record { registers = no_registers_hold after.machine kept.0 now; words = none_hold image.regions ground after.machine.memory after.machine.cpu.sp; cells = kept.1.1 }) code_now whole_now
+        keeps_by after (with_cells kept.0) (subst (λ n. Has table n (with_cells kept.0)) (sym at) kept.1) now
+        (record { registers = no_registers_hold after.machine kept.0 now; words = none_hold image.regions ground after.machine.memory after.machine.cpu.sp; cells = kept.2 }) code_now whole_now
 
     returned : (to : ℕ) → after.machine.cpu.pc ≡ to → to ≡ word_in w.machine.memory w.machine.cpu.sp → IsNewest to w.places → is_return_taken (flow found.instr) w.machine.cpu.registers.flags ≡ true → KeepsToCalls image quiet effects table after
     returned to at word newest taken =
@@ -283,6 +283,11 @@ module _ (image : Located) (quiet : ℕ → Bool) (bytes : List (Option ℕ)) (e
           owes = subst (λ n. Owes effects quiet table after.machine.memory (effects.stored n) (effects.returning n) (effects.known n) after.places) (sym at)
               (subst (λ (l : List ℕ). Owes effects quiet table after.machine.memory (effects.stored to) (effects.returning to) (effects.known to) l) (sym older) r.rest);
         }
+
+    -- what the state knows of memory before a call is so after it
+    held_behind : (entry : ℕ) → CallsEntry (flow found.instr) entry → HoldsCells holding.cells after.machine.memory
+    held_behind entry calls_it =
+        cells_beside quiet w.machine.memory after.machine.memory holding.cells (λ a here. same_byte a here (calls_store_nowhere found.instr entry calls_it holding a)) now.memory are_quiet keeps.keeps.holds.cells
 
     -- any other step brings what the state after it says
     gone : Leads (flow found.instr) w.machine.cpu.registers.flags (declared_targets image.regions w.machine.cpu.pc) found.next (hl_of w.machine.cpu.registers) after.machine.cpu.pc → KeepsToCalls image quiet effects table after
@@ -298,10 +303,6 @@ module _ (image : Located) (quiet : ℕ → Bool) (bytes : List (Option ℕ)) (e
           keeps = keeps_by after meets.state meets.has now meets.holds code_now whole_now;
           owes = subst (λ (l : List ℕ). Owes effects quiet table after.machine.memory (effects.stored after.machine.cpu.pc) (effects.returning after.machine.cpu.pc) (effects.known after.machine.cpu.pc) l) (sym places_now) owes;
         }
-    where
-      held_behind : (entry : ℕ) → CallsEntry (flow found.instr) entry → HoldsCells holding.cells after.machine.memory
-      held_behind entry calls_it =
-          cells_beside quiet w.machine.memory after.machine.memory holding.cells (λ a here. same_byte a here (calls_store_nowhere found.instr entry calls_it holding a)) now.memory are_quiet keeps.keeps.holds.cells
 
     either_way : IsKnown image w → GoesOn image.regions found.instr found.next w.machine after.machine → KeepsToCalls image quiet effects table after
     either_way known goes = by goes.way where
