@@ -1,6 +1,6 @@
 //! Whether a table of states fits a program.
 
-ghost use Rattle.std.specs.Prelude.{◌≡◌, ◌<◌, ℕ, true, Contains, Some, length, slice_get};
+ghost use Rattle.std.specs.Prelude.{◌≡◌, ◌<◌, ℕ, true, false, Contains, Some, length, slice_get};
 ghost use Rattle.decode80.specs.declared.fetching.Fetched.{Fetched};
 ghost use Rattle.decode80.specs.Facts.{flow, storing};
 ghost use Rattle.verify80.specs.Looking.{declared_targets};
