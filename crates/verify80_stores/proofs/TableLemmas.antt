@@ -106,10 +106,3 @@ nothing_is_kept image quiet reached table are whole ground length_stays everywhe
 pub ok_both : {A E : Type 0} (P Q R : A → Type 0) (r : Result A E) → ((x : A) → P x → Q x → R x) → IfOk r P → IfOk r Q → IfOk r R
 ok_both P Q R (Ok x) more one other = more x one other
 ok_both P Q R (Err e) more one other = one
-
-pub moved : (regions regions' : Areas) (bytes bytes' : List (Option ℕ)) (effects : Effects) (reached : List (Option Fetched)) (table table' : List Placed) → regions ≡ regions' → bytes ≡ bytes' → table ≡ table' →
-    AllFit regions bytes effects reached table → AllFit regions' bytes' effects reached table'
-moved regions regions' bytes bytes' effects reached table table' one two three fit =
-    subst (λ (r : Areas). AllFit r bytes' effects reached table') one
-    (subst (λ (b : List (Option ℕ)). AllFit regions b effects reached table') two
-    (subst (λ (t : List Placed). AllFit regions bytes effects reached t) three fit))

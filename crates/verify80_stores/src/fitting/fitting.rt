@@ -195,9 +195,25 @@ pub(crate) fn fits(
     ensures fit { result ≡ true → AllFit regions.now code.now (effects_of effects.now) reached.now table.now }
 {
     all_know_quiet(table, quiet)
-        && has(table, hints, 0, start, State::ANY)
-        && all_account(effects, regions, reached)
+        && leads_on(table, hints, effects, code, start, regions, reached)
+}
+
+/// Whether the table has a state wherever the program begins, goes on and returns to.
+fn leads_on(
+    table: &[Placed],
+    hints: &[u32],
+    effects: &CallEffects,
+    code: &[Option<u8>],
+    start: u16,
+    regions: &Regions,
+    reached: &[Option<Fetched>],
+) -> bool
+    ensures start { result ≡ true → Has table.now start anything }
+    ensures fit { result ≡ true → AllFit regions.now code.now (effects_of effects.now) reached.now table.now }
+{
+    has(table, hints, 0, start, State::ANY)
         && all_fit(table, hints, effects, code, regions, reached)
+        && all_account(effects, regions, reached)
 }
 
 /// Whether a table knows bytes of quiet addresses alone.
@@ -306,7 +322,22 @@ fn keeps_calls(
 {
     accounts_for_stores(effects, placed.at, found.instr, placed.state)
         && keeps_behind(table, hints, effects, placed, found)
-        && (!effects.knows_returns(placed.at) || knows_returns(table, hints, code, placed, found))
+        && keeps_returns(table, hints, effects, code, placed, found)
+}
+
+/// Whether a state knows where a return goes, if the states at its address are to.
+fn keeps_returns(
+    table: &[Placed],
+    hints: &[u32],
+    effects: &CallEffects,
+    code: &[Option<u8>],
+    placed: Placed,
+    found: Fetched,
+) -> bool
+    ensures { result ≡ true → (effects_of effects.now).known placed.at ≡ true →
+        KnowsReturnsOf table.now (λ t. state_after code.now found.instr true found.next t) placed.state (flow found.instr) }
+{
+    !effects.knows_returns(placed.at) || knows_returns(table, hints, code, placed, found)
 }
 
 /// Whether a state knows where a return goes, and the table has there what the return makes of it.
