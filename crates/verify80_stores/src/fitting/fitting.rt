@@ -212,8 +212,22 @@ fn leads_on(
     ensures fit { result ≡ true → AllFit regions.now code.now (effects_of effects.now) reached.now table.now }
 {
     has(table, hints, 0, start, State::ANY)
+        && goes_on(table, hints, effects, code, regions, reached)
+}
+
+/// Whether it has one wherever the program goes on and returns to.
+fn goes_on(
+    table: &[Placed],
+    hints: &[u32],
+    effects: &CallEffects,
+    code: &[Option<u8>],
+    regions: &Regions,
+    reached: &[Option<Fetched>],
+) -> bool
+    ensures { result ≡ true → AllFit regions.now code.now (effects_of effects.now) reached.now table.now }
+{
+    all_account(effects, regions, reached)
         && all_fit(table, hints, effects, code, regions, reached)
-        && all_account(effects, regions, reached)
 }
 
 /// Whether a table knows bytes of quiet addresses alone.
@@ -321,7 +335,24 @@ fn keeps_calls(
     ensures { result ≡ true → KeepsCalls (effects_of effects.now) code.now table.now placed.at placed.state found }
 {
     accounts_for_stores(effects, placed.at, found.instr, placed.state)
-        && keeps_behind(table, hints, effects, placed, found)
+        && keeps_what_returns(table, hints, effects, code, placed, found)
+}
+
+/// Whether the table has what is left of a state behind a call or a return.
+fn keeps_what_returns(
+    table: &[Placed],
+    hints: &[u32],
+    effects: &CallEffects,
+    code: &[Option<u8>],
+    placed: Placed,
+    found: Fetched,
+) -> bool
+    ensures behind { result ≡ true → (entry : ℕ) → CallsEntry (flow found.instr) entry → (effects_of effects.now).returning entry ≡ true →
+        (effects_of effects.now).known entry ≡ false → Has table.now found.next (behind_call ((effects_of effects.now).stored entry) placed.state) }
+    ensures returns { result ≡ true → (effects_of effects.now).known placed.at ≡ true →
+        KnowsReturnsOf table.now (λ t. state_after code.now found.instr true found.next t) placed.state (flow found.instr) }
+{
+    keeps_behind(table, hints, effects, placed, found)
         && keeps_returns(table, hints, effects, code, placed, found)
 }
 

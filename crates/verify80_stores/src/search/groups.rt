@@ -65,7 +65,8 @@ impl Groups {
                 Ok(())
             }
             Flow::Calls(entry) | Flow::CallsIf(_, entry) => {
-                self.calls.push((self.number(at), self.number(entry)))?;
+                let call = (self.number(at), self.number(entry));
+                self.calls.push(call)?;
                 Ok(())
             }
             _ => Ok(()),
@@ -212,8 +213,8 @@ impl Groups {
                     Some(set) if number > 0 => set.spans(alloc)?,
                     _ => Vec::new(alloc),
                 },
-                returns: is_set(&self.returns, number as u16),
-                knows_returns: is_set(knows, number as u16),
+                returns: is_set_at(&self.returns, number),
+                knows_returns: is_set_at(knows, number),
             })?;
         }
         Ok(CallEffects {
@@ -531,7 +532,11 @@ fn number_groups(
 }
 
 fn is_set(marks: &[bool], at: u16) -> bool {
-    match marks.get(usize::from(at)) {
+    is_set_at(marks, usize::from(at))
+}
+
+fn is_set_at(marks: &[bool], place: usize) -> bool {
+    match marks.get(place) {
         Some(mark) => *mark,
         None => false,
     }
