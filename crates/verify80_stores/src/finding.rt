@@ -115,7 +115,7 @@ fn are_bytes(memory: &[u8])
 
 /// What is known of a vouched image's runs. (It carries laws, and does nothing.)
 fn runs_of(vouched: &Vouched)
-    ensures runs { AreKnown vouched.now.image vouched.now.stack_bytes }
+    ensures { AreKnown vouched.now.image vouched.now.stack_bytes }
 {
     accepted_images_stay_on_walks();
     images_never_go_wrong_from_power_on();

@@ -18,7 +18,7 @@ use Rattle.verify80_stores.proofs.finding.find_stores.Goals as goal
 pub returns-clause-listed : goal.returns-clause-listed
 returns-clause-listed c =
     let vouched = c.args.vouched.now in
-    let known = c.runs_of.ensures.runs in
+    let known = c.runs_of.ensures in
     let kept : IsKept vouched.image (is_quiet vouched.image.regions c.args.quiet.now) c.in_ok-table.table.items =
     subst (λ (i : Located). IsKept i (is_quiet i.regions c.args.quiet.now) c.in_ok-table.table.items) c.image-image.ensures.image c.in_ok-table.ensures in
     let keeps : RunsKeepTo vouched.image c.in_ok-table.table.items = c.fitting_states_hold.ensures.keep vouched.image vouched.stack_bytes (is_quiet vouched.image.regions c.args.quiet.now) c.in_ok-table.table.items known.sound known.walks kept in
@@ -38,7 +38,7 @@ returns-clause-listed c =
 pub returns-clause-quiet_boards : goal.returns-clause-quiet_boards
 returns-clause-quiet_boards c =
     let vouched = c.args.vouched.now in
-    let known = c.runs_of.ensures.runs in
+    let known = c.runs_of.ensures in
     let kept : IsKept vouched.image (is_quiet vouched.image.regions c.args.quiet.now) c.in_ok-table.table.items =
     subst (λ (i : Located). IsKept i (is_quiet i.regions c.args.quiet.now) c.in_ok-table.table.items) c.image-image.ensures.image c.in_ok-table.ensures in
     let keeps : RunsKeepTo vouched.image c.in_ok-table.table.items = c.fitting_states_hold.ensures.keep vouched.image vouched.stack_bytes (is_quiet vouched.image.regions c.args.quiet.now) c.in_ok-table.table.items known.sound known.walks kept in
@@ -60,7 +60,7 @@ returns-clause-quiet_boards c =
 pub returns-clause-watched : goal.returns-clause-watched
 returns-clause-watched c =
     let vouched = c.args.vouched.now in
-    let known = c.runs_of.ensures.runs in
+    let known = c.runs_of.ensures in
     let kept : IsKept vouched.image (is_quiet vouched.image.regions c.args.quiet.now) c.in_ok-table.table.items =
     subst (λ (i : Located). IsKept i (is_quiet i.regions c.args.quiet.now) c.in_ok-table.table.items) c.image-image.ensures.image c.in_ok-table.ensures in
     let keeps : RunsKeepTo vouched.image c.in_ok-table.table.items = c.fitting_states_hold.ensures.keep vouched.image vouched.stack_bytes (is_quiet vouched.image.regions c.args.quiet.now) c.in_ok-table.table.items known.sound known.walks kept in

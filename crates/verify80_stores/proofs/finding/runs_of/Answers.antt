@@ -4,8 +4,8 @@ use Rattle.image80.specs.Regions.{AreRegions}
 use Rattle.loader80.specs.Vouched.{IsVouched}
 use Rattle.verify80_stores.proofs.finding.runs_of.Goals as goal
 
-pub returns-clause-runs : goal.returns-clause-runs
-returns-clause-runs c =
+pub returns : goal.returns
+returns c =
     let vouched = c.args.vouched.now in
     let known : IsVouched vouched.image vouched.rows vouched.stack_bytes = c.image.ensures.vouched in
     let rules : AreRegions vouched.image.regions = subst (λ (i : Located). AreRegions i.regions) (c.behind-vouched.view_is ∙ c.image.ensures.image) c.stack.ensures.rules in
@@ -17,9 +17,3 @@ returns-clause-runs c =
       boards = c.walks_are_kept_on_boards.ensures vouched.image vouched.rows vouched.stack_bytes rules known.accepted;
       guarded = c.promise_is_kept_on_boards.ensures.steps vouched.image vouched.stack_bytes rules known.accepted.fitted known.accepted.within;
     }
-
-pub returns-clause-rows : goal.returns-clause-rows
-returns-clause-rows c =
-    let vouched = c.args.vouched.now in
-    let known : IsVouched vouched.image vouched.rows vouched.stack_bytes = c.image.ensures.vouched in
-    known.accepted.rows
