@@ -1,5 +1,5 @@
 -- What is owed to open calls along a step.
-use Rattle.std.specs.Prelude.{◌≡◌, ◌⊎◌, ◌&&◌, ◌||◌, ℕ, Bool, true, false, not, List, [], ◌∷◌, Contains, drop, slice_index, refl, if◌then◌else◌}
+use Rattle.std.specs.Prelude.{◌≡◌, ◌⊎◌, ◌&&◌, ◌||◌, ℕ, Bool, true, false, not, List, [], ◌∷◌, drop, slice_index, refl, if◌then◌else◌}
 use Rattle.std.proofs.Common.{◌∙◌, ap, sym, subst, inl, inr, true≢false}
 use Rattle.decode80.specs.declared.flow.Flow.{Flow}
 use Rattle.decode80.specs.declared.flow.Flow.TheVariants.{Continues, Jumps, JumpsIf, JumpsToHl, Calls, CallsIf, Returns, ReturnsIf, Pushes, Pops, Exchanges, Halts}
@@ -11,7 +11,6 @@ use Rattle.verify80_stores.specs.declared.states.cells.Cell.{Cell}
 use Rattle.verify80_stores.specs.declared.states.cells.Cells.{Cells}
 use Rattle.verify80_stores.specs.declared.states.state.State.{State}
 use Rattle.verify80_stores.specs.Bytes.{HasBytes}
-use Rattle.verify80_stores.specs.Span.{any_byte}
 use Rattle.verify80_stores.specs.Cells.{AreQuietCells, HoldsCell, HoldsCells, IsQuietCell, any_cell}
 use Rattle.verify80_stores.specs.Fitting.{CallsEntry, Has}
 use Rattle.verify80_stores.specs.Calls.{AccountsFor, AccountsForCall, Effects, IsWithin, Owes, behind_call, either_stores, follows, kept_cell, kept_cells, never, none, stays_quiet, waits, with_cells}
@@ -118,8 +117,8 @@ module _ (effects : Effects) (quiet : ℕ → Bool) (table : List Placed) where
     same h = rw h refl
   kept_by stored c false is (inr here) =
       subst (λ (x : Cell). IsQuietCell (stays_quiet quiet stored) x) (sym (same is)) (inr (both_true (quiet c.at) (not (stored c.at)) here (not_of (stored c.at) is))) where
-    same : stored c.at ≡ false → kept_cell stored c ≡ c
-    same h = rw h refl
+        same : stored c.at ≡ false → kept_cell stored c ≡ c
+        same h = rw h refl
 
   kept_quiet : (stored : ℕ → Bool) (c : Cell) → IsQuietCell quiet c → IsQuietCell (stays_quiet quiet stored) (kept_cell stored c)
   kept_quiet stored c are = kept_by stored c (stored c.at) refl are

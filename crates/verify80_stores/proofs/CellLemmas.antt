@@ -1,7 +1,6 @@
 -- What is known of bytes of memory, along stores and where it is read.
-use Rattle.std.specs.Prelude.{◌≡◌, ◌≢◌, ◌⊎◌, ◌<◌, ◌≤◌, ◌==◌, ◌&&◌, ℕ, ◌+◌, ◌/◌, ◌%◌, Bool, true, false, not, List, [], ◌∷◌, Option, None, Some, nat_le, length, slice_index, slice_set, refl, if◌then◌else◌}
-use Rattle.std.proofs.Common.{subst, sym, ap, ◌∙◌, arith, get_or, get_or-set_other, inl, inr, true≢false}
-use Rattle.std.proofs.lemmas.Bool.{eqb-true}
+use Rattle.std.specs.Prelude.{◌≡◌, ◌≢◌, ◌<◌, ◌&&◌, ℕ, ◌/◌, ◌%◌, Bool, true, false, List, [], ◌∷◌, Option, None, nat_le, length, slice_index, slice_set, refl, if◌then◌else◌}
+use Rattle.std.proofs.Common.{subst, sym, ap, ◌∙◌, arith, get_or, inl, inr}
 use Rattle.std.proofs.lemmas.Bool.Decides.{nat_tests}
 use Rattle.std.proofs.lemmas.List.{get_or-set_same, length-set}
 use Rattle.decode80.specs.declared.instr.Instr.{Instr}
@@ -18,7 +17,7 @@ use Rattle.machine80.specs.declared.cpu.Cpu.{Cpu}
 use Rattle.machine80.specs.declared.end.End.TheVariants.{Direct, Stack, StoreOutside}
 use Rattle.machine80.specs.Arithmetic.{byte_answer, increment_answer, decrement_answer}
 use Rattle.machine80.specs.Flags.{holds as holds_of}
-use Rattle.machine80.specs.Cpu.{word, hl_of, high_of, low_of, index_pair_of}
+use Rattle.machine80.specs.Cpu.{hl_of, index_pair_of}
 use Rattle.machine80.specs.Effects.{byte_in, push_bytes, stores, stored}
 use Rattle.machine80.specs.Step.{guard, first_outside, ends_at}
 use Rattle.verify80_stores.specs.declared.spans.span.Span.{Span}
@@ -26,10 +25,10 @@ use Rattle.verify80_stores.specs.declared.spans.byte_span.ByteSpan.{ByteSpan}
 use Rattle.verify80_stores.specs.declared.states.cells.Cell.{Cell}
 use Rattle.verify80_stores.specs.declared.states.cells.Cells.{Cells}
 use Rattle.verify80_stores.specs.declared.states.state.State.{State}
-use Rattle.verify80_stores.specs.Bytes.{IsByte, HasBytes, AreBytes}
+use Rattle.verify80_stores.specs.Bytes.{HasBytes, AreBytes}
 use Rattle.verify80_stores.specs.Span.{Within, ByteWithin, any_byte, byte_alone, word_alone, is_alone, next_byte, previous_byte}
 use Rattle.verify80_stores.specs.Span.{high_of as high_bytes}
-use Rattle.verify80_stores.specs.Cells.{HoldsCell, HoldsCells, IsCellInside, AreCellsInside, IsQuietCell, AreQuietCells, any_cell, no_cells, cell_or, bytes_at, stored_cell, stored_cells}
+use Rattle.verify80_stores.specs.Cells.{HoldsCell, HoldsCells, IsCellInside, AreCellsInside, IsQuietCell, AreQuietCells, any_cell, no_cells, stored_cell, stored_cells}
 use Rattle.verify80_stores.specs.State.{HoldsRegisters, byte_of}
 use Rattle.verify80_stores.specs.declared.fitting.fitting.Placed.{Placed}
 use Rattle.verify80_stores.specs.Boards.{is_quiet}

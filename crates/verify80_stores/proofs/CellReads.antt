@@ -1,5 +1,5 @@
 -- What is read of bytes that are known.
-use Rattle.std.specs.Prelude.{◌≡◌, ◌==◌, ℕ, Bool, true, false, List, Option, None, Some, refl, if◌then◌else◌}
+use Rattle.std.specs.Prelude.{◌≡◌, ◌==◌, ℕ, Bool, true, false, List, Option, None, Some, refl}
 use Rattle.std.proofs.Common.{subst, sym}
 use Rattle.std.proofs.lemmas.Bool.{eqb-true}
 use Rattle.machine80.specs.Effects.{byte_in}
@@ -7,7 +7,7 @@ use Rattle.verify80_stores.specs.declared.spans.byte_span.ByteSpan.{ByteSpan}
 use Rattle.verify80_stores.specs.declared.states.cells.Cell.{Cell}
 use Rattle.verify80_stores.specs.declared.states.cells.Cells.{Cells}
 use Rattle.verify80_stores.specs.Bytes.{HasBytes}
-use Rattle.verify80_stores.specs.Span.{ByteWithin, any_byte, byte_alone}
+use Rattle.verify80_stores.specs.Span.{ByteWithin, byte_alone}
 use Rattle.verify80_stores.specs.Cells.{HoldsCell, HoldsCells, cell_or, bytes_at}
 use Rattle.verify80_stores.specs.Steps.{ReadsCode}
 use Rattle.verify80_stores.specs.Following.{byte_at, code_or, loaded_at}

@@ -1,13 +1,11 @@
 -- Registers and flags at each kind of instruction.
-use Rattle.std.specs.Prelude.{◌≡◌, ◌<◌, ◌==◌, [], ℕ, ◌+◌, ◌-◌, ◌*◌, ◌/◌, ◌%◌, Bool, true, false, not, List, Option, None, Some, nat_lt, nat_le, slice_index, bit_and, bit_or, bit_xor, refl}
-use Rattle.std.proofs.Common.{arith, subst, sym, ap, ◌∙◌}
+use Rattle.std.specs.Prelude.{◌≡◌, ◌<◌, ◌==◌, [], ℕ, ◌+◌, ◌-◌, ◌*◌, ◌/◌, ◌%◌, Bool, true, false, not, List, Option, None, Some, nat_lt, bit_and, bit_or, bit_xor, refl}
+use Rattle.std.proofs.Common.{arith, sym, ap}
 use Rattle.std.proofs.lemmas.Bool.Decides.{nat_tests}
 use Rattle.std.specs.Int.Bits.{and_self, or_self, xor_self}
 use Rattle.decode80.specs.declared.register.Register.{Register}
 use Rattle.decode80.specs.declared.register.Register.TheVariants.{A, B, C, D, E, H, L}
-use Rattle.decode80.specs.declared.pair.Pair.{Pair}
 use Rattle.decode80.specs.declared.pair.Pair.TheVariants.{Bc, De, Hl, Sp}
-use Rattle.decode80.specs.declared.pair.StackPair.{StackPair}
 use Rattle.decode80.specs.declared.pair.StackPair.TheVariants.{Bc as StackBc, De as StackDe, Hl as StackHl, Psw}
 use Rattle.decode80.specs.declared.pair.IndexPair.{IndexPair}
 use Rattle.decode80.specs.declared.pair.IndexPair.TheVariants.{Bc as IndexBc, De as IndexDe}
@@ -27,26 +25,26 @@ use Rattle.machine80.specs.declared.registers.Registers.{Registers}
 use Rattle.machine80.specs.declared.cpu.Cpu.{Cpu}
 use Rattle.machine80.specs.Flags.{bit_of, flags_of_result, flags_from}
 use Rattle.machine80.specs.Arithmetic.{byte_answer, sum_answer, difference_answer, operation_answer, increment_answer, decrement_answer, decimal_answer, rotation_answer, pair_sum, pair_sum_flags, complement_of, carry_set, carry_turned}
-use Rattle.machine80.specs.Cpu.{word, register_of, with_register, hl_of, index_pair_of, with_stack_pair}
+use Rattle.machine80.specs.Cpu.{word, register_of, with_register, hl_of, index_pair_of}
 use Rattle.machine80.specs.Effects.{byte_in, word_in, operand_of, changed}
 use Rattle.verify80_stores.specs.declared.spans.span.Span.{Span}
 use Rattle.verify80_stores.specs.declared.spans.byte_span.ByteSpan.{ByteSpan}
 use Rattle.verify80_stores.specs.declared.spans.byte_span.Outcome.{Outcome}
 use Rattle.verify80_stores.specs.declared.states.state.State.{State}
-use Rattle.verify80_stores.specs.Bytes.{IsByte, HasBytes, AreBytes}
-use Rattle.verify80_stores.specs.Span.{Within, ByteWithin, IsKnown, any_word, any_byte, word_alone, byte_alone, is_alone, is_byte_alone, next_span, previous_span, next_byte, previous_byte, sum_span, sum_carries, high_of, operated, doubled, rotated, complemented, uncarried}
-use Rattle.verify80_stores.specs.State.{HoldsRegisters, HoldsWord, HoldsWords, HoldsPair, Compares, compared_with, byte_of, words_of, with_byte, with_words, with_outcome, pair_of_words}
+use Rattle.verify80_stores.specs.Bytes.{HasBytes, AreBytes}
+use Rattle.verify80_stores.specs.Span.{Within, ByteWithin, IsKnown, any_word, any_byte, word_alone, byte_alone, is_alone, is_byte_alone, next_span, previous_span, next_byte, previous_byte, sum_span, high_of, operated, doubled, rotated, complemented, uncarried}
+use Rattle.verify80_stores.specs.State.{HoldsRegisters, HoldsWord, HoldsWords, Compares, compared_with, byte_of, with_byte, with_words, with_outcome}
 use Rattle.verify80_stores.specs.Steps.{ReadsCode}
 use Rattle.verify80_stores.specs.declared.states.cells.Cells.{Cells}
 use Rattle.verify80_stores.specs.Cells.{HoldsCells}
 use Rattle.verify80_stores.proofs.CellReads.{read_within}
-use Rattle.verify80_stores.specs.Following.{known_word, loaded_at, loaded, loaded_word, moved, counted, resulted, tested, is_accumulator, operand_bytes, after_operation, added_carry, turned, exchanged, index_words, popped_to, registers_after}
+use Rattle.verify80_stores.specs.Following.{known_word, loaded_at, loaded, loaded_word, moved, counted, resulted, tested, is_accumulator, operand_bytes, after_operation, added_carry, turned, exchanged, index_words, registers_after}
 use Rattle.verify80_stores.proofs.ByteLemmas.{byte_at as memory_byte}
-use Rattle.verify80_stores.proofs.ArithmeticBounds.{operation_is_byte, rotation_is_byte, decimal_is_byte}
-use Rattle.verify80_stores.proofs.RegisterBytes.{register_is_byte, register_written}
+use Rattle.verify80_stores.proofs.ArithmeticBounds.{decimal_is_byte}
+use Rattle.verify80_stores.proofs.RegisterBytes.{register_is_byte}
 use Rattle.verify80_stores.proofs.SpanLemmas.{any_word_within, any_byte_within, alone_within, high_within, joined_within, next_within, previous_within, next_byte_within, previous_byte_within, sum_within, sum_any, carries}
 use Rattle.verify80_stores.proofs.OutcomeLemmas.{Makes, result_of, carry_of, operated_makes, is_first, by_span}
-use Rattle.verify80_stores.proofs.StateLemmas.{words_hold, split_holds, byte_holds, with_byte_holds, bc_written_holds, de_written_holds, hl_written_holds, with_words_holds, outcome_holds, carry_holds, any_flags_hold, compared_holds, copy_holds}
+use Rattle.verify80_stores.proofs.StateLemmas.{words_hold, byte_holds, with_byte_holds, bc_written_holds, de_written_holds, hl_written_holds, with_words_holds, outcome_holds, carry_holds, any_flags_hold, compared_holds, copy_holds}
 
 -- what is read
 word_small : (h l : ℕ) → h < 256 → l < 256 → word h l < 65536

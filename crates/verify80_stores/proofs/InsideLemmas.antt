@@ -1,6 +1,6 @@
 -- What a state says, one says that is around it.
 use Rattle.std.specs.Prelude.{◌≡◌, ℕ, Bool, List, Option, None, Some, refl}
-use Rattle.std.proofs.Common.{subst, sym, ap, ◌∙◌}
+use Rattle.std.proofs.Common.{subst}
 use Rattle.decode80.specs.declared.register.Register.{Register}
 use Rattle.decode80.specs.declared.register.Register.TheVariants.{A, B, C, D, E, H, L}
 use Rattle.decode80.specs.Fetch.{ahead}
@@ -14,7 +14,7 @@ use Rattle.verify80_stores.specs.declared.states.state.Words.{Words}
 use Rattle.verify80_stores.specs.declared.states.state.State.{State}
 use Rattle.verify80_stores.specs.Bytes.{HasBytes}
 use Rattle.verify80_stores.specs.Span.{IsKnown}
-use Rattle.verify80_stores.specs.State.{Holds, HoldsPair, HoldsRegisters, HoldsWord, HoldsWords, Compares, IsPairInside, IsFlagInside, IsComparisonInside, IsCopyInside, IsWordInside, AreWordsInside, IsStateInside}
+use Rattle.verify80_stores.specs.State.{Holds, HoldsPair, HoldsWord, HoldsWords, Compares, IsPairInside, IsFlagInside, IsComparisonInside, IsCopyInside, IsWordInside, AreWordsInside, IsStateInside}
 use Rattle.verify80_stores.proofs.SpanLemmas.{inside_within, byte_inside_within}
 use Rattle.verify80_stores.proofs.CellLemmas.{cells_around}
 

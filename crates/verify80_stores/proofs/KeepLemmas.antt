@@ -1,5 +1,5 @@
 -- Runs keep to a table that fits.
-use Rattle.std.specs.Prelude.{◌≡◌, ◌⊎◌, ◌<◌, ℕ, zero, suc, Bool, true, false, List, [], Option, None, Some, Ok, IsSome, Contains, drop, length, slice_get, slice_index, refl, if◌then◌else◌}
+use Rattle.std.specs.Prelude.{◌≡◌, ◌⊎◌, ℕ, zero, suc, Bool, true, false, List, [], Option, None, Some, Ok, IsSome, drop, length, slice_get, slice_index, refl, if◌then◌else◌}
 use Rattle.std.proofs.Common.{subst, sym, ap, ◌∙◌, inl, inr, arith, true≢false}
 use Rattle.std.proofs.lemmas.Bool.Decides.{nat_tests}
 use Rattle.std.proofs.lemmas.Option.{get_or_from_slice_get, slice_get_within}
@@ -9,8 +9,8 @@ use Rattle.decode80.specs.declared.fetching.Fetched.{Fetched}
 use Rattle.decode80.specs.declared.flow.Flow.{Flow}
 use Rattle.decode80.specs.declared.flow.Flow.TheVariants.{Continues, Jumps, JumpsIf, JumpsToHl, Calls, CallsIf, Returns, ReturnsIf, Pushes, Pops, Exchanges, Halts}
 use Rattle.decode80.specs.Facts.{flow, storing}
-use Rattle.image80.specs.Regions.{Areas, AreRegions, in_code, in_data, targets_at}
-use Rattle.image80.specs.Image.{Located, memory_of}
+use Rattle.image80.specs.Regions.{Areas, in_data, targets_at}
+use Rattle.image80.specs.Image.{Located}
 use Rattle.machine80.specs.declared.cpu.Cpu.{Cpu}
 use Rattle.machine80.specs.Flags.{holds as holds_of}
 use Rattle.machine80.specs.Cpu.{hl_of}
@@ -28,8 +28,8 @@ use Rattle.verify80_stores.specs.declared.fitting.fitting.Placed.{Placed}
 use Rattle.verify80_stores.specs.Bytes.{AreBytes, HoldsBytes, BytesStayBytes, FetchedOperandsAreBounded, MemoryKeepsItsLength}
 use Rattle.verify80_stores.specs.Span.{Within}
 use Rattle.verify80_stores.specs.Cells.{AreQuietCells, HoldsCells}
-use Rattle.verify80_stores.specs.State.{Holds, HoldsRegisters, HoldsWord, HoldsWords, anything, no_words}
-use Rattle.verify80_stores.specs.Following.{byte_at, state_after}
+use Rattle.verify80_stores.specs.State.{Holds, HoldsRegisters, HoldsWord, anything, no_words}
+use Rattle.verify80_stores.specs.Following.{state_after}
 use Rattle.verify80_stores.specs.Given.{given}
 use Rattle.verify80_stores.specs.Steps.{is_taken, ReadsCode, AreCodeBytes, HasCode}
 use Rattle.verify80_stores.specs.Fitting.{CallsEntry, Has, HasAfter, FitsBy, KnowsQuiet}

@@ -1,5 +1,5 @@
 -- The memory after a step: code stays, and the words on the stack are as the state has them.
-use Rattle.std.specs.Prelude.{◌≡◌, ◌≢◌, ◌<◌, ◌≤◌, ℕ, ◌+◌, ◌*◌, ◌/◌, ◌%◌, Bool, true, false, not, List, [], ◌∷◌, Option, None, Some, length, slice_index, slice_set, refl, if◌then◌else◌}
+use Rattle.std.specs.Prelude.{◌≡◌, ◌≢◌, ◌<◌, ◌≤◌, ℕ, ◌+◌, ◌/◌, ◌%◌, Bool, true, false, not, List, [], ◌∷◌, Option, None, Some, length, slice_index, slice_set, refl, if◌then◌else◌}
 use Rattle.std.proofs.Common.{subst, sym, ap, ◌∙◌, arith, cond, get_or-set_other, true≢false}
 use Rattle.std.proofs.lemmas.List.{get_or-set_same, length-set}
 use Rattle.std.proofs.lemmas.List.Elements.{All-contains, Contains-append_left, Contains-append_right, Contains-push}
@@ -15,18 +15,15 @@ use Rattle.image80.specs.Range.{in_range, IsInMemory}
 use Rattle.image80.specs.Regions.{Areas, AreRegions, all_ranges, in_code, in_data}
 use Rattle.machine80.specs.declared.registers.Registers.{Registers}
 use Rattle.machine80.specs.declared.cpu.Cpu.{Cpu}
-use Rattle.machine80.specs.declared.flags.Flags.{Flags}
 use Rattle.machine80.specs.declared.end.End.{End}
 use Rattle.machine80.specs.declared.end.End.TheVariants.{Direct, Stack, StoreOutside}
 use Rattle.machine80.specs.Flags.{holds as holds_of, flags_byte}
 use Rattle.machine80.specs.Cpu.{word, high_of, low_of}
-use Rattle.machine80.specs.Effects.{push_bytes, stores, stored, word_in, changed}
+use Rattle.machine80.specs.Effects.{push_bytes, stores, stored, changed}
 use Rattle.machine80.specs.Step.{guard, first_outside, ends_at}
-use Rattle.machine80.specs.World.{returns}
 use Rattle.verify80_stores.specs.declared.spans.span.Span.{Span}
 use Rattle.verify80_stores.specs.declared.states.state.Words.{Words}
 use Rattle.verify80_stores.specs.declared.states.state.State.{State}
-use Rattle.verify80_stores.specs.Bytes.{AreBytes}
 use Rattle.verify80_stores.specs.Span.{Within, word_alone}
 use Rattle.verify80_stores.specs.State.{HoldsRegisters, HoldsWord, HoldsWords, IsOnStack, no_words, pushed, popped}
 use Rattle.verify80_stores.specs.Following.{pushed_words, called, returned, words_after}

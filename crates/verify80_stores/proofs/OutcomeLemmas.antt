@@ -1,22 +1,17 @@
 -- What the accumulator's operations make of spans.
-use Rattle.std.specs.Prelude.{◌≡◌, ◌≤◌, ◌<◌, ◌==◌, ◌&&◌, ℕ, ◌+◌, ◌-◌, ◌*◌, ◌/◌, ◌%◌, Bool, true, false, not, Option, None, Some, nat_lt, nat_le, min, max, bit_and, bit_or, bit_xor, refl}
-use Rattle.std.proofs.Common.{arith, subst, sym, ap, ◌∙◌}
-use Rattle.std.specs.Int.Bits.{and_self, or_self, xor_self}
+use Rattle.std.specs.Prelude.{◌≡◌, ◌≤◌, ◌<◌, ◌&&◌, ℕ, ◌+◌, ◌-◌, ◌%◌, Bool, true, false, Option, None, Some, nat_lt, nat_le, min, max, bit_and, bit_or, bit_xor, refl}
+use Rattle.std.proofs.Common.{arith, subst, sym}
 use Rattle.std.proofs.lemmas.Nat.{and_le_l, and_le_r, le_or_l, le_or_r}
 use Rattle.std.proofs.lemmas.Bool.Decides.{nat_tests}
 use Rattle.decode80.specs.declared.operation.Operation.{Operation}
 use Rattle.decode80.specs.declared.operation.Operation.TheVariants.{Add, AddCarry, Subtract, SubtractBorrow, And, ExclusiveOr, Or, Compare}
-use Rattle.decode80.specs.declared.rotation.Rotation.{Rotation}
-use Rattle.decode80.specs.declared.rotation.Rotation.TheVariants.{Left, Right, LeftThroughCarry, RightThroughCarry}
 use Rattle.machine80.specs.declared.flags.Flags.{Flags}
-use Rattle.machine80.specs.declared.alu.Answer.{Answer}
-use Rattle.machine80.specs.Flags.{bit_of, flags_of_result}
-use Rattle.machine80.specs.Arithmetic.{byte_answer, sum_answer, difference_answer, operation_answer, rotation_answer}
+use Rattle.machine80.specs.Flags.{bit_of}
+use Rattle.machine80.specs.Arithmetic.{byte_answer, operation_answer}
 use Rattle.verify80_stores.specs.declared.spans.byte_span.ByteSpan.{ByteSpan}
 use Rattle.verify80_stores.specs.declared.spans.byte_span.Outcome.{Outcome}
-use Rattle.verify80_stores.specs.Bytes.{IsByte}
-use Rattle.verify80_stores.specs.Span.{ByteWithin, IsKnown, any_byte, byte_alone, is_byte_alone, are_alone, carry_span, sum_of, difference_of, and_of, or_of, exclusive_or_of, uncarried, doubled, rotated, operated, zero_of, sign_of, only, without, below, from}
-use Rattle.verify80_stores.proofs.ArithmeticBounds.{operation_is_byte, rotation_is_byte}
+use Rattle.verify80_stores.specs.Span.{ByteWithin, IsKnown, any_byte, byte_alone, is_byte_alone, are_alone, carry_span, sum_of, difference_of, and_of, or_of, exclusive_or_of, operated}
+use Rattle.verify80_stores.proofs.ArithmeticBounds.{operation_is_byte}
 use Rattle.verify80_stores.proofs.SpanLemmas.{any_byte_within, alone_within, carry_within}
 
 -- an outcome has a byte and a carry

@@ -1,14 +1,12 @@
 -- What spans say of numbers.
-use Rattle.std.specs.Prelude.{◌≡◌, ◌≤◌, ◌<◌, ◌==◌, ℕ, ◌+◌, ◌-◌, ◌*◌, ◌/◌, ◌%◌, Bool, true, false, not, Option, None, Some, nat_lt, nat_le, min, max, bit_and, bit_or, bit_xor, refl}
-use Rattle.std.proofs.Common.{arith, subst, sym, ap, ◌∙◌}
-use Rattle.std.specs.Int.Bits.{and_self, or_self, xor_self}
-use Rattle.std.proofs.lemmas.Nat.{and_le_l, and_le_r, le_or_l, le_or_r}
+use Rattle.std.specs.Prelude.{◌≡◌, ◌<◌, ℕ, ◌+◌, ◌%◌, Bool, true, false, Option, None, Some, nat_lt, nat_le, refl}
+use Rattle.std.proofs.Common.{arith, subst, sym}
 use Rattle.std.proofs.lemmas.Bool.Decides.{nat_tests}
 use Rattle.machine80.specs.Cpu.{word}
 use Rattle.machine80.specs.Flags.{bit_of}
 use Rattle.verify80_stores.specs.declared.spans.span.Span.{Span}
 use Rattle.verify80_stores.specs.declared.spans.byte_span.ByteSpan.{ByteSpan}
-use Rattle.verify80_stores.specs.Span.{Within, ByteWithin, IsInside, IsByteInside, IsKnown, any_word, any_byte, byte_alone, next_span, previous_span, next_byte, previous_byte, sum_span, sum_carries, high_of, low_of, joined, meet, meet_bytes, hull, carry_span, sum_of, difference_of, and_of, or_of, exclusive_or_of, doubled, complemented, zero_of, sign_of, only, without, below, from}
+use Rattle.verify80_stores.specs.Span.{Within, ByteWithin, IsInside, IsByteInside, IsKnown, any_word, any_byte, byte_alone, next_span, previous_span, next_byte, previous_byte, sum_span, sum_carries, high_of, low_of, joined, meet, meet_bytes, hull, carry_span}
 
 pub high_within : (s : Span) (h l : ℕ) → l < 256 → Within s (word h l) → ByteWithin (high_of s) h
 high_within s h l small inside = record { above = omega arith; below = omega arith }

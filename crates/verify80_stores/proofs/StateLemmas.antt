@@ -1,6 +1,6 @@
 -- What a state says when registers and flags are written.
-use Rattle.std.specs.Prelude.{◌≡◌, ◌≤◌, ◌<◌, ◌==◌, ◌⊎◌, ℕ, ◌+◌, ◌*◌, ◌/◌, ◌%◌, Bool, true, false, not, Option, None, Some, nat_lt, nat_le, refl}
-use Rattle.std.proofs.Common.{arith, subst, sym, ap, ◌∙◌}
+use Rattle.std.specs.Prelude.{◌≡◌, ◌<◌, ◌==◌, ℕ, ◌/◌, ◌%◌, Bool, true, false, Option, Some, nat_lt, nat_le, refl}
+use Rattle.std.proofs.Common.{arith, subst, sym}
 use Rattle.std.proofs.lemmas.Bool.Decides.{nat_tests}
 use Rattle.decode80.specs.declared.register.Register.{Register}
 use Rattle.decode80.specs.declared.register.Register.TheVariants.{A, B, C, D, E, H, L}
@@ -17,8 +17,8 @@ use Rattle.verify80_stores.specs.declared.spans.byte_span.Outcome.{Outcome}
 use Rattle.verify80_stores.specs.declared.states.state.PairSpan.{PairSpan}
 use Rattle.verify80_stores.specs.declared.states.state.State.{State}
 use Rattle.verify80_stores.specs.Bytes.{AreBytes}
-use Rattle.verify80_stores.specs.Span.{Within, ByteWithin, IsKnown, any_word, any_byte, high_of, low_of, joined, zero_of, sign_of}
-use Rattle.verify80_stores.specs.State.{HoldsPair, HoldsRegisters, Compares, any_pair, anything, pair_of_words, pair_of_halves, byte_of, words_of, copy_without, copy_outside, with_byte, with_words, with_outcome, with_carry, with_any_flags, cut_high, cut_low, cut_copy, cut}
+use Rattle.verify80_stores.specs.Span.{Within, ByteWithin, IsKnown, any_byte, high_of, joined, zero_of, sign_of}
+use Rattle.verify80_stores.specs.State.{HoldsPair, HoldsRegisters, Compares, any_pair, anything, pair_of_words, pair_of_halves, byte_of, copy_without, copy_outside, with_byte, with_words, with_outcome, with_carry, with_any_flags, cut_high, cut_low, cut_copy, cut}
 use Rattle.verify80_stores.proofs.SpanLemmas.{high_within, low_within, joined_within, any_word_within, any_byte_within, meet_within, meet_bytes_within, known_if}
 use Rattle.verify80_stores.proofs.OutcomeLemmas.{Makes}
 

@@ -20,8 +20,8 @@ use Rattle.verify80_stores.specs.declared.states.state.State.{State}
 use Rattle.verify80_stores.specs.Bytes.{AreBytes, HasBytes, HoldsBytes}
 use Rattle.verify80_stores.specs.Span.{any_byte}
 use Rattle.verify80_stores.specs.Cells.{AreQuietCells}
-use Rattle.verify80_stores.specs.State.{Holds, HoldsRegisters, HoldsWords, with_byte}
-use Rattle.verify80_stores.specs.Following.{registers_after, words_after, cells_after, state_after}
+use Rattle.verify80_stores.specs.State.{Holds, HoldsRegisters, with_byte}
+use Rattle.verify80_stores.specs.Following.{registers_after, state_after}
 use Rattle.verify80_stores.specs.Steps.{ReadsCode, is_taken}
 use Rattle.verify80_stores.proofs.SpanLemmas.{any_byte_within}
 use Rattle.verify80_stores.proofs.StateLemmas.{with_byte_holds}

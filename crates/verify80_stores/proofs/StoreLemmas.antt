@@ -30,18 +30,17 @@ use Rattle.verify80_stores.specs.declared.states.state.State.{State}
 use Rattle.verify80_stores.specs.declared.fitting.fitting.Placed.{Placed}
 use Rattle.verify80_stores.specs.Bytes.{HoldsBytes}
 use Rattle.verify80_stores.specs.Span.{Within}
-use Rattle.verify80_stores.specs.State.{Holds, HoldsRegisters}
+use Rattle.verify80_stores.specs.State.{HoldsRegisters}
 use Rattle.verify80_stores.specs.Following.{entry_in}
 use Rattle.verify80_stores.specs.Marks.{is_marked}
 use Rattle.verify80_stores.specs.Runs.{KeepsTo, RunsKeepTo}
 use Rattle.verify80_stores.specs.declared.stores.OpenStore.{OpenStore}
 use Rattle.verify80_stores.specs.Pointers.{stores_by_pair}
-use Rattle.verify80_stores.specs.Opening.{pointer_span, StaysIn, MayLeave, IsLeftOpen}
+use Rattle.verify80_stores.specs.Opening.{pointer_span, StaysIn, IsLeftOpen}
 use Rattle.verify80_stores.specs.Stores.{IsReachedAs, AreReachedAs, IsOpen, GoesAsListed, EndsAsListed, StoresGoAsListed, AreStoresOf}
 use Rattle.verify80_stores.specs.Listing.{AreAllBelow, AreOpenBelow, AreOpenMarks, AreSpans, IsSpanned, IsLeftAt, IsListed, is_kind, is_at, is_marked_at, reached_at}
 use Rattle.verify80_stores.proofs.SpanLemmas.{inside_within}
 use Rattle.verify80_stores.proofs.TableLemmas.{there_if_reached, reached_if_there}
-use Rattle.verify80_stores.proofs.WayLemmas.{there_by}
 
 -- an instruction that stores by a pair is such a store
 by_any_pair : (i : Instr) (s : State) (span : Span) → pointer_span i s ≡ Some span → stores_by_pair i ≡ true

@@ -1,9 +1,8 @@
 -- A table that fits what is reached fits the program.
-use Rattle.std.specs.Prelude.{◌≡◌, ℕ, zero, suc, ◌<◌, Bool, true, false, List, [], ◌∷◌, All, Option, None, Some, Result, Ok, Err, IfOk, length, slice_get, slice_index_or, refl}
-use Rattle.std.proofs.Common.{subst, sym, ap, ◌∙◌, arith, get_or}
+use Rattle.std.specs.Prelude.{◌≡◌, ℕ, zero, suc, ◌<◌, Bool, false, List, [], ◌∷◌, All, Option, None, Some, Result, Ok, Err, IfOk, length, slice_get, slice_index_or, refl}
+use Rattle.std.proofs.Common.{subst, sym, ap, ◌∙◌, arith}
 use Rattle.decode80.specs.declared.fetching.Fetched.{Fetched}
 use Rattle.image80.specs.Image.{Located}
-use Rattle.image80.specs.Regions.{Areas}
 use Rattle.machine80.specs.World.{World}
 use Rattle.machine80.specs.Run.{world_of}
 use Rattle.frames80.specs.Code.{Code}
@@ -14,7 +13,7 @@ use Rattle.verify80_stores.specs.declared.fitting.fitting.Placed.{Placed}
 use Rattle.verify80_stores.specs.Bytes.{HoldsBytes, MemoryKeepsItsLength}
 use Rattle.verify80_stores.specs.declared.states.state.State.{State}
 use Rattle.verify80_stores.specs.Cells.{AreQuietCells}
-use Rattle.verify80_stores.specs.State.{Holds, anything}
+use Rattle.verify80_stores.specs.State.{anything}
 use Rattle.verify80_stores.specs.Following.{entry_in}
 use Rattle.verify80_stores.specs.Steps.{HasCode}
 use Rattle.verify80_stores.specs.Fitting.{Has, KnowsQuiet}

@@ -10,9 +10,9 @@ use Rattle.image80.specs.Image.{Located, memory_of}
 use Rattle.verify80.specs.Looking.{declared_targets}
 use Rattle.verify80_stores.specs.declared.spans.span.Span.{Span}
 use Rattle.verify80_stores.specs.declared.fitting.fitting.Placed.{Placed}
-use Rattle.verify80_stores.specs.Span.{IsInside, hull}
+use Rattle.verify80_stores.specs.Span.{IsInside}
 use Rattle.verify80_stores.specs.State.{anything}
-use Rattle.verify80_stores.specs.Following.{entry_in, byte_at}
+use Rattle.verify80_stores.specs.Following.{entry_in}
 use Rattle.verify80_stores.specs.Steps.{AreCodeBytes, code_in}
 use Rattle.verify80_stores.specs.Marks.{is_marked}
 use Rattle.verify80_stores.specs.Opening.{pointer_span, span_in, joined_span, StaysIn, IsLeftOpen}

@@ -1,8 +1,7 @@
 -- What a state in a table owes: states, each at an address, such that what the instruction there makes of one is inside one wherever it
 -- leads. (This project's own.)
-use Rattle.std.specs.Prelude.{◌≡◌, ℕ, Bool, true, false, List, All, Contains, Option, None, Some, Ok, slice_get}
+use Rattle.std.specs.Prelude.{◌≡◌, ℕ, Bool, true, false, List, All, Contains, Option, None, Some, slice_get}
 use Rattle.decode80.specs.declared.fetching.Fetched.{Fetched}
-use Rattle.decode80.specs.declared.instr.Instr.{Instr}
 use Rattle.decode80.specs.declared.flow.Flow.{Flow}
 use Rattle.decode80.specs.declared.flow.Flow.TheVariants.{Continues, Jumps, JumpsIf, JumpsToHl, Calls, CallsIf, Returns, ReturnsIf, Pushes, Pops, Exchanges, Halts}
 use Rattle.decode80.specs.Facts.{flow}

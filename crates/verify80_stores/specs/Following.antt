@@ -1,6 +1,6 @@
 -- What becomes of a state at each instruction. (The registers and flags that each instruction writes are those of the Intel 8080
 -- Microcomputer Systems User's Manual, chapter 4; that spans are followed is this project's own.)
-use Rattle.std.specs.Prelude.{◌≡◌, ◌+◌, ◌*◌, ◌==◌, ℕ, Bool, true, false, not, List, Option, None, Some, slice_get, if◌then◌else◌}
+use Rattle.std.specs.Prelude.{◌+◌, ◌*◌, ℕ, Bool, true, false, not, List, Option, None, Some, slice_get, if◌then◌else◌}
 use Rattle.decode80.specs.declared.register.Register.{Register}
 use Rattle.decode80.specs.declared.register.Register.TheVariants.{A, B, C, D, E, H, L}
 use Rattle.decode80.specs.declared.pair.Pair.{Pair}

@@ -1,6 +1,6 @@
 -- Spans of words and of bytes, and what becomes of them by the arithmetic of pairs and of registers. (The arithmetic is that of the
 -- Intel 8080 Microcomputer Systems User's Manual, chapter 4; that spans are followed is this project's own.)
-use Rattle.std.specs.Prelude.{◌≡◌, ◌≤◌, ℕ, ◌+◌, ◌-◌, ◌*◌, ◌/◌, ◌%◌, ◌==◌, ◌&&◌, Bool, true, false, not, Option, None, Some, nat_le, nat_lt, min, max, bit_and, bit_or, bit_xor, if◌then◌else◌}
+use Rattle.std.specs.Prelude.{◌≡◌, ◌≤◌, ℕ, ◌+◌, ◌-◌, ◌*◌, ◌/◌, ◌%◌, ◌==◌, ◌&&◌, Bool, true, false, Option, None, Some, nat_le, nat_lt, min, max, bit_and, bit_or, bit_xor, if◌then◌else◌}
 use Rattle.decode80.specs.declared.operation.Operation.{Operation}
 use Rattle.decode80.specs.declared.operation.Operation.TheVariants.{Add, AddCarry, Subtract, SubtractBorrow, And, ExclusiveOr, Or, Compare}
 use Rattle.decode80.specs.declared.rotation.Rotation.{Rotation}

@@ -1,7 +1,7 @@
 -- What is known of a machine at an instruction: what its registers may hold, some of its flags, what was compared last, the words on top
 -- of its stack, and bytes of memory; and what becomes of that when registers, flags and words are written. (The registers and flags are those of the
 -- Intel 8080 Microcomputer Systems User's Manual, chapter 4; that they are followed by spans is this project's own.)
-use Rattle.std.specs.Prelude.{◌≡◌, ◌+◌, ◌*◌, ◌<◌, ◌==◌, ℕ, Bool, true, false, List, Option, None, Some, nat_lt, if◌then◌else◌}
+use Rattle.std.specs.Prelude.{◌≡◌, ◌==◌, ℕ, Bool, true, List, Option, None, Some, nat_lt, if◌then◌else◌}
 use Rattle.decode80.specs.declared.register.Register.{Register}
 use Rattle.decode80.specs.declared.register.Register.TheVariants.{A, B, C, D, E, H, L}
 use Rattle.decode80.specs.declared.pair.Pair.{Pair}
@@ -17,7 +17,6 @@ use Rattle.machine80.specs.Step.{Machine}
 use Rattle.verify80_stores.specs.declared.spans.span.Span.{Span}
 use Rattle.verify80_stores.specs.declared.spans.byte_span.ByteSpan.{ByteSpan}
 use Rattle.verify80_stores.specs.declared.spans.byte_span.Outcome.{Outcome}
-use Rattle.verify80_stores.specs.declared.states.cells.Cells.{Cells}
 use Rattle.verify80_stores.specs.declared.states.state.PairSpan.{PairSpan}
 use Rattle.verify80_stores.specs.declared.states.state.Words.{Words}
 use Rattle.verify80_stores.specs.declared.states.state.State.{State}

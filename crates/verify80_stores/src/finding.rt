@@ -167,9 +167,9 @@ fn states_of(
         let Proposal { table, hints } = proposal;
         let fewer = count_open(alloc, &image.regions, reached, &first.table)?;
         if count_open(alloc, &image.regions, reached, &table)? <= fewer {
-            if let Some(table) =
-                fitting_table(image, reached, quiet, &code, &marks, &effects, table, &hints)
-            {
+            if let Some(table) = fitting_table(
+                image, reached, quiet, &code, &marks, &effects, table, &hints,
+            ) {
                 return Ok(table);
             }
         }

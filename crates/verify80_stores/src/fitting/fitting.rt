@@ -194,8 +194,7 @@ pub(crate) fn fits(
     ensures start { result ≡ true → Has table.now start anything }
     ensures fit { result ≡ true → AllFit regions.now code.now (effects_of effects.now) reached.now table.now }
 {
-    all_know_quiet(table, quiet)
-        && leads_on(table, hints, effects, code, start, regions, reached)
+    all_know_quiet(table, quiet) && leads_on(table, hints, effects, code, start, regions, reached)
 }
 
 /// Whether the table has a state wherever the program begins, goes on and returns to.
@@ -226,8 +225,7 @@ fn goes_on(
 ) -> bool
     ensures { result ≡ true → AllFit regions.now code.now (effects_of effects.now) reached.now table.now }
 {
-    all_account(effects, regions, reached)
-        && all_fit(table, hints, effects, code, regions, reached)
+    all_account(effects, regions, reached) && all_fit(table, hints, effects, code, regions, reached)
 }
 
 /// Whether a table knows bytes of quiet addresses alone.

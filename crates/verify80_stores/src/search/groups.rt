@@ -335,7 +335,8 @@ fn put(spans: &mut [Span], place: usize, span: Span) {
 
 /// Whether no word lies between two spans.
 fn touches(one: Span, other: Span) -> bool {
-    u32::from(one.first) <= u32::from(other.last) + 1 && u32::from(other.first) <= u32::from(one.last) + 1
+    u32::from(one.first) <= u32::from(other.last) + 1
+        && u32::from(other.first) <= u32::from(one.last) + 1
 }
 
 /// Joins the two of these spans between which the fewest words lie; those behind them move up.
@@ -357,7 +358,11 @@ fn join_closest(spans: &mut [Span], count: usize) {
         };
         let span = *span;
         if let Some(to) = spans.get_mut(place.saturating_sub(1)) {
-            *to = if place == closest { to.hull(span) } else { span };
+            *to = if place == closest {
+                to.hull(span)
+            } else {
+                span
+            };
         }
     }
 }

@@ -58,10 +58,7 @@ impl<'a> ReachedProgram<'a> {
             Flow::Calls(entry) | Flow::CallsIf(_, entry)
                 if self.effects.returns(entry)
                     && !self.effects.knows_returns(entry)
-                    && self.effects.stores_to_all(entry, Span::ANY) =>
-            {
-                Some(next)
-            }
+                    && self.effects.stores_to_all(entry, Span::ANY) => { Some(next) }
             _ => None,
         }
     }

@@ -33,7 +33,11 @@ pub(crate) struct Proposal {
 /// # Errors
 /// `AllocError` only if memory runs out.
 pub(crate) fn propose(alloc: Global, program: ReachedProgram<'_>) -> Result<Proposal, AllocError> {
-    let mut nodes = Nodes::new(alloc, Needs::of(alloc, program)?, Landmarks::new(alloc, program)?)?;
+    let mut nodes = Nodes::new(
+        alloc,
+        Needs::of(alloc, program)?,
+        Landmarks::new(alloc, program)?,
+    )?;
     let mut hints = Vec::new(alloc);
     let start = enter_first(alloc, &mut nodes, program)?;
     if !follow_all(alloc, &mut nodes, &mut hints, program, STEPS)? {
@@ -51,7 +55,11 @@ pub(crate) fn try_propose(
     alloc: Global,
     program: ReachedProgram<'_>,
 ) -> Result<Option<Proposal>, AllocError> {
-    let mut nodes = Nodes::new(alloc, Needs::of(alloc, program)?, Landmarks::new(alloc, program)?)?;
+    let mut nodes = Nodes::new(
+        alloc,
+        Needs::of(alloc, program)?,
+        Landmarks::new(alloc, program)?,
+    )?;
     let mut hints = Vec::new(alloc);
     let start = enter_first(alloc, &mut nodes, program)?;
     if !follow_all(alloc, &mut nodes, &mut hints, program, TRIAL_STEPS)? {

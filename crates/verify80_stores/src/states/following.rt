@@ -359,10 +359,8 @@ fn words_after(instr: Instr, taken: bool, next: u16, state: State) -> Words
             ..state.words
         },
         Instr::Call(_) | Instr::CallIf(_, _) | Instr::Rst(_) => called(taken, next, state.words),
-        Instr::Sphl
-        | Instr::Lxi(Pair::Sp, _)
-        | Instr::Inx(Pair::Sp)
-        | Instr::Dcx(Pair::Sp) => Words::NONE,
+        Instr::Sphl | Instr::Lxi(Pair::Sp, _) | Instr::Inx(Pair::Sp) | Instr::Dcx(Pair::Sp) =>
+            Words::NONE,
         _ => state.words,
     }
 }

@@ -1,4 +1,4 @@
-use Rattle.std.proofs.Common.{◌≡◌, Some, refl, arith, subst, below_more}
+use Rattle.std.proofs.Common.{◌≡◌, Some, refl, arith, below_more}
 use Rattle.std.specs.Prelude.{slice_get}
 use Rattle.std.proofs.lemmas.Option.{slice_get_within}
 use Rattle.decode80.specs.declared.fetching.Fetched.{Fetched}

@@ -1,4 +1,4 @@
-use Rattle.std.proofs.Common.{◌≡◌, ◌∙◌, true, refl, sym, arith, subst, below_more, get_or}
+use Rattle.std.proofs.Common.{◌≡◌, ◌∙◌, refl, sym, arith, subst, below_more, get_or}
 use Rattle.std.proofs.lemmas.Grind.{get_or_default_zero}
 use Rattle.verify80_stores.specs.Span.{Within}
 use Rattle.verify80_stores.specs.Fitting.{Has}
