@@ -24,9 +24,8 @@ may use SP before an LXI SP of its own sets it.
 
 Devices may write to data at any time, so what a program keeps there isn't
 believed. --quiet-ram names addresses of data to which only the program writes: a
-byte that it stores there is remembered, behind a call too, if the callee doesn't
-store there. FIRST:LENGTH is as suggest takes it, and the option may be given
-more than once.
+byte that it stores there is remembered. FIRST:LENGTH is as suggest takes it,
+and the option may be given more than once.
 
 The exit status is 0 if there is no line STORE, JUMP or SP NOT SET, 1 if there is
 one, or if the image is refused: then the refusal is printed alone, as by check.
