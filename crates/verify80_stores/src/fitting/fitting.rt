@@ -333,11 +333,11 @@ fn keeps_calls(
     ensures { result ≡ true → KeepsCalls (effects_of effects.now) code.now table.now placed.at placed.state found }
 {
     accounts_for_stores(effects, placed.at, found.instr, placed.state)
-        && keeps_what_returns(table, hints, effects, code, placed, found)
+        && has_what_is_left(table, hints, effects, code, placed, found)
 }
 
 /// Whether the table has what is left of a state behind a call or a return.
-fn keeps_what_returns(
+fn has_what_is_left(
     table: &[Placed],
     hints: &[u32],
     effects: &CallEffects,
