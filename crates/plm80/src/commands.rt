@@ -1,5 +1,8 @@
 //! The commands of the program, done with files. Tests show what they print.
 
+ghost use Rattle.std.specs.Prelude.{◌≡◌};
+ghost use Rattle.std.specs.Process.{exit_status};
+
 mod arguments;
 
 use arguments::{Request, read_arguments};
@@ -29,7 +32,9 @@ pub fn run_command(rt: &HostRuntime, arguments: &[String], always: bool) -> Exit
 }
 
 /// Prints the error of arguments that are no text, and gives the exit status.
-pub fn refuse_arguments(rt: &HostRuntime) -> ExitCode {
+pub fn refuse_arguments(rt: &HostRuntime) -> ExitCode
+    ensures { exit_status result ≡ 2 }
+{
     print_error(rt, &arguments::no_text(rt.alloc()))
 }
 
@@ -61,7 +66,9 @@ fn perform(console: Console<'_>, request: Request<'_>) -> Result<u8, Reported> {
 }
 
 /// Prints an error of clap, which may be a help text, on standard error, and gives the exit status.
-fn print_error(rt: &HostRuntime, error: &clap::Error) -> ExitCode {
+fn print_error(rt: &HostRuntime, error: &clap::Error) -> ExitCode
+    ensures { exit_status result ≡ 2 }
+{
     if error.kind() == clap::error::ErrorKind::OutOfMemory {
         let Reported = Console::new(rt, false).report_memory();
         return ExitCode::from(2);

@@ -52,7 +52,11 @@ fn main(rt: HostRuntime) -> ExitCode {
 
 /// Does what the arguments ask for, the first of which is the program's own name.
 fn run(rt: &HostRuntime, arguments: &[String]) -> ExitCode {
-    let always = is_always_explained(rt);
+    // Words about every fault are asked for if the variable is set, and neither empty nor 0.
+    let always = match env::var(rt, "PLM80_WHY") {
+        Ok(value) => !matches!(value.as_str(), "" | "0"),
+        Err(_) => false,
+    };
     match arguments {
         [] | [_] => run_bundle(Console::new(rt, always)),
         [_, why] if why.as_str() == "--why" => run_bundle(Console::new(rt, true)),
@@ -60,26 +64,13 @@ fn run(rt: &HostRuntime, arguments: &[String]) -> ExitCode {
     }
 }
 
-/// Whether the environment asks for words about every fault: `PLM80_WHY` is set, and neither empty nor 0.
-fn is_always_explained(rt: &HostRuntime) -> bool {
-    match env::var(rt, "PLM80_WHY") {
-        Ok(value) => !matches!(value.as_str(), "" | "0"),
-        Err(_) => false,
-    }
-}
-
-/// Says at a terminal what is read there.
-fn announce_bundle(rt: &HostRuntime) {
-    if rt.stdin().is_terminal() {
-        let _ = eprintln!(rt;
+/// Runs the bundle on standard input, and gives the exit status. At a terminal it says first what is read there.
+fn run_bundle(console: Console<'_>) -> ExitCode {
+    if console.runtime().stdin().is_terminal() {
+        let _ = eprintln!(console.runtime();
             "plm80: reads a bundle from standard input; plm80 --help lists the commands"
         );
     }
-}
-
-/// Runs the bundle on standard input, and gives the exit status.
-fn run_bundle(console: Console<'_>) -> ExitCode {
-    announce_bundle(console.runtime());
     let mut copied = CopiedReader::new(console, console.runtime().stdin());
     let mut output = NotedWriter::new(console.runtime().stdout());
     let mut input = Reading::new(&mut copied);

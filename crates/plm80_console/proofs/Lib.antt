@@ -1,2 +1,4 @@
+mod DraftLemmas
 mod NumberLemmas
 mod PieceLemmas
+mod SharedLemmas

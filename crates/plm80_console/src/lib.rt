@@ -38,7 +38,7 @@ mod syntax;
 mod unread_bytes;
 
 pub use answer::{Answer, WrittenFile, WrittenFiles};
-pub use argument_texts::argument_text;
+pub use argument_texts::{argument_text, argument_values};
 pub use console::{Console, Reported};
 pub use file_fault::FileFault;
 pub use files::{LateFile, NotedWriter};

@@ -1,91 +1,122 @@
 //! What is wrong with a line of a text, in words.
 
+ghost use Rattle.std.specs.Prelude.{◌≡◌, None};
+ghost use Rattle.plm80_console.specs.Lines.{HasFlaw, ends_in_blank, has_comment, has_lower_case, is_odd_number, without_return};
+
 use crate::console::Console;
+use thiserror::Error;
 
 /// The end of a text in CP/M, and the Ctrl-Z of other systems.
 const CONTROL_Z: u8 = 0x1A;
+
+/// What is often wrong with a line.
+#[derive(Clone, Copy, Debug, Error)]
+pub(crate) enum LineFlaw {
+    #[error("the line ends in CR LF: write LF alone")]
+    CarriageReturn,
+    #[error("the line has a Ctrl-Z (1A)")]
+    ControlZ,
+    #[error("the line has no line feed at its end")]
+    NoLineFeed,
+    #[error("the line ends in a blank")]
+    Blank,
+    #[error("the line has a ; but these texts have no comments")]
+    Comment,
+    #[error("the line has an odd number of digits")]
+    OddDigits,
+    #[error("the line has lower case: digits and words are of upper case")]
+    LowerCase,
+}
+
+/// What may be wrong with any line, in the order in which it is said.
+const FLAWS: &[LineFlaw] = &[
+    LineFlaw::CarriageReturn,
+    LineFlaw::ControlZ,
+    LineFlaw::NoLineFeed,
+    LineFlaw::Blank,
+    LineFlaw::Comment,
+    LineFlaw::OddDigits,
+];
+
+/// The same of a line whose words and digits are of upper case.
+pub(crate) const UPPER_FLAWS: &[LineFlaw] = &[
+    LineFlaw::CarriageReturn,
+    LineFlaw::ControlZ,
+    LineFlaw::NoLineFeed,
+    LineFlaw::Blank,
+    LineFlaw::Comment,
+    LineFlaw::OddDigits,
+    LineFlaw::LowerCase,
+];
+
+/// The same of a first line, whose digit stands alone.
+pub(crate) const VERSION_FLAWS: &[LineFlaw] = &[
+    LineFlaw::CarriageReturn,
+    LineFlaw::ControlZ,
+    LineFlaw::NoLineFeed,
+    LineFlaw::Blank,
+    LineFlaw::Comment,
+    LineFlaw::LowerCase,
+];
 
 /// A line without its line feed, and whether it has one.
 #[derive(Clone, Copy)]
 pub(crate) struct Line<'a> {
     pub(crate) bytes: &'a [u8],
-    is_ended: bool,
+    pub(crate) is_ended: bool,
 }
 
 impl<'a> Console<'a> {
     /// Says what is wrong with the line of this number, counted from 1, if it has one of the forms that occur most: each in a line
     /// of its own.
     pub fn explain_line(self, text: &[u8], number: usize) {
+        self.explain_flaws(text, number, FLAWS);
+    }
+
+    /// Says which of these flaws the line of this number has, each in a line of its own.
+    pub(crate) fn explain_flaws(self, text: &[u8], number: usize, flaws: &[LineFlaw]) {
         if let Some(line) = line_of(text, number) {
-            self.explain_end(line);
-            self.explain_comment(line);
-            self.explain_digits(line);
-        }
-    }
-
-    /// As [`Console::explain_line`], in a text whose words and digits are of upper case.
-    pub fn explain_upper_line(self, text: &[u8], number: usize) {
-        if let Some(line) = line_of(text, number) {
-            self.explain_end(line);
-            self.explain_comment(line);
-            self.explain_digits(line);
-            self.explain_case(line);
-        }
-    }
-
-    /// As [`Console::explain_upper_line`], of the first line, whose digit stands alone.
-    pub fn explain_version(self, text: &[u8]) {
-        if let Some(line) = line_of(text, 1) {
-            self.explain_end(line);
-            self.explain_comment(line);
-            self.explain_case(line);
-        }
-    }
-
-    fn explain_end(self, line: Line<'_>) {
-        if line.bytes.ends_with(b"\r") {
-            self.explain("the line ends in CR LF: write LF alone");
-        }
-        if line.bytes.contains(&CONTROL_Z) {
-            self.explain("the line has a Ctrl-Z (1A)");
-        }
-        if !line.is_ended {
-            self.explain("the line has no line feed at its end");
-        }
-        if without_return(line.bytes).ends_with(b" ")
-            || without_return(line.bytes).ends_with(b"\t")
-        {
-            self.explain("the line ends in a blank");
-        }
-    }
-
-    fn explain_comment(self, line: Line<'_>) {
-        if line.has_comment() {
-            self.explain("the line has a ; but these texts have no comments");
-        }
-    }
-
-    fn explain_digits(self, line: Line<'_>) {
-        if !line.has_comment() && has_odd_digits(without_return(line.bytes)) {
-            self.explain("the line has an odd number of digits");
-        }
-    }
-
-    fn explain_case(self, line: Line<'_>) {
-        if !line.has_comment() && line.bytes.iter().any(|byte| byte.is_ascii_lowercase()) {
-            self.explain("the line has lower case: digits and words are of upper case");
+            for flaw in flaws {
+                if line.has(*flaw) {
+                    self.explain(*flaw);
+                }
+            }
         }
     }
 }
 
 impl<'a> Line<'a> {
-    fn has_comment(self) -> bool {
+    /// Whether the line has this flaw.
+    fn has(self, flaw: LineFlaw) -> bool
+        ensures { HasFlaw flaw self.entry.bytes.now self.entry.is_ended result }
+    {
+        match flaw {
+            LineFlaw::CarriageReturn => self.bytes.ends_with(b"\r"),
+            LineFlaw::ControlZ => self.bytes.contains(&CONTROL_Z),
+            LineFlaw::NoLineFeed => !self.is_ended,
+            LineFlaw::Blank => ends_in_blank(self.bytes),
+            LineFlaw::Comment => self.has_comment(),
+            LineFlaw::OddDigits => {
+                !self.has_comment()
+                    && without_return(self.bytes)
+                        .split(|byte| *byte == b' ')
+                        .any(|word| is_odd_number(word))
+            }
+            LineFlaw::LowerCase => !self.has_comment() && has_lower_case(self.bytes),
+        }
+    }
+
+    fn has_comment(self) -> bool
+        ensures { result ≡ has_comment self.entry.bytes.now }
+    {
         self.bytes.contains(&b';')
     }
 }
 
 /// The line of this number, counted from 1; `None` if the text has no such line.
-pub(crate) fn line_of(text: &[u8], number: usize) -> Option<Line<'_>> {
+pub(crate) fn line_of(text: &[u8], number: usize) -> Option<Line<'_>>
+    ensures { number ≡ 0 → result ≡ None }
+{
     let line = text
         .split_inclusive(|byte| *byte == b'\n')
         .nth(number.checked_sub(1)?)?;
@@ -102,16 +133,34 @@ pub(crate) fn line_of(text: &[u8], number: usize) -> Option<Line<'_>> {
 }
 
 /// The line without a carriage return at its end.
-fn without_return(line: &[u8]) -> &[u8] {
-    line.strip_suffix(b"\r").unwrap_or(line)
+fn without_return(line: &[u8]) -> &[u8]
+    ensures { result.now ≡ without_return line.now }
+{
+    if line.ends_with(b"\r") {
+        &line[..line.len() - 1]
+    } else {
+        line
+    }
 }
 
-/// Whether a word of the line is of hexadecimal digits, an odd number of them.
-fn has_odd_digits(line: &[u8]) -> bool {
-    for word in line.split(|byte| *byte == b' ') {
-        if word.len() % 2 == 1 && word.iter().all(|byte| byte.is_ascii_hexdigit()) {
-            return true;
-        }
-    }
-    false
+/// Whether the line, without a carriage return at its end, ends in a blank or a tab.
+fn ends_in_blank(line: &[u8]) -> bool
+    ensures { result ≡ ends_in_blank line.now }
+{
+    let line = without_return(line);
+    line.ends_with(b" ") || line.ends_with(b"\t")
+}
+
+/// Whether the line has a letter of lower case.
+fn has_lower_case(line: &[u8]) -> bool
+    ensures { result ≡ has_lower_case line.now }
+{
+    line.iter().any(|byte| byte.is_ascii_lowercase())
+}
+
+/// Whether a word is of hexadecimal digits, an odd number of them.
+fn is_odd_number(word: &[u8]) -> bool
+    ensures { result ≡ is_odd_number word.now }
+{
+    word.len() % 2 == 1 && word.iter().all(|byte| byte.is_ascii_hexdigit())
 }

@@ -1,5 +1,11 @@
 //! Paths that two arguments of a command share.
 
+ghost use Rattle.std.specs.Prelude.{◌≡◌, true, false, None, if◌then◌else◌, option_map, string_bytes, IfErr, IfOk, IfSome};
+ghost use Rattle.clap.specs.Matches.{first_value, found_of};
+ghost use Rattle.plm80_console.specs.Kinds.{is_written, may_replace, names_no_file, shown_text};
+ghost use Rattle.plm80_console.specs.Refusals.{IsConflict};
+ghost use Rattle.plm80_console.specs.SharedPaths.{IsWrittenBy};
+
 use crate::same_file::Comparison;
 use crate::syntax::{Argument, Kind, Syntax};
 use clap::error::ErrorKind;
@@ -13,7 +19,9 @@ impl<'a> Syntax<'a> {
         &self,
         rt: &HostRuntime,
         matches: &ArgMatches<'_>,
-    ) -> Result<(), Error> {
+    ) -> Result<(), Error>
+        ensures { IfErr result IsConflict }
+    {
         if let Some(shared) = self.shared_path(matches, Comparison::Letters) {
             return Err(self.refusal(rt.alloc(), shared)?);
         }
@@ -28,7 +36,9 @@ impl<'a> Syntax<'a> {
         &self,
         matches: &ArgMatches<'m>,
         comparison: Comparison<'_>,
-    ) -> Option<SharedPath<'m, 'a>> {
+    ) -> Option<SharedPath<'m, 'a>>
+        ensures { IfSome result (IsWrittenBy matches.now) }
+    {
         for index in 0..self.arguments.len() {
             if let Some(shared) = self.shared_by(matches, comparison, index) {
                 return Some(shared);
@@ -38,12 +48,15 @@ impl<'a> Syntax<'a> {
     }
 
     /// The path of the argument with this index, if it is that of a file to write and another argument has it too.
+    #[tactic(auto, using(crate::proofs::SharedLemmas::is_written_by))]
     fn shared_by<'m>(
         &self,
         matches: &ArgMatches<'m>,
         comparison: Comparison<'_>,
         index: usize,
-    ) -> Option<SharedPath<'m, 'a>> {
+    ) -> Option<SharedPath<'m, 'a>>
+        ensures { IfSome result (IsWrittenBy matches.now) }
+    {
         let written = *self.arguments.get(index)?;
         let path = written.path_to_write(matches)?;
         for (other, argument) in self.arguments.iter().enumerate() {
@@ -62,7 +75,9 @@ impl<'a> Syntax<'a> {
     }
 
     /// The error of a path that two arguments share, as clap prints errors of this command.
-    fn refusal(&self, alloc: Global, shared: SharedPath<'_, 'a>) -> Result<Error, AllocError> {
+    fn refusal(&self, alloc: Global, shared: SharedPath<'_, 'a>) -> Result<Error, AllocError>
+        ensures { IfOk result IsConflict }
+    {
         let (written, other) = (shared.written.shown(alloc)?, shared.other.shown(alloc)?);
         let text = format!(in alloc;
             "the path '{}' of '{written}', which is written, is also that of '{other}'",
@@ -85,26 +100,50 @@ struct SharedPath<'m, 'a> {
 
 impl<'a> Argument<'a> {
     /// The path that is given here, if it is that of a file to write.
-    fn path_to_write<'m>(&self, matches: &ArgMatches<'m>) -> Option<&'m str> {
+    fn path_to_write<'m>(&self, matches: &ArgMatches<'m>) -> Option<&'m str>
+        ensures { let argument = self.now in option_map (λ path. path.now) result
+            ≡ (if is_written argument.kind then first_value (found_of matches.now) argument.name.now else None) }
+    {
         match self.kind {
             Kind::Written
             | Kind::WrittenOption(_)
             | Kind::WrittenIfGiven(_)
             | Kind::Replaced { .. } => matches.get_str(self.name),
-            _ => None,
+            Kind::Path
+            | Kind::Paths
+            | Kind::Words
+            | Kind::Required(_)
+            | Kind::Number(_)
+            | Kind::Count(_)
+            | Kind::Flag
+            | Kind::PathsAt(_) => None,
         }
     }
 
     /// Whether the file that this argument writes may be that of the other one, which it reads.
-    fn may_replace(&self, other: &Argument<'_>) -> bool {
+    fn may_replace(&self, other: &Argument<'_>) -> bool
+        ensures { result ≡ may_replace self.now.kind other.now.name.now }
+    {
         match self.kind {
             Kind::Replaced { old, .. } => other.name == old,
-            _ => false,
+            Kind::Path
+            | Kind::Paths
+            | Kind::Words
+            | Kind::Written
+            | Kind::WrittenOption(_)
+            | Kind::WrittenIfGiven(_)
+            | Kind::Required(_)
+            | Kind::Number(_)
+            | Kind::Count(_)
+            | Kind::Flag
+            | Kind::PathsAt(_) => false,
         }
     }
 
     /// Whether the path is given here.
-    fn has_path(&self, matches: &ArgMatches<'_>, comparison: Comparison<'_>, path: &str) -> bool {
+    fn has_path(&self, matches: &ArgMatches<'_>, comparison: Comparison<'_>, path: &str) -> bool
+        ensures { names_no_file self.now.kind ≡ true → result ≡ false }
+    {
         match self.kind {
             Kind::Path
             | Kind::Written
@@ -114,17 +153,27 @@ impl<'a> Argument<'a> {
                 Some(own) => comparison.is_one(own, path),
                 None => false,
             },
-            Kind::Paths => is_among(comparison, matches.get_strs(self.name).unwrap_or(&[]), path),
-            Kind::PathsAt(_) => {
-                is_in_values(comparison, matches.get_strs(self.name).unwrap_or(&[]), path)
-            }
+            Kind::Paths => matches
+                .get_strs(self.name)
+                .unwrap_or(&[])
+                .iter()
+                .any(|own| comparison.is_one(own, path)),
+            Kind::PathsAt(_) => matches.get_strs(self.name).unwrap_or(&[]).iter().any(|value| {
+                // A number, an equals sign and a path.
+                match value.split_once('=') {
+                    Some((_, own)) => comparison.is_one(own, path),
+                    None => false,
+                }
+            }),
             Kind::Words | Kind::Required(_) | Kind::Number(_) | Kind::Count(_) | Kind::Flag =>
                 false,
         }
     }
 
     /// The argument as clap's errors show it.
-    fn shown(&self, alloc: Global) -> Result<String, AllocError> {
+    fn shown(&self, alloc: Global) -> Result<String, AllocError>
+        ensures { IfOk result (λ shown. string_bytes shown ≡ shown_text self.now.kind self.now.name.now) }
+    {
         match self.kind {
             Kind::Path | Kind::Written => format!(in alloc; "<{}>", self.name),
             Kind::Paths | Kind::Words => format!(in alloc; "<{}>...", self.name),
@@ -138,26 +187,4 @@ impl<'a> Argument<'a> {
             Kind::Count(_) => format!(in alloc; "--{} <N>", self.name),
         }
     }
-}
-
-/// Whether the path is one of these.
-fn is_among(comparison: Comparison<'_>, paths: &[&str], path: &str) -> bool {
-    for other in paths {
-        if comparison.is_one(other, path) {
-            return true;
-        }
-    }
-    false
-}
-
-/// Whether the path is that of one of these values, each a number, an equals sign and a path.
-fn is_in_values(comparison: Comparison<'_>, values: &[&str], path: &str) -> bool {
-    for value in values {
-        if let Some((_, of_value)) = value.split_once('=')
-            && comparison.is_one(of_value, path)
-        {
-            return true;
-        }
-    }
-    false
 }

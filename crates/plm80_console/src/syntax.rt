@@ -1,5 +1,10 @@
 //! A command for clap: its name, its help text and its arguments, as a table.
 
+ghost use Rattle.std.specs.Prelude.{◌≡◌, Some, true};
+ghost use Rattle.plm80_console.specs.Arguments.{argument_text};
+ghost use Rattle.plm80_console.specs.Kinds.{is_required};
+
+use crate::argument_texts::argument_text;
 use clap::{Arg, ArgAction, ArgMatches, Command};
 use std::alloc::{AllocError, Global};
 
@@ -53,11 +58,6 @@ pub enum Kind<'a> {
 }
 
 impl<'a> Syntax<'a> {
-    /// The program with this command.
-    pub fn add_to(&self, alloc: Global, program: Command<'a>) -> Result<Command<'a>, AllocError> {
-        program.subcommand(self.command(alloc)?)
-    }
-
     /// The command with its arguments, for clap.
     pub fn command(&self, alloc: Global) -> Result<Command<'a>, AllocError> {
         let mut command = Command::new(alloc, self.name)
@@ -78,12 +78,18 @@ pub const WHY: Argument<'static> = Argument {
 };
 
 /// The text of an argument that clap requires.
-pub fn path_of<'a>(matches: &ArgMatches<'a>, name: &str) -> &'a str {
-    matches.get_str(name).unwrap_or("")
+pub fn path_of<'a>(matches: &ArgMatches<'a>, name: &str) -> &'a str
+    ensures { result.now ≡ argument_text matches.now name.now }
+{
+    argument_text(matches, name)
 }
 
 impl<'a> Argument<'a> {
-    fn arg(&self, alloc: Global) -> Arg<'a> {
+    /// The argument for clap.
+    fn arg(&self, alloc: Global) -> Arg<'a>
+        ensures name { result.id ≡ self.now.name }
+        ensures required { result.required ≡ is_required self.now.kind }
+    {
         let arg = Arg::new(alloc, self.name).help(self.help);
         match self.kind {
             Kind::Path | Kind::Written => arg.required(true),
@@ -102,6 +108,8 @@ impl<'a> Argument<'a> {
 }
 
 /// An option of this name, whose value the help text calls by this word, whatever it begins with.
-fn option<'a>(arg: Arg<'a>, name: &'a str, value: &'a str) -> Arg<'a> {
+fn option<'a>(arg: Arg<'a>, name: &'a str, value: &'a str) -> Arg<'a>
+    ensures { result ≡ record arg.entry { long = Some name.entry; val_names = One value.entry; allow_hyphen_values = true } }
+{
     arg.long(name).value_name(value).allow_hyphen_values(true)
 }

@@ -1,5 +1,8 @@
 //! Bytes of an object file that aren't read, in words.
 
+ghost use Rattle.std.specs.Prelude.{◌≡◌, ◌==◌, ◌||◌, Some, IfSome, slice_get};
+ghost use Rattle.std.specs.List.{list_all};
+
 use crate::console::Console;
 use omf_core::RecordKind;
 
@@ -30,7 +33,9 @@ impl<'a> Console<'a> {
 }
 
 /// Whether bytes only fill up a file.
-fn is_filling(bytes: &[u8]) -> bool {
+fn is_filling(bytes: &[u8]) -> bool
+    ensures { result ≡ list_all (λ byte. byte == 0 || byte == 0x1A) bytes.now }
+{
     bytes.iter().all(|byte| *byte == 0 || *byte == CONTROL_Z)
 }
 
@@ -49,7 +54,9 @@ fn behind_end(bytes: &[u8]) -> &[u8] {
 }
 
 /// The type of the record with which these bytes begin, and the bytes behind it.
-fn after_record(bytes: &[u8]) -> Option<(u8, &[u8])> {
+fn after_record(bytes: &[u8]) -> Option<(u8, &[u8])>
+    ensures { IfSome result (λ found. slice_get bytes.now 0 ≡ Some found.0) }
+{
     let [kind, low, high, body @ ..] = bytes else {
         return None;
     };

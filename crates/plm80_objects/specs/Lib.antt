@@ -1,5 +1,6 @@
 pub mod Arguments
 -- what the crate's own functions promise one another: no public contract cites these
+pub mod Link
 pub mod Locate
 pub mod RomFaults
 pub mod Compare

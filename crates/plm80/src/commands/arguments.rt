@@ -1,5 +1,11 @@
 //! The command line, read by clap.
 
+ghost use Rattle.std.specs.Prelude.{◌≡◌, ◌⊎◌, ◌∷◌, [], true, false, None, IfOk, IfErr, IfSome};
+ghost use Rattle.std.specs.Str.{bytes_eq};
+ghost use Rattle.clap.specs.Matches.{has_subcommand};
+ghost use Rattle.clap.specs.Values.{kind_of};
+ghost use Rattle.plm80_console.specs.Refusals.{IsConflict};
+
 use clap::error::ErrorKind;
 use clap::{ArgMatches, Command, Error};
 use plm80_console::{Syntax, WHY};
@@ -64,29 +70,39 @@ Faults and what to do: docs/FAULTS.md (installed: share/doc/plm80), man plm80.";
 
 /// The commands of object files, in the order of the help text. (Several functions make the commands, since one proof of all their
 /// texts is more than the prover takes.)
-fn object_commands() -> [Syntax<'static>; 5] {
+fn object_commands() -> [Syntax<'static>; 5]
+    ensures { result ≡ LIB ∷ LINK ∷ LOCATE ∷ MAP ∷ MODULE ∷ [] }
+{
     [LIB, LINK, LOCATE, MAP, MODULE]
 }
 
 /// The commands that verify a located program, in the order of the help text.
-fn verifier_commands() -> [Syntax<'static>; 4] {
+fn verifier_commands() -> [Syntax<'static>; 4]
+    ensures { result ≡ CHECK ∷ EXPLAIN ∷ CALLS ∷ STORES ∷ [] }
+{
     [CHECK, EXPLAIN, CALLS, STORES]
 }
 
 /// The commands that run one, in the order of the help text.
-fn run_commands() -> [Syntax<'static>; 4] {
+fn run_commands() -> [Syntax<'static>; 4]
+    ensures { result ≡ RUN ∷ TRACE ∷ COVER ∷ INPUTS ∷ [] }
+{
     [RUN, TRACE, COVER, INPUTS]
 }
 
 /// The commands of PROMs, and of programs of which there are no object files, in the order of the help text.
-fn prom_commands() -> [Syntax<'static>; 8] {
+fn prom_commands() -> [Syntax<'static>; 8]
+    ensures { result ≡ ABSOLUTE ∷ EXTRACT ∷ COMPARE ∷ FIND ∷ SUGGEST ∷ CASES ∷ LIST ∷ REGIONS ∷ [] }
+{
     [
         ABSOLUTE, EXTRACT, COMPARE, FIND, SUGGEST, CASES, LIST, REGIONS,
     ]
 }
 
 /// The command of a name.
-fn command_of(name: &str) -> Option<Syntax<'static>> {
+fn command_of(name: &str) -> Option<Syntax<'static>>
+    ensures { IfSome result (λ command. bytes_eq command.name.now name.now ≡ true) }
+{
     for command in object_commands() {
         if command.name == name {
             return Some(command);
@@ -119,7 +135,7 @@ pub fn read_arguments<'a>(
     arguments: &'a [String],
 ) -> Result<(Request<'a>, bool), Error> {
     let alloc = rt.alloc();
-    let matches = matches_of(alloc, arguments)?;
+    let matches = program(alloc)?.try_get_matches_from(arguments)?;
     refuse_shared_paths(rt, &matches)?;
     match asked_for(alloc, &matches)? {
         Some(request) => Ok((request, is_explained(&matches))),
@@ -128,20 +144,19 @@ pub fn read_arguments<'a>(
 }
 
 /// Whether the faults of the command are explained.
-fn is_explained(matches: &ArgMatches<'_>) -> bool {
+fn is_explained(matches: &ArgMatches<'_>) -> bool
+    ensures { has_subcommand matches.now ≡ false → result ≡ false }
+{
     match matches.subcommand() {
         Some((_, arguments)) => arguments.get_flag(WHY.name),
         None => false,
     }
 }
 
-/// The arguments as clap reads them.
-fn matches_of<'a>(alloc: Global, arguments: &'a [String]) -> Result<ArgMatches<'a>, Error> {
-    program(alloc)?.try_get_matches_from(arguments)
-}
-
 /// Refuses the arguments of a command by which it would write over a file that it reads, or write a file twice.
-fn refuse_shared_paths(rt: &HostRuntime, matches: &ArgMatches<'_>) -> Result<(), Error> {
+fn refuse_shared_paths(rt: &HostRuntime, matches: &ArgMatches<'_>) -> Result<(), Error>
+    ensures { IfErr result IsConflict }
+{
     let Some((name, arguments)) = matches.subcommand() else {
         return Ok(());
     };
@@ -152,7 +167,9 @@ fn refuse_shared_paths(rt: &HostRuntime, matches: &ArgMatches<'_>) -> Result<(),
 }
 
 /// The error of arguments that are no text.
-pub fn no_text(alloc: Global) -> Error {
+pub fn no_text(alloc: Global) -> Error
+    ensures { (kind_of result ≡ ErrorKind.InvalidValue) ⊎ (kind_of result ≡ ErrorKind.OutOfMemory) }
+{
     refusal(
         alloc,
         ErrorKind::InvalidValue,
@@ -161,50 +178,49 @@ pub fn no_text(alloc: Global) -> Error {
 }
 
 /// An error of the command line, as clap prints it.
-fn refusal(alloc: Global, kind: ErrorKind, text: &str) -> Error {
+fn refusal(alloc: Global, kind: ErrorKind, text: &str) -> Error
+    ensures { (kind_of result ≡ kind) ⊎ (kind_of result ≡ ErrorKind.OutOfMemory) }
+{
     match refuse(alloc, kind, text) {
         Ok(error) => error,
         Err(refused) => Error::from(refused),
     }
 }
 
-fn refuse(alloc: Global, kind: ErrorKind, text: &str) -> Result<Error, AllocError> {
+/// The same, if memory doesn't run out.
+fn refuse(alloc: Global, kind: ErrorKind, text: &str) -> Result<Error, AllocError>
+    ensures { IfOk result (λ error. kind_of error ≡ kind) }
+{
     program(alloc)?.error(kind, text)
 }
 
 /// The program with its commands, for clap.
 fn program<'a>(alloc: Global) -> Result<Command<'a>, AllocError> {
-    let mut program = bare_program(alloc)?;
-    for command in object_commands() {
-        program = command.add_to(alloc, program)?;
-    }
-    for command in verifier_commands() {
-        program = command.add_to(alloc, program)?;
-    }
-    for command in run_commands() {
-        program = command.add_to(alloc, program)?;
-    }
-    for command in prom_commands() {
-        program = command.add_to(alloc, program)?;
-    }
-    Ok(program)
-}
-
-/// The program before its commands are added.
-fn bare_program<'a>(alloc: Global) -> Result<Command<'a>, AllocError> {
-    Command::new(alloc, "plm80")
+    let mut program = Command::new(alloc, "plm80")
         .version(VERSION)
         .about(ABOUT)
         .after_help(AFTER_HELP)
         .subcommand_required(true)
-        .bin_name("plm80")
+        .bin_name("plm80")?;
+    for command in object_commands() {
+        program = program.subcommand(command.command(alloc)?)?;
+    }
+    for command in verifier_commands() {
+        program = program.subcommand(command.command(alloc)?)?;
+    }
+    for command in run_commands() {
+        program = program.subcommand(command.command(alloc)?)?;
+    }
+    for command in prom_commands() {
+        program = program.subcommand(command.command(alloc)?)?;
+    }
+    Ok(program)
 }
 
 /// The command that clap has read.
-fn asked_for<'a>(
-    alloc: Global,
-    matches: &ArgMatches<'a>,
-) -> Result<Option<Request<'a>>, AllocError> {
+fn asked_for<'a>(alloc: Global, matches: &ArgMatches<'a>) -> Result<Option<Request<'a>>, AllocError>
+    ensures { IfOk result (λ asked. has_subcommand matches.now ≡ false → asked ≡ None) }
+{
     let Some((name, arguments)) = matches.subcommand() else {
         return Ok(None);
     };

@@ -1,13 +1,17 @@
 //! The lines that `link` prints.
 
+ghost use Rattle.std.specs.Prelude.{◌≡◌, ◌++◌, option_copied, IfOk, OnOk};
 ghost use Rattle.link80.specs.Selection.{IsSelection};
+ghost use Rattle.link80_select.specs.Selected.{module_at};
 ghost use Rattle.link80_text.specs.Parts.{IsMade};
+ghost use Rattle.plm80_objects.specs.Link.{PrintsLink, named_line, names_text, taken_text};
 
 use crate::link::LinkFiles;
 use link80::{Chosen, Linked};
 use link80_text::{append_parts, append_reasons, append_unresolved};
 use omf_core::Name;
 use omf_library::Library;
+use omf_module::Module;
 use std::alloc::{AllocError, Global};
 
 /// Which lines are printed beside those of the modules that were taken and of the unresolved names.
@@ -27,6 +31,7 @@ pub(crate) fn lines_of(
 ) -> Result<Vec<u8>, AllocError>
     requires selection { IsSelection files.now.roots.items files.now.libraries.items linked.now.taken.items }
     requires made { IsMade files.now.roots.items files.now.libraries.items linked.now }
+    ensures { IfOk result (λ lines. PrintsLink wanted files.now.roots.items files.now.libraries.items linked.now lines.items) }
 {
     let mut lines = Vec::new(alloc);
     if wanted.reasons {
@@ -55,23 +60,29 @@ fn append_taken(
     lines: &mut Vec<u8>,
     taken: &[Chosen],
     libraries: &[Library],
-) -> Result<(), AllocError> {
+) -> Result<(), AllocError>
+    ensures { OnOk result (lines.new.items ≡ lines.old.items ++ taken_text libraries.now taken.now) }
+{
     for chosen in taken {
-        if let Some(name) = name_at(libraries, *chosen) {
-            append_line(lines, b"TAKEN ".as_slice(), name)?;
+        if let Some(member) = module_at(libraries, *chosen) {
+            append_line(lines, b"TAKEN ".as_slice(), member.name())?;
         }
     }
     Ok(())
 }
 
-/// The name of the module at a place in the libraries.
-fn name_at(libraries: &[Library], place: Chosen) -> Option<&Name> {
+/// The module at a place in the libraries.
+fn module_at(libraries: &[Library], place: Chosen) -> Option<&Module>
+    ensures { option_copied result ≡ module_at libraries.now place }
+{
     let library = libraries.get(place.library)?;
-    Some(library.modules.get(place.module)?.name())
+    library.modules.get(place.module)
 }
 
 /// Appends a line for each name that no module declares.
-fn append_names(lines: &mut Vec<u8>, names: &[Name]) -> Result<(), AllocError> {
+fn append_names(lines: &mut Vec<u8>, names: &[Name]) -> Result<(), AllocError>
+    ensures { OnOk result (lines.new.items ≡ lines.old.items ++ names_text names.now) }
+{
     for name in names {
         append_line(lines, b"UNRESOLVED ".as_slice(), name)?;
     }
@@ -79,7 +90,9 @@ fn append_names(lines: &mut Vec<u8>, names: &[Name]) -> Result<(), AllocError> {
 }
 
 /// Appends a line of a word and a name.
-fn append_line(lines: &mut Vec<u8>, word: &[u8], name: &Name) -> Result<(), AllocError> {
+fn append_line(lines: &mut Vec<u8>, word: &[u8], name: &Name) -> Result<(), AllocError>
+    ensures { OnOk result (lines.new.items ≡ lines.old.items ++ named_line word.now name.now) }
+{
     lines.extend_from_slice(word)?;
     lines.extend_from_slice(name.bytes())?;
     lines.push(b'\n')?;

@@ -1,0 +1,83 @@
+-- Words and ranges of the command line, one after another.
+use Rattle.std.specs.Prelude.{◌≡◌, ◌≢◌, ℕ, ◌+◌, ◌<◌, List, [], ◌∷◌, ◌++◌, All, None, Option, Some, IfSome, unwrap_or, length, map, take, drop}
+use Rattle.std.specs.Borrow.{Bor}
+use Rattle.std.proofs.Common.{◌∙◌, ap, append-nil, get_or, refl, subst, sym}
+use Rattle.std.proofs.lemmas.Grind.{flat_map-append}
+use Rattle.std.proofs.lemmas.List.{drop_more, map-append, take-append-drop, take_more}
+use Rattle.std.proofs.lemmas.List.Elements.{All-nil, All-push}
+use Rattle.image80.specs.declared.range.Range.{Range}
+use Rattle.loader80_text.specs.declared.inputs.repeated.Repeated.{Repeated}
+use Rattle.loader80_text.specs.Words.{word_of}
+use Rattle.plm80_programs.specs.InputWords.{FaultsFile, FaultsWords, IsFirstBadWord, IsGoodWord, inputs_named}
+use Rattle.plm80_programs.specs.declared.inputs.InputsFileFault.{InputsFileFault}
+use Rattle.plm80_programs.specs.declared.inputs.InputsFileFault.TheVariants.{BadInput, TooLong, Memory}
+use Rattle.plm80_programs.specs.Ranges.{AreRangesOf, IsRangeText, more, none}
+
+abbrev text_of : Bor (List ℕ) → List ℕ
+text_of text = text.now
+
+pub texts_more : (texts : List (Bor (List ℕ))) (i : ℕ) (text : Bor (List ℕ)) → i < length texts → text ≡ get_or texts i text
+    → map (λ t. t.now) (take (i + 1) texts) ≡ map (λ t. t.now) (take i texts) ++ text.now ∷ []
+texts_more texts i text lt at =
+    ap (map text_of) (take_more texts i text lt ∙ ap (λ (t : Bor (List ℕ)). take i texts ++ t ∷ []) (sym at))
+    ∙ map-append text_of (take i texts) (text ∷ [])
+
+pub named_more : (words : List (List ℕ)) (word : List ℕ) (before after : List Repeated) → before ≡ inputs_named words
+    → after ≡ before ++ unwrap_or (word_of word) [] → after ≡ inputs_named (words ++ word ∷ [])
+named_more words word before after so_far one =
+    one ∙ ap (λ (l : List Repeated). l ++ unwrap_or (word_of word) []) so_far
+    ∙ ap (λ (l : List Repeated). inputs_named words ++ l) (sym (append-nil (unwrap_or (word_of word) [])))
+    ∙ sym (flat_map-append (λ (w : List ℕ). unwrap_or (word_of w) []) words (word ∷ []))
+
+pub texts_split : (texts : List (Bor (List ℕ))) (i : ℕ) (text : Bor (List ℕ)) → i < length texts → text ≡ get_or texts i text
+    → map (λ t. t.now) texts ≡ map (λ t. t.now) (take i texts) ++ text.now ∷ map (λ t. t.now) (drop (i + 1) texts)
+texts_split texts i text lt at =
+    ap (map text_of) (sym (take-append-drop i texts))
+    ∙ map-append text_of (take i texts) (drop i texts)
+    ∙ ap (λ (l : List (Bor (List ℕ))). map text_of (take i texts) ++ map text_of l)
+    (drop_more texts i text lt ∙ ap (λ (t : Bor (List ℕ)). t ∷ drop (i + 1) texts) (sym at))
+
+-- the first word that names no inputs
+pub first_bad : (texts : List (Bor (List ℕ))) (i : ℕ) (text : Bor (List ℕ)) → i < length texts → text ≡ get_or texts i text
+    → All IsGoodWord (map (λ t. t.now) (take i texts)) → word_of text.now ≡ None → IsFirstBadWord (map (λ t. t.now) texts) text.now
+first_bad texts i text lt at good bad = record {
+  before = map text_of (take i texts);
+  after = map text_of (drop (i + 1) texts);
+  are_words = texts_split texts i text lt at;
+  good = good;
+  bad = bad;
+}
+
+-- one word more that names inputs
+pub good_more : (texts : List (Bor (List ℕ))) (i : ℕ) (text : Bor (List ℕ)) → i < length texts → text ≡ get_or texts i text
+    → All IsGoodWord (map (λ t. t.now) (take i texts)) → word_of text.now ≢ None → All IsGoodWord (map (λ t. t.now) (take (i + 1) texts))
+good_more texts i text lt at good one =
+    subst (λ (l : List (List ℕ)). All IsGoodWord l) (sym (texts_more texts i text lt at))
+    (All-push IsGoodWord (map text_of (take i texts)) text.now good one)
+
+pub inputs_more : (texts : List (Bor (List ℕ))) (i : ℕ) (text : Bor (List ℕ)) (before after : List Repeated) → i < length texts → text ≡ get_or texts i text
+    → before ≡ inputs_named (map (λ t. t.now) (take i texts)) → after ≡ before ++ unwrap_or (word_of text.now) []
+    → after ≡ inputs_named (map (λ t. t.now) (take (i + 1) texts))
+inputs_more texts i text before after lt at so_far one =
+    subst (λ (l : List (List ℕ)). after ≡ inputs_named l) (sym (texts_more texts i text lt at))
+    (named_more (map text_of (take i texts)) text.now before after so_far one)
+
+-- what a word added, if it names inputs
+pub added : (o : Option (List Repeated)) (before after : List Repeated) → o ≢ None → IfSome o (λ inputs. after ≡ before ++ inputs)
+    → after ≡ before ++ unwrap_or o []
+added None before after some one = absurd (some refl)
+added (Some inputs) before after some one = one
+
+-- why words give no file
+pub of_words : (words : List (List ℕ)) (fault : InputsFileFault) → FaultsWords words fault → FaultsFile words fault
+of_words words (BadInput word) first = first
+of_words words TooLong none = absurd none
+of_words words Memory any = tt
+
+-- one range more
+pub ranges_more : (texts : List (Bor (List ℕ))) (i : ℕ) (text : Bor (List ℕ)) (ranges : List Range) (range : Range) → i < length texts
+    → text ≡ get_or texts i text → AreRangesOf (map (λ t. t.now) (take i texts)) ranges → IsRangeText text.now range
+    → AreRangesOf (map (λ t. t.now) (take (i + 1) texts)) (ranges ++ range ∷ [])
+ranges_more texts i text ranges range lt at so_far one =
+    subst (λ (l : List (List ℕ)). AreRangesOf l (ranges ++ range ∷ [])) (sym (texts_more texts i text lt at))
+    (more (map text_of (take i texts)) text.now ranges range so_far one)
