@@ -82,8 +82,8 @@ impl<'a> StoresArguments<'a> {
 }
 
 /// Prints what is known of the image's stores, or its refusal, and gives the exit status.
-pub fn list_stores(console: Console<'_>, arguments: StoresArguments<'_>) -> Result<u8, Reported>
-    ensures { IfOk result (IsStoresStatus (map (λ range. range.now) arguments.entry.quiet.items) (asks_names arguments.entry.files)) }
+pub fn list_stores(console: Console<'_>, arguments: &StoresArguments<'_>) -> Result<u8, Reported>
+    ensures { IfOk result (IsStoresStatus (map (λ range. range.now) arguments.now.quiet.items) (asks_names arguments.now.files)) }
 {
     let quiet = ranges_of(console, QUIET, &arguments.quiet)?;
     let (image, names) = arguments.files.read(console)?;
