@@ -1,6 +1,7 @@
 -- What commands print of a run, and how it is left. (That a run's transcript goes on with its last instructions, and the exit statuses,
 -- are this project's own.)
 use Rattle.std.specs.Prelude.{◌≡◌, ℕ, ◌⊎◌, ◌+◌, ◌-◌, ◌==◌, ◌&&◌, not, is_none, min, if◌then◌else◌, Bool, true, false, List, [], ◌++◌, Option, None, Some, codes}
+use Rattle.std.specs.Bool.{MatchBool}
 use Rattle.std.specs.declared.io.ErrorKind.{ErrorKind}
 use Rattle.omf_parts.specs.declared.symbols.Public.{Public}
 use Rattle.image80.specs.declared.range.Range.{Range}
@@ -161,7 +162,7 @@ abbrev pub is_session : RunArguments → Bool
 is_session arguments = (count_value arguments.last.text.now == 0 && is_none (dump_of arguments)) && not arguments.names
 
 abbrev pub IsRunStatus : RunArguments → (status : ℕ) → Type 0
-IsRunStatus arguments status = if is_session arguments then IsSessionStatus status else IsWatchStatus arguments status
+IsRunStatus arguments status = MatchBool (is_session arguments) (IsSessionStatus status) (IsWatchStatus arguments status)
 
 -- ---- paths of faults
 

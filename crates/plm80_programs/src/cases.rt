@@ -19,7 +19,7 @@ use loader80_trace::TraceFault;
 use plm80_console::{
     Answer, Argument, Console, IMAGE, Kind, NotedWriter, REGIONS, Reported, Syntax, argument_text,
 };
-use plm80_names::program_of;
+use plm80_names::ProgramTexts;
 use std::alloc::{AllocError, Global};
 use verify80::ImageCode;
 use verify80_cases::{Note, Search, regions_with_cases};
@@ -78,6 +78,14 @@ impl<'a> CasesArguments<'a> {
             out: matches.get_str("out"),
         }
     }
+
+    /// Both files.
+    fn texts(self, console: Console<'_>) -> Result<ProgramTexts<'a>, Reported>
+        ensures image { IfOk result (λ texts. texts.image.path.now ≡ self.entry.image.now) }
+        ensures regions { IfOk result (λ texts. texts.regions.path.now ≡ self.entry.regions.now) }
+    {
+        ProgramTexts::read(console, self.image, self.regions)
+    }
 }
 
 /// Prints the CASE lines, writes the regions with them if a file is named, and reports what there is to say of the PCHLs; gives status 1
@@ -88,9 +96,8 @@ pub fn suggest_for_files(
 ) -> Result<u8, Reported>
     ensures { IfOk result IsCasesStatus }
 {
-    let file = console.read_file(arguments.image)?;
-    let regions = console.read_file(arguments.regions)?;
-    let (image, _) = program_of(console, false, &file, &regions)?;
+    let texts = arguments.texts(console)?;
+    let (image, _) = texts.program(console, false)?;
     let notes = match arguments.out {
         Some(path) => add_cases(console, path, &image)?,
         None => print_cases(console, &image)?,
