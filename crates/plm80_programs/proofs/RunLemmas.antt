@@ -58,6 +58,29 @@ last_span inputs limits last publics program ended span within counted reaches =
     ∙ ap (λ (n : ℕ). run_lines program.image.regions (Some limits.outputs) (start_of program inputs) publics false n (min last (number + 1)))
     (begins ∙ ap (λ (n : ℕ). number + 1 - n) counted)
 
+module _ (inputs : List (ℕ × ℕ)) (limits : Limits) (last : ℕ) (publics : List Public) (program : Voucher) (ended : Ended) where
+  -- no instruction is written
+  pub writes_none : (old : Option (List ℕ)) → last ≡ 0 → Appends old old (last_lines inputs limits last publics program ended)
+  writes_none old none =
+      subst (λ (l : List ℕ). Appends old old l) (sym (no_lines inputs limits last publics program ended none)) (Appends-nil old)
+
+  -- the instructions of the last span are written
+  pub writes_span : (span : Span) (old new : Option (List ℕ)) → ended.steps ≤ limits.steps
+      → span.count ≡ min last (last_number ended.end ended.steps + 1)
+      → span.from + span.count ≡ last_number ended.end ended.steps + 1
+      → Appends old new (trace_lines inputs limits span false publics program)
+      → Appends old new (last_lines inputs limits last publics program ended)
+  writes_span span old new within counted reaches written =
+      subst (λ (l : List ℕ). Appends old new l) (last_span inputs limits last publics program ended span within counted reaches) written
+
+  -- they are written behind a front part; the run is made once more for them, on the same inputs
+  pub writes_both : (again : List (ℕ × ℕ)) (front : List ℕ) (old mid new : Option (List ℕ)) → again ≡ inputs → Appends old mid front
+      → Appends mid new (last_lines again limits last publics program ended)
+      → Appends old new (front ++ last_lines inputs limits last publics program ended)
+  writes_both again front old mid new same first second =
+      Appends-trans old mid new front (last_lines inputs limits last publics program ended) first
+      (subst (λ (pairs : List (ℕ × ℕ)). Appends mid new (last_lines pairs limits last publics program ended)) same second)
+
 -- the transcript of a run that was finished is a front part and its last line
 pub watches : (inputs : List (ℕ × ℕ)) (limits : Limits) (last : ℕ) (dump : Option (List ℕ)) (publics : List Public) (program : Voucher)
     (ended : Ended) (memory : List ℕ) (ports : PortLists) (file answer : AnswerValue)

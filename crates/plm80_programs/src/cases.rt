@@ -5,7 +5,7 @@ ghost use Rattle.std.specs.Io.KnownBytes.{Appends};
 ghost use Rattle.std.specs.List.{cons_option};
 ghost use Rattle.image80.specs.Case.{DeclaredCase};
 ghost use Rattle.image80.specs.RegionsText.{cases_text};
-ghost use Rattle.verify80_cases.specs.Suggested.{is_open};
+ghost use Rattle.verify80_cases.specs.Suggested.{case_of, is_open};
 ghost use Rattle.plm80_programs.specs.Arguments.{AreCasesArguments};
 ghost use Rattle.plm80_programs.specs.Cases.{FindsCases, IsCasesStatus, IsFoundAt, WritesCases};
 ghost use Rattle.plm80_programs.specs.Status.{lacks_table, notes_status};
@@ -22,7 +22,7 @@ use plm80_console::{
 use plm80_names::ProgramTexts;
 use std::alloc::{AllocError, Global};
 use verify80::ImageCode;
-use verify80_cases::{Note, Search, regions_with_cases};
+use verify80_cases::{Note, Search, SuggestedCase, regions_with_cases};
 
 /// The arguments of `cases`.
 #[derive(Clone, Copy)]
@@ -319,11 +319,20 @@ fn found_at(
     }
     let found = search.suggest(alloc, image, code, at)?;
     let note = search.note(code, at, &found);
-    let case = match found {
+    Ok(Some(FoundCase {
+        case: case_of(found),
+        note,
+    }))
+}
+
+/// The case of what is suggested, if something is.
+fn case_of(found: Option<SuggestedCase>) -> Option<Case>
+    ensures { result ≡ case_of found }
+{
+    match found {
         Some(found) => Some(found.case),
         None => None,
-    };
-    Ok(Some(FoundCase { case, note }))
+    }
 }
 
 /// Appends a note, if there is one.
