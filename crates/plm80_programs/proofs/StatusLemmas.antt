@@ -2,7 +2,6 @@
 use Rattle.std.specs.Prelude.{◌≡◌, ◌==◌, ◌&&◌, ℕ, Bool, true, false, not, is_none, List, Option, None, Some, Result, IfOk, option_map, refl}
 use Rattle.std.specs.Bool.{MatchBool}
 use Rattle.std.proofs.Common.{◌∙◌, ap, subst, sym}
-use Rattle.std.proofs.lemmas.Bool.{and_left, and_right, ne_eqb}
 use Rattle.std.proofs.lemmas.Result.{IfOk-weaker}
 use Rattle.omf_parts.specs.declared.symbols.Public.{Public}
 use Rattle.image80.specs.Image.{Located}
@@ -124,28 +123,10 @@ none_mapped : {A B : Type 0} (f : A → B) (o : Option A) → is_none (option_ma
 none_mapped f None = refl
 none_mapped f (Some x) = refl
 
-no_dump : (arguments : RunArguments) (b : Bool) → is_none arguments.dump ≡ b → is_none (dump_of arguments) ≡ b
-no_dump arguments b e = none_mapped (λ path. path.now) arguments.dump ∙ e
-
-pub is_transcript_alone : (arguments : RunArguments) (last : ℕ) → last ≡ count_value arguments.last.text.now → last ≡ 0
-    → is_none arguments.dump ≡ true → arguments.names ≡ false → is_session arguments ≡ true
-is_transcript_alone arguments last counted none no_file no_names =
-    ap (λ (n : ℕ). (n == 0 && is_none (dump_of arguments)) && not arguments.names) (sym counted ∙ none)
-    ∙ ap (λ (b : Bool). b && not arguments.names) (no_dump arguments true no_file)
-    ∙ ap not no_names
-
-pub shows_last : (arguments : RunArguments) (last : ℕ) → last ≡ count_value arguments.last.text.now → (last ≡ 0 → ⊥)
-    → is_session arguments ≡ false
-shows_last arguments last counted some =
-    and_left (count_value arguments.last.text.now == 0 && is_none (dump_of arguments)) (not arguments.names)
-    (and_left (count_value arguments.last.text.now == 0) (is_none (dump_of arguments))
-    (ne_eqb (count_value arguments.last.text.now) 0 (λ is. some (counted ∙ is))))
-
-pub writes_dump : (arguments : RunArguments) → is_none arguments.dump ≡ false → is_session arguments ≡ false
-writes_dump arguments file =
-    and_left (count_value arguments.last.text.now == 0 && is_none (dump_of arguments)) (not arguments.names)
-    (and_right (count_value arguments.last.text.now == 0) (is_none (dump_of arguments)) (no_dump arguments false file))
-
-pub shows_names : (arguments : RunArguments) → arguments.names ≡ true → is_session arguments ≡ false
-shows_names arguments names =
-    and_right (count_value arguments.last.text.now == 0 && is_none (dump_of arguments)) (not arguments.names) (ap not names)
+-- as the arguments say, if `last` is the number that their text writes
+pub is_session_by : (arguments : RunArguments) (last : ℕ) (tested b : Bool) → last ≡ count_value arguments.last.text.now
+    → tested ≡ ((last == 0 && is_none arguments.dump) && not arguments.names) → tested ≡ b → is_session arguments ≡ b
+is_session_by arguments last tested b counted is same =
+    ap (λ (n : ℕ). (n == 0 && is_none (dump_of arguments)) && not arguments.names) (sym counted)
+    ∙ ap (λ (none : Bool). (last == 0 && none) && not arguments.names) (none_mapped (λ path. path.now) arguments.dump)
+    ∙ sym is ∙ same
